@@ -1,0 +1,29 @@
+//! What happened to the lists of a class.
+use crate::items::ItemId;
+use crate::places::Segment;
+
+/// Why a chunk moved: by a pull, or for a bump of this worker with this number.
+#[derive(Clone, Copy, Debug, PartialEq, Eq)]
+pub enum Cause {
+    Pull,
+    Bump(u32, u64),
+}
+
+/// An entry of a class's history. Each puts a chunk at the front of a list.
+#[derive(Clone, Copy, Debug, PartialEq, Eq)]
+pub enum Change {
+    /// The life began, in HOT.
+    Linked(ItemId),
+
+    /// The item went from one segment to the front of another, or of the same.
+    Moved(ItemId, Segment, Segment, Cause),
+
+    /// The item was unlinked, and its chunk is DYING.
+    Unlinked(ItemId),
+
+    /// The chunk was found without holders, and is UNUSED again.
+    Swept(ItemId),
+
+    /// As Swept, but the chunk's generations are used up: it is RETIRED.
+    Retired(ItemId),
+}

@@ -1,0 +1,31 @@
+//! Names of items, and what a chunk's head word says.
+use crate::places::Segment;
+
+/// An item: a life of a chunk. Chunks are numbered from 0 over all classes, generations go from 1 to 4,294,967,295.
+#[derive(Clone, Copy, Debug, PartialEq, Eq)]
+pub struct ItemId {
+    pub chunk: u32,
+    pub generation: u32,
+}
+
+/// What a chunk's head word says.
+#[derive(Clone, Copy, Debug, PartialEq, Eq)]
+pub struct Head {
+    /// The reference count: how many hold the chunk, its being linked included.
+    pub refs: u32,
+
+    /// Whether the item is linked (memcached's `ITEM_LINKED`).
+    pub linked: bool,
+
+    /// Whether the item was hit since it was linked (memcached's `ITEM_FETCHED`).
+    pub fetched: bool,
+
+    /// Whether the item was hit twice or more since the mark was last cleared (memcached's `ITEM_ACTIVE`).
+    pub active: bool,
+
+    /// The segment that the item is in, or was in when it was unlinked.
+    pub segment: Segment,
+
+    /// The generation of the chunk's life.
+    pub generation: u32,
+}

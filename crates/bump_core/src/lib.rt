@@ -1,0 +1,24 @@
+//! The pure core of bump: its types, and a World in which each event is one atomic step of one thread.
+#![tactic(auto)]
+
+pub mod bumps;
+pub mod chunks;
+pub mod classes;
+pub mod commands;
+pub mod configs;
+pub mod events;
+pub mod history;
+pub mod items;
+pub mod lanes;
+pub mod parts;
+pub mod places;
+pub mod workers;
+
+pub use bumps::{Accounts, Applied, Ended, Entry};
+pub use commands::{Answer, Command, Dropped, Pulled, Touch};
+pub use configs::{ClassConfig, Classes, Config, ConfigFault};
+pub use events::{Event, Refused, Reply};
+pub use history::{Cause, Change};
+pub use items::{Head, ItemId};
+pub use lanes::{AppliedBump, Outcome};
+pub use places::{Place, Segment, Tail};

@@ -1,0 +1,14 @@
+//! What a World keeps.
+use crate::chunks::Chunk;
+use crate::classes::Class;
+use crate::workers::Worker;
+
+/// The state of a World.
+#[derive(Drop)]
+pub struct Parts {
+    pub refs_limit: u32,
+    pub capacity: u32,
+    pub chunks: Vec<Chunk>,
+    pub classes: Vec<Class>,
+    pub workers: Vec<Worker>,
+}
