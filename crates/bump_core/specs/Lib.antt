@@ -1,2 +1,12 @@
 pub mod Configs
+pub mod Events
+pub mod History
+pub mod Lawful
+pub mod Lists
+pub mod Lives
+pub mod Rings
+pub mod Runs
+pub mod State
+pub mod Tables
 pub mod Totals
+pub mod Worlds

@@ -1,0 +1,189 @@
+-- The state of a World: what is kept of each chunk, class and worker.
+use Rattle.std.specs.Prelude.{ℕ, suc, Bool, true, false, cond, ◌==◌, ◌&&◌, nat_lt, List, [], ◌∷◌, ◌++◌, length, slice_index_or, slice_set, Option, None, Some, if◌then◌else◌}
+use Rattle.std.specs.List.{list_any}
+use Rattle.bump_core.specs.declared.items.ItemId.{ItemId}
+use Rattle.bump_core.specs.declared.items.Head.{Head}
+use Rattle.bump_core.specs.declared.bumps.Accounts.{Accounts}
+use Rattle.bump_core.specs.declared.chunks.Chunk.{Chunk}
+use Rattle.bump_core.specs.declared.history.Change.{Change}
+use Rattle.bump_core.specs.declared.lanes.AppliedBump.{AppliedBump}
+use Rattle.bump_core.specs.declared.lanes.Lane.{Lane}
+use Rattle.bump_core.specs.declared.lanes.Lane.TheVariants as lane
+use Rattle.bump_core.specs.declared.workers.Hand.{Hand}
+use Rattle.bump_core.specs.declared.workers.Hand.TheVariants as hand
+use Rattle.bump_core.specs.Lawful.{fresh_head}
+use Rattle.bump_core.specs.History.{subject, target}
+use Rattle.bump_core.specs.Lists.{Lists, to_front}
+use Rattle.bump_core.specs.Lives.{is_same}
+use Rattle.bump_core.specs.Totals.{total}
+
+-- a class: its chunks from first on and below end, the limits of HOT and WARM, its lists and its history
+pub record ClassState : Type 0 where
+  pub first : ℕ
+  pub end : ℕ
+  pub hot_limit : ℕ
+  pub warm_limit : ℕ
+  pub lists : Lists
+  pub history : List Change
+
+-- a worker with its ring (what was sent and what of it was received) and its lane (how far it is, and what it applied)
+pub record WorkerState : Type 0 where
+  pub hand : Hand
+  pub is_open : Bool
+  pub accounts : Accounts
+  pub first_hits : List ItemId
+  pub sent : List ItemId
+  pub received : List ItemId
+  pub lane : Lane
+  pub applied : List AppliedBump
+
+-- the limit of a reference count, the capacity of a ring, and all chunks, classes and workers by number
+pub record State : Type 0 where
+  pub refs_limit : ℕ
+  pub capacity : ℕ
+  pub chunks : List Chunk
+  pub classes : List ClassState
+  pub workers : List WorkerState
+
+-- The parts by number. Past the end they stand for nothing that exists.
+abbrev pub no_chunk : Chunk
+no_chunk = record { head = fresh_head 0; time = 0; label = 0; holds = 0 }
+
+abbrev pub no_class : ClassState
+no_class = record { first = 0; end = 0; hot_limit = 0; warm_limit = 0; lists = record { hot = []; warm = []; cold = []; dying = []; unused = []; retired = [] }; history = [] }
+
+abbrev pub no_accounts : Accounts
+no_accounts = record { attempted = 0; accepted = 0; full = 0; busy = 0; refs = 0 }
+
+-- a worker at the start
+abbrev pub new_worker : WorkerState
+new_worker = record { hand = hand.Idle; is_open = true; accounts = no_accounts; first_hits = []; sent = []; received = []; lane = lane.Empty; applied = [] }
+
+abbrev pub chunk : State → ℕ → Chunk
+chunk s c = slice_index_or s.chunks c no_chunk
+
+abbrev pub head : State → ℕ → Head
+head s c = (chunk s c).head
+
+abbrev pub class : State → ℕ → ClassState
+class s k = slice_index_or s.classes k no_class
+
+abbrev pub worker : State → ℕ → WorkerState
+worker s w = slice_index_or s.workers w new_worker
+
+-- whether there is a chunk, class or worker of this number
+abbrev pub is_chunk : State → ℕ → Bool
+is_chunk s c = nat_lt c (length s.chunks)
+
+abbrev pub is_class : State → ℕ → Bool
+is_class s k = nat_lt k (length s.classes)
+
+abbrev pub is_worker : State → ℕ → Bool
+is_worker s w = nat_lt w (length s.workers)
+
+-- the state with another chunk, head, class or worker at a number
+abbrev pub with_chunk : State → ℕ → Chunk → State
+with_chunk s c x = record s { chunks = slice_set s.chunks c x }
+
+abbrev pub with_head : State → ℕ → Head → State
+with_head s c h = with_chunk s c (record (chunk s c) { head = h })
+
+abbrev pub with_class : State → ℕ → ClassState → State
+with_class s k x = record s { classes = slice_set s.classes k x }
+
+abbrev pub with_worker : State → ℕ → WorkerState → State
+with_worker s w x = record s { workers = slice_set s.workers w x }
+
+-- the number of the class of a chunk: the first class that ends behind it
+abbrev pub class_from : List ClassState → ℕ → ℕ
+class_from [] c = 0
+class_from (k ∷ ks) c = if nat_lt c k.end then 0 else suc (class_from ks c)
+
+abbrev pub class_of : State → ℕ → ℕ
+class_of s c = class_from s.classes c
+
+-- an entry joins the history of its chunk's class, and the chunk comes to the front of the entry's list
+abbrev pub class_with_change : ClassState → Change → ClassState
+class_with_change k e = record k { lists = to_front (subject e).chunk (target e) k.lists; history = k.history ++ e ∷ [] }
+
+abbrev pub with_change : State → ℕ → Change → State
+with_change s k e = with_class s k (class_with_change (class s k) e)
+
+-- the life is its chunk's
+abbrev pub is_current : State → ItemId → Bool
+is_current s l = is_chunk s l.chunk && ((head s l.chunk).generation == l.generation)
+
+-- the life is its chunk's and is linked
+abbrev pub is_linked : State → ItemId → Bool
+is_linked s l = is_current s l && (head s l.chunk).linked
+
+-- the life is its chunk's and has a hold
+abbrev pub is_held : State → ItemId → Bool
+is_held s l = is_current s l && nat_lt 0 (chunk s l.chunk).holds
+
+-- 1 where a worker that isn't Idle is on the life
+abbrev pub is_on : ItemId → Hand → ℕ
+is_on l hand.Idle = 0
+is_on l (hand.Trying m) = cond (is_same l m) 1 0
+is_on l (hand.InHand m) = cond (is_same l m) 1 0
+is_on l (hand.Clearing m) = cond (is_same l m) 1 0
+
+-- how many workers that aren't Idle are on the life
+abbrev pub workers_on : State → ItemId → ℕ
+workers_on s l = total (λ w. is_on l w.hand) s.workers
+
+-- the life has more holds than workers that aren't Idle on it
+abbrev pub has_free_hold : State → ItemId → Bool
+has_free_hold s l = is_current s l && nat_lt (workers_on s l) (chunk s l.chunk).holds
+
+-- the worker's ring still takes bumps
+abbrev pub is_open : State → ℕ → Bool
+is_open s w = is_worker s w && (worker s w).is_open
+
+-- there is a value, and it passes the test
+abbrev pub some_and : {A : Type 0} → (A → Bool) → Option A → Bool
+some_and test None = false
+some_and test (Some x) = test x
+
+-- what a worker does with an attempted bump: the life, if it does this
+abbrev pub tried_life : Hand → Option ItemId
+tried_life (hand.Trying l) = Some l
+tried_life _ = None
+
+abbrev pub life_in_hand : Hand → Option ItemId
+life_in_hand (hand.InHand l) = Some l
+life_in_hand _ = None
+
+abbrev pub cleared_life : Hand → Option ItemId
+cleared_life (hand.Clearing l) = Some l
+cleared_life _ = None
+
+abbrev pub is_idle : Hand → Bool
+is_idle hand.Idle = true
+is_idle _ = false
+
+-- the life on which a lane works under the class lock, if it does
+abbrev pub applied_life : Lane → Option ItemId
+applied_life (lane.Tried b) = Some b.life
+applied_life (lane.Cleared b found) = Some b.life
+applied_life (lane.Moved b) = Some b.life
+applied_life _ = None
+
+-- the lane applies a bump of this class
+abbrev pub applies_in : State → ℕ → Lane → Bool
+applies_in s k x = some_and (λ l. class_of s l.chunk == k) (applied_life x)
+
+-- a class is under application while a lane applies a bump of it
+abbrev pub is_under_application : State → ℕ → Bool
+is_under_application s k = list_any (λ w. applies_in s k w.lane) s.workers
+
+-- the last of a list
+abbrev pub last_of : List ℕ → Option ℕ
+last_of [] = None
+last_of (x ∷ []) = Some x
+last_of (x ∷ y ∷ ys) = last_of (y ∷ ys)
+
+-- the first of a list
+abbrev pub first_of : List ℕ → Option ℕ
+first_of [] = None
+first_of (x ∷ xs) = Some x

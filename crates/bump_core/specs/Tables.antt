@@ -1,0 +1,66 @@
+-- The tables: what a hit, an attempt, an applied bump and a pull come to, by the words found.
+use Rattle.std.specs.Prelude.{Bool, true, false, not, ◌&&◌, if◌then◌else◌, Option, None, Some}
+use Rattle.bump_core.specs.declared.places.Segment.{Segment}
+use Rattle.bump_core.specs.declared.places.Segment.TheVariants as segment
+use Rattle.bump_core.specs.declared.places.Tail.{Tail}
+use Rattle.bump_core.specs.declared.places.Tail.TheVariants as tail
+use Rattle.bump_core.specs.declared.items.Head.{Head}
+use Rattle.bump_core.specs.declared.items.ItemId.{ItemId}
+use Rattle.bump_core.specs.declared.lanes.Outcome.{Outcome}
+use Rattle.bump_core.specs.declared.lanes.Outcome.TheVariants as outcome
+use Rattle.bump_core.specs.declared.commands.Dropped.{Dropped}
+use Rattle.bump_core.specs.declared.commands.Dropped.TheVariants.{Full, Busy, RefsFull}
+use Rattle.bump_core.specs.declared.commands.Pulled.{Pulled}
+use Rattle.bump_core.specs.declared.commands.Pulled.TheVariants.{Stay, Warm, Again, Cold}
+
+-- what a hit comes to: its answer, or that it attempts a bump
+pub data Hit : Type 0 where
+  IsFirst : Hit
+  IsAlready : Hit
+  IsMarked : Hit
+  Attempts : Hit
+
+-- whether the segment bits say COLD
+abbrev pub is_cold : Segment → Bool
+is_cold segment.Cold = true
+is_cold _ = false
+
+-- whether a hit that found this word by its first step makes the second one
+abbrev pub makes_second : Head → Bool
+makes_second first = first.fetched && not first.active
+
+-- by the word that the second step found
+abbrev pub hit_by_second : Head → Hit
+hit_by_second second = if second.active then IsAlready else (if is_cold second.segment then Attempts else IsMarked)
+
+-- The hit table: the first step sets FETCHED, the second ACTIVE. LINKED isn't looked at.
+abbrev pub hit_of : Head → Head → Hit
+hit_of first second = if not first.fetched then IsFirst else (if first.active then IsAlready else hit_by_second second)
+
+-- The rule of an attempt: why the bump is dropped, if it is, by whether the count was at its limit, whether all exchanges
+-- failed, and whether the ring had room.
+abbrev pub dropped_of : Bool → Bool → Bool → Option Dropped
+dropped_of at_limit all_failed has_room = if at_limit then Some RefsFull else (if all_failed then Some Busy else (if has_room then None else Some Full))
+
+-- The update table: what applying a bump comes to, by the word found and by whether the clearing step found ACTIVE.
+abbrev pub outcome_of : Head → Bool → Outcome
+outcome_of found cleared = if not found.linked then outcome.Gone else (if is_cold found.segment && cleared then outcome.Moved else outcome.TimeOnly)
+
+-- The tail table: what a pull does with the last item of its list, by ACTIVE and by whether the list is over its limit.
+abbrev pub pulled_of : Tail → Bool → Bool → ItemId → Pulled
+pulled_of tail.Hot active over id = if active then Warm id else (if over then Cold id else Stay id)
+pulled_of tail.Warm active over id = if active then Again id else (if over then Cold id else Stay id)
+pulled_of tail.Cold active over id = if active then Warm id else Stay id
+
+-- the segment to whose front a pull moves the item, if it moves it
+abbrev pub pulled_to : Pulled → Option Segment
+pulled_to (Warm id) = Some segment.Warm
+pulled_to (Again id) = Some segment.Warm
+pulled_to (Cold id) = Some segment.Cold
+pulled_to _ = None
+
+-- the segment of the list that a pull looks at
+abbrev pub segment_of : Tail → Segment
+segment_of tail.Hot = segment.Hot
+segment_of tail.Warm = segment.Warm
+segment_of tail.Cold = segment.Cold

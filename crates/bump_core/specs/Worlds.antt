@@ -1,0 +1,92 @@
+-- What a lawful World is.
+use Rattle.std.specs.Prelude.{◌≡◌, ℕ, ◌+◌, ◌-◌, ◌<◌, ◌≤◌, Bool, true, cond, ◌==◌, ◌&&◌, nat_le, nat_lt, List, [], ◌∷◌, length, Some}
+use Rattle.bump_core.specs.declared.places.Place.{Place}
+use Rattle.bump_core.specs.declared.places.Place.TheVariants.{Unused}
+use Rattle.bump_core.specs.declared.places.Segment.TheVariants as segment
+use Rattle.bump_core.specs.declared.items.ItemId.{ItemId}
+use Rattle.bump_core.specs.declared.history.Change.{Change}
+use Rattle.bump_core.specs.declared.lanes.Lane.{Lane}
+use Rattle.bump_core.specs.declared.lanes.Lane.TheVariants as lane
+use Rattle.bump_core.specs.declared.workers.Hand.{Hand}
+use Rattle.bump_core.specs.declared.workers.Hand.TheVariants as hand
+use Rattle.bump_core.specs.Totals.{total}
+use Rattle.bump_core.specs.Lives.{life, one_if, count_of}
+use Rattle.bump_core.specs.Lawful.{Lawful}
+use Rattle.bump_core.specs.Lists.{opening}
+use Rattle.bump_core.specs.History.{subject, standing_from, replay}
+use Rattle.bump_core.specs.State.{State, ClassState, WorkerState, chunk, head, class, worker, class_of, workers_on, applied_life}
+use Rattle.bump_core.specs.Rings.{in_ring, IsWorker}
+
+-- the holds of a life
+abbrev pub holds_of : State → ItemId → ℕ
+holds_of s l = cond ((head s l.chunk).generation == l.generation) (chunk s l.chunk).holds 0
+
+-- 1 where the worker has a reference to the life in its hand
+abbrev pub in_hand_of : ItemId → Hand → ℕ
+in_hand_of l (hand.InHand m) = one_if l m
+in_hand_of l _ = 0
+
+-- 1 where the lane carries a bump of the life
+abbrev pub aboard_of : ItemId → Lane → ℕ
+aboard_of l lane.Empty = 0
+aboard_of l (lane.Carrying b) = one_if l b.life
+aboard_of l (lane.Tried b) = one_if l b.life
+aboard_of l (lane.Cleared b found) = one_if l b.life
+aboard_of l (lane.Moved b) = one_if l b.life
+
+-- the references to a life that a worker's bumps have: in its hand, in its ring and in its lane
+abbrev pub bumps_of : ItemId → WorkerState → ℕ
+bumps_of l x = in_hand_of l x.hand + count_of l (in_ring x) + aboard_of l x.lane
+
+-- the references to a life: its holds, and the bumps of all workers
+abbrev pub references : State → ℕ → ℕ → ℕ
+references s c g = holds_of s (life c g) + total (bumps_of (life c g)) s.workers
+
+-- how many first hits name a life
+abbrev pub first_hits_of : State → ℕ → ℕ → ℕ
+first_hits_of s c g = total (λ x. count_of (life c g) x.first_hits) s.workers
+
+-- the list in which its class's history leaves a chunk
+abbrev pub place_in : ClassState → ℕ → Place
+place_in k c = (standing_from c (Unused, 0) k.history).0
+
+abbrev pub place : State → ℕ → Place
+place s c = place_in (class s (class_of s c)) c
+
+-- the chunk is one of the class's
+abbrev pub owns : ClassState → ℕ → Bool
+owns k c = nat_le k.first c && nat_lt c k.end
+
+-- each entry of a history is of a chunk of the class
+abbrev pub AreOf : ClassState → List Change → Type 0
+AreOf k [] = Unit {0}
+AreOf k (e ∷ es) = (owns k (subject e).chunk ≡ true) × AreOf k es
+
+-- the first class has the first chunks, the next class the next, and so on to the last
+abbrev pub Tiles : ℕ → List ClassState → ℕ → Type 0
+Tiles from [] end = from ≡ end
+Tiles from (k ∷ ks) end = (k.first ≡ from) × (k.first < k.end) × Tiles k.end ks end
+
+-- a class's lists are the replay of its history
+pub record IsClass (k : ClassState) : Type 0 where
+  pub lists : k.lists ≡ replay (opening k.first (k.end - k.first)) k.history
+  pub entries : AreOf k k.history
+
+-- where a lane found ACTIVE and has not moved the item yet, the item is linked and in COLD
+abbrev pub WaitsToMove : State → Lane → Type 0
+WaitsToMove s (lane.Cleared b true) = ((head s b.life.chunk).linked ≡ true) × ((head s b.life.chunk).segment ≡ segment.Cold)
+WaitsToMove s _ = Unit {0}
+
+pub record IsLawful (s : State) : Type 0 where
+  pub limit : 0 < s.refs_limit
+  pub tiles : Tiles 0 s.classes (length s.chunks)
+  -- each chunk is lawful
+  pub chunks : (c : ℕ) → Lawful s.refs_limit (head s c) (place s c) (references s c) (first_hits_of s c)
+  -- each life has a hold for each worker that isn't Idle on it
+  pub hands : (l : ItemId) → workers_on s l ≤ holds_of s l
+  pub classes : (k : ℕ) → k < length s.classes → IsClass (class s k)
+  pub workers : (w : ℕ) → w < length s.workers → IsWorker s.capacity (worker s w)
+  -- at most one lane applies a bump of a class
+  pub alone : (v w : ℕ) (l m : ItemId) → v < length s.workers → w < length s.workers
+      → applied_life (worker s v).lane ≡ Some l → applied_life (worker s w).lane ≡ Some m → class_of s l.chunk ≡ class_of s m.chunk → v ≡ w
+  pub waits : (w : ℕ) → w < length s.workers → WaitsToMove s (worker s w).lane
