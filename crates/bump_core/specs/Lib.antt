@@ -9,4 +9,5 @@ pub mod Runs
 pub mod State
 pub mod Tables
 pub mod Totals
+pub mod Views
 pub mod Worlds

@@ -1,7 +1,8 @@
 -- The six lists of a class.
-use Rattle.std.specs.Prelude.{ℕ, zero, suc, cond, ◌==◌, List, [], ◌∷◌}
+use Rattle.std.specs.Prelude.{◌≡◌, ℕ, zero, suc, cond, ◌==◌, List, [], ◌∷◌}
 use Rattle.bump_core.specs.declared.places.Place.{Place}
 use Rattle.bump_core.specs.declared.places.Place.TheVariants.{Hot, Warm, Cold, Dying, Unused, Retired}
+use Rattle.bump_core.specs.Totals.{total}
 
 -- a class's lists, front first
 pub record Lists : Type 0 where
@@ -58,3 +59,21 @@ ascending first (suc n) = first ∷ ascending (suc first) n
 -- at the start all chunks of a class stand in UNUSED, ascending
 abbrev pub opening : ℕ → ℕ → Lists
 opening first n = record { hot = []; warm = []; cold = []; dying = []; unused = ascending first n; retired = [] }
+
+-- the lists with another one at the place
+abbrev pub with_list : Place → List ℕ → Lists → Lists
+with_list Hot xs l = record l { hot = xs }
+with_list Warm xs l = record l { warm = xs }
+with_list Cold xs l = record l { cold = xs }
+with_list Dying xs l = record l { dying = xs }
+with_list Unused xs l = record l { unused = xs }
+with_list Retired xs l = record l { retired = xs }
+
+-- how often a chunk stands in a list
+abbrev pub times : ℕ → List ℕ → ℕ
+times c xs = total (λ x. cond (x == c) 1 0) xs
+
+-- The chunk stands at the place once, and in no other list.
+pub record StandsAt (c : ℕ) (p : Place) (l : Lists) : Type 0 where
+  pub once : times c (list_at l p) ≡ 1
+  pub alone : all_without c l ≡ with_list p (without c (list_at l p)) l
