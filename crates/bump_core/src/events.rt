@@ -3,6 +3,8 @@ use crate::items::{Head, ItemId};
 use crate::lanes::Outcome;
 use crate::places::Segment;
 
+use std::alloc::AllocError;
+
 /// One load, store, exchange or fetch on one word of one chunk, or one push into a ring, or one take from a ring.
 /// Where such a step is made under the class lock and stands for a change of the lists, that change belongs to it.
 #[derive(Clone, Copy)]
@@ -100,4 +102,15 @@ pub enum Refused {
     /// A number is out of range, or the event's condition does not hold.
     NotEnabled,
     OutOfMemory,
+}
+
+impl From<AllocError> for Refused {
+    ghost use Rattle.std.specs.Prelude.{◌≡◌};
+    ghost use Rattle.bump_core.specs.declared.events.Refused.TheVariants.{OutOfMemory};
+
+    ghost from_gives = { λ _ e. e ≡ OutOfMemory };
+
+    fn from(_e: AllocError) -> Refused {
+        Refused::OutOfMemory
+    }
 }

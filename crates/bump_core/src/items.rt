@@ -1,4 +1,7 @@
 //! Names of items, and what a chunk's head word says.
+ghost use Rattle.std.specs.Prelude.{◌≡◌};
+ghost use Rattle.bump_core.specs.Lives.{is_same};
+
 use crate::places::Segment;
 
 /// An item: a life of a chunk. Chunks are numbered from 0 over all classes, generations go from 1 to 4,294,967,295.
@@ -28,4 +31,13 @@ pub struct Head {
 
     /// The generation of the chunk's life.
     pub generation: u32,
+}
+
+impl ItemId {
+    /// Whether two items are one.
+    pub fn is_same(self, other: ItemId) -> bool
+        ensures { result ≡ is_same self other }
+    {
+        self.chunk == other.chunk && self.generation == other.generation
+    }
 }

@@ -1,4 +1,8 @@
 //! Draining lanes: each takes the bumps of one worker's ring, and applies them in order.
+ghost use Rattle.std.specs.Prelude.{◌≡◌};
+ghost use Rattle.bump_core.specs.State.{applied_life};
+ghost use Rattle.bump_core.specs.Events.{carried, tried, applied_now, cleared_active, is_empty};
+
 use crate::items::ItemId;
 
 /// What applying a bump did: as `Applied`, without what became of an item that was gone.
@@ -41,4 +45,63 @@ pub enum Lane {
 
     /// Its item was moved to the front of WARM.
     Moved(Bump),
+}
+
+impl Lane {
+    /// Whether no bump is aboard.
+    pub fn is_empty(self) -> bool
+        ensures { result ≡ is_empty self }
+    {
+        matches!(self, Lane::Empty)
+    }
+
+    /// The bump that was taken, and not looked at yet.
+    pub fn carried(self) -> Option<Bump>
+        ensures { result ≡ carried self }
+    {
+        match self {
+            Lane::Carrying(bump) => Some(bump),
+            _ => None,
+        }
+    }
+
+    /// The bump whose item was looked at, and whose ACTIVE was not cleared yet.
+    pub fn tried(self) -> Option<Bump>
+        ensures { result ≡ tried self }
+    {
+        match self {
+            Lane::Tried(bump) => Some(bump),
+            _ => None,
+        }
+    }
+
+    /// The bump that is being applied.
+    pub fn applied_now(self) -> Option<Bump>
+        ensures { result ≡ applied_now self }
+    {
+        match self {
+            Lane::Tried(bump) | Lane::Cleared(bump, _) | Lane::Moved(bump) => Some(bump),
+            _ => None,
+        }
+    }
+
+    /// The item of the bump that is being applied.
+    pub fn applied_life(self) -> Option<ItemId>
+        ensures { result ≡ applied_life self }
+    {
+        match self.applied_now() {
+            Some(bump) => Some(bump.life),
+            None => None,
+        }
+    }
+
+    /// The bump whose item had ACTIVE, and is to be moved.
+    pub fn cleared_active(self) -> Option<Bump>
+        ensures { result ≡ cleared_active self }
+    {
+        match self {
+            Lane::Cleared(bump, true) => Some(bump),
+            _ => None,
+        }
+    }
 }

@@ -2,12 +2,14 @@
 #![tactic(auto)]
 
 pub mod bumps;
+mod changes;
 pub mod chunks;
 pub mod classes;
 pub mod commands;
 pub mod configs;
 pub mod events;
 pub mod history;
+mod hits;
 pub mod items;
 pub mod lanes;
 pub mod parts;

@@ -1,0 +1,256 @@
+-- What follows for a lawful state: which numbers are in range, which lives are current, and what the counts are below.
+use Rattle.std.proofs.Common.{if◌then◌else◌, inl, inr, length-append, ◌≡◌, ℕ, suc, ◌+◌, ◌<◌, ◌≤◌, ◌≢◌, true, cond, eqb, List, [], ◌∷◌, length, refl, ap, ◌∙◌, subst, Some, arith, eq-eqb, ne_eqb}
+use Rattle.std.proofs.lemmas.Bool.{le-ltb, and_from, and_left, and_right, cases_lt}
+use mathlib.Core.Logic.{dite}
+use native.Mathlib.Decide.{ℕ_discrete}
+use Rattle.bump_core.specs.declared.places.Place.TheVariants.{Unused}
+use Rattle.bump_core.specs.declared.items.ItemId.{ItemId}
+use Rattle.bump_core.specs.declared.lanes.Lane.{Lane}
+use Rattle.bump_core.specs.declared.lanes.Lane.TheVariants as lane
+use Rattle.bump_core.specs.declared.workers.Hand.TheVariants as hand
+use Rattle.bump_core.specs.Lawful.{bit, IsUsed}
+use Rattle.bump_core.specs.Lives.{life, is_same, one_if, count_of}
+use Rattle.bump_core.specs.Rings.{in_ring, attempts_of}
+use Rattle.bump_core.specs.State.{State, ClassState, chunk, head, worker, class_from, class_of, no_class, new_worker, is_on, applied_life}
+use Rattle.bump_core.specs.Worlds.{holds_of, in_hand_of, aboard_of, bumps_of, references, place_in, place, Tiles, IsLawful}
+use Rattle.bump_core.proofs.Laws.{used_where_linked}
+use Rattle.bump_core.proofs.Updates.{read_past, term_within}
+
+-- Whether two lives are one.
+
+-- a life is itself
+pub same_life : (l : ItemId) → is_same l l ≡ true
+same_life l = and_from (eqb l.chunk l.chunk) (eqb l.generation l.generation) (eq-eqb l.chunk l.chunk refl) (eq-eqb l.generation l.generation refl)
+
+-- a life counts for itself
+pub one_if_same : (l : ItemId) → one_if l l ≡ 1
+one_if_same l = ap (λ b. cond b 1 0) (same_life l)
+
+-- a life of another chunk doesn't count
+pub one_if_elsewhere : (l m : ItemId) → l.chunk ≢ m.chunk → one_if l m ≡ 0
+one_if_elsewhere l m other = ap (λ b. cond b 1 0) (and_left (eqb l.chunk m.chunk) (eqb l.generation m.generation) (ne_eqb l.chunk m.chunk other))
+
+-- nor does another life of the chunk
+pub one_if_other_life : (l m : ItemId) → l.generation ≢ m.generation → one_if l m ≡ 0
+one_if_other_life l m other = ap (λ b. cond b 1 0) (and_right (eqb l.chunk m.chunk) (eqb l.generation m.generation) (ne_eqb l.generation m.generation other))
+
+-- a lane that applies a bump has it aboard
+applied_counts : (x : Lane) (l : ItemId) → applied_life x ≡ Some l → 0 < aboard_of l x
+applied_counts lane.Empty l is = absurd (let u : ⊥ = cc in u)
+applied_counts (lane.Carrying b) l is = absurd (let u : ⊥ = cc in u)
+applied_counts (lane.Tried b) l is = let same : b.life ≡ l = cc in omega (arith, ap (one_if l) same, one_if_same l)
+applied_counts (lane.Cleared b found) l is = let same : b.life ≡ l = cc in omega (arith, ap (one_if l) same, one_if_same l)
+applied_counts (lane.Moved b) l is = let same : b.life ≡ l = cc in omega (arith, ap (one_if l) same, one_if_same l)
+
+-- Numbers out of range.
+
+-- a row of classes ends no lower than it begins
+tiles_up : (from : ℕ) (ks : List ClassState) (end : ℕ) → Tiles from ks end → from ≤ end
+tiles_up from [] end t = omega arith
+tiles_up from (k ∷ ks) end t = omega (arith, t.0, t.1, tiles_up k.end ks end t.2)
+
+-- no class ends behind a chunk past the end
+class_past : (from : ℕ) (ks : List ClassState) (end c : ℕ) → Tiles from ks end → end ≤ c → class_from ks c ≡ length ks
+class_past from [] end c t past = refl
+class_past from (k ∷ ks) end c t past = ap (λ b. if b then 0 else suc (class_from ks c)) (le-ltb c k.end (omega (arith, tiles_up k.end ks end t.2))) ∙ ap suc (class_past k.end ks end c t.2 past)
+
+-- a chunk past the end stands nowhere but in UNUSED
+pub place_past : (s : State) → IsLawful s → (c : ℕ) → length s.chunks ≤ c → place s c ≡ Unused
+place_past s o c past = ap (λ k. place_in k c) (read_past s.classes (class_of s c) no_class (omega (arith, class_past 0 s.classes (length s.chunks) c o.tiles past)))
+
+-- a chunk that isn't free is in range
+pub used_in_range : (s : State) → IsLawful s → (c : ℕ) → IsUsed (place s c) → c < length s.chunks
+used_in_range s o c used = elim (cases_lt c (length s.chunks)) [ inl within ↦ within | inr past ↦ absurd (subst IsUsed (place_past s o c past) used) ]
+
+-- References.
+
+-- the holds of the chunk's life are the chunk's
+pub holds_here : (s : State) (c : ℕ) → holds_of s (life c (head s c).generation) ≡ (chunk s c).holds
+holds_here s c = ap (λ b. cond b (chunk s c).holds 0) (eq-eqb (head s c).generation (head s c).generation refl)
+
+-- and another life has none
+pub holds_else : (s : State) (l : ItemId) → (head s l.chunk).generation ≢ l.generation → holds_of s l ≡ 0
+holds_else s l other = ap (λ b. cond b (chunk s l.chunk).holds 0) (ne_eqb (head s l.chunk).generation l.generation other)
+
+-- a life with holds is its chunk's, and all the chunk's holds are of it
+pub held_current : (s : State) (l : ItemId) → 0 < holds_of s l → ((head s l.chunk).generation ≡ l.generation) × (holds_of s l ≡ (chunk s l.chunk).holds)
+held_current s l some = dite (ℕ_discrete (head s l.chunk).generation l.generation) (λ e. (e, ap (λ b. cond b (chunk s l.chunk).holds 0) (eq-eqb (head s l.chunk).generation l.generation e))) (λ ne. absurd (omega (arith, holds_else s l ne)))
+
+-- the holds of a life are references to it
+pub holds_counted : (s : State) (l : ItemId) → holds_of s l ≤ references s l.chunk l.generation
+holds_counted s l = omega arith
+
+-- and so are the bumps of each worker
+pub bumps_counted : (s : State) (l : ItemId) (w : ℕ) → w < length s.workers → bumps_of l (worker s w) ≤ references s l.chunk l.generation
+bumps_counted s l w within = omega (arith, term_within (bumps_of l) s.workers w new_worker within)
+
+module _ (s : State) (o : IsLawful s) where
+  -- a chunk with a reference to a life of it is in range
+  pub referred_in_range : (c g : ℕ) → 0 < references s c g → c < length s.chunks
+  referred_in_range c g some = used_in_range s o c ((o.chunks c).used g some).1
+
+  -- the life is its chunk's
+  pub referred_current : (c g : ℕ) → 0 < references s c g → g ≡ (head s c).generation
+  referred_current c g some = ((o.chunks c).used g some).0
+
+  -- the chunk isn't free
+  pub referred_used : (c g : ℕ) → 0 < references s c g → IsUsed (place s c)
+  referred_used c g some = ((o.chunks c).used g some).1
+
+  -- and its count isn't 0
+  pub referred_refs : (c g : ℕ) → 0 < references s c g → 0 < (head s c).refs
+  referred_refs c g some = omega (arith, (o.chunks c).counted, ap (references s c) (referred_current c g some))
+
+  -- a chunk has no more holds than its count
+  pub holds_within : (c : ℕ) → (chunk s c).holds ≤ (head s c).refs
+  holds_within c = omega (arith, (o.chunks c).counted, holds_here s c)
+
+  -- and the count is at most the limit
+  pub refs_within : (c : ℕ) → (head s c).refs ≤ s.refs_limit
+  refs_within c = (o.chunks c).within
+
+  -- a linked chunk has a count above its holds
+  pub linked_above_holds : (c : ℕ) → (head s c).linked ≡ true → (chunk s c).holds < (head s c).refs
+  linked_above_holds c on = omega (arith, (o.chunks c).counted, holds_here s c, ap bit on)
+
+  -- a linked chunk is in range
+  pub linked_in_range : (c : ℕ) → (head s c).linked ≡ true → c < length s.chunks
+  linked_in_range c on = used_in_range s o c (used_where_linked (head s c) (place s c) (o.chunks c).shown on)
+
+  -- Lives in a worker's hand.
+
+  -- a life that a worker is on has a hold
+  pub on_held : (w : ℕ) (l : ItemId) → w < length s.workers → 0 < is_on l (worker s w).hand → 0 < holds_of s l
+  on_held w l within some = omega (arith, o.hands l, term_within (λ x. is_on l x.hand) s.workers w new_worker within)
+
+  -- and so references
+  pub on_referred : (w : ℕ) (l : ItemId) → w < length s.workers → 0 < is_on l (worker s w).hand → 0 < references s l.chunk l.generation
+  on_referred w l within some = omega (arith, on_held w l within some)
+
+  -- a worker is on the life in its hand
+  trying_on : (w : ℕ) (l : ItemId) → (worker s w).hand ≡ hand.Trying l → 0 < is_on l (worker s w).hand
+  trying_on w l is = omega (arith, ap (is_on l) is, one_if_same l)
+
+  in_hand_on : (w : ℕ) (l : ItemId) → (worker s w).hand ≡ hand.InHand l → 0 < is_on l (worker s w).hand
+  in_hand_on w l is = omega (arith, ap (is_on l) is, one_if_same l)
+
+  clearing_on : (w : ℕ) (l : ItemId) → (worker s w).hand ≡ hand.Clearing l → 0 < is_on l (worker s w).hand
+  clearing_on w l is = omega (arith, ap (is_on l) is, one_if_same l)
+
+  -- a life that a worker tries to take a reference of has a hold, and so references
+  pub tried_held : (w : ℕ) (l : ItemId) → w < length s.workers → (worker s w).hand ≡ hand.Trying l → 0 < holds_of s l
+  tried_held w l within is = on_held w l within (trying_on w l is)
+
+  pub tried_referred : (w : ℕ) (l : ItemId) → w < length s.workers → (worker s w).hand ≡ hand.Trying l → 0 < references s l.chunk l.generation
+  tried_referred w l within is = on_referred w l within (trying_on w l is)
+
+  -- its chunk is in range
+  pub tried_in_range : (w : ℕ) (l : ItemId) → w < length s.workers → (worker s w).hand ≡ hand.Trying l → l.chunk < length s.chunks
+  tried_in_range w l within is = referred_in_range l.chunk l.generation (tried_referred w l within is)
+
+  -- and it is its chunk's
+  pub tried_current : (w : ℕ) (l : ItemId) → w < length s.workers → (worker s w).hand ≡ hand.Trying l → l.generation ≡ (head s l.chunk).generation
+  tried_current w l within is = referred_current l.chunk l.generation (tried_referred w l within is)
+
+  -- the same of a life whose reference a worker has in its hand
+  pub in_hand_held : (w : ℕ) (l : ItemId) → w < length s.workers → (worker s w).hand ≡ hand.InHand l → 0 < holds_of s l
+  in_hand_held w l within is = on_held w l within (in_hand_on w l is)
+
+  pub in_hand_referred : (w : ℕ) (l : ItemId) → w < length s.workers → (worker s w).hand ≡ hand.InHand l → 0 < references s l.chunk l.generation
+  in_hand_referred w l within is = on_referred w l within (in_hand_on w l is)
+
+  pub in_hand_in_range : (w : ℕ) (l : ItemId) → w < length s.workers → (worker s w).hand ≡ hand.InHand l → l.chunk < length s.chunks
+  in_hand_in_range w l within is = referred_in_range l.chunk l.generation (in_hand_referred w l within is)
+
+  pub in_hand_current : (w : ℕ) (l : ItemId) → w < length s.workers → (worker s w).hand ≡ hand.InHand l → l.generation ≡ (head s l.chunk).generation
+  in_hand_current w l within is = referred_current l.chunk l.generation (in_hand_referred w l within is)
+
+  -- the same of a life whose ACTIVE a worker is to clear
+  pub cleared_held : (w : ℕ) (l : ItemId) → w < length s.workers → (worker s w).hand ≡ hand.Clearing l → 0 < holds_of s l
+  cleared_held w l within is = on_held w l within (clearing_on w l is)
+
+  pub cleared_referred : (w : ℕ) (l : ItemId) → w < length s.workers → (worker s w).hand ≡ hand.Clearing l → 0 < references s l.chunk l.generation
+  cleared_referred w l within is = on_referred w l within (clearing_on w l is)
+
+  pub cleared_in_range : (w : ℕ) (l : ItemId) → w < length s.workers → (worker s w).hand ≡ hand.Clearing l → l.chunk < length s.chunks
+  cleared_in_range w l within is = referred_in_range l.chunk l.generation (cleared_referred w l within is)
+
+  pub cleared_current : (w : ℕ) (l : ItemId) → w < length s.workers → (worker s w).hand ≡ hand.Clearing l → l.generation ≡ (head s l.chunk).generation
+  cleared_current w l within is = referred_current l.chunk l.generation (cleared_referred w l within is)
+
+  -- the count of a chunk with a reference in a worker's hand is above its holds
+  pub in_hand_above_holds : (w : ℕ) (l : ItemId) → w < length s.workers → (worker s w).hand ≡ hand.InHand l → (chunk s l.chunk).holds < (head s l.chunk).refs
+  in_hand_above_holds w l within is = omega (
+    arith,
+    (o.chunks l.chunk).counted,
+    holds_here s l.chunk,
+    ap (references s l.chunk) (in_hand_current w l within is),
+    ap (λ g. holds_of s (life l.chunk g)) (in_hand_current w l within is),
+    term_within (bumps_of l) s.workers w new_worker within,
+    ap (in_hand_of l) is,
+    one_if_same l,
+  )
+
+  -- Bumps in a ring or in a lane.
+
+  -- a life with a bump in a ring has references
+  pub in_ring_referred : (w : ℕ) (l : ItemId) → w < length s.workers → 0 < count_of l (in_ring (worker s w)) → 0 < references s l.chunk l.generation
+  in_ring_referred w l within some = omega (arith, bumps_counted s l w within)
+
+  -- its chunk is in range
+  pub in_ring_in_range : (w : ℕ) (l : ItemId) → w < length s.workers → 0 < count_of l (in_ring (worker s w)) → l.chunk < length s.chunks
+  in_ring_in_range w l within some = referred_in_range l.chunk l.generation (in_ring_referred w l within some)
+
+  -- and it is its chunk's
+  pub in_ring_current : (w : ℕ) (l : ItemId) → w < length s.workers → 0 < count_of l (in_ring (worker s w)) → l.generation ≡ (head s l.chunk).generation
+  in_ring_current w l within some = referred_current l.chunk l.generation (in_ring_referred w l within some)
+
+  -- a life with a bump aboard a lane has references
+  pub aboard_referred : (w : ℕ) (l : ItemId) → w < length s.workers → 0 < aboard_of l (worker s w).lane → 0 < references s l.chunk l.generation
+  aboard_referred w l within some = omega (arith, bumps_counted s l w within)
+
+  -- its chunk is in range
+  pub aboard_in_range : (w : ℕ) (l : ItemId) → w < length s.workers → 0 < aboard_of l (worker s w).lane → l.chunk < length s.chunks
+  aboard_in_range w l within some = referred_in_range l.chunk l.generation (aboard_referred w l within some)
+
+  -- it is its chunk's
+  pub aboard_current : (w : ℕ) (l : ItemId) → w < length s.workers → 0 < aboard_of l (worker s w).lane → l.generation ≡ (head s l.chunk).generation
+  aboard_current w l within some = referred_current l.chunk l.generation (aboard_referred w l within some)
+
+  -- the count of its chunk is above the holds
+  pub aboard_above_holds : (w : ℕ) (l : ItemId) → w < length s.workers → 0 < aboard_of l (worker s w).lane → (chunk s l.chunk).holds < (head s l.chunk).refs
+  aboard_above_holds w l within some = omega (
+    arith,
+    (o.chunks l.chunk).counted,
+    holds_here s l.chunk,
+    ap (references s l.chunk) (aboard_current w l within some),
+    ap (λ g. holds_of s (life l.chunk g)) (aboard_current w l within some),
+    term_within (bumps_of l) s.workers w new_worker within,
+  )
+
+  -- a lane that applies a bump has it aboard
+  pub applied_aboard : (w : ℕ) (l : ItemId) → applied_life (worker s w).lane ≡ Some l → 0 < aboard_of l (worker s w).lane
+  applied_aboard w l is = applied_counts (worker s w).lane l is
+
+  -- the chunk of a bump that is applied is in range
+  pub applied_in_range : (w : ℕ) (l : ItemId) → w < length s.workers → applied_life (worker s w).lane ≡ Some l → l.chunk < length s.chunks
+  applied_in_range w l within is = aboard_in_range w l within (applied_aboard w l is)
+
+  -- A worker's accounts.
+
+  -- while an attempt is under way the attempted are one more than the accepted and the dropped
+  pub counts_under_way : (w : ℕ) → w < length s.workers → attempts_of (worker s w).hand ≡ 1
+      → (worker s w).accounts.accepted + (worker s w).accounts.full + (worker s w).accounts.busy + (worker s w).accounts.refs + 1 ≡ (worker s w).accounts.attempted
+  counts_under_way w within one = omega (arith, (o.workers w within).attempted)
+
+  pub tried_under_way : (w : ℕ) (l : ItemId) → w < length s.workers → (worker s w).hand ≡ hand.Trying l
+      → (worker s w).accounts.accepted + (worker s w).accounts.full + (worker s w).accounts.busy + (worker s w).accounts.refs + 1 ≡ (worker s w).accounts.attempted
+  tried_under_way w l within is = counts_under_way w within (ap attempts_of is)
+
+  pub in_hand_under_way : (w : ℕ) (l : ItemId) → w < length s.workers → (worker s w).hand ≡ hand.InHand l
+      → (worker s w).accounts.accepted + (worker s w).accounts.full + (worker s w).accounts.busy + (worker s w).accounts.refs + 1 ≡ (worker s w).accounts.attempted
+  in_hand_under_way w l within is = counts_under_way w within (ap attempts_of is)
+
+  -- a lane received no more than was sent
+  pub received_within : (w : ℕ) → w < length s.workers → length (worker s w).received ≤ length (worker s w).sent
+  received_within w within = omega (arith, ap length (o.workers w within).prefix, length-append (worker s w).received (in_ring (worker s w)))

@@ -1,0 +1,193 @@
+-- Each kind of change leaves a chunk lawful: facts about a head and two counts alone.
+use Rattle.std.proofs.Common.{◌≡◌, ℕ, ◌+◌, ◌-◌, ◌<◌, ◌≤◌, ◌≢◌, Bool, true, false, refl, sym, ap, ◌∙◌, subst, arith}
+use mathlib.Core.Bool.{false≢true}
+use mathlib.Core.Logic.{dite}
+use native.Mathlib.Decide.{ℕ_discrete}
+use Rattle.bump_core.specs.declared.items.Head.{Head}
+use Rattle.bump_core.specs.declared.places.Place.{Place}
+use Rattle.bump_core.specs.declared.places.Segment.{Segment}
+use Rattle.bump_core.specs.declared.places.Segment.TheVariants as segment
+use Rattle.bump_core.specs.declared.places.Place.TheVariants.{Hot, Warm, Cold, Dying, Unused, Retired}
+use Rattle.bump_core.specs.History.{place_of}
+use Rattle.bump_core.specs.Lawful.{bit, Shows, IsUsed, Lawful, newborn}
+
+-- a mark counts at most 1
+pub bit_le : (b : Bool) → bit b ≤ 1
+bit_le true = omega arith
+bit_le false = omega arith
+
+-- a chunk whose head is linked is not free
+pub used_where_linked : (h : Head) (at : Place) → Shows h at → h.linked ≡ true → IsUsed at
+used_where_linked h Hot s e = tt
+used_where_linked h Warm s e = tt
+used_where_linked h Cold s e = tt
+used_where_linked h Dying s e = tt
+used_where_linked h Unused s e = absurd (false≢true (sym s.0 ∙ e))
+used_where_linked h Retired s e = absurd (false≢true (sym s.0 ∙ e))
+
+-- a linked chunk stands in the list that its segment bits name
+pub placed_where_linked : (h : Head) (at : Place) → Shows h at → h.linked ≡ true → at ≡ place_of h.segment
+placed_where_linked h Hot s e = ap place_of (sym s.1)
+placed_where_linked h Warm s e = ap place_of (sym s.1)
+placed_where_linked h Cold s e = ap place_of (sym s.1)
+placed_where_linked h Dying s e = absurd (false≢true (sym s ∙ e))
+placed_where_linked h Unused s e = absurd (false≢true (sym s.0 ∙ e))
+placed_where_linked h Retired s e = absurd (false≢true (sym s.0 ∙ e))
+
+-- a place asks nothing of the count and of the marks
+pub shows_same : (g h : Head) (at : Place) → g.linked ≡ h.linked → g.segment ≡ h.segment → g.generation ≡ h.generation → Shows g at → Shows h at
+shows_same g h Hot l s e x = (sym l ∙ x.0, sym s ∙ x.1)
+shows_same g h Warm l s e x = (sym l ∙ x.0, sym s ∙ x.1)
+shows_same g h Cold l s e x = (sym l ∙ x.0, sym s ∙ x.1)
+shows_same g h Dying l s e x = sym l ∙ x
+shows_same g h Unused l s e x = (sym l ∙ x.0, omega (arith, x.1))
+shows_same g h Retired l s e x = (sym l ∙ x.0, sym e ∙ x.1)
+
+module _ (limit : ℕ) (h : Head) (at : Place) (r x : ℕ → ℕ) (o : Lawful limit h at r x) where
+  -- the same counts in other words
+  pub relawful : (q y : ℕ → ℕ) → ((g : ℕ) → q g ≡ r g) → ((g : ℕ) → y g ≡ x g) → Lawful limit h at q y
+  relawful q y same_references same_first_hits = record {
+    counted = omega (arith, o.counted, same_references h.generation);
+    within = o.within;
+    shown = o.shown;
+    used = λ g some. o.used g (omega (arith, same_references g));
+    active = o.active;
+    fetched = same_first_hits h.generation ∙ o.fetched;
+    once = λ g. omega (arith, same_first_hits g, o.once g);
+    past = λ g some. o.past g (omega (arith, same_first_hits g));
+  }
+
+  -- a life with a reference is the chunk's
+  pub referred_generation : (g : ℕ) → 0 < r g → g ≡ h.generation
+  referred_generation g some = (o.used g some).0
+
+  -- no other life has a reference
+  pub none_else : (g : ℕ) → g ≢ h.generation → r g ≡ 0
+  none_else g other = dite (ℕ_discrete (r g) 0) (λ e. e) (λ ne. absurd (other (o.used g (omega arith)).0))
+
+  -- a free chunk has no reference
+  pub none_where_free : IsUsed at ≡ ⊥ → (g : ℕ) → r g ≡ 0
+  none_where_free free g = dite (ℕ_discrete (r g) 0) (λ e. e) (λ ne. absurd (subst (λ (T : Type 0). T) free (o.used g (omega arith)).1))
+
+  -- one more reference to the chunk's life
+  pub referred : (q : ℕ → ℕ) → IsUsed at → h.refs < limit → q h.generation ≡ r h.generation + 1 → ((g : ℕ) → g ≢ h.generation → q g ≡ r g)
+      → Lawful limit (record h { refs = h.refs + 1 }) at q x
+  referred q used few here there = record {
+    counted = omega (arith, o.counted);
+    within = omega arith;
+    shown = shows_same h (record h { refs = h.refs + 1 }) at refl refl refl o.shown;
+    used = λ g some. dite (ℕ_discrete g h.generation) (λ e. (e, used)) (λ ne. o.used g (omega (arith, there g ne)));
+    active = o.active;
+    fetched = o.fetched;
+    once = o.once;
+    past = o.past;
+  }
+
+  -- one reference fewer
+  pub unreferred : (q : ℕ → ℕ) → q h.generation + 1 ≡ r h.generation → ((g : ℕ) → g ≢ h.generation → q g ≡ r g) → Lawful limit (record h { refs = h.refs - 1 }) at q x
+  unreferred q here there = record {
+    counted = omega (arith, o.counted);
+    within = omega (arith, o.within);
+    shown = shows_same h (record h { refs = h.refs - 1 }) at refl refl refl o.shown;
+    used = λ g some. dite (ℕ_discrete g h.generation) (λ e. o.used g (omega (arith, ap r e, ap q e))) (λ ne. o.used g (omega (arith, there g ne)));
+    active = o.active;
+    fetched = o.fetched;
+    once = o.once;
+    past = o.past;
+  }
+
+  -- the first hit of the life
+  pub named_first : (y : ℕ → ℕ) → h.fetched ≡ false → y h.generation ≡ x h.generation + 1 → ((g : ℕ) → g ≢ h.generation → y g ≡ x g) → Lawful limit (record h { fetched = true }) at r y
+  named_first y clear here there = let none : bit h.fetched ≡ 0 = ap bit clear in record {
+    counted = o.counted;
+    within = o.within;
+    shown = shows_same h (record h { fetched = true }) at refl refl refl o.shown;
+    used = o.used;
+    active = bit_le h.active;
+    fetched = omega (arith, o.fetched);
+    once = λ g. dite (ℕ_discrete g h.generation) (λ e. omega (arith, o.fetched, ap y e)) (λ ne. omega (arith, there g ne, o.once g));
+    past = λ g some. dite (ℕ_discrete g h.generation) (λ e. omega arith) (λ ne. o.past g (omega (arith, there g ne)));
+  }
+
+  -- a new life
+  pub born : at ≡ Unused → 0 < limit → Lawful limit (newborn (h.generation + 1)) Hot r x
+  born free room = let none = none_where_free (ap IsUsed free) in record {
+    counted = omega (arith, none (h.generation + 1));
+    within = omega arith;
+    shown = (refl, refl);
+    used = λ g some. absurd (omega (arith, none g));
+    active = omega arith;
+    fetched = dite (ℕ_discrete (x (h.generation + 1)) 0) (λ e. e) (λ ne. absurd (omega (arith, o.past (h.generation + 1) (omega arith))));
+    once = o.once;
+    past = λ g some. omega (arith, o.past g some);
+  }
+
+  -- the chunk is unlinked, and its holders stay
+  pub severed : h.linked ≡ true → Lawful limit (record h { refs = h.refs - 1; linked = false }) Dying r x
+  severed on = record {
+    counted = omega (arith, o.counted, ap bit on);
+    within = omega (arith, o.within);
+    shown = refl;
+    used = λ g some. ((o.used g some).0, tt);
+    active = o.active;
+    fetched = o.fetched;
+    once = o.once;
+    past = o.past;
+  }
+
+  -- a chunk without holders is free
+  pub ended : (to : Place) → at ≡ Dying → h.refs ≡ 0 → Shows h to → Lawful limit h to r x
+  ended to dying zero_refs shows = record {
+    counted = o.counted;
+    within = o.within;
+    shown = shows;
+    used = λ g some. absurd (let e = (o.used g some).0 in omega (arith, o.counted, ap r e));
+    active = o.active;
+    fetched = o.fetched;
+    once = o.once;
+    past = o.past;
+  }
+
+  -- ACTIVE is set where FETCHED is, or cleared
+  pub marked : (b : Bool) → bit b ≤ bit h.fetched → Lawful limit (record h { active = b }) at r x
+  marked b below = record {
+    counted = o.counted;
+    within = o.within;
+    shown = shows_same h (record h { active = b }) at refl refl refl o.shown;
+    used = o.used;
+    active = below;
+    fetched = o.fetched;
+    once = o.once;
+    past = o.past;
+  }
+
+-- what the list of a segment says of the head
+pub in_segment : (h : Head) (s : Segment) → Shows h (place_of s) → (h.linked ≡ true) × (h.segment ≡ s)
+in_segment h segment.Hot x = x
+in_segment h segment.Warm x = x
+in_segment h segment.Cold x = x
+
+-- a linked head with these segment bits agrees with the list of the segment
+pub shows_segment : (h : Head) (s : Segment) → h.linked ≡ true → Shows (record h { segment = s }) (place_of s)
+shows_segment h segment.Hot x = (x, refl)
+shows_segment h segment.Warm x = (x, refl)
+shows_segment h segment.Cold x = (x, refl)
+
+-- no list of a segment is of free chunks
+pub used_in_segment : (s : Segment) → IsUsed (place_of s)
+used_in_segment segment.Hot = tt
+used_in_segment segment.Warm = tt
+used_in_segment segment.Cold = tt
+
+-- a linked chunk goes to another list
+pub moved : (limit : ℕ) (h : Head) (at : Place) (r x : ℕ → ℕ) → Lawful limit h at r x → (to : Segment) → h.linked ≡ true → Lawful limit (record h { segment = to }) (place_of to) r x
+moved limit h at r x o to on = record {
+  counted = o.counted;
+  within = o.within;
+  shown = shows_segment h to on;
+  used = λ g many. ((o.used g many).0, used_in_segment to);
+  active = o.active;
+  fetched = o.fetched;
+  once = o.once;
+  past = o.past;
+}
