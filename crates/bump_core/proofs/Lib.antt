@@ -6,3 +6,4 @@ pub mod Tiles
 pub mod Updates
 pub mod Views
 pub mod Without
+pub mod Reaches

@@ -21,11 +21,8 @@ use Rattle.bump_core.specs.declared.events.Reply.TheVariants as reply
 use Rattle.bump_core.specs.Lawful.{newborn}
 use Rattle.bump_core.specs.Lives.{life}
 use Rattle.bump_core.specs.Tables.{is_cold}
+use Rattle.bump_core.specs.Rings.{most_attempts}
 use Rattle.bump_core.specs.State.{State, WorkerState, chunk, head, class, worker, is_chunk, is_class, is_worker, with_chunk, with_head, with_worker, with_change, class_of, is_linked, is_held, has_free_hold, is_open, tried_life, life_in_hand, cleared_life, is_idle, some_and, is_under_application, first_of}
-
--- No worker attempts more bumps than this.
-abbrev pub most_attempts : ℕ
-most_attempts = 4611686018427387903
 
 -- The changes of a head.
 abbrev pub one_more : Head → Head

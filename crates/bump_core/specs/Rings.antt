@@ -36,6 +36,10 @@ attempts_of (hand.Trying l) = 1
 attempts_of (hand.InHand l) = 1
 attempts_of _ = 0
 
+-- No worker attempts more bumps than this.
+abbrev pub most_attempts : ℕ
+most_attempts = 4611686018427387903
+
 pub record IsWorker (capacity : ℕ) (x : WorkerState) : Type 0 where
   -- what was received is a prefix of what was sent
   pub prefix : x.sent ≡ x.received ++ in_ring x
@@ -47,3 +51,5 @@ pub record IsWorker (capacity : ℕ) (x : WorkerState) : Type 0 where
   pub accepted : x.accounts.accepted ≡ length x.sent
   -- accepted and dropped bumps, and the attempt under way, add up to those attempted
   pub attempted : x.accounts.attempted ≡ x.accounts.accepted + x.accounts.full + x.accounts.busy + x.accounts.refs + attempts_of x.hand
+  -- and no worker attempts more than may be
+  pub most : x.accounts.attempted ≤ most_attempts

@@ -1,6 +1,7 @@
 //! The pure core of bump: its types, and a World in which each event is one atomic step of one thread.
 #![tactic(auto)]
 
+mod attempts;
 pub mod bumps;
 mod changes;
 pub mod chunks;

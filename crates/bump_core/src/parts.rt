@@ -174,4 +174,13 @@ impl Parts {
     {
         self.classes[k as usize].lists.unused.front().copied()
     }
+
+    /// How many bumps wait in a worker's ring.
+    pub fn waiting(&self, w: u32) -> usize
+        requires { w < length (state_of self.now).workers }
+        ensures { result ≡ waiting (worker (state_of self.now) w) }
+    {
+        let worker = &self.workers[w as usize];
+        worker.sent.len() - worker.received
+    }
 }

@@ -1,0 +1,274 @@
+-- Commands: what each answers and leaves, by the tables and in one go, and the events that it is made of.
+use Rattle.std.specs.Prelude.{◌≡◌, ℕ, ◌+◌, ◌-◌, Bool, true, false, not, ◌==◌, ◌&&◌, ◌||◌, nat_lt, List, [], ◌∷◌, ◌++◌, length, Option, None, Some, Result, Ok, Err, if◌then◌else◌}
+use Rattle.std.specs.Option.{option_map_or}
+use Rattle.bump_core.specs.declared.places.Segment.{Segment}
+use Rattle.bump_core.specs.declared.places.Segment.TheVariants as segment
+use Rattle.bump_core.specs.declared.places.Tail.{Tail}
+use Rattle.bump_core.specs.declared.places.Tail.TheVariants as tail
+use Rattle.bump_core.specs.declared.items.ItemId.{ItemId}
+use Rattle.bump_core.specs.declared.items.Head.{Head}
+use Rattle.bump_core.specs.declared.chunks.Chunk.{Chunk}
+use Rattle.bump_core.specs.declared.bumps.Accounts.{Accounts}
+use Rattle.bump_core.specs.declared.bumps.Applied.{Applied}
+use Rattle.bump_core.specs.declared.bumps.Applied.TheVariants as applied
+use Rattle.bump_core.specs.declared.bumps.Ended.{Ended}
+use Rattle.bump_core.specs.declared.bumps.Ended.TheVariants.{Freed, Deferred}
+use Rattle.bump_core.specs.declared.bumps.Entry.{Entry}
+use Rattle.bump_core.specs.declared.history.Cause.TheVariants.{Pull, Bump as BumpOf}
+use Rattle.bump_core.specs.declared.history.Change.{Change}
+use Rattle.bump_core.specs.declared.history.Change.TheVariants as change
+use Rattle.bump_core.specs.declared.lanes.Bump.{Bump}
+use Rattle.bump_core.specs.declared.lanes.Lane.{Lane}
+use Rattle.bump_core.specs.declared.lanes.Lane.TheVariants as lane
+use Rattle.bump_core.specs.declared.lanes.Outcome.{Outcome}
+use Rattle.bump_core.specs.declared.lanes.Outcome.TheVariants as outcome
+use Rattle.bump_core.specs.declared.commands.Command.{Command}
+use Rattle.bump_core.specs.declared.commands.Command.TheVariants as command
+use Rattle.bump_core.specs.declared.commands.Answer.{Answer}
+use Rattle.bump_core.specs.declared.commands.Answer.TheVariants as answer
+use Rattle.bump_core.specs.declared.commands.Touch.{Touch}
+use Rattle.bump_core.specs.declared.commands.Touch.TheVariants as touch
+use Rattle.bump_core.specs.declared.commands.Dropped.{Dropped}
+use Rattle.bump_core.specs.declared.commands.Dropped.TheVariants.{Full, Busy, RefsFull}
+use Rattle.bump_core.specs.declared.commands.Pulled.{Pulled}
+use Rattle.bump_core.specs.declared.commands.Pulled.TheVariants as pulled
+use Rattle.bump_core.specs.declared.events.Event.{Event}
+use Rattle.bump_core.specs.declared.events.Event.TheVariants as event
+use Rattle.bump_core.specs.declared.events.Refused.{Refused}
+use Rattle.bump_core.specs.declared.events.Refused.TheVariants.{NotEnabled, OutOfMemory}
+use Rattle.bump_core.specs.Lawful.{newborn}
+use Rattle.bump_core.specs.Lives.{life}
+use Rattle.bump_core.specs.History.{place_of}
+use Rattle.bump_core.specs.Lists.{list_at}
+use Rattle.bump_core.specs.Tables.{Hit, IsFirst, IsAlready, IsMarked, Attempts, is_cold, makes_second, hit_of, dropped_of, outcome_of, pulled_of, pulled_to, segment_of}
+use Rattle.bump_core.specs.State.{State, ClassState, WorkerState, chunk, head, class, worker, is_chunk, is_class, is_worker, with_chunk, with_head, with_worker, with_change, class_of, is_current, is_linked, is_held, has_free_hold, is_open, is_idle, some_and, is_under_application, last_of}
+use Rattle.bump_core.specs.Rings.{most_attempts}
+use Rattle.bump_core.specs.Events.{one_more, one_fewer, fetched_head, active_head, is_under_limit, next_chunk, next_life, waiting, next_bump, carried, bump_of, applied_bump, with_hold, without_hold}
+use Rattle.bump_core.specs.Runs.{run_of}
+
+-- Pulls.
+
+-- the last chunk of the list that a pull looks at
+abbrev pub tail_of : State → ℕ → Tail → Option ℕ
+tail_of s k t = last_of (list_at (class s k).lists (place_of (segment_of t)))
+
+-- that list has more items than its limit
+abbrev pub is_over : State → ℕ → Tail → Bool
+is_over s k tail.Hot = nat_lt (class s k).hot_limit (length (class s k).lists.hot)
+is_over s k tail.Warm = nat_lt (class s k).warm_limit (length (class s k).lists.warm)
+is_over s k tail.Cold = false
+
+-- what a pull does with its item, by the tail table
+abbrev pub pulled_at : State → ℕ → Tail → ℕ → Pulled
+pulled_at s k t c = pulled_of t (head s c).active (is_over s k t) (life c (head s c).generation)
+
+-- the item goes to the front of a segment without ACTIVE, or nothing happens
+abbrev pub pull_to : State → ℕ → Tail → ℕ → Option Segment → State
+pull_to s k t c None = s
+pull_to s k t c (Some to) =
+    let h = head s c in
+    with_change (with_head s c (record h { active = false; segment = to })) k (change.Moved (life c h.generation) (segment_of t) to Pull)
+
+abbrev pub pull : State → ℕ → Tail → ℕ → State
+pull s k t c = pull_to s k t c (pulled_to (pulled_at s k t c))
+
+-- Holds.
+
+-- what taking a hold answers
+abbrev pub take_answer : State → ItemId → Answer
+take_answer s l = if not (is_chunk s l.chunk) then answer.NoSuchChunk else (if not (is_linked s l) then answer.Stale else (if is_under_limit s l.chunk then answer.Held else answer.RefsFull))
+
+-- Hits.
+
+-- The head that the second step of a hit finds is the first one's with FETCHED.
+abbrev pub hit_at : State → ItemId → Hit
+hit_at s l = hit_of (head s l.chunk) (fetched_head (head s l.chunk))
+
+-- why a bump that a hit attempts is dropped, if it is: no exchange fails where nobody else makes a step
+abbrev pub dropped_at : State → ℕ → ItemId → Option Dropped
+dropped_at s w l = dropped_of (not (is_under_limit s l.chunk)) false (nat_lt (waiting (worker s w)) s.capacity)
+
+-- the accounts after an attempt
+abbrev pub counted : Accounts → Option Dropped → Accounts
+counted a None = record a { attempted = a.attempted + 1; accepted = a.accepted + 1 }
+counted a (Some Full) = record a { attempted = a.attempted + 1; full = a.full + 1 }
+counted a (Some Busy) = record a { attempted = a.attempted + 1; busy = a.busy + 1 }
+counted a (Some RefsFull) = record a { attempted = a.attempted + 1; refs = a.refs + 1 }
+
+-- an attempt: the bump is queued with a reference of its own, or dropped, which leaves the head as it was
+abbrev pub attempt : State → ℕ → ItemId → Option Dropped → State
+attempt s w l None =
+    let x = worker s w in
+    with_worker (with_head s l.chunk (one_more (active_head (head s l.chunk)))) w (record x { accounts = counted x.accounts None; sent = x.sent ++ l ∷ [] })
+attempt s w l (Some d) = let x = worker s w in with_worker s w (record x { accounts = counted x.accounts (Some d) })
+
+abbrev pub attempt_answer : State → ℕ → Option Dropped → Touch
+attempt_answer s w None = touch.Queued (length (worker s w).sent)
+attempt_answer s w (Some d) = touch.Dropped d
+
+-- a hit, by the hit table
+abbrev pub hit : State → ℕ → ItemId → ℕ → Hit → State
+hit s w l now IsFirst = let x = worker s w in with_worker (with_head s l.chunk (fetched_head (head s l.chunk))) w (record x { first_hits = x.first_hits ++ l ∷ [] })
+hit s w l now IsAlready = s
+hit s w l now IsMarked = with_chunk s l.chunk (record (chunk s l.chunk) { head = active_head (head s l.chunk); time = now })
+hit s w l now Attempts = attempt s w l (dropped_at s w l)
+
+abbrev pub hit_answer : State → ℕ → ItemId → Hit → Touch
+hit_answer s w l IsFirst = touch.First
+hit_answer s w l IsAlready = touch.Already
+hit_answer s w l IsMarked = touch.Marked
+hit_answer s w l Attempts = attempt_answer s w (dropped_at s w l)
+
+-- the worker has attempted as many bumps as any may
+abbrev pub is_exhausted : State → ℕ → Bool
+is_exhausted s w = (worker s w).accounts.attempted == most_attempts
+
+-- Bumps.
+
+-- the bump that a lane applies next: the one aboard, or else the first that waits
+abbrev pub bump_next : WorkerState → Option Bump
+bump_next x = by x.lane
+  where
+    by : Lane → Option Bump
+    by lane.Empty = option_map_or (λ l. Some (bump_of (length x.received) l)) (next_bump x) None
+    by (lane.Carrying b) = Some b
+    by _ = None
+
+-- a lane with a bump that is half applied
+abbrev pub is_half_made : Lane → Bool
+is_half_made lane.Empty = false
+is_half_made (lane.Carrying b) = false
+is_half_made _ = true
+
+-- what applying a bump comes to, by the update table: the clearing step finds ACTIVE as it stands
+abbrev pub outcome_next : State → Bump → Outcome
+outcome_next s b = let h = head s b.life.chunk in outcome_of h h.active
+
+-- whether an unlinked chunk has other holders when a bump's reference is given back
+abbrev pub ended_at : State → ℕ → Ended
+ended_at s c = if (head s c).refs - 1 == 0 then Freed else Deferred
+
+abbrev pub applied_as : State → Bump → Outcome → Applied
+applied_as s b outcome.Moved = applied.Moved
+applied_as s b outcome.TimeOnly = applied.TimeOnly
+applied_as s b outcome.Gone = applied.Gone (ended_at s b.life.chunk)
+
+abbrev pub entry_of : State → Bump → Entry
+entry_of s b = record { number = b.number; life = b.life; applied = applied_as s b (outcome_next s b) }
+
+-- the chunk of a bump when it was applied: the time is stored unless it was gone, ACTIVE is clear and the segment WARM
+-- where it was moved, and the bump's reference is given back
+abbrev pub bumped_chunk : Chunk → ℕ → Outcome → Chunk
+bumped_chunk x now outcome.Moved = record x { head = record (one_fewer x.head) { active = false; segment = segment.Warm }; time = now }
+bumped_chunk x now outcome.TimeOnly = record x { head = one_fewer x.head; time = now }
+bumped_chunk x now outcome.Gone = record x { head = one_fewer x.head }
+
+-- the worker's ring and lane when a bump was applied
+abbrev pub bumped_worker : WorkerState → Bump → Outcome → WorkerState
+bumped_worker x b o = record x { received = by x.lane; lane = lane.Empty; applied = x.applied ++ applied_bump b o ∷ [] }
+  where
+    by : Lane → List ItemId
+    by lane.Empty = x.received ++ b.life ∷ []
+    by _ = x.received
+
+-- the entry of a chunk that is found without holders: it is UNUSED again, or RETIRED after the last generation
+abbrev pub freed_change : ItemId → Change
+freed_change l = if l.generation == 4294967295 then change.Retired l else change.Swept l
+
+-- The lists of its class: a bump that moves its item enters the history, and so does the end of an item that was gone and
+-- has no other holder.
+abbrev pub bumped_lists : State → ℕ → Bump → Outcome → Ended → State
+bumped_lists s w b outcome.Moved ended = with_change s (class_of s b.life.chunk) (change.Moved b.life segment.Cold segment.Warm (BumpOf w b.number))
+bumped_lists s w b outcome.TimeOnly ended = s
+bumped_lists s w b outcome.Gone Freed = with_change s (class_of s b.life.chunk) (freed_change b.life)
+bumped_lists s w b outcome.Gone Deferred = s
+
+abbrev pub apply_bump : State → ℕ → ℕ → Bump → State
+apply_bump s w now b =
+    let c = b.life.chunk in
+    let o = outcome_next s b in
+    bumped_lists (with_worker (with_chunk s c (bumped_chunk (chunk s c) now o)) w (bumped_worker (worker s w) b o)) w b o (ended_at s c)
+
+-- Each command.
+
+-- A command is refused where a number is out of range, a worker's ring is closed, a life has no free hold (a hit, a release)
+-- or none (a label), or another command is half made in its way.
+abbrev pub is_allowed : State → Command → Bool
+is_allowed s (command.Link k x now) = is_class s k && (not (some_and (λ c. true) (next_chunk s k)) || not (is_under_application s k))
+is_allowed s (command.Pull k t) = is_class s k && (not (some_and (λ c. true) (tail_of s k t)) || not (is_under_application s k))
+is_allowed s (command.Take w l) = is_open s w
+is_allowed s (command.Touch w l now) = is_open s w && (has_free_hold s l && (is_exhausted s w || is_idle (worker s w).hand))
+is_allowed s (command.Label l) = is_held s l
+is_allowed s (command.Release l) = has_free_hold s l
+is_allowed s (command.Next w now) = is_worker s w && (not (is_half_made (worker s w).lane) && not (some_and (λ b. is_under_application s (class_of s b.life.chunk)) (bump_next (worker s w))))
+
+-- What a command answers.
+abbrev pub answer_of : State → Command → Answer
+answer_of s (command.Link k x now) = option_map_or (λ c. answer.Linked (next_life s c)) (next_chunk s k) answer.NoFreeChunk
+answer_of s (command.Pull k t) = answer.Pulled (option_map_or (pulled_at s k t) (tail_of s k t) pulled.Empty)
+answer_of s (command.Take w l) = take_answer s l
+answer_of s (command.Touch w l now) = answer.Touched (if is_exhausted s w then touch.Exhausted else hit_answer s w l (hit_at s l))
+answer_of s (command.Label l) = answer.Label (chunk s l.chunk).label
+answer_of s (command.Release l) = answer.Done
+answer_of s (command.Next w now) = option_map_or (λ b. answer.Bumped (entry_of s b)) (bump_next (worker s w)) answer.Nothing
+
+-- a link stores the label, the time and the head, and the chunk enters HOT
+abbrev pub link_labelled : State → ℕ → ℕ → ℕ → ℕ → State
+link_labelled s k x now c = with_change (with_chunk s c (record (chunk s c) { head = newborn ((head s c).generation + 1); time = now; label = x })) k (change.Linked (next_life s c))
+
+-- The state that a command leaves.
+abbrev pub command_after : State → Command → State
+command_after s (command.Link k x now) = option_map_or (link_labelled s k x now) (next_chunk s k) s
+command_after s (command.Pull k t) = option_map_or (pull s k t) (tail_of s k t) s
+command_after s (command.Take w l) = if is_linked s l && is_under_limit s l.chunk then with_hold s l.chunk else s
+command_after s (command.Touch w l now) = if is_exhausted s w then s else hit s w l now (hit_at s l)
+command_after s (command.Label l) = s
+command_after s (command.Release l) = without_hold s l.chunk
+command_after s (command.Next w now) = option_map_or (apply_bump s w now) (bump_next (worker s w)) s
+
+-- The events of each command.
+
+abbrev pub move_events : ℕ → Option Segment → List Event
+move_events c None = []
+move_events c (Some to) = event.Move c to ∷ []
+
+abbrev pub attempt_events : ℕ → Option Dropped → List Event
+attempt_events w None = event.Reserve w ∷ event.Push w ∷ []
+attempt_events w (Some RefsFull) = event.DropRefs w ∷ event.Unmark w ∷ []
+attempt_events w (Some Full) = event.Reserve w ∷ event.DropFull w ∷ event.Unmark w ∷ []
+attempt_events w (Some Busy) = event.DropBusy w ∷ event.Unmark w ∷ []
+
+abbrev pub hit_events : State → ℕ → ItemId → ℕ → Hit → List Event
+hit_events s w l now IsFirst = event.Fetch w l ∷ []
+hit_events s w l now IsAlready = event.Fetch w l ∷ []
+hit_events s w l now IsMarked = event.Fetch w l ∷ event.Mark w l ∷ event.StoreTime l now ∷ []
+hit_events s w l now Attempts = event.Fetch w l ∷ event.Mark w l ∷ attempt_events w (dropped_at s w l)
+
+-- a lane that carries no bump takes the next one
+abbrev pub take_events : ℕ → Lane → List Event
+take_events w lane.Empty = event.TakeBump w ∷ []
+take_events w _ = []
+
+-- The steps of the update table: a cold item's ACTIVE is cleared, and where it was set the item is moved. After an item
+-- that was gone its head is looked at once more.
+abbrev pub apply_events : Head → ℕ → ℕ → ℕ → List Event
+apply_events h w now c =
+    if not h.linked then event.Try w ∷ event.Alight w ∷ event.Load c ∷ []
+    else (if not (is_cold h.segment) then event.Try w ∷ event.BumpTime w now ∷ event.Alight w ∷ []
+    else (if h.active then event.Try w ∷ event.BumpTime w now ∷ event.ClearFor w ∷ event.MoveFor w ∷ event.Alight w ∷ []
+    else event.Try w ∷ event.BumpTime w now ∷ event.ClearFor w ∷ event.Alight w ∷ []))
+
+abbrev pub events_of : State → Command → List Event
+events_of s (command.Link k x now) = option_map_or (λ c. event.PutLabel k x ∷ event.PutTime k now ∷ event.Link k ∷ []) (next_chunk s k) []
+events_of s (command.Pull k t) = option_map_or (λ c. event.ClearActive c ∷ move_events c (pulled_to (pulled_at s k t c))) (tail_of s k t) []
+events_of s (command.Take w l) = if not (is_chunk s l.chunk) then [] else (event.Load l.chunk ∷ (if is_linked s l && is_under_limit s l.chunk then event.Take w l ∷ [] else []))
+events_of s (command.Touch w l now) = if is_exhausted s w then [] else hit_events s w l now (hit_at s l)
+events_of s (command.Label l) = event.Load l.chunk ∷ []
+events_of s (command.Release l) = event.Release l ∷ []
+events_of s (command.Next w now) = option_map_or (λ b. take_events w (worker s w).lane ++ apply_events (head s b.life.chunk) w now b.life.chunk) (bump_next (worker s w)) []
+
+-- What a command does: where it is allowed it answers and leaves what the tables say, else it refuses; a refusal changes nothing.
+abbrev pub Commands : State → Command → State → Result Answer Refused → Type 0
+Commands old c new (Ok answer) = (is_allowed old c ≡ true) × (new ≡ command_after old c) × (answer ≡ answer_of old c)
+Commands old c new (Err NotEnabled) = (is_allowed old c ≡ false) × (new ≡ old)
+Commands old c new (Err OutOfMemory) = new ≡ old
