@@ -1,19 +1,20 @@
 -- What follows for a lawful state: which numbers are in range, which lives are current, and what the counts are below.
-use Rattle.std.proofs.Common.{if◌then◌else◌, inl, inr, length-append, ◌≡◌, ℕ, suc, ◌+◌, ◌<◌, ◌≤◌, ◌≢◌, true, cond, eqb, List, [], ◌∷◌, length, refl, ap, ◌∙◌, subst, Some, arith, eq-eqb, ne_eqb}
+use Rattle.std.proofs.Common.{Bool, false, if◌then◌else◌, ◌⊎◌, inl, inr, length-append, ◌≡◌, ℕ, suc, ◌+◌, ◌<◌, ◌≤◌, ◌≢◌, true, cond, eqb, List, [], ◌∷◌, length, refl, ap, ◌∙◌, subst, Some, arith, eq-eqb, ne_eqb}
 use Rattle.std.proofs.lemmas.Bool.{le-ltb, and_from, and_left, and_right, cases_lt}
 use mathlib.Core.Logic.{dite}
 use native.Mathlib.Decide.{ℕ_discrete}
 use Rattle.bump_core.specs.declared.places.Place.TheVariants.{Unused}
 use Rattle.bump_core.specs.declared.items.ItemId.{ItemId}
+use Rattle.bump_core.specs.declared.lanes.Bump.{Bump}
 use Rattle.bump_core.specs.declared.lanes.Lane.{Lane}
 use Rattle.bump_core.specs.declared.lanes.Lane.TheVariants as lane
 use Rattle.bump_core.specs.declared.workers.Hand.TheVariants as hand
-use Rattle.bump_core.specs.Lawful.{bit, IsUsed}
+use Rattle.bump_core.specs.Lawful.{bit, Shows, IsUsed}
 use Rattle.bump_core.specs.Lives.{life, is_same, one_if, count_of}
 use Rattle.bump_core.specs.Rings.{in_ring, attempts_of}
 use Rattle.bump_core.specs.State.{State, ClassState, chunk, head, worker, class_from, class_of, no_class, new_worker, is_on, applied_life}
-use Rattle.bump_core.specs.Worlds.{holds_of, in_hand_of, aboard_of, bumps_of, references, place_in, place, Tiles, IsLawful}
-use Rattle.bump_core.proofs.Laws.{used_where_linked}
+use Rattle.bump_core.specs.Worlds.{holds_of, in_hand_of, aboard_of, bumps_of, references, first_hits_of, place_in, place, Tiles, IsLawful}
+use Rattle.bump_core.proofs.Laws.{used_where_linked, none_where_free}
 use Rattle.bump_core.proofs.Updates.{read_past, term_within}
 
 -- Whether two lives are one.
@@ -33,6 +34,20 @@ one_if_elsewhere l m other = ap (λ b. cond b 1 0) (and_left (eqb l.chunk m.chun
 -- nor does another life of the chunk
 pub one_if_other_life : (l m : ItemId) → l.generation ≢ m.generation → one_if l m ≡ 0
 one_if_other_life l m other = ap (λ b. cond b 1 0) (and_right (eqb l.chunk m.chunk) (eqb l.generation m.generation) (ne_eqb l.generation m.generation other))
+
+-- a life of the chunk with the generation counts
+pub one_if_at : (l : ItemId) (g : ℕ) → g ≡ l.generation → one_if (life l.chunk g) l ≡ 1
+one_if_at l g e = ap (λ k. one_if (life l.chunk k) l) e ∙ one_if_same l
+
+-- and with another one it doesn't
+pub one_if_not_at : (l : ItemId) (g : ℕ) → g ≢ l.generation → one_if (life l.chunk g) l ≡ 0
+one_if_not_at l g ne = one_if_other_life (life l.chunk g) l ne
+
+-- a life is another, or doesn't count
+pub one_if_cases : (l m : ItemId) → (l ≡ m) ⊎ (one_if l m ≡ 0)
+one_if_cases l m = dite (ℕ_discrete l.chunk m.chunk)
+    (λ e. dite (ℕ_discrete l.generation m.generation) (λ f. inl (λ i. life (e i) (f i))) (λ ne. inr (one_if_other_life l m ne)))
+    (λ ne. inr (one_if_elsewhere l m ne))
 
 -- a lane that applies a bump has it aboard
 applied_counts : (x : Lane) (l : ItemId) → applied_life x ≡ Some l → 0 < aboard_of l x
@@ -127,20 +142,23 @@ module _ (s : State) (o : IsLawful s) where
   pub on_referred : (w : ℕ) (l : ItemId) → w < length s.workers → 0 < is_on l (worker s w).hand → 0 < references s l.chunk l.generation
   on_referred w l within some = omega (arith, on_held w l within some)
 
-  -- a worker is on the life in its hand
+  -- a worker is on the life of which it tries to take a reference
   trying_on : (w : ℕ) (l : ItemId) → (worker s w).hand ≡ hand.Trying l → 0 < is_on l (worker s w).hand
   trying_on w l is = omega (arith, ap (is_on l) is, one_if_same l)
 
+  -- on the life to which it has a reference
   in_hand_on : (w : ℕ) (l : ItemId) → (worker s w).hand ≡ hand.InHand l → 0 < is_on l (worker s w).hand
   in_hand_on w l is = omega (arith, ap (is_on l) is, one_if_same l)
 
+  -- and on the life whose ACTIVE it is to clear
   clearing_on : (w : ℕ) (l : ItemId) → (worker s w).hand ≡ hand.Clearing l → 0 < is_on l (worker s w).hand
   clearing_on w l is = omega (arith, ap (is_on l) is, one_if_same l)
 
-  -- a life that a worker tries to take a reference of has a hold, and so references
+  -- a life of which a worker tries to take a reference has a hold
   pub tried_held : (w : ℕ) (l : ItemId) → w < length s.workers → (worker s w).hand ≡ hand.Trying l → 0 < holds_of s l
   tried_held w l within is = on_held w l within (trying_on w l is)
 
+  -- and so references
   pub tried_referred : (w : ℕ) (l : ItemId) → w < length s.workers → (worker s w).hand ≡ hand.Trying l → 0 < references s l.chunk l.generation
   tried_referred w l within is = on_referred w l within (trying_on w l is)
 
@@ -152,29 +170,35 @@ module _ (s : State) (o : IsLawful s) where
   pub tried_current : (w : ℕ) (l : ItemId) → w < length s.workers → (worker s w).hand ≡ hand.Trying l → l.generation ≡ (head s l.chunk).generation
   tried_current w l within is = referred_current l.chunk l.generation (tried_referred w l within is)
 
-  -- the same of a life whose reference a worker has in its hand
+  -- a life with a reference in a worker's hand has a hold
   pub in_hand_held : (w : ℕ) (l : ItemId) → w < length s.workers → (worker s w).hand ≡ hand.InHand l → 0 < holds_of s l
   in_hand_held w l within is = on_held w l within (in_hand_on w l is)
 
+  -- and so references
   pub in_hand_referred : (w : ℕ) (l : ItemId) → w < length s.workers → (worker s w).hand ≡ hand.InHand l → 0 < references s l.chunk l.generation
   in_hand_referred w l within is = on_referred w l within (in_hand_on w l is)
 
+  -- its chunk is in range
   pub in_hand_in_range : (w : ℕ) (l : ItemId) → w < length s.workers → (worker s w).hand ≡ hand.InHand l → l.chunk < length s.chunks
   in_hand_in_range w l within is = referred_in_range l.chunk l.generation (in_hand_referred w l within is)
 
+  -- and it is its chunk's
   pub in_hand_current : (w : ℕ) (l : ItemId) → w < length s.workers → (worker s w).hand ≡ hand.InHand l → l.generation ≡ (head s l.chunk).generation
   in_hand_current w l within is = referred_current l.chunk l.generation (in_hand_referred w l within is)
 
-  -- the same of a life whose ACTIVE a worker is to clear
+  -- a life whose ACTIVE a worker is to clear has a hold
   pub cleared_held : (w : ℕ) (l : ItemId) → w < length s.workers → (worker s w).hand ≡ hand.Clearing l → 0 < holds_of s l
   cleared_held w l within is = on_held w l within (clearing_on w l is)
 
+  -- and so references
   pub cleared_referred : (w : ℕ) (l : ItemId) → w < length s.workers → (worker s w).hand ≡ hand.Clearing l → 0 < references s l.chunk l.generation
   cleared_referred w l within is = on_referred w l within (clearing_on w l is)
 
+  -- its chunk is in range
   pub cleared_in_range : (w : ℕ) (l : ItemId) → w < length s.workers → (worker s w).hand ≡ hand.Clearing l → l.chunk < length s.chunks
   cleared_in_range w l within is = referred_in_range l.chunk l.generation (cleared_referred w l within is)
 
+  -- and it is its chunk's
   pub cleared_current : (w : ℕ) (l : ItemId) → w < length s.workers → (worker s w).hand ≡ hand.Clearing l → l.generation ≡ (head s l.chunk).generation
   cleared_current w l within is = referred_current l.chunk l.generation (cleared_referred w l within is)
 
@@ -236,6 +260,40 @@ module _ (s : State) (o : IsLawful s) where
   pub applied_in_range : (w : ℕ) (l : ItemId) → w < length s.workers → applied_life (worker s w).lane ≡ Some l → l.chunk < length s.chunks
   applied_in_range w l within is = aboard_in_range w l within (applied_aboard w l is)
 
+  -- by how far the lane is: the chunk of its bump is in range
+  pub carrying_in_range : (w : ℕ) (b : Bump) → w < length s.workers → (worker s w).lane ≡ lane.Carrying b → b.life.chunk < length s.chunks
+  carrying_in_range w b within is = aboard_in_range w b.life within (omega (arith, ap (aboard_of b.life) is, one_if_same b.life))
+
+  -- where it looked at the item
+  pub looked_in_range : (w : ℕ) (b : Bump) → w < length s.workers → (worker s w).lane ≡ lane.Tried b → b.life.chunk < length s.chunks
+  looked_in_range w b within is = aboard_in_range w b.life within (omega (arith, ap (aboard_of b.life) is, one_if_same b.life))
+
+  -- where it cleared ACTIVE
+  pub unmarked_in_range : (w : ℕ) (b : Bump) (found : Bool) → w < length s.workers → (worker s w).lane ≡ lane.Cleared b found → b.life.chunk < length s.chunks
+  unmarked_in_range w b found within is = aboard_in_range w b.life within (omega (arith, ap (aboard_of b.life) is, one_if_same b.life))
+
+  -- and where it moved the item
+  pub moved_in_range : (w : ℕ) (b : Bump) → w < length s.workers → (worker s w).lane ≡ lane.Moved b → b.life.chunk < length s.chunks
+  moved_in_range w b within is = aboard_in_range w b.life within (omega (arith, ap (aboard_of b.life) is, one_if_same b.life))
+
+  -- Free chunks.
+
+  -- no life of a chunk in UNUSED has references
+  pub unused_unreferred : (c : ℕ) → place s c ≡ Unused → (g : ℕ) → references s c g ≡ 0
+  unused_unreferred c is = none_where_free s.refs_limit (head s c) (place s c) (references s c) (first_hits_of s c) (o.chunks c) (ap IsUsed is)
+
+  -- its head isn't linked, and has not the last generation
+  pub unused_shown : (c : ℕ) → place s c ≡ Unused → ((head s c).linked ≡ false) × ((head s c).generation < 4294967295)
+  unused_shown c is = subst (Shows (head s c)) is (o.chunks c).shown
+
+  -- its count is 0
+  pub unused_refs : (c : ℕ) → place s c ≡ Unused → (head s c).refs ≡ 0
+  unused_refs c is = omega (arith, (o.chunks c).counted, unused_unreferred c is (head s c).generation, ap bit (unused_shown c is).0)
+
+  -- and it has no holds
+  pub unused_holds : (c : ℕ) → place s c ≡ Unused → (chunk s c).holds ≡ 0
+  unused_holds c is = omega (arith, holds_within c, unused_refs c is)
+
   -- A worker's accounts.
 
   -- while an attempt is under way the attempted are one more than the accepted and the dropped
@@ -243,10 +301,12 @@ module _ (s : State) (o : IsLawful s) where
       → (worker s w).accounts.accepted + (worker s w).accounts.full + (worker s w).accounts.busy + (worker s w).accounts.refs + 1 ≡ (worker s w).accounts.attempted
   counts_under_way w within one = omega (arith, (o.workers w within).attempted)
 
+  -- so it is while the worker tries to take a reference
   pub tried_under_way : (w : ℕ) (l : ItemId) → w < length s.workers → (worker s w).hand ≡ hand.Trying l
       → (worker s w).accounts.accepted + (worker s w).accounts.full + (worker s w).accounts.busy + (worker s w).accounts.refs + 1 ≡ (worker s w).accounts.attempted
   tried_under_way w l within is = counts_under_way w within (ap attempts_of is)
 
+  -- and while it has the reference in its hand
   pub in_hand_under_way : (w : ℕ) (l : ItemId) → w < length s.workers → (worker s w).hand ≡ hand.InHand l
       → (worker s w).accounts.accepted + (worker s w).accounts.full + (worker s w).accounts.busy + (worker s w).accounts.refs + 1 ≡ (worker s w).accounts.attempted
   in_hand_under_way w l within is = counts_under_way w within (ap attempts_of is)
@@ -254,3 +314,7 @@ module _ (s : State) (o : IsLawful s) where
   -- a lane received no more than was sent
   pub received_within : (w : ℕ) → w < length s.workers → length (worker s w).received ≤ length (worker s w).sent
   received_within w within = omega (arith, ap length (o.workers w within).prefix, length-append (worker s w).received (in_ring (worker s w)))
+
+  -- no more were sent than attempted
+  pub sent_within : (w : ℕ) → w < length s.workers → length (worker s w).sent ≤ (worker s w).accounts.attempted
+  sent_within w within = omega (arith, (o.workers w within).accepted, (o.workers w within).attempted)

@@ -1,7 +1,7 @@
 -- Where the chunks of a lawful World stand in the lists of their classes.
-use Rattle.std.proofs.Common.{◌≡◌, ℕ, zero, suc, ◌<◌, ◌≤◌, ◌≢◌, ◌&&◌, cond, eqb, Bool, true, false, List, [], ◌∷◌, ◌++◌, length, slice_index_or, Some, refl, sym, ap, ap₂, ◌∙◌, subst, arith, eq-eqb, ne_eqb, eqb-true, ◌⊎◌, inl, inr}
+use Rattle.std.proofs.Common.{Option, None, ◌≡◌, ℕ, zero, suc, ◌+◌, ◌-◌, ◌<◌, ◌≤◌, ◌≢◌, ◌&&◌, cond, eqb, Bool, true, false, not, List, [], ◌∷◌, ◌++◌, length, slice_index_or, Some, refl, sym, ap, ap₂, ◌∙◌, subst, arith, eq-eqb, ne_eqb, eqb-true, ◌⊎◌, inl, inr}
 use Rattle.std.proofs.lemmas.Bool.{cases_Bool, cases_lt, and_parts, and_right, both_ways}
-use Rattle.std.specs.List.{remove}
+use Rattle.std.specs.List.{remove, position_or_len}
 use Rattle.bump_core.specs.declared.places.Segment.{Segment}
 use Rattle.bump_core.specs.declared.places.Segment.TheVariants as segment
 use Rattle.bump_core.specs.declared.places.Place.{Place}
@@ -9,10 +9,12 @@ use Rattle.bump_core.specs.declared.places.Place.TheVariants.{Hot, Warm, Cold, D
 use Rattle.bump_core.specs.declared.items.Head.{Head}
 use Rattle.bump_core.specs.Lawful.{bit, Shows}
 use Rattle.bump_core.specs.History.{place_of}
-use Rattle.bump_core.specs.Lists.{Lists, list_at, without, all_without, put_before, to_front}
+use Rattle.bump_core.specs.Lists.{Lists, list_at, without, all_without, put_before, to_front, with_list, times, StandsAt}
+use Rattle.std.specs.Prelude.{IfSome}
+use Rattle.bump_core.specs.Events.{next_chunk}
 use Rattle.bump_core.specs.State.{State, head, class, no_chunk, class_of, last_of, first_of}
 use Rattle.bump_core.specs.Worlds.{owns, place, place_in, IsLawful}
-use Rattle.bump_core.proofs.Replay.{number, is_place, times, times_without, in_lists}
+use Rattle.bump_core.proofs.Replay.{number, is_place, times_without, in_lists}
 use Rattle.bump_core.proofs.Tiles.{class_within, class_owns, owner, owned_in_range}
 use Rattle.bump_core.proofs.Updates.{read_past}
 
@@ -22,6 +24,7 @@ use Rattle.bump_core.proofs.Updates.{read_past}
 abbrev place_numbered : ℕ → Place
 place_numbered n = cond (eqb n 0) Hot (cond (eqb n 1) Warm (cond (eqb n 2) Cold (cond (eqb n 3) Dying (cond (eqb n 4) Unused Retired))))
 
+-- a place has its number
 numbered_number : (p : Place) → place_numbered (number p) ≡ p
 numbered_number Hot = refl
 numbered_number Warm = refl
@@ -44,9 +47,11 @@ other_place p q ne = ne_eqb (number p) (number q) (λ e. ne (sym (numbered_numbe
 
 -- Lists that have a chunk once or never.
 
+-- a test that fails counts 0
 bit_none : (b : Bool) → b ≡ false → bit b ≡ 0
 bit_none b e = ap bit e
 
+-- a test that counts more than 0 passes
 bit_some : (b : Bool) → 0 < bit b → b ≡ true
 bit_some true some = refl
 bit_some false some = absurd (omega arith)
@@ -138,16 +143,35 @@ pub first_split : (c : ℕ) (xs : List ℕ) → first_of xs ≡ Some c → (rest
 first_split c [] is = absurd (cc)
 first_split c (x ∷ xs) is = let e : x ≡ c = cc in (xs, ap (λ (y : ℕ). y ∷ xs) e)
 
--- Six lists of which one has the chunk.
+-- the first of a list, read by its index
+pub first_is : (xs : List ℕ) (d : ℕ) → 0 < length xs → first_of xs ≡ Some (slice_index_or xs 0 d)
+first_is [] d some = absurd (omega arith)
+first_is (x ∷ xs) d some = refl
 
--- the lists with another list at a place
-abbrev pub with_list : Place → List ℕ → Lists → Lists
-with_list Hot xs l = record l { hot = xs }
-with_list Warm xs l = record l { warm = xs }
-with_list Cold xs l = record l { cold = xs }
-with_list Dying xs l = record l { dying = xs }
-with_list Unused xs l = record l { unused = xs }
-with_list Retired xs l = record l { retired = xs }
+-- the last of a list, read by its index
+pub last_is : (xs : List ℕ) (d : ℕ) → 0 < length xs → last_of xs ≡ Some (slice_index_or xs (length xs - 1) d)
+last_is [] d some = absurd (omega arith)
+last_is (x ∷ []) d some = refl
+last_is (x ∷ y ∷ ys) d some = last_is (y ∷ ys) d (omega arith) ∙ ap (λ (i : ℕ). Some (slice_index_or (x ∷ y ∷ ys) i d)) (next (length ys))
+  where
+    next : (n : ℕ) → suc (suc n - 1) ≡ suc (suc n) - 1
+    next n = omega arith
+
+-- a list that has a last has some element, and the last is at its last index
+pub last_at : (c : ℕ) (xs : List ℕ) (d : ℕ) → last_of xs ≡ Some c → (0 < length xs) × (slice_index_or xs (length xs - 1) d ≡ c)
+last_at c [] d is = absurd (cc)
+last_at c (x ∷ xs) d is = let some : 0 < suc (length xs) = omega arith in let e = sym (last_is (x ∷ xs) d some) ∙ is in (some, cc)
+
+-- the first index at which a list has the chunk is within the list
+pub position_within : (c : ℕ) (xs : List ℕ) → 0 < times c xs → position_or_len (λ x. eqb x c) xs < length xs
+position_within c [] some = absurd (omega arith)
+position_within c (x ∷ xs) some = by (cases_Bool (eqb x c)) (position_within c xs)
+  where
+    by : (eqb x c ≡ true) ⊎ (eqb x c ≡ false) → (0 < times c xs → position_or_len (λ x. eqb x c) xs < length xs) → cond (not (eqb x c)) (1 + position_or_len (λ x. eqb x c) xs) 0 < suc (length xs)
+    by (inl e) ih = omega (arith, ap (λ b. cond (not b) (1 + position_or_len (λ x. eqb x c) xs) 0) e)
+    by (inr e) ih = omega (arith, ap (λ b. cond (not b) (1 + position_or_len (λ x. eqb x c) xs) 0) e, ih (omega (arith, some, ap bit e)))
+
+-- Six lists of which one has the chunk.
 
 -- lists that agree at each place are the same
 pub same_lists : (l m : Lists) → ((q : Place) → list_at l q ≡ list_at m q) → l ≡ m
@@ -262,6 +286,30 @@ module _ (s : State) (o : IsLawful s) where
   pub linked_once : (c : ℕ) → (head s c).linked ≡ true → times c (list_at (class s (class_of s c)).lists (place_of (head s c).segment)) ≡ 1
   linked_once c on = once_at c _ (linked_in_range s c on) (place_linked c on)
 
+  -- and in no other list of its class
+  pub linked_kept : (c : ℕ) (q : Place) → (head s c).linked ≡ true → is_place (place_of (head s c).segment) q ≡ false → without c (list_at (class s (class_of s c)).lists q) ≡ list_at (class s (class_of s c)).lists q
+  linked_kept c q on other = kept_at c _ q (linked_in_range s c on) (place_linked c on) other
+
+  -- the list of its segment, split at the chunk
+  pub linked_split : (c : ℕ) → (head s c).linked ≡ true → Once c (list_at (class s (class_of s c)).lists (place_of (head s c).segment))
+  linked_split c on = split_at c _ (linked_in_range s c on) (place_linked c on)
+
+  -- it is found in the list of its segment
+  pub linked_found : (c : ℕ) → (head s c).linked ≡ true
+      → position_or_len (λ x. eqb x c) (list_at (class s (class_of s c)).lists (place_of (head s c).segment)) < length (list_at (class s (class_of s c)).lists (place_of (head s c).segment))
+  linked_found c on = position_within c _ (omega (arith, linked_once c on))
+
+  -- a linked chunk goes to the front of a list: it is removed where it stands in the list of its segment, and then put before the list
+  pub moved_lists : (c i d : ℕ) (to : Place) → (head s c).linked ≡ true → i < length (list_at (class s (class_of s c)).lists (place_of (head s c).segment))
+      → slice_index_or (list_at (class s (class_of s c)).lists (place_of (head s c).segment)) i d ≡ c
+      → to_front c to (class s (class_of s c)).lists
+      ≡ put_before c to (with_list (place_of (head s c).segment) (remove (list_at (class s (class_of s c)).lists (place_of (head s c).segment)) i) (class s (class_of s c)).lists)
+  moved_lists c i d to on within read =
+      let in_range = linked_in_range s c on in
+      let at = place_linked c on in
+      fronted_from c (place_of (head s c).segment) to in_range at
+      ∙ ap (λ xs. put_before c to (with_list (place_of (head s c).segment) xs (class s (class_of s c)).lists)) (removed_at c (place_of (head s c).segment) i d in_range at within read)
+
   -- the last of HOT, WARM or COLD is in range, of the class, linked, and has the segment
   pub last_linked : (k c : ℕ) (g : Segment) → k < length s.classes → last_of (list_at (class s k).lists (place_of g)) ≡ Some c
       → (c < length s.chunks) × (class_of s c ≡ k) × ((head s c).linked ≡ true) × ((head s c).segment ≡ g)
@@ -293,3 +341,27 @@ module _ (s : State) (o : IsLawful s) where
       subst (λ (j : ℕ). without c (list_at (class s j).lists q) ≡ list_at (class s j).lists q) at.0 (kept_at c Unused q at.1 at.2 other) in
       let gone : without c l.unused ≡ rest = ap (without c) is ∙ (ap (λ b. cond b (without c rest) (c ∷ without c rest)) (eq-eqb c c refl) ∙ at.3) in
       λ i. record { hot = c ∷ kept Hot refl i; warm = kept Warm refl i; cold = kept Cold refl i; dying = kept Dying refl i; unused = gone i; retired = kept Retired refl i }
+
+  -- a chunk in range stands at its place, once, and in no other list
+  pub stands : (c : ℕ) (p : Place) → c < length s.chunks → place s c ≡ p → StandsAt c p (class s (class_of s c)).lists
+  stands c p in_range is = record { once = once_at c p in_range is; alone = taken_from c p in_range is }
+
+  -- a linked chunk stands in the list of its segment
+  pub linked_stands : (c : ℕ) → (head s c).linked ≡ true → StandsAt c (place_of (head s c).segment) (class s (class_of s c)).lists
+  linked_stands c on = stands c (place_of (head s c).segment) (linked_in_range s c on) (place_linked c on)
+
+  -- the front of UNUSED stands there
+  pub next_stands : (k c : ℕ) → k < length s.classes → next_chunk s k ≡ Some c → (c < length s.chunks) × (class_of s c ≡ k) × ((head s c).generation < 4294967295) × StandsAt c Unused (class s k).lists
+  next_stands k c within is =
+      let split = first_split c (class s k).lists.unused is in
+      let at = unused_front k c split.0 within split.1 in
+      (at.1, at.0, (unused_head k c split.0 within split.1).1, subst (λ (j : ℕ). StandsAt c Unused (class s j).lists) at.0 (stands c Unused at.1 at.2))
+
+  -- the same of what a look-up answered
+  pub some_next : (k : ℕ) (o : Option ℕ) → k < length s.classes → o ≡ next_chunk s k → IfSome o (λ c. (c < length s.chunks) × (class_of s c ≡ k) × ((head s c).generation < 4294967295) × StandsAt c Unused (class s k).lists)
+  some_next k None within is = tt
+  some_next k (Some c) within is = next_stands k c within (sym is)
+
+  -- the same, for a class and a list that are given
+  pub linked_stands_at : (c k : ℕ) (p : Place) → (head s c).linked ≡ true → k ≡ class_of s c → p ≡ place_of (head s c).segment → StandsAt c p (class s k).lists
+  linked_stands_at c k p on class_is place_is = subst (λ (j : ℕ). StandsAt c p (class s j).lists) (sym class_is) (subst (λ (q : Place). StandsAt c q (class s (class_of s c)).lists) (sym place_is) (linked_stands c on))

@@ -109,6 +109,19 @@ module _ (limit : ℕ) (h : Head) (at : Place) (r x : ℕ → ℕ) (o : Lawful l
     past = λ g some. dite (ℕ_discrete g h.generation) (λ e. omega arith) (λ ne. o.past g (omega (arith, there g ne)));
   }
 
+  -- a hit that isn't the first
+  pub fetched_again : h.fetched ≡ true → Lawful limit (record h { fetched = true }) at r x
+  fetched_again on = record {
+    counted = o.counted;
+    within = o.within;
+    shown = shows_same h (record h { fetched = true }) at refl refl refl o.shown;
+    used = o.used;
+    active = bit_le h.active;
+    fetched = o.fetched ∙ ap bit on;
+    once = o.once;
+    past = o.past;
+  }
+
   -- a new life
   pub born : at ≡ Unused → 0 < limit → Lawful limit (newborn (h.generation + 1)) Hot r x
   born free room = let none = none_where_free (ap IsUsed free) in record {

@@ -9,7 +9,7 @@ use Rattle.bump_core.specs.declared.history.Change.{Change}
 use Rattle.bump_core.specs.Totals.{total}
 use Rattle.bump_core.specs.Lawful.{bit}
 use Rattle.bump_core.specs.History.{subject, target, Standing, standing_after, standing_from, replay}
-use Rattle.bump_core.specs.Lists.{Lists, list_at, without, to_front, ascending, opening}
+use Rattle.bump_core.specs.Lists.{Lists, list_at, without, to_front, ascending, opening, times}
 use Rattle.bump_core.specs.State.{ClassState}
 use Rattle.bump_core.specs.Worlds.{owns, AreOf, IsClass, place_in}
 
@@ -25,10 +25,6 @@ number Retired = 5
 -- whether two places are one
 abbrev pub is_place : Place → Place → Bool
 is_place p q = eqb (number p) (number q)
-
--- how often a list has a chunk
-abbrev pub times : ℕ → List ℕ → ℕ
-times c xs = total (λ x. cond (eqb x c) 1 0) xs
 
 -- a place is itself
 pub is_place_self : (p : Place) → is_place p p ≡ true
@@ -104,9 +100,6 @@ Places c own at l = (q : Place) → times c (list_at l q) ≡ bit (own && is_pla
 pub times_front : (c d : ℕ) (p q : Place) (l : Lists) → times c (list_at (to_front d p l) q) ≡ cond (eqb d c) (bit (is_place p q)) (times c (list_at l q))
 times_front c d p q l = ap (times c) (list_at_front d p q l) ∙ by (ℕ_discrete d c)
   where
-    after_cond : Bool → List ℕ
-    after_cond b = cond b (d ∷ without d (list_at l q)) (without d (list_at l q))
-
     here : d ≡ c → (b : Bool) → times c (cond b (d ∷ without d (list_at l q)) (without d (list_at l q))) ≡ bit b
     here s true = omega (arith, ap bit (eq-eqb d c s), ap (λ (x : ℕ). times c (without x (list_at l q))) s, times_without c (list_at l q))
     here s false = ap (λ (x : ℕ). times c (without x (list_at l q))) s ∙ times_without c (list_at l q)
@@ -144,10 +137,12 @@ times_ascending c first (suc n) = dite (ℕ_discrete first c)
     shift : (a b : ℕ) → a + suc b ≡ suc a + b
     shift a b = omega arith
 
+-- a chunk is in no list but UNUSED's
 not_there : (b : Bool) → 0 ≡ bit (b && false)
 not_there true = refl
 not_there false = refl
 
+-- and there where it is of the class
 still_there : (b : Bool) → bit b ≡ bit (b && true)
 still_there true = refl
 still_there false = refl

@@ -1,5 +1,5 @@
 -- A list seen element by element.
-use Rattle.std.specs.Prelude.{Result, Ok, Err, OnErr, Some, slice_get}
+use Rattle.std.specs.Prelude.{Bool, true, false, not, Result, Ok, Err, OnErr, Some, slice_get}
 use Rattle.std.proofs.lemmas.List.{length-map}
 use Rattle.std.proofs.Common.{◌≡◌, ℕ, zero, suc, ◌<◌, List, [], ◌∷◌, ◌++◌, take, length, get_or, set, map, refl, sym, ap, ◌∙◌, arith}
 
@@ -46,3 +46,8 @@ pub next_taken : {A : Type 0} (xs : List A) (n : ℕ) (x : A) → slice_get xs (
 next_taken [] n x is = absurd (let u : ⊥ = cc in u)
 next_taken (y ∷ ys) zero x is = let same : y ≡ x = cc in (omega arith, refl, ap (λ z. z ∷ []) same)
 next_taken {A = A} (y ∷ ys) (suc n) x is = let rest = next_taken ys n x is in (omega (arith, rest.0), omega (arith, rest.1), ap (λ (r : List A). y ∷ r) rest.2)
+
+-- what isn't false is true
+pub set_where_not : (b : Bool) → not b ≡ false → b ≡ true
+set_where_not true e = refl
+set_where_not false e = sym e

@@ -5,6 +5,7 @@ use Rattle.bump_core.specs.declared.places.Place.TheVariants.{Unused}
 use Rattle.bump_core.specs.declared.places.Segment.TheVariants as segment
 use Rattle.bump_core.specs.declared.items.ItemId.{ItemId}
 use Rattle.bump_core.specs.declared.history.Change.{Change}
+use Rattle.bump_core.specs.declared.history.Change.TheVariants as change
 use Rattle.bump_core.specs.declared.lanes.Lane.{Lane}
 use Rattle.bump_core.specs.declared.lanes.Lane.TheVariants as lane
 use Rattle.bump_core.specs.declared.workers.Hand.{Hand}
@@ -90,3 +91,14 @@ pub record IsLawful (s : State) : Type 0 where
   pub alone : (v w : ℕ) (l m : ItemId) → v < length s.workers → w < length s.workers
       → applied_life (worker s v).lane ≡ Some l → applied_life (worker s w).lane ≡ Some m → class_of s l.chunk ≡ class_of s m.chunk → v ≡ w
   pub waits : (w : ℕ) → w < length s.workers → WaitsToMove s (worker s w).lane
+
+-- A history in which nothing was unlinked: it has links and moves alone.
+abbrev pub NoneUnlinked : List Change → Type 0
+NoneUnlinked [] = Unit {0}
+NoneUnlinked (change.Linked l ∷ es) = NoneUnlinked es
+NoneUnlinked (change.Moved l from to cause ∷ es) = NoneUnlinked es
+NoneUnlinked (_ ∷ es) = ⊥
+
+-- nothing was unlinked in any class
+abbrev pub NothingUnlinked : State → Type 0
+NothingUnlinked s = (k : ℕ) → k < length s.classes → NoneUnlinked (class s k).history

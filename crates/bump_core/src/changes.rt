@@ -16,7 +16,6 @@ use crate::lanes::{AppliedBump, Bump, Lane, Outcome};
 use crate::parts::Parts;
 use crate::places::Place;
 use crate::workers::Hand;
-
 use std::alloc::AllocError;
 
 impl Parts {
@@ -94,15 +93,12 @@ impl Parts {
     }
 
     /// A lane is done with its bump.
-    pub fn push_applied(
-        &mut self,
-        w: u32,
-        bump: Bump,
-        outcome: Outcome,
-    ) -> Result<(), AllocError>
+    pub fn push_applied(&mut self, w: u32, bump: Bump, outcome: Outcome) -> Result<(), AllocError>
         requires { w < length (state_of self.old).workers }
         ensures ok { OnOk result (state_of self.new ≡ with_worker (state_of self.old) w (record (worker (state_of self.old) w) {
-            lane = lane.Empty; applied = (worker (state_of self.old) w).applied ++ applied_bump bump outcome ∷ [] })) }
+          lane = lane.Empty;
+          applied = (worker (state_of self.old) w).applied ++ applied_bump bump outcome ∷ [];
+        })) }
         ensures err { OnErr result (state_of self.new ≡ state_of self.old) }
     {
         let worker = &mut self.workers[w as usize];

@@ -8,7 +8,6 @@ ghost use Rattle.bump_core.specs.Views.{lists_of, class_view};
 
 use crate::history::Change;
 use crate::places::Place;
-
 use std::alloc::AllocError;
 use std::collections::VecDeque;
 

@@ -2,7 +2,6 @@
 use crate::items::{Head, ItemId};
 use crate::lanes::Outcome;
 use crate::places::Segment;
-
 use std::alloc::AllocError;
 
 /// One load, store, exchange or fetch on one word of one chunk, or one push into a ring, or one take from a ring.

@@ -1,5 +1,6 @@
 //! Names of items, and what a chunk's head word says.
 ghost use Rattle.std.specs.Prelude.{◌≡◌};
+ghost use Rattle.bump_core.specs.Lawful.{newborn};
 ghost use Rattle.bump_core.specs.Lives.{is_same};
 
 use crate::places::Segment;
@@ -39,5 +40,21 @@ impl ItemId {
         ensures { result ≡ is_same self other }
     {
         self.chunk == other.chunk && self.generation == other.generation
+    }
+}
+
+impl Head {
+    /// The head of a new life, with its generation: one reference, linked, in HOT, without marks.
+    pub fn newborn(generation: u32) -> Head
+        ensures { result ≡ newborn generation }
+    {
+        Head {
+            refs: 1,
+            linked: true,
+            fetched: false,
+            active: false,
+            segment: Segment::Hot,
+            generation,
+        }
     }
 }

@@ -1,9 +1,10 @@
 //! Draining lanes: each takes the bumps of one worker's ring, and applies them in order.
 ghost use Rattle.std.specs.Prelude.{◌≡◌};
 ghost use Rattle.bump_core.specs.State.{applied_life};
-ghost use Rattle.bump_core.specs.Events.{carried, tried, applied_now, cleared_active, is_empty};
+ghost use Rattle.bump_core.specs.Events.{carried, tried, applied_now, cleared_active, is_empty, outcome_at};
 
-use crate::items::ItemId;
+use crate::items::{Head, ItemId};
+use crate::places::Segment;
 
 /// What applying a bump did: as `Applied`, without what became of an item that was gone.
 #[derive(Clone, Copy, Debug, PartialEq, Eq)]
@@ -101,6 +102,19 @@ impl Lane {
     {
         match self {
             Lane::Cleared(bump, true) => Some(bump),
+            _ => None,
+        }
+    }
+
+    /// What the lane may end its bump with, by the head of the bump's item, if it may.
+    pub fn outcome(self, head: Head) -> Option<Outcome>
+        ensures { result ≡ outcome_at self head }
+    {
+        match self {
+            Lane::Tried(_) if !head.linked => Some(Outcome::Gone),
+            Lane::Tried(_) if !matches!(head.segment, Segment::Cold) => Some(Outcome::TimeOnly),
+            Lane::Cleared(_, false) => Some(Outcome::TimeOnly),
+            Lane::Moved(_) => Some(Outcome::Moved),
             _ => None,
         }
     }

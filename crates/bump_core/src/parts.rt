@@ -1,8 +1,10 @@
 //! What a World keeps, and how its parts are read and changed.
-ghost use Rattle.std.specs.Prelude.{◌≡◌, ◌<◌, length};
+ghost use Rattle.std.specs.Prelude.{◌≡◌, ◌<◌, IfSome, length};
 ghost use Rattle.bump_core.specs.State.{chunk, head, worker, is_chunk, is_class, is_worker, is_current, is_linked, is_held, workers_on, has_free_hold, class_of, is_under_application, is_open, class};
 ghost use Rattle.bump_core.specs.Events.{next_bump, waiting, next_chunk};
-ghost use Rattle.bump_core.specs.Lists.{list_at};
+ghost use Rattle.bump_core.specs.Lists.{StandsAt};
+ghost use Rattle.bump_core.specs.Worlds.{IsLawful};
+ghost use Rattle.bump_core.specs.declared.places.Place.TheVariants.{Unused};
 ghost use Rattle.bump_core.specs.Views.{state_of};
 
 use crate::bumps::Accounts;
@@ -11,7 +13,6 @@ use crate::classes::Class;
 use crate::items::{Head, ItemId};
 use crate::lanes::Lane;
 use crate::workers::{Hand, Worker};
-
 
 /// The state of a World.
 #[derive(Drop)]
@@ -167,12 +168,23 @@ impl Parts {
         self.workers[w as usize].sent.len()
     }
 
-    /// The chunk that the next link of a class takes.
-    pub fn next_chunk(&self, k: u32) -> Option<u32>
+    /// The front of a class's UNUSED.
+    fn unused_front(&self, k: u32) -> Option<u32>
         requires { k < length (state_of self.now).classes }
         ensures { result ≡ next_chunk (state_of self.now) k }
     {
         self.classes[k as usize].lists.unused.front().copied()
+    }
+
+    /// The chunk that the next link of a class takes.
+    pub fn next_chunk(&self, k: u32) -> Option<u32>
+        requires class { k < length (state_of self.now).classes }
+        requires lawful { IsLawful (state_of self.now) }
+        ensures front { result ≡ next_chunk (state_of self.now) k }
+        ensures stands { IfSome result (λ c. (c < length (state_of self.now).chunks) × (class_of (state_of self.now) c ≡ k)
+            × ((head (state_of self.now) c).generation < 4294967295) × StandsAt c Unused (class (state_of self.now) k).lists) }
+    {
+        self.unused_front(k)
     }
 
     /// How many bumps wait in a worker's ring.
@@ -182,5 +194,14 @@ impl Parts {
     {
         let worker = &self.workers[w as usize];
         worker.sent.len() - worker.received
+    }
+
+    /// The next bump that a worker's lane takes, if one waits.
+    pub fn next_bump(&self, w: u32) -> Option<ItemId>
+        requires { w < length (state_of self.now).workers }
+        ensures { result ≡ next_bump (worker (state_of self.now) w) }
+    {
+        let worker = &self.workers[w as usize];
+        worker.sent.get(worker.received).copied()
     }
 }

@@ -1,0 +1,136 @@
+-- What the tests of the events say.
+use Rattle.std.proofs.Common.{eq-eqb, ◌≡◌, ℕ, ◌<◌, Bool, true, false, ◌&&◌, nat_lt, ◌==◌, length, Option, None, Some, if◌then◌else◌, refl, sym, ap, subst, ◌∙◌}
+use Rattle.std.proofs.lemmas.Bool.{and_parts, ltb-true, eqb-true, false≢true}
+use Rattle.std.proofs.lemmas.List.Folds.{list_any_at}
+use Rattle.std.specs.Option.{option_map_or}
+use Rattle.bump_core.specs.declared.items.Head.{Head}
+use Rattle.bump_core.specs.declared.lanes.Outcome.{Outcome}
+use Rattle.bump_core.specs.declared.items.ItemId.{ItemId}
+use Rattle.bump_core.specs.declared.lanes.Bump.{Bump}
+use Rattle.bump_core.specs.declared.lanes.Lane.{Lane}
+use Rattle.bump_core.specs.declared.lanes.Lane.TheVariants as lane
+use Rattle.bump_core.specs.declared.workers.Hand.{Hand}
+use Rattle.bump_core.specs.declared.workers.Hand.TheVariants as hand
+use Rattle.bump_core.specs.declared.places.Segment.{Segment}
+use Rattle.bump_core.specs.declared.places.Segment.TheVariants as segment
+use Rattle.bump_core.specs.Tables.{is_cold}
+use Rattle.bump_core.specs.Events.{may_hit, outcome_at, carried, tried, applied_now, is_empty}
+use Rattle.bump_core.specs.State.{State, chunk, head, worker, is_chunk, is_current, has_free_hold, is_open, is_worker, workers_on, some_and, tried_life, life_in_hand, cleared_life, is_idle, applied_life, applies_in, class_of, is_under_application, new_worker}
+use Rattle.bump_core.specs.Worlds.{IsLawful}
+
+-- a test of a value that there may be says that there is one, which passes
+pub some_and_parts : {A : Type 0} (test : A → Bool) (o : Option A) → some_and test o ≡ true → (x : A) × (o ≡ Some x) × (test x ≡ true)
+some_and_parts test None h = absurd (false≢true h)
+some_and_parts test (Some x) h = (x, refl, h)
+
+-- where a change is made by a value that there is, it is made
+pub lawful_by_some : {A : Type 0} (change : A → State) (s : State) (o : Option A) (x : A) → o ≡ Some x → IsLawful (change x) → IsLawful (option_map_or change o s)
+lawful_by_some change s o x is lawful = subst (λ p. IsLawful (option_map_or change p s)) (sym is) lawful
+
+-- both ways of a change are lawful
+pub lawful_both_ways : (b : Bool) (s t : State) → (b ≡ true → IsLawful s) → (b ≡ false → IsLawful t) → IsLawful (if b then s else t)
+lawful_both_ways true s t first second = first refl
+lawful_both_ways false s t first second = second refl
+
+-- the hand that tries to take a reference to this life
+pub trying_from : (x : Hand) (l : ItemId) → tried_life x ≡ Some l → x ≡ hand.Trying l
+trying_from hand.Idle l is = absurd (let u : ⊥ = cc in u)
+trying_from (hand.Trying m) l is = cc
+trying_from (hand.InHand m) l is = absurd (let u : ⊥ = cc in u)
+trying_from (hand.Clearing m) l is = absurd (let u : ⊥ = cc in u)
+
+-- the hand that has a reference to this life
+pub in_hand_from : (x : Hand) (l : ItemId) → life_in_hand x ≡ Some l → x ≡ hand.InHand l
+in_hand_from hand.Idle l is = absurd (let u : ⊥ = cc in u)
+in_hand_from (hand.Trying m) l is = absurd (let u : ⊥ = cc in u)
+in_hand_from (hand.InHand m) l is = cc
+in_hand_from (hand.Clearing m) l is = absurd (let u : ⊥ = cc in u)
+
+-- the hand that is to clear ACTIVE of this life
+pub clearing_from : (x : Hand) (l : ItemId) → cleared_life x ≡ Some l → x ≡ hand.Clearing l
+clearing_from hand.Idle l is = absurd (let u : ⊥ = cc in u)
+clearing_from (hand.Trying m) l is = absurd (let u : ⊥ = cc in u)
+clearing_from (hand.InHand m) l is = absurd (let u : ⊥ = cc in u)
+clearing_from (hand.Clearing m) l is = cc
+
+-- the hand of an Idle worker
+pub idle_from : (x : Hand) → is_idle x ≡ true → x ≡ hand.Idle
+idle_from hand.Idle is = refl
+idle_from (hand.Trying m) is = absurd (false≢true is)
+idle_from (hand.InHand m) is = absurd (false≢true is)
+idle_from (hand.Clearing m) is = absurd (false≢true is)
+
+-- the lane with no bump
+pub empty_from : (x : Lane) → is_empty x ≡ true → x ≡ lane.Empty
+empty_from lane.Empty is = refl
+empty_from (lane.Carrying b) is = absurd (false≢true is)
+empty_from (lane.Tried b) is = absurd (false≢true is)
+empty_from (lane.Cleared b found) is = absurd (false≢true is)
+empty_from (lane.Moved b) is = absurd (false≢true is)
+
+-- the lane that took this bump from its ring
+pub carrying_from : (x : Lane) (b : Bump) → carried x ≡ Some b → x ≡ lane.Carrying b
+carrying_from lane.Empty b is = absurd (let u : ⊥ = cc in u)
+carrying_from (lane.Carrying a) b is = cc
+carrying_from (lane.Tried a) b is = absurd (let u : ⊥ = cc in u)
+carrying_from (lane.Cleared a found) b is = absurd (let u : ⊥ = cc in u)
+carrying_from (lane.Moved a) b is = absurd (let u : ⊥ = cc in u)
+
+-- the lane that looked at the item of this bump
+pub tried_from : (x : Lane) (b : Bump) → tried x ≡ Some b → x ≡ lane.Tried b
+tried_from lane.Empty b is = absurd (let u : ⊥ = cc in u)
+tried_from (lane.Carrying a) b is = absurd (let u : ⊥ = cc in u)
+tried_from (lane.Tried a) b is = cc
+tried_from (lane.Cleared a found) b is = absurd (let u : ⊥ = cc in u)
+tried_from (lane.Moved a) b is = absurd (let u : ⊥ = cc in u)
+
+-- the bump that a lane applies is of the life on which it works
+pub applied_from : (x : Lane) (b : Bump) → applied_now x ≡ Some b → applied_life x ≡ Some b.life
+applied_from lane.Empty b is = absurd (let u : ⊥ = cc in u)
+applied_from (lane.Carrying a) b is = absurd (let u : ⊥ = cc in u)
+applied_from (lane.Tried a) b is = let same : a ≡ b = cc in ap (λ (z : Bump). Some z.life) same
+applied_from (lane.Cleared a found) b is = let same : a ≡ b = cc in ap (λ (z : Bump). Some z.life) same
+applied_from (lane.Moved a) b is = let same : a ≡ b = cc in ap (λ (z : Bump). Some z.life) same
+
+-- the segment bits say COLD
+pub cold_from : (x : Segment) → is_cold x ≡ true → x ≡ segment.Cold
+cold_from segment.Hot is = absurd (false≢true is)
+cold_from segment.Warm is = absurd (false≢true is)
+cold_from segment.Cold is = refl
+
+-- there is a worker of this number
+pub worker_from : (s : State) (w : ℕ) → is_worker s w ≡ true → w < length s.workers
+worker_from s w is = ltb-true w (length s.workers) is
+
+-- there is a chunk of this number
+pub chunk_from : (s : State) (c : ℕ) → is_chunk s c ≡ true → c < length s.chunks
+chunk_from s c is = ltb-true c (length s.chunks) is
+
+-- a current life is of a chunk in range, and has its generation
+pub current_from : (s : State) (l : ItemId) → is_current s l ≡ true → (l.chunk < length s.chunks) × ((head s l.chunk).generation ≡ l.generation)
+current_from s l is = let h = and_parts (is_chunk s l.chunk) ((head s l.chunk).generation == l.generation) is in (chunk_from s l.chunk h.0, eqb-true (head s l.chunk).generation l.generation h.1)
+
+-- a life with a free hold is current, and has more holds than workers that aren't Idle on it
+pub free_hold_from : (s : State) (l : ItemId) → has_free_hold s l ≡ true → (l.chunk < length s.chunks) × ((head s l.chunk).generation ≡ l.generation) × (workers_on s l < (chunk s l.chunk).holds)
+free_hold_from s l is = let h = and_parts (is_current s l) (nat_lt (workers_on s l) (chunk s l.chunk).holds) is in
+    let i = current_from s l h.0 in (i.0, i.1, ltb-true (workers_on s l) (chunk s l.chunk).holds h.1)
+
+-- a worker that may make a step of a hit: its number and the chunk's are in range, it is Idle, and the life is current with a free hold
+pub may_hit_from : (s : State) (w : ℕ) (l : ItemId) → may_hit s w l ≡ true
+    → (w < length s.workers) × ((worker s w).hand ≡ hand.Idle) × (l.chunk < length s.chunks) × ((head s l.chunk).generation ≡ l.generation) × (workers_on s l < (chunk s l.chunk).holds)
+may_hit_from s w l is = let first = and_parts (is_open s w) (is_idle (worker s w).hand && has_free_hold s l) is in
+    let second = and_parts (is_idle (worker s w).hand) (has_free_hold s l) first.1 in
+    let free = free_hold_from s l second.1 in
+    (worker_from s w (and_parts (is_worker s w) (worker s w).is_open first.0).0, idle_from (worker s w).hand second.0, free.0, free.1, free.2)
+
+-- no lane applies a bump of a class that isn't under application
+pub none_applies : (s : State) (k v : ℕ) (l : ItemId) → is_under_application s k ≡ false → v < length s.workers → applied_life (worker s v).lane ≡ Some l → class_of s l.chunk ≡ k → ⊥
+none_applies s k v l rest within applies same = false≢true (sym rest ∙ list_any_at (λ x. applies_in s k x.lane) s.workers v new_worker within (ap (some_and (λ m. class_of s m.chunk == k)) applies ∙ eq-eqb (class_of s l.chunk) k same))
+
+-- a lane that may end its bump has it aboard
+pub applied_by_outcome : (x : Lane) (h : Head) (e : Outcome) → outcome_at x h ≡ Some e → (b : Bump) × (applied_now x ≡ Some b)
+applied_by_outcome lane.Empty h e is = absurd (let u : ⊥ = cc in u)
+applied_by_outcome (lane.Carrying b) h e is = absurd (let u : ⊥ = cc in u)
+applied_by_outcome (lane.Tried b) h e is = (b, refl)
+applied_by_outcome (lane.Cleared b found) h e is = (b, refl)
+applied_by_outcome (lane.Moved b) h e is = (b, refl)

@@ -1,0 +1,9 @@
+use Rattle.bump_core.specs.Views.{state_of}
+use Rattle.bump_core.proofs.Steps.{step_keeps}
+use Rattle.bump_core.proofs.worlds.World.step.Goals as goal
+
+pub invariant_of-self : goal.invariant_of-self
+invariant_of-self c = step_keeps (state_of c.self.inside.parts) c.args.event (state_of c.step.new.self) c.step.result c.self.invariant c.step.ensures
+
+pub returns-clause-lawful : goal.returns-clause-lawful
+returns-clause-lawful c = (step_keeps (state_of c.self.inside.parts) c.args.event (state_of c.step.new.self) c.step.result c.self.invariant c.step.ensures).0

@@ -1,0 +1,41 @@
+//! A step: each event by the function that makes it.
+ghost use Rattle.bump_core.specs.Runs.{Steps};
+ghost use Rattle.bump_core.specs.Views.{state_of};
+ghost use Rattle.bump_core.specs.Worlds.{IsLawful};
+
+use crate::events::{Event, Refused, Reply};
+use crate::parts::Parts;
+
+impl Parts {
+    /// Makes an event where it is enabled.
+    pub fn step(&mut self, event: Event) -> Result<Reply, Refused>
+        requires { IsLawful (state_of self.old) }
+        ensures { Steps (state_of self.old) event (state_of self.new) result }
+    {
+        match event {
+            Event::Load { chunk } => self.load(chunk),
+            Event::Take { worker, life } => self.take(worker, life),
+            Event::Fetch { worker, life } => self.fetch(worker, life),
+            Event::Mark { worker, life } => self.mark(worker, life),
+            Event::Reserve { worker } => self.reserve(worker),
+            Event::DropRefs { worker } => self.drop_refs(worker),
+            Event::DropBusy { worker } => self.drop_busy(worker),
+            Event::Push { worker } => self.push(worker),
+            Event::DropFull { worker } => self.drop_full(worker),
+            Event::Unmark { worker } => self.unmark(worker),
+            Event::StoreTime { life, time } => self.store_time(life, time),
+            Event::Release { life } => self.release(life),
+            Event::PutLabel { class, label } => self.put_label(class, label),
+            Event::PutTime { class, time } => self.put_time(class, time),
+            Event::Link { class } => self.link(class),
+            Event::ClearActive { chunk } => self.clear_active(chunk),
+            Event::Move { chunk, to } => self.move_chunk(chunk, to),
+            Event::TakeBump { worker } => self.take_bump(worker),
+            Event::Try { worker } => self.try_bump(worker),
+            Event::BumpTime { worker, time } => self.bump_time(worker, time),
+            Event::ClearFor { worker } => self.clear_for(worker),
+            Event::MoveFor { worker } => self.move_for(worker),
+            Event::Alight { worker } => self.alight(worker),
+        }
+    }
+}
