@@ -14,6 +14,7 @@ pub mod MadeHits
 pub mod MadeParts
 pub mod Moving
 pub mod MovingLaws
+pub mod NextReaches
 pub mod Openings
 pub mod Putting
 pub mod Reaches

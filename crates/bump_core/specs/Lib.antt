@@ -1,6 +1,7 @@
 pub mod Commands
 pub mod Configs
 pub mod Events
+pub mod Headline
 pub mod History
 pub mod Lawful
 pub mod Lists

@@ -1,6 +1,7 @@
 //! The pure core of bump: its types, and a World in which each event is one atomic step of one thread.
 #![tactic(auto)]
 
+mod applying;
 mod attempts;
 pub mod bumps;
 mod calls;
@@ -20,6 +21,7 @@ mod opening;
 pub mod parts;
 pub mod places;
 mod step;
+mod touching;
 pub mod workers;
 pub mod worlds;
 

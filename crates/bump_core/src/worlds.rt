@@ -1,5 +1,6 @@
 //! The sequential World.
 use crate::bumps::Accounts;
+use crate::commands::{Answer, Command};
 use crate::configs::Config;
 use crate::events::{Event, Refused, Reply};
 use crate::items::{Head, ItemId};
@@ -32,9 +33,10 @@ impl Model for World {
 }
 
 impl World {
-    ghost use Rattle.std.specs.Prelude.{◌≡◌, ◌<◌, IfOk, All, length};
+    ghost use Rattle.std.specs.Prelude.{◌≡◌, ◌<◌, IfOk, OnOk, Some, All, length};
+    ghost use Rattle.bump_core.specs.Commands.{Commands, events_of};
     ghost use Rattle.bump_core.specs.Opening.{new_state};
-    ghost use Rattle.bump_core.specs.Runs.{Steps, Runs};
+    ghost use Rattle.bump_core.specs.Runs.{Steps, Runs, run_of};
     ghost use Rattle.bump_core.specs.State.{head};
     ghost use Rattle.bump_core.specs.Readers.{list_of, time_of, label_of, holds_at, accounts_of, sent_of, received_of, applied_of};
     ghost use Rattle.bump_core.specs.Worlds.{IsLawful};
@@ -142,5 +144,16 @@ impl World {
         }
         let _ = &self.parts;
         Ok(())
+    }
+
+    /// Makes a command: a call as its events, with nothing between them. All room is reserved before anything is changed.
+    /// Refused as NotEnabled where a number is out of range, a worker's ring is closed, a life has no free hold (a hit, a
+    /// release) or no hold (a label), or another command is half made in its way; a refusal changes nothing.
+    pub fn command(&mut self, command: Command) -> Result<Answer, Refused>
+        ensures command { Commands self.old command self.new result }
+        ensures events { OnOk result (run_of self.old (events_of self.old command) ≡ Some self.new) }
+        ensures lawful { IsLawful self.new }
+    {
+        self.parts.command(command)
     }
 }
