@@ -1,0 +1,177 @@
+//! Worked moves with exact answers, many moves beside a plain list of lists, and refused allocations.
+
+ghost use Rattle.std.specs.Prelude.{◌≡◌, ◌<◌, length};
+
+use super::Links;
+use std::alloc::Global;
+use std::process::Abort;
+use std::test::Fail;
+
+// Asserts that a walk of a list finds these nodes, and that its ends and its count are theirs.
+fn expect_list(
+    rt: &impl Abort,
+    alloc: Global,
+    links: &Links,
+    list: u32,
+    wanted: &[u32],
+) -> Result<(), Fail>
+    requires { list < length links.now.lists }
+{
+    let found = links.walk(alloc, list)?;
+    assert_eq!(rt; found.as_slice(), wanted, "the walk of list {list}");
+    assert_eq!(rt;
+        links.front(list),
+        wanted.first().copied(),
+        "the front of list {list}"
+    );
+    assert_eq!(rt;
+        links.back(list),
+        wanted.last().copied(),
+        "the back of list {list}"
+    );
+    assert_eq!(rt;
+        links.len(list) as usize,
+        wanted.len(),
+        "the count of list {list}"
+    );
+    Ok(())
+}
+
+#[test]
+fn three_nodes_in_two_lists(rt: HostRuntime) -> Result<(), Fail> {
+    let alloc = rt.alloc();
+    let mut links = Links::new(alloc, 3, 2, 0)?;
+    expect_list(&rt, alloc, &links, 0, &[0, 1, 2])?;
+
+    links.move_front(1, 1);
+    expect_list(&rt, alloc, &links, 0, &[0, 2])?;
+    expect_list(&rt, alloc, &links, 1, &[1])?;
+
+    links.move_front(2, 0);
+    expect_list(&rt, alloc, &links, 0, &[2, 0])?;
+    assert_eq!(rt; links.back(0), Some(0));
+    assert_eq!(rt; links.after(0), None);
+    assert_eq!(rt; links.len(0), 2);
+    Ok(())
+}
+
+#[test]
+fn one_node_in_eight_lists(rt: HostRuntime) -> Result<(), Fail> {
+    let alloc = rt.alloc();
+    let mut links = Links::new(alloc, 1, 8, 7)?;
+    expect_list(&rt, alloc, &links, 7, &[0])?;
+    expect_list(&rt, alloc, &links, 0, &[])?;
+
+    links.move_front(0, 7);
+    expect_list(&rt, alloc, &links, 7, &[0])?;
+    expect_list(&rt, alloc, &links, 0, &[])?;
+
+    links.move_front(0, 0);
+    expect_list(&rt, alloc, &links, 7, &[])?;
+    expect_list(&rt, alloc, &links, 0, &[0])?;
+    assert_eq!(rt; links.list_of(0), 0);
+    assert_eq!(rt; links.after(0), None);
+    Ok(())
+}
+
+// Moves a node to the front of a list of plain lists.
+fn move_plain(alloc: Global, plain: &mut Vec<Vec<u32>>, node: u32, list: u32) -> Result<(), Fail> {
+    for (number, nodes) in plain.iter_mut().enumerate() {
+        let mut moved = Vec::new(alloc);
+        if number == list as usize {
+            moved.push(node)?;
+        }
+        for other in nodes.iter() {
+            if *other != node {
+                moved.push(*other)?;
+            }
+        }
+        *nodes = moved;
+    }
+    Ok(())
+}
+
+// Asserts that each reader answers what the plain lists say.
+fn expect_plain(
+    rt: &impl Abort,
+    alloc: Global,
+    links: &Links,
+    plain: &Vec<Vec<u32>>,
+) -> Result<(), Fail>
+    requires nodes { links.now.nodes ≡ 5 }
+    requires lists { length links.now.lists ≡ 8 }
+{
+    assert_eq!(rt; plain.len(), 8);
+    for (list, nodes) in plain.iter().enumerate() {
+        assert!(rt; list < 8);
+        expect_list(rt, alloc, links, list as u32, nodes)?;
+        for (place, node) in nodes.iter().enumerate() {
+            assert!(rt; *node < 5);
+            assert_eq!(rt;
+                links.list_of(*node) as usize,
+                list,
+                "the list of node {node}"
+            );
+            assert!(rt; place < 5);
+            assert_eq!(rt;
+                links.after(*node),
+                nodes.get(place + 1).copied(),
+                "after node {node}"
+            );
+        }
+    }
+    Ok(())
+}
+
+#[test]
+fn many_moves_beside_plain_lists(rt: HostRuntime) -> Result<(), Fail> {
+    let alloc = rt.alloc();
+    let mut links = Links::new(alloc, 5, 8, 3)?;
+    let mut plain: Vec<Vec<u32>> = Vec::new(alloc);
+    for list in 0..8 {
+        let nodes = if list == 3 {
+            vec![in alloc; 0, 1, 2, 3, 4]?
+        } else {
+            Vec::new(alloc)
+        };
+        plain.push(nodes)?;
+    }
+    expect_plain(&rt, alloc, &links, &plain)?;
+
+    let mut draw: u32 = 12345;
+    for _move in 0..400 {
+        draw = draw.wrapping_mul(1_664_525).wrapping_add(1_013_904_223);
+        let node = (draw >> 16) % 5;
+        let list = (draw >> 24) % 8;
+        links.move_front(node, list);
+        move_plain(alloc, &mut plain, node, list)?;
+        expect_plain(&rt, alloc, &links, &plain)?;
+    }
+    Ok(())
+}
+
+// Holds whichever one allocation is refused: the call may be made again, and the lists are as before.
+#[test]
+fn a_refused_allocation_changes_nothing(rt: HostRuntime) -> Result<(), Fail> {
+    let alloc = rt.alloc();
+    let mut links = match Links::new(alloc, 4, 2, 1) {
+        Ok(links) => links,
+        Err(_) => Links::new(alloc, 4, 2, 1)?,
+    };
+    links.move_front(2, 0);
+
+    if let Ok(found) = links.walk(alloc, 1) {
+        assert_eq!(rt; found.as_slice(), [0, 1, 3].as_slice());
+    }
+    assert_eq!(rt; links.front(1), Some(0));
+    assert_eq!(rt; links.back(1), Some(3));
+    assert_eq!(rt; links.len(1), 3);
+    assert_eq!(rt; links.after(1), Some(3));
+    assert_eq!(rt; links.list_of(2), 0);
+    assert_eq!(rt; links.front(0), Some(2));
+    assert_eq!(rt; links.len(0), 1);
+    if let Ok(found) = links.walk(alloc, 1) {
+        assert_eq!(rt; found.as_slice(), [0, 1, 3].as_slice());
+    }
+    Ok(())
+}

@@ -1,0 +1,5 @@
+use Rattle.bump_word.proofs.Steps.{new_life_stored}
+use Rattle.bump_word.proofs.laws.new_life.Goals as goal
+
+pub returns-clause-stored : goal.returns-clause-stored
+returns-clause-stored c = new_life_stored

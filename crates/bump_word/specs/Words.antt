@@ -1,0 +1,42 @@
+-- Which number a Head is.
+use Rattle.std.specs.Prelude.{◌≡◌, ℕ, ◌+◌, ◌*◌, ◌/◌, ◌%◌, ◌^◌, ◌<◌, bit_xor}
+use Rattle.bump_core.specs.declared.items.Head.{Head}
+use Rattle.bump_core.specs.Lawful.{bit}
+use Rattle.bump_core.specs.declared.places.Segment.{Segment}
+use Rattle.bump_core.specs.declared.places.Segment.TheVariants.{Hot, Warm, Cold}
+use Rattle.bump_word.specs.Layout.{refs_width, linked_first, fetched_first, active_first, segment_first, segment_width, zero_first, zero_width, generation_first, generation_width}
+
+-- the number of a segment
+abbrev pub number_of : Segment → ℕ
+number_of Hot = 0
+number_of Warm = 1
+number_of Cold = 2
+
+-- the word of a Head: each field, shifted to its place
+abbrev pub word_of : Head → ℕ
+word_of h = h.refs
+    + 2 ^ linked_first * bit h.linked
+    + 2 ^ fetched_first * bit h.fetched
+    + 2 ^ active_first * bit h.active
+    + 2 ^ segment_first * number_of h.segment
+    + 2 ^ generation_first * h.generation
+
+-- each number of the Head fits into its bits
+abbrev pub Fits : Head → Type 0
+Fits h = (h.refs < 2 ^ refs_width) × (h.generation < 2 ^ generation_width)
+
+-- the number is the word of this Head
+abbrev pub Spells : ℕ → Head → Type 0
+Spells n h = (n ≡ word_of h) × Fits h
+
+-- the number that the bits make that are zero in each Head's word
+abbrev pub zeros_of : ℕ → ℕ
+zeros_of n = n / 2 ^ zero_first % 2 ^ zero_width
+
+-- the number that the segment's bits make
+abbrev pub segment_bits : ℕ → ℕ
+segment_bits n = n / 2 ^ segment_first % 2 ^ segment_width
+
+-- the exclusive or of two segments' numbers, at the segment's place
+abbrev pub segment_change : Segment → Segment → ℕ
+segment_change a b = bit_xor (number_of a) (number_of b) * 2 ^ segment_first

@@ -1,0 +1,24 @@
+//! The bits of the head word: which 64-bit number stands for which [`Head`](bump_core::Head), and what single atomic steps on that number do to the Head.
+//!
+//! | Bits | Field |
+//! |---|---|
+//! | 0 to 15 | reference count |
+//! | 16 | `LINKED` |
+//! | 17 | `FETCHED` |
+//! | 18 | `ACTIVE` |
+//! | 19, 20 | segment: 0 HOT, 1 WARM, 2 COLD |
+//! | 21 to 31 | zero |
+//! | 32 to 63 | generation |
+#![tactic(auto)]
+
+pub mod laws;
+mod layout;
+mod segment;
+mod word;
+
+pub use layout::{ACTIVE, FETCHED, LINKED, REFS_MAX};
+pub use segment::segment_xor;
+pub use word::{pack, unpack};
+
+#[cfg(test)]
+mod tests;
