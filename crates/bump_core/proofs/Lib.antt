@@ -20,6 +20,7 @@ pub mod Putting
 pub mod Reaches
 pub mod Readers
 pub mod Replay
+pub mod Sizes
 pub mod Steps
 pub mod Tiles
 pub mod Updates

@@ -6,7 +6,8 @@ use Rattle.bump_core.specs.declared.events.Refused.{Refused}
 use Rattle.bump_core.specs.declared.events.Refused.TheVariants.{NotEnabled, OutOfMemory}
 use Rattle.bump_core.specs.declared.commands.Command.{Command}
 use Rattle.bump_core.specs.declared.commands.Command.TheVariants as command
-use Rattle.bump_core.specs.State.{State}
+use Rattle.bump_core.specs.State.{State, SameSizes}
+use Rattle.bump_core.proofs.Sizes.{run_sizes, same_sizes}
 use Rattle.bump_core.specs.Worlds.{IsLawful, NothingUnlinked}
 use Rattle.bump_core.specs.Runs.{run_of}
 use Rattle.bump_core.specs.Commands.{is_allowed, events_of, command_after, Commands}
@@ -36,3 +37,9 @@ pub command_events : (old : State) (c : Command) (new : State) (r : Result Answe
 command_events old c new (Ok answer) k made = commands_are_events old k.0 k.1 c made.0 ∙ ap (λ (s : State). Some s) (sym made.1)
 command_events old c new (Err NotEnabled) k kept = tt
 command_events old c new (Err OutOfMemory) k kept = tt
+
+-- a command leaves the sizes
+pub command_sizes : (old : State) (c : Command) (new : State) (r : Result Answer Refused) → Keeps old → Commands old c new r → SameSizes old new
+command_sizes old c new (Ok answer) k made = subst (SameSizes old) (sym made.1) (run_sizes old (events_of old c) (command_after old c) (commands_are_events old k.0 k.1 c made.0))
+command_sizes old c new (Err NotEnabled) k kept = same_sizes old new kept.1
+command_sizes old c new (Err OutOfMemory) k kept = same_sizes old new kept

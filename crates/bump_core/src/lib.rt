@@ -34,3 +34,6 @@ pub use items::{Head, ItemId};
 pub use lanes::{AppliedBump, Outcome};
 pub use places::{Place, Segment, Tail};
 pub use worlds::{OutOfMemory, World};
+
+#[cfg(test)]
+mod tests;

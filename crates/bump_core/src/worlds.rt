@@ -37,7 +37,7 @@ impl World {
     ghost use Rattle.bump_core.specs.Commands.{Commands, events_of};
     ghost use Rattle.bump_core.specs.Opening.{new_state};
     ghost use Rattle.bump_core.specs.Runs.{Steps, Runs, run_of};
-    ghost use Rattle.bump_core.specs.State.{head};
+    ghost use Rattle.bump_core.specs.State.{head, SameSizes};
     ghost use Rattle.bump_core.specs.Readers.{list_of, time_of, label_of, holds_at, accounts_of, sent_of, received_of, applied_of};
     ghost use Rattle.bump_core.specs.Worlds.{IsLawful};
 
@@ -127,6 +127,7 @@ impl World {
     /// refusal changes nothing.
     pub fn step(&mut self, event: Event) -> Result<Reply, Refused>
         ensures step { Steps self.old event self.new result }
+        ensures sizes { SameSizes self.old self.new }
         ensures lawful { IsLawful self.new }
     {
         self.parts.step(event)
@@ -135,6 +136,7 @@ impl World {
     /// Makes the events in order, up to the first that is refused, whose place it tells. The events before it stay.
     pub fn run(&mut self, events: &[Event]) -> Result<(), (usize, Refused)>
         ensures run { Runs self.old events.now self.new result }
+        ensures sizes { SameSizes self.old self.new }
         ensures lawful { IsLawful self.new }
     {
         for (place, event) in events.iter().enumerate() {
@@ -152,6 +154,7 @@ impl World {
     pub fn command(&mut self, command: Command) -> Result<Answer, Refused>
         ensures command { Commands self.old command self.new result }
         ensures events { OnOk result (run_of self.old (events_of self.old command) ≡ Some self.new) }
+        ensures sizes { SameSizes self.old self.new }
         ensures lawful { IsLawful self.new }
     {
         self.parts.command(command)

@@ -1,4 +1,7 @@
+use Rattle.std.proofs.Common.{subst}
 use Rattle.bump_core.specs.Views.{state_of}
+use Rattle.bump_core.specs.State.{State, SameSizes}
+use Rattle.bump_core.proofs.Sizes.{step_sizes}
 use Rattle.bump_core.proofs.Steps.{step_keeps}
 use Rattle.bump_core.proofs.worlds.World.step.Goals as goal
 
@@ -7,3 +10,6 @@ invariant_of-self c = step_keeps (state_of c.self.inside.parts) c.args.event (st
 
 pub returns-clause-lawful : goal.returns-clause-lawful
 returns-clause-lawful c = (step_keeps (state_of c.self.inside.parts) c.args.event (state_of c.step.new.self) c.step.result c.self.invariant c.step.ensures).0
+
+pub returns-clause-sizes : goal.returns-clause-sizes
+returns-clause-sizes c = subst (λ (s : State). SameSizes s (state_of c.step.new.self)) c.self.view_is (step_sizes (state_of c.self.inside.parts) c.args.event (state_of c.step.new.self) c.step.result c.step.ensures)
