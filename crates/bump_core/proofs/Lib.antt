@@ -3,6 +3,7 @@ pub mod Enabled
 pub mod Facts
 pub mod Frames
 pub mod Fronts
+pub mod Headlines
 pub mod Kept
 pub mod LaneReaches
 pub mod Laning
