@@ -21,6 +21,7 @@ pub mod Putting
 pub mod Reaches
 pub mod Readers
 pub mod Replay
+pub mod Staying
 pub mod Steps
 pub mod Tiles
 pub mod Updates
