@@ -1,5 +1,5 @@
 -- What every run leaves: the labels of chunks that stay in use, and the rings that were closed.
-use Rattle.std.proofs.Common.{◌≡◌, ◌≢◌, ℕ, zero, suc, ◌+◌, ◌<◌, ◌≤◌, ◌&&◌, not, Bool, true, false, List, [], ◌∷◌, ◌++◌, length, slice_index_or, slice_set, Option, None, Some, if◌then◌else◌, refl, sym, ap, ◌∙◌, subst, arith, nat_lt}
+use Rattle.std.proofs.Common.{◌≡◌, ℕ, zero, suc, ◌+◌, ◌<◌, ◌≤◌, ◌&&◌, not, Bool, true, false, List, [], ◌∷◌, length, slice_index_or, slice_set, Option, None, Some, if◌then◌else◌, refl, sym, ap, ◌∙◌, subst, arith, nat_lt}
 use Rattle.std.proofs.lemmas.Bool.{and_parts, ltb-true, both_ways}
 use Rattle.std.specs.Option.{option_map_or}
 use native.Mathlib.Decide.{ℕ_discrete}
@@ -10,25 +10,23 @@ use Rattle.bump_core.specs.declared.history.Cause.TheVariants.{Pull, Bump as Bum
 use Rattle.bump_core.specs.declared.history.Change.{Change}
 use Rattle.bump_core.specs.declared.history.Change.TheVariants as change
 use Rattle.bump_core.specs.declared.items.Head.{Head}
-use Rattle.bump_core.specs.declared.items.ItemId.{ItemId}
 use Rattle.bump_core.specs.declared.lanes.Bump.{Bump}
-use Rattle.bump_core.specs.declared.lanes.Lane.TheVariants as lane
 use Rattle.bump_core.specs.declared.places.Place.TheVariants.{Unused}
 use Rattle.bump_core.specs.declared.places.Segment.{Segment}
 use Rattle.bump_core.specs.declared.places.Segment.TheVariants as segment
-use Rattle.bump_core.specs.Events.{is_enabled, after, next_chunk, next_life, next_bump, carried, tried, applied_now, cleared_active, lane_outcome, is_class_at_rest, may_move, moved_head, one_more, one_fewer, fetched_head, active_head, cleared_head, waiting, fetch, mark, reserve, drop_refs, drop_busy, push, drop_full, unmark, with_label, with_time, link, move_chunk, take_bump, clear_for, move_for, alight}
+use Rattle.bump_core.specs.Events.{is_enabled, after, next_chunk, next_life, next_bump, carried, tried, applied_now, cleared_active, lane_outcome, is_class_at_rest, may_move, moved_head, one_more, one_fewer, fetched_head, active_head, cleared_head, waiting, reserve, drop_refs, drop_busy, push, drop_full, unmark, with_label, with_time, link, take_bump, clear_for, move_for, alight}
 use Rattle.bump_core.specs.Headline.{LabelsStay, ClosedStay}
-use Rattle.bump_core.specs.History.{subject, target}
+use Rattle.bump_core.specs.History.{subject}
 use Rattle.bump_core.specs.Lawful.{IsUsed, newborn}
 use Rattle.bump_core.specs.Lives.{life}
 use Rattle.bump_core.specs.Runs.{run_of}
 use Rattle.bump_core.specs.State.{State, WorkerState, chunk, head, class, worker, no_chunk, new_worker, with_chunk, with_head, with_worker, with_change, class_of, is_chunk, is_class, is_worker, is_open, some_and, is_under_application, tried_life, life_in_hand, cleared_life}
 use Rattle.bump_core.specs.Worlds.{IsLawful, WaitsToMove, owns, place}
 use Rattle.bump_core.specs.Tables.{is_cold}
-use Rattle.bump_core.proofs.Enabled.{some_and_parts, chunk_from, worker_from}
+use Rattle.bump_core.proofs.Enabled.{chunk_from, worker_from}
 use Rattle.bump_core.proofs.Fronts.{first_split, unused_front, linked_in_range}
 use Rattle.bump_core.proofs.Laws.{used_where_linked}
-use Rattle.bump_core.proofs.Moving.{changed, chunk_changed, chunk_unchanged, place_changed, place_unchanged, waiting_is, cleared_is}
+use Rattle.bump_core.proofs.Moving.{chunk_changed, chunk_unchanged, place_unchanged, waiting_is, cleared_is}
 use Rattle.bump_core.proofs.Steps.{lawful_after}
 use Rattle.bump_core.proofs.Tiles.{class_within, class_owns}
 use Rattle.bump_core.proofs.Updates.{read_other}
@@ -186,3 +184,78 @@ stays_after s o (event.ClearFor w) enabled = by_value (AllStay s) (clear_for s w
 stays_after s o (event.MoveFor w) enabled = by_value (AllStay s) (move_for s w) (cleared_active (worker s w).lane) s (λ b is. moved_for_stays s o w b (worker_from s w (and_parts (is_worker s w) (some_and (λ b. true) (cleared_active (worker s w).lane)) enabled).0) is) (λ d. stays_here d s)
 stays_after s o (event.Alight w) enabled = by_value (AllStay s) _ (applied_now (worker s w).lane) s
     (λ b is. by_value (AllStay s) (alight s w b) (lane_outcome s w) s (λ r at. stays_headed s b.life.chunk (one_fewer (head s b.life.chunk)) _ refl) (λ d. stays_here d s)) (λ d. stays_here d s)
+
+-- Rings.
+
+-- no ring changed
+closed_here : (s : State) → ClosedStay s s
+closed_here s w closed = (closed, refl)
+
+-- from a state to a later one, and from there to one later still
+closed_on : (s t u : State) → ClosedStay s t → ClosedStay t u → ClosedStay s u
+closed_on s t u first second w closed = let a = first w closed in let b = second w a.0 in (b.0, b.1 ∙ a.1)
+
+-- one worker changed, and not its ring
+closed_worked : (s : State) (w : ℕ) (y : WorkerState) → y.is_open ≡ (worker s w).is_open → y.sent ≡ (worker s w).sent → ClosedStay s (with_worker s w y)
+closed_worked s w y opens sents v closed =
+    (same_read (λ (x : WorkerState). x.is_open) s.workers w y new_worker opens v ∙ closed, same_read (λ (x : WorkerState). x.sent) s.workers w y new_worker sents v)
+
+-- one worker changed, whose ring was open
+closed_else : (s : State) (w : ℕ) (y : WorkerState) → (worker s w).is_open ≡ true → ClosedStay s (with_worker s w y)
+closed_else s w y opened v closed = by (ℕ_discrete v w)
+  where
+    by : Dec (v ≡ w) → ((worker (with_worker s w y) v).is_open ≡ false) × ((worker (with_worker s w y) v).sent ≡ (worker s v).sent)
+    by (yes is) = absurd (both_ways (worker s w).is_open (sym (ap (λ (u : ℕ). (worker s u).is_open) is) ∙ closed) opened)
+    by (no other) = let there = read_other s.workers w v y new_worker other in (ap (λ (x : WorkerState). x.is_open) there ∙ closed, ap (λ (x : WorkerState). x.sent) there)
+
+-- no event that is enabled opens a closed ring, or sends a bump by it
+closed_after : (s : State) (e : Event) → is_enabled s e ≡ true → ClosedStay s (after s e)
+closed_after s (event.Load c) enabled = closed_here s
+closed_after s (event.Take w l) enabled = closed_here s
+closed_after s (event.Fetch w l) enabled = by_test (ClosedStay s) (head s l.chunk).fetched _ _ (closed_here s) (closed_worked s w _ refl refl)
+closed_after s (event.Mark w l) enabled = by_test (ClosedStay s) (not (head s l.chunk).active && is_cold (head s l.chunk).segment) _ _ (closed_worked s w _ refl refl) (closed_here s)
+closed_after s (event.Reserve w) enabled = by_value (ClosedStay s) (reserve s w) (tried_life (worker s w).hand) s (λ l is. closed_worked s w _ refl refl) (closed_here s)
+closed_after s (event.DropRefs w) enabled = by_value (ClosedStay s) (drop_refs s w) (tried_life (worker s w).hand) s (λ l is. closed_worked s w _ refl refl) (closed_here s)
+closed_after s (event.DropBusy w) enabled = by_value (ClosedStay s) (drop_busy s w) (tried_life (worker s w).hand) s (λ l is. closed_worked s w _ refl refl) (closed_here s)
+closed_after s (event.Push w) enabled = by_value (ClosedStay s) (push s w) (life_in_hand (worker s w).hand) s
+    (λ l is. closed_else s w _ (and_parts (is_worker s w) (worker s w).is_open (and_parts (is_open s w) (some_and (λ l. nat_lt (waiting (worker s w)) s.capacity) (life_in_hand (worker s w).hand)) enabled).0).1) (closed_here s)
+closed_after s (event.DropFull w) enabled = by_value (ClosedStay s) (drop_full s w) (life_in_hand (worker s w).hand) s (λ l is. closed_worked s w _ refl refl) (closed_here s)
+closed_after s (event.Unmark w) enabled = by_value (ClosedStay s) (unmark s w) (cleared_life (worker s w).hand) s (λ l is. closed_worked s w _ refl refl) (closed_here s)
+closed_after s (event.StoreTime l t) enabled = closed_here s
+closed_after s (event.Release l) enabled = closed_here s
+closed_after s (event.PutLabel k x) enabled = by_value (ClosedStay s) (λ c. with_label s c x) (next_chunk s k) s (λ c is. closed_here s) (closed_here s)
+closed_after s (event.PutTime k t) enabled = by_value (ClosedStay s) (λ c. with_time s c t) (next_chunk s k) s (λ c is. closed_here s) (closed_here s)
+closed_after s (event.Link k) enabled = by_value (ClosedStay s) (link s k) (next_chunk s k) s (λ c is. closed_here s) (closed_here s)
+closed_after s (event.ClearActive c) enabled = closed_here s
+closed_after s (event.Move c to) enabled = closed_here s
+closed_after s (event.TakeBump w) enabled = by_value (ClosedStay s) (take_bump s w) (next_bump (worker s w)) s (λ l is. closed_worked s w _ refl refl) (closed_here s)
+closed_after s (event.Try w) enabled = by_value (ClosedStay s) _ (carried (worker s w).lane) s (λ b is. closed_worked s w _ refl refl) (closed_here s)
+closed_after s (event.BumpTime w t) enabled = by_value (ClosedStay s) _ (applied_now (worker s w).lane) s (λ b is. closed_here s) (closed_here s)
+closed_after s (event.ClearFor w) enabled = by_value (ClosedStay s) (clear_for s w) (tried (worker s w).lane) s (λ b is. closed_worked s w _ refl refl) (closed_here s)
+closed_after s (event.MoveFor w) enabled = by_value (ClosedStay s) (move_for s w) (cleared_active (worker s w).lane) s (λ b is. closed_worked s w _ refl refl) (closed_here s)
+closed_after s (event.Alight w) enabled = by_value (ClosedStay s) _ (applied_now (worker s w).lane) s
+    (λ b is. by_value (ClosedStay s) (alight s w b) (lane_outcome s w) s (λ r at. closed_worked s w _ refl refl) (closed_here s)) (closed_here s)
+
+-- Runs.
+
+-- what an event leaves, from each state of a kind, and leads to a state of the kind, a run leaves
+by_run : (I : State → Type 0) (R : State → State → Type 0) → ((s : State) → R s s) → ((s t u : State) → R s t → R t u → R s u)
+    → ((s : State) → I s → (e : Event) → is_enabled s e ≡ true → I (after s e) × R s (after s e))
+    → (s : State) (es : List Event) (t : State) → I s → run_of s es ≡ Some t → R s t
+by_run I R here on step s [] t i ends = let same : s ≡ t = cc in subst (R s) same (here s)
+by_run I R here on step s (e ∷ es) t i ends = by (is_enabled s e) refl (λ enabled rest. let made = step s i e enabled in on s (after s e) t made.1 (by_run I R here on step (after s e) es t made.0 rest))
+  where
+    by : (b : Bool) → is_enabled s e ≡ b → (is_enabled s e ≡ true → run_of (after s e) es ≡ Some t → R s t) → R s t
+    by true enabled rest = rest enabled (sym (ap (λ b. if b then run_of (after s e) es else None) enabled) ∙ ends)
+    by false refused rest = absurd (let u : ⊥ = cc (sym (ap (λ b. if b then run_of (after s e) es else None) refused) ∙ ends) in u)
+
+-- a run from a lawful state leaves each chunk that stays in use in the same life its label
+pub labels_stay : (s : State) (es : List Event) (t : State) → IsLawful s → run_of s es ≡ Some t → LabelsStay s t
+labels_stay s es t o ends c same was used = ((stay c).same same used).1
+  where
+    stay : AllStay s t
+    stay = by_run IsLawful AllStay (λ s c. stays_here c s) (λ s t u first second c. stays_on c s t u (first c) (second c)) (λ s o e enabled. (lawful_after s o e enabled, stays_after s o e enabled)) s es t o ends
+
+-- a run opens no closed ring, and sends no bump by one
+pub closed_stay : (s : State) (es : List Event) (t : State) → run_of s es ≡ Some t → ClosedStay s t
+closed_stay s es t ends = by_run (λ s. Unit {0}) ClosedStay closed_here closed_on (λ s i e enabled. (tt, closed_after s e enabled)) s es t tt ends
