@@ -1,11 +1,13 @@
 -- What every run leaves: the labels of chunks that stay in use, and the rings that were closed.
-use Rattle.std.proofs.Common.{◌≡◌, ℕ, zero, suc, ◌+◌, ◌<◌, ◌≤◌, ◌&&◌, not, Bool, true, false, List, [], ◌∷◌, length, slice_index_or, slice_set, Option, None, Some, if◌then◌else◌, refl, sym, ap, ◌∙◌, subst, arith, nat_lt}
+use Rattle.std.proofs.Common.{◌≡◌, ℕ, zero, suc, ◌+◌, ◌<◌, ◌≤◌, ◌&&◌, not, Bool, true, false, List, [], ◌∷◌, length, slice_index_or, slice_set, Option, None, Some, Err, if◌then◌else◌, refl, sym, ap, ◌∙◌, subst, arith, nat_lt}
 use Rattle.std.proofs.lemmas.Bool.{and_parts, ltb-true, both_ways}
 use Rattle.std.specs.Option.{option_map_or}
 use native.Mathlib.Decide.{ℕ_discrete}
 use Rattle.bump_core.specs.declared.chunks.Chunk.{Chunk}
 use Rattle.bump_core.specs.declared.events.Event.{Event}
 use Rattle.bump_core.specs.declared.events.Event.TheVariants as event
+use Rattle.bump_core.specs.declared.events.Refused.{Refused}
+use Rattle.bump_core.specs.declared.events.Refused.TheVariants.{NotEnabled, OutOfMemory}
 use Rattle.bump_core.specs.declared.history.Cause.TheVariants.{Pull, Bump as BumpOf}
 use Rattle.bump_core.specs.declared.history.Change.{Change}
 use Rattle.bump_core.specs.declared.history.Change.TheVariants as change
@@ -19,7 +21,7 @@ use Rattle.bump_core.specs.Headline.{LabelsStay, ClosedStay}
 use Rattle.bump_core.specs.History.{subject}
 use Rattle.bump_core.specs.Lawful.{IsUsed, newborn}
 use Rattle.bump_core.specs.Lives.{life}
-use Rattle.bump_core.specs.Runs.{run_of}
+use Rattle.bump_core.specs.Runs.{Steps, run_of}
 use Rattle.bump_core.specs.State.{State, WorkerState, chunk, head, class, worker, no_chunk, new_worker, with_chunk, with_head, with_worker, with_change, class_of, is_chunk, is_class, is_worker, is_open, some_and, is_under_application, tried_life, life_in_hand, cleared_life}
 use Rattle.bump_core.specs.Worlds.{IsLawful, WaitsToMove, owns, place}
 use Rattle.bump_core.specs.Tables.{is_cold}
@@ -237,6 +239,11 @@ closed_after s (event.Alight w) enabled = by_value (ClosedStay s) _ (applied_now
     (λ b is. by_value (ClosedStay s) (alight s w b) (lane_outcome s w) s (λ r at. closed_worked s w _ refl refl) (closed_here s)) (closed_here s)
 
 -- Runs.
+
+-- a step that is refused behind a run: the state is still the one that the run left
+pub refused_stays : (s : State) (es : List Event) (t : State) (e : Event) (new : State) (r : Refused) → run_of s es ≡ Some t → Steps t e new (Err r) → run_of s es ≡ Some new
+refused_stays s es t e new NotEnabled ends refused = ends ∙ ap (λ (x : State). Some x) (sym refused.1)
+refused_stays s es t e new OutOfMemory ends refused = ends ∙ ap (λ (x : State). Some x) (sym refused)
 
 -- what an event leaves, from each state of a kind, and leads to a state of the kind, a run leaves
 by_run : (I : State → Type 0) (R : State → State → Type 0) → ((s : State) → R s s) → ((s t u : State) → R s t → R t u → R s u)

@@ -4,6 +4,7 @@ use Rattle.bump_core.specs.Commands.{events_of}
 use Rattle.bump_core.specs.Runs.{run_of}
 use Rattle.bump_core.specs.State.{State}
 use Rattle.bump_core.specs.Views.{state_of}
+use Rattle.bump_core.proofs.Headlines.{headline}
 use Rattle.bump_core.proofs.Made.{command_keeps, command_events}
 use Rattle.bump_core.proofs.worlds.World.command.Goals as goal
 
@@ -16,3 +17,6 @@ returns-clause-events c = subst (λ (s : State). OnOk c.command.result (run_of s
 
 pub returns-clause-lawful : goal.returns-clause-lawful
 returns-clause-lawful c = (command_keeps (state_of c.self.inside.parts) c.args.command (state_of c.command.new.self) c.command.result c.self.invariant c.command.ensures).0
+
+pub returns-clause-headline : goal.returns-clause-headline
+returns-clause-headline c = headline (state_of c.command.new.self) (command_keeps (state_of c.self.inside.parts) c.args.command (state_of c.command.new.self) c.command.result c.self.invariant c.command.ensures).0
