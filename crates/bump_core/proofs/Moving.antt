@@ -76,19 +76,19 @@ waiting_is s b waits = waits
 -- A chunk with another head, and an entry in the history of its class that moves it.
 module _ (s : State) (o : IsLawful s) (c : ℕ) (h : Head) (k : ℕ) (e : Change) (within : k < length s.classes) (own : owns (class s k) c ≡ true) (is : (subject e).chunk ≡ c) where
   -- the state with the head and the entry
-  abbrev pub changed : State
+  abbrev changed : State
   changed = with_change (with_head s c h) k e
 
   -- each chunk stays in its class
-  pub class_of_changed : (d : ℕ) → class_of changed d ≡ class_of s d
+  class_of_changed : (d : ℕ) → class_of changed d ≡ class_of s d
   class_of_changed d = class_kept s.classes k (class_with_change (class s k) e) d refl
 
   -- the class has the entry
-  pub class_changed : class changed k ≡ class_with_change (class s k) e
+  class_changed : class changed k ≡ class_with_change (class s k) e
   class_changed = read_written s.classes k (class_with_change (class s k) e) no_class within
 
   -- the other classes stay
-  pub class_unchanged : (j : ℕ) → j ≢ k → class changed j ≡ class s j
+  class_unchanged : (j : ℕ) → j ≢ k → class changed j ≡ class s j
   class_unchanged j other = read_other s.classes k j (class_with_change (class s k) e) no_class other
 
   -- the chunk has the head
@@ -100,7 +100,7 @@ module _ (s : State) (o : IsLawful s) (c : ℕ) (h : Head) (k : ℕ) (e : Change
   chunk_unchanged d other = read_other s.chunks c d (record (chunk s c) { head = h }) no_chunk other
 
   -- the chunk is at the entry's place
-  pub place_changed : place changed c ≡ target e
+  place_changed : place changed c ≡ target e
   place_changed = ap (λ (j : ℕ). place_in (class changed j) c) (class_of_changed c ∙ owner s o.tiles k c within own)
       ∙ (ap (λ x. place_in x c) class_changed ∙ place_pushed (class s k) e c is)
 

@@ -23,8 +23,8 @@ use Rattle.bump_core.specs.Lawful.{IsUsed, newborn}
 use Rattle.bump_core.specs.Lives.{life}
 use Rattle.bump_core.specs.Runs.{Steps, run_of}
 use Rattle.bump_core.specs.State.{State, WorkerState, chunk, head, class, worker, no_chunk, new_worker, with_chunk, with_head, with_worker, with_change, class_of, is_chunk, is_class, is_worker, is_open, some_and, is_under_application, tried_life, life_in_hand, cleared_life}
-use Rattle.bump_core.specs.Worlds.{IsLawful, WaitsToMove, owns, place}
 use Rattle.bump_core.specs.Tables.{is_cold}
+use Rattle.bump_core.specs.Worlds.{IsLawful, WaitsToMove, owns, place}
 use Rattle.bump_core.proofs.Enabled.{chunk_from, worker_from}
 use Rattle.bump_core.proofs.Fronts.{first_split, unused_front, linked_in_range}
 use Rattle.bump_core.proofs.Laws.{used_where_linked}
@@ -53,9 +53,8 @@ by_value P f (Some a) s some none = some a refl
 
 -- Labels.
 
--- From one state to a later one: the generation of a chunk falls never, and where it is the same and the chunk is in use, the
--- chunk was in use and has its label.
-pub record Stays (c : ℕ) (s t : State) : Type 0 where
+-- the generation of a chunk never falls, and where it is the same and the chunk is in use, it was in use and has its label
+record Stays (c : ℕ) (s t : State) : Type 0 where
   pub later : (head s c).generation ≤ (head t c).generation
   pub same : (head t c).generation ≡ (head s c).generation → IsUsed (place t c) → IsUsed (place s c) × ((chunk t c).label ≡ (chunk s c).label)
 
