@@ -3,6 +3,7 @@ pub mod Enabled
 pub mod Facts
 pub mod Frames
 pub mod Fronts
+pub mod Headlines
 pub mod Kept
 pub mod LaneReaches
 pub mod Laning
@@ -21,6 +22,7 @@ pub mod Reaches
 pub mod Readers
 pub mod Replay
 pub mod Sizes
+pub mod Staying
 pub mod Steps
 pub mod Tiles
 pub mod Updates

@@ -29,9 +29,9 @@ pub record Headline (s : State) : Type 0 where
   -- each chunk of a class stands once in its six lists
   pub once : (k c : ℕ) → k < length s.classes → owns (class s k) c ≡ true → times_in_all c (class s k).lists ≡ 1
 
--- A chunk that was in use and still is, in the same life, has its label still: the one that was stored before its link.
+-- A chunk that is in use, in the same life as before, has its label still: the one that was stored before its link.
 abbrev pub LabelsStay : State → State → Type 0
-LabelsStay old new = (c : ℕ) → (head new c).generation ≡ (head old c).generation → IsUsed (place old c) → IsUsed (place new c) → (chunk new c).label ≡ (chunk old c).label
+LabelsStay old new = (c : ℕ) → (head new c).generation ≡ (head old c).generation → IsUsed (place new c) → (chunk new c).label ≡ (chunk old c).label
 
 -- A ring that was closed stays closed, and has accepted nothing since.
 abbrev pub ClosedStay : State → State → Type 0

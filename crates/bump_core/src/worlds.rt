@@ -35,6 +35,7 @@ impl Model for World {
 impl World {
     ghost use Rattle.std.specs.Prelude.{◌≡◌, ◌<◌, IfOk, OnOk, Some, All, length};
     ghost use Rattle.bump_core.specs.Commands.{Commands, events_of};
+    ghost use Rattle.bump_core.specs.Headline.{Headline, LabelsStay, ClosedStay};
     ghost use Rattle.bump_core.specs.Opening.{new_state};
     ghost use Rattle.bump_core.specs.Runs.{Steps, Runs, run_of};
     ghost use Rattle.bump_core.specs.State.{head, SameSizes};
@@ -129,6 +130,7 @@ impl World {
         ensures step { Steps self.old event self.new result }
         ensures sizes { SameSizes self.old self.new }
         ensures lawful { IsLawful self.new }
+        ensures headline { Headline self.new }
     {
         self.parts.step(event)
     }
@@ -138,13 +140,16 @@ impl World {
         ensures run { Runs self.old events.now self.new result }
         ensures sizes { SameSizes self.old self.new }
         ensures lawful { IsLawful self.new }
+        ensures headline { Headline self.new }
+        ensures labels { LabelsStay self.old self.new }
+        ensures closed { ClosedStay self.old self.new }
     {
+        let _ = &self.parts;
         for (place, event) in events.iter().enumerate() {
             if let Err(refused) = self.step(*event) {
                 return Err((place, refused));
             }
         }
-        let _ = &self.parts;
         Ok(())
     }
 
@@ -156,6 +161,7 @@ impl World {
         ensures events { OnOk result (run_of self.old (events_of self.old command) ≡ Some self.new) }
         ensures sizes { SameSizes self.old self.new }
         ensures lawful { IsLawful self.new }
+        ensures headline { Headline self.new }
     {
         self.parts.command(command)
     }

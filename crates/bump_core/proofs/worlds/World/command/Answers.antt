@@ -5,6 +5,7 @@ use Rattle.bump_core.specs.Runs.{run_of}
 use Rattle.bump_core.specs.State.{State, SameSizes}
 use Rattle.bump_core.specs.Views.{state_of}
 use Rattle.bump_core.proofs.Made.{command_keeps, command_events, command_sizes}
+use Rattle.bump_core.proofs.Headlines.{headline}
 use Rattle.bump_core.proofs.worlds.World.command.Goals as goal
 
 pub invariant_of-self : goal.invariant_of-self
@@ -20,3 +21,6 @@ returns-clause-lawful c = (command_keeps (state_of c.self.inside.parts) c.args.c
 pub returns-clause-sizes : goal.returns-clause-sizes
 returns-clause-sizes c = subst (λ (s : State). SameSizes s (state_of c.command.new.self)) c.self.view_is
     (command_sizes (state_of c.self.inside.parts) c.args.command (state_of c.command.new.self) c.command.result c.self.invariant c.command.ensures)
+
+pub returns-clause-headline : goal.returns-clause-headline
+returns-clause-headline c = headline (state_of c.command.new.self) (command_keeps (state_of c.self.inside.parts) c.args.command (state_of c.command.new.self) c.command.result c.self.invariant c.command.ensures).0
