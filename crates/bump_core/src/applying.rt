@@ -67,24 +67,20 @@ impl Chunk {
         ensures { result ≡ bumped_chunk self now outcome }
     {
         let refs = self.head.refs.saturating_sub(1);
-        let head = Head { refs, ..self.head };
-        match outcome {
-            Outcome::Moved => Chunk {
-                head: Head {
-                    active: false,
-                    segment: Segment::Warm,
-                    ..head
-                },
-                time: now,
-                ..self
+        let head = match outcome {
+            Outcome::Moved => Head {
+                refs,
+                active: false,
+                segment: Segment::Warm,
+                ..self.head
             },
-            Outcome::TimeOnly => Chunk {
-                head,
-                time: now,
-                ..self
-            },
-            Outcome::Gone => Chunk { head, ..self },
-        }
+            Outcome::TimeOnly | Outcome::Gone => Head { refs, ..self.head },
+        };
+        let time = match outcome {
+            Outcome::Moved | Outcome::TimeOnly => now,
+            Outcome::Gone => self.time,
+        };
+        Chunk { head, time, ..self }
     }
 }
 
