@@ -1,5 +1,6 @@
 pub mod Commands
 pub mod Configs
+pub mod Entries
 pub mod Events
 pub mod Headline
 pub mod History
