@@ -1,4 +1,4 @@
--- What the tests of the events say.
+-- What the tests of the events say, and what holds of a state that a test or a value decides.
 use Rattle.std.proofs.Common.{eq-eqb, ◌≡◌, ℕ, ◌<◌, Bool, true, false, ◌&&◌, nat_lt, ◌==◌, length, Option, None, Some, if◌then◌else◌, refl, sym, ap, subst, ◌∙◌}
 use Rattle.std.proofs.lemmas.Bool.{and_parts, ltb-true, eqb-true, false≢true}
 use Rattle.std.proofs.lemmas.List.Folds.{list_any_at}
@@ -14,7 +14,7 @@ use Rattle.bump_core.specs.declared.workers.Hand.TheVariants as hand
 use Rattle.bump_core.specs.declared.places.Segment.{Segment}
 use Rattle.bump_core.specs.declared.places.Segment.TheVariants as segment
 use Rattle.bump_core.specs.Tables.{is_cold}
-use Rattle.bump_core.specs.Events.{may_hit, outcome_at, carried, tried, applied_now, is_empty}
+use Rattle.bump_core.specs.Events.{may_hit, outcome_at, carried, tried, applied_now, cleared_active, is_empty}
 use Rattle.bump_core.specs.State.{State, chunk, head, worker, is_chunk, is_current, has_free_hold, is_open, is_worker, workers_on, some_and, tried_life, life_in_hand, cleared_life, is_idle, applied_life, applies_in, class_of, is_under_application, new_worker}
 use Rattle.bump_core.specs.Worlds.{IsLawful}
 
@@ -27,10 +27,15 @@ some_and_parts test (Some x) h = (x, refl, h)
 pub lawful_by_some : {A : Type 0} (change : A → State) (s : State) (o : Option A) (x : A) → o ≡ Some x → IsLawful (change x) → IsLawful (option_map_or change o s)
 lawful_by_some change s o x is lawful = subst (λ p. IsLawful (option_map_or change p s)) (sym is) lawful
 
--- both ways of a change are lawful
-pub lawful_both_ways : (b : Bool) (s t : State) → (b ≡ true → IsLawful s) → (b ≡ false → IsLawful t) → IsLawful (if b then s else t)
-lawful_both_ways true s t first second = first refl
-lawful_both_ways false s t first second = second refl
+-- what holds of the state of either way holds of the one that the test takes
+pub by_test : (P : State → Type 0) (b : Bool) (t u : State) → (b ≡ true → P t) → (b ≡ false → P u) → P (if b then t else u)
+by_test P true t u first second = first refl
+by_test P false t u first second = second refl
+
+-- what holds of the state of each value that there may be, and of the state for none, holds of the one that the value takes
+pub by_value : (P : State → Type 0) → {A : Type 0} (f : A → State) (o : Option A) (s : State) → ((a : A) → o ≡ Some a → P (f a)) → P s → P (option_map_or f o s)
+by_value P f None s some none = none
+by_value P f (Some a) s some none = some a refl
 
 -- the hand that tries to take a reference to this life
 pub trying_from : (x : Hand) (l : ItemId) → tried_life x ≡ Some l → x ≡ hand.Trying l
@@ -83,6 +88,15 @@ tried_from (lane.Carrying a) b is = absurd (let u : ⊥ = cc in u)
 tried_from (lane.Tried a) b is = cc
 tried_from (lane.Cleared a found) b is = absurd (let u : ⊥ = cc in u)
 tried_from (lane.Moved a) b is = absurd (let u : ⊥ = cc in u)
+
+-- the lane that found ACTIVE set of the item of this bump
+pub cleared_from : (x : Lane) (b : Bump) → cleared_active x ≡ Some b → x ≡ lane.Cleared b true
+cleared_from lane.Empty b is = absurd (let u : ⊥ = cc in u)
+cleared_from (lane.Carrying a) b is = absurd (let u : ⊥ = cc in u)
+cleared_from (lane.Tried a) b is = absurd (let u : ⊥ = cc in u)
+cleared_from (lane.Cleared a true) b is = cc
+cleared_from (lane.Cleared a false) b is = absurd (let u : ⊥ = cc in u)
+cleared_from (lane.Moved a) b is = absurd (let u : ⊥ = cc in u)
 
 -- the bump that a lane applies is of the life on which it works
 pub applied_from : (x : Lane) (b : Bump) → applied_now x ≡ Some b → applied_life x ≡ Some b.life

@@ -1,5 +1,9 @@
 -- What an event leaves as it was: a state in which one chunk and one worker changed is lawful where these are.
 use Rattle.std.proofs.Common.{eq-eqb, ne_eqb, ◌≡◌, ℕ, ◌+◌, ◌<◌, ◌≤◌, ◌≢◌, true, false, cond, eqb, List, length, slice_index_or, slice_set, refl, sym, ap, ◌∙◌, subst, Some, arith}
+use Rattle.std.proofs.lemmas.List.{get_or-set_same, get_or-set_other, length-set}
+use Rattle.std.proofs.Common.{inl, inr}
+use Rattle.std.proofs.lemmas.Bool.{cases_lt}
+use Rattle.std.proofs.lemmas.List.{set_past}
 use mathlib.Core.Logic.{dite}
 use native.Mathlib.Decide.{ℕ_discrete}
 use Rattle.bump_core.specs.declared.items.ItemId.{ItemId}
@@ -12,21 +16,11 @@ use Rattle.bump_core.specs.Lives.{life, count_of}
 use Rattle.bump_core.specs.Totals.{total}
 use Rattle.bump_core.specs.Rings.{IsWorker}
 use Rattle.bump_core.specs.State.{State, WorkerState, chunk, head, worker, no_chunk, new_worker, with_chunk, with_head, with_worker, class_of, is_on, workers_on, applied_life}
+use Rattle.bump_core.specs.Events.{with_time, with_label}
 use Rattle.bump_core.specs.Worlds.{holds_of, bumps_of, references, first_hits_of, place, Tiles, WaitsToMove, IsLawful}
 use Rattle.bump_core.proofs.Laws.{relawful}
-use Rattle.bump_core.proofs.Updates.{read_written, read_other, length_written, total_written}
-
--- the holds of a life with this generation, by the chunk
-abbrev pub held_by : Chunk → ℕ → ℕ
-held_by x g = cond (eqb x.head.generation g) x.holds 0
-
--- the chunk's generation has its holds
-pub held_here : (x : Chunk) → held_by x x.head.generation ≡ x.holds
-held_here x = ap (λ b. cond b x.holds 0) (eq-eqb x.head.generation x.head.generation refl)
-
--- and another has none
-pub held_else : (x : Chunk) (g : ℕ) → g ≢ x.head.generation → held_by x g ≡ 0
-held_else x g other = ap (λ b. cond b x.holds 0) (ne_eqb x.head.generation g (λ e. other (sym e)))
+use Rattle.bump_core.proofs.Facts.{held_by}
+use Rattle.bump_core.proofs.Updates.{same_read, total_written}
 
 -- the state with other chunks and workers
 abbrev pub with_parts : State → List Chunk → List WorkerState → State
@@ -64,14 +58,14 @@ waits_framed s t linked segments (lane.Moved b) waits = tt
 module _ (s : State) (w : ℕ) (y : WorkerState) (within : w < length s.workers) where
   -- where it changed the new worker is read
   pub worker_here : slice_index_or (slice_set s.workers w y) w new_worker ≡ y
-  worker_here = read_written s.workers w y new_worker within
+  worker_here = get_or-set_same s.workers w y new_worker within
 
   -- what holds of it and of each other worker holds of all
   pub each_worker : (P : WorkerState → Type 0) → P y → ((v : ℕ) → v < length s.workers → P (worker s v))
       → (v : ℕ) → v < length (slice_set s.workers w y) → P (slice_index_or (slice_set s.workers w y) v new_worker)
   each_worker P new old v inside = dite (ℕ_discrete v w)
       (λ e. subst (λ k. P (slice_index_or (slice_set s.workers w y) k new_worker)) (sym e) (subst P (sym worker_here) new))
-      (λ ne. subst P (sym (read_other s.workers w v y new_worker ne)) (old v (omega (arith, length_written s.workers w y))))
+      (λ ne. subst P (sym (get_or-set_other s.workers w v y new_worker ne)) (old v (omega (arith, length-set s.workers w y))))
 
   -- where no other lane applies a bump of the class at which the new lane works, still at most one does
   pub alone_after : IsLawful s
@@ -81,11 +75,11 @@ module _ (s : State) (w : ℕ) (y : WorkerState) (within : w < length s.workers)
       → class_of s l.chunk ≡ class_of s m.chunk → v ≡ u
   alone_after o other v u l m inside inside_too of_v of_u same = dite (ℕ_discrete v w)
       (λ e. dite (ℕ_discrete u w) (λ e_too. e ∙ sym e_too)
-      (λ ne. absurd (other u m l (omega (arith, length_written s.workers w y)) ne (ap (λ x. applied_life x.lane) (sym (read_other s.workers w u y new_worker ne)) ∙ of_u) (ap (λ x. applied_life x.lane) (sym (at_w v e)) ∙ of_v) (sym same))))
+      (λ ne. absurd (other u m l (omega (arith, length-set s.workers w y)) ne (ap (λ x. applied_life x.lane) (sym (get_or-set_other s.workers w u y new_worker ne)) ∙ of_u) (ap (λ x. applied_life x.lane) (sym (at_w v e)) ∙ of_v) (sym same))))
       (λ ne. dite (ℕ_discrete u w)
-      (λ e. absurd (other v l m (omega (arith, length_written s.workers w y)) ne (ap (λ x. applied_life x.lane) (sym (read_other s.workers w v y new_worker ne)) ∙ of_v) (ap (λ x. applied_life x.lane) (sym (at_w u e)) ∙ of_u) same))
-      (λ ne_too. o.alone v u l m (omega (arith, length_written s.workers w y)) (omega (arith, length_written s.workers w y))
-      (ap (λ x. applied_life x.lane) (sym (read_other s.workers w v y new_worker ne)) ∙ of_v) (ap (λ x. applied_life x.lane) (sym (read_other s.workers w u y new_worker ne_too)) ∙ of_u) same))
+      (λ e. absurd (other v l m (omega (arith, length-set s.workers w y)) ne (ap (λ x. applied_life x.lane) (sym (get_or-set_other s.workers w v y new_worker ne)) ∙ of_v) (ap (λ x. applied_life x.lane) (sym (at_w u e)) ∙ of_u) same))
+      (λ ne_too. o.alone v u l m (omega (arith, length-set s.workers w y)) (omega (arith, length-set s.workers w y))
+      (ap (λ x. applied_life x.lane) (sym (get_or-set_other s.workers w v y new_worker ne)) ∙ of_v) (ap (λ x. applied_life x.lane) (sym (get_or-set_other s.workers w u y new_worker ne_too)) ∙ of_u) same))
     where
       at_w : (k : ℕ) → k ≡ w → slice_index_or (slice_set s.workers w y) k new_worker ≡ y
       at_w k e = ap (λ j. slice_index_or (slice_set s.workers w y) j new_worker) e ∙ worker_here
@@ -117,17 +111,13 @@ worker_lawful s w y o within bumps hits hands lawful alone waits = record {
   waits = each_worker s w y within (λ x. WaitsToMove s x.lane) waits o.waits;
 }
 
--- One chunk changed.
-module _ (s : State) (c : ℕ) (x : Chunk) (within : c < length s.chunks) where
-  -- where it changed the new chunk is read
-  pub chunk_here : chunk (with_chunk s c x) c ≡ x
-  chunk_here = read_written s.chunks c x no_chunk within
+-- One chunk changed: where it changed the new chunk is read.
+pub chunk_here : (s : State) (c : ℕ) (x : Chunk) → c < length s.chunks → chunk (with_chunk s c x) c ≡ x
+chunk_here s c x within = get_or-set_same s.chunks c x no_chunk within
 
-  -- what is as before for it is as before for all
-  pub each_chunk : {A : Type 0} (f : Chunk → A) → f x ≡ f (chunk s c) → (d : ℕ) → f (chunk (with_chunk s c x) d) ≡ f (chunk s d)
-  each_chunk f same d = dite (ℕ_discrete d c)
-      (λ e. subst (λ k. f (chunk (with_chunk s c x) k) ≡ f (chunk s k)) (sym e) (ap f chunk_here ∙ same))
-      (λ ne. ap f (read_other s.chunks c d x no_chunk ne))
+-- What is as before for the chunk is as before for all.
+pub each_chunk : (s : State) (c : ℕ) (x : Chunk) → {A : Type 0} (f : Chunk → A) → f x ≡ f (chunk s c) → (d : ℕ) → f (chunk (with_chunk s c x) d) ≡ f (chunk s d)
+each_chunk s c x f same d = same_read f s.chunks c x no_chunk same d
 
 -- One chunk changed, and no worker.
 pub chunk_lawful : (s : State) (c : ℕ) (x : Chunk) → IsLawful s → c < length s.chunks
@@ -137,17 +127,17 @@ pub chunk_lawful : (s : State) (c : ℕ) (x : Chunk) → IsLawful s → c < leng
     → IsLawful (with_chunk s c x)
 chunk_lawful s c x o within linked segments lawful hands = record {
   limit = o.limit;
-  tiles = subst (Tiles 0 s.classes) (sym (length_written s.chunks c x)) o.tiles;
-  chunks = chunks_framed s (slice_set s.chunks c x) s.workers o c (λ d ne. read_other s.chunks c d x no_chunk ne) (λ l ne. refl) (λ l ne. refl)
+  tiles = subst (Tiles 0 s.classes) (sym (length-set s.chunks c x)) o.tiles;
+  chunks = chunks_framed s (slice_set s.chunks c x) s.workers o c (λ d ne. get_or-set_other s.chunks c d x no_chunk ne) (λ l ne. refl) (λ l ne. refl)
       (subst (λ (z : Chunk). Lawful s.refs_limit z.head (place s c) (references (with_chunk s c x) c) (first_hits_of s c)) (sym (chunk_here s c x within)) lawful);
   hands = λ l. dite (ℕ_discrete l.chunk c)
       (λ e. subst (λ k. workers_on s (life k l.generation) ≤ held_by (chunk (with_chunk s c x) k) l.generation) (sym e)
       (subst (λ (z : Chunk). workers_on s (life c l.generation) ≤ held_by z l.generation) (sym (chunk_here s c x within)) (hands l.generation)))
-      (λ ne. omega (arith, o.hands l, ap (λ z. held_by z l.generation) (read_other s.chunks c l.chunk x no_chunk ne)));
+      (λ ne. omega (arith, o.hands l, ap (λ z. held_by z l.generation) (get_or-set_other s.chunks c l.chunk x no_chunk ne)));
   classes = o.classes;
   workers = o.workers;
   alone = o.alone;
-  waits = λ v inside. waits_framed s (with_chunk s c x) (each_chunk s c x within (λ z. z.head.linked) linked) (each_chunk s c x within (λ z. z.head.segment) segments) (worker s v).lane (o.waits v inside);
+  waits = λ v inside. waits_framed s (with_chunk s c x) (each_chunk s c x (λ z. z.head.linked) linked) (each_chunk s c x (λ z. z.head.segment) segments) (worker s v).lane (o.waits v inside);
 }
 
 -- One chunk changed, and neither its holds nor its generation.
@@ -164,11 +154,30 @@ chunk_kept s c x o within holds generations linked segments lawful = chunk_lawfu
     same : (g : ℕ) → held_by x g ≡ held_by (chunk s c) g
     same g = ap (λ n. cond (eqb n g) x.holds 0) generations ∙ ap (λ n. cond (eqb (head s c).generation g) n 0) holds
 
+-- The time of a chunk is no part of what is lawful.
+pub time_lawful : (s : State) (c t : ℕ) → IsLawful s → IsLawful (with_time s c t)
+time_lawful s c t o = elim (cases_lt c (length s.chunks)) [
+  | inl within ↦ chunk_kept s c (record (chunk s c) { time = t }) o within refl refl refl refl (o.chunks c)
+  | inr past ↦ subst (λ cs. IsLawful (record s { chunks = cs })) (sym (set_past s.chunks c (record (chunk s c) { time = t }) past)) o
+]
+
+-- Nor is its label.
+pub label_lawful : (s : State) (c x : ℕ) → IsLawful s → IsLawful (with_label s c x)
+label_lawful s c x o = elim (cases_lt c (length s.chunks)) [
+  | inl within ↦ chunk_kept s c (record (chunk s c) { label = x }) o within refl refl refl refl (o.chunks c)
+  | inr past ↦ subst (λ cs. IsLawful (record s { chunks = cs })) (sym (set_past s.chunks c (record (chunk s c) { label = x }) past)) o
+]
+
+-- One head changed, in its marks alone.
+pub head_lawful : (s : State) (c : ℕ) (h : Head) → IsLawful s → c < length s.chunks → h.generation ≡ (head s c).generation → h.linked ≡ (head s c).linked → h.segment ≡ (head s c).segment
+    → Lawful s.refs_limit h (place s c) (references s c) (first_hits_of s c) → IsLawful (with_head s c h)
+head_lawful s c h o within generations linked segments lawful = chunk_kept s c (record (chunk s c) { head = h }) o within refl generations linked segments lawful
+
 -- One head changed, and one worker.
 module _ (s : State) (c : ℕ) (h : Head) (w : ℕ) (y : WorkerState) (within_chunks : c < length s.chunks) (within : w < length s.workers) (same : h.generation ≡ (head s c).generation) where
   -- the holds are as before
   pub holds_kept : (l : ItemId) → holds_of (with_worker (with_head s c h) w y) l ≡ holds_of s l
-  holds_kept l = each_chunk s c (record (chunk s c) { head = h }) within_chunks (λ z. held_by z l.generation) (ap (λ n. cond (eqb n l.generation) (chunk s c).holds 0) same) l.chunk
+  holds_kept l = each_chunk s c (record (chunk s c) { head = h }) (λ z. held_by z l.generation) (ap (λ n. cond (eqb n l.generation) (chunk s c).holds 0) same) l.chunk
 
   -- the references change by the worker's bumps
   pub references_after : (d g : ℕ) → references (with_worker (with_head s c h) w y) d g + bumps_of (life d g) (worker s w) ≡ references s d g + bumps_of (life d g) y
@@ -191,8 +200,8 @@ module _ (s : State) (c : ℕ) (h : Head) (w : ℕ) (y : WorkerState) (within_ch
       → IsLawful (with_worker (with_head s c h) w y)
   both_lawful o linked segments bumps hits lawful hands new alone waits = record {
     limit = o.limit;
-    tiles = subst (Tiles 0 s.classes) (sym (length_written s.chunks c (record (chunk s c) { head = h }))) o.tiles;
-    chunks = chunks_framed s (slice_set s.chunks c (record (chunk s c) { head = h })) (slice_set s.workers w y) o c (λ d ne. read_other s.chunks c d (record (chunk s c) { head = h }) no_chunk ne)
+    tiles = subst (Tiles 0 s.classes) (sym (length-set s.chunks c (record (chunk s c) { head = h }))) o.tiles;
+    chunks = chunks_framed s (slice_set s.chunks c (record (chunk s c) { head = h })) (slice_set s.workers w y) o c (λ d ne. get_or-set_other s.chunks c d (record (chunk s c) { head = h }) no_chunk ne)
         (λ l ne. omega (arith, bumps l ne, total_written (bumps_of l) s.workers w y new_worker within))
         (λ l ne. omega (arith, hits l ne, total_written (hits_in l) s.workers w y new_worker within))
         (subst (λ (z : Chunk). Lawful s.refs_limit z.head (place s c) (references (with_worker (with_head s c h) w y) c) (first_hits_of (with_worker (with_head s c h) w y) c)) (sym (chunk_here s c (record (chunk s c) { head = h }) within_chunks)) lawful);
@@ -201,7 +210,7 @@ module _ (s : State) (c : ℕ) (h : Head) (w : ℕ) (y : WorkerState) (within_ch
     workers = each_worker s w y within (IsWorker s.capacity) new o.workers;
     alone = alone_after s w y within o alone;
     waits = each_worker s w y within (λ x. WaitsToMove (with_head s c h) x.lane) waits (λ v inside.
-        waits_framed s (with_head s c h) (each_chunk s c (record (chunk s c) { head = h }) within_chunks (λ z. z.head.linked) linked) (each_chunk s c (record (chunk s c) { head = h }) within_chunks (λ z. z.head.segment) segments) (worker s v).lane (o.waits v inside));
+        waits_framed s (with_head s c h) (each_chunk s c (record (chunk s c) { head = h }) (λ z. z.head.linked) linked) (each_chunk s c (record (chunk s c) { head = h }) (λ z. z.head.segment) segments) (worker s v).lane (o.waits v inside));
   }
 
   -- the same where the worker's lane is as before
@@ -216,6 +225,6 @@ module _ (s : State) (c : ℕ) (h : Head) (w : ℕ) (y : WorkerState) (within_ch
   both_lawful_off_lane o lanes linked segments bumps hits lawful hands new = both_lawful o linked segments bumps hits lawful hands new
       (alone_kept s w y within o (ap applied_life lanes))
       (subst (WaitsToMove (with_head s c h)) (sym lanes) (waits_framed s (with_head s c h)
-      (each_chunk s c (record (chunk s c) { head = h }) within_chunks (λ z. z.head.linked) linked)
-      (each_chunk s c (record (chunk s c) { head = h }) within_chunks (λ z. z.head.segment) segments)
+      (each_chunk s c (record (chunk s c) { head = h }) (λ z. z.head.linked) linked)
+      (each_chunk s c (record (chunk s c) { head = h }) (λ z. z.head.segment) segments)
       (worker s w).lane (o.waits w within)))

@@ -11,12 +11,12 @@ use Rattle.bump_core.specs.Lawful.{bit, Shows}
 use Rattle.bump_core.specs.History.{place_of}
 use Rattle.bump_core.specs.Lists.{Lists, list_at, without, all_without, put_before, to_front, with_list, times, StandsAt}
 use Rattle.std.specs.Prelude.{IfSome}
+use Rattle.std.proofs.lemmas.List.{get_or_past}
 use Rattle.bump_core.specs.Events.{next_chunk}
 use Rattle.bump_core.specs.State.{State, head, class, no_chunk, class_of, last_of, first_of}
 use Rattle.bump_core.specs.Worlds.{owns, place, place_in, IsLawful}
 use Rattle.bump_core.proofs.Replay.{number, is_place, times_without, in_lists}
 use Rattle.bump_core.proofs.Tiles.{class_within, class_owns, owner, owned_in_range}
-use Rattle.bump_core.proofs.Updates.{read_past}
 
 -- Places that are one or two.
 
@@ -227,7 +227,7 @@ linked_in_range s c on = by (cases_lt c (length s.chunks))
   where
     by : (c < length s.chunks) ⊎ (length s.chunks ≤ c) → c < length s.chunks
     by (inl within) = within
-    by (inr past) = absurd (both_ways (head s c).linked (ap (λ x. x.head.linked) (read_past s.chunks c no_chunk past)) on)
+    by (inr past) = absurd (both_ways (head s c).linked (ap (λ x. x.head.linked) (get_or_past s.chunks c no_chunk past)) on)
 
 module _ (s : State) (o : IsLawful s) where
   -- how often a chunk is in a list of a class

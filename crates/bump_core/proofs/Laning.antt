@@ -2,8 +2,9 @@
 use Rattle.std.proofs.Common.{◌≡◌, ℕ, suc, ◌+◌, ◌<◌, Bool, true, false, not, ◌&&◌, nat_lt, List, [], ◌∷◌, ◌++◌, map, length, drop, slice_index_or, Some, refl, sym, ap, ◌∙◌, arith, append_assoc, length-append}
 use Rattle.std.proofs.lemmas.List.{append-nil, map-append}
 use Rattle.std.proofs.lemmas.Bool.{and_parts, ltb-true, not-true}
-use Rattle.std.proofs.lemmas.Option.{slice_get_within, get_or_from_slice_get}
+use Rattle.std.proofs.lemmas.Option.{slice_get_within, get_or_from_slice_get, slice_get-get_or}
 use Rattle.std.specs.Option.{option_map_or}
+use Rattle.std.proofs.Math.Seq.{drop-cons}
 use Rattle.bump_core.specs.declared.places.Segment.TheVariants as segment
 use Rattle.bump_core.specs.declared.items.ItemId.{ItemId}
 use Rattle.bump_core.specs.declared.items.Head.{Head}
@@ -19,11 +20,10 @@ use Rattle.bump_core.specs.State.{State, WorkerState, chunk, head, worker, class
 use Rattle.bump_core.specs.Events.{with_time, one_fewer, cleared_head, next_bump, bump_of, carried, tried, applied_now, is_empty, lane_chunk, lane_outcome, is_enabled, after, take_bump, with_lane, clear_for, applied_bump, alight}
 use Rattle.bump_core.specs.Worlds.{aboard_of, bumps_of, references, first_hits_of, place, WaitsToMove, IsLawful}
 use Rattle.bump_core.proofs.Laws.{relawful, unreferred, marked}
-use Rattle.bump_core.proofs.Updates.{got_within, drop_within}
 use Rattle.bump_core.proofs.Facts.{one_if_same, one_if_elsewhere, one_if_at, one_if_not_at, linked_in_range, aboard_in_range, aboard_current}
 use Rattle.bump_core.proofs.Frames.{worker_lawful, both_lawful, references_after, first_hits_after, alone_kept, chunk_here}
 use Rattle.bump_core.proofs.Enabled.{some_and_parts, lawful_by_some, empty_from, carrying_from, tried_from, cold_from, worker_from, none_applies, applied_by_outcome}
-use Rattle.bump_core.proofs.Readers.{time_lawful}
+use Rattle.bump_core.proofs.Frames.{time_lawful}
 
 -- one more life at the end is numbered next
 pub numbered_push : (n : ℕ) (ls : List ItemId) (l : ItemId) (k : ℕ) → k ≡ n + length ls → numbered_from n (ls ++ l ∷ []) ≡ numbered_from n ls ++ bump_of k l ∷ []
@@ -32,7 +32,7 @@ numbered_push n (m ∷ ls) l k e = ap (λ bs. bump_of n m ∷ bs) (numbered_push
 
 -- the next bump is the first in the ring, and the rest stays there
 pub next_in_ring : (x : WorkerState) (l : ItemId) → next_bump x ≡ Some l → in_ring x ≡ l ∷ drop (suc (length x.received)) x.sent
-next_in_ring x l is = drop_within x.sent (length x.received) l (slice_get_within x.sent (length x.received) l is)
+next_in_ring x l is = drop-cons x.sent (length x.received) l (slice_get_within x.sent (length x.received) l is)
     ∙ ap (λ m. m ∷ drop (suc (length x.received)) x.sent) (get_or_from_slice_get x.sent (length x.received) l l is)
 
 -- a lane with no bump aboard takes the next one from the ring
@@ -195,7 +195,7 @@ pub after_take_bump : (s : State) (w : ℕ) → IsLawful s → is_enabled s (eve
 after_take_bump s w o enabled = let parts = and_parts (is_worker s w) (is_empty (worker s w).lane && nat_lt (length (worker s w).received) (length (worker s w).sent)) enabled in
     let more = and_parts (is_empty (worker s w).lane) (nat_lt (length (worker s w).received) (length (worker s w).sent)) parts.1 in
     let l : ItemId = slice_index_or (worker s w).sent (length (worker s w).received) (life 0 0) in
-    let next : next_bump (worker s w) ≡ Some l = got_within (worker s w).sent (length (worker s w).received) (life 0 0) (ltb-true (length (worker s w).received) (length (worker s w).sent) more.1) in
+    let next : next_bump (worker s w) ≡ Some l = slice_get-get_or (worker s w).sent (length (worker s w).received) (life 0 0) (ltb-true (length (worker s w).received) (length (worker s w).sent) more.1) in
     lawful_by_some (take_bump s w) s (next_bump (worker s w)) l next
     (take_bump_lawful s w l o (worker_from s w parts.0) (empty_from (worker s w).lane more.0) next)
 

@@ -1,4 +1,5 @@
--- Each kind of change leaves a chunk lawful: facts about a head and two counts alone.
+-- Each kind of change leaves a chunk lawful: facts about a head, a place and two counts alone. They are the change of a count's name,
+-- one reference more and fewer, the first hit and a later one, a mark, a link, an unlink, a sweep, and a move.
 use Rattle.std.proofs.Common.{◌≡◌, ℕ, ◌+◌, ◌-◌, ◌<◌, ◌≤◌, ◌≢◌, Bool, true, false, refl, sym, ap, ◌∙◌, subst, arith}
 use mathlib.Core.Bool.{false≢true}
 use mathlib.Core.Logic.{dite}
@@ -33,6 +34,33 @@ placed_where_linked h Cold s e = ap place_of (sym s.1)
 placed_where_linked h Dying s e = absurd (false≢true (sym s ∙ e))
 placed_where_linked h Unused s e = absurd (false≢true (sym s.0 ∙ e))
 placed_where_linked h Retired s e = absurd (false≢true (sym s.0 ∙ e))
+
+-- an unlinked chunk that isn't free is DYING
+pub dying_where_unlinked : (h : Head) (at : Place) → Shows h at → IsUsed at → h.linked ≡ false → at ≡ Dying
+dying_where_unlinked h Hot s used off = absurd (false≢true (sym off ∙ s.0))
+dying_where_unlinked h Warm s used off = absurd (false≢true (sym off ∙ s.0))
+dying_where_unlinked h Cold s used off = absurd (false≢true (sym off ∙ s.0))
+dying_where_unlinked h Dying s used off = refl
+dying_where_unlinked h Unused s used off = absurd used
+dying_where_unlinked h Retired s used off = absurd used
+
+-- what the list of a segment says of the head
+pub in_segment : (h : Head) (s : Segment) → Shows h (place_of s) → (h.linked ≡ true) × (h.segment ≡ s)
+in_segment h segment.Hot x = x
+in_segment h segment.Warm x = x
+in_segment h segment.Cold x = x
+
+-- a linked head with these segment bits agrees with the list of the segment
+pub shows_segment : (h : Head) (s : Segment) → h.linked ≡ true → Shows (record h { segment = s }) (place_of s)
+shows_segment h segment.Hot x = (x, refl)
+shows_segment h segment.Warm x = (x, refl)
+shows_segment h segment.Cold x = (x, refl)
+
+-- no list of a segment is of free chunks
+pub used_in_segment : (s : Segment) → IsUsed (place_of s)
+used_in_segment segment.Hot = tt
+used_in_segment segment.Warm = tt
+used_in_segment segment.Cold = tt
 
 -- a place asks nothing of the count and of the marks
 pub shows_same : (g h : Head) (at : Place) → g.linked ≡ h.linked → g.segment ≡ h.segment → g.generation ≡ h.generation → Shows g at → Shows h at
@@ -174,33 +202,20 @@ module _ (limit : ℕ) (h : Head) (at : Place) (r x : ℕ → ℕ) (o : Lawful l
     past = o.past;
   }
 
--- what the list of a segment says of the head
-pub in_segment : (h : Head) (s : Segment) → Shows h (place_of s) → (h.linked ≡ true) × (h.segment ≡ s)
-in_segment h segment.Hot x = x
-in_segment h segment.Warm x = x
-in_segment h segment.Cold x = x
+  -- a linked chunk goes to another list
+  pub moved : (to : Segment) → h.linked ≡ true → Lawful limit (record h { segment = to }) (place_of to) r x
+  moved to on = record {
+    counted = o.counted;
+    within = o.within;
+    shown = shows_segment h to on;
+    used = λ g some. ((o.used g some).0, used_in_segment to);
+    active = o.active;
+    fetched = o.fetched;
+    once = o.once;
+    past = o.past;
+  }
 
--- a linked head with these segment bits agrees with the list of the segment
-pub shows_segment : (h : Head) (s : Segment) → h.linked ≡ true → Shows (record h { segment = s }) (place_of s)
-shows_segment h segment.Hot x = (x, refl)
-shows_segment h segment.Warm x = (x, refl)
-shows_segment h segment.Cold x = (x, refl)
-
--- no list of a segment is of free chunks
-pub used_in_segment : (s : Segment) → IsUsed (place_of s)
-used_in_segment segment.Hot = tt
-used_in_segment segment.Warm = tt
-used_in_segment segment.Cold = tt
-
--- a linked chunk goes to another list
-pub moved : (limit : ℕ) (h : Head) (at : Place) (r x : ℕ → ℕ) → Lawful limit h at r x → (to : Segment) → h.linked ≡ true → Lawful limit (record h { segment = to }) (place_of to) r x
-moved limit h at r x o to on = record {
-  counted = o.counted;
-  within = o.within;
-  shown = shows_segment h to on;
-  used = λ g many. ((o.used g many).0, used_in_segment to);
-  active = o.active;
-  fetched = o.fetched;
-  once = o.once;
-  past = o.past;
-}
+-- the same chunk, its head, its place and its references in other words
+pub lawful_same : (limit : ℕ) (g h : Head) (p q : Place) (r u x : ℕ → ℕ) → h ≡ g → q ≡ p → ((n : ℕ) → u n ≡ r n) → Lawful limit g p r x → Lawful limit h q u x
+lawful_same limit g h p q r u x head_is place_is count_is o =
+    subst (λ (f : Head). Lawful limit f q u x) (sym head_is) (subst (λ (at : Place). Lawful limit g at u x) (sym place_is) (relawful limit g p r x o u x count_is (λ n. refl)))

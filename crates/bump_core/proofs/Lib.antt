@@ -14,13 +14,13 @@ pub mod MadeCalls
 pub mod MadeHits
 pub mod MadeParts
 pub mod Moving
-pub mod MovingLaws
 pub mod NextReaches
 pub mod Openings
 pub mod Putting
 pub mod Reaches
 pub mod Readers
 pub mod Replay
+pub mod Running
 pub mod Sizes
 pub mod Staying
 pub mod Steps

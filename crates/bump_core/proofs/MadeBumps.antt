@@ -2,6 +2,7 @@
 use Rattle.std.proofs.Common.{◌≡◌, ℕ, zero, suc, ◌<◌, eqb, cond, Bool, true, false, not, ◌&&◌, List, [], ◌∷◌, ◌++◌, length, drop, slice_get, slice_set, Option, Some, None, if◌then◌else◌, refl, sym, ap, ap₂, ◌∙◌, subst, arith}
 use Rattle.std.proofs.lemmas.Bool.{and_parts, and_from, ltb-true, lt-ltb, both_ways, not-true}
 use Rattle.std.specs.Option.{option_map_or}
+use Rattle.std.proofs.lemmas.List.{set-get_or}
 use Rattle.bump_core.specs.declared.places.Place.{Place}
 use Rattle.bump_core.specs.declared.places.Place.TheVariants.{Hot, Warm, Cold, Dying, Unused, Retired}
 use Rattle.bump_core.specs.declared.places.Segment.{Segment}
@@ -29,10 +30,11 @@ use Rattle.bump_core.specs.Worlds.{place, references, aboard_of, IsLawful, NoneU
 use Rattle.bump_core.specs.Events.{one_fewer, cleared_head, moved_head, next_bump, carried, tried, applied_now, cleared_active, is_empty, outcome_at, lane_outcome, with_time, bump_of, take_bump, with_lane, clear_for, move_for, applied_bump, alight}
 use Rattle.bump_core.specs.Runs.{run_of}
 use Rattle.bump_core.specs.Commands.{is_allowed, events_of, command_after, bump_next, is_half_made, outcome_next, ended_at, bumped_chunk, bumped_worker, bumped_lists, apply_bump, take_events, apply_events}
-use Rattle.bump_core.proofs.Updates.{written_back}
 use Rattle.bump_core.proofs.Tiles.{class_within}
 use Rattle.bump_core.proofs.Facts.{one_if_same, referred_in_range, referred_used, in_ring_referred, aboard_referred}
-use Rattle.bump_core.proofs.MadeParts.{run_step, none_written, at, at_start, chunk_at, worker_at, is_worker_at, on_chunk, on_worker, on_both}
+use Rattle.bump_core.proofs.Running.{run_step}
+use Rattle.bump_core.proofs.Updates.{none_written}
+use Rattle.bump_core.proofs.MadeParts.{at, at_start, chunk_at, worker_at, is_worker_at, on_chunk, on_worker, on_both}
 
 -- Where nothing was unlinked, a chunk with a reference is linked.
 
@@ -277,7 +279,7 @@ next_made s o none w now allowed = by (worker s w).lane refl
         ap (λ m. run_of s (take_events w m ++ apply_events (head s l.chunk) w now l.chunk)) is
         ∙ (run_step s (at s l.chunk w s.classes (chunk s l.chunk) (laned s w r (lane.Carrying b))) (event.TakeBump w) (apply_events (head s l.chunk) w now l.chunk)
         (and_from _ _ both.0 (and_from _ _ (ap is_empty is) (lt-ltb _ _ got.0)))
-        (ap (λ m. option_map_or (take_bump s w) m s) next ∙ ap (λ cs. with_worker (record s { chunks = cs }) w (laned s w r (lane.Carrying b))) (sym (written_back s.chunks l.chunk no_chunk)))
+        (ap (λ m. option_map_or (take_bump s w) m s) next ∙ ap (λ cs. with_worker (record s { chunks = cs }) w (laned s w r (lane.Carrying b))) (sym (set-get_or s.chunks l.chunk no_chunk)))
         ∙ ends b r bump some (ap (λ m. (bumped_worker (record (worker s w) { lane = m }) b (outcome_next s b)).received) (sym is)))
 
     -- the lane is empty

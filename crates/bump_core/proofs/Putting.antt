@@ -7,7 +7,7 @@ use Rattle.bump_core.specs.Events.{cleared_head, is_class_at_rest, next_chunk, i
 use Rattle.bump_core.specs.Worlds.{references, first_hits_of, place, IsLawful}
 use Rattle.bump_core.proofs.Laws.{marked}
 use Rattle.bump_core.proofs.Enabled.{some_and_parts, lawful_by_some, chunk_from}
-use Rattle.bump_core.proofs.Readers.{time_lawful, label_lawful, head_lawful}
+use Rattle.bump_core.proofs.Frames.{time_lawful, label_lawful, head_lawful}
 
 -- a pull clears ACTIVE
 pub clear_active_lawful : (s : State) (c : ℕ) → IsLawful s → c < length s.chunks → IsLawful (with_head s c (cleared_head (head s c)))
