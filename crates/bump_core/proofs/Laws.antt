@@ -17,6 +17,11 @@ pub bit_le : (b : Bool) → bit b ≤ 1
 bit_le true = omega arith
 bit_le false = omega arith
 
+-- a test that counts passes
+pub bit_some : (b : Bool) → 0 < bit b → b ≡ true
+bit_some true some = refl
+bit_some false some = absurd (omega arith)
+
 -- a chunk whose head is linked is not free
 pub used_where_linked : (h : Head) (at : Place) → Shows h at → h.linked ≡ true → IsUsed at
 used_where_linked h Hot s e = tt

@@ -16,15 +16,16 @@ pub mod MadeParts
 pub mod Moving
 pub mod NextReaches
 pub mod Openings
+pub mod PlainLists
 pub mod Putting
 pub mod Reaches
 pub mod Readers
 pub mod Replay
 pub mod Running
+pub mod SixLists
 pub mod Sizes
 pub mod Staying
 pub mod Steps
 pub mod Tiles
 pub mod Updates
 pub mod Views
-pub mod Without

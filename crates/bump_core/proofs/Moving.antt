@@ -30,7 +30,8 @@ use Rattle.bump_core.specs.Events.{is_enabled, after, next_chunk, next_life, lin
 use Rattle.bump_core.proofs.Replay.{replay_push, standing_push, are_of_push}
 use Rattle.bump_core.proofs.Tiles.{class_kept, tiles_kept, class_within, class_owns, owner, owned_in_range}
 use Rattle.bump_core.proofs.Updates.{total_kept}
-use Rattle.bump_core.proofs.Fronts.{first_split, unused_front, unused_head}
+use Rattle.bump_core.proofs.PlainLists.{first_split}
+use Rattle.bump_core.proofs.Fronts.{unused_front, unused_head}
 use Rattle.bump_core.proofs.Facts.{held_by, held_here, linked_in_range, unused_unreferred, waiting_linked}
 use Rattle.bump_core.proofs.Frames.{worker_lawful, alone_kept}
 use Rattle.bump_core.proofs.Enabled.{none_applies, cleared_from}

@@ -29,7 +29,8 @@ use Rattle.bump_core.specs.Worlds.{IsLawful, WaitsToMove, owns, place}
 use Rattle.bump_core.proofs.Enabled.{by_test, by_value, cleared_from, chunk_from, worker_from}
 use Rattle.bump_core.proofs.Running.{by_run}
 use Rattle.bump_core.proofs.Updates.{same_read}
-use Rattle.bump_core.proofs.Fronts.{first_split, unused_front}
+use Rattle.bump_core.proofs.PlainLists.{first_split}
+use Rattle.bump_core.proofs.Fronts.{unused_front}
 use Rattle.bump_core.proofs.Facts.{linked_in_range, waiting_linked}
 use Rattle.bump_core.proofs.Laws.{used_where_linked}
 use Rattle.bump_core.proofs.Moving.{chunk_changed, chunk_unchanged, place_unchanged}
