@@ -12,6 +12,7 @@ use Rattle.bump_core.specs.State.{State, WorkerState, head, worker, with_head, w
 use Rattle.bump_core.specs.Events.{one_more, one_fewer, cleared_head, is_under_limit, waiting, is_enabled, after, reserve, drop_refs, drop_busy, push, drop_full, unmark}
 use Rattle.bump_core.specs.Worlds.{in_hand_of, bumps_of, references, first_hits_of, place, IsLawful}
 use Rattle.bump_core.proofs.Laws.{relawful, referred, unreferred, marked}
+use Rattle.bump_core.proofs.Ring.{in_ring_push}
 use Rattle.bump_core.proofs.Updates.{count_push}
 use Rattle.bump_core.proofs.Facts.{one_if_elsewhere, one_if_at, one_if_not_at, referred_used, tried_referred, tried_in_range, tried_current, in_hand_in_range, in_hand_current, cleared_in_range, received_within}
 use Rattle.bump_core.proofs.Frames.{worker_lawful, both_lawful_off_lane, references_after, first_hits_after, alone_kept}
@@ -80,10 +81,6 @@ drop_busy_lawful s w l o inside is = let was = o.workers w inside in
     (record { prefix = was.prefix; room = was.room; applied = was.applied; accepted = was.accepted; attempted = omega (arith, was.attempted, ap attempts_of is); most = was.most })
     (alone_kept s w y inside o refl)
     (o.waits w inside)
-
--- a ring with one more bump at its end
-pub in_ring_push : (x y : WorkerState) (l : ItemId) → length x.received ≤ length x.sent → y.received ≡ x.received → y.sent ≡ x.sent ++ l ∷ [] → in_ring y ≡ in_ring x ++ l ∷ []
-in_ring_push x y l below received sent = (λ i. drop (length (received i)) (sent i)) ∙ drop-append-le (length x.received) x.sent (l ∷ []) below
 
 -- where the ring has room it takes the bump in the worker's hand
 pub push_lawful : (s : State) (w : ℕ) (l : ItemId) → IsLawful s → w < length s.workers → (worker s w).hand ≡ hand.InHand l → waiting (worker s w) < s.capacity → IsLawful (push s w l)

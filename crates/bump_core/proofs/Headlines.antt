@@ -13,12 +13,8 @@ use Rattle.bump_core.specs.State.{State, WorkerState, class, worker}
 use Rattle.bump_core.specs.Worlds.{owns, place, place_in, IsLawful}
 use Rattle.bump_core.proofs.Facts.{referred_in_range, referred_used}
 use Rattle.bump_core.proofs.Fronts.{times_in, never_at}
+use Rattle.bump_core.proofs.Ring.{numbered_append}
 use Rattle.bump_core.proofs.SixLists.{is_place, other_place, one_place}
-
--- two lists numbered from a number: the second goes on where the first ends
-numbered_append : (n : ℕ) (xs ys : List ItemId) (k : ℕ) → k ≡ n + length xs → numbered_from n (xs ++ ys) ≡ numbered_from n xs ++ numbered_from k ys
-numbered_append n [] ys k e = ap (λ (j : ℕ). numbered_from j ys) (let same : n ≡ k = omega arith in same)
-numbered_append n (x ∷ xs) ys k e = ap (λ (bs : List Bump). bump_of n x ∷ bs) (numbered_append (suc n) xs ys k (omega arith))
 
 -- a lawful worker's lane applies what its ring accepted, in order
 pub applies_in_order : (capacity : ℕ) (x : WorkerState) → IsWorker capacity x → AppliesInOrder x

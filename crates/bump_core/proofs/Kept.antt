@@ -1,8 +1,15 @@
--- No event unlinks an item.
+-- Where nothing was unlinked: no event unlinks an item, and a chunk with a reference is linked.
 use Rattle.std.proofs.Common.{◌≡◌, ℕ, ◌<◌, Bool, true, false, List, [], ◌∷◌, ◌++◌, length, Option, Some, None, sym, ap, ◌∙◌, subst, arith, if◌then◌else◌}
 use Rattle.std.specs.Option.{option_map_or}
 use Rattle.std.proofs.lemmas.List.{get_or-set_same, get_or-set_other, length-set}
 use native.Mathlib.Decide.{ℕ_discrete}
+use Rattle.std.proofs.Common.{cond, eqb}
+use Rattle.bump_core.specs.declared.items.Head.{Head}
+use Rattle.bump_core.specs.declared.places.Place.{Place}
+use Rattle.bump_core.specs.declared.places.Place.TheVariants.{Hot, Warm, Cold, Dying, Unused, Retired}
+use Rattle.bump_core.specs.declared.places.Segment.{Segment}
+use Rattle.bump_core.specs.Lawful.{Shows, IsUsed}
+use Rattle.bump_core.specs.History.{place_of, Standing, standing_from}
 use Rattle.bump_core.specs.declared.history.Change.{Change}
 use Rattle.bump_core.specs.declared.history.Change.TheVariants as change
 use Rattle.bump_core.specs.declared.history.Cause.TheVariants.{Pull, Bump as BumpOf}
@@ -11,8 +18,10 @@ use Rattle.bump_core.specs.declared.events.Event.{Event}
 use Rattle.bump_core.specs.declared.events.Event.TheVariants as event
 use Rattle.bump_core.specs.State.{State, ClassState, class, worker, no_class, with_change, class_with_change, head, class_of, tried_life, life_in_hand, cleared_life}
 use Rattle.bump_core.specs.Lives.{life}
-use Rattle.bump_core.specs.Worlds.{NoneUnlinked, NothingUnlinked}
+use Rattle.bump_core.specs.Worlds.{place, references, IsLawful, NoneUnlinked, NothingUnlinked}
 use Rattle.bump_core.specs.Events.{after, reserve, drop_refs, drop_busy, push, drop_full, unmark, with_label, with_time, link, take_bump, clear_for, move_for, alight, next_chunk, next_life, next_bump, carried, applied_now, tried, cleared_active, lane_outcome}
+use Rattle.bump_core.proofs.Facts.{referred_in_range, referred_used}
+use Rattle.bump_core.proofs.Tiles.{class_within}
 use Rattle.bump_core.proofs.Enabled.{by_test, by_value}
 
 -- a history with one more entry that unlinks nothing
@@ -64,3 +73,46 @@ nothing_unlinked s (event.BumpTime w t) n = by_value NothingUnlinked _ (applied_
 nothing_unlinked s (event.ClearFor w) n = by_value NothingUnlinked (clear_for s w) (tried (worker s w).lane) s (λ b is. n) n
 nothing_unlinked s (event.MoveFor w) n = by_value NothingUnlinked (move_for s w) (cleared_active (worker s w).lane) s (λ b is. kept_change s (class_of s b.life.chunk) (change.Moved b.life segment.Cold segment.Warm (BumpOf w b.number)) tt n) n
 nothing_unlinked s (event.Alight w) n = by_value NothingUnlinked _ (applied_now (worker s w).lane) s (λ b is. by_value NothingUnlinked (alight s w b) (lane_outcome s w) s (λ o is. n) n) n
+
+-- Where nothing was unlinked, a chunk with a reference is linked.
+
+-- the place is not one of those to which items go that were unlinked
+abbrev NotEnded : Place → Type 0
+NotEnded Dying = ⊥
+NotEnded Retired = ⊥
+NotEnded _ = Unit {0}
+
+-- of two such standings each is one
+not_ended_if : (b : Bool) (x y : Standing) → NotEnded x.0 → NotEnded y.0 → NotEnded (cond b x y).0
+not_ended_if true x y here there = here
+not_ended_if false x y here there = there
+
+-- the list of a segment is such a place
+not_ended_at : (to : Segment) → NotEnded (place_of to)
+not_ended_at segment.Hot = tt
+not_ended_at segment.Warm = tt
+not_ended_at segment.Cold = tt
+
+-- a history without an unlink leaves a chunk at such a place
+stands_on : (c : ℕ) (from : Standing) (es : List Change) → NotEnded from.0 → NoneUnlinked es → NotEnded (standing_from c from es).0
+stands_on c from [] on none = on
+stands_on c from (change.Linked l ∷ es) on none = stands_on c (cond (eqb l.chunk c) (Hot, l.generation) from) es (not_ended_if (eqb l.chunk c) (Hot, l.generation) from tt on) none
+stands_on c from (change.Moved l old to cause ∷ es) on none =
+    stands_on c (cond (eqb l.chunk c) (place_of to, l.generation) from) es (not_ended_if (eqb l.chunk c) (place_of to, l.generation) from (not_ended_at to) on) none
+stands_on c from (change.Unlinked l ∷ es) on none = absurd none
+stands_on c from (change.Swept l ∷ es) on none = absurd none
+stands_on c from (change.Retired l ∷ es) on none = absurd none
+
+-- a chunk at such a place that isn't free is linked
+linked_shown : (h : Head) (p : Place) → Shows h p → IsUsed p → NotEnded p → h.linked ≡ true
+linked_shown h Hot shows used on = shows.0
+linked_shown h Warm shows used on = shows.0
+linked_shown h Cold shows used on = shows.0
+linked_shown h Dying shows used on = absurd on
+linked_shown h Unused shows used on = absurd used
+linked_shown h Retired shows used on = absurd on
+
+-- a chunk with a reference is linked
+pub referred_linked : (s : State) → IsLawful s → NothingUnlinked s → (c g : ℕ) → 0 < references s c g → (head s c).linked ≡ true
+referred_linked s o none c g some = linked_shown (head s c) (place s c) (o.chunks c).shown (referred_used s o c g some)
+    (stands_on c (Unused, 0) (class s (class_of s c)).history tt (none (class_of s c) (class_within s o.tiles c (referred_in_range s o c g some))))

@@ -19,21 +19,11 @@ use Rattle.bump_core.specs.Rings.{in_ring, aboard, bump_applied, numbered_from, 
 use Rattle.bump_core.specs.State.{State, WorkerState, chunk, head, worker, class_of, with_head, with_worker, is_worker, some_and, applied_life, is_under_application}
 use Rattle.bump_core.specs.Events.{with_time, one_fewer, cleared_head, next_bump, bump_of, carried, tried, applied_now, is_empty, lane_chunk, lane_outcome, is_enabled, after, take_bump, with_lane, clear_for, applied_bump, alight}
 use Rattle.bump_core.specs.Worlds.{aboard_of, bumps_of, references, first_hits_of, place, WaitsToMove, IsLawful}
+use Rattle.bump_core.proofs.Ring.{next_in_ring, numbered_append}
 use Rattle.bump_core.proofs.Laws.{relawful, unreferred, marked}
 use Rattle.bump_core.proofs.Facts.{one_if_same, one_if_elsewhere, one_if_at, one_if_not_at, linked_in_range, aboard_in_range, aboard_current}
-use Rattle.bump_core.proofs.Frames.{worker_lawful, both_lawful, references_after, first_hits_after, alone_kept, chunk_here}
+use Rattle.bump_core.proofs.Frames.{worker_lawful, both_lawful, references_after, first_hits_after, alone_kept, chunk_here, time_lawful}
 use Rattle.bump_core.proofs.Enabled.{some_and_parts, lawful_by_some, empty_from, carrying_from, tried_from, cold_from, worker_from, none_applies, applied_by_outcome}
-use Rattle.bump_core.proofs.Frames.{time_lawful}
-
--- one more life at the end is numbered next
-pub numbered_push : (n : ℕ) (ls : List ItemId) (l : ItemId) (k : ℕ) → k ≡ n + length ls → numbered_from n (ls ++ l ∷ []) ≡ numbered_from n ls ++ bump_of k l ∷ []
-numbered_push n [] l k e = ap (λ j. bump_of j l ∷ []) (let same : n ≡ k = omega arith in same)
-numbered_push n (m ∷ ls) l k e = ap (λ bs. bump_of n m ∷ bs) (numbered_push (suc n) ls l k (omega arith))
-
--- the next bump is the first in the ring, and the rest stays there
-pub next_in_ring : (x : WorkerState) (l : ItemId) → next_bump x ≡ Some l → in_ring x ≡ l ∷ drop (suc (length x.received)) x.sent
-next_in_ring x l is = drop-cons x.sent (length x.received) l (slice_get_within x.sent (length x.received) l is)
-    ∙ ap (λ m. m ∷ drop (suc (length x.received)) x.sent) (get_or_from_slice_get x.sent (length x.received) l l is)
 
 -- a lane with no bump aboard takes the next one from the ring
 pub take_bump_lawful : (s : State) (w : ℕ) (l : ItemId) → IsLawful s → w < length s.workers → (worker s w).lane ≡ lane.Empty → next_bump (worker s w) ≡ Some l → IsLawful (take_bump s w l)
@@ -45,7 +35,7 @@ take_bump_lawful s w l o inside empty next = worker_lawful s w y o inside
       prefix = was.prefix ∙ ap (λ xs. (worker s w).received ++ xs) was_ring ∙ sym (append_assoc (worker s w).received (l ∷ []) rest) ∙ ap (λ xs. ((worker s w).received ++ l ∷ []) ++ xs) (sym ring);
       room = omega (arith, was.room, ap length was_ring, ap length ring);
       applied = ap (λ bs. bs ++ bump_of (length (worker s w).received) l ∷ []) (sym (append-nil (map bump_applied (worker s w).applied)) ∙ ap (λ x. map bump_applied (worker s w).applied ++ aboard x) (sym empty) ∙ was.applied)
-          ∙ sym (numbered_push 0 (worker s w).received l (length (worker s w).received) (omega arith));
+          ∙ sym (numbered_append 0 (worker s w).received (l ∷ []) (length (worker s w).received) (omega arith));
       accepted = was.accepted;
       attempted = was.attempted;
       most = was.most;

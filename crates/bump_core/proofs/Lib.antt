@@ -5,7 +5,6 @@ pub mod Frames
 pub mod Fronts
 pub mod Headlines
 pub mod Kept
-pub mod LaneReaches
 pub mod Laning
 pub mod Laws
 pub mod Made
@@ -14,13 +13,13 @@ pub mod MadeCalls
 pub mod MadeHits
 pub mod MadeParts
 pub mod Moving
-pub mod NextReaches
 pub mod Openings
 pub mod PlainLists
 pub mod Putting
 pub mod Reaches
 pub mod Readers
 pub mod Replay
+pub mod Ring
 pub mod Running
 pub mod SixLists
 pub mod Sizes

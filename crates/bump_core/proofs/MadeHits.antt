@@ -20,6 +20,7 @@ use Rattle.bump_core.specs.Rings.{most_attempts}
 use Rattle.bump_core.specs.Events.{is_enabled, after, may_hit, is_under_limit, waiting, one_more, one_fewer, active_head, cleared_head, reserve, drop_refs, push, drop_full, unmark, mark}
 use Rattle.bump_core.specs.Runs.{run_of}
 use Rattle.bump_core.specs.Commands.{is_allowed, events_of, command_after, hit_at, dropped_at, attempt, hit, is_exhausted, hit_events, attempt_events}
+use Rattle.bump_core.proofs.Enabled.{idle_from}
 use Rattle.bump_core.proofs.Running.{run_step}
 use Rattle.bump_core.proofs.MadeParts.{at, chunk_at, worker_at, is_worker_at, on_worker, on_both}
 
@@ -88,13 +89,6 @@ module _ (s : State) (l : ItemId) (w : ℕ) (c_in : l.chunk < length s.chunks) (
       (and_from _ _ (is_worker_at s l.chunk w c_in w_in ks x y) (ap (some_and (λ (m : ItemId). true)) life))
       (ap (λ o. option_map_or (unmark t w) o t) life
       ∙ on_both s l.chunk w c_in w_in ks x y (λ a. record a { head = cleared_head a.head }) (λ a b. record b { hand = hand.Idle }))
-
--- the hand of an Idle worker
-idle_is : (x : Hand) → is_idle x ≡ true → x ≡ hand.Idle
-idle_is hand.Idle is = refl
-idle_is (hand.Trying m) is = absurd (let u : ⊥ = cc in u)
-idle_is (hand.InHand m) is = absurd (let u : ⊥ = cc in u)
-idle_is (hand.Clearing m) is = absurd (let u : ⊥ = cc in u)
 
 -- one reference more, and then one fewer
 back_again : (n : ℕ) → n + 1 - 1 ≡ n
@@ -249,5 +243,5 @@ touch_made s o w l now allowed = by (is_exhausted s w) refl
     by true done = refl
     by false still =
         let idle : is_idle (worker s w).hand ≡ true = ap (λ (b : Bool). b || is_idle (worker s w).hand) (sym still) ∙ more.1 in
-        hit_made s w l now w_in c_in free.0 (omega (arith, ltb-true (workers_on s l) (chunk s l.chunk).holds free.1)) opened.1 (idle_is (worker s w).hand idle)
+        hit_made s w l now w_in c_in free.0 (omega (arith, ltb-true (workers_on s l) (chunk s l.chunk).holds free.1)) opened.1 (idle_from (worker s w).hand idle)
         (and_from _ _ both.0 (and_from _ _ idle more.0)) (few_where (worker s w).accounts.attempted (o.workers w w_in).most still)

@@ -3,7 +3,7 @@ use Rattle.std.proofs.Common.{◌≡◌, ℕ, zero, suc, ◌+◌, ◌-◌, ◌<�
 use Rattle.std.specs.Prelude.{◌==◌, replicate, is_none, nat_le, nat_lt}
 use Rattle.std.specs.List.{list_any}
 use Rattle.std.proofs.Common.{eq-eqb, ne_eqb}
-use Rattle.std.proofs.lemmas.Bool.{and_parts, leb-true}
+use Rattle.std.proofs.lemmas.Bool.{and_parts, or_parts, leb-true}
 use native.Mathlib.Decide.{ℕ_discrete}
 use Rattle.std.proofs.lemmas.List.{length-replicate}
 use Rattle.bump_core.specs.declared.configs.ClassConfig.{ClassConfig}
@@ -22,7 +22,7 @@ use Rattle.bump_core.specs.State.{State, WorkerState, head, no_chunk, no_class, 
 use Rattle.bump_core.specs.Opening.{fresh_chunk, classes_from, new_state}
 use Rattle.bump_core.specs.Worlds.{IsLawful, NoneUnlinked, IsClass, Tiles, references, first_hits_of, holds_of, bumps_of, place, WaitsToMove}
 use Rattle.bump_core.proofs.Steps.{Keeps}
-use Rattle.bump_core.proofs.Views.{set_where_not}
+use Rattle.std.proofs.lemmas.Bool.{not-false}
 
 -- the chunks from one on are it and those from the next one on
 pub ascending_more : (c end : ℕ) → c < end → ascending c (end - c) ≡ c ∷ ascending (c + 1) (end - (c + 1))
@@ -133,10 +133,6 @@ module _ (config : Config) (early : config.first_generation < 4294967296) (two :
   pub keeps_new : Keeps s
   keeps_new = (lawful, λ k within. subst NoneUnlinked (sym (class_new 0 config.classes k).1) tt)
 
-neither : (a b : Bool) → (a || b) ≡ false → (a ≡ false) × (b ≡ false)
-neither true b e = absurd (let u : ⊥ = cc in u)
-neither false b e = (refl, e)
-
 -- a World made from a configuration without faults does
 pub keeps_valid : (config : Config) → config.first_generation < 4294967296 → is_none (first_fault config.workers config.capacity config.refs_limit config.first_generation config.classes) ≡ true → Keeps (new_state config)
 keeps_valid config early valid =
@@ -147,5 +143,5 @@ keeps_valid config early valid =
     let classes = clear (not (is_within 1 16 (length config.classes))) Classes _ generation.1 in
     let chunks = clear _ Chunks _ classes.1 in
     keeps_new config early
-    (leb-true 2 config.refs_limit (and_parts (nat_le 2 config.refs_limit) (nat_le config.refs_limit 65535) (set_where_not _ limit.0)).0)
-    (all_have_chunks config.classes (neither (list_any (λ k. k.chunks == 0) config.classes) (nat_lt 1000000 (chunks_of config.classes)) chunks.0).0)
+    (leb-true 2 config.refs_limit (and_parts (nat_le 2 config.refs_limit) (nat_le config.refs_limit 65535) (not-false _ limit.0)).0)
+    (all_have_chunks config.classes (or_parts (list_any (λ k. k.chunks == 0) config.classes) (nat_lt 1000000 (chunks_of config.classes)) chunks.0).0)
