@@ -1,7 +1,7 @@
 -- What an event leaves as it was: a state in which one chunk and one worker changed is lawful where these are.
 use Rattle.std.proofs.Common.{eq-eqb, ne_eqb, ◌≡◌, ℕ, ◌+◌, ◌<◌, ◌≤◌, ◌≢◌, true, false, cond, eqb, List, length, slice_index_or, slice_set, refl, sym, ap, ◌∙◌, subst, Some, arith}
 use Rattle.std.proofs.lemmas.List.{get_or-set_same, get_or-set_other, length-set}
-use Rattle.std.proofs.Common.{inl, inr}
+use Rattle.std.proofs.Common.{Bool, inl, inr}
 use Rattle.std.proofs.lemmas.Bool.{cases_lt}
 use Rattle.std.proofs.lemmas.List.{set_past}
 use mathlib.Core.Logic.{dite}
@@ -11,15 +11,15 @@ use Rattle.bump_core.specs.declared.items.Head.{Head}
 use Rattle.bump_core.specs.declared.chunks.Chunk.{Chunk}
 use Rattle.bump_core.specs.declared.lanes.Lane.{Lane}
 use Rattle.bump_core.specs.declared.lanes.Lane.TheVariants as lane
-use Rattle.bump_core.specs.Lawful.{Lawful}
-use Rattle.bump_core.specs.Lives.{life, count_of}
+use Rattle.bump_core.specs.Lawful.{bit, Lawful}
+use Rattle.bump_core.specs.Lives.{life, one_if, count_of}
 use Rattle.bump_core.specs.Totals.{total}
 use Rattle.bump_core.specs.Rings.{IsWorker}
 use Rattle.bump_core.specs.State.{State, WorkerState, chunk, head, worker, no_chunk, new_worker, with_chunk, with_head, with_worker, class_of, is_on, workers_on, applied_life}
-use Rattle.bump_core.specs.Events.{with_time, with_label}
+use Rattle.bump_core.specs.Events.{one_fewer, with_time, with_label}
 use Rattle.bump_core.specs.Worlds.{holds_of, bumps_of, references, first_hits_of, place, Tiles, WaitsToMove, IsLawful}
-use Rattle.bump_core.proofs.Laws.{relawful}
-use Rattle.bump_core.proofs.Facts.{held_by}
+use Rattle.bump_core.proofs.Laws.{relawful, marked, unreferred}
+use Rattle.bump_core.proofs.Facts.{held_by, one_if_elsewhere, one_if_at, one_if_not_at}
 use Rattle.bump_core.proofs.Updates.{same_read, total_written}
 
 -- the state with other chunks and workers
@@ -53,6 +53,21 @@ waits_framed s t linked segments (lane.Tried b) waits = tt
 waits_framed s t linked segments (lane.Cleared b true) waits = (linked b.life.chunk ∙ waits.0, segments b.life.chunk ∙ waits.1)
 waits_framed s t linked segments (lane.Cleared b false) waits = tt
 waits_framed s t linked segments (lane.Moved b) waits = tt
+
+-- One chunk changed: where it changed the new chunk is read.
+pub chunk_here : (s : State) (c : ℕ) (x : Chunk) → c < length s.chunks → chunk (with_chunk s c x) c ≡ x
+chunk_here s c x within = get_or-set_same s.chunks c x no_chunk within
+
+-- What is as before for the chunk is as before for all.
+pub each_chunk : (s : State) (c : ℕ) (x : Chunk) → {A : Type 0} (f : Chunk → A) → f x ≡ f (chunk s c) → (d : ℕ) → f (chunk (with_chunk s c x) d) ≡ f (chunk s d)
+each_chunk s c x f same d = same_read f s.chunks c x no_chunk same d
+
+-- A lane that waits does so where one head changed, and neither LINKED nor the segment bits.
+pub waits_kept : (s : State) (c : ℕ) (h : Head) (w : ℕ) → IsLawful s → w < length s.workers → h.linked ≡ (head s c).linked → h.segment ≡ (head s c).segment → WaitsToMove (with_head s c h) (worker s w).lane
+waits_kept s c h w o within linked segments = waits_framed s (with_head s c h)
+    (each_chunk s c (record (chunk s c) { head = h }) (λ z. z.head.linked) linked)
+    (each_chunk s c (record (chunk s c) { head = h }) (λ z. z.head.segment) segments)
+    (worker s w).lane (o.waits w within)
 
 -- One worker changed.
 module _ (s : State) (w : ℕ) (y : WorkerState) (within : w < length s.workers) where
@@ -110,14 +125,6 @@ worker_lawful s w y o within bumps hits hands lawful alone waits = record {
   alone = alone_after s w y within o alone;
   waits = each_worker s w y within (λ x. WaitsToMove s x.lane) waits o.waits;
 }
-
--- One chunk changed: where it changed the new chunk is read.
-pub chunk_here : (s : State) (c : ℕ) (x : Chunk) → c < length s.chunks → chunk (with_chunk s c x) c ≡ x
-chunk_here s c x within = get_or-set_same s.chunks c x no_chunk within
-
--- What is as before for the chunk is as before for all.
-pub each_chunk : (s : State) (c : ℕ) (x : Chunk) → {A : Type 0} (f : Chunk → A) → f x ≡ f (chunk s c) → (d : ℕ) → f (chunk (with_chunk s c x) d) ≡ f (chunk s d)
-each_chunk s c x f same d = same_read f s.chunks c x no_chunk same d
 
 -- One chunk changed, and no worker.
 pub chunk_lawful : (s : State) (c : ℕ) (x : Chunk) → IsLawful s → c < length s.chunks
@@ -209,8 +216,7 @@ module _ (s : State) (c : ℕ) (h : Head) (w : ℕ) (y : WorkerState) (within_ch
     classes = o.classes;
     workers = each_worker s w y within (IsWorker s.capacity) new o.workers;
     alone = alone_after s w y within o alone;
-    waits = each_worker s w y within (λ x. WaitsToMove (with_head s c h) x.lane) waits (λ v inside.
-        waits_framed s (with_head s c h) (each_chunk s c (record (chunk s c) { head = h }) (λ z. z.head.linked) linked) (each_chunk s c (record (chunk s c) { head = h }) (λ z. z.head.segment) segments) (worker s v).lane (o.waits v inside));
+    waits = each_worker s w y within (λ x. WaitsToMove (with_head s c h) x.lane) waits (λ v inside. waits_kept s c h v o inside linked segments);
   }
 
   -- the same where the worker's lane is as before
@@ -224,7 +230,58 @@ module _ (s : State) (c : ℕ) (h : Head) (w : ℕ) (y : WorkerState) (within_ch
       → IsLawful (with_worker (with_head s c h) w y)
   both_lawful_off_lane o lanes linked segments bumps hits lawful hands new = both_lawful o linked segments bumps hits lawful hands new
       (alone_kept s w y within o (ap applied_life lanes))
-      (subst (WaitsToMove (with_head s c h)) (sym lanes) (waits_framed s (with_head s c h)
-      (each_chunk s c (record (chunk s c) { head = h }) (λ z. z.head.linked) linked)
-      (each_chunk s c (record (chunk s c) { head = h }) (λ z. z.head.segment) segments)
-      (worker s w).lane (o.waits w within)))
+      (subst (WaitsToMove (with_head s c h)) (sym lanes) (waits_kept s c h w o within linked segments))
+
+-- One head's ACTIVE changed, and one worker that has the bumps and the first hits that it had.
+pub both_marked : (s : State) (c : ℕ) (b : Bool) (w : ℕ) (y : WorkerState) → IsLawful s → c < length s.chunks → w < length s.workers
+    → bit b ≤ bit (head s c).fetched
+    → ((l : ItemId) → bumps_of l y ≡ bumps_of l (worker s w))
+    → ((l : ItemId) → hits_in l y ≡ hits_in l (worker s w))
+    → ((l : ItemId) → workers_on s l + is_on l y.hand ≤ holds_of s l + is_on l (worker s w).hand)
+    → IsWorker s.capacity y
+    → ((v : ℕ) (l m : ItemId) → v < length s.workers → v ≢ w → applied_life (worker s v).lane ≡ Some l → applied_life y.lane ≡ Some m → class_of s l.chunk ≡ class_of s m.chunk → ⊥)
+    → WaitsToMove (with_head s c (record (head s c) { active = b })) y.lane
+    → IsLawful (with_worker (with_head s c (record (head s c) { active = b })) w y)
+both_marked s c b w y o within inside below bumps hits hands new alone waits = both_lawful s c h w y within inside refl o refl refl (λ l ne. bumps l) (λ l ne. hits l)
+    (relawful s.refs_limit h (place s c) (references s c) (first_hits_of s c)
+    (marked s.refs_limit (head s c) (place s c) (references s c) (first_hits_of s c) (o.chunks c) b below)
+    (references t c) (first_hits_of t c)
+    (λ g. omega (arith, references_after s c h w y within inside refl c g, bumps (life c g)))
+    (λ g. omega (arith, first_hits_after s c h w y within inside refl c g, hits (life c g))))
+    hands new alone waits
+  where
+    h : Head
+    h = record (head s c) { active = b }
+
+    t : State
+    t = with_worker (with_head s c h) w y
+
+-- One reference to a chunk's life given back by the worker whose bump had it.
+pub both_unreferred : (s : State) (l : ItemId) (w : ℕ) (y : WorkerState) → IsLawful s → l.chunk < length s.chunks → w < length s.workers → l.generation ≡ (head s l.chunk).generation
+    → ((m : ItemId) → bumps_of m y + one_if m l ≡ bumps_of m (worker s w))
+    → ((m : ItemId) → hits_in m y ≡ hits_in m (worker s w))
+    → ((m : ItemId) → workers_on s m + is_on m y.hand ≤ holds_of s m + is_on m (worker s w).hand)
+    → IsWorker s.capacity y
+    → ((v : ℕ) (k m : ItemId) → v < length s.workers → v ≢ w → applied_life (worker s v).lane ≡ Some k → applied_life y.lane ≡ Some m → class_of s k.chunk ≡ class_of s m.chunk → ⊥)
+    → WaitsToMove (with_head s l.chunk (one_fewer (head s l.chunk))) y.lane
+    → IsLawful (with_worker (with_head s l.chunk (one_fewer (head s l.chunk))) w y)
+both_unreferred s l w y o within inside current bumps hits hands new alone waits = both_lawful s l.chunk h w y within inside refl o refl refl
+    (λ m ne. omega (arith, bumps m, one_if_elsewhere m l ne))
+    (λ m ne. hits m)
+    (relawful s.refs_limit h (place s l.chunk) (references t l.chunk) (first_hits_of s l.chunk)
+    (unreferred s.refs_limit (head s l.chunk) (place s l.chunk) (references s l.chunk) (first_hits_of s l.chunk) (o.chunks l.chunk) (references t l.chunk)
+    (omega (arith, refers (head s l.chunk).generation, one_if_at l (head s l.chunk).generation (sym current)))
+    (λ g ne. omega (arith, refers g, one_if_not_at l g (λ e. ne (e ∙ current)))))
+    (references t l.chunk) (first_hits_of t l.chunk)
+    (λ g. refl)
+    (λ g. omega (arith, first_hits_after s l.chunk h w y within inside refl l.chunk g, hits (life l.chunk g))))
+    hands new alone waits
+  where
+    h : Head
+    h = one_fewer (head s l.chunk)
+
+    t : State
+    t = with_worker (with_head s l.chunk h) w y
+
+    refers : (g : ℕ) → references t l.chunk g + one_if (life l.chunk g) l ≡ references s l.chunk g
+    refers g = omega (arith, references_after s l.chunk h w y within inside refl l.chunk g, bumps (life l.chunk g))

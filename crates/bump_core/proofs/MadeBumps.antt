@@ -110,13 +110,15 @@ module _ (s : State) (b : Bump) (w : ℕ) (c_in : b.life.chunk < length s.chunks
 -- A bump that a lane carries, of a linked chunk, while no lane applies one of its class.
 module _ (s : State) (b : Bump) (w now : ℕ) (c_in : b.life.chunk < length s.chunks) (w_in : w < length s.workers) (on : (head s b.life.chunk).linked ≡ true)
     (rest : is_under_application s (class_of s b.life.chunk) ≡ false) (received : List ItemId) where
-  -- the head, the chunk and the worker
+  -- the chunk's number
   abbrev c : ℕ
   c = b.life.chunk
 
+  -- its head
   abbrev h : Head
   h = head s c
 
+  -- the chunk
   abbrev x : Chunk
   x = chunk s c
 

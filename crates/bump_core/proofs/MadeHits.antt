@@ -110,13 +110,15 @@ fetched_again s w l set = cond-true (head s l.chunk).fetched _ _ set
 -- A hit of an Idle worker on a life that has a free hold.
 module _ (s : State) (w : ℕ) (l : ItemId) (now : ℕ) (w_in : w < length s.workers) (c_in : l.chunk < length s.chunks) (current : is_current s l ≡ true) (some : 0 < (chunk s l.chunk).holds)
     (takes : (worker s w).is_open ≡ true) (idle : (worker s w).hand ≡ hand.Idle) (may : may_hit s w l ≡ true) (few : ltb (worker s w).accounts.attempted most_attempts ≡ true) where
-  -- the head, the chunk and the worker that the hit finds
+  -- the head that the hit finds
   abbrev h : Head
   h = head s l.chunk
 
+  -- the chunk
   abbrev x : Chunk
   x = chunk s l.chunk
 
+  -- the worker
   abbrev y : WorkerState
   y = worker s w
 

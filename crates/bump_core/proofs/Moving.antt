@@ -33,6 +33,7 @@ use Rattle.bump_core.proofs.Updates.{total_kept}
 use Rattle.bump_core.proofs.PlainLists.{first_split}
 use Rattle.bump_core.proofs.Fronts.{unused_front, unused_head}
 use Rattle.bump_core.proofs.Facts.{held_by, held_here, linked_in_range, unused_unreferred, waiting_linked}
+use Rattle.bump_core.proofs.Ring.{lane_further}
 use Rattle.bump_core.proofs.Frames.{worker_lawful, alone_kept}
 use Rattle.bump_core.proofs.Enabled.{none_applies, cleared_from}
 use Rattle.bump_core.proofs.Laws.{lawful_same, born, moved}
@@ -229,11 +230,11 @@ move_for_lawful s o w enabled = by (cleared_active (worker s w).lane) refl both.
     within = ltb-true w (length s.workers) both.0
 
     stays : (b : Bump) → (worker s w).lane ≡ lane.Cleared b true → IsLawful (with_lane s w (lane.Moved b))
-    stays b is = let was = o.workers w within in worker_lawful s w (record (worker s w) { lane = lane.Moved b }) o within
+    stays b is = worker_lawful s w (record (worker s w) { lane = lane.Moved b }) o within
         (λ l. omega (arith, ap (aboard_of l) is))
         (λ l. refl)
         (λ l. omega arith)
-        (record { prefix = was.prefix; room = was.room; applied = ap (λ x. map bump_applied (worker s w).applied ++ aboard x) (sym is) ∙ was.applied; accepted = was.accepted; attempted = was.attempted; most = was.most })
+        (lane_further s.capacity (worker s w) (lane.Moved b) (o.workers w within) (sym (ap aboard is)))
         (alone_kept s w (record (worker s w) { lane = lane.Moved b }) within o (sym (ap applied_life is)))
         tt
 

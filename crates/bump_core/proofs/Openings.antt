@@ -37,6 +37,7 @@ ascending_pushed xs ys all c end below pushed so_far = ap (λ (zs : List ℕ). z
 
 -- What a configuration without faults has.
 
+-- a test for a fault that found none failed, and the tests behind it found none
 clear : {A : Type 0} (b : Bool) (x : A) (o : Option A) → is_none (cond b (Some x) o) ≡ true → (b ≡ false) × (is_none o ≡ true)
 clear true x o e = absurd (let u : ⊥ = cc in u)
 clear false x o e = (refl, e)
@@ -46,6 +47,7 @@ abbrev AllHaveChunks : List ClassConfig → Type 0
 AllHaveChunks [] = Unit {0}
 AllHaveChunks (k ∷ ks) = (0 < k.chunks) × AllHaveChunks ks
 
+-- where no class tests as without chunks none is
 all_have_chunks : (ks : List ClassConfig) → list_any (λ k. k.chunks == 0) ks ≡ false → AllHaveChunks ks
 all_have_chunks [] e = tt
 all_have_chunks (k ∷ ks) e = by (ℕ_discrete k.chunks 0) (λ rest. all_have_chunks ks rest)
@@ -77,10 +79,12 @@ chunk_new zero g c few = (0, omega arith, refl)
 chunk_new (suc n) g zero few = (g, few, refl)
 chunk_new (suc n) g (suc c) few = chunk_new n g c few
 
+-- a sum over new workers, where one of them counts nothing
 none_of : (f : WorkerState → ℕ) (n : ℕ) → f new_worker ≡ 0 → total f (replicate n new_worker) ≡ 0
 none_of f zero e = refl
 none_of f (suc n) e = omega (arith, e, none_of f n e)
 
+-- a test between a number and itself
 cond_same : (b : Bool) (n : ℕ) → cond b n n ≡ n
 cond_same true n = refl
 cond_same false n = refl
@@ -103,20 +107,24 @@ new_is_worker : (capacity : ℕ) → IsWorker capacity new_worker
 new_is_worker capacity = record { prefix = refl; room = omega arith; applied = refl; accepted = refl; attempted = omega arith; most = omega arith }
 
 module _ (config : Config) (early : config.first_generation < 4294967296) (two : 2 ≤ config.refs_limit) (all : AllHaveChunks config.classes) where
+  -- the new World
   abbrev s : State
   s = new_state config
 
+  -- no life has references
   references_new : (c g : ℕ) → references s c g ≡ 0
   references_new c g = let fresh = chunk_new (chunks_of config.classes) (config.first_generation - 1) c (omega (arith, early)) in
       let held : holds_of s (life c g) ≡ 0 = ap (λ (x : Chunk). cond (x.head.generation == g) x.holds 0) fresh.2 ∙ cond_same (fresh.0 == g) 0 in
       omega (arith, held, none_of (bumps_of (life c g)) config.workers refl)
 
+  -- each chunk is lawful
   law : (c : ℕ) → Lawful s.refs_limit (head s c) (place s c) (references s c) (first_hits_of s c)
   law c = let fresh = chunk_new (chunks_of config.classes) (config.first_generation - 1) c (omega (arith, early)) in
       subst (λ h. Lawful s.refs_limit h (place s c) (references s c) (first_hits_of s c)) (sym (ap (λ (x : Chunk). x.head) fresh.2))
       (subst (λ p. Lawful s.refs_limit (fresh_head fresh.0) p (references s c) (first_hits_of s c)) (sym (ap (λ es. (standing_from c (Unused, 0) es).0) (class_new 0 config.classes (class_of s c)).1))
       (fresh_lawful s.refs_limit fresh.0 (references s c) (first_hits_of s c) fresh.1 (references_new c) (λ g. none_of (λ x. count_of (life c g) x.first_hits) config.workers refl)))
 
+  -- and so is the World
   lawful : IsLawful s
   lawful = record {
     limit = omega (arith, two);

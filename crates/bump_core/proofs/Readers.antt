@@ -1,5 +1,5 @@
 -- What readers do leaves a lawful state lawful: loads, holds, hits and their time.
-use Rattle.std.proofs.Common.{inl, inr, ◌≡◌, ℕ, ◌+◌, ◌-◌, ◌<◌, true, cond, not, ◌&&◌, nat_lt, [], ◌∷◌, ◌++◌, length, refl, sym, ap, ◌∙◌, arith, eq-eqb, subst}
+use Rattle.std.proofs.Common.{inl, inr, ◌≤◌, ◌≡◌, ℕ, ◌+◌, ◌-◌, ◌<◌, true, cond, not, ◌&&◌, nat_lt, [], ◌∷◌, ◌++◌, length, refl, sym, ap, ◌∙◌, arith, eq-eqb, subst}
 use Rattle.std.proofs.lemmas.Bool.{cases_lt, and_parts, ltb-true}
 use Rattle.std.proofs.lemmas.List.{set_past}
 use mathlib.Core.Logic.{dite}
@@ -19,7 +19,7 @@ use Rattle.bump_core.specs.Worlds.{holds_of, in_hand_of, bumps_of, references, f
 use Rattle.bump_core.proofs.Laws.{used_where_linked, relawful, referred, unreferred, named_first, fetched_again, marked}
 use Rattle.bump_core.proofs.Updates.{count_push}
 use Rattle.bump_core.proofs.Facts.{held_by, held_at, held_here, held_else, one_if_same, one_if_elsewhere, one_if_at, one_if_not_at, one_if_cases}
-use Rattle.bump_core.proofs.Frames.{chunk_here, chunk_lawful, head_lawful, time_lawful, both_lawful_off_lane, references_after, first_hits_after}
+use Rattle.bump_core.proofs.Frames.{alone_kept, waits_kept, both_marked, chunk_here, chunk_lawful, head_lawful, time_lawful, both_lawful_off_lane, references_after, first_hits_after}
 use Rattle.bump_core.proofs.Enabled.{by_test, current_from, free_hold_from, may_hit_from}
 
 -- a linked chunk under the limit gets one more hold
@@ -90,18 +90,17 @@ fetch_lawful s w l o inside within current = by_test IsLawful (head s l.chunk).f
 pub mark_lawful : (s : State) (w : ℕ) (l : ItemId) → IsLawful s → w < length s.workers → (worker s w).hand ≡ hand.Idle → l.chunk < length s.chunks → (head s l.chunk).generation ≡ l.generation
     → workers_on s l < (chunk s l.chunk).holds → (head s l.chunk).fetched ≡ true → (worker s w).accounts.attempted < most_attempts → IsLawful (mark s w l)
 mark_lawful s w l o inside idle within current free fetched few = by_test IsLawful (not (head s l.chunk).active && is_cold (head s l.chunk).segment) (with_worker (with_head s l.chunk h) w y) (with_head s l.chunk h)
-    (λ attempts. both_lawful_off_lane s l.chunk h w y within inside refl o refl refl refl
-    (λ m ne. bumps m)
-    (λ m ne. refl)
-    (relawful s.refs_limit h (place s l.chunk) (references s l.chunk) (first_hits_of s l.chunk) lawful (references t l.chunk) (first_hits_of t l.chunk)
-    (λ g. omega (arith, references_after s l.chunk h w y within inside refl l.chunk g, bumps (life l.chunk g)))
-    (λ g. omega (arith, first_hits_after s l.chunk h w y within inside refl l.chunk g)))
+    (λ attempts. both_marked s l.chunk true w y o within inside set
+    (λ m. omega (arith, ap (in_hand_of m) idle))
+    (λ m. refl)
     (λ m. elim (one_if_cases m l) [
       | inl e ↦ omega (arith, ap (workers_on s) e, ap (holds_of s) e, ap (λ k. one_if k l) e, one_if_same l, held_at (chunk s l.chunk) l.generation current)
       | inr none ↦ omega (arith, o.hands m)
     ])
-    (record { prefix = was.prefix; room = was.room; applied = was.applied; accepted = was.accepted; attempted = omega (arith, was.attempted, ap attempts_of idle); most = omega (arith, few) }))
-    (λ no. head_lawful s l.chunk h o within refl refl refl lawful)
+    (record { prefix = was.prefix; room = was.room; applied = was.applied; accepted = was.accepted; attempted = omega (arith, was.attempted, ap attempts_of idle); most = omega (arith, few) })
+    (alone_kept s w y inside o refl)
+    (waits_kept s l.chunk h w o inside refl refl))
+    (λ no. head_lawful s l.chunk h o within refl refl refl (marked s.refs_limit (head s l.chunk) (place s l.chunk) (references s l.chunk) (first_hits_of s l.chunk) (o.chunks l.chunk) true set))
   where
     h : Head
     h = active_head (head s l.chunk)
@@ -112,14 +111,8 @@ mark_lawful s w l o inside idle within current free fetched few = by_test IsLawf
     was : IsWorker s.capacity (worker s w)
     was = o.workers w inside
 
-    t : State
-    t = with_worker (with_head s l.chunk h) w y
-
-    lawful : Lawful s.refs_limit h (place s l.chunk) (references s l.chunk) (first_hits_of s l.chunk)
-    lawful = marked s.refs_limit (head s l.chunk) (place s l.chunk) (references s l.chunk) (first_hits_of s l.chunk) (o.chunks l.chunk) true (omega (arith, ap bit fetched))
-
-    bumps : (m : ItemId) → bumps_of m y ≡ bumps_of m (worker s w)
-    bumps m = omega (arith, ap (in_hand_of m) idle)
+    set : bit true ≤ bit (head s l.chunk).fetched
+    set = omega (arith, ap bit fetched)
 
 -- The events.
 

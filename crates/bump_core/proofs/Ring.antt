@@ -1,12 +1,13 @@
--- A worker's ring: the bump that it takes, the one that the lane takes next, and the numbers of its bumps.
-use Rattle.std.proofs.Common.{◌≡◌, ℕ, suc, ◌+◌, ◌≤◌, List, [], ◌∷◌, ◌++◌, length, drop, Some, refl, ap, ◌∙◌, arith}
+-- A worker's ring and lane: the bump that the ring takes, the one that the lane takes next, the numbers of bumps, and a lane further on.
+use Rattle.std.proofs.Common.{◌≡◌, ℕ, suc, ◌+◌, ◌≤◌, List, [], ◌∷◌, ◌++◌, length, map, drop, Some, refl, ap, ◌∙◌, arith}
 use Rattle.std.proofs.Math.Seq.{drop-cons}
 use Rattle.std.proofs.lemmas.List.{drop-append-le}
 use Rattle.std.proofs.lemmas.Option.{slice_get_within, get_or_from_slice_get}
 use Rattle.bump_core.specs.declared.items.ItemId.{ItemId}
 use Rattle.bump_core.specs.declared.lanes.Bump.{Bump}
 use Rattle.bump_core.specs.Events.{next_bump, bump_of}
-use Rattle.bump_core.specs.Rings.{in_ring, numbered_from}
+use Rattle.bump_core.specs.Rings.{in_ring, aboard, bump_applied, numbered_from, IsWorker}
+use Rattle.bump_core.specs.declared.lanes.Lane.{Lane}
 use Rattle.bump_core.specs.State.{WorkerState}
 
 -- a ring with one more bump at its end
@@ -22,3 +23,14 @@ next_in_ring x l is = drop-cons x.sent (length x.received) l (slice_get_within x
 pub numbered_append : (n : ℕ) (xs ys : List ItemId) (k : ℕ) → k ≡ n + length xs → numbered_from n (xs ++ ys) ≡ numbered_from n xs ++ numbered_from k ys
 numbered_append n [] ys k e = ap (λ (j : ℕ). numbered_from j ys) (let same : n ≡ k = omega arith in same)
 numbered_append n (x ∷ xs) ys k e = ap (λ (bs : List Bump). bump_of n x ∷ bs) (numbered_append (suc n) xs ys k (omega arith))
+
+-- a lane further on with the same bump keeps its worker lawful
+pub lane_further : (capacity : ℕ) (x : WorkerState) (z : Lane) → IsWorker capacity x → aboard z ≡ aboard x.lane → IsWorker capacity (record x { lane = z })
+lane_further capacity x z was same = record {
+  prefix = was.prefix;
+  room = was.room;
+  applied = ap (λ bs. map bump_applied x.applied ++ bs) same ∙ was.applied;
+  accepted = was.accepted;
+  attempted = was.attempted;
+  most = was.most;
+}
