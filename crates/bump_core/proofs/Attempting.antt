@@ -1,6 +1,5 @@
 -- An attempted bump leaves a lawful state lawful: its reference, its push, and how it is dropped.
-use Rattle.std.proofs.Common.{◌≡◌, ℕ, ◌+◌, ◌<◌, ◌≤◌, true, false, not, nat_lt, [], ◌∷◌, ◌++◌, length, drop, refl, sym, ap, ◌∙◌, arith, append_assoc, length-append, length-drop}
-use Rattle.std.proofs.lemmas.List.{drop-append-le}
+use Rattle.std.proofs.Common.{◌≡◌, ℕ, ◌+◌, ◌<◌, true, false, not, nat_lt, [], ◌∷◌, ◌++◌, length, refl, sym, ap, ◌∙◌, arith, append_assoc, length-append, length-drop}
 use Rattle.std.proofs.lemmas.Bool.{and_parts, ltb-true}
 use Rattle.bump_core.specs.declared.items.ItemId.{ItemId}
 use Rattle.bump_core.specs.declared.bumps.Accounts.{Accounts}
@@ -12,7 +11,7 @@ use Rattle.bump_core.specs.Rings.{in_ring, attempts_of, IsWorker}
 use Rattle.bump_core.specs.State.{State, WorkerState, head, worker, with_head, with_worker, is_on, is_open, is_worker, some_and, tried_life, life_in_hand, cleared_life}
 use Rattle.bump_core.specs.Events.{one_more, one_fewer, cleared_head, is_under_limit, waiting, is_enabled, after, reserve, drop_refs, drop_busy, push, drop_full, unmark}
 use Rattle.bump_core.specs.Worlds.{in_hand_of, bumps_of, references, first_hits_of, place, IsLawful}
-use Rattle.bump_core.proofs.Laws.{relawful, referred, unreferred, marked}
+use Rattle.bump_core.proofs.Laws.{relawful, referred}
 use Rattle.bump_core.proofs.Ring.{in_ring_push}
 use Rattle.bump_core.proofs.Updates.{count_push}
 use Rattle.bump_core.proofs.Facts.{one_if_elsewhere, one_if_at, one_if_not_at, referred_used, tried_referred, tried_in_range, tried_current, in_hand_in_range, in_hand_current, cleared_in_range, received_within}

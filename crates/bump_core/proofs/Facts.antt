@@ -1,6 +1,6 @@
 -- What follows for a lawful state: which numbers are in range, which lives are current, and what the counts are below.
-use Rattle.std.proofs.Common.{Bool, false, if◌then◌else◌, ◌⊎◌, inl, inr, length-append, ◌≡◌, ℕ, suc, ◌+◌, ◌<◌, ◌≤◌, ◌≢◌, true, cond, eqb, List, [], ◌∷◌, length, refl, sym, ap, ◌∙◌, subst, Some, arith, eq-eqb, ne_eqb}
-use Rattle.std.proofs.lemmas.Bool.{le-ltb, and_from, and_left, and_right, cases_lt}
+use Rattle.std.proofs.Common.{Bool, false, ◌⊎◌, inl, inr, length-append, ◌≡◌, ℕ, ◌+◌, ◌<◌, ◌≤◌, ◌≢◌, true, cond, eqb, length, refl, sym, ap, ◌∙◌, subst, Some, arith, eq-eqb, ne_eqb}
+use Rattle.std.proofs.lemmas.Bool.{and_from, and_left, and_right, cases_lt}
 use Rattle.std.proofs.lemmas.List.{get_or_past}
 use mathlib.Core.Logic.{dite}
 use native.Mathlib.Decide.{ℕ_discrete}
@@ -10,14 +10,14 @@ use Rattle.bump_core.specs.declared.lanes.Bump.{Bump}
 use Rattle.bump_core.specs.declared.lanes.Lane.{Lane}
 use Rattle.bump_core.specs.declared.lanes.Lane.TheVariants as lane
 use Rattle.bump_core.specs.declared.workers.Hand.TheVariants as hand
+use Rattle.bump_core.specs.declared.chunks.Chunk.{Chunk}
+use Rattle.bump_core.specs.declared.places.Segment.TheVariants as segment
 use Rattle.bump_core.specs.Lawful.{bit, Shows, IsUsed}
 use Rattle.bump_core.specs.Lives.{life, is_same, one_if, count_of}
 use Rattle.bump_core.specs.Rings.{in_ring, attempts_of}
-use Rattle.bump_core.specs.State.{State, ClassState, chunk, head, worker, class_from, class_of, no_class, new_worker, is_on, applied_life}
+use Rattle.bump_core.specs.State.{State, chunk, head, worker, class_of, no_class, new_worker, is_on, applied_life}
 use Rattle.bump_core.specs.Worlds.{holds_of, in_hand_of, aboard_of, bumps_of, references, first_hits_of, place_in, place, WaitsToMove, IsLawful}
 use Rattle.bump_core.proofs.Tiles.{class_out}
-use Rattle.bump_core.specs.declared.chunks.Chunk.{Chunk}
-use Rattle.bump_core.specs.declared.places.Segment.TheVariants as segment
 use Rattle.bump_core.proofs.Laws.{used_where_linked, none_where_free}
 use Rattle.bump_core.proofs.Updates.{term_within}
 

@@ -1,19 +1,16 @@
 -- Where the chunks of a lawful World stand in the lists of their classes.
-use Rattle.std.proofs.Common.{Option, None, ◌≡◌, ℕ, zero, suc, ◌+◌, ◌-◌, ◌<◌, ◌≤◌, ◌≢◌, ◌&&◌, cond, eqb, Bool, true, false, not, List, [], ◌∷◌, ◌++◌, length, slice_index_or, Some, refl, sym, ap, ap₂, ◌∙◌, subst, arith, eq-eqb, ne_eqb, eqb-true, ◌⊎◌, inl, inr}
-use Rattle.std.proofs.lemmas.Bool.{cases_Bool, cases_lt, and_parts, and_right, both_ways}
+use Rattle.std.proofs.Common.{Option, None, ◌≡◌, ℕ, ◌<◌, ◌≤◌, ◌≢◌, ◌&&◌, cond, eqb, true, false, List, ◌∷◌, length, slice_index_or, Some, refl, sym, ap, ap₂, ◌∙◌, subst, arith, eq-eqb, ◌⊎◌, inl, inr}
+use Rattle.std.proofs.lemmas.Bool.{cases_lt, and_parts, and_right}
 use Rattle.std.specs.List.{remove, position_or_len}
+use Rattle.std.specs.Prelude.{IfSome}
 use Rattle.bump_core.specs.declared.places.Segment.{Segment}
-use Rattle.bump_core.specs.declared.places.Segment.TheVariants as segment
 use Rattle.bump_core.specs.declared.places.Place.{Place}
 use Rattle.bump_core.specs.declared.places.Place.TheVariants.{Hot, Warm, Cold, Dying, Unused, Retired}
-use Rattle.bump_core.specs.declared.items.Head.{Head}
 use Rattle.bump_core.specs.Lawful.{bit, Shows}
 use Rattle.bump_core.specs.History.{place_of}
-use Rattle.bump_core.specs.Lists.{Lists, list_at, without, all_without, put_before, to_front, with_list, times, StandsAt}
-use Rattle.std.specs.Prelude.{IfSome}
-use Rattle.std.proofs.lemmas.List.{get_or_past}
+use Rattle.bump_core.specs.Lists.{list_at, without, all_without, put_before, to_front, with_list, times, StandsAt}
 use Rattle.bump_core.specs.Events.{next_chunk}
-use Rattle.bump_core.specs.State.{State, head, class, no_chunk, class_of, last_of, first_of}
+use Rattle.bump_core.specs.State.{State, head, class, class_of, last_of}
 use Rattle.bump_core.specs.Worlds.{owns, place, place_in, IsLawful}
 use Rattle.bump_core.proofs.Facts.{linked_in_range, unused_shown}
 use Rattle.bump_core.proofs.Laws.{bit_some, placed_where_linked, in_segment}

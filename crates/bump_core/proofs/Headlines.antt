@@ -1,10 +1,8 @@
 -- What the headline says follows from that a World is lawful.
-use Rattle.std.proofs.Common.{◌≡◌, ℕ, suc, ◌+◌, ◌<◌, ◌&&◌, Bool, true, false, List, [], ◌∷◌, ◌++◌, length, map, refl, sym, ap, ◌∙◌, subst, arith, append_assoc}
+use Rattle.std.proofs.Common.{◌≡◌, ℕ, ◌<◌, ◌&&◌, Bool, true, List, ◌++◌, length, map, refl, sym, ap, ◌∙◌, subst, arith, append_assoc}
 use Rattle.bump_core.specs.declared.places.Place.{Place}
 use Rattle.bump_core.specs.declared.places.Place.TheVariants.{Hot, Warm, Cold, Dying, Unused, Retired}
-use Rattle.bump_core.specs.declared.items.ItemId.{ItemId}
 use Rattle.bump_core.specs.declared.lanes.Bump.{Bump}
-use Rattle.bump_core.specs.Events.{bump_of}
 use Rattle.bump_core.specs.Headline.{Headline, AppliesInOrder, times_in_all}
 use Rattle.bump_core.specs.Lawful.{bit, IsUsed}
 use Rattle.bump_core.specs.Lists.{list_at, times}

@@ -1,21 +1,19 @@
 -- Where nothing was unlinked: no event unlinks an item, and a chunk with a reference is linked.
-use Rattle.std.proofs.Common.{◌≡◌, ℕ, ◌<◌, Bool, true, false, List, [], ◌∷◌, ◌++◌, length, Option, Some, None, sym, ap, ◌∙◌, subst, arith, if◌then◌else◌}
-use Rattle.std.specs.Option.{option_map_or}
+use Rattle.std.proofs.Common.{◌≡◌, ℕ, ◌<◌, Bool, true, false, List, [], ◌∷◌, ◌++◌, length, sym, ap, ◌∙◌, subst, arith, cond, eqb}
 use Rattle.std.proofs.lemmas.List.{get_or-set_same, get_or-set_other, length-set}
 use native.Mathlib.Decide.{ℕ_discrete}
-use Rattle.std.proofs.Common.{cond, eqb}
 use Rattle.bump_core.specs.declared.items.Head.{Head}
 use Rattle.bump_core.specs.declared.places.Place.{Place}
 use Rattle.bump_core.specs.declared.places.Place.TheVariants.{Hot, Warm, Cold, Dying, Unused, Retired}
 use Rattle.bump_core.specs.declared.places.Segment.{Segment}
-use Rattle.bump_core.specs.Lawful.{Shows, IsUsed}
-use Rattle.bump_core.specs.History.{place_of, Standing, standing_from}
 use Rattle.bump_core.specs.declared.history.Change.{Change}
 use Rattle.bump_core.specs.declared.history.Change.TheVariants as change
 use Rattle.bump_core.specs.declared.history.Cause.TheVariants.{Pull, Bump as BumpOf}
 use Rattle.bump_core.specs.declared.places.Segment.TheVariants as segment
 use Rattle.bump_core.specs.declared.events.Event.{Event}
 use Rattle.bump_core.specs.declared.events.Event.TheVariants as event
+use Rattle.bump_core.specs.Lawful.{Shows, IsUsed}
+use Rattle.bump_core.specs.History.{place_of, Standing, standing_from}
 use Rattle.bump_core.specs.State.{State, ClassState, class, worker, no_class, with_change, class_with_change, head, class_of, tried_life, life_in_hand, cleared_life}
 use Rattle.bump_core.specs.Lives.{life}
 use Rattle.bump_core.specs.Worlds.{place, references, IsLawful, NoneUnlinked, NothingUnlinked}

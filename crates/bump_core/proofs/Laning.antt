@@ -1,10 +1,9 @@
 -- What a lane does leaves a lawful state lawful, but for the move.
-use Rattle.std.proofs.Common.{◌≡◌, ℕ, suc, ◌+◌, ◌<◌, Bool, true, false, not, ◌&&◌, nat_lt, List, [], ◌∷◌, ◌++◌, map, length, drop, slice_index_or, Some, refl, sym, ap, ◌∙◌, arith, append_assoc, length-append}
+use Rattle.std.proofs.Common.{◌≡◌, ℕ, suc, ◌<◌, Bool, true, false, not, ◌&&◌, nat_lt, List, [], ◌∷◌, ◌++◌, map, length, drop, slice_index_or, Some, refl, sym, ap, ◌∙◌, arith, append_assoc, length-append}
 use Rattle.std.proofs.lemmas.List.{append-nil, map-append}
 use Rattle.std.proofs.lemmas.Bool.{and_parts, ltb-true, not-true}
-use Rattle.std.proofs.lemmas.Option.{slice_get_within, get_or_from_slice_get, slice_get-get_or}
+use Rattle.std.proofs.lemmas.Option.{slice_get-get_or}
 use Rattle.std.specs.Option.{option_map_or}
-use Rattle.std.proofs.Math.Seq.{drop-cons}
 use Rattle.bump_core.specs.declared.places.Segment.TheVariants as segment
 use Rattle.bump_core.specs.declared.items.ItemId.{ItemId}
 use Rattle.bump_core.specs.declared.items.Head.{Head}
@@ -15,14 +14,13 @@ use Rattle.bump_core.specs.declared.lanes.Outcome.{Outcome}
 use Rattle.bump_core.specs.declared.events.Event.TheVariants as event
 use Rattle.bump_core.specs.Lives.{life, one_if, count_of}
 use Rattle.bump_core.specs.Tables.{is_cold}
-use Rattle.bump_core.specs.Rings.{in_ring, aboard, bump_applied, numbered_from, IsWorker}
-use Rattle.bump_core.specs.State.{State, WorkerState, chunk, head, worker, class_of, with_head, with_worker, is_worker, some_and, applied_life, is_under_application}
-use Rattle.bump_core.specs.Events.{with_time, one_fewer, cleared_head, next_bump, bump_of, carried, tried, applied_now, is_empty, lane_chunk, lane_outcome, is_enabled, after, take_bump, with_lane, clear_for, applied_bump, alight}
-use Rattle.bump_core.specs.Worlds.{aboard_of, bumps_of, references, first_hits_of, place, WaitsToMove, IsLawful}
+use Rattle.bump_core.specs.Rings.{in_ring, aboard, bump_applied, IsWorker}
+use Rattle.bump_core.specs.State.{State, WorkerState, chunk, head, worker, class_of, with_head, is_worker, some_and, applied_life, is_under_application}
+use Rattle.bump_core.specs.Events.{with_time, cleared_head, next_bump, bump_of, carried, tried, applied_now, is_empty, lane_chunk, lane_outcome, is_enabled, after, take_bump, with_lane, clear_for, applied_bump, alight}
+use Rattle.bump_core.specs.Worlds.{aboard_of, WaitsToMove, IsLawful}
 use Rattle.bump_core.proofs.Ring.{lane_further, next_in_ring, numbered_append}
-use Rattle.bump_core.proofs.Laws.{relawful, unreferred, marked}
-use Rattle.bump_core.proofs.Facts.{one_if_same, one_if_elsewhere, one_if_at, one_if_not_at, linked_in_range, aboard_in_range, aboard_current, applied_aboard}
-use Rattle.bump_core.proofs.Frames.{worker_lawful, both_marked, both_unreferred, references_after, first_hits_after, alone_kept, chunk_here, time_lawful}
+use Rattle.bump_core.proofs.Facts.{linked_in_range, aboard_in_range, aboard_current, applied_aboard}
+use Rattle.bump_core.proofs.Frames.{worker_lawful, both_marked, both_unreferred, alone_kept, chunk_here, time_lawful}
 use Rattle.bump_core.proofs.Enabled.{some_and_parts, lawful_by_some, empty_from, carrying_from, tried_from, cold_from, applied_from, worker_from, none_applies, applied_by_outcome}
 
 -- a lane with no bump aboard takes the next one from the ring

@@ -13,9 +13,9 @@ use Rattle.bump_core.specs.History.{place_of}
 use Rattle.bump_core.specs.Lawful.{bit, Shows, IsUsed, Lawful, newborn}
 
 -- a mark counts at most 1
-pub bit_le : (b : Bool) → bit b ≤ 1
-bit_le true = omega arith
-bit_le false = omega arith
+pub bit_at_most : (b : Bool) → bit b ≤ 1
+bit_at_most true = omega arith
+bit_at_most false = omega arith
 
 -- a test that counts passes
 pub bit_some : (b : Bool) → 0 < bit b → b ≡ true
@@ -136,7 +136,7 @@ module _ (limit : ℕ) (h : Head) (at : Place) (r x : ℕ → ℕ) (o : Lawful l
     within = o.within;
     shown = shows_same h (record h { fetched = true }) at refl refl refl o.shown;
     used = o.used;
-    active = bit_le h.active;
+    active = bit_at_most h.active;
     fetched = omega (arith, o.fetched);
     once = λ g. dite (ℕ_discrete g h.generation) (λ e. omega (arith, o.fetched, ap y e)) (λ ne. omega (arith, there g ne, o.once g));
     past = λ g some. dite (ℕ_discrete g h.generation) (λ e. omega arith) (λ ne. o.past g (omega (arith, there g ne)));
@@ -149,7 +149,7 @@ module _ (limit : ℕ) (h : Head) (at : Place) (r x : ℕ → ℕ) (o : Lawful l
     within = o.within;
     shown = shows_same h (record h { fetched = true }) at refl refl refl o.shown;
     used = o.used;
-    active = bit_le h.active;
+    active = bit_at_most h.active;
     fetched = o.fetched ∙ ap bit on;
     once = o.once;
     past = o.past;

@@ -7,10 +7,10 @@ use Rattle.bump_core.specs.declared.events.Refused.TheVariants.{NotEnabled, OutO
 use Rattle.bump_core.specs.declared.commands.Command.{Command}
 use Rattle.bump_core.specs.declared.commands.Command.TheVariants as command
 use Rattle.bump_core.specs.State.{State, SameSizes}
-use Rattle.bump_core.proofs.Sizes.{run_sizes}
 use Rattle.bump_core.specs.Worlds.{IsLawful, NothingUnlinked}
 use Rattle.bump_core.specs.Runs.{run_of}
 use Rattle.bump_core.specs.Commands.{is_allowed, events_of, command_after, Commands}
+use Rattle.bump_core.proofs.Sizes.{run_sizes}
 use Rattle.bump_core.proofs.Steps.{Keeps, run_keeps}
 use Rattle.bump_core.proofs.MadeCalls.{label_made, release_made, take_made, link_made, pull_made}
 use Rattle.bump_core.proofs.MadeHits.{touch_made}

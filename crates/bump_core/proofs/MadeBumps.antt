@@ -1,12 +1,9 @@
 -- Applying a bump is its events.
-use Rattle.std.proofs.Common.{◌≡◌, ℕ, zero, suc, ◌<◌, eqb, cond, Bool, true, false, not, ◌&&◌, List, [], ◌∷◌, ◌++◌, length, drop, slice_get, slice_set, Option, Some, None, if◌then◌else◌, refl, sym, ap, ap₂, ◌∙◌, subst, arith}
+use Rattle.std.proofs.Common.{◌≡◌, ℕ, ◌<◌, Bool, true, false, not, ◌&&◌, List, [], ◌∷◌, ◌++◌, length, slice_set, Option, Some, None, if◌then◌else◌, refl, sym, ap, ap₂, ◌∙◌, subst, arith}
 use Rattle.std.proofs.lemmas.Bool.{and_parts, and_from, ltb-true, lt-ltb, both_ways, not-true}
 use Rattle.std.proofs.lemmas.Option.{slice_get_within}
 use Rattle.std.specs.Option.{option_map_or}
 use Rattle.std.proofs.lemmas.List.{set-get_or}
-use Rattle.bump_core.specs.declared.places.Place.{Place}
-use Rattle.bump_core.specs.declared.places.Place.TheVariants.{Hot, Warm, Cold, Dying, Unused, Retired}
-use Rattle.bump_core.specs.declared.places.Segment.{Segment}
 use Rattle.bump_core.specs.declared.places.Segment.TheVariants as segment
 use Rattle.bump_core.specs.declared.items.ItemId.{ItemId}
 use Rattle.bump_core.specs.declared.items.Head.{Head}
@@ -22,18 +19,16 @@ use Rattle.bump_core.specs.declared.lanes.Outcome.TheVariants as outcome
 use Rattle.bump_core.specs.declared.events.Event.{Event}
 use Rattle.bump_core.specs.declared.events.Event.TheVariants as event
 use Rattle.bump_core.specs.declared.commands.Command.TheVariants as command
-use Rattle.bump_core.specs.Lawful.{Shows, IsUsed}
 use Rattle.bump_core.specs.Lives.{count_of}
-use Rattle.bump_core.specs.History.{place_of, Standing, standing_from}
 use Rattle.bump_core.specs.Tables.{is_cold}
 use Rattle.bump_core.specs.State.{State, ClassState, WorkerState, chunk, head, class, worker, no_chunk, class_with_change, is_worker, with_worker, with_change, class_from, class_of, some_and, applies_in, is_under_application}
-use Rattle.bump_core.specs.Worlds.{place, references, aboard_of, IsLawful, NoneUnlinked, NothingUnlinked}
+use Rattle.bump_core.specs.Worlds.{references, aboard_of, IsLawful, NothingUnlinked}
 use Rattle.bump_core.specs.Events.{one_fewer, cleared_head, moved_head, next_bump, carried, tried, applied_now, cleared_active, is_empty, outcome_at, lane_outcome, with_time, bump_of, take_bump, with_lane, clear_for, move_for, applied_bump, alight}
 use Rattle.bump_core.specs.Runs.{run_of}
 use Rattle.bump_core.specs.Commands.{is_allowed, events_of, command_after, bump_next, is_half_made, outcome_next, ended_at, bumped_chunk, bumped_worker, bumped_lists, apply_bump, take_events, apply_events}
 use Rattle.bump_core.proofs.Kept.{referred_linked}
 use Rattle.bump_core.proofs.Ring.{next_in_ring}
-use Rattle.bump_core.proofs.Facts.{one_if_same, referred_in_range, referred_used, in_ring_referred, aboard_referred}
+use Rattle.bump_core.proofs.Facts.{one_if_same, referred_in_range, in_ring_referred, aboard_referred}
 use Rattle.bump_core.proofs.Running.{run_step}
 use Rattle.bump_core.proofs.Updates.{none_written}
 use Rattle.bump_core.proofs.MadeParts.{at, at_start, chunk_at, worker_at, is_worker_at, on_chunk, on_worker, on_both}
@@ -228,7 +223,7 @@ next_made s o none w now allowed = by (worker s w).lane refl
         → Made s w now (Some (bump_of (length (worker s w).received) l))
     waiting_made l is next bump =
         let b = bump_of (length (worker s w).received) l in
-                let some = in_ring_referred s o w l w_in (omega (arith, ap (count_of l) (next_in_ring (worker s w) l next), one_if_same l)) in
+        let some = in_ring_referred s o w l w_in (omega (arith, ap (count_of l) (next_in_ring (worker s w) l next), one_if_same l)) in
         let r = (worker s w).received ++ l ∷ [] in
         ap (λ m. run_of s (take_events w m ++ apply_events (head s l.chunk) w now l.chunk)) is
         ∙ (run_step s (at s l.chunk w s.classes (chunk s l.chunk) (laned s w r (lane.Carrying b))) (event.TakeBump w) (apply_events (head s l.chunk) w now l.chunk)

@@ -1,13 +1,9 @@
 -- A state in which a chunk, all classes and a worker are others: what is read there, and changes of the same chunk and worker.
-use Rattle.std.proofs.Common.{◌≡◌, ℕ, zero, suc, ◌<◌, Bool, true, false, List, [], ◌∷◌, length, slice_set, None, ◌||◌, refl, sym, ap, ap₂, ◌∙◌, arith}
-use Rattle.std.proofs.lemmas.Bool.{cond-true, lt-ltb}
-use Rattle.std.specs.List.{list_any}
+use Rattle.std.proofs.Common.{◌≡◌, ℕ, ◌<◌, true, List, length, slice_set, sym, ap, ap₂, ◌∙◌, arith}
+use Rattle.std.proofs.lemmas.Bool.{lt-ltb}
 use Rattle.std.proofs.lemmas.List.{get_or-set_same, length-set, set-get_or, set-set}
 use Rattle.bump_core.specs.declared.chunks.Chunk.{Chunk}
-use Rattle.bump_core.specs.declared.events.Event.{Event}
 use Rattle.bump_core.specs.State.{State, ClassState, WorkerState, chunk, worker, no_chunk, new_worker, with_chunk, with_worker, is_worker}
-use Rattle.bump_core.specs.Events.{is_enabled, after}
-use Rattle.bump_core.specs.Runs.{run_of}
 
 -- a state in which a chunk, all classes and a worker are others
 abbrev pub at : State → ℕ → ℕ → List ClassState → Chunk → WorkerState → State

@@ -1,11 +1,10 @@
 -- A new World is lawful.
-use Rattle.std.proofs.Common.{◌≡◌, ℕ, zero, suc, ◌+◌, ◌-◌, ◌<◌, ◌≤◌, Bool, true, false, not, cond, ◌||◌, List, [], ◌∷◌, ◌++◌, length, get_or, Option, Some, refl, sym, ap, ◌∙◌, subst, arith, add-one, append_assoc}
+use Rattle.std.proofs.Common.{◌≡◌, ℕ, zero, suc, ◌+◌, ◌-◌, ◌<◌, ◌≤◌, Bool, true, false, not, cond, ◌||◌, List, [], ◌∷◌, ◌++◌, length, get_or, Option, Some, refl, sym, ap, ◌∙◌, subst, arith, add-one, append_assoc, eq-eqb, ne_eqb}
 use Rattle.std.specs.Prelude.{◌==◌, replicate, is_none, nat_le, nat_lt}
 use Rattle.std.specs.List.{list_any}
-use Rattle.std.proofs.Common.{eq-eqb, ne_eqb}
-use Rattle.std.proofs.lemmas.Bool.{and_parts, or_parts, leb-true}
-use native.Mathlib.Decide.{ℕ_discrete}
+use Rattle.std.proofs.lemmas.Bool.{and_parts, or_parts, leb-true, not-false}
 use Rattle.std.proofs.lemmas.List.{length-replicate}
+use native.Mathlib.Decide.{ℕ_discrete}
 use Rattle.bump_core.specs.declared.configs.ClassConfig.{ClassConfig}
 use Rattle.bump_core.specs.declared.configs.ConfigFault.TheVariants.{Workers, Capacity, RefsLimit, Generation, Classes, Chunks}
 use Rattle.bump_core.specs.declared.configs.Config.{Config}
@@ -22,7 +21,6 @@ use Rattle.bump_core.specs.State.{State, WorkerState, head, no_chunk, no_class, 
 use Rattle.bump_core.specs.Opening.{fresh_chunk, classes_from, new_state}
 use Rattle.bump_core.specs.Worlds.{IsLawful, NoneUnlinked, IsClass, Tiles, references, first_hits_of, holds_of, bumps_of, place, WaitsToMove}
 use Rattle.bump_core.proofs.Steps.{Keeps}
-use Rattle.std.proofs.lemmas.Bool.{not-false}
 
 -- the chunks from one on are it and those from the next one on
 pub ascending_more : (c end : ℕ) → c < end → ascending c (end - c) ≡ c ∷ ascending (c + 1) (end - (c + 1))

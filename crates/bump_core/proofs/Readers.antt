@@ -1,7 +1,6 @@
 -- What readers do leaves a lawful state lawful: loads, holds, hits and their time.
-use Rattle.std.proofs.Common.{inl, inr, ◌≤◌, ◌≡◌, ℕ, ◌+◌, ◌-◌, ◌<◌, true, cond, not, ◌&&◌, nat_lt, [], ◌∷◌, ◌++◌, length, refl, sym, ap, ◌∙◌, arith, eq-eqb, subst}
-use Rattle.std.proofs.lemmas.Bool.{cases_lt, and_parts, ltb-true}
-use Rattle.std.proofs.lemmas.List.{set_past}
+use Rattle.std.proofs.Common.{inl, inr, ◌≤◌, ◌≡◌, ℕ, ◌+◌, ◌-◌, ◌<◌, true, not, ◌&&◌, nat_lt, [], ◌∷◌, ◌++◌, length, refl, sym, ap, ◌∙◌, arith}
+use Rattle.std.proofs.lemmas.Bool.{and_parts, ltb-true}
 use mathlib.Core.Logic.{dite}
 use native.Mathlib.Decide.{ℕ_discrete}
 use Rattle.bump_core.specs.declared.items.ItemId.{ItemId}
@@ -9,13 +8,13 @@ use Rattle.bump_core.specs.declared.items.Head.{Head}
 use Rattle.bump_core.specs.declared.chunks.Chunk.{Chunk}
 use Rattle.bump_core.specs.declared.workers.Hand.TheVariants as hand
 use Rattle.bump_core.specs.declared.events.Event.TheVariants as event
-use Rattle.bump_core.specs.Lawful.{bit, Lawful}
+use Rattle.bump_core.specs.Lawful.{bit}
 use Rattle.bump_core.specs.Lives.{life, one_if}
 use Rattle.bump_core.specs.Rings.{most_attempts, IsWorker, attempts_of}
 use Rattle.bump_core.specs.Tables.{is_cold}
 use Rattle.bump_core.specs.State.{State, WorkerState, chunk, head, worker, with_chunk, with_head, with_worker, workers_on, is_current, is_linked, is_open}
-use Rattle.bump_core.specs.Events.{one_more, one_fewer, fetched_head, active_head, is_under_limit, may_hit, is_enabled, after, with_hold, without_hold, with_time, with_label, fetch, mark}
-use Rattle.bump_core.specs.Worlds.{holds_of, in_hand_of, bumps_of, references, first_hits_of, place, IsLawful}
+use Rattle.bump_core.specs.Events.{one_more, one_fewer, fetched_head, active_head, is_under_limit, may_hit, is_enabled, after, with_hold, without_hold, fetch, mark}
+use Rattle.bump_core.specs.Worlds.{holds_of, in_hand_of, references, first_hits_of, place, IsLawful}
 use Rattle.bump_core.proofs.Laws.{used_where_linked, relawful, referred, unreferred, named_first, fetched_again, marked}
 use Rattle.bump_core.proofs.Updates.{count_push}
 use Rattle.bump_core.proofs.Facts.{held_by, held_at, held_here, held_else, one_if_same, one_if_elsewhere, one_if_at, one_if_not_at, one_if_cases}

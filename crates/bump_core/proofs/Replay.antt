@@ -1,17 +1,14 @@
 -- A chunk is in the list in which the history leaves it, once, and in no other.
-use Rattle.std.proofs.Common.{◌≡◌, ℕ, zero, suc, ◌+◌, ◌-◌, ◌≢◌, ◌&&◌, eqb, leb, ltb, cond, Bool, true, false, List, [], ◌∷◌, ◌++◌, refl, sym, ap, ap₂, ◌∙◌, arith, eq-eqb, ne_eqb, eqb-true, lt-ltb, le-ltb}
-use Rattle.std.proofs.lemmas.Bool.{le-leb, lt-leb}
-use mathlib.Core.Logic.{dite}
-use native.Mathlib.Decide.{ℕ_discrete, dec_le}
+use Rattle.std.proofs.Common.{◌≡◌, ℕ, ◌-◌, ◌&&◌, eqb, cond, Bool, true, false, List, [], ◌∷◌, ◌++◌, refl, sym, ap, ◌∙◌, eqb-true}
+use Rattle.std.proofs.Math.Bool.{and-true, and-false}
 use Rattle.bump_core.specs.declared.places.Place.{Place}
 use Rattle.bump_core.specs.declared.places.Place.TheVariants.{Hot, Warm, Cold, Dying, Unused, Retired}
 use Rattle.bump_core.specs.declared.history.Change.{Change}
 use Rattle.bump_core.specs.Lawful.{bit}
 use Rattle.bump_core.specs.History.{subject, target, Standing, standing_after, standing_from, replay}
-use Rattle.bump_core.specs.Lists.{Lists, list_at, without, to_front, ascending, opening, times}
+use Rattle.bump_core.specs.Lists.{Lists, list_at, to_front, opening, times}
 use Rattle.bump_core.specs.State.{ClassState}
 use Rattle.bump_core.specs.Worlds.{owns, AreOf, IsClass, place_in}
-use Rattle.std.proofs.Math.Bool.{and-true, and-false}
 use Rattle.bump_core.proofs.PlainLists.{times_ascending, same_row}
 use Rattle.bump_core.proofs.SixLists.{is_place, times_front}
 

@@ -1,20 +1,18 @@
 -- No event makes or takes away chunks, classes or workers.
-use Rattle.std.proofs.Common.{◌≡◌, ℕ, Bool, true, false, List, [], ◌∷◌, Option, Some, None, Result, Ok, Err, if◌then◌else◌, refl, sym, ap, ◌∙◌, subst, length}
-use Rattle.std.specs.Option.{option_map_or}
+use Rattle.std.proofs.Common.{◌≡◌, ℕ, List, Some, Result, Err, refl, ◌∙◌}
 use Rattle.std.proofs.lemmas.List.{length-set}
 use Rattle.bump_core.specs.declared.chunks.Chunk.{Chunk}
 use Rattle.bump_core.specs.declared.places.Segment.TheVariants as segment
 use Rattle.bump_core.specs.declared.history.Cause.TheVariants.{Pull, Bump as BumpOf}
 use Rattle.bump_core.specs.declared.history.Change.{Change}
 use Rattle.bump_core.specs.declared.history.Change.TheVariants as change
-use Rattle.bump_core.specs.Lives.{life}
 use Rattle.bump_core.specs.declared.events.Event.{Event}
 use Rattle.bump_core.specs.declared.events.Event.TheVariants as event
 use Rattle.bump_core.specs.declared.events.Reply.{Reply}
 use Rattle.bump_core.specs.declared.events.Refused.{Refused}
-use Rattle.bump_core.specs.declared.events.Refused.TheVariants.{NotEnabled, OutOfMemory}
+use Rattle.bump_core.specs.Lives.{life}
 use Rattle.bump_core.specs.State.{State, WorkerState, SameSizes, class, head, worker, with_chunk, with_worker, with_change, class_with_change, tried_life, life_in_hand, cleared_life}
-use Rattle.bump_core.specs.Events.{is_enabled, after, reserve, drop_refs, drop_busy, push, drop_full, unmark, with_label, with_time, link, take_bump, clear_for, move_for, alight, next_chunk, next_life, next_bump, carried, applied_now, tried, cleared_active, lane_outcome}
+use Rattle.bump_core.specs.Events.{after, reserve, drop_refs, drop_busy, push, drop_full, unmark, with_label, with_time, link, take_bump, clear_for, move_for, alight, next_chunk, next_life, next_bump, carried, applied_now, tried, cleared_active, lane_outcome}
 use Rattle.bump_core.specs.Runs.{Steps, run_of}
 use Rattle.bump_core.proofs.Enabled.{by_test, by_value}
 use Rattle.bump_core.proofs.Running.{by_step, by_run, refused_stays}

@@ -1,18 +1,14 @@
 -- Each event that is enabled leaves a lawful state lawful, and so do steps and runs; what a World keeps.
-use Rattle.std.proofs.Common.{◌≡◌, ◌<◌, ◌+◌, length, ℕ, Bool, true, false, List, [], ◌∷◌, ◌++◌, take, Some, None, Result, Ok, Err, if◌then◌else◌, refl, sym, ap, ◌∙◌, subst}
-use Rattle.std.specs.Prelude.{slice_get, slice_index_or}
-use Rattle.std.proofs.lemmas.List.{take_more}
-use Rattle.bump_core.specs.declared.places.Segment.{Segment}
+use Rattle.std.proofs.Common.{◌≡◌, true, List, Some, Result}
 use Rattle.bump_core.specs.declared.events.Event.{Event}
 use Rattle.bump_core.specs.declared.events.Event.TheVariants as event
 use Rattle.bump_core.specs.declared.events.Reply.{Reply}
 use Rattle.bump_core.specs.declared.events.Refused.{Refused}
-use Rattle.bump_core.specs.declared.events.Refused.TheVariants.{NotEnabled, OutOfMemory}
-use Rattle.bump_core.specs.Runs.{Steps, Runs, run_of}
+use Rattle.bump_core.specs.Runs.{Steps, run_of}
 use Rattle.bump_core.specs.State.{State}
-use Rattle.bump_core.proofs.Moving.{link_lawful, move_lawful, move_for_lawful}
 use Rattle.bump_core.specs.Events.{is_enabled, after}
 use Rattle.bump_core.specs.Worlds.{IsLawful, NothingUnlinked}
+use Rattle.bump_core.proofs.Moving.{link_lawful, move_lawful, move_for_lawful}
 use Rattle.bump_core.proofs.Running.{by_step, by_run}
 use Rattle.bump_core.proofs.Kept.{nothing_unlinked}
 use Rattle.bump_core.proofs.Attempting.{after_reserve, after_drop_refs, after_drop_busy, after_push, after_drop_full, after_unmark}

@@ -1,5 +1,6 @@
 -- Lists of the code, seen element by element: one element changed, and what a lane receives next.
-use Rattle.std.specs.Prelude.{Bool, true, false, not, Result, Ok, Err, OnErr, Some, slice_get}
+use Rattle.std.proofs.Common.{◌≡◌, ℕ, zero, suc, ◌<◌, List, [], ◌∷◌, ◌++◌, ◌+◌, take, add-one, length, get_or, set, map, refl, sym, ap, ◌∙◌, arith}
+use Rattle.std.specs.Prelude.{Result, Ok, Err, OnErr, Some, slice_get}
 use Rattle.std.proofs.lemmas.List.{length-map, get_or-map, map-set}
 use Rattle.std.proofs.Math.Seq.{map-set_same}
 use Rattle.bump_core.specs.declared.items.ItemId.{ItemId}
@@ -8,7 +9,6 @@ use Rattle.bump_core.specs.declared.workers.Worker.{Worker}
 use Rattle.bump_core.specs.Events.{next_bump}
 use Rattle.bump_core.specs.State.{worker, new_worker}
 use Rattle.bump_core.specs.Views.{state_of, worker_view}
-use Rattle.std.proofs.Common.{◌≡◌, ℕ, zero, suc, ◌<◌, List, [], ◌∷◌, ◌++◌, ◌+◌, take, add-one, length, get_or, set, map, refl, sym, ap, ◌∙◌, arith}
 
 -- an element changed behind a reference: the seen list has it changed alike
 pub rewritten : {A B : Type 0} (f : A → B) (h : B → B) (xs : List A) (i : ℕ) (a x : A) (d : B) → i < length (map f xs) → a ≡ get_or xs i a → f x ≡ h (f a)
