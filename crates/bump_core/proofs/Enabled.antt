@@ -1,6 +1,6 @@
 -- What the tests of the events say, and what holds of a state that a test or a value decides.
-use Rattle.std.proofs.Common.{eq-eqb, ◌≡◌, ℕ, ◌<◌, Bool, true, false, ◌&&◌, nat_lt, ◌==◌, length, Option, None, Some, if◌then◌else◌, refl, sym, ap, subst, ◌∙◌}
-use Rattle.std.proofs.lemmas.Bool.{and_parts, ltb-true, eqb-true, false≢true}
+use Rattle.std.proofs.Common.{eq-eqb, ◌≡◌, ℕ, ◌<◌, Bool, true, false, ◌&&◌, not, nat_lt, ◌==◌, length, Option, None, Some, if◌then◌else◌, refl, sym, ap, subst, ◌∙◌}
+use Rattle.std.proofs.lemmas.Bool.{and_parts, ltb-true, not-true, eqb-true, false≢true}
 use Rattle.std.proofs.lemmas.List.Folds.{list_any_at}
 use Rattle.std.specs.Option.{option_map_or}
 use Rattle.bump_core.specs.declared.items.Head.{Head}
@@ -9,13 +9,14 @@ use Rattle.bump_core.specs.declared.items.ItemId.{ItemId}
 use Rattle.bump_core.specs.declared.lanes.Bump.{Bump}
 use Rattle.bump_core.specs.declared.lanes.Lane.{Lane}
 use Rattle.bump_core.specs.declared.lanes.Lane.TheVariants as lane
+use Rattle.bump_core.specs.declared.events.Event.TheVariants as event
 use Rattle.bump_core.specs.declared.workers.Hand.{Hand}
 use Rattle.bump_core.specs.declared.workers.Hand.TheVariants as hand
 use Rattle.bump_core.specs.declared.places.Segment.{Segment}
 use Rattle.bump_core.specs.declared.places.Segment.TheVariants as segment
 use Rattle.bump_core.specs.Tables.{is_cold}
-use Rattle.bump_core.specs.Events.{may_hit, outcome_at, carried, tried, applied_now, cleared_active, is_empty}
-use Rattle.bump_core.specs.State.{State, chunk, head, worker, is_chunk, is_current, has_free_hold, is_open, is_worker, workers_on, some_and, tried_life, life_in_hand, cleared_life, is_idle, applied_life, applies_in, class_of, is_under_application, new_worker}
+use Rattle.bump_core.specs.Events.{is_enabled, is_class_at_rest, may_move, next_chunk, may_hit, outcome_at, carried, tried, applied_now, cleared_active, is_empty}
+use Rattle.bump_core.specs.State.{is_class, State, chunk, head, worker, is_chunk, is_current, has_free_hold, is_open, is_worker, workers_on, some_and, tried_life, life_in_hand, cleared_life, is_idle, applied_life, applies_in, class_of, is_under_application, new_worker}
 use Rattle.bump_core.specs.Worlds.{IsLawful}
 
 -- a test of a value that there may be says that there is one, which passes
@@ -148,3 +149,21 @@ applied_by_outcome (lane.Carrying b) h e is = absurd (let u : ⊥ = cc in u)
 applied_by_outcome (lane.Tried b) h e is = (b, refl)
 applied_by_outcome (lane.Cleared b found) h e is = (b, refl)
 applied_by_outcome (lane.Moved b) h e is = (b, refl)
+
+-- a class at rest whose next item may be labelled, timed or linked: it exists, and has a front of UNUSED
+pub next_from : (s : State) (k : ℕ) → (is_class_at_rest s k && some_and (λ c. true) (next_chunk s k)) ≡ true → (c : ℕ) × (k < length s.classes) × (next_chunk s k ≡ Some c)
+next_from s k enabled = let both = and_parts (is_class_at_rest s k) (some_and (λ c. true) (next_chunk s k)) enabled in
+    let found = some_and_parts (λ (c : ℕ). true) (next_chunk s k) both.1 in
+    (found.0, ltb-true k (length s.classes) (and_parts (is_class s k) (not (is_under_application s k)) both.0).0, found.1)
+
+-- a chunk that may be moved by a pull: it is in range and linked, and no lane applies a bump of its class
+pub move_from : (s : State) (c : ℕ) (to : Segment) → is_enabled s (event.Move c to) ≡ true → (c < length s.chunks) × ((head s c).linked ≡ true) × (is_under_application s (class_of s c) ≡ false)
+move_from s c to enabled = let both = and_parts (is_chunk s c) ((head s c).linked && (may_move (head s c).segment to && not (is_under_application s (class_of s c)))) enabled in
+    let more = and_parts (head s c).linked (may_move (head s c).segment to && not (is_under_application s (class_of s c))) both.1 in
+    (chunk_from s c both.0, more.0, not-true (is_under_application s (class_of s c)) (and_parts (may_move (head s c).segment to) (not (is_under_application s (class_of s c))) more.1).1)
+
+-- a lane that found ACTIVE, and may move its item
+pub move_for_from : (s : State) (w : ℕ) → is_enabled s (event.MoveFor w) ≡ true → (b : Bump) × (w < length s.workers) × (cleared_active (worker s w).lane ≡ Some b)
+move_for_from s w enabled = let both = and_parts (is_worker s w) (some_and (λ b. true) (cleared_active (worker s w).lane)) enabled in
+    let found = some_and_parts (λ (b : Bump). true) (cleared_active (worker s w).lane) both.1 in
+    (found.0, worker_from s w both.0, found.1)

@@ -126,9 +126,9 @@ module _ (s : State) (o : IsLawful s) where
       let once : times c (class s k).lists.unused ≡ 1 = subst (λ (j : ℕ). times c (class s j).lists.unused ≡ 1) at.0 (once_at c Unused at.1 at.2) in
       (at.0, at.1, at.2, without_absent c rest (omega (arith, once, ap (times c) is, ap bit (eq-eqb c c refl))))
 
-  -- it is not linked, and its generation is not the last
-  pub unused_head : (k c : ℕ) (rest : List ℕ) → k < length s.classes → (class s k).lists.unused ≡ c ∷ rest → ((head s c).linked ≡ false) × ((head s c).generation < 4294967295)
-  unused_head k c rest within is = unused_shown s o c (unused_front k c rest within is).2
+  -- the same of the next chunk of the class
+  pub next_front : (k c : ℕ) → k < length s.classes → next_chunk s k ≡ Some c → (class_of s c ≡ k) × (c < length s.chunks) × (place s c ≡ Unused)
+  next_front k c within is = let split = first_split c (class s k).lists.unused is in let at = unused_front k c split.0 within split.1 in (at.0, at.1, at.2)
 
   -- the front of UNUSED goes to the front of HOT, and the other four lists stay as they are
   pub linked_lists : (k c : ℕ) (rest : List ℕ) → k < length s.classes → (class s k).lists.unused ≡ c ∷ rest
@@ -149,12 +149,10 @@ module _ (s : State) (o : IsLawful s) where
   pub linked_stands : (c : ℕ) → (head s c).linked ≡ true → StandsAt c (place_of (head s c).segment) (class s (class_of s c)).lists
   linked_stands c on = stands c (place_of (head s c).segment) (linked_in_range s o c on) (place_linked c on)
 
-  -- the front of UNUSED stands there
+  -- the next chunk of a class stands in UNUSED
   pub next_stands : (k c : ℕ) → k < length s.classes → next_chunk s k ≡ Some c → (c < length s.chunks) × (class_of s c ≡ k) × ((head s c).generation < 4294967295) × StandsAt c Unused (class s k).lists
-  next_stands k c within is =
-      let split = first_split c (class s k).lists.unused is in
-      let at = unused_front k c split.0 within split.1 in
-      (at.1, at.0, (unused_head k c split.0 within split.1).1, subst (λ (j : ℕ). StandsAt c Unused (class s j).lists) at.0 (stands c Unused at.1 at.2))
+  next_stands k c within is = let at = next_front k c within is in
+      (at.1, at.0, (unused_shown s o c at.2).1, subst (λ (j : ℕ). StandsAt c Unused (class s j).lists) at.0 (stands c Unused at.1 at.2))
 
   -- the same of what a look-up answered
   pub some_next : (k : ℕ) (o : Option ℕ) → k < length s.classes → o ≡ next_chunk s k → IfSome o (λ c. (c < length s.chunks) × (class_of s c ≡ k) × ((head s c).generation < 4294967295) × StandsAt c Unused (class s k).lists)

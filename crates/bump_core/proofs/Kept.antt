@@ -18,6 +18,8 @@ use Rattle.bump_core.specs.State.{State, ClassState, class, worker, no_class, wi
 use Rattle.bump_core.specs.Lives.{life}
 use Rattle.bump_core.specs.Worlds.{place, references, IsLawful, NoneUnlinked, NothingUnlinked}
 use Rattle.bump_core.specs.Events.{after, reserve, drop_refs, drop_busy, push, drop_full, unmark, with_label, with_time, link, take_bump, clear_for, move_for, alight, next_chunk, next_life, next_bump, carried, applied_now, tried, cleared_active, lane_outcome}
+use Rattle.std.proofs.lemmas.Bool.{true_from_ne_false}
+use Rattle.bump_core.proofs.Laws.{dying_where_unlinked}
 use Rattle.bump_core.proofs.Facts.{referred_in_range, referred_used}
 use Rattle.bump_core.proofs.Tiles.{class_within}
 use Rattle.bump_core.proofs.Enabled.{by_test, by_value}
@@ -103,12 +105,7 @@ stands_on c from (change.Retired l ∷ es) on none = absurd none
 
 -- a chunk at such a place that isn't free is linked
 linked_shown : (h : Head) (p : Place) → Shows h p → IsUsed p → NotEnded p → h.linked ≡ true
-linked_shown h Hot shows used on = shows.0
-linked_shown h Warm shows used on = shows.0
-linked_shown h Cold shows used on = shows.0
-linked_shown h Dying shows used on = absurd on
-linked_shown h Unused shows used on = absurd used
-linked_shown h Retired shows used on = absurd on
+linked_shown h p shows used on = true_from_ne_false h.linked (λ off. subst NotEnded (dying_where_unlinked h p shows used off) on)
 
 -- a chunk with a reference is linked
 pub referred_linked : (s : State) → IsLawful s → NothingUnlinked s → (c g : ℕ) → 0 < references s c g → (head s c).linked ≡ true

@@ -22,7 +22,7 @@ use Rattle.bump_core.specs.Events.{is_enabled, after, is_under_limit, is_class_a
 use Rattle.bump_core.specs.Runs.{run_of}
 use Rattle.bump_core.specs.Commands.{is_allowed, events_of, command_after, tail_of, is_over, pulled_at, pull_to, pull, move_events, link_labelled}
 use Rattle.bump_core.proofs.PlainLists.{first_split}
-use Rattle.bump_core.proofs.Fronts.{unused_front, last_linked}
+use Rattle.bump_core.proofs.Fronts.{next_front, unused_front, last_linked}
 use Rattle.bump_core.proofs.Running.{run_step}
 
 -- the label of a held item is one load
@@ -60,8 +60,7 @@ link_made s o k x now allowed = by (next_chunk s k) refl
 
     linked : (c : ℕ) → next_chunk s k ≡ Some c → run_of s (event.PutLabel k x ∷ event.PutTime k now ∷ event.Link k ∷ []) ≡ Some (link_labelled s k x now c)
     linked c is =
-        let split = first_split c (class s k).lists.unused is in
-        let c_in = (unused_front s o k c split.0 within split.1).1 in
+        let c_in = (next_front s o k c within is).1 in
         let rest : not (is_under_application s k) ≡ true = ap (λ m. not (some_and (λ (c : ℕ). true) m) || not (is_under_application s k)) (sym is) ∙ both.1 in
         let enabled : (is_class_at_rest s k && some_and (λ (c : ℕ). true) (next_chunk s k)) ≡ true = and_from _ _ (and_from _ _ both.0 rest) (ap (some_and (λ (c : ℕ). true)) is) in
         let z = chunk s c in

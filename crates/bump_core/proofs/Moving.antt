@@ -28,12 +28,11 @@ use Rattle.bump_core.specs.Worlds.{Tiles, IsLawful, IsClass, AreOf, WaitsToMove,
 use Rattle.bump_core.specs.Events.{is_enabled, after, next_chunk, next_life, link, move_for, moved_head, with_lane, cleared_active, may_move, is_class_at_rest}
 use Rattle.bump_core.proofs.Replay.{replay_push, standing_push, are_of_push}
 use Rattle.bump_core.proofs.Tiles.{class_kept, tiles_kept, class_within, class_owns, owner, owned_in_range}
-use Rattle.bump_core.proofs.PlainLists.{first_split}
-use Rattle.bump_core.proofs.Fronts.{unused_front, unused_head}
-use Rattle.bump_core.proofs.Facts.{held_by, held_here, linked_in_range, unused_unreferred, waiting_linked}
+use Rattle.bump_core.proofs.Fronts.{next_front}
+use Rattle.bump_core.proofs.Facts.{unused_shown, held_by, held_here, linked_in_range, unused_unreferred, waiting_linked}
 use Rattle.bump_core.proofs.Ring.{lane_further}
 use Rattle.bump_core.proofs.Frames.{worker_lawful, alone_kept}
-use Rattle.bump_core.proofs.Enabled.{none_applies, cleared_from}
+use Rattle.bump_core.proofs.Enabled.{lawful_by_some, next_from, move_from, move_for_from, none_applies, cleared_from}
 use Rattle.bump_core.proofs.Laws.{lawful_same, born, moved}
 
 -- One more entry in the history of a class.
@@ -165,20 +164,13 @@ module _ (s : State) (o : IsLawful s) (c : ℕ) (h : Head) (k : ℕ) (e : Change
 -- The three events.
 
 -- a link keeps a World lawful
-pub link_lawful : (s : State) → IsLawful s → (k : ℕ) → is_enabled s (event.Link k) ≡ true → IsLawful (after s (event.Link k))
-link_lawful s o k enabled = by (next_chunk s k) refl both.1
+pub after_link : (s : State) → IsLawful s → (k : ℕ) → is_enabled s (event.Link k) ≡ true → IsLawful (after s (event.Link k))
+after_link s o k enabled = let next = next_from s k enabled in lawful_by_some (link s k) s (next_chunk s k) next.0 next.2 (linked next.0 next.1 next.2)
   where
-    both : (is_class_at_rest s k ≡ true) × (some_and (λ c. true) (next_chunk s k) ≡ true)
-    both = and_parts _ _ enabled
-
-    within : k < length s.classes
-    within = ltb-true k (length s.classes) (and_parts _ _ both.0).0
-
-    linked : (c : ℕ) → next_chunk s k ≡ Some c → IsLawful (link s k c)
-    linked c next =
-        let front = first_split c (class s k).lists.unused next in
-        let at = unused_front s o k c front.0 within front.1 in
-        let off = (unused_head s o k c front.0 within front.1).0 in
+    linked : (c : ℕ) → k < length s.classes → next_chunk s k ≡ Some c → IsLawful (link s k c)
+    linked c within next =
+        let at = next_front s o k c within next in
+        let off = (unused_shown s o c at.2).0 in
         let none = unused_unreferred s o c at.2 in
         let own = subst (λ (j : ℕ). owns (class s j) c ≡ true) at.0 (class_owns s o.tiles c at.1) in
         change_lawful s o c (newborn ((head s c).generation + 1)) k (change.Linked (next_life s c)) within own refl
@@ -186,49 +178,25 @@ link_lawful s o k enabled = by (next_chunk s k) refl both.1
         (born s.refs_limit (head s c) (place s c) (references s c) (first_hits_of s c) (o.chunks c) at.2 o.limit)
         (λ w w_in b is same. both_ways (head s c).linked off (subst (λ (d : ℕ). (head s d).linked ≡ true) same (waiting_linked s o w b w_in is).0))
 
-    by : (n : Option ℕ) → next_chunk s k ≡ n → some_and (λ c. true) n ≡ true → IsLawful (option_map_or (link s k) n s)
-    by None next some = absurd (false≢true some)
-    by (Some c) next some = linked c next
-
 -- a pull's move keeps a World lawful
-pub move_lawful : (s : State) → IsLawful s → (c : ℕ) (to : Segment) → is_enabled s (event.Move c to) ≡ true → IsLawful (after s (event.Move c to))
-move_lawful s o c to enabled =
-    change_lawful s o c (moved_head to (head s c)) (class_of s c) (change.Moved (life c (head s c).generation) (head s c).segment to Pull) (class_within s o.tiles c in_range) (class_owns s o.tiles c in_range) refl
+pub after_move : (s : State) → IsLawful s → (c : ℕ) (to : Segment) → is_enabled s (event.Move c to) ≡ true → IsLawful (after s (event.Move c to))
+after_move s o c to enabled = let may = move_from s c to enabled in
+    change_lawful s o c (moved_head to (head s c)) (class_of s c) (change.Moved (life c (head s c).generation) (head s c).segment to Pull) (class_within s o.tiles c may.0) (class_owns s o.tiles c may.0) refl
     (λ g. refl)
-    (moved s.refs_limit (head s c) (place s c) (references s c) (first_hits_of s c) (o.chunks c) to on)
-    (λ w w_in b is same. none_applies s (class_of s c) w b.life rest w_in (ap applied_life is) (ap (class_of s) same))
-  where
-    both : (is_chunk s c ≡ true) × (((head s c).linked && (may_move (head s c).segment to && not (is_under_application s (class_of s c)))) ≡ true)
-    both = and_parts _ _ enabled
-
-    in_range : c < length s.chunks
-    in_range = ltb-true c (length s.chunks) both.0
-
-    more : ((head s c).linked ≡ true) × ((may_move (head s c).segment to && not (is_under_application s (class_of s c))) ≡ true)
-    more = and_parts _ _ both.1
-
-    on : (head s c).linked ≡ true
-    on = more.0
-
-    rest : is_under_application s (class_of s c) ≡ false
-    rest = not-true (is_under_application s (class_of s c)) (and_parts (may_move (head s c).segment to) (not (is_under_application s (class_of s c))) more.1).1
+    (moved s.refs_limit (head s c) (place s c) (references s c) (first_hits_of s c) (o.chunks c) to may.1)
+    (λ w w_in b is same. none_applies s (class_of s c) w b.life may.2 w_in (ap applied_life is) (ap (class_of s) same))
 
 -- a lane that moved its item does not wait to move it
 two_lanes : (s : State) (v w : ℕ) (a b : Bump) → v ≡ w → (worker s v).lane ≡ lane.Cleared a true → (worker s w).lane ≡ lane.Moved b → ⊥
 two_lanes s v w a b same cleared moved = let both : lane.Cleared a true ≡ lane.Moved b = sym cleared ∙ (ap (λ (u : ℕ). (worker s u).lane) same ∙ moved) in cc
 
 -- a move for a bump keeps a World lawful
-pub move_for_lawful : (s : State) → IsLawful s → (w : ℕ) → is_enabled s (event.MoveFor w) ≡ true → IsLawful (after s (event.MoveFor w))
-move_for_lawful s o w enabled = by (cleared_active (worker s w).lane) refl both.1
+pub after_move_for : (s : State) → IsLawful s → (w : ℕ) → is_enabled s (event.MoveFor w) ≡ true → IsLawful (after s (event.MoveFor w))
+after_move_for s o w enabled = let may = move_for_from s w enabled in
+    lawful_by_some (move_for s w) s (cleared_active (worker s w).lane) may.0 may.2 (goes may.0 may.1 (cleared_from (worker s w).lane may.0 may.2))
   where
-    both : (is_worker s w ≡ true) × (some_and (λ b. true) (cleared_active (worker s w).lane) ≡ true)
-    both = and_parts _ _ enabled
-
-    within : w < length s.workers
-    within = ltb-true w (length s.workers) both.0
-
-    stays : (b : Bump) → (worker s w).lane ≡ lane.Cleared b true → IsLawful (with_lane s w (lane.Moved b))
-    stays b is = worker_lawful s w (record (worker s w) { lane = lane.Moved b }) o within
+    stays : (b : Bump) → w < length s.workers → (worker s w).lane ≡ lane.Cleared b true → IsLawful (with_lane s w (lane.Moved b))
+    stays b within is = worker_lawful s w (record (worker s w) { lane = lane.Moved b }) o within
         (λ l. omega (arith, ap (aboard_of l) is))
         (λ l. refl)
         (λ l. omega arith)
@@ -236,20 +204,16 @@ move_for_lawful s o w enabled = by (cleared_active (worker s w).lane) refl both.
         (alone_kept s w (record (worker s w) { lane = lane.Moved b }) within o (sym (ap applied_life is)))
         tt
 
-    goes : (b : Bump) → (worker s w).lane ≡ lane.Cleared b true → IsLawful (move_for s w b)
-    goes b is =
+    goes : (b : Bump) → w < length s.workers → (worker s w).lane ≡ lane.Cleared b true → IsLawful (move_for s w b)
+    goes b within is =
         let on = (waiting_linked s o w b within is).0 in
         let c = b.life.chunk in
         let in_range = linked_in_range s o c on in
         let t = with_lane s w (lane.Moved b) in
-        let p : IsLawful t = stays b is in
+        let p : IsLawful t = stays b within is in
         let here : (worker t w).lane ≡ lane.Moved b = ap (λ y. y.lane) (get_or-set_same s.workers w (record (worker s w) { lane = lane.Moved b }) new_worker within) in
         let w_in : w < length t.workers = subst (λ (n : ℕ). w < n) (sym (length-set s.workers w (record (worker s w) { lane = lane.Moved b }))) within in
         change_lawful t p c (moved_head segment.Warm (head s c)) (class_of s c) (change.Moved b.life segment.Cold segment.Warm (BumpOf w b.number)) (class_within s o.tiles c in_range) (class_owns s o.tiles c in_range) refl
         (λ g. refl)
         (moved s.refs_limit (head s c) (place s c) (references t c) (first_hits_of t c) (p.chunks c) segment.Warm on)
         (λ v v_in a cleared same. two_lanes t v w a b (p.alone v w a.life b.life v_in w_in (ap applied_life cleared) (ap applied_life here) (ap (class_of t) same)) cleared here)
-
-    by : (n : Option Bump) → cleared_active (worker s w).lane ≡ n → some_and (λ b. true) n ≡ true → IsLawful (option_map_or (move_for s w) n s)
-    by None next some = absurd (false≢true some)
-    by (Some b) next some = goes b (cleared_from (worker s w).lane b next)

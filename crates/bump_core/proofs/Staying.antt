@@ -23,11 +23,11 @@ use Rattle.bump_core.specs.Runs.{run_of}
 use Rattle.bump_core.specs.State.{State, WorkerState, chunk, head, class, worker, no_chunk, new_worker, with_chunk, with_head, with_worker, with_change, class_of, is_chunk, is_class, is_worker, is_open, some_and, is_under_application, tried_life, life_in_hand, cleared_life}
 use Rattle.bump_core.specs.Tables.{is_cold}
 use Rattle.bump_core.specs.Worlds.{IsLawful, owns, place}
-use Rattle.bump_core.proofs.Enabled.{by_test, by_value, cleared_from, chunk_from, worker_from}
+use Rattle.bump_core.proofs.Enabled.{next_from, move_from, move_for_from, by_test, by_value, cleared_from, chunk_from, worker_from}
 use Rattle.bump_core.proofs.Running.{by_run}
 use Rattle.bump_core.proofs.Updates.{same_read}
 use Rattle.bump_core.proofs.PlainLists.{first_split}
-use Rattle.bump_core.proofs.Fronts.{unused_front}
+use Rattle.bump_core.proofs.Fronts.{next_front, unused_front}
 use Rattle.bump_core.proofs.Facts.{linked_in_range, waiting_linked}
 use Rattle.bump_core.proofs.Laws.{used_where_linked}
 use Rattle.bump_core.proofs.Moving.{chunk_changed, chunk_unchanged, place_unchanged}
@@ -111,19 +111,11 @@ stays_changed s o d h k e within own is later used c = by (ℕ_discrete c d)
     by (no other) = let there = chunk_unchanged s o d h k e within own is c other in
         stays_same c s t (ap (λ (y : Chunk). y.head.generation) there) (ap (λ (y : Chunk). y.label) there) (place_unchanged s o d h k e within own is c other)
 
--- a class that is at rest exists
-rest_class : (s : State) (k : ℕ) → (is_class_at_rest s k && some_and (λ c. true) (next_chunk s k)) ≡ true → is_class s k ≡ true
-rest_class s k enabled = (and_parts (is_class s k) (not (is_under_application s k)) (and_parts (is_class_at_rest s k) (some_and (λ c. true) (next_chunk s k)) enabled).0).0
-
--- the front of UNUSED
-next_unused : (s : State) → IsLawful s → (k c : ℕ) → is_class s k ≡ true → next_chunk s k ≡ Some c → (class_of s c ≡ k) × (c < length s.chunks) × (place s c ≡ Unused)
-next_unused s o k c is next = let front = first_split c (class s k).lists.unused next in let at = unused_front s o k c front.0 (ltb-true k (length s.classes) is) front.1 in (at.0, at.1, at.2)
-
 -- a link begins a life of its chunk
-link_stays : (s : State) → IsLawful s → (k c : ℕ) → is_class s k ≡ true → next_chunk s k ≡ Some c → AllStay s (link s k c)
-link_stays s o k c is next =
-    let at = next_unused s o k c is next in
-    stays_changed s o c (newborn ((head s c).generation + 1)) k (change.Linked (next_life s c)) (ltb-true k (length s.classes) is)
+link_stays : (s : State) → IsLawful s → (k c : ℕ) → k < length s.classes → next_chunk s k ≡ Some c → AllStay s (link s k c)
+link_stays s o k c within next =
+    let at = next_front s o k c within next in
+    stays_changed s o c (newborn ((head s c).generation + 1)) k (change.Linked (next_life s c)) within
     (subst (λ (j : ℕ). owns (class s j) c ≡ true) at.0 (class_owns s o.tiles c at.1)) refl (omega arith) (λ e. absurd (omega (arith, e)))
 
 -- a move is of a chunk in use
@@ -153,19 +145,17 @@ stays_after s o (event.DropFull w) enabled = by_value (AllStay s) (drop_full s w
 stays_after s o (event.Unmark w) enabled = by_value (AllStay s) (unmark s w) (cleared_life (worker s w).hand) s (λ l is. stays_headed s l.chunk (cleared_head (head s l.chunk)) _ refl) (λ d. stays_here d s)
 stays_after s o (event.StoreTime l t) enabled = stays_written s l.chunk _ s.workers refl refl
 stays_after s o (event.Release l) enabled = stays_written s l.chunk _ s.workers refl refl
-stays_after s o (event.PutLabel k x) enabled = by_value (AllStay s) (λ c. with_label s c x) (next_chunk s k) s (λ c is. stays_labelled s c x (next_unused s o k c (rest_class s k enabled) is).2) (λ d. stays_here d s)
+stays_after s o (event.PutLabel k x) enabled = by_value (AllStay s) (λ c. with_label s c x) (next_chunk s k) s (λ c is. stays_labelled s c x (next_front s o k c (next_from s k enabled).1 is).2) (λ d. stays_here d s)
 stays_after s o (event.PutTime k t) enabled = by_value (AllStay s) (λ c. with_time s c t) (next_chunk s k) s (λ c is. stays_written s c _ s.workers refl refl) (λ d. stays_here d s)
-stays_after s o (event.Link k) enabled = by_value (AllStay s) (link s k) (next_chunk s k) s (λ c is. link_stays s o k c (rest_class s k enabled) is) (λ d. stays_here d s)
+stays_after s o (event.Link k) enabled = by_value (AllStay s) (link s k) (next_chunk s k) s (λ c is. link_stays s o k c (next_from s k enabled).1 is) (λ d. stays_here d s)
 stays_after s o (event.ClearActive c) enabled = stays_headed s c (cleared_head (head s c)) s.workers refl
-stays_after s o (event.Move c to) enabled =
-    let both = and_parts (is_chunk s c) ((head s c).linked && (may_move (head s c).segment to && not (is_under_application s (class_of s c)))) enabled in
-    let on = (and_parts (head s c).linked (may_move (head s c).segment to && not (is_under_application s (class_of s c))) both.1).0 in
-    moved_stays s o c to (change.Moved (life c (head s c).generation) (head s c).segment to Pull) refl (chunk_from s c both.0) on
+stays_after s o (event.Move c to) enabled = let may = move_from s c to enabled in
+    moved_stays s o c to (change.Moved (life c (head s c).generation) (head s c).segment to Pull) refl may.0 may.1
 stays_after s o (event.TakeBump w) enabled = by_value (AllStay s) (take_bump s w) (next_bump (worker s w)) s (λ l is. stays_worked s _) (λ d. stays_here d s)
 stays_after s o (event.Try w) enabled = by_value (AllStay s) _ (carried (worker s w).lane) s (λ b is. stays_worked s _) (λ d. stays_here d s)
 stays_after s o (event.BumpTime w t) enabled = by_value (AllStay s) _ (applied_now (worker s w).lane) s (λ b is. stays_written s b.life.chunk _ s.workers refl refl) (λ d. stays_here d s)
 stays_after s o (event.ClearFor w) enabled = by_value (AllStay s) (clear_for s w) (tried (worker s w).lane) s (λ b is. stays_headed s b.life.chunk (cleared_head (head s b.life.chunk)) _ refl) (λ d. stays_here d s)
-stays_after s o (event.MoveFor w) enabled = by_value (AllStay s) (move_for s w) (cleared_active (worker s w).lane) s (λ b is. moved_for_stays s o w b (worker_from s w (and_parts (is_worker s w) (some_and (λ b. true) (cleared_active (worker s w).lane)) enabled).0) is) (λ d. stays_here d s)
+stays_after s o (event.MoveFor w) enabled = by_value (AllStay s) (move_for s w) (cleared_active (worker s w).lane) s (λ b is. moved_for_stays s o w b (move_for_from s w enabled).1 is) (λ d. stays_here d s)
 stays_after s o (event.Alight w) enabled = by_value (AllStay s) _ (applied_now (worker s w).lane) s
     (λ b is. by_value (AllStay s) (alight s w b) (lane_outcome s w) s (λ r at. stays_headed s b.life.chunk (one_fewer (head s b.life.chunk)) _ refl) (λ d. stays_here d s)) (λ d. stays_here d s)
 

@@ -8,7 +8,7 @@ use Rattle.bump_core.specs.Runs.{Steps, run_of}
 use Rattle.bump_core.specs.State.{State}
 use Rattle.bump_core.specs.Events.{is_enabled, after}
 use Rattle.bump_core.specs.Worlds.{IsLawful, NothingUnlinked}
-use Rattle.bump_core.proofs.Moving.{link_lawful, move_lawful, move_for_lawful}
+use Rattle.bump_core.proofs.Moving.{after_link, after_move, after_move_for}
 use Rattle.bump_core.proofs.Running.{by_step, by_run}
 use Rattle.bump_core.proofs.Kept.{nothing_unlinked}
 use Rattle.bump_core.proofs.Attempting.{after_reserve, after_drop_refs, after_drop_busy, after_push, after_drop_full, after_unmark}
@@ -36,14 +36,14 @@ lawful_after s o (event.StoreTime l t) = after_store_time s l t o
 lawful_after s o (event.Release l) = after_release s l o
 lawful_after s o (event.PutLabel k x) = after_put_label s k x o
 lawful_after s o (event.PutTime k t) = after_put_time s k t o
-lawful_after s o (event.Link k) = link_lawful s o k
+lawful_after s o (event.Link k) = after_link s o k
 lawful_after s o (event.ClearActive c) = after_clear_active s c o
-lawful_after s o (event.Move c to) = move_lawful s o c to
+lawful_after s o (event.Move c to) = after_move s o c to
 lawful_after s o (event.TakeBump w) = after_take_bump s w o
 lawful_after s o (event.Try w) = after_try s w o
 lawful_after s o (event.BumpTime w t) = after_bump_time s w t o
 lawful_after s o (event.ClearFor w) = after_clear_for s w o
-lawful_after s o (event.MoveFor w) = move_for_lawful s o w
+lawful_after s o (event.MoveFor w) = after_move_for s o w
 lawful_after s o (event.Alight w) = after_alight s w o
 
 -- and so does a run
