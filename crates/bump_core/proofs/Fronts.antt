@@ -149,6 +149,10 @@ module _ (s : State) (o : IsLawful s) where
   pub linked_stands : (c : ℕ) → (head s c).linked ≡ true → StandsAt c (place_of (head s c).segment) (class s (class_of s c)).lists
   linked_stands c on = stands c (place_of (head s c).segment) (linked_in_range s o c on) (place_linked c on)
 
+  -- the same, for a class and a list that are given
+  pub linked_stands_at : (c k : ℕ) (p : Place) → (head s c).linked ≡ true → k ≡ class_of s c → p ≡ place_of (head s c).segment → StandsAt c p (class s k).lists
+  linked_stands_at c k p on class_is place_is = subst (λ (j : ℕ). StandsAt c p (class s j).lists) (sym class_is) (subst (λ (q : Place). StandsAt c q (class s (class_of s c)).lists) (sym place_is) (linked_stands c on))
+
   -- the next chunk of a class stands in UNUSED
   pub next_stands : (k c : ℕ) → k < length s.classes → next_chunk s k ≡ Some c → (c < length s.chunks) × (class_of s c ≡ k) × ((head s c).generation < 4294967295) × StandsAt c Unused (class s k).lists
   next_stands k c within is = let at = next_front k c within is in
@@ -158,10 +162,6 @@ module _ (s : State) (o : IsLawful s) where
   pub some_next : (k : ℕ) (o : Option ℕ) → k < length s.classes → o ≡ next_chunk s k → IfSome o (λ c. (c < length s.chunks) × (class_of s c ≡ k) × ((head s c).generation < 4294967295) × StandsAt c Unused (class s k).lists)
   some_next k None within is = tt
   some_next k (Some c) within is = next_stands k c within (sym is)
-
-  -- the same, for a class and a list that are given
-  pub linked_stands_at : (c k : ℕ) (p : Place) → (head s c).linked ≡ true → k ≡ class_of s c → p ≡ place_of (head s c).segment → StandsAt c p (class s k).lists
-  linked_stands_at c k p on class_is place_is = subst (λ (j : ℕ). StandsAt c p (class s j).lists) (sym class_is) (subst (λ (q : Place). StandsAt c q (class s (class_of s c)).lists) (sym place_is) (linked_stands c on))
 
   -- the chunks of a class's lists are in range
   pub listed_in_range : (k : ℕ) (q : Place) (xs : List ℕ) → k < length s.classes → xs ≡ list_at (class s k).lists q → (i d : ℕ) → i < length xs → slice_index_or xs i d < length s.chunks

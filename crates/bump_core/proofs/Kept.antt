@@ -1,10 +1,11 @@
 -- Where nothing was unlinked: no event unlinks an item, and a chunk with a reference is linked.
 use Rattle.std.proofs.Common.{◌≡◌, ℕ, ◌<◌, Bool, true, false, List, [], ◌∷◌, ◌++◌, length, sym, ap, ◌∙◌, subst, arith, cond, eqb}
 use Rattle.std.proofs.lemmas.List.{get_or-set_same, get_or-set_other, length-set}
+use Rattle.std.proofs.lemmas.Bool.{true_from_ne_false}
 use native.Mathlib.Decide.{ℕ_discrete}
 use Rattle.bump_core.specs.declared.items.Head.{Head}
 use Rattle.bump_core.specs.declared.places.Place.{Place}
-use Rattle.bump_core.specs.declared.places.Place.TheVariants.{Hot, Warm, Cold, Dying, Unused, Retired}
+use Rattle.bump_core.specs.declared.places.Place.TheVariants.{Hot, Dying, Unused, Retired}
 use Rattle.bump_core.specs.declared.places.Segment.{Segment}
 use Rattle.bump_core.specs.declared.history.Change.{Change}
 use Rattle.bump_core.specs.declared.history.Change.TheVariants as change
@@ -18,7 +19,6 @@ use Rattle.bump_core.specs.State.{State, ClassState, class, worker, no_class, wi
 use Rattle.bump_core.specs.Lives.{life}
 use Rattle.bump_core.specs.Worlds.{place, references, IsLawful, NoneUnlinked, NothingUnlinked}
 use Rattle.bump_core.specs.Events.{after, reserve, drop_refs, drop_busy, push, drop_full, unmark, with_label, with_time, link, take_bump, clear_for, move_for, alight, next_chunk, next_life, next_bump, carried, applied_now, tried, cleared_active, lane_outcome}
-use Rattle.std.proofs.lemmas.Bool.{true_from_ne_false}
 use Rattle.bump_core.proofs.Laws.{dying_where_unlinked}
 use Rattle.bump_core.proofs.Facts.{referred_in_range, referred_used}
 use Rattle.bump_core.proofs.Tiles.{class_within}

@@ -1,5 +1,5 @@
--- Each kind of change leaves a chunk lawful: facts about a head, a place and two counts alone. They are the change of a count's name,
--- one reference more and fewer, the first hit and a later one, a mark, a link, an unlink, a sweep, and a move.
+-- Each kind of change leaves a chunk lawful: facts about a head, a place and two counts alone. The kinds: a reference taken or given back,
+-- the first hit and a later one, a mark, a link, an unlink, a sweep and a move; and counts, a head or a place in other words.
 use Rattle.std.proofs.Common.{◌≡◌, ℕ, ◌+◌, ◌-◌, ◌<◌, ◌≤◌, ◌≢◌, Bool, true, false, refl, sym, ap, ◌∙◌, subst, arith}
 use mathlib.Core.Bool.{false≢true}
 use mathlib.Core.Logic.{dite}

@@ -1,7 +1,6 @@
 -- The events that move a chunk in the lists of its class keep a World lawful.
-use Rattle.std.proofs.Common.{◌≡◌, ℕ, ◌+◌, ◌-◌, ◌<◌, ◌≢◌, ◌&&◌, cond, eqb, Bool, true, false, not, List, [], ◌∷◌, ◌++◌, length, Option, Some, None, refl, sym, ap, ◌∙◌, subst, arith, eq-eqb}
-use Rattle.std.proofs.lemmas.Bool.{cond-true, cond-false, and_parts, both_ways, ltb-true, not-true, ne_eqb, false≢true}
-use Rattle.std.specs.Option.{option_map_or}
+use Rattle.std.proofs.Common.{◌≡◌, ℕ, ◌+◌, ◌-◌, ◌<◌, ◌≢◌, cond, eqb, Bool, true, false, List, [], ◌∷◌, ◌++◌, length, Some, refl, sym, ap, ◌∙◌, subst, arith, eq-eqb}
+use Rattle.std.proofs.lemmas.Bool.{cond-true, cond-false, both_ways, ne_eqb}
 use Rattle.std.proofs.lemmas.List.{get_or-set_same, get_or-set_other, length-set}
 use native.Mathlib.Decide.{ℕ_discrete}
 use Rattle.bump_core.specs.declared.places.Segment.{Segment}
@@ -23,9 +22,9 @@ use Rattle.bump_core.specs.Totals.{total}
 use Rattle.bump_core.specs.History.{Standing, subject, target, standing_from}
 use Rattle.bump_core.specs.Lists.{to_front, opening}
 use Rattle.bump_core.specs.Rings.{aboard}
-use Rattle.bump_core.specs.State.{State, ClassState, chunk, head, class, worker, no_chunk, no_class, new_worker, with_head, with_change, class_with_change, class_of, applied_life, is_under_application, some_and, is_chunk, is_worker}
+use Rattle.bump_core.specs.State.{State, ClassState, chunk, head, class, worker, no_chunk, no_class, new_worker, with_head, with_change, class_with_change, class_of, applied_life}
 use Rattle.bump_core.specs.Worlds.{Tiles, IsLawful, IsClass, AreOf, WaitsToMove, owns, place, place_in, references, first_hits_of, holds_of, bumps_of, aboard_of}
-use Rattle.bump_core.specs.Events.{is_enabled, after, next_chunk, next_life, link, move_for, moved_head, with_lane, cleared_active, may_move, is_class_at_rest}
+use Rattle.bump_core.specs.Events.{is_enabled, after, next_chunk, next_life, link, move_for, moved_head, with_lane, cleared_active}
 use Rattle.bump_core.proofs.Replay.{replay_push, standing_push, are_of_push}
 use Rattle.bump_core.proofs.Tiles.{class_kept, tiles_kept, class_within, class_owns, owner, owned_in_range}
 use Rattle.bump_core.proofs.Fronts.{next_front}

@@ -1,6 +1,6 @@
 -- What every run leaves: the labels of chunks that stay in use, and the rings that were closed.
 use Rattle.std.proofs.Common.{◌≡◌, ℕ, ◌+◌, ◌<◌, ◌≤◌, ◌&&◌, not, true, false, List, length, Some, refl, sym, ap, ◌∙◌, subst, arith, nat_lt}
-use Rattle.std.proofs.lemmas.Bool.{and_parts, ltb-true, both_ways}
+use Rattle.std.proofs.lemmas.Bool.{and_parts, both_ways}
 use Rattle.std.proofs.lemmas.List.{get_or-set_other}
 use native.Mathlib.Decide.{ℕ_discrete}
 use Rattle.bump_core.specs.declared.chunks.Chunk.{Chunk}
@@ -14,20 +14,19 @@ use Rattle.bump_core.specs.declared.lanes.Bump.{Bump}
 use Rattle.bump_core.specs.declared.places.Place.TheVariants.{Unused}
 use Rattle.bump_core.specs.declared.places.Segment.{Segment}
 use Rattle.bump_core.specs.declared.places.Segment.TheVariants as segment
-use Rattle.bump_core.specs.Events.{is_enabled, after, next_chunk, next_life, next_bump, carried, tried, applied_now, cleared_active, lane_outcome, is_class_at_rest, may_move, moved_head, one_more, one_fewer, fetched_head, active_head, cleared_head, waiting, reserve, drop_refs, drop_busy, push, drop_full, unmark, with_label, with_time, link, take_bump, clear_for, move_for, alight}
+use Rattle.bump_core.specs.Events.{is_enabled, after, next_chunk, next_life, next_bump, carried, tried, applied_now, cleared_active, lane_outcome, moved_head, one_more, one_fewer, fetched_head, active_head, cleared_head, waiting, reserve, drop_refs, drop_busy, push, drop_full, unmark, with_label, with_time, link, take_bump, clear_for, move_for, alight}
 use Rattle.bump_core.specs.Headline.{LabelsStay, ClosedStay}
 use Rattle.bump_core.specs.History.{subject}
 use Rattle.bump_core.specs.Lawful.{IsUsed, newborn}
 use Rattle.bump_core.specs.Lives.{life}
 use Rattle.bump_core.specs.Runs.{run_of}
-use Rattle.bump_core.specs.State.{State, WorkerState, chunk, head, class, worker, no_chunk, new_worker, with_chunk, with_head, with_worker, with_change, class_of, is_chunk, is_class, is_worker, is_open, some_and, is_under_application, tried_life, life_in_hand, cleared_life}
+use Rattle.bump_core.specs.State.{State, WorkerState, chunk, head, class, worker, no_chunk, new_worker, with_chunk, with_head, with_worker, with_change, class_of, is_worker, is_open, some_and, tried_life, life_in_hand, cleared_life}
 use Rattle.bump_core.specs.Tables.{is_cold}
 use Rattle.bump_core.specs.Worlds.{IsLawful, owns, place}
-use Rattle.bump_core.proofs.Enabled.{next_from, move_from, move_for_from, by_test, by_value, cleared_from, chunk_from, worker_from}
+use Rattle.bump_core.proofs.Enabled.{next_from, move_from, move_for_from, by_test, by_value, cleared_from}
 use Rattle.bump_core.proofs.Running.{by_run}
 use Rattle.bump_core.proofs.Updates.{same_read}
-use Rattle.bump_core.proofs.PlainLists.{first_split}
-use Rattle.bump_core.proofs.Fronts.{next_front, unused_front}
+use Rattle.bump_core.proofs.Fronts.{next_front}
 use Rattle.bump_core.proofs.Facts.{linked_in_range, waiting_linked}
 use Rattle.bump_core.proofs.Laws.{used_where_linked}
 use Rattle.bump_core.proofs.Moving.{chunk_changed, chunk_unchanged, place_unchanged}

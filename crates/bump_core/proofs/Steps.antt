@@ -1,4 +1,4 @@
--- Each event that is enabled leaves a lawful state lawful, and so do steps and runs; what a World keeps.
+-- Each event that is enabled leaves a lawful state lawful, and so does a run; what a World keeps, a step and a run keep.
 use Rattle.std.proofs.Common.{◌≡◌, true, List, Some, Result}
 use Rattle.bump_core.specs.declared.events.Event.{Event}
 use Rattle.bump_core.specs.declared.events.Event.TheVariants as event
