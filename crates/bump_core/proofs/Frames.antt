@@ -28,6 +28,14 @@ with_parts s cs ws = record s { chunks = cs; workers = ws }
 abbrev pub hits_in : ItemId → WorkerState → ℕ
 hits_in l x = count_of l x.first_hits
 
+-- no other lane applies a bump of the class at which the lane of the new worker works
+abbrev pub AppliesAlone : State → ℕ → WorkerState → Type 0
+AppliesAlone s w y = (v : ℕ) (l m : ItemId) → v < length s.workers → v ≢ w → applied_life (worker s v).lane ≡ Some l → applied_life y.lane ≡ Some m → class_of s l.chunk ≡ class_of s m.chunk → ⊥
+
+-- with the new worker too, each worker that is on a life has a hold for it
+abbrev pub HandsHeld : State → ℕ → WorkerState → Type 0
+HandsHeld s w y = (l : ItemId) → workers_on s l + is_on l y.hand ≤ holds_of s l + is_on l (worker s w).hand
+
 -- All chunks but c and the counts of their lives are as before: where c is lawful all are.
 pub chunks_framed : (s : State) (cs : List Chunk) (ws : List WorkerState) → IsLawful s → (c : ℕ)
     → ((d : ℕ) → d ≢ c → slice_index_or cs d no_chunk ≡ chunk s d)
@@ -82,7 +90,7 @@ module _ (s : State) (w : ℕ) (y : WorkerState) (within : w < length s.workers)
 
   -- where no other lane applies a bump of the class at which the new lane works, still at most one does
   pub alone_after : IsLawful s
-      → ((v : ℕ) (l m : ItemId) → v < length s.workers → v ≢ w → applied_life (worker s v).lane ≡ Some l → applied_life y.lane ≡ Some m → class_of s l.chunk ≡ class_of s m.chunk → ⊥)
+      → AppliesAlone s w y
       → (v u : ℕ) (l m : ItemId) → v < length (slice_set s.workers w y) → u < length (slice_set s.workers w y)
       → applied_life (slice_index_or (slice_set s.workers w y) v new_worker).lane ≡ Some l → applied_life (slice_index_or (slice_set s.workers w y) u new_worker).lane ≡ Some m
       → class_of s l.chunk ≡ class_of s m.chunk → v ≡ u
@@ -98,8 +106,7 @@ module _ (s : State) (w : ℕ) (y : WorkerState) (within : w < length s.workers)
       at_w k e = ap (λ j. slice_index_or (slice_set s.workers w y) j new_worker) e ∙ worker_here
 
   -- a lane that applies what it applied is alone as before
-  pub alone_kept : IsLawful s → applied_life y.lane ≡ applied_life (worker s w).lane
-      → (v : ℕ) (l m : ItemId) → v < length s.workers → v ≢ w → applied_life (worker s v).lane ≡ Some l → applied_life y.lane ≡ Some m → class_of s l.chunk ≡ class_of s m.chunk → ⊥
+  pub alone_kept : IsLawful s → applied_life y.lane ≡ applied_life (worker s w).lane → AppliesAlone s w y
   alone_kept o same v l m inside ne of_v of_y classes = ne (o.alone v w l m inside within of_v (sym same ∙ of_y) classes)
 
 -- One worker changed, and no chunk: the state is lawful where the worker's bumps and first hits are as before.
@@ -108,7 +115,7 @@ pub worker_lawful : (s : State) (w : ℕ) (y : WorkerState) → IsLawful s → w
     → ((l : ItemId) → hits_in l y ≡ hits_in l (worker s w))
     → ((l : ItemId) → is_on l y.hand ≤ is_on l (worker s w).hand)
     → IsWorker s.capacity y
-    → ((v : ℕ) (l m : ItemId) → v < length s.workers → v ≢ w → applied_life (worker s v).lane ≡ Some l → applied_life y.lane ≡ Some m → class_of s l.chunk ≡ class_of s m.chunk → ⊥)
+    → AppliesAlone s w y
     → WaitsToMove s y.lane
     → IsLawful (with_worker s w y)
 worker_lawful s w y o within bumps hits hands lawful alone waits = record {
@@ -198,9 +205,9 @@ module _ (s : State) (c : ℕ) (h : Head) (w : ℕ) (y : WorkerState) (within_ch
       → ((l : ItemId) → l.chunk ≢ c → bumps_of l y ≡ bumps_of l (worker s w))
       → ((l : ItemId) → l.chunk ≢ c → hits_in l y ≡ hits_in l (worker s w))
       → Lawful s.refs_limit h (place s c) (references (with_worker (with_head s c h) w y) c) (first_hits_of (with_worker (with_head s c h) w y) c)
-      → ((l : ItemId) → workers_on s l + is_on l y.hand ≤ holds_of s l + is_on l (worker s w).hand)
+      → HandsHeld s w y
       → IsWorker s.capacity y
-      → ((v : ℕ) (l m : ItemId) → v < length s.workers → v ≢ w → applied_life (worker s v).lane ≡ Some l → applied_life y.lane ≡ Some m → class_of s l.chunk ≡ class_of s m.chunk → ⊥)
+      → AppliesAlone s w y
       → WaitsToMove (with_head s c h) y.lane
       → IsLawful (with_worker (with_head s c h) w y)
   both_lawful o linked segments bumps hits lawful hands new alone waits = record {
@@ -223,7 +230,7 @@ module _ (s : State) (c : ℕ) (h : Head) (w : ℕ) (y : WorkerState) (within_ch
       → ((l : ItemId) → l.chunk ≢ c → bumps_of l y ≡ bumps_of l (worker s w))
       → ((l : ItemId) → l.chunk ≢ c → hits_in l y ≡ hits_in l (worker s w))
       → Lawful s.refs_limit h (place s c) (references (with_worker (with_head s c h) w y) c) (first_hits_of (with_worker (with_head s c h) w y) c)
-      → ((l : ItemId) → workers_on s l + is_on l y.hand ≤ holds_of s l + is_on l (worker s w).hand)
+      → HandsHeld s w y
       → IsWorker s.capacity y
       → IsLawful (with_worker (with_head s c h) w y)
   both_lawful_off_lane o lanes linked segments bumps hits lawful hands new = both_lawful o linked segments bumps hits lawful hands new
@@ -235,9 +242,9 @@ pub both_marked : (s : State) (c : ℕ) (b : Bool) (w : ℕ) (y : WorkerState) �
     → bit b ≤ bit (head s c).fetched
     → ((l : ItemId) → bumps_of l y ≡ bumps_of l (worker s w))
     → ((l : ItemId) → hits_in l y ≡ hits_in l (worker s w))
-    → ((l : ItemId) → workers_on s l + is_on l y.hand ≤ holds_of s l + is_on l (worker s w).hand)
+    → HandsHeld s w y
     → IsWorker s.capacity y
-    → ((v : ℕ) (l m : ItemId) → v < length s.workers → v ≢ w → applied_life (worker s v).lane ≡ Some l → applied_life y.lane ≡ Some m → class_of s l.chunk ≡ class_of s m.chunk → ⊥)
+    → AppliesAlone s w y
     → WaitsToMove (with_head s c (record (head s c) { active = b })) y.lane
     → IsLawful (with_worker (with_head s c (record (head s c) { active = b })) w y)
 both_marked s c b w y o within inside below bumps hits hands new alone waits = both_lawful s c h w y within inside refl o refl refl (λ l ne. bumps l) (λ l ne. hits l)
@@ -258,9 +265,9 @@ both_marked s c b w y o within inside below bumps hits hands new alone waits = b
 pub both_unreferred : (s : State) (l : ItemId) (w : ℕ) (y : WorkerState) → IsLawful s → l.chunk < length s.chunks → w < length s.workers → l.generation ≡ (head s l.chunk).generation
     → ((m : ItemId) → bumps_of m y + one_if m l ≡ bumps_of m (worker s w))
     → ((m : ItemId) → hits_in m y ≡ hits_in m (worker s w))
-    → ((m : ItemId) → workers_on s m + is_on m y.hand ≤ holds_of s m + is_on m (worker s w).hand)
+    → HandsHeld s w y
     → IsWorker s.capacity y
-    → ((v : ℕ) (k m : ItemId) → v < length s.workers → v ≢ w → applied_life (worker s v).lane ≡ Some k → applied_life y.lane ≡ Some m → class_of s k.chunk ≡ class_of s m.chunk → ⊥)
+    → AppliesAlone s w y
     → WaitsToMove (with_head s l.chunk (one_fewer (head s l.chunk))) y.lane
     → IsLawful (with_worker (with_head s l.chunk (one_fewer (head s l.chunk))) w y)
 both_unreferred s l w y o within inside current bumps hits hands new alone waits = both_lawful s l.chunk h w y within inside refl o refl refl

@@ -47,21 +47,22 @@ take_made s w l allowed = by (is_chunk s l.chunk) (is_linked s l && is_under_lim
     by true true in_range may out = run_step s s (event.Load l.chunk) (event.Take w l ∷ []) in_range refl
         ∙ run_step s (with_hold s l.chunk) (event.Take w l) [] (and_from _ _ allowed may) refl
 
+-- a command that finds an item in its class finds the class at rest
+at_rest : (s : State) (k c : ℕ) (m : Option ℕ) → m ≡ Some c → (is_class s k && (not (some_and (λ d. true) m) || not (is_under_application s k))) ≡ true
+    → (k < length s.classes) × (is_class_at_rest s k ≡ true) × (not (is_under_application s k) ≡ true)
+at_rest s k c m is allowed = let both = and_parts (is_class s k) (not (some_and (λ d. true) m) || not (is_under_application s k)) allowed in
+    let rest : not (is_under_application s k) ≡ true = ap (λ o. not (some_and (λ (d : ℕ). true) o) || not (is_under_application s k)) (sym is) ∙ both.1 in
+    (ltb-true k (length s.classes) both.0, and_from (is_class s k) (not (is_under_application s k)) both.0 rest, rest)
+
 -- a link stores the label and the time, and begins the life
 pub link_made : (s : State) → IsLawful s → (k x now : ℕ) → is_allowed s (command.Link k x now) ≡ true → run_of s (events_of s (command.Link k x now)) ≡ Some (command_after s (command.Link k x now))
 link_made s o k x now allowed = by (next_chunk s k) refl
   where
-    both : (is_class s k ≡ true) × ((not (some_and (λ c. true) (next_chunk s k)) || not (is_under_application s k)) ≡ true)
-    both = and_parts (is_class s k) _ allowed
-
-    within : k < length s.classes
-    within = ltb-true k (length s.classes) both.0
-
     linked : (c : ℕ) → next_chunk s k ≡ Some c → run_of s (event.PutLabel k x ∷ event.PutTime k now ∷ event.Link k ∷ []) ≡ Some (link_labelled s k x now c)
     linked c is =
-        let c_in = (next_front s o k c within is).1 in
-        let rest : not (is_under_application s k) ≡ true = ap (λ m. not (some_and (λ (c : ℕ). true) m) || not (is_under_application s k)) (sym is) ∙ both.1 in
-        let enabled : (is_class_at_rest s k && some_and (λ (c : ℕ). true) (next_chunk s k)) ≡ true = and_from _ _ (and_from _ _ both.0 rest) (ap (some_and (λ (c : ℕ). true)) is) in
+        let found = at_rest s k c (next_chunk s k) is allowed in
+        let c_in = (next_front s o k c found.0 is).1 in
+        let enabled : (is_class_at_rest s k && some_and (λ (c : ℕ). true) (next_chunk s k)) ≡ true = and_from _ _ found.1 (ap (some_and (λ (c : ℕ). true)) is) in
         let z = chunk s c in
         let y : Chunk = record z { label = x } in
         let t = with_label s c x in
@@ -111,20 +112,14 @@ cleared_again s c clear = ap (λ (b : Bool). with_head s c (record (head s c) { 
 pub pull_made : (s : State) → IsLawful s → (k : ℕ) (t : Tail) → is_allowed s (command.Pull k t) ≡ true → run_of s (events_of s (command.Pull k t)) ≡ Some (command_after s (command.Pull k t))
 pull_made s o k t allowed = by (tail_of s k t) refl
   where
-    both : (is_class s k ≡ true) × ((not (some_and (λ c. true) (tail_of s k t)) || not (is_under_application s k)) ≡ true)
-    both = and_parts (is_class s k) _ allowed
-
-    within : k < length s.classes
-    within = ltb-true k (length s.classes) both.0
-
     pulled : (c : ℕ) → tail_of s k t ≡ Some c → run_of s (event.ClearActive c ∷ move_events c (pulled_to (pulled_at s k t c))) ≡ Some (pull s k t c)
     pulled c is = moves (pulled_to (pulled_at s k t c)) refl
       where
         at : (c < length s.chunks) × (class_of s c ≡ k) × ((head s c).linked ≡ true) × ((head s c).segment ≡ segment_of t)
-        at = last_linked s o k c (segment_of t) within is
+        at = last_linked s o k c (segment_of t) (at_rest s k c (tail_of s k t) is allowed).0 is
 
         rest : not (is_under_application s (class_of s c)) ≡ true
-        rest = ap (λ (j : ℕ). not (is_under_application s j)) at.1 ∙ (ap (λ m. not (some_and (λ (d : ℕ). true) m) || not (is_under_application s k)) (sym is) ∙ both.1)
+        rest = ap (λ (j : ℕ). not (is_under_application s j)) at.1 ∙ (at_rest s k c (tail_of s k t) is allowed).2
 
         enabled : is_enabled s (event.ClearActive c) ≡ true
         enabled = and_from _ _ (lt-ltb c (length s.chunks) at.0) (and_from _ _ at.2 rest)
