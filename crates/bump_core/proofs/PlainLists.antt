@@ -144,7 +144,7 @@ position_within c (x ∷ xs) some = by (cases_Bool (eqb x c)) (position_within c
     by (inl e) ih = omega (arith, ap (λ b. cond (not b) (1 + position_or_len (λ x. eqb x c) xs) 0) e)
     by (inr e) ih = omega (arith, ap (λ b. cond (not b) (1 + position_or_len (λ x. eqb x c) xs) 0) e, ih (omega (arith, some, ap bit e)))
 
--- the same of the first index at which it is found
+-- the first index at which the chunk is found, taken out, leaves the list without it
 pub remove_found : (c : ℕ) (xs : List ℕ) (i : ℕ) → position (λ x. x == c) xs ≡ Some i → times c xs ≡ 1 → remove xs i ≡ without c xs
 remove_found c xs i found once = let at = position-Some (λ x. x == c) xs i 0 found in remove_at c xs i 0 at.0 (eqb-true _ _ at.1) once
 
