@@ -5,6 +5,7 @@ pub mod History
 pub mod Lawful
 pub mod Lists
 pub mod Lives
+pub mod Opening
 pub mod Rings
 pub mod Runs
 pub mod State

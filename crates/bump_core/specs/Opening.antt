@@ -1,0 +1,32 @@
+-- The state of a new World.
+use Rattle.std.specs.Prelude.{ℕ, ◌+◌, ◌-◌, List, [], ◌∷◌, replicate}
+use Rattle.bump_core.specs.declared.configs.ClassConfig.{ClassConfig}
+use Rattle.bump_core.specs.declared.configs.Config.{Config}
+use Rattle.bump_core.specs.declared.chunks.Chunk.{Chunk}
+use Rattle.bump_core.specs.Configs.{chunks_of}
+use Rattle.bump_core.specs.Lawful.{fresh_head}
+use Rattle.bump_core.specs.Lists.{opening}
+use Rattle.bump_core.specs.State.{State, ClassState, new_worker}
+
+-- a chunk before its first life
+abbrev pub fresh_chunk : ℕ → Chunk
+fresh_chunk g = record { head = fresh_head g; time = 0; label = 0; holds = 0 }
+
+-- a class whose chunks are all UNUSED
+abbrev pub new_class : ℕ → ClassConfig → ClassState
+new_class first k = record { first = first; end = first + k.chunks; hot_limit = k.hot; warm_limit = k.warm; lists = opening first k.chunks; history = [] }
+
+-- the first class has the first chunks, the next class the next
+abbrev pub classes_from : ℕ → List ClassConfig → List ClassState
+classes_from first [] = []
+classes_from first (k ∷ ks) = new_class first k ∷ classes_from (first + k.chunks) ks
+
+-- All chunks are fresh, with the generation before the first one; no worker has done anything.
+abbrev pub new_state : Config → State
+new_state config = record {
+  refs_limit = config.refs_limit;
+  capacity = config.capacity;
+  chunks = replicate (chunks_of config.classes) (fresh_chunk (config.first_generation - 1));
+  classes = classes_from 0 config.classes;
+  workers = replicate config.workers new_worker;
+}

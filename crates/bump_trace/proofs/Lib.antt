@@ -1,0 +1,4 @@
+pub mod Numerals
+pub mod Bytes
+pub mod Rows
+pub mod Fields
