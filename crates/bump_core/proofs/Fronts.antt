@@ -157,6 +157,15 @@ last_is (x ∷ y ∷ ys) d some = last_is (y ∷ ys) d (omega arith) ∙ ap (λ 
     next : (n : ℕ) → suc (suc n - 1) ≡ suc (suc n) - 1
     next n = omega arith
 
+-- an element read at the last index is the last
+pub back_is : (xs : List ℕ) (n x : ℕ) → n ≡ length xs → 0 < n → x ≡ slice_index_or xs (n - 1) x → Some x ≡ last_of xs
+back_is xs n x long some is = ap (λ (y : ℕ). Some y) is ∙ ap (λ (m : ℕ). Some (slice_index_or xs (m - 1) x)) long ∙ sym (last_is xs x (omega arith))
+
+-- a list that isn't longer than nothing has no last
+pub back_none : (xs : List ℕ) (n : ℕ) → n ≡ length xs → (0 < n → false ≡ true) → None ≡ last_of xs
+back_none [] n long none = refl
+back_none (x ∷ xs) n long none = absurd (let u : ⊥ = cc (none (omega arith)) in u)
+
 -- a list that has a last has some element, and the last is at its last index
 pub last_at : (c : ℕ) (xs : List ℕ) (d : ℕ) → last_of xs ≡ Some c → (0 < length xs) × (slice_index_or xs (length xs - 1) d ≡ c)
 last_at c [] d is = absurd (cc)
@@ -365,3 +374,18 @@ module _ (s : State) (o : IsLawful s) where
   -- the same, for a class and a list that are given
   pub linked_stands_at : (c k : ℕ) (p : Place) → (head s c).linked ≡ true → k ≡ class_of s c → p ≡ place_of (head s c).segment → StandsAt c p (class s k).lists
   linked_stands_at c k p on class_is place_is = subst (λ (j : ℕ). StandsAt c p (class s j).lists) (sym class_is) (subst (λ (q : Place). StandsAt c q (class s (class_of s c)).lists) (sym place_is) (linked_stands c on))
+
+  -- the chunks of a class's lists are in range
+  pub listed_in_range : (k : ℕ) (q : Place) (xs : List ℕ) → k < length s.classes → xs ≡ list_at (class s k).lists q → (i d : ℕ) → i < length xs → slice_index_or xs i d < length s.chunks
+  listed_in_range k q xs within is i d below = (listed k (slice_index_or xs i d) q within (subst (λ (ys : List ℕ). 0 < times (slice_index_or xs i d) ys) is (times_at (slice_index_or xs i d) xs i d below refl))).1
+
+  -- the last of HOT, WARM or COLD stands there
+  pub last_stands : (k c : ℕ) (g : Segment) → k < length s.classes → last_of (list_at (class s k).lists (place_of g)) ≡ Some c
+      → (c < length s.chunks) × (class_of s c ≡ k) × ((head s c).linked ≡ true) × ((head s c).segment ≡ g) × StandsAt c (place_of g) (class s k).lists
+  last_stands k c g within is = let at = last_linked k c g within is in (at.0, at.1, at.2, at.3, linked_stands_at c k (place_of g) at.2 (sym at.1) (ap place_of (sym at.3)))
+
+  -- the same of what a look-up answered
+  pub some_last : (k : ℕ) (g : Segment) (r : Option ℕ) → k < length s.classes → r ≡ last_of (list_at (class s k).lists (place_of g))
+      → IfSome r (λ c. (c < length s.chunks) × (class_of s c ≡ k) × ((head s c).linked ≡ true) × ((head s c).segment ≡ g) × StandsAt c (place_of g) (class s k).lists)
+  some_last k g None within is = tt
+  some_last k g (Some c) within is = last_stands k c g within (sym is)

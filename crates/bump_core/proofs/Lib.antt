@@ -7,8 +7,14 @@ pub mod Kept
 pub mod LaneReaches
 pub mod Laning
 pub mod Laws
+pub mod Made
+pub mod MadeBumps
+pub mod MadeCalls
+pub mod MadeHits
+pub mod MadeParts
 pub mod Moving
 pub mod MovingLaws
+pub mod Openings
 pub mod Putting
 pub mod Reaches
 pub mod Readers

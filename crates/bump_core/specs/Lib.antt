@@ -6,6 +6,7 @@ pub mod Lawful
 pub mod Lists
 pub mod Lives
 pub mod Opening
+pub mod Readers
 pub mod Rings
 pub mod Runs
 pub mod State

@@ -6,7 +6,7 @@ ghost use Rattle.bump_core.specs.Configs.{first_fault, has_wrong_chunks_lem};
 use std::marker::Model;
 
 /// The greatest number of chunks of all classes together.
-const MAX_CHUNKS: u32 = 1_000_000;
+pub const MAX_CHUNKS: u32 = 1_000_000;
 
 /// A class: how many chunks it has, and over which sizes (counts of items) pulls take from HOT and WARM.
 #[derive(Clone, Copy, Debug, PartialEq, Eq)]

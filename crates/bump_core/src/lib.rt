@@ -3,6 +3,7 @@
 
 mod attempts;
 pub mod bumps;
+mod calls;
 mod changes;
 pub mod chunks;
 pub mod classes;
@@ -15,6 +16,7 @@ mod hits;
 pub mod items;
 pub mod lanes;
 mod linking;
+mod opening;
 pub mod parts;
 pub mod places;
 mod step;
@@ -29,4 +31,4 @@ pub use history::{Cause, Change};
 pub use items::{Head, ItemId};
 pub use lanes::{AppliedBump, Outcome};
 pub use places::{Place, Segment, Tail};
-pub use worlds::World;
+pub use worlds::{OutOfMemory, World};

@@ -2,7 +2,7 @@
 ghost use Rattle.std.specs.Prelude.{◌≡◌, ◌<◌, IfSome, length};
 ghost use Rattle.bump_core.specs.State.{chunk, head, worker, is_chunk, is_class, is_worker, is_current, is_linked, is_held, workers_on, has_free_hold, class_of, is_under_application, is_open, class};
 ghost use Rattle.bump_core.specs.Events.{next_bump, waiting, next_chunk};
-ghost use Rattle.bump_core.specs.Lists.{StandsAt};
+ghost use Rattle.bump_core.specs.Lists.{StandsAt, list_at};
 ghost use Rattle.bump_core.specs.Worlds.{IsLawful};
 ghost use Rattle.bump_core.specs.declared.places.Place.TheVariants.{Unused};
 ghost use Rattle.bump_core.specs.Views.{state_of};
@@ -11,8 +11,10 @@ use crate::bumps::Accounts;
 use crate::chunks::Chunk;
 use crate::classes::Class;
 use crate::items::{Head, ItemId};
-use crate::lanes::Lane;
+use crate::lanes::{AppliedBump, Lane};
+use crate::places::Place;
 use crate::workers::{Hand, Worker};
+use std::collections::VecDeque;
 
 /// The state of a World.
 #[derive(Drop)]
@@ -203,5 +205,47 @@ impl Parts {
     {
         let worker = &self.workers[w as usize];
         worker.sent.get(worker.received).copied()
+    }
+
+    /// A list of a class.
+    pub fn list(&self, k: u32, place: Place) -> &VecDeque<u32>
+        requires { k < length (state_of self.now).classes }
+        ensures { result.now.items ≡ list_at (class (state_of self.now) k).lists place }
+    {
+        let lists = &self.classes[k as usize].lists;
+        match place {
+            Place::Hot => &lists.hot,
+            Place::Warm => &lists.warm,
+            Place::Cold => &lists.cold,
+            Place::Dying => &lists.dying,
+            Place::Unused => &lists.unused,
+            Place::Retired => &lists.retired,
+        }
+    }
+
+    /// The bumps that a worker's ring accepted.
+    pub fn sent_bumps(&self, w: u32) -> &[ItemId]
+        requires { w < length (state_of self.now).workers }
+        ensures { result.now ≡ (worker (state_of self.now) w).sent }
+    {
+        self.workers[w as usize].sent.as_slice()
+    }
+
+    /// The bumps that a worker's lane took.
+    pub fn received_bumps(&self, w: u32) -> &[ItemId]
+        requires { w < length (state_of self.now).workers }
+        ensures { result.now ≡ (worker (state_of self.now) w).received }
+    {
+        let worker = &self.workers[w as usize];
+        let sent = worker.sent.as_slice();
+        &sent[..worker.received]
+    }
+
+    /// The bumps that a worker's lane applied.
+    pub fn applied_bumps(&self, w: u32) -> &[AppliedBump]
+        requires { w < length (state_of self.now).workers }
+        ensures { result.now ≡ (worker (state_of self.now) w).applied }
+    {
+        self.workers[w as usize].applied.as_slice()
     }
 }

@@ -6,3 +6,4 @@ pub mod Stages
 pub mod Commands
 pub mod Meaning
 pub mod Views
+pub mod Ready

@@ -4,20 +4,30 @@ use Rattle.std.specs.List.{slice_split}
 use Rattle.bump_trace.specs.Words.{words_of}
 use Rattle.bump_trace.specs.Lines.{Instruction, Store, Class, Set, Get, Pull, Drain, Show, ◌>>=◌, instruction_of}
 use Rattle.bump_trace.specs.Text.{fault_line}
-use Rattle.bump_trace.specs.Stages.{Stage, Before, Said, say, begun, classed, opened}
+use Rattle.bump_trace.specs.Stages.{BenchState, Stage, Before, Said, say, begun, classed, opened}
 use Rattle.bump_trace.specs.Commands.{set_said, get_said, pull_said, drain_said, show_said}
 use Rattle.bump_trace.specs.declared.fault.Fault.{Fault}
 use Rattle.bump_trace.specs.declared.fault.Fault.TheVariants as fault
+
+-- what an instruction does on an open store, where `store` and `class` may not stand
+unfoldable pub ordinary : BenchState → ℕ → Instruction → Result Said Fault
+ordinary b now (Store shape) = Err fault.Order
+ordinary b now (Class class) = Err fault.Order
+ordinary b now (Set name k label) = set_said b now name k label
+ordinary b now (Get w name) = get_said b now w name
+ordinary b now (Pull k t) = pull_said b k t
+ordinary b now Drain = drain_said b now
+ordinary b now Show = show_said b
+
+-- what a command does: the first one opens the store
+abbrev pub command_said : Stage → ℕ → Instruction → Result Said Fault
+command_said stage now i = opened stage >>= (λ b. ordinary b now i)
 
 -- what an instruction does at a time
 unfoldable pub effect : Stage → ℕ → Instruction → Result Said Fault
 effect stage now (Store shape) = begun stage shape
 effect stage now (Class class) = classed stage class
-effect stage now (Set name k label) = opened stage >>= (λ b. set_said b now name k label)
-effect stage now (Get w name) = opened stage >>= (λ b. get_said b now w name)
-effect stage now (Pull k t) = opened stage >>= (λ b. pull_said b k t)
-effect stage now Drain = opened stage >>= (λ b. drain_said b now)
-effect stage now Show = opened stage >>= (λ b. show_said b)
+effect stage now other = command_said stage now other
 
 abbrev pub is_long : List ℕ → Bool
 is_long line = nat_lt 255 (length line)

@@ -21,14 +21,14 @@ abbrev pub bind : List ℕ → ItemId → Names → Names
 bind name id names other = if bytes_eq name other then Some id else names other
 
 -- a store that commands are made on, and the names of its items
-pub record Bench : Type 0 where
+pub record BenchState : Type 0 where
   pub state : State
   pub names : Names
 
 pub data Stage : Type 0 where
   Before : Stage
   Classes : Shape → List ClassConfig → Stage
-  Open : Bench → Stage
+  Open : BenchState → Stage
 
 -- a stage, and the text that a line gave
 pub record Said : Type 0 where
@@ -59,7 +59,7 @@ config_fault shape classes =
       (config.Workers ∷ config.Capacity ∷ config.RefsLimit ∷ config.Generation ∷ config.Classes ∷ config.Chunks ∷ []))
 
 -- a store of this shape in which nothing was done
-abbrev pub new_bench : Shape → List ClassConfig → Bench
+abbrev pub new_bench : Shape → List ClassConfig → BenchState
 new_bench shape classes = record {
   state = record {
     refs_limit = shape.refs_limit;
@@ -71,12 +71,12 @@ new_bench shape classes = record {
   names = λ name. None;
 }
 
-abbrev pub open_unless : Option Fault → Bench → Result Bench Fault
+abbrev pub open_unless : Option Fault → BenchState → Result BenchState Fault
 open_unless None bench = Ok bench
 open_unless (Some e) bench = Err e
 
 -- The store that a command finds. The first command after the lines `class` opens it.
-unfoldable pub opened : Stage → Result Bench Fault
+unfoldable pub opened : Stage → Result BenchState Fault
 opened Before = Err fault.Order
 opened (Classes shape classes) = open_unless (config_fault shape classes) (new_bench shape classes)
 opened (Open bench) = Ok bench

@@ -7,7 +7,6 @@ use Rattle.bump_core.specs.declared.bumps.Applied.TheVariants.{Moved, TimeOnly, 
 use Rattle.bump_core.specs.declared.bumps.Ended.{Ended}
 use Rattle.bump_core.specs.declared.bumps.Ended.TheVariants.{Freed, Deferred}
 use Rattle.bump_core.specs.declared.bumps.Entry.{Entry}
-use Rattle.bump_core.specs.declared.chunks.Chunk.{Chunk}
 use Rattle.bump_core.specs.declared.commands.Dropped.{Dropped}
 use Rattle.bump_core.specs.declared.commands.Dropped.TheVariants.{Full, Busy, RefsFull}
 use Rattle.bump_core.specs.declared.commands.Pulled.{Pulled}
@@ -22,7 +21,7 @@ use Rattle.bump_core.specs.declared.places.Tail.{Tail}
 use Rattle.bump_core.specs.declared.places.Tail.TheVariants as tail
 use Rattle.bump_core.specs.Lists.{list_at, ascending}
 use Rattle.bump_core.specs.Lives.{life}
-use Rattle.bump_core.specs.State.{State, WorkerState, chunk, class, worker}
+use Rattle.bump_core.specs.State.{State, chunk, head, class, worker}
 use Rattle.bump_trace.specs.Words.{word_of}
 use Rattle.bump_trace.specs.declared.fault.Fault.{Fault}
 
@@ -35,16 +34,14 @@ abbrev pub flags_text : Head → List ℕ
 flags_text h = if h.fetched then (if h.active then codes "fa" else codes "f") else codes "-"
 
 -- ID:REFS:FLAGS:TIME
-abbrev pub item_text : State → ℕ → List ℕ
-item_text s c =
-    let x = chunk s c in
-    id_text (life c x.head.generation) ++ codes ":" ++ decimal x.head.refs ++ codes ":" ++ flags_text x.head ++ codes ":" ++ decimal x.time
+abbrev pub item_text : ℕ → Head → ℕ → List ℕ
+item_text c h time = id_text (life c h.generation) ++ codes ":" ++ decimal h.refs ++ codes ":" ++ flags_text h ++ codes ":" ++ decimal time
 
 -- An item of HOT, WARM, COLD or DYING is told whole, a chunk of UNUSED or RETIRED by its number.
-abbrev pub entry_text : State → Place → ℕ → List ℕ
-entry_text s place.Unused c = decimal c
-entry_text s place.Retired c = decimal c
-entry_text s _ c = item_text s c
+abbrev pub entry_text : Place → ℕ → Head → ℕ → List ℕ
+entry_text place.Unused c h time = decimal c
+entry_text place.Retired c h time = decimal c
+entry_text _ c h time = item_text c h time
 
 abbrev pub place_word : Place → List ℕ
 place_word place.Hot = codes "hot"
@@ -58,11 +55,17 @@ place_word place.Retired = codes "retired"
 abbrev pub all_places : List Place
 all_places = place.Hot ∷ place.Warm ∷ place.Cold ∷ place.Dying ∷ place.Unused ∷ place.Retired ∷ []
 
--- class C PLACE LEN, and then a space and an entry for each of the list, front first
+-- class C PLACE LEN
+abbrev pub list_start : ℕ → Place → ℕ → List ℕ
+list_start k p length = codes "class " ++ decimal k ++ codes " " ++ place_word p ++ codes " " ++ decimal length
+
+-- a space, and what is told of a chunk of the list
+abbrev pub list_entry : State → Place → ℕ → List ℕ
+list_entry s p c = codes " " ++ entry_text p c (head s c) (chunk s c).time
+
+-- class C PLACE LEN, and then the entries of the list, front first
 abbrev pub list_line : State → ℕ → Place → List ℕ
-list_line s k p =
-    let cs = list_at (class s k).lists p in
-    codes "class " ++ decimal k ++ codes " " ++ place_word p ++ codes " " ++ decimal (length cs) ++ flat_map (λ c. codes " " ++ entry_text s p c) cs ++ codes "\n"
+list_line s k p = let cs = list_at (class s k).lists p in list_start k p (length cs) ++ flat_map (list_entry s p) cs ++ codes "\n"
 
 abbrev pub class_lines : State → ℕ → List ℕ
 class_lines s k = flat_map (list_line s k) all_places
@@ -74,8 +77,11 @@ accounts_text a applied =
     ++ codes " busy " ++ decimal a.busy ++ codes " refs " ++ decimal a.refs ++ codes " applied " ++ decimal applied
 
 -- worker W ACCOUNTS
+abbrev pub accounts_line : ℕ → Accounts → ℕ → List ℕ
+accounts_line w a applied = codes "worker " ++ decimal w ++ codes " " ++ accounts_text a applied ++ codes "\n"
+
 abbrev pub worker_line : State → ℕ → List ℕ
-worker_line s w = codes "worker " ++ decimal w ++ codes " " ++ accounts_text (worker s w).accounts (length (worker s w).applied) ++ codes "\n"
+worker_line s w = accounts_line w (worker s w).accounts (length (worker s w).applied)
 
 -- all lists, and then the accounts of all workers
 abbrev pub show_text : State → List ℕ

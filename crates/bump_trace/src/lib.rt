@@ -1,8 +1,12 @@
 //! The trace language of bump.
 #![tactic(auto)]
 
+mod bench;
+mod counted;
 mod fault;
 mod line;
+mod names;
+mod output;
+mod session;
 
-pub use fault::{Fault, LineError};
-pub use line::{Line, Shape, number, read, words};
+pub use counted::Counted;

@@ -1,0 +1,35 @@
+-- What the readers of a World tell, by number.
+use Rattle.std.specs.Prelude.{ℕ, List}
+use Rattle.bump_core.specs.declared.places.Place.{Place}
+use Rattle.bump_core.specs.declared.items.ItemId.{ItemId}
+use Rattle.bump_core.specs.declared.bumps.Accounts.{Accounts}
+use Rattle.bump_core.specs.declared.lanes.AppliedBump.{AppliedBump}
+use Rattle.bump_core.specs.Lists.{list_at}
+use Rattle.bump_core.specs.State.{State, chunk, class, worker}
+
+-- a list of a class
+abbrev pub list_of : State → ℕ → Place → List ℕ
+list_of s k p = list_at (class s k).lists p
+
+-- a chunk's time, label and number of holds
+abbrev pub time_of : State → ℕ → ℕ
+time_of s c = (chunk s c).time
+
+abbrev pub label_of : State → ℕ → ℕ
+label_of s c = (chunk s c).label
+
+abbrev pub holds_at : State → ℕ → ℕ
+holds_at s c = (chunk s c).holds
+
+-- a worker's accounts, and the bumps that its ring sent, that its lane received and that its lane applied
+abbrev pub accounts_of : State → ℕ → Accounts
+accounts_of s w = (worker s w).accounts
+
+abbrev pub sent_of : State → ℕ → List ItemId
+sent_of s w = (worker s w).sent
+
+abbrev pub received_of : State → ℕ → List ItemId
+received_of s w = (worker s w).received
+
+abbrev pub applied_of : State → ℕ → List AppliedBump
+applied_of s w = (worker s w).applied
