@@ -5,3 +5,6 @@ pub mod Rows
 pub mod Rest
 pub mod Ascending
 pub mod Parts
+pub mod Printing
+pub mod Draining
+pub mod Benches

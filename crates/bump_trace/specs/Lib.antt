@@ -7,3 +7,4 @@ pub mod Commands
 pub mod Meaning
 pub mod Views
 pub mod Ready
+pub mod Runs

@@ -64,7 +64,7 @@ abbrev pub list_entry : State → Place → ℕ → List ℕ
 list_entry s p c = codes " " ++ entry_text p c (head s c) (chunk s c).time
 
 -- class C PLACE LEN, and then the entries of the list, front first
-abbrev pub list_line : State → ℕ → Place → List ℕ
+unfoldable pub list_line : State → ℕ → Place → List ℕ
 list_line s k p = let cs = list_at (class s k).lists p in list_start k p (length cs) ++ flat_map (list_entry s p) cs ++ codes "\n"
 
 abbrev pub class_lines : State → ℕ → List ℕ
@@ -80,7 +80,7 @@ accounts_text a applied =
 abbrev pub accounts_line : ℕ → Accounts → ℕ → List ℕ
 accounts_line w a applied = codes "worker " ++ decimal w ++ codes " " ++ accounts_text a applied ++ codes "\n"
 
-abbrev pub worker_line : State → ℕ → List ℕ
+unfoldable pub worker_line : State → ℕ → List ℕ
 worker_line s w = accounts_line w (worker s w).accounts (length (worker s w).applied)
 
 -- all lists, and then the accounts of all workers

@@ -61,7 +61,7 @@ Does new text (Err e) meant = FailsBy e meant
 
 -- The bumps that a call applied, their text and their number are those that are meant, unless memory ran out.
 abbrev pub Drains : Bench → Bench → List ℕ → List ℕ → Result ℕ LineError → Drained → Type 0
-Drains old new had has (Ok n) meant = (bench_of new ≡ record (bench_of old) { state = meant.state }) × (has ≡ had ++ meant.text) × (n ≡ meant.count)
+Drains old new had has (Ok n) meant = (new ≡ record old { world = meant.state }) × (has ≡ had ++ meant.text) × (n ≡ meant.count)
 Drains old new had has (Err errors.Memory) meant = Unit {0}
 Drains old new had has (Err (errors.Fault fault)) meant = ⊥
 

@@ -1,16 +1,17 @@
 //! The commands on an open store.
 
-ghost use Rattle.std.specs.Prelude.{◌≡◌, ◌<◌, ◌≤◌, ◌+◌, ◌*◌, true, List, [], ◌∷◌, ◌++◌, IfOk, IfErr, OnOk, Ok, None, All, length};
+ghost use Rattle.std.specs.Prelude.{◌≡◌, ◌<◌, ◌≤◌, ◌+◌, ◌^◌, true, List, [], ◌∷◌, ◌++◌, IfOk, IfErr, OnOk, Ok, None, All, length};
 ghost use Rattle.std.specs.List.{flat_map};
 ghost use Rattle.bump_core.specs.Commands.{is_allowed, answer_of, command_after};
 ghost use Rattle.bump_core.specs.State.{is_held};
 ghost use Rattle.bump_core.specs.Lists.{ascending};
+ghost use Rattle.bump_core.specs.Readers.{list_of};
 ghost use Rattle.bump_trace.specs.Stages.{Open};
 ghost use Rattle.bump_trace.specs.Commands.{get_held, set_said, get_said, pull_said, drain_said, show_said, drained_of, drained_through};
 ghost use Rattle.bump_core.specs.Opening.{new_state};
 ghost use Rattle.bump_trace.specs.declared.fault.LineError.TheVariants.{Memory};
 ghost use Rattle.bump_trace.specs.Meaning.{ordinary};
-ghost use Rattle.bump_trace.specs.Text.{all_places, list_entry, list_line, class_lines, worker_line, show_text};
+ghost use Rattle.bump_trace.specs.Text.{list_entry, list_line, class_lines, worker_line, show_text};
 
 use crate::fault::{Fault, LineError};
 use crate::line::Line;
@@ -21,16 +22,6 @@ use crate::output::{
 };
 use bump_core::{Answer, Command, Config, ItemId, Place, Refused, Tail, World};
 use std::alloc::{AllocError, Global};
-
-/// The lists of a class, in the order in which they are printed.
-const PLACES: [Place; 6] = [
-    Place::Hot,
-    Place::Warm,
-    Place::Cold,
-    Place::Dying,
-    Place::Unused,
-    Place::Retired,
-];
 
 /// A World with the names of its items, and how many workers and classes it has and bumps each ring has room for.
 #[derive(Drop)]
@@ -190,7 +181,7 @@ impl<'a> Bench<'a> {
         requires ready { IsReady self.old }
         requires worker { worker < self.old.workers }
         ensures drained { Drains self.old self.new out.old.items out.new.items result (drained_of now worker self.old.capacity self.old.world) }
-        ensures few { IfOk result (λ n. n ≤ self.old.capacity) }
+        ensures few { IfOk result (λ n. n < 2 ^ 32) }
         ensures ready { OnOk result (IsReady self.new) }
     {
         let mut count = 0u64;
@@ -220,13 +211,8 @@ impl<'a> Bench<'a> {
         Ok(())
     }
 
-    /// What is told of the chunks of a list.
-    fn put_entries(
-        &self,
-        out: &mut Vec<u8>,
-        place: Place,
-        chunks: &[u32],
-    ) -> Result<(), AllocError>
+    /// What is told of these chunks of a list.
+    fn put_chunks(&self, out: &mut Vec<u8>, place: Place, chunks: &[u32]) -> Result<(), AllocError>
         requires { All (λ c. c < length self.now.world.chunks) chunks.now }
         ensures { OnOk result (out.new.items ≡ out.old.items ++ flat_map (list_entry self.now.world place) chunks.now) }
     {
@@ -237,16 +223,25 @@ impl<'a> Bench<'a> {
         Ok(())
     }
 
+    /// What is told of all chunks of a list.
+    fn put_entries(&self, out: &mut Vec<u8>, class: u32, place: Place) -> Result<(), AllocError>
+        requires { class < length self.now.world.classes }
+        ensures { OnOk result (out.new.items ≡ out.old.items ++ flat_map (list_entry self.now.world place) (list_of self.now.world class place)) }
+    {
+        let (front, back) = self.world.list(class, place).as_slices();
+        self.put_chunks(out, place, front)?;
+        self.put_chunks(out, place, back)?;
+        Ok(())
+    }
+
     /// The line of a list.
+    #[tactic(auto, unfolding(crate::specs::Text::list_line))]
     fn put_list(&self, out: &mut Vec<u8>, class: u32, place: Place) -> Result<(), AllocError>
         requires { class < length self.now.world.classes }
         ensures { OnOk result (out.new.items ≡ out.old.items ++ list_line self.now.world class place) }
     {
-        let chunks = self.world.list(class, place);
-        let (front, back) = chunks.as_slices();
-        put_list_start(out, class, place, chunks.len())?;
-        self.put_entries(out, place, front)?;
-        self.put_entries(out, place, back)?;
+        put_list_start(out, class, place, self.world.list(class, place).len())?;
+        self.put_entries(out, class, place)?;
         out.extend_from_slice(b"\n")
     }
 
@@ -255,9 +250,12 @@ impl<'a> Bench<'a> {
         requires { class < length self.now.world.classes }
         ensures { OnOk result (out.new.items ≡ out.old.items ++ class_lines self.now.world class) }
     {
-        for place in PLACES {
-            self.put_list(out, class, place)?;
-        }
+        self.put_list(out, class, Place::Hot)?;
+        self.put_list(out, class, Place::Warm)?;
+        self.put_list(out, class, Place::Cold)?;
+        self.put_list(out, class, Place::Dying)?;
+        self.put_list(out, class, Place::Unused)?;
+        self.put_list(out, class, Place::Retired)?;
         Ok(())
     }
 
@@ -271,13 +269,22 @@ impl<'a> Bench<'a> {
         Ok(())
     }
 
+    /// The line of a worker.
+    #[tactic(auto, unfolding(crate::specs::Text::worker_line))]
+    fn put_accounts(&self, out: &mut Vec<u8>, worker: u32) -> Result<(), AllocError>
+        requires { worker < length self.now.world.workers }
+        ensures { OnOk result (out.new.items ≡ out.old.items ++ worker_line self.now.world worker) }
+    {
+        let applied = self.world.applied(worker).len() as u64;
+        put_worker(out, worker, self.world.accounts(worker), applied)
+    }
+
     fn put_workers(&self, out: &mut Vec<u8>) -> Result<(), AllocError>
         requires { IsReady self.now }
         ensures { OnOk result (out.new.items ≡ out.old.items ++ flat_map (worker_line self.now.world) (ascending 0 self.now.workers)) }
     {
         for worker in 0..self.workers {
-            let applied = self.world.applied(worker).len() as u64;
-            put_worker(out, worker, self.world.accounts(worker), applied)?;
+            self.put_accounts(out, worker)?;
         }
         Ok(())
     }

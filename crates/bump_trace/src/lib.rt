@@ -5,8 +5,10 @@ mod bench;
 mod counted;
 mod fault;
 mod line;
+mod model;
 mod names;
 mod output;
 mod session;
 
 pub use counted::Counted;
+pub use model::{SimFault, run_model};

@@ -1,0 +1,48 @@
+-- What a whole run reads and writes.
+use Rattle.std.specs.Prelude.{◌≡◌, ⊤, ℕ, Bool, true, false, List, ◌++◌, Option, Result, Ok, Err}
+use Rattle.std.specs.Io.KnownBytes.{Appends, Consumes, IsAtEnd}
+use Rattle.bump_trace.specs.Meaning.{verdict_of}
+use Rattle.bump_trace.specs.declared.model.SimFault.{SimFault}
+use Rattle.bump_trace.specs.declared.model.SimFault.TheVariants as faults
+
+-- All that the reader had is a trace, and the writer took its text and nothing else.
+abbrev pub Ran : Option (List ℕ) → Option (List ℕ) → Option (List ℕ) → Option (List ℕ) → Bool → Type 0
+Ran had left held holds is_fault =
+    (input : List ℕ) × Consumes had left input × IsAtEnd left × Appends held holds (verdict_of input).text × ((verdict_of input).is_fault ≡ is_fault)
+
+abbrev pub StoppedBy : Option (List ℕ) → Option (List ℕ) → Option (List ℕ) → Option (List ℕ) → SimFault → Type 0
+StoppedBy had left held holds faults.Trace = Ran had left held holds true
+StoppedBy had left held holds faults.Read = Unit {0}
+StoppedBy had left held holds faults.Size = Unit {0}
+StoppedBy had left held holds faults.Write = Unit {0}
+StoppedBy had left held holds faults.Memory = Unit {0}
+
+-- what a reader had and has left, and what a writer held and holds, by the answer of the run
+abbrev pub ModelRuns : Option (List ℕ) → Option (List ℕ) → Option (List ℕ) → Option (List ℕ) → Result ⊤ SimFault → Type 0
+ModelRuns had left held holds (Ok _) = Ran had left held holds false
+ModelRuns had left held holds (Err e) = StoppedBy had left held holds e
+
+-- a fault before anything is written
+abbrev pub IsOfReading : SimFault → Type 0
+IsOfReading faults.Trace = ⊥
+IsOfReading faults.Read = Unit {0}
+IsOfReading faults.Size = Unit {0}
+IsOfReading faults.Write = ⊥
+IsOfReading faults.Memory = Unit {0}
+
+-- a fault while the text is made and written
+abbrev pub IsOfWriting : SimFault → Type 0
+IsOfWriting faults.Trace = ⊥
+IsOfWriting faults.Read = ⊥
+IsOfWriting faults.Size = ⊥
+IsOfWriting faults.Write = Unit {0}
+IsOfWriting faults.Memory = Unit {0}
+
+-- What was gathered, and then this text, is what was written and what is gathered now.
+abbrev pub Gathers : Option (List ℕ) → Option (List ℕ) → List ℕ → List ℕ → List ℕ → Type 0
+Gathers held holds old new text = (sent : List ℕ) × Appends held holds sent × (sent ++ new ≡ old ++ text)
+
+-- What was written, and what is gathered, is the text of the input.
+abbrev pub RunsInto : Option (List ℕ) → Option (List ℕ) → List ℕ → List ℕ → Bool → Type 0
+RunsInto held holds gathered input is_fault =
+    (sent : List ℕ) × Appends held holds sent × (sent ++ gathered ≡ (verdict_of input).text) × ((verdict_of input).is_fault ≡ is_fault)
