@@ -1,5 +1,5 @@
 -- No event unlinks an item.
-use Rattle.std.proofs.Common.{◌≡◌, ℕ, ◌<◌, Bool, true, false, List, [], ◌∷◌, ◌++◌, length, Option, Some, None, refl, sym, ap, ◌∙◌, subst, arith, if◌then◌else◌}
+use Rattle.std.proofs.Common.{◌≡◌, ℕ, ◌<◌, Bool, true, false, List, [], ◌∷◌, ◌++◌, length, Option, Some, None, sym, ap, ◌∙◌, subst, arith, if◌then◌else◌}
 use Rattle.std.specs.Option.{option_map_or}
 use native.Mathlib.Decide.{ℕ_discrete}
 use Rattle.bump_core.specs.declared.history.Change.{Change}
@@ -11,7 +11,7 @@ use Rattle.bump_core.specs.declared.events.Event.TheVariants as event
 use Rattle.bump_core.specs.State.{State, ClassState, class, worker, no_class, with_change, class_with_change, head, class_of, tried_life, life_in_hand, cleared_life}
 use Rattle.bump_core.specs.Lives.{life}
 use Rattle.bump_core.specs.Worlds.{NoneUnlinked, NothingUnlinked}
-use Rattle.bump_core.specs.Events.{after, fetch, mark, reserve, drop_refs, drop_busy, push, drop_full, unmark, with_label, with_time, link, take_bump, with_lane, clear_for, move_for, alight, next_chunk, next_life, next_bump, carried, applied_now, tried, cleared_active, lane_outcome}
+use Rattle.bump_core.specs.Events.{after, reserve, drop_refs, drop_busy, push, drop_full, unmark, with_label, with_time, link, take_bump, clear_for, move_for, alight, next_chunk, next_life, next_bump, carried, applied_now, tried, cleared_active, lane_outcome}
 use Rattle.bump_core.proofs.Updates.{read_written, read_other, length_written}
 
 -- a history with one more entry that unlinks nothing

@@ -1,12 +1,12 @@
 -- The chunks of the bumps that lanes carry are in range.
-use Rattle.std.proofs.Common.{◌≡◌, ℕ, ◌<◌, length, Option, Some, None, Bool, true, false, sym, ap, arith, ◌∙◌, subst}
+use Rattle.std.proofs.Common.{◌≡◌, ℕ, ◌<◌, length, Option, Some, None, true, false, ap, arith, subst}
 use Rattle.std.specs.Prelude.{IfSome}
 use Rattle.bump_core.specs.declared.places.Segment.TheVariants as segment
 use Rattle.bump_core.specs.declared.lanes.Bump.{Bump}
 use Rattle.bump_core.specs.declared.lanes.Lane.{Lane}
 use Rattle.bump_core.specs.declared.lanes.Lane.TheVariants as lane
 use Rattle.bump_core.specs.Lives.{one_if}
-use Rattle.bump_core.specs.State.{State, head, worker, class_of, class}
+use Rattle.bump_core.specs.State.{State, head, worker}
 use Rattle.bump_core.specs.Events.{carried, tried, applied_now, cleared_active}
 use Rattle.bump_core.specs.Worlds.{IsLawful, aboard_of, WaitsToMove}
 use Rattle.bump_core.proofs.Facts.{one_if_same, aboard_in_range}

@@ -3,6 +3,7 @@ pub mod Enabled
 pub mod Facts
 pub mod Frames
 pub mod Fronts
+pub mod Headlines
 pub mod Kept
 pub mod LaneReaches
 pub mod Laning
@@ -14,11 +15,14 @@ pub mod MadeHits
 pub mod MadeParts
 pub mod Moving
 pub mod MovingLaws
+pub mod NextReaches
 pub mod Openings
 pub mod Putting
 pub mod Reaches
 pub mod Readers
 pub mod Replay
+pub mod Sizes
+pub mod Staying
 pub mod Steps
 pub mod Tiles
 pub mod Updates

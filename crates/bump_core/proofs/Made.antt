@@ -1,11 +1,17 @@
 -- Each command that is allowed is its events, each enabled in its turn.
-use Rattle.std.proofs.Common.{◌≡◌, true, Some}
+use Rattle.std.proofs.Common.{◌≡◌, true, Some, Result, Ok, Err, sym, ap, ◌∙◌, subst}
+use Rattle.std.specs.Prelude.{OnOk}
+use Rattle.bump_core.specs.declared.commands.Answer.{Answer}
+use Rattle.bump_core.specs.declared.events.Refused.{Refused}
+use Rattle.bump_core.specs.declared.events.Refused.TheVariants.{NotEnabled, OutOfMemory}
 use Rattle.bump_core.specs.declared.commands.Command.{Command}
 use Rattle.bump_core.specs.declared.commands.Command.TheVariants as command
-use Rattle.bump_core.specs.State.{State}
+use Rattle.bump_core.specs.State.{State, SameSizes}
+use Rattle.bump_core.proofs.Sizes.{run_sizes, same_sizes}
 use Rattle.bump_core.specs.Worlds.{IsLawful, NothingUnlinked}
 use Rattle.bump_core.specs.Runs.{run_of}
-use Rattle.bump_core.specs.Commands.{is_allowed, events_of, command_after}
+use Rattle.bump_core.specs.Commands.{is_allowed, events_of, command_after, Commands}
+use Rattle.bump_core.proofs.Steps.{Keeps, run_keeps}
 use Rattle.bump_core.proofs.MadeCalls.{label_made, release_made, take_made, link_made, pull_made}
 use Rattle.bump_core.proofs.MadeHits.{touch_made}
 use Rattle.bump_core.proofs.MadeBumps.{next_made}
@@ -19,3 +25,21 @@ commands_are_events s o none (command.Touch w l now) allowed = touch_made s o w 
 commands_are_events s o none (command.Label l) allowed = label_made s l allowed
 commands_are_events s o none (command.Release l) allowed = release_made s l allowed
 commands_are_events s o none (command.Next w now) allowed = next_made s o none w now allowed
+
+-- a command keeps what a World keeps, and is the run of its events
+pub command_keeps : (old : State) (c : Command) (new : State) (r : Result Answer Refused) → Keeps old → Commands old c new r → Keeps new
+command_keeps old c new (Ok answer) k made = subst Keeps (sym made.1) (run_keeps old (events_of old c) (command_after old c) k (commands_are_events old k.0 k.1 c made.0))
+command_keeps old c new (Err NotEnabled) k kept = subst Keeps (sym kept.1) k
+command_keeps old c new (Err OutOfMemory) k kept = subst Keeps (sym kept) k
+
+-- the events of a command that was made
+pub command_events : (old : State) (c : Command) (new : State) (r : Result Answer Refused) → Keeps old → Commands old c new r → OnOk r (run_of old (events_of old c) ≡ Some new)
+command_events old c new (Ok answer) k made = commands_are_events old k.0 k.1 c made.0 ∙ ap (λ (s : State). Some s) (sym made.1)
+command_events old c new (Err NotEnabled) k kept = tt
+command_events old c new (Err OutOfMemory) k kept = tt
+
+-- a command leaves the sizes
+pub command_sizes : (old : State) (c : Command) (new : State) (r : Result Answer Refused) → Keeps old → Commands old c new r → SameSizes old new
+command_sizes old c new (Ok answer) k made = subst (SameSizes old) (sym made.1) (run_sizes old (events_of old c) (command_after old c) (commands_are_events old k.0 k.1 c made.0))
+command_sizes old c new (Err NotEnabled) k kept = same_sizes old new kept.1
+command_sizes old c new (Err OutOfMemory) k kept = same_sizes old new kept

@@ -70,7 +70,7 @@ held_none x h none g = by (eqb h.generation g) ∙ sym (none g)
     by false = refl
 
 -- what a lane that found ACTIVE waits for
-waiting_is : (s : State) (b : Bump) → WaitsToMove s (lane.Cleared b true) → ((head s b.life.chunk).linked ≡ true) × ((head s b.life.chunk).segment ≡ segment.Cold)
+pub waiting_is : (s : State) (b : Bump) → WaitsToMove s (lane.Cleared b true) → ((head s b.life.chunk).linked ≡ true) × ((head s b.life.chunk).segment ≡ segment.Cold)
 waiting_is s b waits = waits
 
 -- A chunk with another head, and an entry in the history of its class that moves it.
@@ -92,11 +92,11 @@ module _ (s : State) (o : IsLawful s) (c : ℕ) (h : Head) (k : ℕ) (e : Change
   class_unchanged j other = read_other s.classes k j (class_with_change (class s k) e) no_class other
 
   -- the chunk has the head
-  chunk_changed : chunk changed c ≡ record (chunk s c) { head = h }
+  pub chunk_changed : chunk changed c ≡ record (chunk s c) { head = h }
   chunk_changed = read_written s.chunks c (record (chunk s c) { head = h }) no_chunk (owned_in_range s o.tiles k c within own)
 
   -- the other chunks stay
-  chunk_unchanged : (d : ℕ) → d ≢ c → chunk changed d ≡ chunk s d
+  pub chunk_unchanged : (d : ℕ) → d ≢ c → chunk changed d ≡ chunk s d
   chunk_unchanged d other = read_other s.chunks c d (record (chunk s c) { head = h }) no_chunk other
 
   -- the chunk is at the entry's place
@@ -105,7 +105,7 @@ module _ (s : State) (o : IsLawful s) (c : ℕ) (h : Head) (k : ℕ) (e : Change
       ∙ (ap (λ x. place_in x c) class_changed ∙ place_pushed (class s k) e c is)
 
   -- the other chunks are at theirs
-  place_unchanged : (d : ℕ) → d ≢ c → place changed d ≡ place s d
+  pub place_unchanged : (d : ℕ) → d ≢ c → place changed d ≡ place s d
   place_unchanged d other = ap (λ (j : ℕ). place_in (class changed j) d) (class_of_changed d) ∙ by (ℕ_discrete (class_of s d) k)
     where
       by : Dec (class_of s d ≡ k) → place_in (class changed (class_of s d)) d ≡ place_in (class s (class_of s d)) d
@@ -306,7 +306,7 @@ move_lawful s o c to enabled =
     rest = not-true (is_under_application s (class_of s c)) (and_parts (may_move (head s c).segment to) (not (is_under_application s (class_of s c))) more.1).1
 
 -- a lane that cleared ACTIVE
-cleared_is : (x : Lane) (b : Bump) → cleared_active x ≡ Some b → x ≡ lane.Cleared b true
+pub cleared_is : (x : Lane) (b : Bump) → cleared_active x ≡ Some b → x ≡ lane.Cleared b true
 cleared_is lane.Empty b is = absurd (cc)
 cleared_is (lane.Carrying a) b is = absurd (cc)
 cleared_is (lane.Tried a) b is = absurd (cc)

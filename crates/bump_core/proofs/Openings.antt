@@ -1,5 +1,5 @@
 -- A new World is lawful.
-use Rattle.std.proofs.Common.{◌≡◌, ℕ, zero, suc, ◌+◌, ◌-◌, ◌<◌, ◌≤◌, Bool, true, false, not, cond, ◌&&◌, ◌||◌, List, [], ◌∷◌, ◌++◌, length, get_or, Option, Some, None, refl, sym, ap, ◌∙◌, subst, arith, add-one, append_assoc}
+use Rattle.std.proofs.Common.{◌≡◌, ℕ, zero, suc, ◌+◌, ◌-◌, ◌<◌, ◌≤◌, Bool, true, false, not, cond, ◌||◌, List, [], ◌∷◌, ◌++◌, length, get_or, Option, Some, refl, sym, ap, ◌∙◌, subst, arith, add-one, append_assoc}
 use Rattle.std.specs.Prelude.{◌==◌, replicate, is_none, nat_le, nat_lt}
 use Rattle.std.specs.List.{list_any}
 use Rattle.std.proofs.Common.{eq-eqb, ne_eqb}
@@ -11,17 +11,16 @@ use Rattle.bump_core.specs.declared.configs.ConfigFault.TheVariants.{Workers, Ca
 use Rattle.bump_core.specs.declared.configs.Config.{Config}
 use Rattle.bump_core.specs.declared.chunks.Chunk.{Chunk}
 use Rattle.bump_core.specs.declared.places.Place.TheVariants.{Unused}
-use Rattle.bump_core.specs.declared.items.ItemId.{ItemId}
 use Rattle.bump_core.specs.Totals.{total}
-use Rattle.bump_core.specs.Configs.{chunks_of, has_fault, first_fault, is_within}
+use Rattle.bump_core.specs.Configs.{chunks_of, first_fault, is_within}
 use Rattle.bump_core.specs.Lists.{ascending, opening}
 use Rattle.bump_core.specs.Lawful.{Lawful, fresh_head}
 use Rattle.bump_core.specs.History.{standing_from}
 use Rattle.bump_core.specs.Lives.{life, count_of}
 use Rattle.bump_core.specs.Rings.{IsWorker}
-use Rattle.bump_core.specs.State.{State, ClassState, WorkerState, chunk, head, class, worker, no_chunk, no_class, new_worker, class_of, workers_on, applied_life, is_on}
-use Rattle.bump_core.specs.Opening.{fresh_chunk, new_class, classes_from, new_state}
-use Rattle.bump_core.specs.Worlds.{IsLawful, NothingUnlinked, NoneUnlinked, IsClass, Tiles, references, first_hits_of, holds_of, bumps_of, place, place_in, WaitsToMove}
+use Rattle.bump_core.specs.State.{State, WorkerState, head, no_chunk, no_class, new_worker, class_of, applied_life, is_on}
+use Rattle.bump_core.specs.Opening.{fresh_chunk, classes_from, new_state}
+use Rattle.bump_core.specs.Worlds.{IsLawful, NoneUnlinked, IsClass, Tiles, references, first_hits_of, holds_of, bumps_of, place, WaitsToMove}
 use Rattle.bump_core.proofs.Steps.{Keeps}
 use Rattle.bump_core.proofs.Views.{set_where_not}
 

@@ -6,7 +6,6 @@ use native.Mathlib.Decide.{ℕ_discrete, dec_le}
 use Rattle.bump_core.specs.declared.places.Place.{Place}
 use Rattle.bump_core.specs.declared.places.Place.TheVariants.{Hot, Warm, Cold, Dying, Unused, Retired}
 use Rattle.bump_core.specs.declared.history.Change.{Change}
-use Rattle.bump_core.specs.Totals.{total}
 use Rattle.bump_core.specs.Lawful.{bit}
 use Rattle.bump_core.specs.History.{subject, target, Standing, standing_after, standing_from, replay}
 use Rattle.bump_core.specs.Lists.{Lists, list_at, without, to_front, ascending, opening, times}

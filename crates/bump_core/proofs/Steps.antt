@@ -1,5 +1,5 @@
 -- Each event that is enabled leaves a lawful state lawful, where those that change the lists of a class do.
-use Rattle.std.proofs.Common.{◌≡◌, ◌<◌, ◌+◌, length, ℕ, Bool, true, false, List, [], ◌∷◌, ◌++◌, take, Option, Some, None, Result, Ok, Err, if◌then◌else◌, refl, sym, ap, ◌∙◌, subst}
+use Rattle.std.proofs.Common.{◌≡◌, ◌<◌, ◌+◌, length, ℕ, Bool, true, false, List, [], ◌∷◌, ◌++◌, take, Some, None, Result, Ok, Err, if◌then◌else◌, refl, sym, ap, ◌∙◌, subst}
 use Rattle.std.specs.Prelude.{slice_get, slice_index_or}
 use Rattle.std.proofs.lemmas.List.{take_more}
 use Rattle.bump_core.specs.declared.places.Segment.{Segment}
@@ -95,3 +95,12 @@ run_refused old es n t new e OutOfMemory ends at refused = (ends ∙ ap (λ x. S
 -- a run of the first events, and the one behind them
 pub run_more : (s : State) (es : List Event) (n : ℕ) (d : Event) (t new : State) → n < length es → run_of s (take n es) ≡ Some t → is_enabled t (slice_index_or es n d) ≡ true → new ≡ after t (slice_index_or es n d) → run_of s (take (n + 1) es) ≡ Some new
 run_more s es n d t new within ends enabled made = ap (run_of s) (take_more es n d within) ∙ run_push s (take n es) t (slice_index_or es n d) ends enabled ∙ ap (λ x. Some x) (sym made)
+
+-- a run keeps what a World keeps
+pub run_keeps : (s : State) (es : List Event) (t : State) → Keeps s → run_of s es ≡ Some t → Keeps t
+run_keeps s [] t k ends = let same : s ≡ t = cc in subst Keeps same k
+run_keeps s (e ∷ es) t k ends = by (is_enabled s e) refl (λ enabled. run_keeps (after s e) es t (lawful_after s k.0 e enabled, nothing_unlinked s e k.1))
+  where
+    by : (b : Bool) → is_enabled s e ≡ b → (is_enabled s e ≡ true → run_of (after s e) es ≡ Some t → Keeps t) → Keeps t
+    by true enabled rest = rest enabled (sym (ap (λ b. if b then run_of (after s e) es else None) enabled) ∙ ends)
+    by false refused rest = absurd (let u : ⊥ = cc (sym (ap (λ b. if b then run_of (after s e) es else None) refused) ∙ ends) in u)

@@ -1,7 +1,13 @@
 -- A list seen element by element.
 use Rattle.std.specs.Prelude.{Bool, true, false, not, Result, Ok, Err, OnErr, Some, slice_get}
 use Rattle.std.proofs.lemmas.List.{length-map}
-use Rattle.std.proofs.Common.{◌≡◌, ℕ, zero, suc, ◌<◌, List, [], ◌∷◌, ◌++◌, take, length, get_or, set, map, refl, sym, ap, ◌∙◌, arith}
+use Rattle.bump_core.specs.declared.items.ItemId.{ItemId}
+use Rattle.bump_core.specs.declared.parts.Parts.{Parts}
+use Rattle.bump_core.specs.declared.workers.Worker.{Worker}
+use Rattle.bump_core.specs.Events.{next_bump}
+use Rattle.bump_core.specs.State.{worker, new_worker}
+use Rattle.bump_core.specs.Views.{state_of, worker_view}
+use Rattle.std.proofs.Common.{◌≡◌, ℕ, zero, suc, ◌<◌, List, [], ◌∷◌, ◌++◌, ◌+◌, take, add-one, length, get_or, set, map, refl, sym, ap, ◌∙◌, arith}
 
 -- an element of the seen list is the element, seen
 pub get_or-map : {A B : Type 0} (f : A → B) (xs : List A) (i : ℕ) (a : A) (b : B) → i < length xs → get_or (map f xs) i b ≡ f (get_or xs i a)
@@ -51,3 +57,11 @@ next_taken {A = A} (y ∷ ys) (suc n) x is = let rest = next_taken ys n x is in 
 pub set_where_not : (b : Bool) → not b ≡ false → b ≡ true
 set_where_not true e = refl
 set_where_not false e = sym e
+
+-- a worker as it is read, where the next bump waits: how many its lane took, and what it took with that bump
+pub next_received : (p : Parts) (w : ℕ) (a : Worker) (l : ItemId) → w < length (map worker_view p.workers.items) → a ≡ get_or p.workers.items w a → next_bump (worker (state_of p) w) ≡ Some l
+    → (length (worker (state_of p) w).received ≡ a.received) × (worker (state_of p) w ≡ worker_view a) × (take (a.received + 1) a.sent.items ≡ take a.received a.sent.items ++ l ∷ [])
+next_received p w a l within is next =
+    let seen : worker (state_of p) w ≡ worker_view a = get_or-map worker_view p.workers.items w a new_worker (omega (arith, within, length-map p.workers.items worker_view)) ∙ ap worker_view (sym is) in
+    let taken = next_taken a.sent.items a.received l (ap next_bump (sym seen) ∙ next) in
+    (ap (λ v. length v.received) seen ∙ taken.1, seen, ap (λ (n : ℕ). take n a.sent.items) (add-one a.received) ∙ taken.2)

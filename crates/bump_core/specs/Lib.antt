@@ -1,6 +1,8 @@
 pub mod Commands
 pub mod Configs
+pub mod Entries
 pub mod Events
+pub mod Headline
 pub mod History
 pub mod Lawful
 pub mod Lists

@@ -1,5 +1,5 @@
 -- The state of a World: what is kept of each chunk, class and worker.
-use Rattle.std.specs.Prelude.{ℕ, suc, Bool, true, false, cond, ◌==◌, ◌&&◌, nat_lt, List, [], ◌∷◌, ◌++◌, length, slice_index_or, slice_set, Option, None, Some, if◌then◌else◌}
+use Rattle.std.specs.Prelude.{◌≡◌, ℕ, suc, Bool, true, false, cond, ◌==◌, ◌&&◌, nat_lt, List, [], ◌∷◌, ◌++◌, length, slice_index_or, slice_set, Option, None, Some, if◌then◌else◌}
 use Rattle.std.specs.List.{list_any}
 use Rattle.bump_core.specs.declared.items.ItemId.{ItemId}
 use Rattle.bump_core.specs.declared.items.Head.{Head}
@@ -187,3 +187,7 @@ last_of (x ∷ y ∷ ys) = last_of (y ∷ ys)
 abbrev pub first_of : List ℕ → Option ℕ
 first_of [] = None
 first_of (x ∷ xs) = Some x
+
+-- There are as many chunks, classes and workers as before.
+abbrev pub SameSizes : State → State → Type 0
+SameSizes old new = (length new.chunks ≡ length old.chunks) × (length new.classes ≡ length old.classes) × (length new.workers ≡ length old.workers)

@@ -1,5 +1,6 @@
 -- What the parts of the program stand for.
-use Rattle.std.specs.Prelude.{ℕ, List, map, take}
+use Rattle.std.specs.Prelude.{◌≡◌, ◌<◌, ℕ, map, take, slice_index_or, vec_len}
+use Rattle.std.specs.Vec.{vec_capacity}
 use Rattle.bump_core.specs.declared.classes.ClassLists.{ClassLists}
 use Rattle.bump_core.specs.declared.classes.Class.{Class}
 use Rattle.bump_core.specs.declared.workers.Worker.{Worker}
@@ -49,3 +50,7 @@ state_of p = record {
   classes = map class_view p.classes.items;
   workers = map worker_view p.workers.items;
 }
+
+-- a worker's list of applied bumps has room for one more
+abbrev pub HasRoom : Parts → ℕ → Type 0
+HasRoom p w = (x : Worker) → x ≡ slice_index_or p.workers.items w x → vec_len x.applied < vec_capacity x.applied

@@ -126,6 +126,7 @@ impl Parts {
         requires target { target entry ≡ to }
         ensures ok { OnOk result (state_of self.new ≡ with_change (state_of self.old) k entry) }
         ensures err { OnErr result (state_of self.new ≡ state_of self.old) }
+        ensures workers { self.new.workers ≡ self.old.workers }
     {
         let class = &mut self.classes[k];
         class.change(chunk, from, to, entry)?;

@@ -36,7 +36,7 @@ pub struct Head {
 
 impl ItemId {
     /// Whether two items are one.
-    pub fn is_same(self, other: ItemId) -> bool
+    pub(crate) fn is_same(self, other: ItemId) -> bool
         ensures { result ≡ is_same self other }
     {
         self.chunk == other.chunk && self.generation == other.generation
@@ -45,7 +45,7 @@ impl ItemId {
 
 impl Head {
     /// The head of a new life, with its generation: one reference, linked, in HOT, without marks.
-    pub fn newborn(generation: u32) -> Head
+    pub(crate) fn newborn(generation: u32) -> Head
         ensures { result ≡ newborn generation }
     {
         Head {

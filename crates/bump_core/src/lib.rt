@@ -1,12 +1,13 @@
 //! The pure core of bump: its types, and a World in which each event is one atomic step of one thread.
 #![tactic(auto)]
 
+mod applying;
 mod attempts;
 pub mod bumps;
 mod calls;
 mod changes;
-pub mod chunks;
-pub mod classes;
+mod chunks;
+mod classes;
 pub mod commands;
 pub mod configs;
 mod draining;
@@ -14,13 +15,14 @@ pub mod events;
 pub mod history;
 mod hits;
 pub mod items;
-pub mod lanes;
+mod lanes;
 mod linking;
 mod opening;
-pub mod parts;
+mod parts;
 pub mod places;
 mod step;
-pub mod workers;
+mod touching;
+mod workers;
 pub mod worlds;
 
 pub use bumps::{Accounts, Applied, Ended, Entry};
@@ -32,3 +34,6 @@ pub use items::{Head, ItemId};
 pub use lanes::{AppliedBump, Outcome};
 pub use places::{Place, Segment, Tail};
 pub use worlds::{OutOfMemory, World};
+
+#[cfg(test)]
+mod tests;

@@ -16,7 +16,7 @@ use crate::places::{Place, Segment};
 
 impl Segment {
     /// The list of a segment.
-    pub fn place(self) -> Place
+    pub(crate) fn place(self) -> Place
         ensures { result ≡ place_of self }
     {
         match self {

@@ -248,4 +248,12 @@ impl Parts {
     {
         self.workers[w as usize].applied.as_slice()
     }
+
+    /// How many bumps a worker's lane took.
+    pub fn received(&self, w: u32) -> usize
+        requires { w < length (state_of self.now).workers }
+        ensures { result ≡ length (worker (state_of self.now) w).received }
+    {
+        self.received_bumps(w).len()
+    }
 }

@@ -1,8 +1,10 @@
-//! A step: each event by the function that makes it.
+//! Each event, and each command, by the function that makes it.
+ghost use Rattle.bump_core.specs.Commands.{Commands};
 ghost use Rattle.bump_core.specs.Runs.{Steps};
 ghost use Rattle.bump_core.specs.Views.{state_of};
 ghost use Rattle.bump_core.specs.Worlds.{IsLawful};
 
+use crate::commands::{Answer, Command};
 use crate::events::{Event, Refused, Reply};
 use crate::parts::Parts;
 
@@ -36,6 +38,22 @@ impl Parts {
             Event::ClearFor { worker } => self.clear_for(worker),
             Event::MoveFor { worker } => self.move_for(worker),
             Event::Alight { worker } => self.alight(worker),
+        }
+    }
+
+    /// Makes a command where it is allowed.
+    pub fn command(&mut self, command: Command) -> Result<Answer, Refused>
+        requires { IsLawful (state_of self.old) }
+        ensures { Commands (state_of self.old) command (state_of self.new) result }
+    {
+        match command {
+            Command::Link { class, label, now } => self.call_link(class, label, now),
+            Command::Pull { class, tail } => self.call_pull(class, tail),
+            Command::Take { worker, id } => self.call_take(worker, id),
+            Command::Touch { worker, id, now } => self.call_touch(worker, id, now),
+            Command::Label { id } => self.call_label(id),
+            Command::Release { id } => self.call_release(id),
+            Command::Next { worker, now } => self.call_next(worker, now),
         }
     }
 }

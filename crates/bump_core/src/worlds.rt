@@ -1,7 +1,7 @@
 //! The sequential World.
 use crate::bumps::Accounts;
-use crate::configs::Config;
 use crate::commands::{Answer, Command};
+use crate::configs::Config;
 use crate::events::{Event, Refused, Reply};
 use crate::items::{Head, ItemId};
 use crate::lanes::AppliedBump;
@@ -33,11 +33,12 @@ impl Model for World {
 }
 
 impl World {
-    ghost use Rattle.std.specs.Prelude.{◌≡◌, ◌<◌, IfOk, All, length};
-    ghost use Rattle.bump_core.specs.Commands.{Commands};
+    ghost use Rattle.std.specs.Prelude.{◌≡◌, ◌<◌, IfOk, OnOk, Some, All, length};
+    ghost use Rattle.bump_core.specs.Commands.{Commands, events_of};
+    ghost use Rattle.bump_core.specs.Headline.{Headline, LabelsStay, ClosedStay};
     ghost use Rattle.bump_core.specs.Opening.{new_state};
-    ghost use Rattle.bump_core.specs.Runs.{Steps, Runs};
-    ghost use Rattle.bump_core.specs.State.{head};
+    ghost use Rattle.bump_core.specs.Runs.{Steps, Runs, run_of};
+    ghost use Rattle.bump_core.specs.State.{head, SameSizes};
     ghost use Rattle.bump_core.specs.Readers.{list_of, time_of, label_of, holds_at, accounts_of, sent_of, received_of, applied_of};
     ghost use Rattle.bump_core.specs.Worlds.{IsLawful};
 
@@ -127,7 +128,9 @@ impl World {
     /// refusal changes nothing.
     pub fn step(&mut self, event: Event) -> Result<Reply, Refused>
         ensures step { Steps self.old event self.new result }
+        ensures sizes { SameSizes self.old self.new }
         ensures lawful { IsLawful self.new }
+        ensures headline { Headline self.new }
     {
         self.parts.step(event)
     }
@@ -135,24 +138,31 @@ impl World {
     /// Makes the events in order, up to the first that is refused, whose place it tells. The events before it stay.
     pub fn run(&mut self, events: &[Event]) -> Result<(), (usize, Refused)>
         ensures run { Runs self.old events.now self.new result }
+        ensures sizes { SameSizes self.old self.new }
         ensures lawful { IsLawful self.new }
+        ensures headline { Headline self.new }
+        ensures labels { LabelsStay self.old self.new }
+        ensures closed { ClosedStay self.old self.new }
     {
+        let _ = &self.parts;
         for (place, event) in events.iter().enumerate() {
             if let Err(refused) = self.step(*event) {
                 return Err((place, refused));
             }
         }
-        let _ = &self.parts;
         Ok(())
     }
 
-    /// A stub.
+    /// Makes a command: a call as its events, with nothing between them. All room is reserved before anything is changed.
+    /// Refused as NotEnabled where a number is out of range, a worker's ring is closed, a life has no free hold (a hit, a
+    /// release) or no hold (a label), or another command is half made in its way; a refusal changes nothing.
     pub fn command(&mut self, command: Command) -> Result<Answer, Refused>
         ensures command { Commands self.old command self.new result }
+        ensures events { OnOk result (run_of self.old (events_of self.old command) ≡ Some self.new) }
+        ensures sizes { SameSizes self.old self.new }
         ensures lawful { IsLawful self.new }
+        ensures headline { Headline self.new }
     {
-        let _ = command;
-        let _ = &mut self.parts;
-        Err(Refused::OutOfMemory)
+        self.parts.command(command)
     }
 }

@@ -8,3 +8,4 @@ pub mod Parts
 pub mod Printing
 pub mod Draining
 pub mod Benches
+pub mod Runs

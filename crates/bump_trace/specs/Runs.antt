@@ -1,7 +1,10 @@
 -- What a whole run reads and writes.
 use Rattle.std.specs.Prelude.{◌≡◌, ⊤, ℕ, Bool, true, false, List, ◌++◌, Option, Result, Ok, Err}
 use Rattle.std.specs.Io.KnownBytes.{Appends, Consumes, IsAtEnd}
+use Rattle.bump_trace.specs.Text.{fault_line}
 use Rattle.bump_trace.specs.Meaning.{verdict_of}
+use Rattle.bump_trace.specs.declared.fault.LineError.{LineError}
+use Rattle.bump_trace.specs.declared.fault.LineError.TheVariants as errors
 use Rattle.bump_trace.specs.declared.model.SimFault.{SimFault}
 use Rattle.bump_trace.specs.declared.model.SimFault.TheVariants as faults
 
@@ -41,6 +44,11 @@ IsOfWriting faults.Memory = Unit {0}
 -- What was gathered, and then this text, is what was written and what is gathered now.
 abbrev pub Gathers : Option (List ℕ) → Option (List ℕ) → List ℕ → List ℕ → List ℕ → Type 0
 Gathers held holds old new text = (sent : List ℕ) × Appends held holds sent × (sent ++ new ≡ old ++ text)
+
+-- The line of a fault was gathered.
+abbrev pub GathersFault : Option (List ℕ) → Option (List ℕ) → List ℕ → List ℕ → ℕ → LineError → Type 0
+GathersFault held holds old new number errors.Memory = ⊥
+GathersFault held holds old new number (errors.Fault fault) = Gathers held holds old new (fault_line number fault)
 
 -- What was written, and what is gathered, is the text of the input.
 abbrev pub RunsInto : Option (List ℕ) → Option (List ℕ) → List ℕ → List ℕ → Bool → Type 0

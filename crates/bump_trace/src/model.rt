@@ -5,7 +5,7 @@ ghost use Rattle.std.specs.Io.KnownBytes.{Appends, Consumes, IsAtEnd};
 ghost use Rattle.bump_trace.specs.declared.model.SimFault.TheVariants.{Memory, Write};
 ghost use Rattle.bump_trace.specs.Text.{fault_line};
 ghost use Rattle.bump_trace.specs.Meaning.{verdict_of};
-ghost use Rattle.bump_trace.specs.Runs.{ModelRuns, IsOfReading, IsOfWriting, Gathers, RunsInto};
+ghost use Rattle.bump_trace.specs.Runs.{ModelRuns, IsOfReading, IsOfWriting, Gathers, GathersFault, RunsInto};
 
 use crate::counted::Counted;
 use crate::fault::{Fault, LineError};
@@ -111,14 +111,16 @@ fn gather<W: Write>(
     ensures ok { OnOk result (Gathers (W.contents writer.old.inner) (W.contents writer.new.inner) gathered.old.items gathered.new.items text.now) }
     ensures err { IfErr result (λ e. IsOfWriting e) }
 {
-    if text.len() > ROOM.saturating_sub(gathered.len()) {
-        flush(writer, gathered)?;
+    if text.len() <= ROOM.saturating_sub(gathered.len()) {
+        gathered.extend_from_slice(text)?;
+        return Ok(());
     }
+    flush(writer, gathered)?;
     if text.len() > ROOM {
         write_whole(writer, text)?;
-    } else {
-        gathered.extend_from_slice(text)?;
+        return Ok(());
     }
+    gathered.extend_from_slice(text)?;
     Ok(())
 }
 
@@ -136,6 +138,23 @@ fn gather_fault<W: Write>(
     text.clear();
     put_fault(text, number, fault)?;
     gather(writer, gathered, text)
+}
+
+/// Ends the run at a line that was not run.
+fn stop<W: Write>(
+    writer: &mut Counted<W>,
+    gathered: &mut Vec<u8>,
+    text: &mut Vec<u8>,
+    number: u64,
+    error: LineError,
+) -> Result<(), SimFault>
+    ensures ok { OnOk result (GathersFault (W.contents writer.old.inner) (W.contents writer.new.inner) gathered.old.items gathered.new.items number error) }
+    ensures err { IfErr result (λ e. IsOfWriting e) }
+{
+    match error {
+        LineError::Memory => Err(SimFault::Memory),
+        LineError::Fault(fault) => gather_fault(writer, gathered, text, number, fault),
+    }
 }
 
 /// Runs the lines one after another, gathers their text, and says whether there was a fault.
@@ -157,9 +176,8 @@ fn run_lines<W: Write>(
     while let Some((line, after)) = cut(rest) {
         match session.step(alloc, number, line, &mut text) {
             Ok(()) => {}
-            Err(LineError::Memory) => return Err(SimFault::Memory),
-            Err(LineError::Fault(fault)) => {
-                gather_fault(writer, gathered, &mut text, number, fault)?;
+            Err(error) => {
+                stop(writer, gathered, &mut text, number, error)?;
                 return Ok(true);
             }
         }

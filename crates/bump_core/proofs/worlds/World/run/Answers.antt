@@ -1,5 +1,10 @@
+use Rattle.std.proofs.Common.{take, subst}
+use Rattle.bump_core.specs.Worlds.{IsLawful}
+use Rattle.bump_core.proofs.Headlines.{headline}
+use Rattle.bump_core.proofs.Staying.{refused_stays, labels_stay, closed_stay}
+use Rattle.bump_core.proofs.Steps.{run_refused, run_more, run_lawful}
 use Rattle.bump_core.proofs.Updates.{got_within}
-use Rattle.bump_core.proofs.Steps.{run_refused, run_more}
+use Rattle.bump_core.proofs.Sizes.{run_sizes, refused_sizes}
 use Rattle.bump_core.proofs.worlds.World.run.Goals as goal
 
 pub returns-in-Err-clause-run : goal.returns-in-Err-clause-run
@@ -7,3 +12,29 @@ returns-in-Err-clause-run c = run_refused c.args.self.now c.args.events.now c.lo
 
 pub loop-place-preserved : goal.loop-place-preserved
 loop-place-preserved c = run_more c.args.self.now c.args.events.now c.loop-place.place _ c.loop-place.self c.step.new.self c.loop-place-test.true c.loop-place.invariant c.in_default.ensures.step.0 c.in_default.ensures.step.1
+
+pub returns-in-Err-clause-sizes : goal.returns-in-Err-clause-sizes
+returns-in-Err-clause-sizes c = refused_sizes c.args.self.now _ c.loop-place.self _ c.step.new.self c.in-Err.refused c.loop-place.invariant c.in-Err.ensures.step
+
+pub returns-clause-sizes : goal.returns-clause-sizes
+returns-clause-sizes c = run_sizes c.args.self.now _ c.loop-place.self c.loop-place.invariant
+
+pub returns-in-Err-clause-labels : goal.returns-in-Err-clause-labels
+returns-in-Err-clause-labels c = labels_stay c.args.self.now (take c.loop-place.place c.args.events.now) c.step.new.self (subst IsLawful c.self.view_is c.self.invariant.0)
+    (refused_stays c.args.self.now (take c.loop-place.place c.args.events.now) c.loop-place.self _ c.step.new.self c.in-Err.refused c.loop-place.invariant c.in-Err.ensures.step)
+
+pub returns-in-Err-clause-closed : goal.returns-in-Err-clause-closed
+returns-in-Err-clause-closed c = closed_stay c.args.self.now (take c.loop-place.place c.args.events.now) c.step.new.self
+    (refused_stays c.args.self.now (take c.loop-place.place c.args.events.now) c.loop-place.self _ c.step.new.self c.in-Err.refused c.loop-place.invariant c.in-Err.ensures.step)
+
+pub returns-clause-lawful : goal.returns-clause-lawful
+returns-clause-lawful c = run_lawful c.args.self.now (take c.loop-place.place c.args.events.now) c.loop-place.self (subst IsLawful c.self.view_is c.self.invariant.0) c.loop-place.invariant
+
+pub returns-clause-headline : goal.returns-clause-headline
+returns-clause-headline c = headline c.loop-place.self (run_lawful c.args.self.now (take c.loop-place.place c.args.events.now) c.loop-place.self (subst IsLawful c.self.view_is c.self.invariant.0) c.loop-place.invariant)
+
+pub returns-clause-labels : goal.returns-clause-labels
+returns-clause-labels c = labels_stay c.args.self.now (take c.loop-place.place c.args.events.now) c.loop-place.self (subst IsLawful c.self.view_is c.self.invariant.0) c.loop-place.invariant
+
+pub returns-clause-closed : goal.returns-clause-closed
+returns-clause-closed c = closed_stay c.args.self.now (take c.loop-place.place c.args.events.now) c.loop-place.self c.loop-place.invariant

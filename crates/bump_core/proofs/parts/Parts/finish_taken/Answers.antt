@@ -1,0 +1,15 @@
+use Rattle.std.proofs.Common.{List, [], ◌∷◌, ◌++◌, ap, ap₂}
+use Rattle.bump_core.specs.declared.items.ItemId.{ItemId}
+use Rattle.bump_core.specs.declared.lanes.AppliedBump.{AppliedBump}
+use Rattle.bump_core.specs.declared.lanes.Lane.TheVariants.{Empty}
+use Rattle.bump_core.specs.Events.{applied_bump}
+use Rattle.bump_core.specs.State.{WorkerState, new_worker}
+use Rattle.bump_core.specs.Views.{state_of, worker_view}
+use Rattle.bump_core.proofs.Views.{rewritten, next_received}
+use Rattle.bump_core.proofs.parts.Parts.finish_taken.Goals as goal
+
+pub returns : goal.returns
+returns c = ap (λ (ws : List WorkerState). record (state_of c.args.self.now) { workers = ws }) (rewritten worker_view
+    (λ v. record v { received = v.received ++ c.args.bump.life ∷ []; lane = Empty; applied = v.applied ++ applied_bump c.args.bump c.args.outcome ∷ [] }) c.args.self.now.workers.items c.args.w c.index_mut-worker.result.now _ new_worker c.requires.worker c.index_mut-worker.ensures.value
+    (ap₂ (λ (rs : List ItemId) (bs : List AppliedBump). record (worker_view c.index_mut-worker.result.now) { received = rs; lane = Empty; applied = bs })
+    (next_received c.args.self.now c.args.w c.index_mut-worker.result.now c.args.bump.life c.requires.worker c.index_mut-worker.ensures.value c.requires.next).2 c.push_reserved.ensures.items))

@@ -1,0 +1,350 @@
+//! What no clause says: known answers, and that calls succeed.
+ghost use Rattle.std.specs.Prelude.{◌≡◌, ◌<◌, IfSome, length};
+
+use super::*;
+use std::alloc::Global;
+use std::test::Fail;
+
+/// A World of one worker and one class of two chunks, as a trace begins one, where memory is not refused.
+fn world(alloc: Global, capacity: u32, hot: u32, warm: u32) -> Option<World>
+    ensures { IfSome result (λ w. (length w.chunks ≡ 2) × (length w.classes ≡ 1) × (length w.workers ≡ 1)) }
+{
+    let chunks = 2;
+    let classes = vec![in alloc; ClassConfig { chunks, hot, warm }].ok()?;
+    let config = Config::new(1, capacity, 4, 1, classes).ok()?;
+    World::new(alloc, &config).ok()
+}
+
+fn item(chunk: u32, generation: u32) -> ItemId {
+    ItemId { chunk, generation }
+}
+
+/// What the readers tell of a World of two chunks. Taking it asks for no memory.
+#[derive(Clone, Copy, Debug, PartialEq)]
+struct Readers {
+    heads: (Head, Head),
+    times: (u64, u64),
+    labels: (u64, u64),
+    holds: (u32, u32),
+
+    /// Of a list its length, its first and its last chunk.
+    hot: (usize, Option<u32>, Option<u32>),
+    warm: (usize, Option<u32>, Option<u32>),
+    cold: (usize, Option<u32>, Option<u32>),
+    unused: (usize, Option<u32>, Option<u32>),
+    accounts: Accounts,
+    sent: (usize, Option<ItemId>),
+    received: (usize, Option<ItemId>),
+    applied: (usize, Option<AppliedBump>),
+}
+
+fn ends(world: &World, place: Place) -> (usize, Option<u32>, Option<u32>)
+    requires { 0 < length world.now.classes }
+{
+    let list = world.list(0, place);
+    (list.len(), list.front().copied(), list.back().copied())
+}
+
+fn told_by(world: &World) -> Readers
+    requires chunks { length world.now.chunks ≡ 2 }
+    requires classes { length world.now.classes ≡ 1 }
+    requires workers { length world.now.workers ≡ 1 }
+{
+    let sent = world.sent(0);
+    let received = world.received(0);
+    let applied = world.applied(0);
+    Readers {
+        heads: (world.head(0), world.head(1)),
+        times: (world.time(0), world.time(1)),
+        labels: (world.label(0), world.label(1)),
+        holds: (world.holds(0), world.holds(1)),
+        hot: ends(world, Place::Hot),
+        warm: ends(world, Place::Warm),
+        cold: ends(world, Place::Cold),
+        unused: ends(world, Place::Unused),
+        accounts: world.accounts(0),
+        sent: (sent.len(), sent.last().copied()),
+        received: (received.len(), received.last().copied()),
+        applied: (applied.len(), applied.last().copied()),
+    }
+}
+
+/// A promotion: an item is stored, pulled to COLD, hit twice, and its bump applied. Each command with its answer.
+const PROMOTION: [(Command, Answer); 12] = [
+    (
+        Command::Link {
+            class: 0,
+            label: 7,
+            now: 3,
+        },
+        Answer::Linked(FIRST),
+    ),
+    (
+        Command::Pull {
+            class: 0,
+            tail: Tail::Hot,
+        },
+        Answer::Pulled(Pulled::Cold(FIRST)),
+    ),
+    (
+        Command::Take {
+            worker: 0,
+            id: FIRST,
+        },
+        Answer::Held,
+    ),
+    (Command::Label { id: FIRST }, Answer::Label(7)),
+    (
+        Command::Touch {
+            worker: 0,
+            id: FIRST,
+            now: 5,
+        },
+        Answer::Touched(Touch::First),
+    ),
+    (Command::Release { id: FIRST }, Answer::Done),
+    (
+        Command::Take {
+            worker: 0,
+            id: FIRST,
+        },
+        Answer::Held,
+    ),
+    (Command::Label { id: FIRST }, Answer::Label(7)),
+    (
+        Command::Touch {
+            worker: 0,
+            id: FIRST,
+            now: 6,
+        },
+        Answer::Touched(Touch::Queued(0)),
+    ),
+    (Command::Release { id: FIRST }, Answer::Done),
+    (
+        Command::Next { worker: 0, now: 7 },
+        Answer::Bumped(Entry {
+            number: 0,
+            life: FIRST,
+            applied: Applied::Moved,
+        }),
+    ),
+    (Command::Next { worker: 0, now: 7 }, Answer::Nothing),
+];
+
+/// The events of the same commands.
+const PROMOTION_EVENTS: [Event; 21] = [
+    Event::PutLabel { class: 0, label: 7 },
+    Event::PutTime { class: 0, time: 3 },
+    Event::Link { class: 0 },
+    Event::ClearActive { chunk: 0 },
+    Event::Move {
+        chunk: 0,
+        to: Segment::Cold,
+    },
+    Event::Take {
+        worker: 0,
+        life: FIRST,
+    },
+    Event::Fetch {
+        worker: 0,
+        life: FIRST,
+    },
+    Event::Release { life: FIRST },
+    Event::Take {
+        worker: 0,
+        life: FIRST,
+    },
+    Event::Fetch {
+        worker: 0,
+        life: FIRST,
+    },
+    Event::Mark {
+        worker: 0,
+        life: FIRST,
+    },
+    Event::Reserve { worker: 0 },
+    Event::Push { worker: 0 },
+    Event::Release { life: FIRST },
+    Event::TakeBump { worker: 0 },
+    Event::Try { worker: 0 },
+    Event::BumpTime { worker: 0, time: 7 },
+    Event::ClearFor { worker: 0 },
+    Event::MoveFor { worker: 0 },
+    Event::Load { chunk: 0 },
+    Event::Alight { worker: 0 },
+];
+
+const FIRST: ItemId = ItemId {
+    chunk: 0,
+    generation: 1,
+};
+
+/// What a promotion leaves.
+const PROMOTED: Readers = Readers {
+    heads: (
+        Head {
+            refs: 1,
+            linked: true,
+            fetched: true,
+            active: false,
+            segment: Segment::Warm,
+            generation: 1,
+        },
+        Head {
+            refs: 0,
+            linked: false,
+            fetched: false,
+            active: false,
+            segment: Segment::Hot,
+            generation: 0,
+        },
+    ),
+    times: (7, 0),
+    labels: (7, 0),
+    holds: (0, 0),
+    hot: (0, None, None),
+    warm: (1, Some(0), Some(0)),
+    cold: (0, None, None),
+    unused: (1, Some(1), Some(1)),
+    accounts: Accounts {
+        attempted: 1,
+        accepted: 1,
+        full: 0,
+        busy: 0,
+        refs: 0,
+    },
+    sent: (1, Some(FIRST)),
+    received: (1, Some(FIRST)),
+    applied: (
+        1,
+        Some(AppliedBump {
+            number: 0,
+            life: FIRST,
+            outcome: Outcome::Moved,
+        }),
+    ),
+};
+
+// Where an allocation is made to fail, whichever it is, the refused call has changed nothing, and is made again.
+#[test]
+fn commands_promote_and_refusals_change_nothing(rt: HostRuntime) -> Result<(), Fail> {
+    let Some(mut world) = world(rt.alloc(), 4, 0, 5) else {
+        return Ok(());
+    };
+    for (command, answer) in PROMOTION.iter() {
+        let before = told_by(&world);
+        let first = world.command(*command);
+        let told = match first {
+            Err(Refused::OutOfMemory) => {
+                assert_eq!(rt; told_by(&world), before);
+                world.command(*command)
+            }
+            told => told,
+        };
+        assert_eq!(rt; told, Ok(*answer));
+    }
+    assert_eq!(rt; told_by(&world), PROMOTED);
+    Ok(())
+}
+
+// The same by single events.
+#[test]
+fn steps_promote_and_refusals_change_nothing(rt: HostRuntime) -> Result<(), Fail> {
+    let Some(mut world) = world(rt.alloc(), 4, 0, 5) else {
+        return Ok(());
+    };
+    for event in PROMOTION_EVENTS.iter() {
+        let before = told_by(&world);
+        if world.step(*event) == Err(Refused::OutOfMemory) {
+            assert_eq!(rt; told_by(&world), before);
+            assert!(rt; world.step(*event).is_ok());
+        }
+    }
+    assert_eq!(rt; told_by(&world), PROMOTED);
+    Ok(())
+}
+
+// The same by runs: what came before the refused event stays, and the rest is run from there.
+#[test]
+fn runs_promote_and_go_on_after_a_refusal(rt: HostRuntime) -> Result<(), Fail> {
+    let Some(mut world) = world(rt.alloc(), 4, 0, 5) else {
+        return Ok(());
+    };
+    let events = PROMOTION_EVENTS.as_slice();
+    if let Err((place, refused)) = world.run(events) {
+        assert_eq!(rt; refused, Refused::OutOfMemory);
+        assert!(rt; place < events.len());
+        assert_eq!(rt; world.run(&events[place..]), Ok(()));
+    }
+    assert_eq!(rt; told_by(&world), PROMOTED);
+    Ok(())
+}
+
+#[test]
+fn links_take_the_front_of_unused(rt: HostRuntime) -> Result<(), Fail> {
+    let mut world = world(rt.alloc(), 4, 5, 5).ok_or("no memory")?;
+    let released = world.step(Event::Release { life: item(0, 1) });
+    assert_eq!(rt; released, Err(Refused::NotEnabled));
+    let events = [
+        Event::PutLabel { class: 0, label: 7 },
+        Event::PutTime { class: 0, time: 1 },
+        Event::Link { class: 0 },
+        Event::Link { class: 0 },
+        Event::Link { class: 0 },
+    ];
+    assert_eq!(rt; world.run(&events), Err((4, Refused::NotEnabled)));
+    let told = told_by(&world);
+    assert_eq!(rt; told.hot, (2, Some(1), Some(0)));
+    assert_eq!(rt; told.unused, (0, None, None));
+    Ok(())
+}
+
+#[test]
+fn the_first_of_two_faults_is_answered(rt: HostRuntime) -> Result<(), Fail> {
+    let good = (1, 4, 4, 1);
+    let one = [(2, 5, 5)];
+    let none = [];
+    let empty = [(0, 5, 5)];
+    let many = [(1_000_001, 5, 5)];
+    let rows = [
+        ((0, 0, 4, 1), one.as_slice(), Some(ConfigFault::Workers)),
+        ((65, 4, 1, 1), one.as_slice(), Some(ConfigFault::Workers)),
+        ((1, 0, 1, 1), one.as_slice(), Some(ConfigFault::Capacity)),
+        (
+            (1, 65_537, 65_536, 1),
+            one.as_slice(),
+            Some(ConfigFault::Capacity),
+        ),
+        ((1, 4, 1, 0), one.as_slice(), Some(ConfigFault::RefsLimit)),
+        (
+            (1, 4, 65_536, 0),
+            one.as_slice(),
+            Some(ConfigFault::RefsLimit),
+        ),
+        ((1, 4, 4, 0), none.as_slice(), Some(ConfigFault::Generation)),
+        (
+            (1, 4, 4, 0),
+            empty.as_slice(),
+            Some(ConfigFault::Generation),
+        ),
+        (good, none.as_slice(), Some(ConfigFault::Classes)),
+        (good, empty.as_slice(), Some(ConfigFault::Chunks)),
+        (good, many.as_slice(), Some(ConfigFault::Chunks)),
+        (good, one.as_slice(), None),
+        ((64, 65_536, 65_535, u32::MAX), one.as_slice(), None),
+    ];
+    for (numbers, sizes, fault) in rows.iter() {
+        let mut classes = Vec::new(rt.alloc());
+        for (chunks, hot, warm) in sizes.iter() {
+            classes.push(ClassConfig {
+                chunks: *chunks,
+                hot: *hot,
+                warm: *warm,
+            })?;
+        }
+        let (workers, capacity, refs_limit, generation) = *numbers;
+        let made = Config::new(workers, capacity, refs_limit, generation, classes);
+        assert_eq!(rt; made.err(), *fault, "at {numbers:?}");
+    }
+    Ok(())
+}
