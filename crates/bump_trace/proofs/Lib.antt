@@ -1,7 +1,6 @@
 pub mod Numerals
 pub mod Bytes
 pub mod Fields
-pub mod Rows
 pub mod Rest
 pub mod Ascending
 pub mod Parts
@@ -9,3 +8,4 @@ pub mod Printing
 pub mod Draining
 pub mod Benches
 pub mod Runs
+pub mod OnTraces

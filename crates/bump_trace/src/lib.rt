@@ -8,6 +8,7 @@ mod line;
 mod model;
 mod names;
 mod output;
+pub mod rows;
 mod session;
 
 pub use counted::Counted;
