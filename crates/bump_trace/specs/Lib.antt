@@ -8,3 +8,4 @@ pub mod Meaning
 pub mod Views
 pub mod Ready
 pub mod Runs
+pub mod Counts
