@@ -13,3 +13,6 @@ mod session;
 
 pub use counted::Counted;
 pub use model::{SimFault, run_model};
+
+#[cfg(test)]
+mod tests;
