@@ -5,6 +5,7 @@ ghost use Rattle.std.specs.Prelude.{◌≡◌};
 ghost use Rattle.bumpsim.specs.Status.{status_of, fault_word};
 
 mod command_line;
+pub mod rows;
 
 use bump_trace::{Counted, SimFault, run_model};
 use command_line::{Refusal, file};
