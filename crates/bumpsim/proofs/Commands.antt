@@ -1,5 +1,5 @@
 -- The command is one whose faults and values are known, and which file its words mean.
-use Rattle.std.proofs.Common.{◌≡◌, refl, sym, ap, ap₂, ◌∙◌, Bool, true, false, not, ◌&&◌, List, [], ◌∷◌, Option, Some, None, Err, ◌⊎◌, inl, inr, codes, if◌then◌else◌}
+use Rattle.std.proofs.Common.{◌≡◌, refl, ap, ◌∙◌, Bool, true, false, not, ◌&&◌, List, [], ◌∷◌, Option, Some, None, Err, inl, inr, codes, if◌then◌else◌}
 use Rattle.clap.specs.Words.{Text, is_simple_and_free, is_simple, fault_of, matches_of, rows_of, found_of, first_of}
 use Rattle.clap.specs.Kinds.{HasKind, Kinds}
 use Rattle.clap.specs.Values.{kind_of}

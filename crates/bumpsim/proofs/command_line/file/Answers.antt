@@ -1,4 +1,4 @@
-use Rattle.std.proofs.Common.{◌≡◌, sym, ap, ◌∙◌, map, string_bytes, codes}
+use Rattle.std.proofs.Common.{sym, ◌∙◌, map, string_bytes, codes}
 use Rattle.bumpsim.proofs.Commands.{value_found, file_meant, no_mode, other_mode, no_file, refused, not_true, not_false}
 use Rattle.bumpsim.proofs.command_line.file.Goals as goal
 
@@ -20,7 +20,7 @@ returns-in-Some-get_str c =
     let words = map string_bytes c.args.words.now in
     let found = value_found c.in-Ok.matches words in
     file_meant words c.in-Some.mode.now c.in-Some-get_str.file.now c.in-Ok.ensures.kinds (sym (found (codes "mode") c.in-Ok.ensures.values) ∙ sym c.in-Some.ensures)
-      (not_false _ c.if-ne.ensures) (sym (found (codes "file") c.in-Ok.ensures.values) ∙ sym c.in-Some-get_str.ensures)
+    (not_false _ c.if-ne.ensures) (sym (found (codes "file") c.in-Ok.ensures.values) ∙ sym c.in-Some-get_str.ensures)
 
 pub returns : goal.returns
 returns c =
