@@ -1,5 +1,5 @@
 -- Draining one bump after another, and one worker after another.
-use Rattle.std.proofs.Common.{◌≡◌, ℕ, suc, ◌+◌, ◌-◌, ◌<◌, ◌≤◌, refl, sym, ap, ap₂, ◌∙◌, List, [], ◌∷◌, ◌++◌, append_assoc, append-nil, add_assoc, add-zero, length, Ok, arith}
+use Rattle.std.proofs.Common.{◌≡◌, ℕ, suc, ◌+◌, ◌-◌, ◌<◌, ◌≤◌, refl, sym, ap, ap₂, ◌∙◌, List, ◌++◌, append_assoc, append-nil, add_assoc, add-zero, length, Ok, arith}
 use Rattle.bump_core.specs.declared.bumps.Entry.{Entry}
 use Rattle.bump_core.specs.declared.commands.Answer.{Answer}
 use Rattle.bump_core.specs.declared.commands.Answer.TheVariants as answer
@@ -86,7 +86,7 @@ workers_done now w end n s text all past h =
 -- one more worker, from what its drain did
 pub worker_step : (now w end k n m : ℕ) (s t : State) (text out : List ℕ) (all : Drained) → w < end → s.capacity ≡ k
     → let d = drained_of now w k s in
-      t ≡ d.state → out ≡ text ++ d.text → m ≡ d.count
+    t ≡ d.state → out ≡ text ++ d.text → m ≡ d.count
     → drained_both (so_far s text n) (drained_through now (ascending w (end - w)) s) ≡ all
     → drained_both (so_far t out (n + m)) (drained_through now (ascending (w + 1) (end - (w + 1))) t) ≡ all
 worker_step now w end k n m s t text out all below room p q r h =

@@ -1,5 +1,5 @@
 -- The first field that isn't what it should be is the fault.
-use Rattle.std.proofs.Common.{◌≡◌, ℕ, ◌≤◌, ◌<◌, ap, refl, List, [], ◌∷◌, length, map, get_or, Result, Ok, Err, arith}
+use Rattle.std.proofs.Common.{◌≡◌, ℕ, ◌≤◌, ◌<◌, ap, refl, List, [], ◌∷◌, length, map, get_or, Result, Err, arith}
 use denote.Ref.{Bor}
 use Rattle.bump_trace.specs.Lines.{◌>>=◌}
 use Rattle.bump_trace.specs.declared.fault.Fault.{Fault}

@@ -1,5 +1,5 @@
 -- What `parse` answers for digits, by the definition of a number.
-use Rattle.std.proofs.Common.{◌≡◌, ◌≢◌, ℕ, ◌<◌, ◌^◌, ◌==◌, Bool, true, false, cond, not, ◌&&◌, ◌||◌, ◌⊎◌, List, length, get_or, Result, Ok, Err, Some, None, Decides, refl, sym, ap, ◌∙◌, inl, inr, arith, rules, ltb, eqb}
+use Rattle.std.proofs.Common.{◌≡◌, ◌≢◌, ℕ, ◌<◌, ◌^◌, Bool, true, false, cond, ◌&&◌, ◌⊎◌, List, length, get_or, Result, Ok, Err, Some, None, Decides, refl, sym, ap, inl, inr, arith, ltb}
 use Rattle.std.specs.Result.{OkIff, result_ok}
 use Rattle.std.specs.Str.{all_ascii_digits, IsUtf8}
 use Rattle.std.specs.Str.Parse.{ParsesUnsigned, digits_value}

@@ -1,9 +1,8 @@
 -- Commands at rest: they are allowed, and leave the World at rest.
-use Rattle.std.proofs.Common.{◌≡◌, ℕ, zero, suc, ◌+◌, ◌-◌, ◌<◌, ◌≤◌, ◌⊎◌, inl, inr, refl, sym, ap, ap₂, subst, ◌∙◌, Bool, true, false, cond, not, ◌&&◌, ◌||◌, nat_lt, ◌==◌, if◌then◌else◌, List, [], ◌∷◌, ◌++◌, length, get_or, set, All, Option, None, Some, arith, rules}
+use Rattle.std.proofs.Common.{◌≡◌, ℕ, suc, ◌<◌, inl, inr, refl, sym, ap, ap₂, subst, ◌∙◌, Bool, true, false, not, ◌&&◌, ◌||◌, nat_lt, ◌==◌, if◌then◌else◌, List, [], ◌∷◌, length, set, All, Option, None, Some, arith}
 use Rattle.std.specs.Option.{option_map_or}
-use Rattle.std.specs.List.{list_any}
 use Rattle.std.proofs.lemmas.Bool.{cases_Bool, and_parts, ltb-true, ltb-false, lt-ltb}
-use Rattle.std.proofs.lemmas.List.{length-set, get_or-set_same, get_or-set_other}
+use Rattle.std.proofs.lemmas.List.{length-set, get_or-set_same}
 use Rattle.std.proofs.lemmas.List.Elements.{All-set, All-get_or}
 use Rattle.std.proofs.lemmas.List.Folds.{list_any_none}
 use Rattle.std.proofs.Math.ListN.{get_or-eq_default}
@@ -12,20 +11,17 @@ use Rattle.bump_core.specs.declared.bumps.Ended.{Ended}
 use Rattle.bump_core.specs.declared.chunks.Chunk.{Chunk}
 use Rattle.bump_core.specs.declared.commands.Command.{Command}
 use Rattle.bump_core.specs.declared.commands.Command.TheVariants as command
-use Rattle.bump_core.specs.declared.commands.Answer.{Answer}
 use Rattle.bump_core.specs.declared.commands.Answer.TheVariants as answer
 use Rattle.bump_core.specs.declared.commands.Dropped.{Dropped}
 use Rattle.bump_core.specs.declared.items.ItemId.{ItemId}
 use Rattle.bump_core.specs.declared.lanes.Bump.{Bump}
-use Rattle.bump_core.specs.declared.lanes.Lane.TheVariants as lane
 use Rattle.bump_core.specs.declared.lanes.Outcome.{Outcome}
 use Rattle.bump_core.specs.declared.lanes.Outcome.TheVariants as outcome
 use Rattle.bump_core.specs.declared.places.Segment.{Segment}
 use Rattle.bump_core.specs.declared.places.Tail.{Tail}
-use Rattle.bump_core.specs.declared.workers.Hand.TheVariants as hand
-use Rattle.bump_core.specs.Commands.{is_allowed, answer_of, command_after, take_answer, pull_to, pull, pulled_at, hit, hit_at, attempt, dropped_at, is_exhausted, apply_bump, bumped_lists, bumped_chunk, bumped_worker, outcome_next, ended_at, link_labelled, freed_change, bump_next, is_half_made, tail_of}
-use Rattle.bump_core.specs.Events.{next_chunk, with_hold, without_hold, is_under_limit}
-use Rattle.bump_core.specs.State.{State, ClassState, WorkerState, new_worker, no_chunk, chunk, head, class, worker, is_chunk, is_class, is_worker, with_chunk, with_head, with_class, with_worker, with_change, class_with_change, class_of, is_current, is_linked, is_held, has_free_hold, is_open, is_idle, is_on, workers_on, some_and, is_under_application, applies_in}
+use Rattle.bump_core.specs.Commands.{is_allowed, answer_of, command_after, pull_to, pulled_at, hit, hit_at, attempt, dropped_at, is_exhausted, apply_bump, bumped_lists, outcome_next, ended_at, bump_next, is_half_made, tail_of}
+use Rattle.bump_core.specs.Events.{next_chunk, is_under_limit}
+use Rattle.bump_core.specs.State.{State, ClassState, WorkerState, new_worker, no_chunk, chunk, head, worker, is_class, is_worker, with_chunk, with_class, with_worker, class_of, is_current, is_linked, is_held, has_free_hold, is_open, is_idle, is_on, workers_on, some_and, is_under_application, applies_in}
 use Rattle.bump_core.specs.Tables.{Hit, IsFirst, IsAlready, IsMarked, Attempts, pulled_to}
 use Rattle.bump_core.specs.Totals.{total}
 use Rattle.bump_trace.specs.Ready.{IsResting, IsAtRest}

@@ -1,8 +1,8 @@
 -- The text of a run, as it is gathered and written.
-use Rattle.std.proofs.Common.{◌≡◌, ℕ, ◌+◌, Bool, true, false, List, [], ◌∷◌, ◌++◌, Option, Some, None, Result, Ok, Err, refl, sym, ap, ◌∙◌, append_assoc, append-nil}
+use Rattle.std.proofs.Common.{◌≡◌, ℕ, ◌+◌, true, false, List, [], ◌∷◌, ◌++◌, Option, None, Ok, Err, sym, ap, ◌∙◌, append_assoc, append-nil}
 use Rattle.std.specs.Io.KnownBytes.{Appends}
 use Rattle.bump_trace.specs.declared.fault.Fault.{Fault}
-use Rattle.bump_trace.specs.Stages.{Stage, Said, say}
+use Rattle.bump_trace.specs.Stages.{Stage, say}
 use Rattle.bump_trace.specs.Text.{fault_line}
 use Rattle.bump_trace.specs.Meaning.{Verdict, prepend, failed, ended, go_on, run, step, fault_at_end, parts_of, verdict_of}
 use Rattle.bump_trace.specs.Runs.{Gathers, GathersFault, RunsInto}

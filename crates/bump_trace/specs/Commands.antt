@@ -14,7 +14,7 @@ use Rattle.bump_core.specs.declared.places.Tail.{Tail}
 use Rattle.bump_core.specs.Commands.{answer_of, command_after}
 use Rattle.bump_core.specs.Lists.{ascending}
 use Rattle.bump_core.specs.State.{State, is_class, is_worker}
-use Rattle.bump_trace.specs.Stages.{Names, bind, BenchState, Stage, Open, Said, say}
+use Rattle.bump_trace.specs.Stages.{bind, BenchState, Open, Said, say}
 use Rattle.bump_trace.specs.Text.{set_line, set_full_line, get_line, get_refused_line, pull_line, bump_line, drain_line, show_text}
 use Rattle.bump_trace.specs.declared.fault.Fault.{Fault}
 use Rattle.bump_trace.specs.declared.fault.Fault.TheVariants as fault
@@ -46,7 +46,7 @@ abbrev pub get_held : BenchState → ℕ → ℕ → List ℕ → ItemId → Sai
 get_held b now w name id =
     let hit = command.Touch w id now in
     say (Open (with_command (with_command b hit) (command.Release id)))
-      (get_line w name (label_in (answer_of b.state (command.Label id))) (touch_in (answer_of b.state hit)))
+    (get_line w name (label_in (answer_of b.state (command.Label id))) (touch_in (answer_of b.state hit)))
 
 abbrev pub get_by : BenchState → ℕ → ℕ → List ℕ → ItemId → Answer → Said
 get_by b now w name id answer.Held = get_held b now w name id

@@ -1,5 +1,5 @@
 -- How far a trace is: before `store`, among the lines that say what the store is, or with an open store.
-use Rattle.std.specs.Prelude.{◌≡◌, ℕ, ◌+◌, ◌-◌, Bool, true, false, not, ◌&&◌, ◌||◌, ◌==◌, List, [], ◌∷◌, ◌++◌, length, Option, Some, None, Result, Ok, Err, find, option_map, replicate, if◌then◌else◌}
+use Rattle.std.specs.Prelude.{ℕ, ◌-◌, Bool, not, ◌==◌, List, [], ◌∷◌, ◌++◌, length, Option, Some, None, Result, Ok, Err, find, option_map, replicate, if◌then◌else◌}
 use Rattle.std.specs.Str.{bytes_eq}
 use Rattle.bump_core.specs.declared.configs.ClassConfig.{ClassConfig}
 use Rattle.bump_core.specs.declared.configs.ConfigFault.{ConfigFault}
@@ -56,7 +56,7 @@ config_word config.Chunks = fault.Chunks
 abbrev pub config_fault : Shape → List ClassConfig → Option Fault
 config_fault shape classes =
     option_map config_word (find (is_refused shape classes)
-      (config.Workers ∷ config.Capacity ∷ config.RefsLimit ∷ config.Generation ∷ config.Classes ∷ config.Chunks ∷ []))
+    (config.Workers ∷ config.Capacity ∷ config.RefsLimit ∷ config.Generation ∷ config.Classes ∷ config.Chunks ∷ []))
 
 -- a store of this shape in which nothing was done
 abbrev pub new_bench : Shape → List ClassConfig → BenchState

@@ -1,13 +1,11 @@
 -- The printed text: ids, flags, list lines, accounts, and the line of each command.
-use Rattle.std.specs.Prelude.{ℕ, Bool, List, [], ◌∷◌, ◌++◌, length, codes, decimal, if◌then◌else◌}
+use Rattle.std.specs.Prelude.{ℕ, List, [], ◌∷◌, ◌++◌, length, codes, decimal, if◌then◌else◌}
 use Rattle.std.specs.List.{flat_map}
 use Rattle.bump_core.specs.declared.bumps.Accounts.{Accounts}
 use Rattle.bump_core.specs.declared.bumps.Applied.{Applied}
 use Rattle.bump_core.specs.declared.bumps.Applied.TheVariants.{Moved, TimeOnly, Gone}
-use Rattle.bump_core.specs.declared.bumps.Ended.{Ended}
 use Rattle.bump_core.specs.declared.bumps.Ended.TheVariants.{Freed, Deferred}
 use Rattle.bump_core.specs.declared.bumps.Entry.{Entry}
-use Rattle.bump_core.specs.declared.commands.Dropped.{Dropped}
 use Rattle.bump_core.specs.declared.commands.Dropped.TheVariants.{Full, Busy, RefsFull}
 use Rattle.bump_core.specs.declared.commands.Pulled.{Pulled}
 use Rattle.bump_core.specs.declared.commands.Pulled.TheVariants as pulled

@@ -1,5 +1,5 @@
 -- The program's values as the definitions see them, and what its functions return.
-use Rattle.std.specs.Prelude.{◌≡◌, ⊤, ℕ, List, ◌++◌, Option, Result, Ok, Err}
+use Rattle.std.specs.Prelude.{◌≡◌, ⊤, ℕ, List, ◌++◌, Result, Ok, Err}
 use Rattle.std.specs.BTreeMap.{BTreeMap, get_by}
 use Rattle.std.specs.Cmp.Lexicographic.{slice_cmp}
 use Rattle.std.specs.Ordering.{nat_cmp}
@@ -18,7 +18,6 @@ use Rattle.bump_trace.specs.declared.names.Names.{Names}
 use Rattle.bump_trace.specs.declared.bench.Bench.{Bench}
 use Rattle.bump_trace.specs.declared.session.Progress.{Progress}
 use Rattle.bump_trace.specs.declared.session.Progress.TheVariants as progress
-use Rattle.bump_trace.specs.declared.session.Session.{Session}
 
 abbrev pub instruction : Line → Instruction
 instruction (line.Store shape) = Store shape

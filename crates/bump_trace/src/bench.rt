@@ -172,12 +172,7 @@ impl<'a> Bench<'a> {
     }
 
     /// Applies a worker's bumps until there is none, at most as many as its ring has room for, and says how many.
-    fn drain_worker(
-        &mut self,
-        now: u64,
-        worker: u32,
-        out: &mut Vec<u8>,
-    ) -> Result<u64, LineError>
+    fn drain_worker(&mut self, now: u64, worker: u32, out: &mut Vec<u8>) -> Result<u64, LineError>
         requires ready { IsReady self.old }
         requires worker { worker < self.old.workers }
         ensures drained { Drains self.old self.new out.old.items out.new.items result (drained_of now worker self.old.capacity self.old.world) }
@@ -218,7 +213,13 @@ impl<'a> Bench<'a> {
     {
         for chunk in chunks {
             out.extend_from_slice(b" ")?;
-            put_entry(out, place, *chunk, self.world.head(*chunk), self.world.time(*chunk))?;
+            put_entry(
+                out,
+                place,
+                *chunk,
+                self.world.head(*chunk),
+                self.world.time(*chunk),
+            )?;
         }
         Ok(())
     }

@@ -251,12 +251,7 @@ pub fn put_get_refused(
 }
 
 /// The line of a `pull`.
-pub fn put_pull(
-    out: &mut Vec<u8>,
-    class: u32,
-    tail: Tail,
-    pulled: Pulled,
-) -> Result<(), AllocError>
+pub fn put_pull(out: &mut Vec<u8>, class: u32, tail: Tail, pulled: Pulled) -> Result<(), AllocError>
     ensures { OnOk result (out.new.items ≡ out.old.items ++ pull_line class tail pulled) }
 {
     out.extend_from_slice(b"pull ")?;

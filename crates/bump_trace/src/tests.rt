@@ -21,7 +21,11 @@ fn text_of(alloc: Global, trace: &[u8]) -> (Vec<u8>, Result<(), SimFault>) {
 fn worked_traces(rt: HostRuntime) {
     for (trace, text, is_fault) in WORKED {
         let (written, ended) = text_of(rt.alloc(), trace.as_bytes());
-        let want = if is_fault { Err(SimFault::Trace) } else { Ok(()) };
+        let want = if is_fault {
+            Err(SimFault::Trace)
+        } else {
+            Ok(())
+        };
         assert!(rt; ended == want, "{trace}");
         assert!(rt; written.as_slice() == text.as_bytes(), "{trace}");
     }

@@ -1,4 +1,4 @@
-use Rattle.std.proofs.Common.{◌≡◌, ◌≢◌, ◌<◌, length, get_or, arith, rules, subst}
+use Rattle.std.proofs.Common.{◌≡◌, ◌≢◌, ◌<◌, length, get_or, arith}
 use Rattle.bump_trace.proofs.Numerals.{number_from_parse, none_from_not_text}
 use Rattle.bump_trace.proofs.line.number.Goals as goal
 use Rattle.bump_trace.proofs.line.number.Goals.{then-first-eq48, else-first-eq48}

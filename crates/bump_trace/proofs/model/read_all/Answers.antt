@@ -1,5 +1,4 @@
-use Rattle.std.proofs.Common.{rules, ◌≡◌, ◌+◌, ap, ◌∙◌, ◌++◌, ◌≤◌, take, length, length-append, length-take, arith}
-use Rattle.std.proofs.lemmas.Grind.{common_steps}
+use Rattle.std.proofs.Common.{◌≡◌, ◌+◌, ap, ◌∙◌, ◌++◌, ◌≤◌, take, length, length-append, length-take, arith}
 use Rattle.bump_trace.proofs.Bytes.{consumes_more, consumes_kept}
 use Rattle.bump_trace.proofs.model.read_all.Goals as goal
 use Rattle.bump_trace.proofs.model.read_all.Goals.{in-Ok+else-n-len+in_ok-extend_from_slice-in-Ok, in-Err+else-ne}

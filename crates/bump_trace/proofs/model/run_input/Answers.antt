@@ -1,4 +1,4 @@
-use Rattle.std.proofs.Common.{◌≡◌, ◌++◌, ap, ◌∙◌, append-nil}
+use Rattle.std.proofs.Common.{◌++◌, ◌∙◌, append-nil}
 use Rattle.bump_trace.proofs.Bytes.{appends_more}
 use Rattle.bump_trace.proofs.model.run_input.Goals as goal
 

@@ -1,5 +1,4 @@
-use Rattle.std.proofs.Common.{◌≡◌, ◌+◌, ◌∷◌, [], ◌++◌, arith, refl, sym, ap, ap₂, ◌∙◌, Some, None}
-use Rattle.bump_trace.specs.Stages.{Stage, Before}
+use Rattle.std.proofs.Common.{[], ◌++◌, arith, ap₂, Some}
 use Rattle.bump_trace.specs.Meaning.{prepend, run, parts_of, verdict_of}
 use Rattle.bump_trace.specs.Views.{stage_of}
 use Rattle.bump_trace.proofs.Bytes.{appends_start}
@@ -15,18 +14,17 @@ pub returns-in-Err-clause-text : goal.returns-in-Err-clause-text
 returns-in-Err-clause-text g c =
     let (sent, wrote, same, room, settled, empty) = c.loop-line.invariant in
     runs_stopped _ _ _ sent c.loop-line.gathered.items _ c.args.input.now c.in-Some.line.now c.in-Some.after.now c.loop-line.number (stage_of c.loop-line.session.progress) _ c.in-Err.error
-      wrote c.in_ok-stop-in-Err.ensures.ok c.in-Some.ensures.0 c.in-Err.ensures.said same
+    wrote c.in_ok-stop-in-Err.ensures.ok c.in-Some.ensures.0 c.in-Err.ensures.said same
 
 pub loop-line-preserved : goal.loop-line-preserved
 loop-line-preserved g c =
     let (sent, wrote, same, room, settled, empty) = c.loop-line.invariant in
     let text = c.step.new.out.items in
-    let (all, now_wrote, gathered) = gathered_more _ _ _ sent c.loop-line.gathered.items c.gather.new.gathered.items text wrote (rw c.deref.ensures.value at c.in_ok-gather.ensures.ok) in
-    (
+    let (all, now_wrote, gathered) = gathered_more _ _ _ sent c.loop-line.gathered.items c.gather.new.gathered.items text wrote (rw c.deref.ensures.value at c.in_ok-gather.ensures.ok) in (
       all,
       now_wrote,
       line_run c.loop-line.number c.in-Some.line.now c.in-Some.after.now (sent ++ c.loop-line.gathered.items) (all ++ c.gather.new.gathered.items) (stage_of c.loop-line.session.progress) (stage_of c.step.new.self.progress) _ text _
-        c.in-Some.ensures.0 c.in-Ok.ensures.said gathered same,
+          c.in-Some.ensures.0 c.in-Ok.ensures.said gathered same,
       omega (arith, room, c.in-Some.ensures.1),
       c.in-Ok.ensures.settled,
       c.clear.ensures.items,
@@ -36,4 +34,4 @@ pub returns-in-Some-fault_at_end-clause-text : goal.returns-in-Some-fault_at_end
 returns-in-Some-fault_at_end-clause-text g c =
     let (sent, wrote, same, room, settled, empty) = c.loop-line.invariant in
     runs_failed _ _ _ sent c.loop-line.gathered.items _ c.args.input.now c.loop-line.number c.in-Some-fault_at_end.fault wrote c.in_ok-gather_fault-in-Some-fault_at_end.ensures.ok
-      (input_ended c.loop-line.number c.loop-line.rest.now (sent ++ c.loop-line.gathered.items) (stage_of c.loop-line.session.progress) _ (Some c.in-Some-fault_at_end.fault) _ c.in_default.ensures c.in-Some-fault_at_end.ensures same)
+    (input_ended c.loop-line.number c.loop-line.rest.now (sent ++ c.loop-line.gathered.items) (stage_of c.loop-line.session.progress) _ (Some c.in-Some-fault_at_end.fault) _ c.in_default.ensures c.in-Some-fault_at_end.ensures same)

@@ -1,4 +1,4 @@
-use Rattle.std.proofs.Common.{◌≡◌, ◌<◌, ◌-◌, ◌+◌, length, take, drop, arith, rules}
+use Rattle.std.proofs.Common.{◌+◌, arith}
 use Rattle.std.proofs.lemmas.List.{take_rest, length-drop}
 use Rattle.bump_trace.proofs.Parts.{parts_at_none, parts_at_some}
 use Rattle.bump_trace.proofs.session.cut.Goals as goal

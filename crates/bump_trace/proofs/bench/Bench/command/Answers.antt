@@ -1,5 +1,4 @@
-use Rattle.std.proofs.Common.{◌∙◌, subst, sym}
-use Rattle.bump_trace.specs.Ready.{IsAtRest}
+use Rattle.std.proofs.Common.{◌∙◌}
 use Rattle.bump_trace.proofs.Rest.{keeps_command}
 use Rattle.bump_trace.proofs.bench.Bench.command.Goals as goal
 

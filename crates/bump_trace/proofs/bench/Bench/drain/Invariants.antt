@@ -1,4 +1,4 @@
-use Rattle.std.proofs.Common.{◌≡◌, ℕ, ◌-◌, ◌*◌, ◌≤◌, ◌++◌, List}
+use Rattle.std.proofs.Common.{◌≡◌, ◌-◌, ◌*◌, ◌≤◌}
 use Rattle.bump_core.specs.Lists.{ascending}
 use Rattle.bump_trace.specs.Commands.{drained_both, drained_through}
 use Rattle.bump_trace.specs.Ready.{IsReady}

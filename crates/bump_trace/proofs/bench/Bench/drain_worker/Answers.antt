@@ -1,9 +1,7 @@
-use Rattle.std.proofs.Common.{◌≡◌, ◌<◌, ◌-◌, ◌+◌, suc, ◌∙◌, ◌++◌, ap, sym, refl, append_assoc, arith}
+use Rattle.std.proofs.Common.{◌∙◌, ◌++◌, ap, sym, append_assoc, arith}
 use Rattle.std.proofs.lemmas.Bool.{lt-ltb}
 use Rattle.bump_trace.specs.declared.bench.Bench.{Bench}
-use Rattle.bump_trace.specs.Stages.{BenchState}
 use Rattle.bump_trace.specs.Text.{bump_line}
-use Rattle.bump_trace.specs.Views.{bench_of}
 use Rattle.bump_trace.proofs.Benches.{same_rest, same_world}
 use Rattle.bump_trace.proofs.Draining.{bump_more, bumps_over}
 use Rattle.bump_trace.proofs.Rest.{next_allowed}
@@ -20,7 +18,7 @@ returns-in_default c =
     let (text, put, drained, same, ready, few) = c.loop.invariant in
     let next = c.in_ok-entry.ensures in
     let all = bumps_over c.args.now c.args.worker _ c.loop.count c.loop.self.world c.command.new.self.world text c.in_ok-entry.field-0 _ (omega (arith, c.loop-test.true)) next.answer
-      (ap (λ (b : Bench). b.world) next.after) c.in_default.not-Bumped drained in
+    (ap (λ (b : Bench). b.world) next.after) c.in_default.not-Bumped drained in
     record {
       drained = (
         same_world c.command.new.self c.args.self.now _ (same_rest c.command.new.self c.loop.self c.args.self.now _ next.after same) all.same_state,
@@ -36,8 +34,7 @@ loop-preserved c =
     let (text, put, drained, same, ready, few) = c.loop.invariant in
     let next = c.in_ok-entry.ensures in
     let e = c.in-Bumped.entry in
-    let w = c.args.worker in
-    (
+    let w = c.args.worker in (
       text ++ bump_line w e,
       c.in_ok-put_bump-in-Bumped.ensures ∙ ap (λ t. t ++ bump_line w e) put ∙ append_assoc c.args.out.now.items text (bump_line w e),
       bump_more c.args.now w _ _ c.loop.count c.loop.self.world c.command.new.self.world text e _ (omega (arith, c.loop-test.true)) (sym c.in-Bumped.is ∙ next.answer) (ap (λ (b : Bench). b.world) next.after) drained,

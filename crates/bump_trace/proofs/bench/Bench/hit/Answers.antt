@@ -1,4 +1,4 @@
-use Rattle.std.proofs.Common.{◌≡◌, ◌<◌, ◌∙◌, ap, sym, subst, length, true, arith}
+use Rattle.std.proofs.Common.{◌≡◌, ap, sym, subst, true, arith}
 use Rattle.std.proofs.lemmas.Bool.{lt-ltb}
 use Rattle.bump_core.specs.State.{State, is_held}
 use Rattle.bump_trace.specs.declared.bench.Bench.{Bench}

@@ -1,10 +1,10 @@
-use Rattle.std.proofs.Common.{◌≡◌, ℕ, ◌+◌, ap, sym, refl, ◌∙◌, subst, List, [], ◌∷◌, length, arith}
+use Rattle.std.proofs.Common.{◌≡◌, ℕ, ◌+◌, refl, List, [], ◌∷◌, length, arith}
 use Rattle.std.proofs.lemmas.List.{length-replicate}
 use Rattle.std.proofs.lemmas.List.Elements.{All-replicate}
 use Rattle.bump_core.specs.declared.configs.ClassConfig.{ClassConfig}
 use Rattle.bump_core.specs.Opening.{classes_from}
 use Rattle.bump_core.specs.State.{new_worker}
-use Rattle.bump_trace.specs.Ready.{IsResting, IsAtRest}
+use Rattle.bump_trace.specs.Ready.{IsResting}
 use Rattle.bump_trace.proofs.bench.Bench.new.Goals as goal
 
 length_classes : (first : ℕ) (ks : List ClassConfig) → length (classes_from first ks) ≡ length ks

@@ -1,5 +1,4 @@
-use Rattle.std.proofs.Common.{◌≡◌, ◌<◌, ◌++◌, length, ap, sym, ◌∙◌, append_assoc}
-use Rattle.std.specs.List.{flat_map}
+use Rattle.std.proofs.Common.{◌<◌, length, ◌∙◌}
 use Rattle.bump_trace.specs.Text.{list_entry}
 use Rattle.bump_trace.proofs.Printing.{all_before, all_behind, both_put}
 use Rattle.bump_trace.proofs.bench.Bench.put_entries.Goals as goal
