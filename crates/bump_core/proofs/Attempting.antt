@@ -1,8 +1,8 @@
 -- An attempted bump leaves a lawful state lawful: its reference, its push, and how it is dropped.
-use Rattle.std.proofs.Common.{◌≡◌, ℕ, ◌+◌, ◌<◌, ◌≤◌, true, false, not, nat_lt, [], ◌∷◌, ◌++◌, length, drop, refl, sym, ap, ◌∙◌, arith, append_assoc, length-append, length-drop}
-use Rattle.std.proofs.lemmas.List.{drop-append-le}
+use Rattle.std.proofs.Common.{◌≡◌, ℕ, ◌+◌, ◌<◌, true, false, not, nat_lt, [], ◌∷◌, ◌++◌, length, refl, sym, ap, ◌∙◌, arith, append_assoc, length-append, length-drop}
 use Rattle.std.proofs.lemmas.Bool.{and_parts, ltb-true}
 use Rattle.bump_core.specs.declared.items.ItemId.{ItemId}
+use Rattle.bump_core.specs.declared.bumps.Accounts.{Accounts}
 use Rattle.bump_core.specs.declared.items.Head.{Head}
 use Rattle.bump_core.specs.declared.workers.Hand.TheVariants as hand
 use Rattle.bump_core.specs.declared.events.Event.TheVariants as event
@@ -11,10 +11,11 @@ use Rattle.bump_core.specs.Rings.{in_ring, attempts_of, IsWorker}
 use Rattle.bump_core.specs.State.{State, WorkerState, head, worker, with_head, with_worker, is_on, is_open, is_worker, some_and, tried_life, life_in_hand, cleared_life}
 use Rattle.bump_core.specs.Events.{one_more, one_fewer, cleared_head, is_under_limit, waiting, is_enabled, after, reserve, drop_refs, drop_busy, push, drop_full, unmark}
 use Rattle.bump_core.specs.Worlds.{in_hand_of, bumps_of, references, first_hits_of, place, IsLawful}
-use Rattle.bump_core.proofs.Laws.{relawful, referred, unreferred, marked}
+use Rattle.bump_core.proofs.Laws.{relawful, referred}
+use Rattle.bump_core.proofs.Ring.{in_ring_push}
 use Rattle.bump_core.proofs.Updates.{count_push}
 use Rattle.bump_core.proofs.Facts.{one_if_elsewhere, one_if_at, one_if_not_at, referred_used, tried_referred, tried_in_range, tried_current, in_hand_in_range, in_hand_current, cleared_in_range, received_within}
-use Rattle.bump_core.proofs.Frames.{worker_lawful, both_lawful_off_lane, references_after, first_hits_after, alone_kept}
+use Rattle.bump_core.proofs.Frames.{worker_lawful, waits_kept, both_marked, both_unreferred, both_lawful_off_lane, references_after, first_hits_after, alone_kept}
 use Rattle.bump_core.proofs.Enabled.{some_and_parts, lawful_by_some, trying_from, in_hand_from, clearing_from, worker_from}
 
 -- under the limit the attempted bump gets its reference
@@ -57,33 +58,28 @@ reserve_lawful s w l o inside is few = both_lawful_off_lane s l.chunk h w y with
     refers : (g : ℕ) → references t l.chunk g ≡ references s l.chunk g + one_if (life l.chunk g) l
     refers g = omega (arith, references_after s l.chunk h w y within inside refl l.chunk g, bumps (life l.chunk g))
 
--- the attempted bump is dropped: the count is at its limit
+-- the attempted bump is dropped, and one account counts it
+dropped_lawful : (s : State) (w : ℕ) (l : ItemId) (a : Accounts) → IsLawful s → w < length s.workers → (worker s w).hand ≡ hand.Trying l
+    → a.accepted ≡ (worker s w).accounts.accepted → a.attempted ≡ (worker s w).accounts.attempted
+    → a.full + a.busy + a.refs ≡ (worker s w).accounts.full + (worker s w).accounts.busy + (worker s w).accounts.refs + 1
+    → IsLawful (with_worker s w (record (worker s w) { hand = hand.Clearing l; accounts = a }))
+dropped_lawful s w l a o inside is accepted attempted one_more = let was = o.workers w inside in
+    let y : WorkerState = record (worker s w) { hand = hand.Clearing l; accounts = a } in
+    worker_lawful s w y o inside
+    (λ m. omega (arith, ap (in_hand_of m) is))
+    (λ m. refl)
+    (λ m. omega (arith, ap (is_on m) is))
+    (record { prefix = was.prefix; room = was.room; applied = was.applied; accepted = accepted ∙ was.accepted; attempted = omega (arith, was.attempted, ap attempts_of is); most = omega (arith, was.most) })
+    (alone_kept s w y inside o refl)
+    (o.waits w inside)
+
+-- so it is where the count is at its limit
 pub drop_refs_lawful : (s : State) (w : ℕ) (l : ItemId) → IsLawful s → w < length s.workers → (worker s w).hand ≡ hand.Trying l → IsLawful (drop_refs s w l)
-drop_refs_lawful s w l o inside is = let was = o.workers w inside in
-    let y : WorkerState = record (worker s w) { hand = hand.Clearing l; accounts = record (worker s w).accounts { refs = (worker s w).accounts.refs + 1 } } in
-    worker_lawful s w y o inside
-    (λ m. omega (arith, ap (in_hand_of m) is))
-    (λ m. refl)
-    (λ m. omega (arith, ap (is_on m) is))
-    (record { prefix = was.prefix; room = was.room; applied = was.applied; accepted = was.accepted; attempted = omega (arith, was.attempted, ap attempts_of is); most = was.most })
-    (alone_kept s w y inside o refl)
-    (o.waits w inside)
+drop_refs_lawful s w l o inside is = dropped_lawful s w l (record (worker s w).accounts { refs = (worker s w).accounts.refs + 1 }) o inside is refl refl (omega arith)
 
--- the attempted bump is dropped: other threads were faster too often
+-- and where other threads were faster too often
 pub drop_busy_lawful : (s : State) (w : ℕ) (l : ItemId) → IsLawful s → w < length s.workers → (worker s w).hand ≡ hand.Trying l → IsLawful (drop_busy s w l)
-drop_busy_lawful s w l o inside is = let was = o.workers w inside in
-    let y : WorkerState = record (worker s w) { hand = hand.Clearing l; accounts = record (worker s w).accounts { busy = (worker s w).accounts.busy + 1 } } in
-    worker_lawful s w y o inside
-    (λ m. omega (arith, ap (in_hand_of m) is))
-    (λ m. refl)
-    (λ m. omega (arith, ap (is_on m) is))
-    (record { prefix = was.prefix; room = was.room; applied = was.applied; accepted = was.accepted; attempted = omega (arith, was.attempted, ap attempts_of is); most = was.most })
-    (alone_kept s w y inside o refl)
-    (o.waits w inside)
-
--- a ring with one more bump at its end
-pub in_ring_push : (x y : WorkerState) (l : ItemId) → length x.received ≤ length x.sent → y.received ≡ x.received → y.sent ≡ x.sent ++ l ∷ [] → in_ring y ≡ in_ring x ++ l ∷ []
-in_ring_push x y l below received sent = (λ i. drop (length (received i)) (sent i)) ∙ drop-append-le (length x.received) x.sent (l ∷ []) below
+drop_busy_lawful s w l o inside is = dropped_lawful s w l (record (worker s w).accounts { busy = (worker s w).accounts.busy + 1 }) o inside is refl refl (omega arith)
 
 -- where the ring has room it takes the bump in the worker's hand
 pub push_lawful : (s : State) (w : ℕ) (l : ItemId) → IsLawful s → w < length s.workers → (worker s w).hand ≡ hand.InHand l → waiting (worker s w) < s.capacity → IsLawful (push s w l)
@@ -113,73 +109,35 @@ push_lawful s w l o inside is room = worker_lawful s w y o inside
 
 -- the bump in the worker's hand is dropped for want of room, and its reference is given back
 pub drop_full_lawful : (s : State) (w : ℕ) (l : ItemId) → IsLawful s → w < length s.workers → (worker s w).hand ≡ hand.InHand l → IsLawful (drop_full s w l)
-drop_full_lawful s w l o inside is = both_lawful_off_lane s l.chunk h w y within inside refl o refl refl refl
-    (λ m ne. omega (arith, bumps m, one_if_elsewhere m l ne))
-    (λ m ne. refl)
-    (relawful s.refs_limit h (place s l.chunk) (references t l.chunk) (first_hits_of s l.chunk)
-    (unreferred s.refs_limit (head s l.chunk) (place s l.chunk) (references s l.chunk) (first_hits_of s l.chunk) (o.chunks l.chunk) (references t l.chunk)
-    (omega (arith, refers (head s l.chunk).generation, one_if_at l (head s l.chunk).generation (sym current)))
-    (λ g ne. omega (arith, refers g, one_if_not_at l g (λ e. ne (e ∙ current)))))
-    (references t l.chunk) (first_hits_of t l.chunk)
-    (λ g. refl)
-    (λ g. omega (arith, first_hits_after s l.chunk h w y within inside refl l.chunk g)))
+drop_full_lawful s w l o inside is = both_unreferred s l w y o (in_hand_in_range s o w l inside is) inside (in_hand_current s o w l inside is)
+    (λ m. omega (arith, ap (in_hand_of m) is))
+    (λ m. refl)
     (λ m. omega (arith, o.hands m, ap (is_on m) is))
     (record { prefix = was.prefix; room = was.room; applied = was.applied; accepted = was.accepted; attempted = omega (arith, was.attempted, ap attempts_of is); most = was.most })
+    (alone_kept s w y inside o refl)
+    (waits_kept s l.chunk (one_fewer (head s l.chunk)) w o inside refl refl)
   where
-    within : l.chunk < length s.chunks
-    within = in_hand_in_range s o w l inside is
-
-    current : l.generation ≡ (head s l.chunk).generation
-    current = in_hand_current s o w l inside is
-
-    h : Head
-    h = one_fewer (head s l.chunk)
-
     y : WorkerState
     y = record (worker s w) { hand = hand.Clearing l; accounts = record (worker s w).accounts { full = (worker s w).accounts.full + 1 } }
 
     was : IsWorker s.capacity (worker s w)
     was = o.workers w inside
 
-    t : State
-    t = with_worker (with_head s l.chunk h) w y
-
-    bumps : (m : ItemId) → bumps_of m y + one_if m l ≡ bumps_of m (worker s w)
-    bumps m = omega (arith, ap (in_hand_of m) is)
-
-    refers : (g : ℕ) → references t l.chunk g + one_if (life l.chunk g) l ≡ references s l.chunk g
-    refers g = omega (arith, references_after s l.chunk h w y within inside refl l.chunk g, bumps (life l.chunk g))
-
 -- after a drop ACTIVE is cleared
 pub unmark_lawful : (s : State) (w : ℕ) (l : ItemId) → IsLawful s → w < length s.workers → (worker s w).hand ≡ hand.Clearing l → IsLawful (unmark s w l)
-unmark_lawful s w l o inside is = both_lawful_off_lane s l.chunk h w y within inside refl o refl refl refl
-    (λ m ne. bumps m)
-    (λ m ne. refl)
-    (relawful s.refs_limit h (place s l.chunk) (references s l.chunk) (first_hits_of s l.chunk)
-    (marked s.refs_limit (head s l.chunk) (place s l.chunk) (references s l.chunk) (first_hits_of s l.chunk) (o.chunks l.chunk) false (omega arith))
-    (references t l.chunk) (first_hits_of t l.chunk)
-    (λ g. omega (arith, references_after s l.chunk h w y within inside refl l.chunk g, bumps (life l.chunk g)))
-    (λ g. omega (arith, first_hits_after s l.chunk h w y within inside refl l.chunk g)))
+unmark_lawful s w l o inside is = both_marked s l.chunk false w y o (cleared_in_range s o w l inside is) inside (omega arith)
+    (λ m. omega (arith, ap (in_hand_of m) is))
+    (λ m. refl)
     (λ m. omega (arith, o.hands m))
     (record { prefix = was.prefix; room = was.room; applied = was.applied; accepted = was.accepted; attempted = omega (arith, was.attempted, ap attempts_of is); most = was.most })
+    (alone_kept s w y inside o refl)
+    (waits_kept s l.chunk (cleared_head (head s l.chunk)) w o inside refl refl)
   where
-    within : l.chunk < length s.chunks
-    within = cleared_in_range s o w l inside is
-
-    h : Head
-    h = cleared_head (head s l.chunk)
-
     y : WorkerState
     y = record (worker s w) { hand = hand.Idle }
 
     was : IsWorker s.capacity (worker s w)
     was = o.workers w inside
-
-    t : State
-    t = with_worker (with_head s l.chunk h) w y
-
-    bumps : (m : ItemId) → bumps_of m y ≡ bumps_of m (worker s w)
-    bumps m = omega (arith, ap (in_hand_of m) is)
 
 -- The events.
 

@@ -1,6 +1,6 @@
--- What the tests of the events say.
-use Rattle.std.proofs.Common.{eq-eqb, ◌≡◌, ℕ, ◌<◌, Bool, true, false, ◌&&◌, nat_lt, ◌==◌, length, Option, None, Some, if◌then◌else◌, refl, sym, ap, subst, ◌∙◌}
-use Rattle.std.proofs.lemmas.Bool.{and_parts, ltb-true, eqb-true, false≢true}
+-- What the tests of the events say, and what holds of a state that a test or a value decides.
+use Rattle.std.proofs.Common.{eq-eqb, ◌≡◌, ℕ, ◌<◌, Bool, true, false, ◌&&◌, not, nat_lt, ◌==◌, length, Option, None, Some, if◌then◌else◌, refl, sym, ap, subst, ◌∙◌}
+use Rattle.std.proofs.lemmas.Bool.{and_parts, ltb-true, not-true, eqb-true, false≢true}
 use Rattle.std.proofs.lemmas.List.Folds.{list_any_at}
 use Rattle.std.specs.Option.{option_map_or}
 use Rattle.bump_core.specs.declared.items.Head.{Head}
@@ -9,13 +9,14 @@ use Rattle.bump_core.specs.declared.items.ItemId.{ItemId}
 use Rattle.bump_core.specs.declared.lanes.Bump.{Bump}
 use Rattle.bump_core.specs.declared.lanes.Lane.{Lane}
 use Rattle.bump_core.specs.declared.lanes.Lane.TheVariants as lane
+use Rattle.bump_core.specs.declared.events.Event.TheVariants as event
 use Rattle.bump_core.specs.declared.workers.Hand.{Hand}
 use Rattle.bump_core.specs.declared.workers.Hand.TheVariants as hand
 use Rattle.bump_core.specs.declared.places.Segment.{Segment}
 use Rattle.bump_core.specs.declared.places.Segment.TheVariants as segment
 use Rattle.bump_core.specs.Tables.{is_cold}
-use Rattle.bump_core.specs.Events.{may_hit, outcome_at, carried, tried, applied_now, is_empty}
-use Rattle.bump_core.specs.State.{State, chunk, head, worker, is_chunk, is_current, has_free_hold, is_open, is_worker, workers_on, some_and, tried_life, life_in_hand, cleared_life, is_idle, applied_life, applies_in, class_of, is_under_application, new_worker}
+use Rattle.bump_core.specs.Events.{is_enabled, is_class_at_rest, may_move, next_chunk, may_hit, outcome_at, carried, tried, applied_now, cleared_active, is_empty}
+use Rattle.bump_core.specs.State.{is_class, State, chunk, head, worker, is_chunk, is_current, has_free_hold, is_open, is_worker, workers_on, some_and, tried_life, life_in_hand, cleared_life, is_idle, applied_life, applies_in, class_of, is_under_application, new_worker}
 use Rattle.bump_core.specs.Worlds.{IsLawful}
 
 -- a test of a value that there may be says that there is one, which passes
@@ -27,10 +28,15 @@ some_and_parts test (Some x) h = (x, refl, h)
 pub lawful_by_some : {A : Type 0} (change : A → State) (s : State) (o : Option A) (x : A) → o ≡ Some x → IsLawful (change x) → IsLawful (option_map_or change o s)
 lawful_by_some change s o x is lawful = subst (λ p. IsLawful (option_map_or change p s)) (sym is) lawful
 
--- both ways of a change are lawful
-pub lawful_both_ways : (b : Bool) (s t : State) → (b ≡ true → IsLawful s) → (b ≡ false → IsLawful t) → IsLawful (if b then s else t)
-lawful_both_ways true s t first second = first refl
-lawful_both_ways false s t first second = second refl
+-- what holds of the state of either way holds of the one that the test takes
+pub by_test : (P : State → Type 0) (b : Bool) (t u : State) → (b ≡ true → P t) → (b ≡ false → P u) → P (if b then t else u)
+by_test P true t u first second = first refl
+by_test P false t u first second = second refl
+
+-- what holds of the state of each value that there may be, and of the state for none, holds of the one that the value takes
+pub by_value : (P : State → Type 0) → {A : Type 0} (f : A → State) (o : Option A) (s : State) → ((a : A) → o ≡ Some a → P (f a)) → P s → P (option_map_or f o s)
+by_value P f None s some none = none
+by_value P f (Some a) s some none = some a refl
 
 -- the hand that tries to take a reference to this life
 pub trying_from : (x : Hand) (l : ItemId) → tried_life x ≡ Some l → x ≡ hand.Trying l
@@ -84,6 +90,15 @@ tried_from (lane.Tried a) b is = cc
 tried_from (lane.Cleared a found) b is = absurd (let u : ⊥ = cc in u)
 tried_from (lane.Moved a) b is = absurd (let u : ⊥ = cc in u)
 
+-- the lane that found ACTIVE set of the item of this bump
+pub cleared_from : (x : Lane) (b : Bump) → cleared_active x ≡ Some b → x ≡ lane.Cleared b true
+cleared_from lane.Empty b is = absurd (let u : ⊥ = cc in u)
+cleared_from (lane.Carrying a) b is = absurd (let u : ⊥ = cc in u)
+cleared_from (lane.Tried a) b is = absurd (let u : ⊥ = cc in u)
+cleared_from (lane.Cleared a true) b is = cc
+cleared_from (lane.Cleared a false) b is = absurd (let u : ⊥ = cc in u)
+cleared_from (lane.Moved a) b is = absurd (let u : ⊥ = cc in u)
+
 -- the bump that a lane applies is of the life on which it works
 pub applied_from : (x : Lane) (b : Bump) → applied_now x ≡ Some b → applied_life x ≡ Some b.life
 applied_from lane.Empty b is = absurd (let u : ⊥ = cc in u)
@@ -134,3 +149,21 @@ applied_by_outcome (lane.Carrying b) h e is = absurd (let u : ⊥ = cc in u)
 applied_by_outcome (lane.Tried b) h e is = (b, refl)
 applied_by_outcome (lane.Cleared b found) h e is = (b, refl)
 applied_by_outcome (lane.Moved b) h e is = (b, refl)
+
+-- a class at rest whose next item may be labelled, timed or linked: it exists, and has a front of UNUSED
+pub next_from : (s : State) (k : ℕ) → (is_class_at_rest s k && some_and (λ c. true) (next_chunk s k)) ≡ true → (c : ℕ) × (k < length s.classes) × (next_chunk s k ≡ Some c)
+next_from s k enabled = let both = and_parts (is_class_at_rest s k) (some_and (λ c. true) (next_chunk s k)) enabled in
+    let found = some_and_parts (λ (c : ℕ). true) (next_chunk s k) both.1 in
+    (found.0, ltb-true k (length s.classes) (and_parts (is_class s k) (not (is_under_application s k)) both.0).0, found.1)
+
+-- a chunk that may be moved by a pull: it is in range and linked, and no lane applies a bump of its class
+pub move_from : (s : State) (c : ℕ) (to : Segment) → is_enabled s (event.Move c to) ≡ true → (c < length s.chunks) × ((head s c).linked ≡ true) × (is_under_application s (class_of s c) ≡ false)
+move_from s c to enabled = let both = and_parts (is_chunk s c) ((head s c).linked && (may_move (head s c).segment to && not (is_under_application s (class_of s c)))) enabled in
+    let more = and_parts (head s c).linked (may_move (head s c).segment to && not (is_under_application s (class_of s c))) both.1 in
+    (chunk_from s c both.0, more.0, not-true (is_under_application s (class_of s c)) (and_parts (may_move (head s c).segment to) (not (is_under_application s (class_of s c))) more.1).1)
+
+-- a lane that found ACTIVE, and may move its item
+pub move_for_from : (s : State) (w : ℕ) → is_enabled s (event.MoveFor w) ≡ true → (b : Bump) × (w < length s.workers) × (cleared_active (worker s w).lane ≡ Some b)
+move_for_from s w enabled = let both = and_parts (is_worker s w) (some_and (λ b. true) (cleared_active (worker s w).lane)) enabled in
+    let found = some_and_parts (λ (b : Bump). true) (cleared_active (worker s w).lane) both.1 in
+    (found.0, worker_from s w both.0, found.1)

@@ -1,6 +1,7 @@
 -- What follows for a lawful state: which numbers are in range, which lives are current, and what the counts are below.
-use Rattle.std.proofs.Common.{Bool, false, if◌then◌else◌, ◌⊎◌, inl, inr, length-append, ◌≡◌, ℕ, suc, ◌+◌, ◌<◌, ◌≤◌, ◌≢◌, true, cond, eqb, List, [], ◌∷◌, length, refl, ap, ◌∙◌, subst, Some, arith, eq-eqb, ne_eqb}
-use Rattle.std.proofs.lemmas.Bool.{le-ltb, and_from, and_left, and_right, cases_lt}
+use Rattle.std.proofs.Common.{Bool, false, ◌⊎◌, inl, inr, length-append, ◌≡◌, ℕ, ◌+◌, ◌<◌, ◌≤◌, ◌≢◌, true, cond, eqb, length, refl, sym, ap, ◌∙◌, subst, Some, arith, eq-eqb, ne_eqb}
+use Rattle.std.proofs.lemmas.Bool.{and_from, and_left, and_right, cases_lt}
+use Rattle.std.proofs.lemmas.List.{get_or_past}
 use mathlib.Core.Logic.{dite}
 use native.Mathlib.Decide.{ℕ_discrete}
 use Rattle.bump_core.specs.declared.places.Place.TheVariants.{Unused}
@@ -9,13 +10,16 @@ use Rattle.bump_core.specs.declared.lanes.Bump.{Bump}
 use Rattle.bump_core.specs.declared.lanes.Lane.{Lane}
 use Rattle.bump_core.specs.declared.lanes.Lane.TheVariants as lane
 use Rattle.bump_core.specs.declared.workers.Hand.TheVariants as hand
+use Rattle.bump_core.specs.declared.chunks.Chunk.{Chunk}
+use Rattle.bump_core.specs.declared.places.Segment.TheVariants as segment
 use Rattle.bump_core.specs.Lawful.{bit, Shows, IsUsed}
 use Rattle.bump_core.specs.Lives.{life, is_same, one_if, count_of}
 use Rattle.bump_core.specs.Rings.{in_ring, attempts_of}
-use Rattle.bump_core.specs.State.{State, ClassState, chunk, head, worker, class_from, class_of, no_class, new_worker, is_on, applied_life}
-use Rattle.bump_core.specs.Worlds.{holds_of, in_hand_of, aboard_of, bumps_of, references, first_hits_of, place_in, place, Tiles, IsLawful}
+use Rattle.bump_core.specs.State.{State, chunk, head, worker, class_of, no_class, new_worker, is_on, applied_life}
+use Rattle.bump_core.specs.Worlds.{holds_of, in_hand_of, aboard_of, bumps_of, references, first_hits_of, place_in, place, WaitsToMove, IsLawful}
+use Rattle.bump_core.proofs.Tiles.{class_out}
 use Rattle.bump_core.proofs.Laws.{used_where_linked, none_where_free}
-use Rattle.bump_core.proofs.Updates.{read_past, term_within}
+use Rattle.bump_core.proofs.Updates.{term_within}
 
 -- Whether two lives are one.
 
@@ -59,19 +63,9 @@ applied_counts (lane.Moved b) l is = let same : b.life ≡ l = cc in omega (arit
 
 -- Numbers out of range.
 
--- a row of classes ends no lower than it begins
-tiles_up : (from : ℕ) (ks : List ClassState) (end : ℕ) → Tiles from ks end → from ≤ end
-tiles_up from [] end t = omega arith
-tiles_up from (k ∷ ks) end t = omega (arith, t.0, t.1, tiles_up k.end ks end t.2)
-
--- no class ends behind a chunk past the end
-class_past : (from : ℕ) (ks : List ClassState) (end c : ℕ) → Tiles from ks end → end ≤ c → class_from ks c ≡ length ks
-class_past from [] end c t past = refl
-class_past from (k ∷ ks) end c t past = ap (λ b. if b then 0 else suc (class_from ks c)) (le-ltb c k.end (omega (arith, tiles_up k.end ks end t.2))) ∙ ap suc (class_past k.end ks end c t.2 past)
-
 -- a chunk past the end stands nowhere but in UNUSED
 pub place_past : (s : State) → IsLawful s → (c : ℕ) → length s.chunks ≤ c → place s c ≡ Unused
-place_past s o c past = ap (λ k. place_in k c) (read_past s.classes (class_of s c) no_class (omega (arith, class_past 0 s.classes (length s.chunks) c o.tiles past)))
+place_past s o c past = ap (λ k. place_in k c) (get_or_past s.classes (class_of s c) no_class (omega (arith, class_out s o.tiles c past)))
 
 -- a chunk that isn't free is in range
 pub used_in_range : (s : State) → IsLawful s → (c : ℕ) → IsUsed (place s c) → c < length s.chunks
@@ -79,17 +73,25 @@ used_in_range s o c used = elim (cases_lt c (length s.chunks)) [ inl within ↦ 
 
 -- References.
 
--- the holds of the chunk's life are the chunk's
-pub holds_here : (s : State) (c : ℕ) → holds_of s (life c (head s c).generation) ≡ (chunk s c).holds
-holds_here s c = ap (λ b. cond b (chunk s c).holds 0) (eq-eqb (head s c).generation (head s c).generation refl)
+-- the holds of a life with this generation, by the chunk
+abbrev pub held_by : Chunk → ℕ → ℕ
+held_by x g = cond (eqb x.head.generation g) x.holds 0
 
--- and another life has none
-pub holds_else : (s : State) (l : ItemId) → (head s l.chunk).generation ≢ l.generation → holds_of s l ≡ 0
-holds_else s l other = ap (λ b. cond b (chunk s l.chunk).holds 0) (ne_eqb (head s l.chunk).generation l.generation other)
+-- the chunk's generation has its holds
+pub held_at : (x : Chunk) (g : ℕ) → x.head.generation ≡ g → held_by x g ≡ x.holds
+held_at x g is = ap (λ b. cond b x.holds 0) (eq-eqb x.head.generation g is)
+
+-- the same of the generation itself
+pub held_here : (x : Chunk) → held_by x x.head.generation ≡ x.holds
+held_here x = held_at x x.head.generation refl
+
+-- and another has none
+pub held_else : (x : Chunk) (g : ℕ) → g ≢ x.head.generation → held_by x g ≡ 0
+held_else x g other = ap (λ b. cond b x.holds 0) (ne_eqb x.head.generation g (λ e. other (sym e)))
 
 -- a life with holds is its chunk's, and all the chunk's holds are of it
 pub held_current : (s : State) (l : ItemId) → 0 < holds_of s l → ((head s l.chunk).generation ≡ l.generation) × (holds_of s l ≡ (chunk s l.chunk).holds)
-held_current s l some = dite (ℕ_discrete (head s l.chunk).generation l.generation) (λ e. (e, ap (λ b. cond b (chunk s l.chunk).holds 0) (eq-eqb (head s l.chunk).generation l.generation e))) (λ ne. absurd (omega (arith, holds_else s l ne)))
+held_current s l some = dite (ℕ_discrete l.generation (head s l.chunk).generation) (λ e. (sym e, held_at (chunk s l.chunk) l.generation (sym e))) (λ ne. absurd (omega (arith, held_else (chunk s l.chunk) l.generation ne)))
 
 -- the holds of a life are references to it
 pub holds_counted : (s : State) (l : ItemId) → holds_of s l ≤ references s l.chunk l.generation
@@ -118,7 +120,7 @@ module _ (s : State) (o : IsLawful s) where
 
   -- a chunk has no more holds than its count
   pub holds_within : (c : ℕ) → (chunk s c).holds ≤ (head s c).refs
-  holds_within c = omega (arith, (o.chunks c).counted, holds_here s c)
+  holds_within c = omega (arith, (o.chunks c).counted, held_here (chunk s c))
 
   -- and the count is at most the limit
   pub refs_within : (c : ℕ) → (head s c).refs ≤ s.refs_limit
@@ -126,11 +128,15 @@ module _ (s : State) (o : IsLawful s) where
 
   -- a linked chunk has a count above its holds
   pub linked_above_holds : (c : ℕ) → (head s c).linked ≡ true → (chunk s c).holds < (head s c).refs
-  linked_above_holds c on = omega (arith, (o.chunks c).counted, holds_here s c, ap bit on)
+  linked_above_holds c on = omega (arith, (o.chunks c).counted, held_here (chunk s c), ap bit on)
 
   -- a linked chunk is in range
   pub linked_in_range : (c : ℕ) → (head s c).linked ≡ true → c < length s.chunks
   linked_in_range c on = used_in_range s o c (used_where_linked (head s c) (place s c) (o.chunks c).shown on)
+
+  -- an item that a lane is to move is linked, and in COLD
+  pub waiting_linked : (w : ℕ) (b : Bump) → w < length s.workers → (worker s w).lane ≡ lane.Cleared b true → ((head s b.life.chunk).linked ≡ true) × ((head s b.life.chunk).segment ≡ segment.Cold)
+  waiting_linked w b within is = subst (WaitsToMove s) is (o.waits w within)
 
   -- Lives in a worker's hand.
 
@@ -207,7 +213,7 @@ module _ (s : State) (o : IsLawful s) where
   in_hand_above_holds w l within is = omega (
     arith,
     (o.chunks l.chunk).counted,
-    holds_here s l.chunk,
+    held_here (chunk s l.chunk),
     ap (references s l.chunk) (in_hand_current w l within is),
     ap (λ g. holds_of s (life l.chunk g)) (in_hand_current w l within is),
     term_within (bumps_of l) s.workers w new_worker within,
@@ -246,7 +252,7 @@ module _ (s : State) (o : IsLawful s) where
   aboard_above_holds w l within some = omega (
     arith,
     (o.chunks l.chunk).counted,
-    holds_here s l.chunk,
+    held_here (chunk s l.chunk),
     ap (references s l.chunk) (aboard_current w l within some),
     ap (λ g. holds_of s (life l.chunk g)) (aboard_current w l within some),
     term_within (bumps_of l) s.workers w new_worker within,

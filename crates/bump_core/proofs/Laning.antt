@@ -1,8 +1,8 @@
 -- What a lane does leaves a lawful state lawful, but for the move.
-use Rattle.std.proofs.Common.{◌≡◌, ℕ, suc, ◌+◌, ◌<◌, Bool, true, false, not, ◌&&◌, nat_lt, List, [], ◌∷◌, ◌++◌, map, length, drop, slice_index_or, Some, refl, sym, ap, ◌∙◌, arith, append_assoc, length-append}
+use Rattle.std.proofs.Common.{◌≡◌, ℕ, suc, ◌<◌, Bool, true, false, not, ◌&&◌, nat_lt, List, [], ◌∷◌, ◌++◌, map, length, drop, slice_index_or, Some, refl, sym, ap, ◌∙◌, arith, append_assoc, length-append}
 use Rattle.std.proofs.lemmas.List.{append-nil, map-append}
 use Rattle.std.proofs.lemmas.Bool.{and_parts, ltb-true, not-true}
-use Rattle.std.proofs.lemmas.Option.{slice_get_within, get_or_from_slice_get}
+use Rattle.std.proofs.lemmas.Option.{slice_get-get_or}
 use Rattle.std.specs.Option.{option_map_or}
 use Rattle.bump_core.specs.declared.places.Segment.TheVariants as segment
 use Rattle.bump_core.specs.declared.items.ItemId.{ItemId}
@@ -14,26 +14,14 @@ use Rattle.bump_core.specs.declared.lanes.Outcome.{Outcome}
 use Rattle.bump_core.specs.declared.events.Event.TheVariants as event
 use Rattle.bump_core.specs.Lives.{life, one_if, count_of}
 use Rattle.bump_core.specs.Tables.{is_cold}
-use Rattle.bump_core.specs.Rings.{in_ring, aboard, bump_applied, numbered_from, IsWorker}
-use Rattle.bump_core.specs.State.{State, WorkerState, chunk, head, worker, class_of, with_head, with_worker, is_worker, some_and, applied_life, is_under_application}
-use Rattle.bump_core.specs.Events.{with_time, one_fewer, cleared_head, next_bump, bump_of, carried, tried, applied_now, is_empty, lane_chunk, lane_outcome, is_enabled, after, take_bump, with_lane, clear_for, applied_bump, alight}
-use Rattle.bump_core.specs.Worlds.{aboard_of, bumps_of, references, first_hits_of, place, WaitsToMove, IsLawful}
-use Rattle.bump_core.proofs.Laws.{relawful, unreferred, marked}
-use Rattle.bump_core.proofs.Updates.{got_within, drop_within}
-use Rattle.bump_core.proofs.Facts.{one_if_same, one_if_elsewhere, one_if_at, one_if_not_at, linked_in_range, aboard_in_range, aboard_current}
-use Rattle.bump_core.proofs.Frames.{worker_lawful, both_lawful, references_after, first_hits_after, alone_kept, chunk_here}
-use Rattle.bump_core.proofs.Enabled.{some_and_parts, lawful_by_some, empty_from, carrying_from, tried_from, cold_from, worker_from, none_applies, applied_by_outcome}
-use Rattle.bump_core.proofs.Readers.{time_lawful}
-
--- one more life at the end is numbered next
-pub numbered_push : (n : ℕ) (ls : List ItemId) (l : ItemId) (k : ℕ) → k ≡ n + length ls → numbered_from n (ls ++ l ∷ []) ≡ numbered_from n ls ++ bump_of k l ∷ []
-numbered_push n [] l k e = ap (λ j. bump_of j l ∷ []) (let same : n ≡ k = omega arith in same)
-numbered_push n (m ∷ ls) l k e = ap (λ bs. bump_of n m ∷ bs) (numbered_push (suc n) ls l k (omega arith))
-
--- the next bump is the first in the ring, and the rest stays there
-pub next_in_ring : (x : WorkerState) (l : ItemId) → next_bump x ≡ Some l → in_ring x ≡ l ∷ drop (suc (length x.received)) x.sent
-next_in_ring x l is = drop_within x.sent (length x.received) l (slice_get_within x.sent (length x.received) l is)
-    ∙ ap (λ m. m ∷ drop (suc (length x.received)) x.sent) (get_or_from_slice_get x.sent (length x.received) l l is)
+use Rattle.bump_core.specs.Rings.{in_ring, aboard, bump_applied, IsWorker}
+use Rattle.bump_core.specs.State.{State, WorkerState, chunk, head, worker, class_of, with_head, is_worker, some_and, applied_life, is_under_application}
+use Rattle.bump_core.specs.Events.{with_time, cleared_head, next_bump, bump_of, carried, tried, applied_now, is_empty, lane_chunk, lane_outcome, is_enabled, after, take_bump, with_lane, clear_for, applied_bump, alight}
+use Rattle.bump_core.specs.Worlds.{aboard_of, WaitsToMove, IsLawful}
+use Rattle.bump_core.proofs.Ring.{lane_further, next_in_ring, numbered_append}
+use Rattle.bump_core.proofs.Facts.{linked_in_range, aboard_in_range, aboard_current, applied_aboard}
+use Rattle.bump_core.proofs.Frames.{worker_lawful, both_marked, both_unreferred, alone_kept, chunk_here, time_lawful}
+use Rattle.bump_core.proofs.Enabled.{some_and_parts, lawful_by_some, empty_from, carrying_from, tried_from, cold_from, applied_from, worker_from, none_applies, applied_by_outcome}
 
 -- a lane with no bump aboard takes the next one from the ring
 pub take_bump_lawful : (s : State) (w : ℕ) (l : ItemId) → IsLawful s → w < length s.workers → (worker s w).lane ≡ lane.Empty → next_bump (worker s w) ≡ Some l → IsLawful (take_bump s w l)
@@ -45,7 +33,7 @@ take_bump_lawful s w l o inside empty next = worker_lawful s w y o inside
       prefix = was.prefix ∙ ap (λ xs. (worker s w).received ++ xs) was_ring ∙ sym (append_assoc (worker s w).received (l ∷ []) rest) ∙ ap (λ xs. ((worker s w).received ++ l ∷ []) ++ xs) (sym ring);
       room = omega (arith, was.room, ap length was_ring, ap length ring);
       applied = ap (λ bs. bs ++ bump_of (length (worker s w).received) l ∷ []) (sym (append-nil (map bump_applied (worker s w).applied)) ∙ ap (λ x. map bump_applied (worker s w).applied ++ aboard x) (sym empty) ∙ was.applied)
-          ∙ sym (numbered_push 0 (worker s w).received l (length (worker s w).received) (omega arith));
+          ∙ sym (numbered_append 0 (worker s w).received (l ∷ []) (length (worker s w).received) (omega arith));
       accepted = was.accepted;
       attempted = was.attempted;
       most = was.most;
@@ -70,12 +58,11 @@ take_bump_lawful s w l o inside empty next = worker_lawful s w y o inside
 
 -- where no lane applies a bump of its class the lane looks at the item of its bump
 pub try_lawful : (s : State) (w : ℕ) (b : Bump) → IsLawful s → w < length s.workers → (worker s w).lane ≡ lane.Carrying b → is_under_application s (class_of s b.life.chunk) ≡ false → IsLawful (with_lane s w (lane.Tried b))
-try_lawful s w b o inside is rest = let was = o.workers w inside in
-    worker_lawful s w (record (worker s w) { lane = lane.Tried b }) o inside
+try_lawful s w b o inside is rest = worker_lawful s w (record (worker s w) { lane = lane.Tried b }) o inside
     (λ m. omega (arith, ap (aboard_of m) is))
     (λ m. refl)
     (λ m. omega arith)
-    (record { prefix = was.prefix; room = was.room; applied = ap (λ x. map bump_applied (worker s w).applied ++ aboard x) (sym is) ∙ was.applied; accepted = was.accepted; attempted = was.attempted; most = was.most })
+    (lane_further s.capacity (worker s w) (lane.Tried b) (o.workers w inside) (sym (ap aboard is)))
     (λ v l m inside_too ne of_v of_y same. none_applies s (class_of s b.life.chunk) v l rest inside_too of_v (same ∙ ap (λ z. class_of s z.chunk) (let back : m ≡ b.life = cc in back)))
     tt
 
@@ -86,16 +73,11 @@ waits_cleared s b false on cold = tt
 
 -- the lane clears ACTIVE of an item that it found linked in COLD
 pub clear_for_lawful : (s : State) (w : ℕ) (b : Bump) → IsLawful s → w < length s.workers → (worker s w).lane ≡ lane.Tried b → (head s b.life.chunk).linked ≡ true → (head s b.life.chunk).segment ≡ segment.Cold → IsLawful (clear_for s w b)
-clear_for_lawful s w b o inside is on cold = both_lawful s b.life.chunk h w y within inside refl o refl refl
-    (λ m ne. bumps m)
-    (λ m ne. refl)
-    (relawful s.refs_limit h (place s b.life.chunk) (references s b.life.chunk) (first_hits_of s b.life.chunk)
-    (marked s.refs_limit (head s b.life.chunk) (place s b.life.chunk) (references s b.life.chunk) (first_hits_of s b.life.chunk) (o.chunks b.life.chunk) false (omega arith))
-    (references t b.life.chunk) (first_hits_of t b.life.chunk)
-    (λ g. omega (arith, references_after s b.life.chunk h w y within inside refl b.life.chunk g, bumps (life b.life.chunk g)))
-    (λ g. omega (arith, first_hits_after s b.life.chunk h w y within inside refl b.life.chunk g)))
+clear_for_lawful s w b o inside is on cold = both_marked s b.life.chunk false w y o within inside (omega arith)
+    (λ m. omega (arith, ap (aboard_of m) is))
+    (λ m. refl)
     (λ m. omega (arith, o.hands m))
-    (record { prefix = was.prefix; room = was.room; applied = ap (λ x. map bump_applied (worker s w).applied ++ aboard x) (sym is) ∙ was.applied; accepted = was.accepted; attempted = was.attempted; most = was.most })
+    (lane_further s.capacity (worker s w) (lane.Cleared b (head s b.life.chunk).active) (o.workers w inside) (sym (ap aboard is)))
     (alone_kept s w y inside o (sym (ap applied_life is)))
     (waits_cleared (with_head s b.life.chunk h) b (head s b.life.chunk).active (ap (λ z. z.head.linked) here ∙ on) (ap (λ z. z.head.segment) here ∙ cold))
   where
@@ -108,17 +90,8 @@ clear_for_lawful s w b o inside is on cold = both_lawful s b.life.chunk h w y wi
     y : WorkerState
     y = record (worker s w) { lane = lane.Cleared b (head s b.life.chunk).active }
 
-    was : IsWorker s.capacity (worker s w)
-    was = o.workers w inside
-
-    t : State
-    t = with_worker (with_head s b.life.chunk h) w y
-
     here : chunk (with_head s b.life.chunk h) b.life.chunk ≡ record (chunk s b.life.chunk) { head = h }
     here = chunk_here s b.life.chunk (record (chunk s b.life.chunk) { head = h }) within
-
-    bumps : (m : ItemId) → bumps_of m y ≡ bumps_of m (worker s w)
-    bumps m = omega (arith, ap (aboard_of m) is)
 
 -- the bump that a lane applies is the one aboard
 pub applied_alone_aboard : (x : Lane) (b : Bump) → applied_now x ≡ Some b → aboard x ≡ b ∷ []
@@ -138,16 +111,10 @@ applied_counts_for (lane.Moved a) b is m = ap (λ (z : Bump). one_if m z.life) (
 
 -- the lane gives the reference of the bump that it applied back
 pub alight_lawful : (s : State) (w : ℕ) (b : Bump) (e : Outcome) → IsLawful s → w < length s.workers → applied_now (worker s w).lane ≡ Some b → IsLawful (alight s w b e)
-alight_lawful s w b e o inside is = both_lawful s b.life.chunk h w y within inside refl o refl refl
-    (λ m ne. omega (arith, bumps m, one_if_elsewhere m b.life ne))
-    (λ m ne. refl)
-    (relawful s.refs_limit h (place s b.life.chunk) (references t b.life.chunk) (first_hits_of s b.life.chunk)
-    (unreferred s.refs_limit (head s b.life.chunk) (place s b.life.chunk) (references s b.life.chunk) (first_hits_of s b.life.chunk) (o.chunks b.life.chunk) (references t b.life.chunk)
-    (omega (arith, refers (head s b.life.chunk).generation, one_if_at b.life (head s b.life.chunk).generation (sym current)))
-    (λ g ne. omega (arith, refers g, one_if_not_at b.life g (λ f. ne (f ∙ current)))))
-    (references t b.life.chunk) (first_hits_of t b.life.chunk)
-    (λ g. refl)
-    (λ g. omega (arith, first_hits_after s b.life.chunk h w y within inside refl b.life.chunk g)))
+alight_lawful s w b e o inside is = both_unreferred s b.life w (record (worker s w) { lane = lane.Empty; applied = (worker s w).applied ++ applied_bump b e ∷ [] }) o
+    (aboard_in_range s o w b.life inside counts) inside (aboard_current s o w b.life inside counts)
+    (λ m. omega (arith, applied_counts_for (worker s w).lane b is m))
+    (λ m. refl)
     (λ m. omega (arith, o.hands m))
     (record {
       prefix = was.prefix;
@@ -162,31 +129,10 @@ alight_lawful s w b e o inside is = both_lawful s b.life.chunk h w y within insi
     tt
   where
     counts : 0 < aboard_of b.life (worker s w).lane
-    counts = omega (arith, applied_counts_for (worker s w).lane b is b.life, one_if_same b.life)
-
-    within : b.life.chunk < length s.chunks
-    within = aboard_in_range s o w b.life inside counts
-
-    current : b.life.generation ≡ (head s b.life.chunk).generation
-    current = aboard_current s o w b.life inside counts
-
-    h : Head
-    h = one_fewer (head s b.life.chunk)
-
-    y : WorkerState
-    y = record (worker s w) { lane = lane.Empty; applied = (worker s w).applied ++ applied_bump b e ∷ [] }
+    counts = applied_aboard s o w b.life (applied_from (worker s w).lane b is)
 
     was : IsWorker s.capacity (worker s w)
     was = o.workers w inside
-
-    t : State
-    t = with_worker (with_head s b.life.chunk h) w y
-
-    bumps : (m : ItemId) → bumps_of m y + one_if m b.life ≡ bumps_of m (worker s w)
-    bumps m = omega (arith, applied_counts_for (worker s w).lane b is m)
-
-    refers : (g : ℕ) → references t b.life.chunk g + one_if (life b.life.chunk g) b.life ≡ references s b.life.chunk g
-    refers g = omega (arith, references_after s b.life.chunk h w y within inside refl b.life.chunk g, bumps (life b.life.chunk g))
 
 -- The events.
 
@@ -195,7 +141,7 @@ pub after_take_bump : (s : State) (w : ℕ) → IsLawful s → is_enabled s (eve
 after_take_bump s w o enabled = let parts = and_parts (is_worker s w) (is_empty (worker s w).lane && nat_lt (length (worker s w).received) (length (worker s w).sent)) enabled in
     let more = and_parts (is_empty (worker s w).lane) (nat_lt (length (worker s w).received) (length (worker s w).sent)) parts.1 in
     let l : ItemId = slice_index_or (worker s w).sent (length (worker s w).received) (life 0 0) in
-    let next : next_bump (worker s w) ≡ Some l = got_within (worker s w).sent (length (worker s w).received) (life 0 0) (ltb-true (length (worker s w).received) (length (worker s w).sent) more.1) in
+    let next : next_bump (worker s w) ≡ Some l = slice_get-get_or (worker s w).sent (length (worker s w).received) (life 0 0) (ltb-true (length (worker s w).received) (length (worker s w).sent) more.1) in
     lawful_by_some (take_bump s w) s (next_bump (worker s w)) l next
     (take_bump_lawful s w l o (worker_from s w parts.0) (empty_from (worker s w).lane more.0) next)
 

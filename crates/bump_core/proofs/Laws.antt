@@ -1,4 +1,5 @@
--- Each kind of change leaves a chunk lawful: facts about a head and two counts alone.
+-- Each kind of change leaves a chunk lawful: facts about a head, a place and two counts alone. The kinds: a reference taken or given back,
+-- the first hit and a later one, a mark, a link, an unlink, a sweep and a move; and counts, a head or a place in other words.
 use Rattle.std.proofs.Common.{◌≡◌, ℕ, ◌+◌, ◌-◌, ◌<◌, ◌≤◌, ◌≢◌, Bool, true, false, refl, sym, ap, ◌∙◌, subst, arith}
 use mathlib.Core.Bool.{false≢true}
 use mathlib.Core.Logic.{dite}
@@ -12,9 +13,14 @@ use Rattle.bump_core.specs.History.{place_of}
 use Rattle.bump_core.specs.Lawful.{bit, Shows, IsUsed, Lawful, newborn}
 
 -- a mark counts at most 1
-pub bit_le : (b : Bool) → bit b ≤ 1
-bit_le true = omega arith
-bit_le false = omega arith
+pub bit_at_most : (b : Bool) → bit b ≤ 1
+bit_at_most true = omega arith
+bit_at_most false = omega arith
+
+-- a test that counts passes
+pub bit_some : (b : Bool) → 0 < bit b → b ≡ true
+bit_some true some = refl
+bit_some false some = absurd (omega arith)
 
 -- a chunk whose head is linked is not free
 pub used_where_linked : (h : Head) (at : Place) → Shows h at → h.linked ≡ true → IsUsed at
@@ -33,6 +39,33 @@ placed_where_linked h Cold s e = ap place_of (sym s.1)
 placed_where_linked h Dying s e = absurd (false≢true (sym s ∙ e))
 placed_where_linked h Unused s e = absurd (false≢true (sym s.0 ∙ e))
 placed_where_linked h Retired s e = absurd (false≢true (sym s.0 ∙ e))
+
+-- an unlinked chunk that isn't free is DYING
+pub dying_where_unlinked : (h : Head) (at : Place) → Shows h at → IsUsed at → h.linked ≡ false → at ≡ Dying
+dying_where_unlinked h Hot s used off = absurd (false≢true (sym off ∙ s.0))
+dying_where_unlinked h Warm s used off = absurd (false≢true (sym off ∙ s.0))
+dying_where_unlinked h Cold s used off = absurd (false≢true (sym off ∙ s.0))
+dying_where_unlinked h Dying s used off = refl
+dying_where_unlinked h Unused s used off = absurd used
+dying_where_unlinked h Retired s used off = absurd used
+
+-- what the list of a segment says of the head
+pub in_segment : (h : Head) (s : Segment) → Shows h (place_of s) → (h.linked ≡ true) × (h.segment ≡ s)
+in_segment h segment.Hot x = x
+in_segment h segment.Warm x = x
+in_segment h segment.Cold x = x
+
+-- a linked head with these segment bits agrees with the list of the segment
+pub shows_segment : (h : Head) (s : Segment) → h.linked ≡ true → Shows (record h { segment = s }) (place_of s)
+shows_segment h segment.Hot x = (x, refl)
+shows_segment h segment.Warm x = (x, refl)
+shows_segment h segment.Cold x = (x, refl)
+
+-- no list of a segment is of free chunks
+pub used_in_segment : (s : Segment) → IsUsed (place_of s)
+used_in_segment segment.Hot = tt
+used_in_segment segment.Warm = tt
+used_in_segment segment.Cold = tt
 
 -- a place asks nothing of the count and of the marks
 pub shows_same : (g h : Head) (at : Place) → g.linked ≡ h.linked → g.segment ≡ h.segment → g.generation ≡ h.generation → Shows g at → Shows h at
@@ -103,7 +136,7 @@ module _ (limit : ℕ) (h : Head) (at : Place) (r x : ℕ → ℕ) (o : Lawful l
     within = o.within;
     shown = shows_same h (record h { fetched = true }) at refl refl refl o.shown;
     used = o.used;
-    active = bit_le h.active;
+    active = bit_at_most h.active;
     fetched = omega (arith, o.fetched);
     once = λ g. dite (ℕ_discrete g h.generation) (λ e. omega (arith, o.fetched, ap y e)) (λ ne. omega (arith, there g ne, o.once g));
     past = λ g some. dite (ℕ_discrete g h.generation) (λ e. omega arith) (λ ne. o.past g (omega (arith, there g ne)));
@@ -116,7 +149,7 @@ module _ (limit : ℕ) (h : Head) (at : Place) (r x : ℕ → ℕ) (o : Lawful l
     within = o.within;
     shown = shows_same h (record h { fetched = true }) at refl refl refl o.shown;
     used = o.used;
-    active = bit_le h.active;
+    active = bit_at_most h.active;
     fetched = o.fetched ∙ ap bit on;
     once = o.once;
     past = o.past;
@@ -174,33 +207,20 @@ module _ (limit : ℕ) (h : Head) (at : Place) (r x : ℕ → ℕ) (o : Lawful l
     past = o.past;
   }
 
--- what the list of a segment says of the head
-pub in_segment : (h : Head) (s : Segment) → Shows h (place_of s) → (h.linked ≡ true) × (h.segment ≡ s)
-in_segment h segment.Hot x = x
-in_segment h segment.Warm x = x
-in_segment h segment.Cold x = x
+  -- a linked chunk goes to another list
+  pub moved : (to : Segment) → h.linked ≡ true → Lawful limit (record h { segment = to }) (place_of to) r x
+  moved to on = record {
+    counted = o.counted;
+    within = o.within;
+    shown = shows_segment h to on;
+    used = λ g some. ((o.used g some).0, used_in_segment to);
+    active = o.active;
+    fetched = o.fetched;
+    once = o.once;
+    past = o.past;
+  }
 
--- a linked head with these segment bits agrees with the list of the segment
-pub shows_segment : (h : Head) (s : Segment) → h.linked ≡ true → Shows (record h { segment = s }) (place_of s)
-shows_segment h segment.Hot x = (x, refl)
-shows_segment h segment.Warm x = (x, refl)
-shows_segment h segment.Cold x = (x, refl)
-
--- no list of a segment is of free chunks
-pub used_in_segment : (s : Segment) → IsUsed (place_of s)
-used_in_segment segment.Hot = tt
-used_in_segment segment.Warm = tt
-used_in_segment segment.Cold = tt
-
--- a linked chunk goes to another list
-pub moved : (limit : ℕ) (h : Head) (at : Place) (r x : ℕ → ℕ) → Lawful limit h at r x → (to : Segment) → h.linked ≡ true → Lawful limit (record h { segment = to }) (place_of to) r x
-moved limit h at r x o to on = record {
-  counted = o.counted;
-  within = o.within;
-  shown = shows_segment h to on;
-  used = λ g many. ((o.used g many).0, used_in_segment to);
-  active = o.active;
-  fetched = o.fetched;
-  once = o.once;
-  past = o.past;
-}
+-- the same chunk, its head, its place and its references in other words
+pub lawful_same : (limit : ℕ) (g h : Head) (p q : Place) (r u x : ℕ → ℕ) → h ≡ g → q ≡ p → ((n : ℕ) → u n ≡ r n) → Lawful limit g p r x → Lawful limit h q u x
+lawful_same limit g h p q r u x head_is place_is count_is o =
+    subst (λ (f : Head). Lawful limit f q u x) (sym head_is) (subst (λ (at : Place). Lawful limit g at u x) (sym place_is) (relawful limit g p r x o u x count_is (λ n. refl)))

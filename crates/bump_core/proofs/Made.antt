@@ -1,5 +1,5 @@
 -- Each command that is allowed is its events, each enabled in its turn.
-use Rattle.std.proofs.Common.{◌≡◌, true, Some, Result, Ok, Err, sym, ap, ◌∙◌, subst}
+use Rattle.std.proofs.Common.{◌≡◌, true, Some, Result, Ok, Err, refl, sym, ap, ◌∙◌, subst}
 use Rattle.std.specs.Prelude.{OnOk}
 use Rattle.bump_core.specs.declared.commands.Answer.{Answer}
 use Rattle.bump_core.specs.declared.events.Refused.{Refused}
@@ -7,10 +7,10 @@ use Rattle.bump_core.specs.declared.events.Refused.TheVariants.{NotEnabled, OutO
 use Rattle.bump_core.specs.declared.commands.Command.{Command}
 use Rattle.bump_core.specs.declared.commands.Command.TheVariants as command
 use Rattle.bump_core.specs.State.{State, SameSizes}
-use Rattle.bump_core.proofs.Sizes.{run_sizes, same_sizes}
 use Rattle.bump_core.specs.Worlds.{IsLawful, NothingUnlinked}
 use Rattle.bump_core.specs.Runs.{run_of}
 use Rattle.bump_core.specs.Commands.{is_allowed, events_of, command_after, Commands}
+use Rattle.bump_core.proofs.Sizes.{run_sizes}
 use Rattle.bump_core.proofs.Steps.{Keeps, run_keeps}
 use Rattle.bump_core.proofs.MadeCalls.{label_made, release_made, take_made, link_made, pull_made}
 use Rattle.bump_core.proofs.MadeHits.{touch_made}
@@ -26,20 +26,22 @@ commands_are_events s o none (command.Label l) allowed = label_made s l allowed
 commands_are_events s o none (command.Release l) allowed = release_made s l allowed
 commands_are_events s o none (command.Next w now) allowed = next_made s o none w now allowed
 
--- a command keeps what a World keeps, and is the run of its events
-pub command_keeps : (old : State) (c : Command) (new : State) (r : Result Answer Refused) → Keeps old → Commands old c new r → Keeps new
-command_keeps old c new (Ok answer) k made = subst Keeps (sym made.1) (run_keeps old (events_of old c) (command_after old c) k (commands_are_events old k.0 k.1 c made.0))
-command_keeps old c new (Err NotEnabled) k kept = subst Keeps (sym kept.1) k
-command_keeps old c new (Err OutOfMemory) k kept = subst Keeps (sym kept) k
+-- a command that is refused changes nothing
+refused_same : (old : State) (c : Command) (new : State) (r : Refused) → Commands old c new (Err r) → new ≡ old
+refused_same old c new NotEnabled refused = refused.1
+refused_same old c new OutOfMemory refused = refused
 
 -- the events of a command that was made
 pub command_events : (old : State) (c : Command) (new : State) (r : Result Answer Refused) → Keeps old → Commands old c new r → OnOk r (run_of old (events_of old c) ≡ Some new)
 command_events old c new (Ok answer) k made = commands_are_events old k.0 k.1 c made.0 ∙ ap (λ (s : State). Some s) (sym made.1)
-command_events old c new (Err NotEnabled) k kept = tt
-command_events old c new (Err OutOfMemory) k kept = tt
+command_events old c new (Err r) k refused = tt
 
--- a command leaves the sizes
+-- a command keeps what a World keeps, as the run of its events does
+pub command_keeps : (old : State) (c : Command) (new : State) (r : Result Answer Refused) → Keeps old → Commands old c new r → Keeps new
+command_keeps old c new (Ok answer) k made = run_keeps old (events_of old c) new k (command_events old c new (Ok answer) k made)
+command_keeps old c new (Err r) k refused = subst Keeps (sym (refused_same old c new r refused)) k
+
+-- and it leaves the sizes
 pub command_sizes : (old : State) (c : Command) (new : State) (r : Result Answer Refused) → Keeps old → Commands old c new r → SameSizes old new
-command_sizes old c new (Ok answer) k made = subst (SameSizes old) (sym made.1) (run_sizes old (events_of old c) (command_after old c) (commands_are_events old k.0 k.1 c made.0))
-command_sizes old c new (Err NotEnabled) k kept = same_sizes old new kept.1
-command_sizes old c new (Err OutOfMemory) k kept = same_sizes old new kept
+command_sizes old c new (Ok answer) k made = run_sizes old (events_of old c) new (command_events old c new (Ok answer) k made)
+command_sizes old c new (Err r) k refused = subst (SameSizes old) (sym (refused_same old c new r refused)) (refl, refl, refl)

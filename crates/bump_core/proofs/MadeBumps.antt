@@ -1,10 +1,9 @@
 -- Applying a bump is its events.
-use Rattle.std.proofs.Common.{◌≡◌, ℕ, zero, suc, ◌<◌, eqb, cond, Bool, true, false, not, ◌&&◌, List, [], ◌∷◌, ◌++◌, length, drop, slice_get, slice_set, Option, Some, None, if◌then◌else◌, refl, sym, ap, ap₂, ◌∙◌, subst, arith}
+use Rattle.std.proofs.Common.{◌≡◌, ℕ, ◌<◌, Bool, true, false, not, ◌&&◌, List, [], ◌∷◌, ◌++◌, length, slice_set, Option, Some, None, if◌then◌else◌, refl, sym, ap, ap₂, ◌∙◌, subst, arith}
 use Rattle.std.proofs.lemmas.Bool.{and_parts, and_from, ltb-true, lt-ltb, both_ways, not-true}
+use Rattle.std.proofs.lemmas.Option.{slice_get_within}
 use Rattle.std.specs.Option.{option_map_or}
-use Rattle.bump_core.specs.declared.places.Place.{Place}
-use Rattle.bump_core.specs.declared.places.Place.TheVariants.{Hot, Warm, Cold, Dying, Unused, Retired}
-use Rattle.bump_core.specs.declared.places.Segment.{Segment}
+use Rattle.std.proofs.lemmas.List.{set-get_or}
 use Rattle.bump_core.specs.declared.places.Segment.TheVariants as segment
 use Rattle.bump_core.specs.declared.items.ItemId.{ItemId}
 use Rattle.bump_core.specs.declared.items.Head.{Head}
@@ -20,68 +19,19 @@ use Rattle.bump_core.specs.declared.lanes.Outcome.TheVariants as outcome
 use Rattle.bump_core.specs.declared.events.Event.{Event}
 use Rattle.bump_core.specs.declared.events.Event.TheVariants as event
 use Rattle.bump_core.specs.declared.commands.Command.TheVariants as command
-use Rattle.bump_core.specs.Lawful.{Shows, IsUsed}
 use Rattle.bump_core.specs.Lives.{count_of}
-use Rattle.bump_core.specs.History.{place_of, Standing, standing_from}
 use Rattle.bump_core.specs.Tables.{is_cold}
 use Rattle.bump_core.specs.State.{State, ClassState, WorkerState, chunk, head, class, worker, no_chunk, class_with_change, is_worker, with_worker, with_change, class_from, class_of, some_and, applies_in, is_under_application}
-use Rattle.bump_core.specs.Worlds.{place, references, aboard_of, IsLawful, NoneUnlinked, NothingUnlinked}
+use Rattle.bump_core.specs.Worlds.{references, aboard_of, IsLawful, NothingUnlinked}
 use Rattle.bump_core.specs.Events.{one_fewer, cleared_head, moved_head, next_bump, carried, tried, applied_now, cleared_active, is_empty, outcome_at, lane_outcome, with_time, bump_of, take_bump, with_lane, clear_for, move_for, applied_bump, alight}
 use Rattle.bump_core.specs.Runs.{run_of}
 use Rattle.bump_core.specs.Commands.{is_allowed, events_of, command_after, bump_next, is_half_made, outcome_next, ended_at, bumped_chunk, bumped_worker, bumped_lists, apply_bump, take_events, apply_events}
-use Rattle.bump_core.proofs.Updates.{written_back}
-use Rattle.bump_core.proofs.Tiles.{class_within}
-use Rattle.bump_core.proofs.Facts.{one_if_same, referred_in_range, referred_used, in_ring_referred, aboard_referred}
-use Rattle.bump_core.proofs.MadeParts.{run_step, none_written, at, at_start, chunk_at, worker_at, is_worker_at, on_chunk, on_worker, on_both}
-
--- Where nothing was unlinked, a chunk with a reference is linked.
-
--- the place is not one of those to which items go that were unlinked
-abbrev NotEnded : Place → Type 0
-NotEnded Dying = ⊥
-NotEnded Retired = ⊥
-NotEnded _ = Unit {0}
-
--- of two such standings each is one
-not_ended_if : (b : Bool) (x y : Standing) → NotEnded x.0 → NotEnded y.0 → NotEnded (cond b x y).0
-not_ended_if true x y here there = here
-not_ended_if false x y here there = there
-
--- the list of a segment is such a place
-not_ended_at : (to : Segment) → NotEnded (place_of to)
-not_ended_at segment.Hot = tt
-not_ended_at segment.Warm = tt
-not_ended_at segment.Cold = tt
-
--- a history without an unlink leaves a chunk at such a place
-stands_on : (c : ℕ) (from : Standing) (es : List Change) → NotEnded from.0 → NoneUnlinked es → NotEnded (standing_from c from es).0
-stands_on c from [] on none = on
-stands_on c from (change.Linked l ∷ es) on none = stands_on c (cond (eqb l.chunk c) (Hot, l.generation) from) es (not_ended_if (eqb l.chunk c) (Hot, l.generation) from tt on) none
-stands_on c from (change.Moved l old to cause ∷ es) on none =
-    stands_on c (cond (eqb l.chunk c) (place_of to, l.generation) from) es (not_ended_if (eqb l.chunk c) (place_of to, l.generation) from (not_ended_at to) on) none
-stands_on c from (change.Unlinked l ∷ es) on none = absurd none
-stands_on c from (change.Swept l ∷ es) on none = absurd none
-stands_on c from (change.Retired l ∷ es) on none = absurd none
-
--- a chunk at such a place that isn't free is linked
-linked_shown : (h : Head) (p : Place) → Shows h p → IsUsed p → NotEnded p → h.linked ≡ true
-linked_shown h Hot shows used on = shows.0
-linked_shown h Warm shows used on = shows.0
-linked_shown h Cold shows used on = shows.0
-linked_shown h Dying shows used on = absurd on
-linked_shown h Unused shows used on = absurd used
-linked_shown h Retired shows used on = absurd on
-
--- a chunk with a reference is linked
-pub referred_linked : (s : State) → IsLawful s → NothingUnlinked s → (c g : ℕ) → 0 < references s c g → (head s c).linked ≡ true
-referred_linked s o none c g some = linked_shown (head s c) (place s c) (o.chunks c).shown (referred_used s o c g some)
-    (stands_on c (Unused, 0) (class s (class_of s c)).history tt (none (class_of s c) (class_within s o.tiles c (referred_in_range s o c g some))))
-
--- what is read by a number in a list is the first of the rest from there
-got_first : {A : Type 0} (xs : List A) (i : ℕ) (v : A) → slice_get xs i ≡ Some v → (i < length xs) × (drop i xs ≡ v ∷ drop (suc i) xs)
-got_first [] i v is = absurd (let u : ⊥ = cc in u)
-got_first (x ∷ xs) zero v is = let same : x ≡ v = cc in (omega arith, ap (λ z. z ∷ xs) same)
-got_first (x ∷ xs) (suc i) v is = let rest = got_first xs i v is in (omega (arith, rest.0), rest.1)
+use Rattle.bump_core.proofs.Kept.{referred_linked}
+use Rattle.bump_core.proofs.Ring.{next_in_ring}
+use Rattle.bump_core.proofs.Facts.{one_if_same, referred_in_range, in_ring_referred, aboard_referred}
+use Rattle.bump_core.proofs.Running.{run_step}
+use Rattle.bump_core.proofs.Updates.{none_written}
+use Rattle.bump_core.proofs.MadeParts.{at, at_start, chunk_at, worker_at, is_worker_at, on_chunk, on_worker, on_both}
 
 -- The steps of a bump, on its chunk, its worker and the classes.
 module _ (s : State) (b : Bump) (w : ℕ) (c_in : b.life.chunk < length s.chunks) (w_in : w < length s.workers) (ks : List ClassState) (x : Chunk) (y : WorkerState) (es : List Event) where
@@ -155,13 +105,15 @@ module _ (s : State) (b : Bump) (w : ℕ) (c_in : b.life.chunk < length s.chunks
 -- A bump that a lane carries, of a linked chunk, while no lane applies one of its class.
 module _ (s : State) (b : Bump) (w now : ℕ) (c_in : b.life.chunk < length s.chunks) (w_in : w < length s.workers) (on : (head s b.life.chunk).linked ≡ true)
     (rest : is_under_application s (class_of s b.life.chunk) ≡ false) (received : List ItemId) where
-  -- the head, the chunk and the worker
+  -- the chunk's number
   abbrev c : ℕ
   c = b.life.chunk
 
+  -- its head
   abbrev h : Head
   h = head s c
 
+  -- the chunk
   abbrev x : Chunk
   x = chunk s c
 
@@ -271,13 +223,12 @@ next_made s o none w now allowed = by (worker s w).lane refl
         → Made s w now (Some (bump_of (length (worker s w).received) l))
     waiting_made l is next bump =
         let b = bump_of (length (worker s w).received) l in
-        let got = got_first (worker s w).sent (length (worker s w).received) l next in
-        let some = in_ring_referred s o w l w_in (omega (arith, ap (count_of l) got.1, one_if_same l)) in
+        let some = in_ring_referred s o w l w_in (omega (arith, ap (count_of l) (next_in_ring (worker s w) l next), one_if_same l)) in
         let r = (worker s w).received ++ l ∷ [] in
         ap (λ m. run_of s (take_events w m ++ apply_events (head s l.chunk) w now l.chunk)) is
         ∙ (run_step s (at s l.chunk w s.classes (chunk s l.chunk) (laned s w r (lane.Carrying b))) (event.TakeBump w) (apply_events (head s l.chunk) w now l.chunk)
-        (and_from _ _ both.0 (and_from _ _ (ap is_empty is) (lt-ltb _ _ got.0)))
-        (ap (λ m. option_map_or (take_bump s w) m s) next ∙ ap (λ cs. with_worker (record s { chunks = cs }) w (laned s w r (lane.Carrying b))) (sym (written_back s.chunks l.chunk no_chunk)))
+        (and_from _ _ both.0 (and_from _ _ (ap is_empty is) (lt-ltb _ _ (slice_get_within (worker s w).sent (length (worker s w).received) l next))))
+        (ap (λ m. option_map_or (take_bump s w) m s) next ∙ ap (λ cs. with_worker (record s { chunks = cs }) w (laned s w r (lane.Carrying b))) (sym (set-get_or s.chunks l.chunk no_chunk)))
         ∙ ends b r bump some (ap (λ m. (bumped_worker (record (worker s w) { lane = m }) b (outcome_next s b)).received) (sym is)))
 
     -- the lane is empty

@@ -2,6 +2,7 @@
 use Rattle.std.proofs.Common.{◌≡◌, ℕ, ◌+◌, ◌<◌, ltb, eqb, Bool, true, false, not, ◌&&◌, ◌||◌, [], ◌∷◌, length, slice_set, Option, Some, None, if◌then◌else◌, refl, sym, ap, ap₂, ◌∙◌, arith}
 use Rattle.std.proofs.lemmas.Bool.{and_parts, and_from, ltb-true, lt-ltb, both_ways, and_left}
 use Rattle.std.specs.Option.{option_map_or}
+use Rattle.std.proofs.lemmas.List.{get_or-set_same, length-set, set-get_or, set-set}
 use Rattle.bump_core.specs.declared.places.Segment.{Segment}
 use Rattle.bump_core.specs.declared.places.Segment.TheVariants as segment
 use Rattle.bump_core.specs.declared.places.Tail.{Tail}
@@ -15,14 +16,13 @@ use Rattle.bump_core.specs.declared.commands.Command.TheVariants as command
 use Rattle.bump_core.specs.Lawful.{newborn}
 use Rattle.bump_core.specs.Lives.{life}
 use Rattle.bump_core.specs.Tables.{pulled_of, pulled_to, segment_of}
-use Rattle.bump_core.specs.State.{State, chunk, head, class, no_chunk, is_chunk, is_class, with_chunk, with_head, with_change, class_of, is_linked, some_and, is_under_application}
+use Rattle.bump_core.specs.State.{State, chunk, head, no_chunk, is_chunk, is_class, with_chunk, with_head, with_change, class_of, is_linked, some_and, is_under_application}
 use Rattle.bump_core.specs.Worlds.{IsLawful}
 use Rattle.bump_core.specs.Events.{is_enabled, after, is_under_limit, is_class_at_rest, may_move, cleared_head, moved_head, next_chunk, next_life, with_hold, with_label, with_time, link}
 use Rattle.bump_core.specs.Runs.{run_of}
 use Rattle.bump_core.specs.Commands.{is_allowed, events_of, command_after, tail_of, is_over, pulled_at, pull_to, pull, move_events, link_labelled}
-use Rattle.bump_core.proofs.Updates.{read_written, length_written, written_back}
-use Rattle.bump_core.proofs.Fronts.{first_split, unused_front, last_linked}
-use Rattle.bump_core.proofs.MadeParts.{run_step, written_twice}
+use Rattle.bump_core.proofs.Fronts.{next_front, last_linked}
+use Rattle.bump_core.proofs.Running.{run_step}
 
 -- the label of a held item is one load
 pub label_made : (s : State) (l : ItemId) → is_allowed s (command.Label l) ≡ true → run_of s (events_of s (command.Label l)) ≡ Some (command_after s (command.Label l))
@@ -47,34 +47,34 @@ take_made s w l allowed = by (is_chunk s l.chunk) (is_linked s l && is_under_lim
     by true true in_range may out = run_step s s (event.Load l.chunk) (event.Take w l ∷ []) in_range refl
         ∙ run_step s (with_hold s l.chunk) (event.Take w l) [] (and_from _ _ allowed may) refl
 
+-- a command that finds an item in its class finds the class at rest
+at_rest : (s : State) (k c : ℕ) (m : Option ℕ) → m ≡ Some c → (is_class s k && (not (some_and (λ d. true) m) || not (is_under_application s k))) ≡ true
+    → (k < length s.classes) × (is_class_at_rest s k ≡ true) × (not (is_under_application s k) ≡ true)
+at_rest s k c m is allowed = let both = and_parts (is_class s k) (not (some_and (λ d. true) m) || not (is_under_application s k)) allowed in
+    let rest : not (is_under_application s k) ≡ true = ap (λ o. not (some_and (λ (d : ℕ). true) o) || not (is_under_application s k)) (sym is) ∙ both.1 in
+    (ltb-true k (length s.classes) both.0, and_from (is_class s k) (not (is_under_application s k)) both.0 rest, rest)
+
 -- a link stores the label and the time, and begins the life
 pub link_made : (s : State) → IsLawful s → (k x now : ℕ) → is_allowed s (command.Link k x now) ≡ true → run_of s (events_of s (command.Link k x now)) ≡ Some (command_after s (command.Link k x now))
 link_made s o k x now allowed = by (next_chunk s k) refl
   where
-    both : (is_class s k ≡ true) × ((not (some_and (λ c. true) (next_chunk s k)) || not (is_under_application s k)) ≡ true)
-    both = and_parts (is_class s k) _ allowed
-
-    within : k < length s.classes
-    within = ltb-true k (length s.classes) both.0
-
     linked : (c : ℕ) → next_chunk s k ≡ Some c → run_of s (event.PutLabel k x ∷ event.PutTime k now ∷ event.Link k ∷ []) ≡ Some (link_labelled s k x now c)
     linked c is =
-        let split = first_split c (class s k).lists.unused is in
-        let c_in = (unused_front s o k c split.0 within split.1).1 in
-        let rest : not (is_under_application s k) ≡ true = ap (λ m. not (some_and (λ (c : ℕ). true) m) || not (is_under_application s k)) (sym is) ∙ both.1 in
-        let enabled : (is_class_at_rest s k && some_and (λ (c : ℕ). true) (next_chunk s k)) ≡ true = and_from _ _ (and_from _ _ both.0 rest) (ap (some_and (λ (c : ℕ). true)) is) in
+        let found = at_rest s k c (next_chunk s k) is allowed in
+        let c_in = (next_front s o k c found.0 is).1 in
+        let enabled : (is_class_at_rest s k && some_and (λ (c : ℕ). true) (next_chunk s k)) ≡ true = and_from _ _ found.1 (ap (some_and (λ (c : ℕ). true)) is) in
         let z = chunk s c in
         let y : Chunk = record z { label = x } in
         let t = with_label s c x in
-        let read : chunk t c ≡ y = read_written s.chunks c y no_chunk c_in in
+        let read : chunk t c ≡ y = get_or-set_same s.chunks c y no_chunk c_in in
         let v : Chunk = record z { label = x; time = now } in
         let u = with_chunk s c v in
-        let read_too : chunk u c ≡ v = read_written s.chunks c v no_chunk c_in in
+        let read_too : chunk u c ≡ v = get_or-set_same s.chunks c v no_chunk c_in in
         let put : after s (event.PutLabel k x) ≡ t = ap (λ m. option_map_or (λ d. with_label s d x) m s) is in
         let put_too : after t (event.PutTime k now) ≡ u = ap (λ m. option_map_or (λ d. with_time t d now) m t) is
-        ∙ ap (λ cs. record s { chunks = cs }) (written_twice s.chunks c y (record (chunk t c) { time = now }) ∙ ap (λ a. slice_set s.chunks c (record a { time = now })) read) in
+        ∙ ap (λ cs. record s { chunks = cs }) (set-set s.chunks c y (record (chunk t c) { time = now }) ∙ ap (λ a. slice_set s.chunks c (record a { time = now })) read) in
         let done : after u (event.Link k) ≡ link_labelled s k x now c = ap (λ m. option_map_or (link u k) m u) is
-        ∙ (ap (λ cs. with_change (record s { chunks = cs }) k (change.Linked (next_life u c))) (written_twice s.chunks c v (record (chunk u c) { head = newborn ((head u c).generation + 1) }) ∙ ap (λ a. slice_set s.chunks c (record a { head = newborn (a.head.generation + 1) })) read_too)
+        ∙ (ap (λ cs. with_change (record s { chunks = cs }) k (change.Linked (next_life u c))) (set-set s.chunks c v (record (chunk u c) { head = newborn ((head u c).generation + 1) }) ∙ ap (λ a. slice_set s.chunks c (record a { head = newborn (a.head.generation + 1) })) read_too)
         ∙ ap (λ a. with_change (with_chunk s c (record v { head = newborn (z.head.generation + 1) })) k (change.Linked (life c (a.head.generation + 1)))) read_too) in
         run_step s t (event.PutLabel k x) (event.PutTime k now ∷ event.Link k ∷ []) enabled put
         ∙ (run_step t u (event.PutTime k now) (event.Link k ∷ []) enabled put_too
@@ -106,26 +106,20 @@ tail_stays tail.Cold false over l is = refl
 
 -- ACTIVE is cleared where it is clear
 cleared_again : (s : State) (c : ℕ) → (head s c).active ≡ false → with_head s c (cleared_head (head s c)) ≡ s
-cleared_again s c clear = ap (λ (b : Bool). with_head s c (record (head s c) { active = b })) (sym clear) ∙ ap (λ cs. record s { chunks = cs }) (written_back s.chunks c no_chunk)
+cleared_again s c clear = ap (λ (b : Bool). with_head s c (record (head s c) { active = b })) (sym clear) ∙ ap (λ cs. record s { chunks = cs }) (set-get_or s.chunks c no_chunk)
 
 -- a pull clears ACTIVE, and moves the item by the tail table
 pub pull_made : (s : State) → IsLawful s → (k : ℕ) (t : Tail) → is_allowed s (command.Pull k t) ≡ true → run_of s (events_of s (command.Pull k t)) ≡ Some (command_after s (command.Pull k t))
 pull_made s o k t allowed = by (tail_of s k t) refl
   where
-    both : (is_class s k ≡ true) × ((not (some_and (λ c. true) (tail_of s k t)) || not (is_under_application s k)) ≡ true)
-    both = and_parts (is_class s k) _ allowed
-
-    within : k < length s.classes
-    within = ltb-true k (length s.classes) both.0
-
     pulled : (c : ℕ) → tail_of s k t ≡ Some c → run_of s (event.ClearActive c ∷ move_events c (pulled_to (pulled_at s k t c))) ≡ Some (pull s k t c)
     pulled c is = moves (pulled_to (pulled_at s k t c)) refl
       where
         at : (c < length s.chunks) × (class_of s c ≡ k) × ((head s c).linked ≡ true) × ((head s c).segment ≡ segment_of t)
-        at = last_linked s o k c (segment_of t) within is
+        at = last_linked s o k c (segment_of t) (at_rest s k c (tail_of s k t) is allowed).0 is
 
         rest : not (is_under_application s (class_of s c)) ≡ true
-        rest = ap (λ (j : ℕ). not (is_under_application s j)) at.1 ∙ (ap (λ m. not (some_and (λ (d : ℕ). true) m) || not (is_under_application s k)) (sym is) ∙ both.1)
+        rest = ap (λ (j : ℕ). not (is_under_application s j)) at.1 ∙ (at_rest s k c (tail_of s k t) is allowed).2
 
         enabled : is_enabled s (event.ClearActive c) ≡ true
         enabled = and_from _ _ (lt-ltb c (length s.chunks) at.0) (and_from _ _ at.2 rest)
@@ -136,16 +130,16 @@ pull_made s o k t allowed = by (tail_of s k t) refl
             ∙ run_step (with_head s c (cleared_head (head s c))) (pull_to s k t c (Some to)) (event.Move c to) [] may moved
           where
             read : chunk (with_head s c (cleared_head (head s c))) c ≡ record (chunk s c) { head = cleared_head (head s c) }
-            read = read_written s.chunks c (record (chunk s c) { head = cleared_head (head s c) }) no_chunk at.0
+            read = get_or-set_same s.chunks c (record (chunk s c) { head = cleared_head (head s c) }) no_chunk at.0
 
             may : is_enabled (with_head s c (cleared_head (head s c))) (event.Move c to) ≡ true
-            may = and_from _ _ (lt-ltb c _ (omega (arith, at.0, length_written s.chunks c (record (chunk s c) { head = cleared_head (head s c) }))))
+            may = and_from _ _ (lt-ltb c _ (omega (arith, at.0, length-set s.chunks c (record (chunk s c) { head = cleared_head (head s c) }))))
                 (and_from _ _ (ap (λ a. a.head.linked) read ∙ at.2)
                 (and_from _ _ (ap (λ a. may_move a.head.segment to) read ∙ (ap (λ g. may_move g to) at.3 ∙ tail_moves t (head s c).active (is_over s k t) (life c (head s c).generation) to goes)) rest))
 
             moved : after (with_head s c (cleared_head (head s c))) (event.Move c to) ≡ pull_to s k t c (Some to)
             moved = ap (λ cs. with_change (record s { chunks = cs }) (class_of s c) (change.Moved (life c (head (with_head s c (cleared_head (head s c))) c).generation) (head (with_head s c (cleared_head (head s c))) c).segment to Pull))
-                (written_twice s.chunks c (record (chunk s c) { head = cleared_head (head s c) }) _ ∙ ap (λ a. slice_set s.chunks c (record a { head = moved_head to a.head })) read)
+                (set-set s.chunks c (record (chunk s c) { head = cleared_head (head s c) }) _ ∙ ap (λ a. slice_set s.chunks c (record a { head = moved_head to a.head })) read)
                 ∙ (ap (λ a. with_change (with_head s c (record (head s c) { active = false; segment = to })) (class_of s c) (change.Moved (life c a.head.generation) a.head.segment to Pull)) read
                 ∙ ap₂ (λ (j : ℕ) g. with_change (with_head s c (record (head s c) { active = false; segment = to })) j (change.Moved (life c (head s c).generation) g to Pull)) at.1 at.3)
 

@@ -2,6 +2,7 @@
 use Rattle.std.proofs.Common.{◌≡◌, ℕ, ◌+◌, ◌-◌, ◌<◌, ◌≤◌, ltb, eqb, Bool, true, false, not, ◌&&◌, ◌||◌, List, [], ◌∷◌, ◌++◌, length, slice_set, Some, None, if◌then◌else◌, refl, sym, ap, ◌∙◌, arith, ◌⊎◌, inl, inr, eq-eqb}
 use Rattle.std.proofs.lemmas.Bool.{and_parts, and_from, ltb-true, lt-ltb, le-ltb, cases_lt, both_ways, cond-true, cond-false, and_right}
 use Rattle.std.specs.Option.{option_map_or}
+use Rattle.std.proofs.lemmas.List.{get_or-set_same, length-set, set-get_or, set-set}
 use Rattle.bump_core.specs.declared.items.ItemId.{ItemId}
 use Rattle.bump_core.specs.declared.items.Head.{Head}
 use Rattle.bump_core.specs.declared.bumps.Accounts.{Accounts}
@@ -19,8 +20,9 @@ use Rattle.bump_core.specs.Rings.{most_attempts}
 use Rattle.bump_core.specs.Events.{is_enabled, after, may_hit, is_under_limit, waiting, one_more, one_fewer, active_head, cleared_head, reserve, drop_refs, push, drop_full, unmark, mark}
 use Rattle.bump_core.specs.Runs.{run_of}
 use Rattle.bump_core.specs.Commands.{is_allowed, events_of, command_after, hit_at, dropped_at, attempt, hit, is_exhausted, hit_events, attempt_events}
-use Rattle.bump_core.proofs.Updates.{read_written, length_written, written_back}
-use Rattle.bump_core.proofs.MadeParts.{run_step, written_twice, at, chunk_at, worker_at, is_worker_at, on_worker, on_both}
+use Rattle.bump_core.proofs.Enabled.{idle_from}
+use Rattle.bump_core.proofs.Running.{run_step}
+use Rattle.bump_core.proofs.MadeParts.{at, chunk_at, worker_at, is_worker_at, on_worker, on_both}
 
 -- The steps of an attempt, on the life's chunk and the worker.
 module _ (s : State) (l : ItemId) (w : ℕ) (c_in : l.chunk < length s.chunks) (w_in : w < length s.workers) (ks : List ClassState) (x : Chunk) (y : WorkerState) (es : List Event) where
@@ -88,13 +90,6 @@ module _ (s : State) (l : ItemId) (w : ℕ) (c_in : l.chunk < length s.chunks) (
       (ap (λ o. option_map_or (unmark t w) o t) life
       ∙ on_both s l.chunk w c_in w_in ks x y (λ a. record a { head = cleared_head a.head }) (λ a b. record b { hand = hand.Idle }))
 
--- the hand of an Idle worker
-idle_is : (x : Hand) → is_idle x ≡ true → x ≡ hand.Idle
-idle_is hand.Idle is = refl
-idle_is (hand.Trying m) is = absurd (let u : ⊥ = cc in u)
-idle_is (hand.InHand m) is = absurd (let u : ⊥ = cc in u)
-idle_is (hand.Clearing m) is = absurd (let u : ⊥ = cc in u)
-
 -- one reference more, and then one fewer
 back_again : (n : ℕ) → n + 1 - 1 ≡ n
 back_again n = omega arith
@@ -110,18 +105,20 @@ full_where x capacity none = by (cases_lt (length x.sent) capacity)
 -- FETCHED is set where it is set
 fetched_again : (s : State) (w : ℕ) (l : ItemId) → (head s l.chunk).fetched ≡ true → after s (event.Fetch w l) ≡ s
 fetched_again s w l set = cond-true (head s l.chunk).fetched _ _ set
-    ∙ (ap (λ (b : Bool). with_head s l.chunk (record (head s l.chunk) { fetched = b })) (sym set) ∙ ap (λ cs. record s { chunks = cs }) (written_back s.chunks l.chunk no_chunk))
+    ∙ (ap (λ (b : Bool). with_head s l.chunk (record (head s l.chunk) { fetched = b })) (sym set) ∙ ap (λ cs. record s { chunks = cs }) (set-get_or s.chunks l.chunk no_chunk))
 
 -- A hit of an Idle worker on a life that has a free hold.
 module _ (s : State) (w : ℕ) (l : ItemId) (now : ℕ) (w_in : w < length s.workers) (c_in : l.chunk < length s.chunks) (current : is_current s l ≡ true) (some : 0 < (chunk s l.chunk).holds)
     (takes : (worker s w).is_open ≡ true) (idle : (worker s w).hand ≡ hand.Idle) (may : may_hit s w l ≡ true) (few : ltb (worker s w).accounts.attempted most_attempts ≡ true) where
-  -- the head, the chunk and the worker that the hit finds
+  -- the head that the hit finds
   abbrev h : Head
   h = head s l.chunk
 
+  -- the chunk
   abbrev x : Chunk
   x = chunk s l.chunk
 
+  -- the worker
   abbrev y : WorkerState
   y = worker s w
 
@@ -142,14 +139,14 @@ module _ (s : State) (w : ℕ) (l : ItemId) (now : ℕ) (w_in : w < length s.wor
   marked_made set warm =
       let z : Chunk = record x { head = active_head h } in
       let t = with_chunk s l.chunk z in
-      let read : chunk t l.chunk ≡ z = read_written s.chunks l.chunk z no_chunk c_in in
+      let read : chunk t l.chunk ≡ z = get_or-set_same s.chunks l.chunk z no_chunk c_in in
       let parts = and_parts (is_chunk s l.chunk) (eqb h.generation l.generation) current in
-      let held : is_held t l ≡ true = and_from _ _ (and_from _ _ (lt-ltb l.chunk _ (omega (arith, length_written s.chunks l.chunk z))) (ap (λ (a : Chunk). eqb a.head.generation l.generation) read ∙ parts.1))
+      let held : is_held t l ≡ true = and_from _ _ (and_from _ _ (lt-ltb l.chunk _ (omega (arith, length-set s.chunks l.chunk z))) (ap (λ (a : Chunk). eqb a.head.generation l.generation) read ∙ parts.1))
       (ap (λ (a : Chunk). ltb 0 a.holds) read ∙ lt-ltb 0 x.holds some) in
       run_step s s (event.Fetch w l) (event.Mark w l ∷ event.StoreTime l now ∷ []) may (fetched_again s w l set)
       ∙ (run_step s t (event.Mark w l) (event.StoreTime l now ∷ []) (mark_enabled set) (cond-false (not h.active && is_cold h.segment) _ _ (and_right (not h.active) (is_cold h.segment) warm))
       ∙ run_step t (hit s w l now IsMarked) (event.StoreTime l now) [] held
-      (ap (λ cs. record s { chunks = cs }) (written_twice s.chunks l.chunk z (record (chunk t l.chunk) { time = now }) ∙ ap (λ (a : Chunk). slice_set s.chunks l.chunk (record a { time = now })) read)))
+      (ap (λ cs. record s { chunks = cs }) (set-set s.chunks l.chunk z (record (chunk t l.chunk) { time = now }) ∙ ap (λ (a : Chunk). slice_set s.chunks l.chunk (record a { time = now })) read)))
 
   -- the accounts once the attempt began
   abbrev began : Accounts
@@ -169,7 +166,7 @@ module _ (s : State) (w : ℕ) (l : ItemId) (now : ℕ) (w_in : w < length s.wor
   left_made n a same clear = ap (λ (m : ℕ). at s l.chunk w s.classes (record x { head = record h { refs = m; active = false } }) (record y { hand = hand.Idle; accounts = a })) same
       ∙ (ap (λ (b : Bool). at s l.chunk w s.classes (record x { head = record h { active = b } }) (record y { hand = hand.Idle; accounts = a })) (sym clear)
       ∙ (ap (λ (z : Hand). at s l.chunk w s.classes x (record y { hand = z; accounts = a })) (sym idle)
-      ∙ ap (λ cs. with_worker (record s { chunks = cs }) w (record y { accounts = a })) (written_back s.chunks l.chunk no_chunk)))
+      ∙ ap (λ cs. with_worker (record s { chunks = cs }) w (record y { accounts = a })) (set-get_or s.chunks l.chunk no_chunk)))
 
   -- a bump is dropped at the limit of the count
   refs_full_made : h.active ≡ false → ltb h.refs s.refs_limit ≡ false
@@ -248,5 +245,5 @@ touch_made s o w l now allowed = by (is_exhausted s w) refl
     by true done = refl
     by false still =
         let idle : is_idle (worker s w).hand ≡ true = ap (λ (b : Bool). b || is_idle (worker s w).hand) (sym still) ∙ more.1 in
-        hit_made s w l now w_in c_in free.0 (omega (arith, ltb-true (workers_on s l) (chunk s l.chunk).holds free.1)) opened.1 (idle_is (worker s w).hand idle)
+        hit_made s w l now w_in c_in free.0 (omega (arith, ltb-true (workers_on s l) (chunk s l.chunk).holds free.1)) opened.1 (idle_from (worker s w).hand idle)
         (and_from _ _ both.0 (and_from _ _ idle more.0)) (few_where (worker s w).accounts.attempted (o.workers w w_in).most still)

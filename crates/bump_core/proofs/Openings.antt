@@ -1,11 +1,10 @@
 -- A new World is lawful.
-use Rattle.std.proofs.Common.{◌≡◌, ℕ, zero, suc, ◌+◌, ◌-◌, ◌<◌, ◌≤◌, Bool, true, false, not, cond, ◌||◌, List, [], ◌∷◌, ◌++◌, length, get_or, Option, Some, refl, sym, ap, ◌∙◌, subst, arith, add-one, append_assoc}
+use Rattle.std.proofs.Common.{◌≡◌, ℕ, zero, suc, ◌+◌, ◌-◌, ◌<◌, ◌≤◌, Bool, true, false, not, cond, ◌||◌, List, [], ◌∷◌, ◌++◌, length, get_or, Option, Some, refl, sym, ap, ◌∙◌, subst, arith, add-one, append_assoc, eq-eqb, ne_eqb}
 use Rattle.std.specs.Prelude.{◌==◌, replicate, is_none, nat_le, nat_lt}
 use Rattle.std.specs.List.{list_any}
-use Rattle.std.proofs.Common.{eq-eqb, ne_eqb}
-use Rattle.std.proofs.lemmas.Bool.{and_parts, leb-true}
-use native.Mathlib.Decide.{ℕ_discrete}
+use Rattle.std.proofs.lemmas.Bool.{and_parts, or_parts, leb-true, not-false}
 use Rattle.std.proofs.lemmas.List.{length-replicate}
+use native.Mathlib.Decide.{ℕ_discrete}
 use Rattle.bump_core.specs.declared.configs.ClassConfig.{ClassConfig}
 use Rattle.bump_core.specs.declared.configs.ConfigFault.TheVariants.{Workers, Capacity, RefsLimit, Generation, Classes, Chunks}
 use Rattle.bump_core.specs.declared.configs.Config.{Config}
@@ -22,7 +21,6 @@ use Rattle.bump_core.specs.State.{State, WorkerState, head, no_chunk, no_class, 
 use Rattle.bump_core.specs.Opening.{fresh_chunk, classes_from, new_state}
 use Rattle.bump_core.specs.Worlds.{IsLawful, NoneUnlinked, IsClass, Tiles, references, first_hits_of, holds_of, bumps_of, place, WaitsToMove}
 use Rattle.bump_core.proofs.Steps.{Keeps}
-use Rattle.bump_core.proofs.Views.{set_where_not}
 
 -- the chunks from one on are it and those from the next one on
 pub ascending_more : (c end : ℕ) → c < end → ascending c (end - c) ≡ c ∷ ascending (c + 1) (end - (c + 1))
@@ -37,6 +35,7 @@ ascending_pushed xs ys all c end below pushed so_far = ap (λ (zs : List ℕ). z
 
 -- What a configuration without faults has.
 
+-- a test for a fault that found none failed, and the tests behind it found none
 clear : {A : Type 0} (b : Bool) (x : A) (o : Option A) → is_none (cond b (Some x) o) ≡ true → (b ≡ false) × (is_none o ≡ true)
 clear true x o e = absurd (let u : ⊥ = cc in u)
 clear false x o e = (refl, e)
@@ -46,6 +45,7 @@ abbrev AllHaveChunks : List ClassConfig → Type 0
 AllHaveChunks [] = Unit {0}
 AllHaveChunks (k ∷ ks) = (0 < k.chunks) × AllHaveChunks ks
 
+-- where no class tests as without chunks none is
 all_have_chunks : (ks : List ClassConfig) → list_any (λ k. k.chunks == 0) ks ≡ false → AllHaveChunks ks
 all_have_chunks [] e = tt
 all_have_chunks (k ∷ ks) e = by (ℕ_discrete k.chunks 0) (λ rest. all_have_chunks ks rest)
@@ -77,10 +77,12 @@ chunk_new zero g c few = (0, omega arith, refl)
 chunk_new (suc n) g zero few = (g, few, refl)
 chunk_new (suc n) g (suc c) few = chunk_new n g c few
 
+-- a sum over new workers, where one of them counts nothing
 none_of : (f : WorkerState → ℕ) (n : ℕ) → f new_worker ≡ 0 → total f (replicate n new_worker) ≡ 0
 none_of f zero e = refl
 none_of f (suc n) e = omega (arith, e, none_of f n e)
 
+-- a test between a number and itself
 cond_same : (b : Bool) (n : ℕ) → cond b n n ≡ n
 cond_same true n = refl
 cond_same false n = refl
@@ -103,20 +105,24 @@ new_is_worker : (capacity : ℕ) → IsWorker capacity new_worker
 new_is_worker capacity = record { prefix = refl; room = omega arith; applied = refl; accepted = refl; attempted = omega arith; most = omega arith }
 
 module _ (config : Config) (early : config.first_generation < 4294967296) (two : 2 ≤ config.refs_limit) (all : AllHaveChunks config.classes) where
+  -- the new World
   abbrev s : State
   s = new_state config
 
+  -- no life has references
   references_new : (c g : ℕ) → references s c g ≡ 0
   references_new c g = let fresh = chunk_new (chunks_of config.classes) (config.first_generation - 1) c (omega (arith, early)) in
       let held : holds_of s (life c g) ≡ 0 = ap (λ (x : Chunk). cond (x.head.generation == g) x.holds 0) fresh.2 ∙ cond_same (fresh.0 == g) 0 in
       omega (arith, held, none_of (bumps_of (life c g)) config.workers refl)
 
+  -- each chunk is lawful
   law : (c : ℕ) → Lawful s.refs_limit (head s c) (place s c) (references s c) (first_hits_of s c)
   law c = let fresh = chunk_new (chunks_of config.classes) (config.first_generation - 1) c (omega (arith, early)) in
       subst (λ h. Lawful s.refs_limit h (place s c) (references s c) (first_hits_of s c)) (sym (ap (λ (x : Chunk). x.head) fresh.2))
       (subst (λ p. Lawful s.refs_limit (fresh_head fresh.0) p (references s c) (first_hits_of s c)) (sym (ap (λ es. (standing_from c (Unused, 0) es).0) (class_new 0 config.classes (class_of s c)).1))
       (fresh_lawful s.refs_limit fresh.0 (references s c) (first_hits_of s c) fresh.1 (references_new c) (λ g. none_of (λ x. count_of (life c g) x.first_hits) config.workers refl)))
 
+  -- and so is the World
   lawful : IsLawful s
   lawful = record {
     limit = omega (arith, two);
@@ -133,10 +139,6 @@ module _ (config : Config) (early : config.first_generation < 4294967296) (two :
   pub keeps_new : Keeps s
   keeps_new = (lawful, λ k within. subst NoneUnlinked (sym (class_new 0 config.classes k).1) tt)
 
-neither : (a b : Bool) → (a || b) ≡ false → (a ≡ false) × (b ≡ false)
-neither true b e = absurd (let u : ⊥ = cc in u)
-neither false b e = (refl, e)
-
 -- a World made from a configuration without faults does
 pub keeps_valid : (config : Config) → config.first_generation < 4294967296 → is_none (first_fault config.workers config.capacity config.refs_limit config.first_generation config.classes) ≡ true → Keeps (new_state config)
 keeps_valid config early valid =
@@ -147,5 +149,5 @@ keeps_valid config early valid =
     let classes = clear (not (is_within 1 16 (length config.classes))) Classes _ generation.1 in
     let chunks = clear _ Chunks _ classes.1 in
     keeps_new config early
-    (leb-true 2 config.refs_limit (and_parts (nat_le 2 config.refs_limit) (nat_le config.refs_limit 65535) (set_where_not _ limit.0)).0)
-    (all_have_chunks config.classes (neither (list_any (λ k. k.chunks == 0) config.classes) (nat_lt 1000000 (chunks_of config.classes)) chunks.0).0)
+    (leb-true 2 config.refs_limit (and_parts (nat_le 2 config.refs_limit) (nat_le config.refs_limit 65535) (not-false _ limit.0)).0)
+    (all_have_chunks config.classes (or_parts (list_any (λ k. k.chunks == 0) config.classes) (nat_lt 1000000 (chunks_of config.classes)) chunks.0).0)

@@ -2,12 +2,12 @@
 use Rattle.std.proofs.Common.{◌≡◌, ℕ, true, false, not, ◌&&◌, refl, arith, ◌<◌, length}
 use Rattle.std.proofs.lemmas.Bool.{and_parts}
 use Rattle.bump_core.specs.declared.events.Event.TheVariants as event
-use Rattle.bump_core.specs.State.{State, head, class_of, is_chunk, is_under_application, some_and, with_head}
-use Rattle.bump_core.specs.Events.{cleared_head, is_class_at_rest, next_chunk, is_enabled, after, with_time, with_label}
+use Rattle.bump_core.specs.State.{State, head, class_of, is_chunk, is_under_application, with_head}
+use Rattle.bump_core.specs.Events.{cleared_head, next_chunk, is_enabled, after, with_time, with_label}
 use Rattle.bump_core.specs.Worlds.{references, first_hits_of, place, IsLawful}
 use Rattle.bump_core.proofs.Laws.{marked}
-use Rattle.bump_core.proofs.Enabled.{some_and_parts, lawful_by_some, chunk_from}
-use Rattle.bump_core.proofs.Readers.{time_lawful, label_lawful, head_lawful}
+use Rattle.bump_core.proofs.Enabled.{next_from, lawful_by_some, chunk_from}
+use Rattle.bump_core.proofs.Frames.{time_lawful, label_lawful, head_lawful}
 
 -- a pull clears ACTIVE
 pub clear_active_lawful : (s : State) (c : ℕ) → IsLawful s → c < length s.chunks → IsLawful (with_head s c (cleared_head (head s c)))
@@ -18,13 +18,13 @@ clear_active_lawful s c o within = head_lawful s c (cleared_head (head s c)) o w
 
 -- the label of the next item of a class is stored
 pub after_put_label : (s : State) (k x : ℕ) → IsLawful s → is_enabled s (event.PutLabel k x) ≡ true → IsLawful (after s (event.PutLabel k x))
-after_put_label s k x o enabled = let found = some_and_parts (λ (c : ℕ). true) (next_chunk s k) (and_parts (is_class_at_rest s k) (some_and (λ c. true) (next_chunk s k)) enabled).1 in
-    lawful_by_some (λ c. with_label s c x) s (next_chunk s k) found.0 found.1 (label_lawful s found.0 x o)
+after_put_label s k x o enabled = let next = next_from s k enabled in
+    lawful_by_some (λ c. with_label s c x) s (next_chunk s k) next.0 next.2 (label_lawful s next.0 x o)
 
 -- the time of the next item of a class is stored
 pub after_put_time : (s : State) (k t : ℕ) → IsLawful s → is_enabled s (event.PutTime k t) ≡ true → IsLawful (after s (event.PutTime k t))
-after_put_time s k t o enabled = let found = some_and_parts (λ (c : ℕ). true) (next_chunk s k) (and_parts (is_class_at_rest s k) (some_and (λ c. true) (next_chunk s k)) enabled).1 in
-    lawful_by_some (λ c. with_time s c t) s (next_chunk s k) found.0 found.1 (time_lawful s found.0 t o)
+after_put_time s k t o enabled = let next = next_from s k enabled in
+    lawful_by_some (λ c. with_time s c t) s (next_chunk s k) next.0 next.2 (time_lawful s next.0 t o)
 
 -- a pull clears ACTIVE
 pub after_clear_active : (s : State) (c : ℕ) → IsLawful s → is_enabled s (event.ClearActive c) ≡ true → IsLawful (after s (event.ClearActive c))

@@ -1,7 +1,6 @@
 -- What readers do leaves a lawful state lawful: loads, holds, hits and their time.
-use Rattle.std.proofs.Common.{inl, inr, ◌≡◌, ℕ, ◌+◌, ◌-◌, ◌<◌, true, cond, not, ◌&&◌, nat_lt, [], ◌∷◌, ◌++◌, length, refl, sym, ap, ◌∙◌, arith, eq-eqb, subst}
-use Rattle.std.proofs.lemmas.Bool.{cases_lt, and_parts, ltb-true}
-use Rattle.std.proofs.lemmas.List.{set_past}
+use Rattle.std.proofs.Common.{inl, inr, ◌≤◌, ◌≡◌, ℕ, ◌+◌, ◌-◌, ◌<◌, true, not, ◌&&◌, nat_lt, [], ◌∷◌, ◌++◌, length, refl, sym, ap, ◌∙◌, arith}
+use Rattle.std.proofs.lemmas.Bool.{and_parts, ltb-true}
 use mathlib.Core.Logic.{dite}
 use native.Mathlib.Decide.{ℕ_discrete}
 use Rattle.bump_core.specs.declared.items.ItemId.{ItemId}
@@ -9,28 +8,28 @@ use Rattle.bump_core.specs.declared.items.Head.{Head}
 use Rattle.bump_core.specs.declared.chunks.Chunk.{Chunk}
 use Rattle.bump_core.specs.declared.workers.Hand.TheVariants as hand
 use Rattle.bump_core.specs.declared.events.Event.TheVariants as event
-use Rattle.bump_core.specs.Lawful.{bit, Lawful}
+use Rattle.bump_core.specs.Lawful.{bit}
 use Rattle.bump_core.specs.Lives.{life, one_if}
 use Rattle.bump_core.specs.Rings.{most_attempts, IsWorker, attempts_of}
 use Rattle.bump_core.specs.Tables.{is_cold}
 use Rattle.bump_core.specs.State.{State, WorkerState, chunk, head, worker, with_chunk, with_head, with_worker, workers_on, is_current, is_linked, is_open}
-use Rattle.bump_core.specs.Events.{one_more, one_fewer, fetched_head, active_head, is_under_limit, may_hit, is_enabled, after, with_hold, without_hold, with_time, with_label, fetch, mark}
-use Rattle.bump_core.specs.Worlds.{holds_of, in_hand_of, bumps_of, references, first_hits_of, place, IsLawful}
+use Rattle.bump_core.specs.Events.{one_more, one_fewer, fetched_head, active_head, is_under_limit, may_hit, is_enabled, after, with_hold, without_hold, fetch, mark}
+use Rattle.bump_core.specs.Worlds.{holds_of, in_hand_of, references, first_hits_of, place, IsLawful}
 use Rattle.bump_core.proofs.Laws.{used_where_linked, relawful, referred, unreferred, named_first, fetched_again, marked}
 use Rattle.bump_core.proofs.Updates.{count_push}
-use Rattle.bump_core.proofs.Facts.{holds_here, holds_else, one_if_same, one_if_elsewhere, one_if_at, one_if_not_at, one_if_cases}
-use Rattle.bump_core.proofs.Frames.{held_by, held_here, held_else, chunk_here, chunk_lawful, chunk_kept, both_lawful_off_lane, references_after, first_hits_after}
-use Rattle.bump_core.proofs.Enabled.{lawful_both_ways, current_from, free_hold_from, may_hit_from}
+use Rattle.bump_core.proofs.Facts.{held_by, held_at, held_here, held_else, one_if_same, one_if_elsewhere, one_if_at, one_if_not_at, one_if_cases}
+use Rattle.bump_core.proofs.Frames.{alone_kept, waits_kept, both_marked, chunk_here, chunk_lawful, head_lawful, time_lawful, both_lawful_off_lane, references_after, first_hits_after}
+use Rattle.bump_core.proofs.Enabled.{by_test, current_from, free_hold_from, may_hit_from}
 
 -- a linked chunk under the limit gets one more hold
 pub hold_lawful : (s : State) (c : ℕ) → IsLawful s → (head s c).linked ≡ true → c < length s.chunks → (head s c).refs < s.refs_limit → IsLawful (with_hold s c)
 hold_lawful s c o on within few = chunk_lawful s c x o within refl refl
     (referred s.refs_limit (head s c) (place s c) (references s c) (first_hits_of s c) (o.chunks c) (references (with_chunk s c x) c) (used_where_linked (head s c) (place s c) (o.chunks c).shown on) few
-    (omega (arith, now (head s c).generation, held_here x, holds_here s c))
-    (λ g ne. omega (arith, now g, held_else x g ne, holds_else s (life c g) (λ e. ne (sym e)))))
+    (omega (arith, now (head s c).generation, held_here x, held_here (chunk s c)))
+    (λ g ne. omega (arith, now g, held_else x g ne, held_else (chunk s c) g ne)))
     (λ g. dite (ℕ_discrete g (head s c).generation)
     (λ e. omega (arith, o.hands (life c g), ap (held_by x) e, held_here x, ap (held_by (chunk s c)) e, held_here (chunk s c)))
-    (λ ne. omega (arith, o.hands (life c g), holds_else s (life c g) (λ e. ne (sym e)))))
+    (λ ne. omega (arith, o.hands (life c g), held_else (chunk s c) g ne)))
   where
     x : Chunk
     x = record (chunk s c) { head = one_more (head s c); holds = (chunk s c).holds + 1 }
@@ -42,11 +41,11 @@ hold_lawful s c o on within few = chunk_lawful s c x o within refl refl
 pub unhold_lawful : (s : State) (c : ℕ) → IsLawful s → c < length s.chunks → workers_on s (life c (head s c).generation) < (chunk s c).holds → IsLawful (without_hold s c)
 unhold_lawful s c o within free = chunk_lawful s c x o within refl refl
     (unreferred s.refs_limit (head s c) (place s c) (references s c) (first_hits_of s c) (o.chunks c) (references (with_chunk s c x) c)
-    (omega (arith, now (head s c).generation, held_here x, holds_here s c))
-    (λ g ne. omega (arith, now g, held_else x g ne, holds_else s (life c g) (λ e. ne (sym e)))))
+    (omega (arith, now (head s c).generation, held_here x, held_here (chunk s c)))
+    (λ g ne. omega (arith, now g, held_else x g ne, held_else (chunk s c) g ne)))
     (λ g. dite (ℕ_discrete g (head s c).generation)
     (λ e. omega (arith, ap (λ k. workers_on s (life c k)) e, ap (held_by x) e, held_here x))
-    (λ ne. omega (arith, o.hands (life c g), holds_else s (life c g) (λ e. ne (sym e)))))
+    (λ ne. omega (arith, o.hands (life c g), held_else (chunk s c) g ne)))
   where
     x : Chunk
     x = record (chunk s c) { head = one_fewer (head s c); holds = (chunk s c).holds - 1 }
@@ -54,28 +53,9 @@ unhold_lawful s c o within free = chunk_lawful s c x o within refl refl
     now : (g : ℕ) → references (with_chunk s c x) c g + holds_of s (life c g) ≡ references s c g + held_by x g
     now g = omega (arith, ap (λ z. held_by z g) (chunk_here s c x within))
 
--- the time of a chunk is no part of what is lawful
-pub time_lawful : (s : State) (c t : ℕ) → IsLawful s → IsLawful (with_time s c t)
-time_lawful s c t o = elim (cases_lt c (length s.chunks)) [
-  | inl within ↦ chunk_kept s c (record (chunk s c) { time = t }) o within refl refl refl refl (o.chunks c)
-  | inr past ↦ subst (λ cs. IsLawful (record s { chunks = cs })) (sym (set_past s.chunks c (record (chunk s c) { time = t }) past)) o
-]
-
--- nor is its label
-pub label_lawful : (s : State) (c x : ℕ) → IsLawful s → IsLawful (with_label s c x)
-label_lawful s c x o = elim (cases_lt c (length s.chunks)) [
-  | inl within ↦ chunk_kept s c (record (chunk s c) { label = x }) o within refl refl refl refl (o.chunks c)
-  | inr past ↦ subst (λ cs. IsLawful (record s { chunks = cs })) (sym (set_past s.chunks c (record (chunk s c) { label = x }) past)) o
-]
-
--- a head that differs in its marks alone, and is lawful
-pub head_lawful : (s : State) (c : ℕ) (h : Head) → IsLawful s → c < length s.chunks → h.generation ≡ (head s c).generation → h.linked ≡ (head s c).linked → h.segment ≡ (head s c).segment
-    → Lawful s.refs_limit h (place s c) (references s c) (first_hits_of s c) → IsLawful (with_head s c h)
-head_lawful s c h o within generations linked segments lawful = chunk_kept s c (record (chunk s c) { head = h }) o within refl generations linked segments lawful
-
 -- a hit of a current life sets FETCHED, and the first one joins the worker's first hits
 pub fetch_lawful : (s : State) (w : ℕ) (l : ItemId) → IsLawful s → w < length s.workers → l.chunk < length s.chunks → (head s l.chunk).generation ≡ l.generation → IsLawful (fetch s w l)
-fetch_lawful s w l o inside within current = lawful_both_ways (head s l.chunk).fetched (with_head s l.chunk h) (with_worker (with_head s l.chunk h) w y)
+fetch_lawful s w l o inside within current = by_test IsLawful (head s l.chunk).fetched (with_head s l.chunk h) (with_worker (with_head s l.chunk h) w y)
     (λ on. head_lawful s l.chunk h o within refl refl refl (fetched_again s.refs_limit (head s l.chunk) (place s l.chunk) (references s l.chunk) (first_hits_of s l.chunk) (o.chunks l.chunk) on))
     (λ clear. both_lawful_off_lane s l.chunk h w y within inside refl o refl refl refl
     (λ m ne. refl)
@@ -108,19 +88,18 @@ fetch_lawful s w l o inside within current = lawful_both_ways (head s l.chunk).f
 -- a hit of a life that was fetched sets ACTIVE, and where it was clear in COLD an Idle worker with a free hold attempts a bump
 pub mark_lawful : (s : State) (w : ℕ) (l : ItemId) → IsLawful s → w < length s.workers → (worker s w).hand ≡ hand.Idle → l.chunk < length s.chunks → (head s l.chunk).generation ≡ l.generation
     → workers_on s l < (chunk s l.chunk).holds → (head s l.chunk).fetched ≡ true → (worker s w).accounts.attempted < most_attempts → IsLawful (mark s w l)
-mark_lawful s w l o inside idle within current free fetched few = lawful_both_ways (not (head s l.chunk).active && is_cold (head s l.chunk).segment) (with_worker (with_head s l.chunk h) w y) (with_head s l.chunk h)
-    (λ attempts. both_lawful_off_lane s l.chunk h w y within inside refl o refl refl refl
-    (λ m ne. bumps m)
-    (λ m ne. refl)
-    (relawful s.refs_limit h (place s l.chunk) (references s l.chunk) (first_hits_of s l.chunk) lawful (references t l.chunk) (first_hits_of t l.chunk)
-    (λ g. omega (arith, references_after s l.chunk h w y within inside refl l.chunk g, bumps (life l.chunk g)))
-    (λ g. omega (arith, first_hits_after s l.chunk h w y within inside refl l.chunk g)))
+mark_lawful s w l o inside idle within current free fetched few = by_test IsLawful (not (head s l.chunk).active && is_cold (head s l.chunk).segment) (with_worker (with_head s l.chunk h) w y) (with_head s l.chunk h)
+    (λ attempts. both_marked s l.chunk true w y o within inside set
+    (λ m. omega (arith, ap (in_hand_of m) idle))
+    (λ m. refl)
     (λ m. elim (one_if_cases m l) [
-      | inl e ↦ omega (arith, ap (workers_on s) e, ap (holds_of s) e, ap (λ k. one_if k l) e, one_if_same l, held_current_at)
+      | inl e ↦ omega (arith, ap (workers_on s) e, ap (holds_of s) e, ap (λ k. one_if k l) e, one_if_same l, held_at (chunk s l.chunk) l.generation current)
       | inr none ↦ omega (arith, o.hands m)
     ])
-    (record { prefix = was.prefix; room = was.room; applied = was.applied; accepted = was.accepted; attempted = omega (arith, was.attempted, ap attempts_of idle); most = omega (arith, few) }))
-    (λ no. head_lawful s l.chunk h o within refl refl refl lawful)
+    (record { prefix = was.prefix; room = was.room; applied = was.applied; accepted = was.accepted; attempted = omega (arith, was.attempted, ap attempts_of idle); most = omega (arith, few) })
+    (alone_kept s w y inside o refl)
+    (waits_kept s l.chunk h w o inside refl refl))
+    (λ no. head_lawful s l.chunk h o within refl refl refl (marked s.refs_limit (head s l.chunk) (place s l.chunk) (references s l.chunk) (first_hits_of s l.chunk) (o.chunks l.chunk) true set))
   where
     h : Head
     h = active_head (head s l.chunk)
@@ -131,17 +110,8 @@ mark_lawful s w l o inside idle within current free fetched few = lawful_both_wa
     was : IsWorker s.capacity (worker s w)
     was = o.workers w inside
 
-    t : State
-    t = with_worker (with_head s l.chunk h) w y
-
-    lawful : Lawful s.refs_limit h (place s l.chunk) (references s l.chunk) (first_hits_of s l.chunk)
-    lawful = marked s.refs_limit (head s l.chunk) (place s l.chunk) (references s l.chunk) (first_hits_of s l.chunk) (o.chunks l.chunk) true (omega (arith, ap bit fetched))
-
-    bumps : (m : ItemId) → bumps_of m y ≡ bumps_of m (worker s w)
-    bumps m = omega (arith, ap (in_hand_of m) idle)
-
-    held_current_at : holds_of s l ≡ (chunk s l.chunk).holds
-    held_current_at = ap (λ b. cond b (chunk s l.chunk).holds 0) (eq-eqb (head s l.chunk).generation l.generation current)
+    set : bit true ≤ bit (head s l.chunk).fetched
+    set = omega (arith, ap bit fetched)
 
 -- The events.
 

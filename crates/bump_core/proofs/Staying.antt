@@ -1,13 +1,11 @@
 -- What every run leaves: the labels of chunks that stay in use, and the rings that were closed.
-use Rattle.std.proofs.Common.{◌≡◌, ℕ, zero, suc, ◌+◌, ◌<◌, ◌≤◌, ◌&&◌, not, Bool, true, false, List, [], ◌∷◌, length, slice_index_or, slice_set, Option, None, Some, Err, if◌then◌else◌, refl, sym, ap, ◌∙◌, subst, arith, nat_lt}
-use Rattle.std.proofs.lemmas.Bool.{and_parts, ltb-true, both_ways}
-use Rattle.std.specs.Option.{option_map_or}
+use Rattle.std.proofs.Common.{◌≡◌, ℕ, ◌+◌, ◌<◌, ◌≤◌, ◌&&◌, not, true, false, List, length, Some, refl, sym, ap, ◌∙◌, subst, arith, nat_lt}
+use Rattle.std.proofs.lemmas.Bool.{and_parts, both_ways}
+use Rattle.std.proofs.lemmas.List.{get_or-set_other}
 use native.Mathlib.Decide.{ℕ_discrete}
 use Rattle.bump_core.specs.declared.chunks.Chunk.{Chunk}
 use Rattle.bump_core.specs.declared.events.Event.{Event}
 use Rattle.bump_core.specs.declared.events.Event.TheVariants as event
-use Rattle.bump_core.specs.declared.events.Refused.{Refused}
-use Rattle.bump_core.specs.declared.events.Refused.TheVariants.{NotEnabled, OutOfMemory}
 use Rattle.bump_core.specs.declared.history.Cause.TheVariants.{Pull, Bump as BumpOf}
 use Rattle.bump_core.specs.declared.history.Change.{Change}
 use Rattle.bump_core.specs.declared.history.Change.TheVariants as change
@@ -16,40 +14,24 @@ use Rattle.bump_core.specs.declared.lanes.Bump.{Bump}
 use Rattle.bump_core.specs.declared.places.Place.TheVariants.{Unused}
 use Rattle.bump_core.specs.declared.places.Segment.{Segment}
 use Rattle.bump_core.specs.declared.places.Segment.TheVariants as segment
-use Rattle.bump_core.specs.Events.{is_enabled, after, next_chunk, next_life, next_bump, carried, tried, applied_now, cleared_active, lane_outcome, is_class_at_rest, may_move, moved_head, one_more, one_fewer, fetched_head, active_head, cleared_head, waiting, reserve, drop_refs, drop_busy, push, drop_full, unmark, with_label, with_time, link, take_bump, clear_for, move_for, alight}
+use Rattle.bump_core.specs.Events.{is_enabled, after, next_chunk, next_life, next_bump, carried, tried, applied_now, cleared_active, lane_outcome, moved_head, one_more, one_fewer, fetched_head, active_head, cleared_head, waiting, reserve, drop_refs, drop_busy, push, drop_full, unmark, with_label, with_time, link, take_bump, clear_for, move_for, alight}
 use Rattle.bump_core.specs.Headline.{LabelsStay, ClosedStay}
 use Rattle.bump_core.specs.History.{subject}
 use Rattle.bump_core.specs.Lawful.{IsUsed, newborn}
 use Rattle.bump_core.specs.Lives.{life}
-use Rattle.bump_core.specs.Runs.{Steps, run_of}
-use Rattle.bump_core.specs.State.{State, WorkerState, chunk, head, class, worker, no_chunk, new_worker, with_chunk, with_head, with_worker, with_change, class_of, is_chunk, is_class, is_worker, is_open, some_and, is_under_application, tried_life, life_in_hand, cleared_life}
+use Rattle.bump_core.specs.Runs.{run_of}
+use Rattle.bump_core.specs.State.{State, WorkerState, chunk, head, class, worker, no_chunk, new_worker, with_chunk, with_head, with_worker, with_change, class_of, is_worker, is_open, some_and, tried_life, life_in_hand, cleared_life}
 use Rattle.bump_core.specs.Tables.{is_cold}
-use Rattle.bump_core.specs.Worlds.{IsLawful, WaitsToMove, owns, place}
-use Rattle.bump_core.proofs.Enabled.{chunk_from, worker_from}
-use Rattle.bump_core.proofs.Fronts.{first_split, unused_front, linked_in_range}
+use Rattle.bump_core.specs.Worlds.{IsLawful, owns, place}
+use Rattle.bump_core.proofs.Enabled.{next_from, move_from, move_for_from, by_test, by_value, cleared_from}
+use Rattle.bump_core.proofs.Running.{by_run}
+use Rattle.bump_core.proofs.Updates.{same_read}
+use Rattle.bump_core.proofs.Fronts.{next_front}
+use Rattle.bump_core.proofs.Facts.{linked_in_range, waiting_linked}
 use Rattle.bump_core.proofs.Laws.{used_where_linked}
-use Rattle.bump_core.proofs.Moving.{chunk_changed, chunk_unchanged, place_unchanged, waiting_is, cleared_is}
+use Rattle.bump_core.proofs.Moving.{chunk_changed, chunk_unchanged, place_unchanged}
 use Rattle.bump_core.proofs.Steps.{lawful_after}
 use Rattle.bump_core.proofs.Tiles.{class_within, class_owns}
-use Rattle.bump_core.proofs.Updates.{read_other}
-
--- what is the same of the element that was written is the same of each
-same_read : {A B : Type 0} (f : A → B) (xs : List A) (i : ℕ) (v d : A) → f v ≡ f (slice_index_or xs i d) → (j : ℕ) → f (slice_index_or (slice_set xs i v) j d) ≡ f (slice_index_or xs j d)
-same_read f [] i v d same j = refl
-same_read f (x ∷ xs) zero v d same zero = same
-same_read f (x ∷ xs) zero v d same (suc j) = refl
-same_read f (x ∷ xs) (suc i) v d same zero = refl
-same_read f (x ∷ xs) (suc i) v d same (suc j) = same_read f xs i v d same j
-
--- what holds of both states holds of the one that the test takes
-by_test : (P : State → Type 0) (b : Bool) (t u : State) → P t → P u → P (if b then t else u)
-by_test P true t u first second = first
-by_test P false t u first second = second
-
--- what holds of the state of each value that there may be, and of the state for none
-by_value : (P : State → Type 0) → {A : Type 0} (f : A → State) (o : Option A) (s : State) → ((a : A) → o ≡ Some a → P (f a)) → P s → P (option_map_or f o s)
-by_value P f None s some none = none
-by_value P f (Some a) s some none = some a refl
 
 -- Labels.
 
@@ -104,7 +86,7 @@ stays_labelled s d x unused c = by (ℕ_discrete c d)
 
     by : Dec (c ≡ d) → Stays c s (with_label s d x)
     by (yes is) = record { later = omega (arith, generations); same = λ e used. absurd (subst IsUsed (ap (place s) is ∙ unused) used) }
-    by (no other) = stays_same c s (with_label s d x) generations (ap (λ (y : Chunk). y.label) (read_other s.chunks d c (record (chunk s d) { label = x }) no_chunk other)) refl
+    by (no other) = stays_same c s (with_label s d x) generations (ap (λ (y : Chunk). y.label) (get_or-set_other s.chunks d c (record (chunk s d) { label = x }) no_chunk other)) refl
 
 -- a chunk with another head, and an entry of it: it begins another life, or it was in use
 stays_changed : (s : State) (o : IsLawful s) (d : ℕ) (h : Head) (k : ℕ) (e : Change) (within : k < length s.classes) (own : owns (class s k) d ≡ true) (is : (subject e).chunk ≡ d)
@@ -128,19 +110,11 @@ stays_changed s o d h k e within own is later used c = by (ℕ_discrete c d)
     by (no other) = let there = chunk_unchanged s o d h k e within own is c other in
         stays_same c s t (ap (λ (y : Chunk). y.head.generation) there) (ap (λ (y : Chunk). y.label) there) (place_unchanged s o d h k e within own is c other)
 
--- a class that is at rest exists
-rest_class : (s : State) (k : ℕ) → (is_class_at_rest s k && some_and (λ c. true) (next_chunk s k)) ≡ true → is_class s k ≡ true
-rest_class s k enabled = (and_parts (is_class s k) (not (is_under_application s k)) (and_parts (is_class_at_rest s k) (some_and (λ c. true) (next_chunk s k)) enabled).0).0
-
--- the front of UNUSED
-next_unused : (s : State) → IsLawful s → (k c : ℕ) → is_class s k ≡ true → next_chunk s k ≡ Some c → (class_of s c ≡ k) × (c < length s.chunks) × (place s c ≡ Unused)
-next_unused s o k c is next = let front = first_split c (class s k).lists.unused next in let at = unused_front s o k c front.0 (ltb-true k (length s.classes) is) front.1 in (at.0, at.1, at.2)
-
 -- a link begins a life of its chunk
-link_stays : (s : State) → IsLawful s → (k c : ℕ) → is_class s k ≡ true → next_chunk s k ≡ Some c → AllStay s (link s k c)
-link_stays s o k c is next =
-    let at = next_unused s o k c is next in
-    stays_changed s o c (newborn ((head s c).generation + 1)) k (change.Linked (next_life s c)) (ltb-true k (length s.classes) is)
+link_stays : (s : State) → IsLawful s → (k c : ℕ) → k < length s.classes → next_chunk s k ≡ Some c → AllStay s (link s k c)
+link_stays s o k c within next =
+    let at = next_front s o k c within next in
+    stays_changed s o c (newborn ((head s c).generation + 1)) k (change.Linked (next_life s c)) within
     (subst (λ (j : ℕ). owns (class s j) c ≡ true) at.0 (class_owns s o.tiles c at.1)) refl (omega arith) (λ e. absurd (omega (arith, e)))
 
 -- a move is of a chunk in use
@@ -151,17 +125,17 @@ moved_stays s o c to e is within on = stays_changed s o c (moved_head to (head s
 -- and so is a move for a bump, of an item that its lane found in COLD
 moved_for_stays : (s : State) → IsLawful s → (w : ℕ) (b : Bump) → w < length s.workers → cleared_active (worker s w).lane ≡ Some b → AllStay s (move_for s w b)
 moved_for_stays s o w b within is c =
-    let on = (waiting_is s b (subst (WaitsToMove s) (cleared_is (worker s w).lane b is) (o.waits w within))).0 in
+    let on = (waiting_linked s o w b within (cleared_from (worker s w).lane b is)).0 in
     let e = change.Moved b.life segment.Cold segment.Warm (BumpOf w b.number) in
-    let moved = moved_stays s o b.life.chunk segment.Warm e refl (linked_in_range s b.life.chunk on) on c in
+    let moved = moved_stays s o b.life.chunk segment.Warm e refl (linked_in_range s o b.life.chunk on) on c in
     record { later = moved.later; same = moved.same }
 
 -- from a lawful state each chunk stays by each event that is enabled
 stays_after : (s : State) → IsLawful s → (e : Event) → is_enabled s e ≡ true → AllStay s (after s e)
 stays_after s o (event.Load c) enabled = λ d. stays_here d s
 stays_after s o (event.Take w l) enabled = stays_written s l.chunk _ s.workers refl refl
-stays_after s o (event.Fetch w l) enabled = by_test (AllStay s) (head s l.chunk).fetched _ _ (stays_headed s l.chunk (fetched_head (head s l.chunk)) s.workers refl) (stays_headed s l.chunk (fetched_head (head s l.chunk)) _ refl)
-stays_after s o (event.Mark w l) enabled = by_test (AllStay s) (not (head s l.chunk).active && is_cold (head s l.chunk).segment) _ _ (stays_headed s l.chunk (active_head (head s l.chunk)) _ refl) (stays_headed s l.chunk (active_head (head s l.chunk)) s.workers refl)
+stays_after s o (event.Fetch w l) enabled = by_test (AllStay s) (head s l.chunk).fetched _ _ (λ on. stays_headed s l.chunk (fetched_head (head s l.chunk)) s.workers refl) (λ off. stays_headed s l.chunk (fetched_head (head s l.chunk)) _ refl)
+stays_after s o (event.Mark w l) enabled = by_test (AllStay s) (not (head s l.chunk).active && is_cold (head s l.chunk).segment) _ _ (λ on. stays_headed s l.chunk (active_head (head s l.chunk)) _ refl) (λ off. stays_headed s l.chunk (active_head (head s l.chunk)) s.workers refl)
 stays_after s o (event.Reserve w) enabled = by_value (AllStay s) (reserve s w) (tried_life (worker s w).hand) s (λ l is. stays_headed s l.chunk (one_more (head s l.chunk)) _ refl) (λ d. stays_here d s)
 stays_after s o (event.DropRefs w) enabled = by_value (AllStay s) (drop_refs s w) (tried_life (worker s w).hand) s (λ l is. stays_worked s _) (λ d. stays_here d s)
 stays_after s o (event.DropBusy w) enabled = by_value (AllStay s) (drop_busy s w) (tried_life (worker s w).hand) s (λ l is. stays_worked s _) (λ d. stays_here d s)
@@ -170,19 +144,17 @@ stays_after s o (event.DropFull w) enabled = by_value (AllStay s) (drop_full s w
 stays_after s o (event.Unmark w) enabled = by_value (AllStay s) (unmark s w) (cleared_life (worker s w).hand) s (λ l is. stays_headed s l.chunk (cleared_head (head s l.chunk)) _ refl) (λ d. stays_here d s)
 stays_after s o (event.StoreTime l t) enabled = stays_written s l.chunk _ s.workers refl refl
 stays_after s o (event.Release l) enabled = stays_written s l.chunk _ s.workers refl refl
-stays_after s o (event.PutLabel k x) enabled = by_value (AllStay s) (λ c. with_label s c x) (next_chunk s k) s (λ c is. stays_labelled s c x (next_unused s o k c (rest_class s k enabled) is).2) (λ d. stays_here d s)
+stays_after s o (event.PutLabel k x) enabled = by_value (AllStay s) (λ c. with_label s c x) (next_chunk s k) s (λ c is. stays_labelled s c x (next_front s o k c (next_from s k enabled).1 is).2) (λ d. stays_here d s)
 stays_after s o (event.PutTime k t) enabled = by_value (AllStay s) (λ c. with_time s c t) (next_chunk s k) s (λ c is. stays_written s c _ s.workers refl refl) (λ d. stays_here d s)
-stays_after s o (event.Link k) enabled = by_value (AllStay s) (link s k) (next_chunk s k) s (λ c is. link_stays s o k c (rest_class s k enabled) is) (λ d. stays_here d s)
+stays_after s o (event.Link k) enabled = by_value (AllStay s) (link s k) (next_chunk s k) s (λ c is. link_stays s o k c (next_from s k enabled).1 is) (λ d. stays_here d s)
 stays_after s o (event.ClearActive c) enabled = stays_headed s c (cleared_head (head s c)) s.workers refl
-stays_after s o (event.Move c to) enabled =
-    let both = and_parts (is_chunk s c) ((head s c).linked && (may_move (head s c).segment to && not (is_under_application s (class_of s c)))) enabled in
-    let on = (and_parts (head s c).linked (may_move (head s c).segment to && not (is_under_application s (class_of s c))) both.1).0 in
-    moved_stays s o c to (change.Moved (life c (head s c).generation) (head s c).segment to Pull) refl (chunk_from s c both.0) on
+stays_after s o (event.Move c to) enabled = let may = move_from s c to enabled in
+    moved_stays s o c to (change.Moved (life c (head s c).generation) (head s c).segment to Pull) refl may.0 may.1
 stays_after s o (event.TakeBump w) enabled = by_value (AllStay s) (take_bump s w) (next_bump (worker s w)) s (λ l is. stays_worked s _) (λ d. stays_here d s)
 stays_after s o (event.Try w) enabled = by_value (AllStay s) _ (carried (worker s w).lane) s (λ b is. stays_worked s _) (λ d. stays_here d s)
 stays_after s o (event.BumpTime w t) enabled = by_value (AllStay s) _ (applied_now (worker s w).lane) s (λ b is. stays_written s b.life.chunk _ s.workers refl refl) (λ d. stays_here d s)
 stays_after s o (event.ClearFor w) enabled = by_value (AllStay s) (clear_for s w) (tried (worker s w).lane) s (λ b is. stays_headed s b.life.chunk (cleared_head (head s b.life.chunk)) _ refl) (λ d. stays_here d s)
-stays_after s o (event.MoveFor w) enabled = by_value (AllStay s) (move_for s w) (cleared_active (worker s w).lane) s (λ b is. moved_for_stays s o w b (worker_from s w (and_parts (is_worker s w) (some_and (λ b. true) (cleared_active (worker s w).lane)) enabled).0) is) (λ d. stays_here d s)
+stays_after s o (event.MoveFor w) enabled = by_value (AllStay s) (move_for s w) (cleared_active (worker s w).lane) s (λ b is. moved_for_stays s o w b (move_for_from s w enabled).1 is) (λ d. stays_here d s)
 stays_after s o (event.Alight w) enabled = by_value (AllStay s) _ (applied_now (worker s w).lane) s
     (λ b is. by_value (AllStay s) (alight s w b) (lane_outcome s w) s (λ r at. stays_headed s b.life.chunk (one_fewer (head s b.life.chunk)) _ refl) (λ d. stays_here d s)) (λ d. stays_here d s)
 
@@ -207,14 +179,14 @@ closed_else s w y opened v closed = by (ℕ_discrete v w)
   where
     by : Dec (v ≡ w) → ((worker (with_worker s w y) v).is_open ≡ false) × ((worker (with_worker s w y) v).sent ≡ (worker s v).sent)
     by (yes is) = absurd (both_ways (worker s w).is_open (sym (ap (λ (u : ℕ). (worker s u).is_open) is) ∙ closed) opened)
-    by (no other) = let there = read_other s.workers w v y new_worker other in (ap (λ (x : WorkerState). x.is_open) there ∙ closed, ap (λ (x : WorkerState). x.sent) there)
+    by (no other) = let there = get_or-set_other s.workers w v y new_worker other in (ap (λ (x : WorkerState). x.is_open) there ∙ closed, ap (λ (x : WorkerState). x.sent) there)
 
 -- no event that is enabled opens a closed ring, or sends a bump by it
 closed_after : (s : State) (e : Event) → is_enabled s e ≡ true → ClosedStay s (after s e)
 closed_after s (event.Load c) enabled = closed_here s
 closed_after s (event.Take w l) enabled = closed_here s
-closed_after s (event.Fetch w l) enabled = by_test (ClosedStay s) (head s l.chunk).fetched _ _ (closed_here s) (closed_worked s w _ refl refl)
-closed_after s (event.Mark w l) enabled = by_test (ClosedStay s) (not (head s l.chunk).active && is_cold (head s l.chunk).segment) _ _ (closed_worked s w _ refl refl) (closed_here s)
+closed_after s (event.Fetch w l) enabled = by_test (ClosedStay s) (head s l.chunk).fetched _ _ (λ on. closed_here s) (λ off. closed_worked s w _ refl refl)
+closed_after s (event.Mark w l) enabled = by_test (ClosedStay s) (not (head s l.chunk).active && is_cold (head s l.chunk).segment) _ _ (λ on. closed_worked s w _ refl refl) (λ off. closed_here s)
 closed_after s (event.Reserve w) enabled = by_value (ClosedStay s) (reserve s w) (tried_life (worker s w).hand) s (λ l is. closed_worked s w _ refl refl) (closed_here s)
 closed_after s (event.DropRefs w) enabled = by_value (ClosedStay s) (drop_refs s w) (tried_life (worker s w).hand) s (λ l is. closed_worked s w _ refl refl) (closed_here s)
 closed_after s (event.DropBusy w) enabled = by_value (ClosedStay s) (drop_busy s w) (tried_life (worker s w).hand) s (λ l is. closed_worked s w _ refl refl) (closed_here s)
@@ -239,29 +211,13 @@ closed_after s (event.Alight w) enabled = by_value (ClosedStay s) _ (applied_now
 
 -- Runs.
 
--- a step that is refused behind a run: the state is still the one that the run left
-pub refused_stays : (s : State) (es : List Event) (t : State) (e : Event) (new : State) (r : Refused) → run_of s es ≡ Some t → Steps t e new (Err r) → run_of s es ≡ Some new
-refused_stays s es t e new NotEnabled ends refused = ends ∙ ap (λ (x : State). Some x) (sym refused.1)
-refused_stays s es t e new OutOfMemory ends refused = ends ∙ ap (λ (x : State). Some x) (sym refused)
-
--- what an event leaves, from each state of a kind, and leads to a state of the kind, a run leaves
-by_run : (I : State → Type 0) (R : State → State → Type 0) → ((s : State) → R s s) → ((s t u : State) → R s t → R t u → R s u)
-    → ((s : State) → I s → (e : Event) → is_enabled s e ≡ true → I (after s e) × R s (after s e))
-    → (s : State) (es : List Event) (t : State) → I s → run_of s es ≡ Some t → R s t
-by_run I R here on step s [] t i ends = let same : s ≡ t = cc in subst (R s) same (here s)
-by_run I R here on step s (e ∷ es) t i ends = by (is_enabled s e) refl (λ enabled rest. let made = step s i e enabled in on s (after s e) t made.1 (by_run I R here on step (after s e) es t made.0 rest))
-  where
-    by : (b : Bool) → is_enabled s e ≡ b → (is_enabled s e ≡ true → run_of (after s e) es ≡ Some t → R s t) → R s t
-    by true enabled rest = rest enabled (sym (ap (λ b. if b then run_of (after s e) es else None) enabled) ∙ ends)
-    by false refused rest = absurd (let u : ⊥ = cc (sym (ap (λ b. if b then run_of (after s e) es else None) refused) ∙ ends) in u)
-
 -- a run from a lawful state leaves each chunk that stays in use in the same life its label
 pub labels_stay : (s : State) (es : List Event) (t : State) → IsLawful s → run_of s es ≡ Some t → LabelsStay s t
-labels_stay s es t o ends c same used = ((stay c).same same used).1
+labels_stay s es t o ends c same used = ((stay.1 c).same same used).1
   where
-    stay : AllStay s t
-    stay = by_run IsLawful AllStay (λ s c. stays_here c s) (λ s t u first second c. stays_on c s t u (first c) (second c)) (λ s o e enabled. (lawful_after s o e enabled, stays_after s o e enabled)) s es t o ends
+    stay : IsLawful t × AllStay s t
+    stay = by_run (λ u. IsLawful u × AllStay s u) (λ u both e enabled. (lawful_after u both.0 e enabled, λ d. stays_on d s u (after u e) (both.1 d) (stays_after u both.0 e enabled d))) s es t (o, λ d. stays_here d s) ends
 
 -- a run opens no closed ring, and sends no bump by one
 pub closed_stay : (s : State) (es : List Event) (t : State) → run_of s es ≡ Some t → ClosedStay s t
-closed_stay s es t ends = by_run (λ s. Unit {0}) ClosedStay closed_here closed_on (λ s i e enabled. (tt, closed_after s e enabled)) s es t tt ends
+closed_stay s es t ends = by_run (ClosedStay s) (λ u stay e enabled. closed_on s u (after u e) stay (closed_after u e enabled)) s es t (closed_here s) ends

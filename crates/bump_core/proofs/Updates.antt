@@ -1,44 +1,26 @@
--- Lists that are written at one place, and sums over them.
-use Rattle.std.proofs.Common.{◌≡◌, ℕ, zero, suc, ◌+◌, ◌<◌, ◌≤◌, ◌≢◌, List, [], ◌∷◌, ◌++◌, length, drop, slice_index_or, slice_set, slice_get, Some, refl, ap, arith, length-set, get_or-set_same, get_or-set_other}
-use Rattle.std.proofs.lemmas.List.{set-get_or}
+-- Lists that are written at one place, sums over lists, and how often a list names a life.
+use Rattle.std.proofs.Common.{◌≡◌, ℕ, zero, suc, ◌+◌, ◌<◌, ◌≤◌, Bool, false, List, [], ◌∷◌, ◌++◌, length, drop, slice_index_or, slice_set, refl, ap, arith}
+use Rattle.std.specs.List.{list_any}
+use Rattle.std.proofs.lemmas.Bool.{or_from, or_parts}
+use Rattle.std.proofs.Math.Seq.{drop-cons}
 use Rattle.bump_core.specs.declared.items.ItemId.{ItemId}
 use Rattle.bump_core.specs.Totals.{total}
 use Rattle.bump_core.specs.Lives.{one_if, count_of}
 
-module _ {A : Type 0} where
-  -- the element that was written is read
-  pub read_written : (xs : List A) (i : ℕ) (v d : A) → i < length xs → slice_index_or (slice_set xs i v) i d ≡ v
-  read_written xs i v d within = get_or-set_same xs i v d within
+-- what is the same of the element that was written is the same of each
+pub same_read : {A B : Type 0} (f : A → B) (xs : List A) (i : ℕ) (v d : A) → f v ≡ f (slice_index_or xs i d) → (j : ℕ) → f (slice_index_or (slice_set xs i v) j d) ≡ f (slice_index_or xs j d)
+same_read f [] i v d same j = refl
+same_read f (x ∷ xs) zero v d same zero = same
+same_read f (x ∷ xs) zero v d same (suc j) = refl
+same_read f (x ∷ xs) (suc i) v d same zero = refl
+same_read f (x ∷ xs) (suc i) v d same (suc j) = same_read f xs i v d same j
 
-  -- the other elements are read as before
-  pub read_other : (xs : List A) (i j : ℕ) (v d : A) → j ≢ i → slice_index_or (slice_set xs i v) j d ≡ slice_index_or xs j d
-  read_other xs i j v d other = get_or-set_other xs i j v d other
-
-  -- a list stays as long as it is
-  pub length_written : (xs : List A) (i : ℕ) (v : A) → length (slice_set xs i v) ≡ length xs
-  length_written xs i v = length-set xs i v
-
-  -- an element that is written back changes nothing
-  pub written_back : (xs : List A) (i : ℕ) (d : A) → slice_set xs i (slice_index_or xs i d) ≡ xs
-  written_back xs i d = set-get_or xs i d
-
-  -- past the end the default is read
-  pub read_past : (xs : List A) (i : ℕ) (d : A) → length xs ≤ i → slice_index_or xs i d ≡ d
-  read_past [] i d past = refl
-  read_past (x ∷ xs) zero d past = absurd (omega arith)
-  read_past (x ∷ xs) (suc i) d past = read_past xs i d (omega arith)
-
-  -- what is read by a number within is read as an element
-  pub got_within : (xs : List A) (i : ℕ) (d : A) → i < length xs → slice_get xs i ≡ Some (slice_index_or xs i d)
-  got_within [] i d within = absurd (omega arith)
-  got_within (x ∷ xs) zero d within = refl
-  got_within (x ∷ xs) (suc i) d within = got_within xs i d (omega arith)
-
-  -- the rest of a list from a number within is its element and the rest from the next
-  pub drop_within : (xs : List A) (i : ℕ) (d : A) → i < length xs → drop i xs ≡ slice_index_or xs i d ∷ drop (suc i) xs
-  drop_within [] i d within = absurd (omega arith)
-  drop_within (x ∷ xs) zero d within = refl
-  drop_within (x ∷ xs) (suc i) d within = drop_within xs i d (omega arith)
+-- where no element passes the test, and another one doesn't, none does when that one is written
+pub none_written : {A : Type 0} (test : A → Bool) (xs : List A) (i : ℕ) (a : A) → list_any test xs ≡ false → test a ≡ false → list_any test (slice_set xs i a) ≡ false
+none_written test [] i a none fails = none
+none_written test (x ∷ xs) zero a none fails = or_from (test a) (list_any test xs) fails (or_parts (test x) (list_any test xs) none).1
+none_written test (x ∷ xs) (suc i) a none fails = let both = or_parts (test x) (list_any test xs) none in
+    or_from (test x) (list_any test (slice_set xs i a)) both.0 (none_written test xs i a both.1 fails)
 
 module _ {A : Type 0} (f : A → ℕ) where
   -- one element changed: the sum loses the old term and gains the new one
@@ -98,4 +80,4 @@ count_push l m xs = total_push (one_if l) xs m
 
 -- how often the rest of a list names a life, by its first and the rest after it
 pub count_drop : (l d : ItemId) (xs : List ItemId) (i : ℕ) → i < length xs → count_of l (drop i xs) ≡ one_if l (slice_index_or xs i d) + count_of l (drop (suc i) xs)
-count_drop l d xs i within = ap (count_of l) (drop_within xs i d within)
+count_drop l d xs i within = ap (count_of l) (drop-cons xs i d within)

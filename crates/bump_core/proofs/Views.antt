@@ -1,46 +1,23 @@
--- A list seen element by element.
-use Rattle.std.specs.Prelude.{Bool, true, false, not, Result, Ok, Err, OnErr, Some, slice_get}
-use Rattle.std.proofs.lemmas.List.{length-map}
+-- Lists of the code, seen element by element: one element changed, and what a lane receives next.
+use Rattle.std.proofs.Common.{◌≡◌, ℕ, zero, suc, ◌<◌, List, [], ◌∷◌, ◌++◌, ◌+◌, take, add-one, length, get_or, set, map, refl, sym, ap, ◌∙◌, arith}
+use Rattle.std.specs.Prelude.{Result, Ok, Err, OnErr, Some, slice_get}
+use Rattle.std.proofs.lemmas.List.{length-map, get_or-map, map-set}
+use Rattle.std.proofs.Math.Seq.{map-set_same}
 use Rattle.bump_core.specs.declared.items.ItemId.{ItemId}
 use Rattle.bump_core.specs.declared.parts.Parts.{Parts}
 use Rattle.bump_core.specs.declared.workers.Worker.{Worker}
 use Rattle.bump_core.specs.Events.{next_bump}
 use Rattle.bump_core.specs.State.{worker, new_worker}
 use Rattle.bump_core.specs.Views.{state_of, worker_view}
-use Rattle.std.proofs.Common.{◌≡◌, ℕ, zero, suc, ◌<◌, List, [], ◌∷◌, ◌++◌, ◌+◌, take, add-one, length, get_or, set, map, refl, sym, ap, ◌∙◌, arith}
-
--- an element of the seen list is the element, seen
-pub get_or-map : {A B : Type 0} (f : A → B) (xs : List A) (i : ℕ) (a : A) (b : B) → i < length xs → get_or (map f xs) i b ≡ f (get_or xs i a)
-get_or-map f [] i a b h = absurd (omega arith)
-get_or-map f (x ∷ xs) zero a b h = refl
-get_or-map f (x ∷ xs) (suc i) a b h = get_or-map f xs i a b (omega arith)
-
--- a changed list, seen, is the seen list changed
-pub map-set : {A B : Type 0} (f : A → B) (xs : List A) (i : ℕ) (x : A) → map f (set xs i x) ≡ set (map f xs) i (f x)
-map-set f [] i x = refl
-map-set f (y ∷ ys) zero x = refl
-map-set {B = B} f (y ∷ ys) (suc i) x = ap (λ (r : List B). f y ∷ r) (map-set f ys i x)
-
--- past its end a list gives what is given, and before it that doesn't matter
-pub get_or-same : {A : Type 0} (xs : List A) (i : ℕ) (a b : A) → i < length xs → get_or xs i a ≡ get_or xs i b
-get_or-same [] i a b h = absurd (omega arith)
-get_or-same (x ∷ xs) zero a b h = refl
-get_or-same (x ∷ xs) (suc i) a b h = get_or-same xs i a b (omega arith)
 
 -- an element changed behind a reference: the seen list has it changed alike
 pub rewritten : {A B : Type 0} (f : A → B) (h : B → B) (xs : List A) (i : ℕ) (a x : A) (d : B) → i < length (map f xs) → a ≡ get_or xs i a → f x ≡ h (f a)
     → map f (set xs i x) ≡ set (map f xs) i (h (get_or (map f xs) i d))
 rewritten {B = B} f h xs i a x d lt is alike = map-set f xs i x ∙ ap (λ (v : B). set (map f xs) i v) (alike ∙ ap (λ v. h (f v)) is ∙ ap h (sym (get_or-map f xs i a d (omega (arith, lt, length-map xs f)))))
 
--- an element written as it was leaves the list
-pub set_same : {A : Type 0} (xs : List A) (i : ℕ) (d : A) → i < length xs → set xs i (get_or xs i d) ≡ xs
-set_same [] i d lt = absurd (omega arith)
-set_same (x ∷ xs) zero d lt = refl
-set_same {A = A} (x ∷ xs) (suc i) d lt = ap (λ (r : List A). x ∷ r) (set_same xs i d (omega arith))
-
 -- an element changed behind a reference, and seen as before, leaves the seen list
 pub unchanged : {A B : Type 0} (f : A → B) (xs : List A) (i : ℕ) (a x : A) → i < length (map f xs) → a ≡ get_or xs i a → f x ≡ f a → map f (set xs i x) ≡ map f xs
-unchanged {B = B} f xs i a x lt is alike = map-set f xs i x ∙ ap (λ (v : B). set (map f xs) i v) (alike ∙ ap f is ∙ sym (get_or-map f xs i a (f a) (omega (arith, lt, length-map xs f)))) ∙ set_same (map f xs) i (f a) lt
+unchanged f xs i a x lt is alike = map-set_same f xs i x a (alike ∙ ap f is)
 
 -- what holds anyway holds of an error
 pub on_err : {T E P : Type 0} (r : Result T E) → P → OnErr r P
@@ -52,11 +29,6 @@ pub next_taken : {A : Type 0} (xs : List A) (n : ℕ) (x : A) → slice_get xs (
 next_taken [] n x is = absurd (let u : ⊥ = cc in u)
 next_taken (y ∷ ys) zero x is = let same : y ≡ x = cc in (omega arith, refl, ap (λ z. z ∷ []) same)
 next_taken {A = A} (y ∷ ys) (suc n) x is = let rest = next_taken ys n x is in (omega (arith, rest.0), omega (arith, rest.1), ap (λ (r : List A). y ∷ r) rest.2)
-
--- what isn't false is true
-pub set_where_not : (b : Bool) → not b ≡ false → b ≡ true
-set_where_not true e = refl
-set_where_not false e = sym e
 
 -- a worker as it is read, where the next bump waits: how many its lane took, and what it took with that bump
 pub next_received : (p : Parts) (w : ℕ) (a : Worker) (l : ItemId) → w < length (map worker_view p.workers.items) → a ≡ get_or p.workers.items w a → next_bump (worker (state_of p) w) ≡ Some l

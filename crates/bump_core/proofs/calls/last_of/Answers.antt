@@ -1,5 +1,5 @@
 use Rattle.std.proofs.Common.{refl}
-use Rattle.bump_core.proofs.Fronts.{back_is, back_none}
+use Rattle.bump_core.proofs.PlainLists.{back_is, back_none}
 use Rattle.bump_core.proofs.calls.last_of.Goals as goal
 
 pub returns-in-Some : goal.returns-in-Some

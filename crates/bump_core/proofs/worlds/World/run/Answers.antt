@@ -1,14 +1,15 @@
 use Rattle.std.proofs.Common.{take, subst}
+use Rattle.std.proofs.lemmas.Option.{slice_get-get_or}
 use Rattle.bump_core.specs.Worlds.{IsLawful}
 use Rattle.bump_core.proofs.Headlines.{headline}
-use Rattle.bump_core.proofs.Staying.{refused_stays, labels_stay, closed_stay}
-use Rattle.bump_core.proofs.Steps.{run_refused, run_more, run_lawful}
-use Rattle.bump_core.proofs.Updates.{got_within}
+use Rattle.bump_core.proofs.Staying.{labels_stay, closed_stay}
+use Rattle.bump_core.proofs.Steps.{run_lawful}
+use Rattle.bump_core.proofs.Running.{run_refused, run_more, refused_stays}
 use Rattle.bump_core.proofs.Sizes.{run_sizes, refused_sizes}
 use Rattle.bump_core.proofs.worlds.World.run.Goals as goal
 
 pub returns-in-Err-clause-run : goal.returns-in-Err-clause-run
-returns-in-Err-clause-run c = run_refused c.args.self.now c.args.events.now c.loop-place.place c.loop-place.self c.step.new.self _ c.in-Err.refused c.loop-place.invariant (got_within c.args.events.now c.loop-place.place _ c.loop-place-test.true) c.in-Err.ensures.step
+returns-in-Err-clause-run c = run_refused c.args.self.now c.args.events.now c.loop-place.place c.loop-place.self c.step.new.self _ c.in-Err.refused c.loop-place.invariant (slice_get-get_or c.args.events.now c.loop-place.place _ c.loop-place-test.true) c.in-Err.ensures.step
 
 pub loop-place-preserved : goal.loop-place-preserved
 loop-place-preserved c = run_more c.args.self.now c.args.events.now c.loop-place.place _ c.loop-place.self c.step.new.self c.loop-place-test.true c.loop-place.invariant c.in_default.ensures.step.0 c.in_default.ensures.step.1
