@@ -1,5 +1,5 @@
 -- What a whole run reads and writes.
-use Rattle.std.specs.Prelude.{◌≡◌, ⊤, ℕ, Bool, true, false, List, ◌++◌, Option, Result, Ok, Err}
+use Rattle.std.specs.Prelude.{◌≡◌, ◌<◌, ◌⊎◌, ⊤, ℕ, Bool, true, false, List, ◌++◌, Option, Result, Ok, Err}
 use Rattle.std.specs.Io.KnownBytes.{Appends, Consumes, IsAtEnd}
 use Rattle.bump_trace.specs.Text.{fault_line}
 use Rattle.bump_trace.specs.Meaning.{verdict_of}
@@ -25,21 +25,29 @@ abbrev pub ModelRuns : Option (List ℕ) → Option (List ℕ) → Option (List 
 ModelRuns had left held holds (Ok _) = Ran had left held holds false
 ModelRuns had left held holds (Err e) = StoppedBy had left held holds e
 
--- a fault before anything is written
-abbrev pub IsOfReading : SimFault → Type 0
-IsOfReading faults.Trace = ⊥
-IsOfReading faults.Read = Unit {0}
-IsOfReading faults.Size = Unit {0}
-IsOfReading faults.Write = ⊥
-IsOfReading faults.Memory = Unit {0}
+-- a fault before anything is written: a read failed, or there were too many
+abbrev pub IsOfReading : ℕ → ℕ → SimFault → Type 0
+IsOfReading calls failed faults.Trace = ⊥
+IsOfReading calls failed faults.Read = (0 < failed) ⊎ (calls ≡ 20000000)
+IsOfReading calls failed faults.Size = Unit {0}
+IsOfReading calls failed faults.Write = ⊥
+IsOfReading calls failed faults.Memory = Unit {0}
 
--- a fault while the text is made and written
-abbrev pub IsOfWriting : SimFault → Type 0
-IsOfWriting faults.Trace = ⊥
-IsOfWriting faults.Read = ⊥
-IsOfWriting faults.Size = ⊥
-IsOfWriting faults.Write = Unit {0}
-IsOfWriting faults.Memory = Unit {0}
+-- a fault while the text is made and written: a write failed, or there was no memory
+abbrev pub IsOfWriting : ℕ → SimFault → Type 0
+IsOfWriting failed faults.Trace = ⊥
+IsOfWriting failed faults.Read = ⊥
+IsOfWriting failed faults.Size = ⊥
+IsOfWriting failed faults.Write = 0 < failed
+IsOfWriting failed faults.Memory = Unit {0}
+
+-- A run answers that it could not read or write only where a read or a write failed, or where too many reads were made.
+abbrev pub FailsAsCounted : ℕ → ℕ → ℕ → SimFault → Type 0
+FailsAsCounted reads read_failed write_failed faults.Trace = Unit {0}
+FailsAsCounted reads read_failed write_failed faults.Read = (0 < read_failed) ⊎ (reads ≡ 20000000)
+FailsAsCounted reads read_failed write_failed faults.Size = Unit {0}
+FailsAsCounted reads read_failed write_failed faults.Write = 0 < write_failed
+FailsAsCounted reads read_failed write_failed faults.Memory = Unit {0}
 
 -- What was gathered, and then this text, is what was written and what is gathered now.
 abbrev pub Gathers : Option (List ℕ) → Option (List ℕ) → List ℕ → List ℕ → List ℕ → Type 0

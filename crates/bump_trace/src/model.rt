@@ -2,17 +2,17 @@
 
 ghost use Rattle.std.specs.Prelude.{◌≡◌, true, ◌≤◌, [], ◌++◌, List, take, length, IfOk, OnOk, IfErr, ℕ};
 ghost use Rattle.std.specs.Io.KnownBytes.{Appends, Consumes, IsAtEnd};
-ghost use Rattle.bump_trace.specs.declared.model.SimFault.TheVariants.{Memory, Write};
+ghost use Rattle.bump_trace.specs.declared.model.SimFault.TheVariants.{Memory};
 ghost use Rattle.bump_trace.specs.Text.{fault_line};
 ghost use Rattle.bump_trace.specs.Meaning.{verdict_of};
-ghost use Rattle.bump_trace.specs.Runs.{ModelRuns, IsOfReading, IsOfWriting, Gathers, GathersFault, RunsInto};
+ghost use Rattle.bump_trace.specs.Runs.{ModelRuns, FailsAsCounted, IsOfReading, IsOfWriting, Gathers, GathersFault, RunsInto};
 
-use crate::counted::Counted;
+use crate::counted::{Counted, is_interruption};
 use crate::fault::{Fault, LineError};
 use crate::output::put_fault;
 use crate::session::{Session, cut};
 use std::alloc::{AllocError, Global};
-use std::io::{ErrorKind, Read, Write};
+use std::io::{Read, Write};
 
 /// Why a run didn't go to the end of its trace.
 #[derive(Clone, Copy, Debug, PartialEq, Eq)]
@@ -49,10 +49,11 @@ const ROOM: usize = 65_536;
 
 /// All that the reader has left. An interrupted read is made again.
 fn read_all<R: Read>(alloc: Global, reader: &mut Counted<R>) -> Result<Vec<u8>, SimFault>
+    requires { (reader.old.calls ≡ 0) × (reader.old.failed ≡ 0) }
     ensures bytes { IfOk result (λ v. Consumes (R.remaining reader.old.inner) (R.remaining reader.new.inner) v.items) }
     ensures end { OnOk result (IsAtEnd (R.remaining reader.new.inner)) }
     ensures size { IfOk result (λ v. length v.items ≤ 16777216) }
-    ensures err { IfErr result (λ e. IsOfReading e) }
+    ensures err { IfErr result (λ e. IsOfReading reader.new.calls reader.new.failed e) }
 {
     let mut bytes = Vec::new(alloc);
     let mut piece = [0u8; 4096];
@@ -66,7 +67,7 @@ fn read_all<R: Read>(alloc: Global, reader: &mut Counted<R>) -> Result<Vec<u8>, 
                 bytes.extend_from_slice(&piece[..n])?;
             }
             Err(e) => {
-                if e.kind() != ErrorKind::Interrupted {
+                if !is_interruption(e.kind()) {
                     return Err(SimFault::Read);
                 }
             }
@@ -78,7 +79,7 @@ fn read_all<R: Read>(alloc: Global, reader: &mut Counted<R>) -> Result<Vec<u8>, 
 /// Writes all of the bytes.
 fn write_whole<W: Write>(writer: &mut Counted<W>, bytes: &[u8]) -> Result<(), SimFault>
     ensures ok { OnOk result (Appends (W.contents writer.old.inner) (W.contents writer.new.inner) bytes.now) }
-    ensures err { IfErr result (λ e. e ≡ Write) }
+    ensures err { IfErr result (λ e. IsOfWriting writer.new.failed e) }
 {
     let mut rest = bytes;
     while !rest.is_empty() {
@@ -95,7 +96,7 @@ fn write_whole<W: Write>(writer: &mut Counted<W>, bytes: &[u8]) -> Result<(), Si
 fn flush<W: Write>(writer: &mut Counted<W>, gathered: &mut Vec<u8>) -> Result<(), SimFault>
     ensures ok { OnOk result (Appends (W.contents writer.old.inner) (W.contents writer.new.inner) gathered.old.items) }
     ensures none { OnOk result (gathered.new.items ≡ []) }
-    ensures err { IfErr result (λ e. e ≡ Write) }
+    ensures err { IfErr result (λ e. IsOfWriting writer.new.failed e) }
 {
     write_whole(writer, gathered)?;
     gathered.clear();
@@ -109,7 +110,7 @@ fn gather<W: Write>(
     text: &[u8],
 ) -> Result<(), SimFault>
     ensures ok { OnOk result (Gathers (W.contents writer.old.inner) (W.contents writer.new.inner) gathered.old.items gathered.new.items text.now) }
-    ensures err { IfErr result (λ e. IsOfWriting e) }
+    ensures err { IfErr result (λ e. IsOfWriting writer.new.failed e) }
 {
     if text.len() <= ROOM.saturating_sub(gathered.len()) {
         gathered.extend_from_slice(text)?;
@@ -133,7 +134,7 @@ fn gather_fault<W: Write>(
     fault: Fault,
 ) -> Result<(), SimFault>
     ensures ok { OnOk result (Gathers (W.contents writer.old.inner) (W.contents writer.new.inner) gathered.old.items gathered.new.items (fault_line number fault)) }
-    ensures err { IfErr result (λ e. IsOfWriting e) }
+    ensures err { IfErr result (λ e. IsOfWriting writer.new.failed e) }
 {
     text.clear();
     put_fault(text, number, fault)?;
@@ -149,7 +150,7 @@ fn stop<W: Write>(
     error: LineError,
 ) -> Result<(), SimFault>
     ensures ok { OnOk result (GathersFault (W.contents writer.old.inner) (W.contents writer.new.inner) gathered.old.items gathered.new.items number error) }
-    ensures err { IfErr result (λ e. IsOfWriting e) }
+    ensures err { IfErr result (λ e. IsOfWriting writer.new.failed e) }
 {
     match error {
         LineError::Memory => Err(SimFault::Memory),
@@ -166,7 +167,7 @@ fn run_lines<W: Write>(
 ) -> Result<bool, SimFault>
     requires size { length input.now ≤ 16777216 }
     requires empty { gathered.old.items ≡ [] }
-    ensures err { IfErr result (λ e. IsOfWriting e) }
+    ensures err { IfErr result (λ e. IsOfWriting writer.new.failed e) }
     ensures text { IfOk result (λ is_fault. RunsInto (W.contents writer.old.inner) (W.contents writer.new.inner) gathered.new.items input.now is_fault) }
 {
     let mut session = Session::new();
@@ -202,7 +203,7 @@ fn run_input<W: Write>(
     writer: &mut Counted<W>,
 ) -> Result<bool, SimFault>
     requires { length input.now ≤ 16777216 }
-    ensures err { IfErr result (λ e. IsOfWriting e) }
+    ensures err { IfErr result (λ e. IsOfWriting writer.new.failed e) }
     ensures text { IfOk result (λ is_fault. RunsInto (W.contents writer.old.inner) (W.contents writer.new.inner) [] input.now is_fault) }
 {
     let mut gathered = Vec::with_capacity(alloc, ROOM)?;
@@ -211,11 +212,11 @@ fn run_input<W: Write>(
             flush(writer, &mut gathered)?;
             Ok(is_fault)
         }
-        Err(SimFault::Write) => Err(SimFault::Write),
-        Err(fault) => {
+        Err(SimFault::Memory) => {
             flush(writer, &mut gathered)?;
-            Err(fault)
+            Err(SimFault::Memory)
         }
+        Err(fault) => Err(fault),
     }
 }
 
@@ -227,7 +228,8 @@ pub fn run_model<R: Read, W: Write>(
 ) -> Result<(), SimFault>
     requires reader { (reader.old.calls ≡ 0) × (reader.old.failed ≡ 0) }
     requires writer { (writer.old.calls ≡ 0) × (writer.old.failed ≡ 0) }
-    ensures { ModelRuns (R.remaining reader.old.inner) (R.remaining reader.new.inner) (W.contents writer.old.inner) (W.contents writer.new.inner) result }
+    ensures failed { IfErr result (λ e. FailsAsCounted reader.new.calls reader.new.failed writer.new.failed e) }
+    ensures text { ModelRuns (R.remaining reader.old.inner) (R.remaining reader.new.inner) (W.contents writer.old.inner) (W.contents writer.new.inner) result }
 {
     let input = read_all(alloc, reader)?;
     let is_fault = run_input(alloc, &input, writer)?;
