@@ -1,6 +1,6 @@
 -- What a whole run reads and writes.
 use Rattle.std.specs.Prelude.{◌≡◌, ◌<◌, ◌⊎◌, ⊤, ℕ, Bool, true, false, List, ◌++◌, Option, Result, Ok, Err}
-use Rattle.std.specs.Io.KnownBytes.{Appends, Consumes, IsAtEnd}
+use Rattle.std.specs.Io.KnownBytes.{Appends, Consumes, Keeps, IsAtEnd}
 use Rattle.bump_trace.specs.Text.{fault_line}
 use Rattle.bump_trace.specs.Meaning.{verdict_of}
 use Rattle.bump_trace.specs.declared.fault.LineError.{LineError}
@@ -13,10 +13,11 @@ abbrev pub Ran : Option (List ℕ) → Option (List ℕ) → Option (List ℕ) �
 Ran had left held holds is_fault =
     (input : List ℕ) × Consumes had left input × IsAtEnd left × Appends held holds (verdict_of input).text × ((verdict_of input).is_fault ≡ is_fault)
 
+-- a fault of the trace is the end of its text; where the trace could not be read, nothing was written
 abbrev pub StoppedBy : Option (List ℕ) → Option (List ℕ) → Option (List ℕ) → Option (List ℕ) → SimFault → Type 0
 StoppedBy had left held holds faults.Trace = Ran had left held holds true
-StoppedBy had left held holds faults.Read = Unit {0}
-StoppedBy had left held holds faults.Size = Unit {0}
+StoppedBy had left held holds faults.Read = Keeps held holds
+StoppedBy had left held holds faults.Size = Keeps held holds
 StoppedBy had left held holds faults.Write = Unit {0}
 StoppedBy had left held holds faults.Memory = Unit {0}
 
