@@ -1,0 +1,11 @@
+pub mod Numerals
+pub mod Bytes
+pub mod Fields
+pub mod Rest
+pub mod Ascending
+pub mod Parts
+pub mod Printing
+pub mod Draining
+pub mod Benches
+pub mod Runs
+pub mod OnTraces

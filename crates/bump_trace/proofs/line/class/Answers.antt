@@ -1,0 +1,16 @@
+use Rattle.std.proofs.lemmas.Result.{err_from_is_err_and}
+use Rattle.bump_trace.specs.Lines.{class_of}
+use Rattle.bump_trace.proofs.Fields.{first_fails, three_words}
+use Rattle.bump_trace.proofs.line.class.Goals as goal
+
+pub returns-in_err-chunks-in-len3 : goal.returns-in_err-chunks-in-len3
+unfolding class_of
+returns-in_err-chunks-in-len3 c =
+    let p = err_from_is_err_and c.from_residual.result c.from_residual.ensures.1 in
+    rw (p.1, p.2, three_words c.args.fields.now c.in-len3.len_at_least c.in-len3.len_below, class_of) (first_fails _ _ _ c.in_err-chunks-in-len3.ensures)
+
+pub returns-in_err-hot-in-len3 : goal.returns-in_err-hot-in-len3
+unfolding class_of
+returns-in_err-hot-in-len3 c =
+    let p = err_from_is_err_and c.from_residual-in_err-hot-in-len3.result c.from_residual-in_err-hot-in-len3.ensures.1 in
+    rw (p.1, p.2, three_words c.args.fields.now c.in-len3.len_at_least c.in-len3.len_below, class_of, c.in_ok-chunks-in-len3.ensures) (first_fails _ _ _ c.in_err-hot-in-len3.ensures)

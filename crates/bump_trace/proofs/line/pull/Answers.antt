@@ -1,0 +1,10 @@
+use Rattle.std.proofs.lemmas.Result.{err_from_is_err_and}
+use Rattle.bump_trace.specs.Lines.{pull_of}
+use Rattle.bump_trace.proofs.Fields.{first_fails, two_words}
+use Rattle.bump_trace.proofs.line.pull.Goals as goal
+
+pub returns-in_err-class-in-len2 : goal.returns-in_err-class-in-len2
+unfolding pull_of
+returns-in_err-class-in-len2 c =
+    let p = err_from_is_err_and c.from_residual.result c.from_residual.ensures.1 in
+    rw (p.1, p.2, two_words c.args.fields.now c.in-len2.len_at_least c.in-len2.len_below, pull_of) (first_fails _ _ _ c.in_err-class-in-len2.ensures)

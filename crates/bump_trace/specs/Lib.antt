@@ -1,0 +1,11 @@
+pub mod Words
+pub mod Numbers
+pub mod Lines
+pub mod Text
+pub mod Stages
+pub mod Commands
+pub mod Meaning
+pub mod Views
+pub mod Ready
+pub mod Runs
+pub mod Counts

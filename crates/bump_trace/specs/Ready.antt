@@ -1,0 +1,30 @@
+-- Between two lines of a trace no command is half made.
+use Rattle.std.specs.Prelude.{◌≡◌, true, All, length}
+use Rattle.bump_core.specs.declared.lanes.Lane.TheVariants as lane
+use Rattle.bump_core.specs.declared.workers.Hand.TheVariants as hand
+use Rattle.bump_core.specs.State.{State, WorkerState}
+use Rattle.bump_trace.specs.declared.bench.Bench.{Bench}
+use Rattle.bump_trace.specs.declared.session.Progress.{Progress}
+use Rattle.bump_trace.specs.declared.session.Progress.TheVariants as progress
+
+-- the worker's ring takes bumps, and neither the worker nor its lane has anything in hand
+pub record IsResting (x : WorkerState) : Type 0 where
+  pub open_ring : x.is_open ≡ true
+  pub idle : x.hand ≡ hand.Idle
+  pub empty : x.lane ≡ lane.Empty
+
+abbrev pub IsAtRest : State → Type 0
+IsAtRest s = All IsResting s.workers
+
+-- the numbers kept beside the World are its own, and it is at rest
+pub record IsReady (b : Bench) : Type 0 where
+  pub workers : length b.world.workers ≡ b.workers
+  pub classes : length b.world.classes ≡ b.classes
+  pub capacity : b.world.capacity ≡ b.capacity
+  pub rest : IsAtRest b.world
+
+-- a store that is open is ready
+abbrev pub IsSettled : Progress → Type 0
+IsSettled progress.Before = Unit {0}
+IsSettled (progress.Classes shape classes) = Unit {0}
+IsSettled (progress.Open bench) = IsReady bench

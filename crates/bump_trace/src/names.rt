@@ -1,0 +1,41 @@
+//! The names of items.
+
+ghost use Rattle.std.specs.Prelude.{◌≡◌, None, OnOk, OnErr};
+ghost use Rattle.bump_trace.specs.Stages.{bind};
+
+use bump_core::ItemId;
+use std::alloc::{AllocError, Global};
+use std::collections::BTreeMap;
+
+/// What each name is bound to. A name is a part of the trace itself.
+#[derive(Drop)]
+pub struct Names<'a> {
+    ids: BTreeMap<&'a [u8], ItemId>,
+}
+
+impl<'a> Names<'a> {
+    ghost use Rattle.bump_trace.specs.Views.{names_of};
+
+    pub fn new(alloc: Global) -> Names<'a>
+        ensures { names_of result ≡ (λ name. None) }
+    {
+        Names {
+            ids: BTreeMap::new(alloc),
+        }
+    }
+
+    /// Binds a name, also one that is bound.
+    pub fn bind(&mut self, name: &'a [u8], id: ItemId) -> Result<(), AllocError>
+        ensures { OnOk result (names_of self.new ≡ bind name.entry.now id (names_of self.old)) }
+    {
+        self.ids.insert(name, id)?;
+        Ok(())
+    }
+
+    /// What a name is bound to.
+    pub fn get(&self, name: &'a [u8]) -> Option<ItemId>
+        ensures { result ≡ names_of self.now name.entry.now }
+    {
+        self.ids.get(&name).copied()
+    }
+}

@@ -1,0 +1,63 @@
+//! The words of the command line.
+
+ghost use Rattle.std.specs.Prelude.{◌≡◌, IfOk, map, string_bytes};
+ghost use Rattle.clap.specs.Words.{FailsBy, fault_of, kind_of, rows_of, found_of, matches_of};
+ghost use Rattle.bumpsim.specs.Words.{app, file_of, refusal_of, TakesFile};
+
+use clap::error::ErrorKind;
+use clap::{Arg, ArgAction, ArgMatches, Command, Error};
+use std::alloc::Global;
+
+/// Why the words are not taken.
+#[derive(Clone, Copy, Debug, PartialEq, Eq)]
+pub enum Refusal {
+    Memory,
+
+    /// They are no command of the program.
+    Usage,
+}
+
+fn parsed<'a>(alloc: Global, words: &'a [String]) -> Result<ArgMatches<'a>, Error>
+    ensures kinds { FailsBy (fault_of app (map string_bytes words.entry.now)) result }
+    ensures values { IfOk result (λ m. rows_of (found_of m) ≡ matches_of app (map string_bytes words.entry.now)) }
+{
+    let mode = Arg::new(alloc, "mode")
+        .required(true)
+        .action(ArgAction::Set);
+    let file = Arg::new(alloc, "file")
+        .required(true)
+        .action(ArgAction::Set);
+    let first = Command::new(alloc, "bumpsim").arg(mode)?;
+    let command = first.arg(file)?;
+    command.try_get_matches_from(words)
+}
+
+/// A request for help is a refusal, too.
+fn why_refused(error: &Error) -> Refusal
+    ensures { result ≡ refusal_of (kind_of error.now) }
+{
+    match error.kind() {
+        ErrorKind::OutOfMemory => Refusal::Memory,
+        _ => Refusal::Usage,
+    }
+}
+
+/// The file of `model FILE`, of which the program's own name is the first word. All other words are refused.
+pub fn file<'a>(alloc: Global, words: &'a [String]) -> Result<&'a str, Refusal>
+    ensures { TakesFile (file_of (map string_bytes words.entry.now)) result }
+{
+    let matches = match parsed(alloc, words) {
+        Ok(matches) => matches,
+        Err(error) => return Err(why_refused(&error)),
+    };
+    let Some(mode) = matches.get_str("mode") else {
+        return Err(Refusal::Usage);
+    };
+    if mode != "model" {
+        return Err(Refusal::Usage);
+    }
+    match matches.get_str("file") {
+        Some(file) => Ok(file),
+        None => Err(Refusal::Usage),
+    }
+}
