@@ -11,7 +11,6 @@ use Rattle.bump_core.specs.declared.bumps.Ended.{Ended}
 use Rattle.bump_core.specs.declared.chunks.Chunk.{Chunk}
 use Rattle.bump_core.specs.declared.commands.Command.{Command}
 use Rattle.bump_core.specs.declared.commands.Command.TheVariants as command
-use Rattle.bump_core.specs.declared.commands.Answer.TheVariants as answer
 use Rattle.bump_core.specs.declared.commands.Dropped.{Dropped}
 use Rattle.bump_core.specs.declared.items.ItemId.{ItemId}
 use Rattle.bump_core.specs.declared.lanes.Bump.{Bump}
@@ -158,12 +157,6 @@ held_with s l x e g h =
 
 held_parts : (s : State) (l : ItemId) → is_held s l ≡ true → (is_current s l ≡ true) × (0 < (chunk s l.chunk).holds)
 held_parts s l e = let parts = and_parts _ _ e in (parts.0, ltb-true 0 _ parts.1)
-
-took : (a b c : Bool) → (if not a then answer.NoSuchChunk else (if not b then answer.Stale else (if c then answer.Held else answer.RefsFull))) ≡ answer.Held → (b ≡ true) × (c ≡ true)
-took false b c e = cc
-took true false c e = cc
-took true true false e = cc
-took true true true e = (refl, refl)
 
 held_attempt : (s : State) (w : ℕ) (l : ItemId) (d : Option Dropped) → is_held s l ≡ true → is_held (attempt s w l d) l ≡ true
 held_attempt s w l None e = let parts = held_parts s l e in held_with s l _ parts.0 refl parts.1
