@@ -1,5 +1,5 @@
 -- Loops over numbers from 0 on, and what they print.
-use Rattle.std.proofs.Common.{◌≡◌, ℕ, suc, ◌+◌, ◌-◌, ◌<◌, ◌≤◌, sym, ap, ◌∙◌, List, [], ◌∷◌, ◌++◌, append_assoc, append-nil, add-one, arith}
+use Rattle.std.proofs.Common.{◌≡◌, ℕ, suc, ◌+◌, ◌-◌, ◌<◌, ◌≤◌, sym, ap, ◌∙◌, List, [], ◌∷◌, ◌++◌, append_assoc, add-one, arith}
 use Rattle.std.specs.List.{flat_map}
 use Rattle.bump_core.specs.Lists.{ascending}
 
@@ -19,6 +19,3 @@ pub printed_more : (f : ℕ → List ℕ) (out new all : List ℕ) (c end : ℕ)
 printed_more f out new all c end below put so_far =
     ap (λ l. l ++ flat_map f (ascending (c + 1) (end - (c + 1)))) put ∙ append_assoc out (f c) (flat_map f (ascending (c + 1) (end - (c + 1))))
     ∙ ap (λ l. out ++ flat_map f l) (sym (ascending_more c end below)) ∙ so_far
-
-pub printed_all : (f : ℕ → List ℕ) (out all : List ℕ) (c end : ℕ) → end ≤ c → out ++ flat_map f (ascending c (end - c)) ≡ all → out ≡ all
-printed_all f out all c end past so_far = sym (append-nil out) ∙ ap (λ l. out ++ flat_map f l) (sym (ascending_done c end past)) ∙ so_far

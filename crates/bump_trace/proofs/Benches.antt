@@ -2,8 +2,6 @@
 use Rattle.std.proofs.Common.{◌≡◌, sym, ap, ◌∙◌}
 use Rattle.bump_core.specs.State.{State}
 use Rattle.bump_trace.specs.declared.bench.Bench.{Bench}
-use Rattle.bump_trace.specs.Stages.{BenchState}
-use Rattle.bump_trace.specs.Views.{bench_of}
 
 pub same_rest : (a b d : Bench) (s : State) → a ≡ record b { world = s } → b ≡ record d { world = b.world } → a ≡ record d { world = a.world }
 same_rest a b d s e f =
@@ -11,6 +9,3 @@ same_rest a b d s e f =
 
 pub same_world : (a d : Bench) (s : State) → a ≡ record d { world = a.world } → a.world ≡ s → a ≡ record d { world = s }
 same_world a d s e f = e ∙ ap (λ t. let x : Bench = record d { world = t } in x) f
-
-pub same_view : (a d : Bench) (s : State) → a ≡ record d { world = a.world } → a.world ≡ s → bench_of a ≡ record (bench_of d) { state = s }
-same_view a d s e f = ap bench_of e ∙ ap (λ t. let x : BenchState = record (bench_of d) { state = t } in x) f

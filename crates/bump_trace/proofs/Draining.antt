@@ -44,10 +44,6 @@ all_drained s t text n all h = record {
   same_count = sym (add-zero n) ∙ ap (λ (d : Drained). d.count) h;
 }
 
--- no more bump may be applied
-pub bumps_done : (now w k n : ℕ) (s : State) (text : List ℕ) (all : Drained) → k ≡ 0 → drained_both (so_far s text n) (drained_of now w k s) ≡ all → IsAll s text n all
-bumps_done now w k n s text all e h = all_drained s s text n all (ap (λ i. drained_both (so_far s text n) (drained_of now w i s)) (sym e) ∙ h)
-
 -- there is no more bump
 pub bumps_none : (now w k m n : ℕ) (s t : State) (text : List ℕ) (a : Answer) (all : Drained) → k ≡ suc m
     → a ≡ answer_of s (command.Next w now) → t ≡ command_after s (command.Next w now)

@@ -11,7 +11,6 @@ use Rattle.bump_core.specs.declared.bumps.Ended.{Ended}
 use Rattle.bump_core.specs.declared.chunks.Chunk.{Chunk}
 use Rattle.bump_core.specs.declared.commands.Command.{Command}
 use Rattle.bump_core.specs.declared.commands.Command.TheVariants as command
-use Rattle.bump_core.specs.declared.commands.Answer.TheVariants as answer
 use Rattle.bump_core.specs.declared.commands.Dropped.{Dropped}
 use Rattle.bump_core.specs.declared.items.ItemId.{ItemId}
 use Rattle.bump_core.specs.declared.lanes.Bump.{Bump}
@@ -19,9 +18,9 @@ use Rattle.bump_core.specs.declared.lanes.Outcome.{Outcome}
 use Rattle.bump_core.specs.declared.lanes.Outcome.TheVariants as outcome
 use Rattle.bump_core.specs.declared.places.Segment.{Segment}
 use Rattle.bump_core.specs.declared.places.Tail.{Tail}
-use Rattle.bump_core.specs.Commands.{is_allowed, answer_of, command_after, pull_to, pulled_at, hit, hit_at, attempt, dropped_at, is_exhausted, apply_bump, bumped_lists, outcome_next, ended_at, bump_next, is_half_made, tail_of}
-use Rattle.bump_core.specs.Events.{next_chunk, is_under_limit}
-use Rattle.bump_core.specs.State.{State, ClassState, WorkerState, new_worker, no_chunk, chunk, head, worker, is_class, is_worker, with_chunk, with_class, with_worker, class_of, is_current, is_linked, is_held, has_free_hold, is_open, is_idle, is_on, workers_on, some_and, is_under_application, applies_in}
+use Rattle.bump_core.specs.Commands.{is_allowed, command_after, pull_to, pulled_at, hit, hit_at, attempt, dropped_at, is_exhausted, apply_bump, bumped_lists, outcome_next, ended_at, bump_next, is_half_made, tail_of}
+use Rattle.bump_core.specs.Events.{next_chunk}
+use Rattle.bump_core.specs.State.{State, ClassState, WorkerState, new_worker, no_chunk, chunk, head, worker, is_class, is_worker, with_chunk, with_class, with_worker, class_of, is_current, is_held, has_free_hold, is_open, is_idle, is_on, workers_on, some_and, is_under_application, applies_in}
 use Rattle.bump_core.specs.Tables.{Hit, IsFirst, IsAlready, IsMarked, Attempts, pulled_to}
 use Rattle.bump_core.specs.Totals.{total}
 use Rattle.bump_trace.specs.Ready.{IsResting, IsAtRest}
@@ -124,9 +123,6 @@ link_allowed s k x now r e = no_bar _ _ _ e (none_applied s k r)
 pub pull_allowed : (s : State) (k : ℕ) (t : Tail) → IsAtRest s → is_class s k ≡ true → is_allowed s (command.Pull k t) ≡ true
 pull_allowed s k t r e = no_bar _ _ _ e (none_applied s k r)
 
-pub take_allowed : (s : State) (w : ℕ) (l : ItemId) → IsAtRest s → is_worker s w ≡ true → is_allowed s (command.Take w l) ≡ true
-take_allowed s w l r e = open_at s w r e
-
 touch_bar : (a b c d : Bool) → a ≡ true → b ≡ true → d ≡ true → a && (b && (c || d)) ≡ true
 touch_bar a b c d p q t = rw (p, q, t) (elim c as (λ v. true && (true && (v || true)) ≡ true) [ true ↦ refl | false ↦ refl ])
 
@@ -161,18 +157,6 @@ held_with s l x e g h =
 
 held_parts : (s : State) (l : ItemId) → is_held s l ≡ true → (is_current s l ≡ true) × (0 < (chunk s l.chunk).holds)
 held_parts s l e = let parts = and_parts _ _ e in (parts.0, ltb-true 0 _ parts.1)
-
-took : (a b c : Bool) → (if not a then answer.NoSuchChunk else (if not b then answer.Stale else (if c then answer.Held else answer.RefsFull))) ≡ answer.Held → (b ≡ true) × (c ≡ true)
-took false b c e = cc
-took true false c e = cc
-took true true false e = cc
-took true true true e = (refl, refl)
-
-pub held_after_take : (s : State) (w : ℕ) (l : ItemId) → answer_of s (command.Take w l) ≡ answer.Held → is_held (command_after s (command.Take w l)) l ≡ true
-held_after_take s w l e =
-    let (linked, under) = took _ _ _ e in
-    let taken : is_linked s l && is_under_limit s l.chunk ≡ true = ap₂ (λ a b. a && b) linked under in
-    rw taken (held_with s l _ (and_parts _ _ linked).0 refl (omega arith))
 
 held_attempt : (s : State) (w : ℕ) (l : ItemId) (d : Option Dropped) → is_held s l ≡ true → is_held (attempt s w l d) l ≡ true
 held_attempt s w l None e = let parts = held_parts s l e in held_with s l _ parts.0 refl parts.1

@@ -1,5 +1,5 @@
 -- The text of a run, as it is gathered and written.
-use Rattle.std.proofs.Common.{◌≡◌, ℕ, ◌+◌, true, false, List, [], ◌∷◌, ◌++◌, Option, None, Ok, Err, sym, ap, ◌∙◌, append_assoc, append-nil}
+use Rattle.std.proofs.Common.{◌≡◌, ℕ, ◌+◌, true, List, [], ◌∷◌, ◌++◌, Option, Ok, Err, sym, ap, ◌∙◌, append_assoc}
 use Rattle.std.specs.Io.KnownBytes.{Appends}
 use Rattle.bump_trace.specs.declared.fault.Fault.{Fault}
 use Rattle.bump_trace.specs.Stages.{Stage, say}
@@ -57,8 +57,3 @@ pub runs_stopped : (held mid holds : Option (List ℕ)) (sent old new input line
 runs_stopped held mid holds sent old new input line after n s parts errors.Memory p q e f h = absurd q
 runs_stopped held mid holds sent old new input line after n s parts (errors.Fault fault) p q e f h =
     runs_failed held mid holds sent old new input n fault p q (line_failed n line after (sent ++ old) s parts fault _ e f h)
-
--- the text is whole without one
-pub runs_whole : (held holds : Option (List ℕ)) (sent new input : List ℕ) (n : ℕ) → Appends held holds sent → prepend (sent ++ new) (ended n None) ≡ verdict_of input → RunsInto held holds new input false
-runs_whole held holds sent new input n p h =
-    (sent, p, sym (append-nil (sent ++ new)) ∙ ap (λ (v : Verdict). v.text) h, sym (ap (λ (v : Verdict). v.is_fault) h))

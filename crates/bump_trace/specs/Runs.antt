@@ -1,5 +1,5 @@
 -- What a whole run reads and writes.
-use Rattle.std.specs.Prelude.{◌≡◌, ◌<◌, ◌⊎◌, ⊤, ℕ, Bool, true, false, List, ◌++◌, Option, Result, Ok, Err}
+use Rattle.std.specs.Prelude.{◌≡◌, ◌<◌, ◌⊎◌, ⊤, ℕ, Bool, true, false, List, ◌++◌, length, Option, Result, Ok, Err}
 use Rattle.std.specs.Io.KnownBytes.{Appends, Consumes, Keeps, IsAtEnd}
 use Rattle.bump_trace.specs.Text.{fault_line}
 use Rattle.bump_trace.specs.Meaning.{verdict_of}
@@ -13,11 +13,22 @@ abbrev pub Ran : Option (List ℕ) → Option (List ℕ) → Option (List ℕ) �
 Ran had left held holds is_fault =
     (input : List ℕ) × Consumes had left input × IsAtEnd left × Appends held holds (verdict_of input).text × ((verdict_of input).is_fault ≡ is_fault)
 
+-- more came than a trace may have
+abbrev pub TooManyCame : Option (List ℕ) → Option (List ℕ) → Type 0
+TooManyCame had left = (input : List ℕ) × Consumes had left input × (16777216 < length input)
+
+abbrev pub IsOfSize : Option (List ℕ) → Option (List ℕ) → SimFault → Type 0
+IsOfSize had left faults.Trace = Unit {0}
+IsOfSize had left faults.Read = Unit {0}
+IsOfSize had left faults.Size = TooManyCame had left
+IsOfSize had left faults.Write = Unit {0}
+IsOfSize had left faults.Memory = Unit {0}
+
 -- a fault of the trace is the end of its text; where the trace could not be read, nothing was written
 abbrev pub StoppedBy : Option (List ℕ) → Option (List ℕ) → Option (List ℕ) → Option (List ℕ) → SimFault → Type 0
 StoppedBy had left held holds faults.Trace = Ran had left held holds true
 StoppedBy had left held holds faults.Read = Keeps held holds
-StoppedBy had left held holds faults.Size = Keeps held holds
+StoppedBy had left held holds faults.Size = Keeps held holds × TooManyCame had left
 StoppedBy had left held holds faults.Write = Unit {0}
 StoppedBy had left held holds faults.Memory = Unit {0}
 

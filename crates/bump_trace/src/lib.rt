@@ -1,4 +1,5 @@
-//! The trace language of bump.
+//! The trace language of bump: a trace of commands is read, run line by line on a World, and told as text. What a trace
+//! means stands in `specs/Meaning.antt`; `run_model` is proved to write that text and nothing else.
 #![tactic(auto)]
 
 mod bench;

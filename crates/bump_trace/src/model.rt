@@ -5,7 +5,7 @@ ghost use Rattle.std.specs.Io.KnownBytes.{Appends, Consumes, IsAtEnd};
 ghost use Rattle.bump_trace.specs.declared.model.SimFault.TheVariants.{Memory};
 ghost use Rattle.bump_trace.specs.Text.{fault_line};
 ghost use Rattle.bump_trace.specs.Meaning.{verdict_of};
-ghost use Rattle.bump_trace.specs.Runs.{ModelRuns, FailsAsCounted, IsOfReading, IsOfWriting, Gathers, GathersFault, RunsInto};
+ghost use Rattle.bump_trace.specs.Runs.{ModelRuns, FailsAsCounted, IsOfReading, IsOfSize, IsOfWriting, Gathers, GathersFault, RunsInto};
 
 use crate::counted::{Counted, is_interruption};
 use crate::fault::{Fault, LineError};
@@ -54,6 +54,7 @@ fn read_all<R: Read>(alloc: Global, reader: &mut Counted<R>) -> Result<Vec<u8>, 
     ensures end { OnOk result (IsAtEnd (R.remaining reader.new.inner)) }
     ensures size { IfOk result (λ v. length v.items ≤ 16777216) }
     ensures err { IfErr result (λ e. IsOfReading reader.new.calls reader.new.failed e) }
+    ensures long { IfErr result (λ e. IsOfSize (R.remaining reader.old.inner) (R.remaining reader.new.inner) e) }
 {
     let mut bytes = Vec::new(alloc);
     let mut piece = [0u8; 4096];

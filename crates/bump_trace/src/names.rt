@@ -16,6 +16,7 @@ pub struct Names<'a> {
 impl<'a> Names<'a> {
     ghost use Rattle.bump_trace.specs.Views.{names_of};
 
+    /// No name is bound.
     pub fn new(alloc: Global) -> Names<'a>
         ensures { names_of result ≡ (λ name. None) }
     {

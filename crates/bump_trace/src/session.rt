@@ -74,6 +74,7 @@ impl<'a> Session<'a> {
     ghost use Rattle.bump_trace.specs.Ready.{IsSettled};
     ghost use Rattle.bump_trace.specs.Views.{instruction, stage_of, Does, Opens};
 
+    /// A trace of which no line was run.
     pub fn new() -> Session<'a>
         ensures stage { stage_of result.progress ≡ Before }
         ensures settled { IsSettled result.progress }
@@ -153,6 +154,7 @@ impl<'a> Session<'a> {
         }
     }
 
+    /// Does what a line says.
     #[tactic(auto, unfolding(crate::specs::Meaning::effect))]
     fn apply(
         &mut self,
