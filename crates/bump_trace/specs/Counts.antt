@@ -4,6 +4,17 @@ use Rattle.std.specs.IoError.{error_kind}
 use Rattle.std.specs.declared.io.Error.{Error}
 use Rattle.std.specs.declared.io.ErrorKind.{ErrorKind}
 use Rattle.std.specs.declared.io.ErrorKind.TheVariants.{Interrupted}
+use Rattle.bump_trace.specs.declared.counted.Counted.{Counted}
+
+-- what is counted, how many calls of it were made, and how many of them failed
+abbrev pub inner_of : {T : Type 0} → Counted T → T
+inner_of c = c.inner
+
+abbrev pub calls_of : {T : Type 0} → Counted T → ℕ
+calls_of c = c.calls
+
+abbrev pub failed_of : {T : Type 0} → Counted T → ℕ
+failed_of c = c.failed
 
 abbrev pub is_interrupted : ErrorKind → Bool
 is_interrupted Interrupted = true

@@ -3,6 +3,7 @@
 ghost use Rattle.std.specs.Prelude.{◌≡◌, true, ◌≤◌, [], ◌++◌, List, take, length, IfOk, OnOk, IfErr, ℕ};
 ghost use Rattle.std.specs.Io.KnownBytes.{Appends, Consumes, IsAtEnd};
 ghost use Rattle.bump_trace.specs.declared.model.SimFault.TheVariants.{Memory};
+ghost use Rattle.bump_trace.specs.Counts.{inner_of, calls_of, failed_of};
 ghost use Rattle.bump_trace.specs.Text.{fault_line};
 ghost use Rattle.bump_trace.specs.Meaning.{verdict_of};
 ghost use Rattle.bump_trace.specs.Runs.{ModelRuns, FailsAsCounted, IsOfReading, IsOfSize, IsOfWriting, Gathers, GathersFault, RunsInto};
@@ -49,12 +50,12 @@ const ROOM: usize = 65_536;
 
 /// All that the reader has left. An interrupted read is made again.
 fn read_all<R: Read>(alloc: Global, reader: &mut Counted<R>) -> Result<Vec<u8>, SimFault>
-    requires { (reader.old.calls ≡ 0) × (reader.old.failed ≡ 0) }
-    ensures bytes { IfOk result (λ v. Consumes (R.remaining reader.old.inner) (R.remaining reader.new.inner) v.items) }
-    ensures end { OnOk result (IsAtEnd (R.remaining reader.new.inner)) }
+    requires { (calls_of reader.old ≡ 0) × (failed_of reader.old ≡ 0) }
+    ensures bytes { IfOk result (λ v. Consumes (R.remaining (inner_of reader.old)) (R.remaining (inner_of reader.new)) v.items) }
+    ensures end { OnOk result (IsAtEnd (R.remaining (inner_of reader.new))) }
     ensures size { IfOk result (λ v. length v.items ≤ 16777216) }
-    ensures err { IfErr result (λ e. IsOfReading reader.new.calls reader.new.failed e) }
-    ensures long { IfErr result (λ e. IsOfSize (R.remaining reader.old.inner) (R.remaining reader.new.inner) e) }
+    ensures err { IfErr result (λ e. IsOfReading (calls_of reader.new) (failed_of reader.new) e) }
+    ensures long { IfErr result (λ e. IsOfSize (R.remaining (inner_of reader.old)) (R.remaining (inner_of reader.new)) e) }
 {
     let mut bytes = Vec::new(alloc);
     let mut piece = [0u8; 4096];
@@ -79,8 +80,8 @@ fn read_all<R: Read>(alloc: Global, reader: &mut Counted<R>) -> Result<Vec<u8>, 
 
 /// Writes all of the bytes.
 fn write_whole<W: Write>(writer: &mut Counted<W>, bytes: &[u8]) -> Result<(), SimFault>
-    ensures ok { OnOk result (Appends (W.contents writer.old.inner) (W.contents writer.new.inner) bytes.now) }
-    ensures err { IfErr result (λ e. IsOfWriting writer.new.failed e) }
+    ensures ok { OnOk result (Appends (W.contents (inner_of writer.old)) (W.contents (inner_of writer.new)) bytes.now) }
+    ensures err { IfErr result (λ e. IsOfWriting (failed_of writer.new) e) }
 {
     let mut rest = bytes;
     while !rest.is_empty() {
@@ -95,9 +96,9 @@ fn write_whole<W: Write>(writer: &mut Counted<W>, bytes: &[u8]) -> Result<(), Si
 
 /// Writes what was gathered.
 fn flush<W: Write>(writer: &mut Counted<W>, gathered: &mut Vec<u8>) -> Result<(), SimFault>
-    ensures ok { OnOk result (Appends (W.contents writer.old.inner) (W.contents writer.new.inner) gathered.old.items) }
+    ensures ok { OnOk result (Appends (W.contents (inner_of writer.old)) (W.contents (inner_of writer.new)) gathered.old.items) }
     ensures none { OnOk result (gathered.new.items ≡ []) }
-    ensures err { IfErr result (λ e. IsOfWriting writer.new.failed e) }
+    ensures err { IfErr result (λ e. IsOfWriting (failed_of writer.new) e) }
 {
     write_whole(writer, gathered)?;
     gathered.clear();
@@ -110,8 +111,8 @@ fn gather<W: Write>(
     gathered: &mut Vec<u8>,
     text: &[u8],
 ) -> Result<(), SimFault>
-    ensures ok { OnOk result (Gathers (W.contents writer.old.inner) (W.contents writer.new.inner) gathered.old.items gathered.new.items text.now) }
-    ensures err { IfErr result (λ e. IsOfWriting writer.new.failed e) }
+    ensures ok { OnOk result (Gathers (W.contents (inner_of writer.old)) (W.contents (inner_of writer.new)) gathered.old.items gathered.new.items text.now) }
+    ensures err { IfErr result (λ e. IsOfWriting (failed_of writer.new) e) }
 {
     if text.len() <= ROOM.saturating_sub(gathered.len()) {
         gathered.extend_from_slice(text)?;
@@ -134,8 +135,8 @@ fn gather_fault<W: Write>(
     number: u64,
     fault: Fault,
 ) -> Result<(), SimFault>
-    ensures ok { OnOk result (Gathers (W.contents writer.old.inner) (W.contents writer.new.inner) gathered.old.items gathered.new.items (fault_line number fault)) }
-    ensures err { IfErr result (λ e. IsOfWriting writer.new.failed e) }
+    ensures ok { OnOk result (Gathers (W.contents (inner_of writer.old)) (W.contents (inner_of writer.new)) gathered.old.items gathered.new.items (fault_line number fault)) }
+    ensures err { IfErr result (λ e. IsOfWriting (failed_of writer.new) e) }
 {
     text.clear();
     put_fault(text, number, fault)?;
@@ -150,8 +151,8 @@ fn stop<W: Write>(
     number: u64,
     error: LineError,
 ) -> Result<(), SimFault>
-    ensures ok { OnOk result (GathersFault (W.contents writer.old.inner) (W.contents writer.new.inner) gathered.old.items gathered.new.items number error) }
-    ensures err { IfErr result (λ e. IsOfWriting writer.new.failed e) }
+    ensures ok { OnOk result (GathersFault (W.contents (inner_of writer.old)) (W.contents (inner_of writer.new)) gathered.old.items gathered.new.items number error) }
+    ensures err { IfErr result (λ e. IsOfWriting (failed_of writer.new) e) }
 {
     match error {
         LineError::Memory => Err(SimFault::Memory),
@@ -168,8 +169,8 @@ fn run_lines<W: Write>(
 ) -> Result<bool, SimFault>
     requires size { length input.now ≤ 16777216 }
     requires empty { gathered.old.items ≡ [] }
-    ensures err { IfErr result (λ e. IsOfWriting writer.new.failed e) }
-    ensures text { IfOk result (λ is_fault. RunsInto (W.contents writer.old.inner) (W.contents writer.new.inner) gathered.new.items input.now is_fault) }
+    ensures err { IfErr result (λ e. IsOfWriting (failed_of writer.new) e) }
+    ensures text { IfOk result (λ is_fault. RunsInto (W.contents (inner_of writer.old)) (W.contents (inner_of writer.new)) gathered.new.items input.now is_fault) }
 {
     let mut session = Session::new();
     let mut text = Vec::new(alloc);
@@ -204,8 +205,8 @@ fn run_input<W: Write>(
     writer: &mut Counted<W>,
 ) -> Result<bool, SimFault>
     requires { length input.now ≤ 16777216 }
-    ensures err { IfErr result (λ e. IsOfWriting writer.new.failed e) }
-    ensures text { IfOk result (λ is_fault. RunsInto (W.contents writer.old.inner) (W.contents writer.new.inner) [] input.now is_fault) }
+    ensures err { IfErr result (λ e. IsOfWriting (failed_of writer.new) e) }
+    ensures text { IfOk result (λ is_fault. RunsInto (W.contents (inner_of writer.old)) (W.contents (inner_of writer.new)) [] input.now is_fault) }
 {
     let mut gathered = Vec::with_capacity(alloc, ROOM)?;
     match run_lines(alloc, input, writer, &mut gathered) {
@@ -227,10 +228,10 @@ pub fn run_model<R: Read, W: Write>(
     reader: &mut Counted<R>,
     writer: &mut Counted<W>,
 ) -> Result<(), SimFault>
-    requires reader { (reader.old.calls ≡ 0) × (reader.old.failed ≡ 0) }
-    requires writer { (writer.old.calls ≡ 0) × (writer.old.failed ≡ 0) }
-    ensures failed { IfErr result (λ e. FailsAsCounted reader.new.calls reader.new.failed writer.new.failed e) }
-    ensures text { ModelRuns (R.remaining reader.old.inner) (R.remaining reader.new.inner) (W.contents writer.old.inner) (W.contents writer.new.inner) result }
+    requires reader { (calls_of reader.old ≡ 0) × (failed_of reader.old ≡ 0) }
+    requires writer { (calls_of writer.old ≡ 0) × (failed_of writer.old ≡ 0) }
+    ensures failed { IfErr result (λ e. FailsAsCounted (calls_of reader.new) (failed_of reader.new) (failed_of writer.new) e) }
+    ensures text { ModelRuns (R.remaining (inner_of reader.old)) (R.remaining (inner_of reader.new)) (W.contents (inner_of writer.old)) (W.contents (inner_of writer.new)) result }
 {
     let input = read_all(alloc, reader)?;
     let is_fault = run_input(alloc, &input, writer)?;
