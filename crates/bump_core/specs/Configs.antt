@@ -15,8 +15,8 @@ abbrev pub chunks_of : List ClassConfig → ℕ
 chunks_of classes = total (λ k. k.chunks) classes
 
 -- a class has no chunks, or all together have too many
-abbrev pub has_wrong_chunks_lem : List ClassConfig → Bool
-has_wrong_chunks_lem classes = list_any (λ k. k.chunks == 0) classes || nat_lt 1000000 (chunks_of classes)
+abbrev pub have_wrong_chunks : List ClassConfig → Bool
+have_wrong_chunks classes = list_any (λ k. k.chunks == 0) classes || nat_lt 1000000 (chunks_of classes)
 
 -- whether a configuration has this fault
 abbrev pub has_fault : ℕ → ℕ → ℕ → ℕ → List ClassConfig → ConfigFault → Bool
@@ -25,7 +25,7 @@ has_fault workers capacity limit generation classes Capacity = not (is_within 1 
 has_fault workers capacity limit generation classes RefsLimit = not (is_within 2 65535 limit)
 has_fault workers capacity limit generation classes Generation = generation == 0
 has_fault workers capacity limit generation classes Classes = not (is_within 1 16 (length classes))
-has_fault workers capacity limit generation classes Chunks = has_wrong_chunks_lem classes
+has_fault workers capacity limit generation classes Chunks = have_wrong_chunks classes
 
 -- the first fault that holds, in the order in which they are looked for
 abbrev pub first_fault : ℕ → ℕ → ℕ → ℕ → List ClassConfig → Option ConfigFault

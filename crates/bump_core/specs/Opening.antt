@@ -22,11 +22,15 @@ classes_from first [] = []
 classes_from first (k ∷ ks) = new_class first k ∷ classes_from (first + k.chunks) ks
 
 -- All chunks are fresh, with the generation before the first one; no worker has done anything.
-abbrev pub new_state : Config → State
-new_state config = record {
-  refs_limit = config.refs_limit;
-  capacity = config.capacity;
-  chunks = replicate (chunks_of config.classes) (fresh_chunk (config.first_generation - 1));
-  classes = classes_from 0 config.classes;
-  workers = replicate config.workers new_worker;
+abbrev pub opening_state : ℕ → ℕ → ℕ → ℕ → List ClassConfig → State
+opening_state workers capacity limit generation classes = record {
+  refs_limit = limit;
+  capacity = capacity;
+  chunks = replicate (chunks_of classes) (fresh_chunk (generation - 1));
+  classes = classes_from 0 classes;
+  workers = replicate workers new_worker;
 }
+
+-- the state of a configuration
+abbrev pub new_state : Config → State
+new_state config = opening_state config.workers config.capacity config.refs_limit config.first_generation config.classes

@@ -1,7 +1,7 @@
 //! What a store is made from, and which configurations are refused.
 ghost use Rattle.std.specs.Prelude.{◌≡◌, IsTrue, IfOk, is_none};
 ghost use Rattle.std.specs.Result.{result_err};
-ghost use Rattle.bump_core.specs.Configs.{first_fault, has_wrong_chunks_lem};
+ghost use Rattle.bump_core.specs.Configs.{first_fault, have_wrong_chunks};
 
 use std::marker::Model;
 
@@ -99,7 +99,7 @@ impl Classes {
 
 /// Whether a class has no chunks, or all have more than 1,000,000 together.
 fn has_wrong_chunks(classes: &[ClassConfig]) -> bool
-    ensures { result ≡ has_wrong_chunks_lem classes.now }
+    ensures { result ≡ have_wrong_chunks classes.now }
 {
     let mut left = MAX_CHUNKS;
     for class in classes {

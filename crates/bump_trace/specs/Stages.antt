@@ -1,13 +1,13 @@
 -- How far a trace is: before `store`, among the lines that say what the store is, or with an open store.
-use Rattle.std.specs.Prelude.{ℕ, ◌-◌, Bool, not, ◌==◌, List, [], ◌∷◌, ◌++◌, length, Option, Some, None, Result, Ok, Err, find, option_map, replicate, if◌then◌else◌}
+use Rattle.std.specs.Prelude.{ℕ, Bool, not, ◌==◌, List, [], ◌∷◌, ◌++◌, length, Option, Some, None, Result, Ok, Err, find, option_map, if◌then◌else◌}
 use Rattle.std.specs.Str.{bytes_eq}
 use Rattle.bump_core.specs.declared.configs.ClassConfig.{ClassConfig}
 use Rattle.bump_core.specs.declared.configs.ConfigFault.{ConfigFault}
 use Rattle.bump_core.specs.declared.configs.ConfigFault.TheVariants as config
 use Rattle.bump_core.specs.declared.items.ItemId.{ItemId}
-use Rattle.bump_core.specs.Configs.{has_fault, chunks_of}
-use Rattle.bump_core.specs.Opening.{fresh_chunk, classes_from}
-use Rattle.bump_core.specs.State.{State, new_worker}
+use Rattle.bump_core.specs.Configs.{has_fault}
+use Rattle.bump_core.specs.Opening.{opening_state}
+use Rattle.bump_core.specs.State.{State}
 use Rattle.bump_trace.specs.declared.fault.Fault.{Fault}
 use Rattle.bump_trace.specs.declared.fault.Fault.TheVariants as fault
 use Rattle.bump_trace.specs.declared.line.Shape.{Shape}
@@ -61,13 +61,7 @@ config_fault shape classes =
 -- a store of this shape in which nothing was done
 abbrev pub new_bench : Shape → List ClassConfig → BenchState
 new_bench shape classes = record {
-  state = record {
-    refs_limit = shape.refs_limit;
-    capacity = shape.capacity;
-    chunks = replicate (chunks_of classes) (fresh_chunk (shape.first_generation - 1));
-    classes = classes_from 0 classes;
-    workers = replicate shape.workers new_worker;
-  };
+  state = opening_state shape.workers shape.capacity shape.refs_limit shape.first_generation classes;
   names = λ name. None;
 }
 
