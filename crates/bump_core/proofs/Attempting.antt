@@ -9,7 +9,8 @@ use Rattle.bump_core.specs.declared.events.Event.TheVariants as event
 use Rattle.bump_core.specs.Lives.{life, one_if, count_of}
 use Rattle.bump_core.specs.Rings.{in_ring, attempts_of, IsWorker}
 use Rattle.bump_core.specs.State.{State, WorkerState, head, worker, with_head, with_worker, is_on, is_open, is_worker, some_and, tried_life, life_in_hand, cleared_life}
-use Rattle.bump_core.specs.Events.{one_more, one_fewer, cleared_head, is_under_limit, waiting, is_enabled, after, reserve, drop_refs, drop_busy, push, drop_full, unmark}
+use Rattle.bump_core.specs.Heads.{one_more, one_fewer, cleared_head}
+use Rattle.bump_core.specs.Events.{is_under_limit, waiting, is_enabled, after, reserve, drop_refs, drop_busy, push, drop_full, unmark}
 use Rattle.bump_core.specs.Worlds.{in_hand_of, bumps_of, references, first_hits_of, place, IsLawful}
 use Rattle.bump_core.proofs.Laws.{relawful, referred}
 use Rattle.bump_core.proofs.Ring.{in_ring_push}

@@ -14,7 +14,8 @@ use Rattle.bump_core.specs.Lives.{life, one_if, count_of}
 use Rattle.bump_core.specs.Totals.{total}
 use Rattle.bump_core.specs.Rings.{IsWorker}
 use Rattle.bump_core.specs.State.{State, WorkerState, chunk, head, worker, no_chunk, new_worker, with_chunk, with_head, with_worker, class_of, is_on, workers_on, applied_life}
-use Rattle.bump_core.specs.Events.{one_fewer, with_time, with_label}
+use Rattle.bump_core.specs.Heads.{one_fewer}
+use Rattle.bump_core.specs.Events.{with_time, with_label}
 use Rattle.bump_core.specs.Worlds.{holds_of, bumps_of, references, first_hits_of, place, Tiles, WaitsToMove, IsLawful}
 use Rattle.bump_core.proofs.Laws.{relawful, marked, unreferred}
 use Rattle.bump_core.proofs.Facts.{held_by, one_if_elsewhere, one_if_at, one_if_not_at}

@@ -16,7 +16,8 @@ use Rattle.bump_core.specs.Lives.{life, one_if, count_of}
 use Rattle.bump_core.specs.Tables.{is_cold}
 use Rattle.bump_core.specs.Rings.{in_ring, aboard, bump_applied, IsWorker}
 use Rattle.bump_core.specs.State.{State, WorkerState, chunk, head, worker, class_of, with_head, is_worker, some_and, applied_life, is_under_application}
-use Rattle.bump_core.specs.Events.{with_time, cleared_head, next_bump, bump_of, carried, tried, applied_now, is_empty, lane_chunk, lane_outcome, is_enabled, after, take_bump, with_lane, clear_for, applied_bump, alight}
+use Rattle.bump_core.specs.Heads.{cleared_head}
+use Rattle.bump_core.specs.Events.{with_time, next_bump, bump_of, carried, tried, applied_now, is_empty, lane_chunk, lane_outcome, is_enabled, after, take_bump, with_lane, clear_for, applied_bump, alight}
 use Rattle.bump_core.specs.Worlds.{aboard_of, WaitsToMove, IsLawful}
 use Rattle.bump_core.proofs.Ring.{lane_further, next_in_ring, numbered_append}
 use Rattle.bump_core.proofs.Facts.{linked_in_range, aboard_in_range, aboard_current, applied_aboard}

@@ -23,7 +23,8 @@ use Rattle.bump_core.specs.Lives.{count_of}
 use Rattle.bump_core.specs.Tables.{is_cold}
 use Rattle.bump_core.specs.State.{State, ClassState, WorkerState, chunk, head, class, worker, no_chunk, class_with_change, is_worker, with_worker, with_change, class_from, class_of, some_and, applies_in, is_under_application}
 use Rattle.bump_core.specs.Worlds.{references, aboard_of, IsLawful, NothingUnlinked}
-use Rattle.bump_core.specs.Events.{one_fewer, cleared_head, moved_head, next_bump, carried, tried, applied_now, cleared_active, is_empty, outcome_at, lane_outcome, with_time, bump_of, take_bump, with_lane, clear_for, move_for, applied_bump, alight}
+use Rattle.bump_core.specs.Heads.{one_fewer, cleared_head, moved_head}
+use Rattle.bump_core.specs.Events.{next_bump, carried, tried, applied_now, cleared_active, is_empty, outcome_at, lane_outcome, with_time, bump_of, take_bump, with_lane, clear_for, move_for, applied_bump, alight}
 use Rattle.bump_core.specs.Runs.{run_of}
 use Rattle.bump_core.specs.Commands.{is_allowed, events_of, command_after, bump_next, is_half_made, outcome_next, ended_at, bumped_chunk, bumped_worker, bumped_lists, apply_bump, take_events, apply_events}
 use Rattle.bump_core.proofs.Kept.{referred_linked}

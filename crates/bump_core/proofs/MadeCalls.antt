@@ -18,7 +18,8 @@ use Rattle.bump_core.specs.Lives.{life}
 use Rattle.bump_core.specs.Tables.{pulled_of, pulled_to, segment_of}
 use Rattle.bump_core.specs.State.{State, chunk, head, no_chunk, is_chunk, is_class, with_chunk, with_head, with_change, class_of, is_linked, some_and, is_under_application}
 use Rattle.bump_core.specs.Worlds.{IsLawful}
-use Rattle.bump_core.specs.Events.{is_enabled, after, is_under_limit, is_class_at_rest, may_move, cleared_head, moved_head, next_chunk, next_life, with_hold, with_label, with_time, link}
+use Rattle.bump_core.specs.Heads.{cleared_head, moved_head}
+use Rattle.bump_core.specs.Events.{is_enabled, after, is_under_limit, is_class_at_rest, may_move, next_chunk, next_life, with_hold, with_label, with_time, link}
 use Rattle.bump_core.specs.Runs.{run_of}
 use Rattle.bump_core.specs.Commands.{is_allowed, events_of, command_after, tail_of, is_over, pulled_at, pull_to, pull, move_events, link_labelled}
 use Rattle.bump_core.proofs.Fronts.{next_front, last_linked}

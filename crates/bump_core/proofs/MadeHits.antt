@@ -17,7 +17,8 @@ use Rattle.bump_core.specs.Tables.{IsFirst, IsAlready, IsMarked, Attempts, is_co
 use Rattle.bump_core.specs.State.{State, ClassState, WorkerState, chunk, head, worker, no_chunk, is_chunk, is_worker, with_chunk, with_head, with_worker, is_current, is_held, has_free_hold, is_open, workers_on, tried_life, life_in_hand, cleared_life, is_idle, some_and}
 use Rattle.bump_core.specs.Worlds.{IsLawful}
 use Rattle.bump_core.specs.Rings.{most_attempts}
-use Rattle.bump_core.specs.Events.{is_enabled, after, may_hit, is_under_limit, waiting, one_more, one_fewer, active_head, cleared_head, reserve, drop_refs, push, drop_full, unmark, mark}
+use Rattle.bump_core.specs.Heads.{one_more, one_fewer, active_head, cleared_head}
+use Rattle.bump_core.specs.Events.{is_enabled, after, may_hit, is_under_limit, waiting, reserve, drop_refs, push, drop_full, unmark, mark}
 use Rattle.bump_core.specs.Runs.{run_of}
 use Rattle.bump_core.specs.Commands.{is_allowed, events_of, command_after, hit_at, dropped_at, attempt, hit, is_exhausted, hit_events, attempt_events}
 use Rattle.bump_core.proofs.Enabled.{idle_from}

@@ -24,7 +24,8 @@ use Rattle.bump_core.specs.Lists.{to_front, opening}
 use Rattle.bump_core.specs.Rings.{aboard}
 use Rattle.bump_core.specs.State.{State, ClassState, chunk, head, class, worker, no_chunk, no_class, new_worker, with_head, with_change, class_with_change, class_of, applied_life}
 use Rattle.bump_core.specs.Worlds.{Tiles, IsLawful, IsClass, AreOf, WaitsToMove, owns, place, place_in, references, first_hits_of, holds_of, bumps_of, aboard_of}
-use Rattle.bump_core.specs.Events.{is_enabled, after, next_chunk, next_life, link, move_for, moved_head, with_lane, cleared_active}
+use Rattle.bump_core.specs.Heads.{moved_head}
+use Rattle.bump_core.specs.Events.{is_enabled, after, next_chunk, next_life, link, move_for, with_lane, cleared_active}
 use Rattle.bump_core.proofs.Replay.{replay_push, standing_push, are_of_push}
 use Rattle.bump_core.proofs.Tiles.{class_kept, tiles_kept, class_within, class_owns, owner, owned_in_range}
 use Rattle.bump_core.proofs.Fronts.{next_front}

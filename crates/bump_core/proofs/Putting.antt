@@ -3,7 +3,8 @@ use Rattle.std.proofs.Common.{◌≡◌, ℕ, true, false, not, ◌&&◌, refl, 
 use Rattle.std.proofs.lemmas.Bool.{and_parts}
 use Rattle.bump_core.specs.declared.events.Event.TheVariants as event
 use Rattle.bump_core.specs.State.{State, head, class_of, is_chunk, is_under_application, with_head}
-use Rattle.bump_core.specs.Events.{cleared_head, next_chunk, is_enabled, after, with_time, with_label}
+use Rattle.bump_core.specs.Heads.{cleared_head}
+use Rattle.bump_core.specs.Events.{next_chunk, is_enabled, after, with_time, with_label}
 use Rattle.bump_core.specs.Worlds.{references, first_hits_of, place, IsLawful}
 use Rattle.bump_core.proofs.Laws.{marked}
 use Rattle.bump_core.proofs.Enabled.{next_from, lawful_by_some, chunk_from}

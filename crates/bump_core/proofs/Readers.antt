@@ -13,7 +13,8 @@ use Rattle.bump_core.specs.Lives.{life, one_if}
 use Rattle.bump_core.specs.Rings.{most_attempts, IsWorker, attempts_of}
 use Rattle.bump_core.specs.Tables.{is_cold}
 use Rattle.bump_core.specs.State.{State, WorkerState, chunk, head, worker, with_chunk, with_head, with_worker, workers_on, is_current, is_linked, is_open}
-use Rattle.bump_core.specs.Events.{one_more, one_fewer, fetched_head, active_head, is_under_limit, may_hit, is_enabled, after, with_hold, without_hold, fetch, mark}
+use Rattle.bump_core.specs.Heads.{one_more, one_fewer, fetched_head, active_head}
+use Rattle.bump_core.specs.Events.{is_under_limit, may_hit, is_enabled, after, with_hold, without_hold, fetch, mark}
 use Rattle.bump_core.specs.Worlds.{holds_of, in_hand_of, references, first_hits_of, place, IsLawful}
 use Rattle.bump_core.proofs.Laws.{used_where_linked, relawful, referred, unreferred, named_first, fetched_again, marked}
 use Rattle.bump_core.proofs.Updates.{count_push}

@@ -14,7 +14,8 @@ use Rattle.bump_core.specs.declared.lanes.Bump.{Bump}
 use Rattle.bump_core.specs.declared.places.Place.TheVariants.{Unused}
 use Rattle.bump_core.specs.declared.places.Segment.{Segment}
 use Rattle.bump_core.specs.declared.places.Segment.TheVariants as segment
-use Rattle.bump_core.specs.Events.{is_enabled, after, next_chunk, next_life, next_bump, carried, tried, applied_now, cleared_active, lane_outcome, moved_head, one_more, one_fewer, fetched_head, active_head, cleared_head, waiting, reserve, drop_refs, drop_busy, push, drop_full, unmark, with_label, with_time, link, take_bump, clear_for, move_for, alight}
+use Rattle.bump_core.specs.Heads.{moved_head, one_more, one_fewer, fetched_head, active_head, cleared_head}
+use Rattle.bump_core.specs.Events.{is_enabled, after, next_chunk, next_life, next_bump, carried, tried, applied_now, cleared_active, lane_outcome, waiting, reserve, drop_refs, drop_busy, push, drop_full, unmark, with_label, with_time, link, take_bump, clear_for, move_for, alight}
 use Rattle.bump_core.specs.Headline.{LabelsStay, ClosedStay}
 use Rattle.bump_core.specs.History.{subject}
 use Rattle.bump_core.specs.Lawful.{IsUsed, newborn}

@@ -1,6 +1,7 @@
 -- Events: when each is enabled, the state after it, and its reply.
 use Rattle.std.specs.Prelude.{ℕ, ◌+◌, ◌-◌, Bool, true, false, not, ◌&&◌, nat_lt, [], ◌∷◌, ◌++◌, length, slice_get, Option, None, Some, if◌then◌else◌}
 use Rattle.std.specs.Option.{option_map_or}
+use Rattle.bump_core.specs.Heads.{one_more, one_fewer, fetched_head, active_head, cleared_head, moved_head}
 use Rattle.bump_core.specs.declared.places.Segment.{Segment}
 use Rattle.bump_core.specs.declared.places.Segment.TheVariants as segment
 use Rattle.bump_core.specs.declared.items.ItemId.{ItemId}
@@ -23,25 +24,6 @@ use Rattle.bump_core.specs.Lives.{life}
 use Rattle.bump_core.specs.Tables.{is_cold}
 use Rattle.bump_core.specs.Rings.{most_attempts}
 use Rattle.bump_core.specs.State.{State, WorkerState, chunk, head, class, worker, is_chunk, is_class, is_worker, with_chunk, with_head, with_worker, with_change, class_of, is_linked, is_held, has_free_hold, is_open, tried_life, life_in_hand, cleared_life, is_idle, some_and, is_under_application, first_of}
-
--- The changes of a head.
-abbrev pub one_more : Head → Head
-one_more h = record h { refs = h.refs + 1 }
-
-abbrev pub one_fewer : Head → Head
-one_fewer h = record h { refs = h.refs - 1 }
-
-abbrev pub fetched_head : Head → Head
-fetched_head h = record h { fetched = true }
-
-abbrev pub active_head : Head → Head
-active_head h = record h { active = true }
-
-abbrev pub cleared_head : Head → Head
-cleared_head h = record h { active = false }
-
-abbrev pub moved_head : Segment → Head → Head
-moved_head to h = record h { segment = to }
 
 -- the count is under the limit
 abbrev pub is_under_limit : State → ℕ → Bool

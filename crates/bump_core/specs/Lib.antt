@@ -3,6 +3,7 @@ pub mod Configs
 pub mod Entries
 pub mod Events
 pub mod Headline
+pub mod Heads
 pub mod History
 pub mod Lawful
 pub mod Lists

@@ -11,6 +11,7 @@ ghost use Rattle.bump_core.specs.declared.places.Segment.TheVariants.{Hot, Warm,
 ghost use Rattle.bump_word.specs.Layout.{segment_first, generation_first, generation_width};
 ghost use Rattle.bump_word.specs.Words.{Spells, number_of, word_of, segment_bits, segment_change};
 ghost use Rattle.bump_word.specs.Steps.{Changes, Tests, Reads};
+ghost use Rattle.bump_core.specs.Heads.{one_more as with_one_more, one_fewer, fetched_head, active_head, cleared_head, moved_head};
 ghost use Rattle.bump_core.specs.Lawful.{newborn};
 
 use crate::layout::{ACTIVE, FETCHED, GENERATION_AT, LINKED, REFS_AT, REFS_MAX, SEGMENT_AT};
@@ -38,38 +39,38 @@ pub const ONE_GENERATION: u64 = 1 << GENERATION_AT.first;
 /// that they saw for the next number: where another word is found, nothing changes.
 pub fn one_more()
     ensures exchanged { (n old : ℕ) (h : TheHead) → Spells n h → n ≡ old → h.refs < REFS_MAX →
-        Spells (either (n == old) (old + ONE_REFERENCE) n) (record h { refs = h.refs + 1 }) }
+        Spells (either (n == old) (old + ONE_REFERENCE) n) (with_one_more h) }
     ensures refused { (n old : ℕ) (h : TheHead) → Spells n h → n ≢ old →
         Spells (either (n == old) (old + ONE_REFERENCE) n) h }
 
     // What the code computes before it exchanges; by `one_head` it is below 2 ^ 64.
     ensures next { Changes (λ n. n + ONE_REFERENCE)
-        (λ h. h.refs < REFS_MAX) (λ h. record h { refs = h.refs + 1 }) }
+        (λ h. h.refs < REFS_MAX) with_one_more }
     ensures added { Changes (λ n. (n + ONE_REFERENCE) % 2 ^ 64)
-        (λ h. h.refs < REFS_MAX) (λ h. record h { refs = h.refs + 1 }) }
+        (λ h. h.refs < REFS_MAX) with_one_more }
 {}
 
 /// A reference is given back by a subtraction; the count must be at least 1. This is the step of a holder that is done
 /// or whose bump found no room, and of a lane that drops the reference of a bump that it has applied.
 pub fn one_less()
     ensures { Changes (λ n. (n + (2 ^ 64 - ONE_REFERENCE)) % 2 ^ 64)
-        (λ h. 0 < h.refs) (λ h. record h { refs = h.refs - 1 }) }
+        (λ h. 0 < h.refs) one_fewer }
 {}
 
 /// A first hit sets FETCHED (memcached's `ITEM_FETCHED`) by an or.
 pub fn set_fetched()
-    ensures { Changes (λ n. bit_or n FETCHED) (λ _. ⊤) (λ h. record h { fetched = true }) }
+    ensures { Changes (λ n. bit_or n FETCHED) (λ _. ⊤) fetched_head }
 {}
 
 /// A further hit sets ACTIVE (memcached's `ITEM_ACTIVE`) by an or.
 pub fn set_active()
-    ensures { Changes (λ n. bit_or n ACTIVE) (λ _. ⊤) (λ h. record h { active = true }) }
+    ensures { Changes (λ n. bit_or n ACTIVE) (λ _. ⊤) active_head }
 {}
 
 /// ACTIVE is cleared by an and. This is the step of a holder whose bump was dropped, and the one that is made under the
 /// class's lock before an item is moved.
 pub fn clear_active()
-    ensures { Changes (λ n. bit_and n ALL_BUT_ACTIVE) (λ _. ⊤) (λ h. record h { active = false }) }
+    ensures { Changes (λ n. bit_and n ALL_BUT_ACTIVE) (λ _. ⊤) cleared_head }
 {}
 
 /// A life ends: one subtraction clears LINKED and gives back the reference for being linked. The item must be linked,
@@ -86,7 +87,7 @@ pub fn unlink()
 pub fn change_segment()
     ensures { (a b : TheSegment) →
         Changes (λ n. bit_xor n (segment_change a b))
-        (λ h. h.segment ≡ a) (λ h. record h { segment = b }) }
+        (λ h. h.segment ≡ a) (moved_head b) }
 {}
 
 /// The same exclusive or, made twice, leaves every number as it was.

@@ -1,0 +1,25 @@
+-- What one atomic step changes of a head. The events of the World and the laws of the head word both cite these.
+use Rattle.std.specs.Prelude.{ℕ, ◌+◌, ◌-◌, true, false}
+use Rattle.bump_core.specs.declared.places.Segment.{Segment}
+use Rattle.bump_core.specs.declared.items.Head.{Head}
+
+-- a reference more, or fewer
+abbrev pub one_more : Head → Head
+one_more h = record h { refs = h.refs + 1 }
+
+abbrev pub one_fewer : Head → Head
+one_fewer h = record h { refs = h.refs - 1 }
+
+-- FETCHED set; ACTIVE set, or cleared
+abbrev pub fetched_head : Head → Head
+fetched_head h = record h { fetched = true }
+
+abbrev pub active_head : Head → Head
+active_head h = record h { active = true }
+
+abbrev pub cleared_head : Head → Head
+cleared_head h = record h { active = false }
+
+-- the segment bits of another segment
+abbrev pub moved_head : Segment → Head → Head
+moved_head to h = record h { segment = to }
