@@ -4,9 +4,9 @@ use Rattle.bump_core.specs.declared.places.Segment.TheVariants.{Warm, Cold}
 use Rattle.bump_core.specs.declared.history.Cause.TheVariants.{Bump}
 use Rattle.bump_core.specs.declared.history.Change.{Change}
 use Rattle.bump_core.specs.declared.history.Change.TheVariants as change
-use Rattle.bump_core.specs.declared.lanes.AppliedBump.{AppliedBump}
-use Rattle.bump_core.specs.declared.lanes.Outcome.{Outcome}
-use Rattle.bump_core.specs.declared.lanes.Outcome.TheVariants as outcome
+use Rattle.bump_core.specs.declared.bumps.AppliedBump.{AppliedBump}
+use Rattle.bump_core.specs.declared.bumps.Outcome.{Outcome}
+use Rattle.bump_core.specs.declared.bumps.Outcome.TheVariants as outcome
 
 -- What an entry of lane w says, over the history of its item's class. Moved: the item was moved for this very bump. Gone: the
 -- item was unlinked. TimeOnly: the lane saw that it had nothing to move, which is told by seen, a fact of the lane's own steps.

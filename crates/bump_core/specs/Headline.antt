@@ -1,6 +1,6 @@
 -- What a World promises of its rings, its accounts, its free chunks and its lists, in the words of the headline.
 use Rattle.std.specs.Prelude.{◌≡◌, ℕ, ◌+◌, ◌<◌, true, false, List, ◌++◌, length, map}
-use Rattle.bump_core.specs.declared.lanes.Bump.{Bump}
+use Rattle.bump_core.specs.declared.bumps.Bump.{Bump}
 use Rattle.bump_core.specs.Lawful.{IsUsed}
 use Rattle.bump_core.specs.Lists.{Lists, times}
 use Rattle.bump_core.specs.Rings.{bump_applied, numbered_from, attempts_of}

@@ -1,12 +1,12 @@
 -- What a lawful worker is: its ring, its lane and its accounts.
 use Rattle.std.specs.Prelude.{◌≡◌, ℕ, suc, ◌+◌, ◌≤◌, List, [], ◌∷◌, ◌++◌, length, drop, map}
 use Rattle.bump_core.specs.declared.items.ItemId.{ItemId}
-use Rattle.bump_core.specs.declared.lanes.AppliedBump.{AppliedBump}
-use Rattle.bump_core.specs.declared.lanes.Bump.{Bump}
+use Rattle.bump_core.specs.declared.bumps.AppliedBump.{AppliedBump}
+use Rattle.bump_core.specs.declared.bumps.Bump.{Bump}
 use Rattle.bump_core.specs.declared.lanes.Lane.{Lane}
 use Rattle.bump_core.specs.declared.lanes.Lane.TheVariants as lane
-use Rattle.bump_core.specs.declared.workers.Hand.{Hand}
-use Rattle.bump_core.specs.declared.workers.Hand.TheVariants as hand
+use Rattle.bump_core.specs.declared.hands.Hand.{Hand}
+use Rattle.bump_core.specs.declared.hands.Hand.TheVariants as hand
 use Rattle.bump_core.specs.State.{WorkerState}
 
 -- the bumps in a ring: sent, and not received

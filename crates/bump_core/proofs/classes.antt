@@ -1,0 +1,4 @@
+pub mod PlainLists
+pub mod Replay
+pub mod SixLists
+pub mod Tiles

@@ -1,0 +1,9 @@
+pub mod Frames
+pub mod Fronts
+pub mod Headline
+pub mod LabelsAndClosedRings
+pub mod LawfulStates
+pub mod NothingUnlinked
+pub mod Opening
+pub mod Sizes
+pub mod StaysLawful
