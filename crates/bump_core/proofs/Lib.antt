@@ -1,10 +1,12 @@
 pub mod Attempting
+pub mod Counted
 pub mod Enabled
 pub mod Facts
 pub mod Frames
 pub mod Fronts
 pub mod Headlines
 pub mod Kept
+pub mod Labels
 pub mod Laning
 pub mod Laws
 pub mod Made
@@ -23,6 +25,7 @@ pub mod Ring
 pub mod Running
 pub mod SixLists
 pub mod Sizes
+pub mod Standings
 pub mod Staying
 pub mod Steps
 pub mod Tiles

@@ -13,7 +13,7 @@ use Rattle.bump_core.specs.declared.history.Cause.TheVariants.{Pull}
 use Rattle.bump_core.specs.declared.history.Change.TheVariants as change
 use Rattle.bump_core.specs.declared.events.Event.TheVariants as event
 use Rattle.bump_core.specs.declared.commands.Command.TheVariants as command
-use Rattle.bump_core.specs.Lawful.{newborn}
+use Rattle.bump_core.specs.Heads.{newborn}
 use Rattle.bump_core.specs.Lives.{life}
 use Rattle.bump_core.specs.Tables.{pulled_of, pulled_to, segment_of}
 use Rattle.bump_core.specs.State.{State, chunk, head, no_chunk, is_chunk, is_class, with_chunk, with_head, with_change, class_of, is_linked, some_and, is_under_application}
@@ -21,7 +21,8 @@ use Rattle.bump_core.specs.Worlds.{IsLawful}
 use Rattle.bump_core.specs.Heads.{cleared_head, moved_head}
 use Rattle.bump_core.specs.Events.{is_enabled, after, is_under_limit, is_class_at_rest, may_move, next_chunk, next_life, with_hold, with_label, with_time, link}
 use Rattle.bump_core.specs.Runs.{run_of}
-use Rattle.bump_core.specs.Commands.{is_allowed, events_of, command_after, tail_of, is_over, pulled_at, pull_to, pull, move_events, link_labelled}
+use Rattle.bump_core.specs.Commands.{is_allowed, events_of, command_after, tail_of, is_list_over, pulled_at, pull_to, pull, move_events, link_labelled, get_at, get_events, held_by_get}
+use Rattle.bump_core.specs.Tables.{Get, IsStale, IsRefsFull, IsHeld}
 use Rattle.bump_core.proofs.Fronts.{next_front, last_linked}
 use Rattle.bump_core.proofs.Running.{run_step}
 
@@ -33,20 +34,29 @@ label_made s l allowed = run_step s s (event.Load l.chunk) [] (and_parts (is_chu
 pub release_made : (s : State) (l : ItemId) → is_allowed s (command.Release l) ≡ true → run_of s (events_of s (command.Release l)) ≡ Some (command_after s (command.Release l))
 release_made s l allowed = run_step s _ (event.Release l) [] allowed refl
 
+-- a get that comes to a hold found a linked word of the generation, and a count under the limit
+held_from : (on same few : Bool) → (if not (on && same) then IsStale else (if few then IsHeld else IsRefsFull)) ≡ IsHeld → (on ≡ true) × (same ≡ true) × (few ≡ true)
+held_from true true true is = (refl, refl, refl)
+held_from true true false is = absurd (let u : ⊥ = cc in u)
+held_from true false few is = absurd (let u : ⊥ = cc in u)
+held_from false same few is = absurd (let u : ⊥ = cc in u)
+
 -- a hold is taken by a load and, if the item is linked and its count under the limit, an exchange
 pub take_made : (s : State) (w : ℕ) (l : ItemId) → is_allowed s (command.Take w l) ≡ true → run_of s (events_of s (command.Take w l)) ≡ Some (command_after s (command.Take w l))
-take_made s w l allowed = by (is_chunk s l.chunk) (is_linked s l && is_under_limit s l.chunk) refl refl none
+take_made s w l allowed = by (is_chunk s l.chunk) (get_at s l) refl refl
   where
-    none : is_chunk s l.chunk ≡ false → (is_linked s l && is_under_limit s l.chunk) ≡ false
-    none out = and_left (is_linked s l) (is_under_limit s l.chunk) (and_left (is_chunk s l.chunk && eqb (head s l.chunk).generation l.generation) (head s l.chunk).linked (and_left (is_chunk s l.chunk) (eqb (head s l.chunk).generation l.generation) out))
+    may : is_chunk s l.chunk ≡ true → get_at s l ≡ IsHeld → (is_linked s l && is_under_limit s l.chunk) ≡ true
+    may in_range is =
+        let found = held_from (head s l.chunk).linked (eqb (head s l.chunk).generation l.generation) (ltb (head s l.chunk).refs s.refs_limit) is in
+        and_from _ _ (and_from _ _ (and_from _ _ in_range found.1) found.0) found.2
 
-    by : (a b : Bool) → is_chunk s l.chunk ≡ a → (is_linked s l && is_under_limit s l.chunk) ≡ b → (a ≡ false → b ≡ false)
-        → run_of s (if not a then [] else (event.Load l.chunk ∷ (if b then event.Take w l ∷ [] else []))) ≡ Some (if b then with_hold s l.chunk else s)
-    by false true in_range may out = absurd (both_ways true (out refl) refl)
-    by false false in_range may out = refl
-    by true false in_range may out = run_step s s (event.Load l.chunk) [] in_range refl
-    by true true in_range may out = run_step s s (event.Load l.chunk) (event.Take w l ∷ []) in_range refl
-        ∙ run_step s (with_hold s l.chunk) (event.Take w l) [] (and_from _ _ allowed may) refl
+    by : (a : Bool) (g : Get) → is_chunk s l.chunk ≡ a → get_at s l ≡ g
+        → run_of s (if a then event.Load l.chunk ∷ get_events w l g else []) ≡ Some (if a then held_by_get s l g else s)
+    by false g out is = refl
+    by true IsStale in_range is = run_step s s (event.Load l.chunk) [] in_range refl
+    by true IsRefsFull in_range is = run_step s s (event.Load l.chunk) [] in_range refl
+    by true IsHeld in_range is = run_step s s (event.Load l.chunk) (event.Take w l ∷ []) in_range refl
+        ∙ run_step s (with_hold s l.chunk) (event.Take w l) [] (and_from _ _ allowed (may in_range is)) refl
 
 -- a command that finds an item in its class finds the class at rest
 at_rest : (s : State) (k c : ℕ) (m : Option ℕ) → m ≡ Some c → (is_class s k && (not (some_and (λ d. true) m) || not (is_under_application s k))) ≡ true
@@ -126,7 +136,7 @@ pull_made s o k t allowed = by (tail_of s k t) refl
         enabled = and_from _ _ (lt-ltb c (length s.chunks) at.0) (and_from _ _ at.2 rest)
 
         moves : (m : Option Segment) → pulled_to (pulled_at s k t c) ≡ m → run_of s (event.ClearActive c ∷ move_events c m) ≡ Some (pull_to s k t c m)
-        moves None stays = run_step s s (event.ClearActive c) [] enabled (cleared_again s c (tail_stays t (head s c).active (is_over s k t) (life c (head s c).generation) stays))
+        moves None stays = run_step s s (event.ClearActive c) [] enabled (cleared_again s c (tail_stays t (head s c).active (is_list_over s k t) (life c (head s c).generation) stays))
         moves (Some to) goes = run_step s (with_head s c (cleared_head (head s c))) (event.ClearActive c) (event.Move c to ∷ []) enabled refl
             ∙ run_step (with_head s c (cleared_head (head s c))) (pull_to s k t c (Some to)) (event.Move c to) [] may moved
           where
@@ -136,7 +146,7 @@ pull_made s o k t allowed = by (tail_of s k t) refl
             may : is_enabled (with_head s c (cleared_head (head s c))) (event.Move c to) ≡ true
             may = and_from _ _ (lt-ltb c _ (omega (arith, at.0, length-set s.chunks c (record (chunk s c) { head = cleared_head (head s c) }))))
                 (and_from _ _ (ap (λ a. a.head.linked) read ∙ at.2)
-                (and_from _ _ (ap (λ a. may_move a.head.segment to) read ∙ (ap (λ g. may_move g to) at.3 ∙ tail_moves t (head s c).active (is_over s k t) (life c (head s c).generation) to goes)) rest))
+                (and_from _ _ (ap (λ a. may_move a.head.segment to) read ∙ (ap (λ g. may_move g to) at.3 ∙ tail_moves t (head s c).active (is_list_over s k t) (life c (head s c).generation) to goes)) rest))
 
             moved : after (with_head s c (cleared_head (head s c))) (event.Move c to) ≡ pull_to s k t c (Some to)
             moved = ap (λ cs. with_change (record s { chunks = cs }) (class_of s c) (change.Moved (life c (head (with_head s c (cleared_head (head s c))) c).generation) (head (with_head s c (cleared_head (head s c))) c).segment to Pull))

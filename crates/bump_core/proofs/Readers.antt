@@ -24,7 +24,7 @@ use Rattle.bump_core.proofs.Enabled.{by_test, current_from, free_hold_from, may_
 
 -- a linked chunk under the limit gets one more hold
 pub hold_lawful : (s : State) (c : ℕ) → IsLawful s → (head s c).linked ≡ true → c < length s.chunks → (head s c).refs < s.refs_limit → IsLawful (with_hold s c)
-hold_lawful s c o on within few = chunk_lawful s c x o within refl refl
+hold_lawful s c o on within few = chunk_lawful s c x o within refl refl refl
     (referred s.refs_limit (head s c) (place s c) (references s c) (first_hits_of s c) (o.chunks c) (references (with_chunk s c x) c) (used_where_linked (head s c) (place s c) (o.chunks c).shown on) few
     (omega (arith, now (head s c).generation, held_here x, held_here (chunk s c)))
     (λ g ne. omega (arith, now g, held_else x g ne, held_else (chunk s c) g ne)))
@@ -40,7 +40,7 @@ hold_lawful s c o on within few = chunk_lawful s c x o within refl refl
 
 -- a chunk with more holds than workers on its life gets one fewer
 pub unhold_lawful : (s : State) (c : ℕ) → IsLawful s → c < length s.chunks → workers_on s (life c (head s c).generation) < (chunk s c).holds → IsLawful (without_hold s c)
-unhold_lawful s c o within free = chunk_lawful s c x o within refl refl
+unhold_lawful s c o within free = chunk_lawful s c x o within refl refl refl
     (unreferred s.refs_limit (head s c) (place s c) (references s c) (first_hits_of s c) (o.chunks c) (references (with_chunk s c x) c)
     (omega (arith, now (head s c).generation, held_here x, held_here (chunk s c)))
     (λ g ne. omega (arith, now g, held_else x g ne, held_else (chunk s c) g ne)))
@@ -69,7 +69,7 @@ fetch_lawful s w l o inside within current = by_test IsLawful (head s l.chunk).f
     (λ g. omega (arith, references_after s l.chunk h w y within inside refl l.chunk g))
     (λ g. refl))
     (λ m. omega (arith, o.hands m))
-    (record { prefix = was.prefix; room = was.room; applied = was.applied; accepted = was.accepted; attempted = was.attempted; most = was.most }))
+    (record { ring = was.ring; applied = was.applied; accounts = record { accepted = was.accounts.accepted; attempted = was.accounts.attempted; most = was.accounts.most } }))
   where
     h : Head
     h = fetched_head (head s l.chunk)
@@ -97,7 +97,7 @@ mark_lawful s w l o inside idle within current free fetched few = by_test IsLawf
       | inl e ↦ omega (arith, ap (workers_on s) e, ap (holds_of s) e, ap (λ k. one_if k l) e, one_if_same l, held_at (chunk s l.chunk) l.generation current)
       | inr none ↦ omega (arith, o.hands m)
     ])
-    (record { prefix = was.prefix; room = was.room; applied = was.applied; accepted = was.accepted; attempted = omega (arith, was.attempted, ap attempts_of idle); most = omega (arith, few) })
+    (record { ring = was.ring; applied = was.applied; accounts = record { accepted = was.accounts.accepted; attempted = omega (arith, was.accounts.attempted, ap attempts_of idle); most = omega (arith, few) } })
     (alone_kept s w y inside o refl)
     (waits_kept s l.chunk h w o inside refl refl))
     (λ no. head_lawful s l.chunk h o within refl refl refl (marked s.refs_limit (head s l.chunk) (place s l.chunk) (references s l.chunk) (first_hits_of s l.chunk) (o.chunks l.chunk) true set))

@@ -35,9 +35,10 @@ impl Model for World {
 impl World {
     ghost use Rattle.std.specs.Prelude.{◌≡◌, ◌<◌, IfOk, OnOk, Some, All, length};
     ghost use Rattle.bump_core.specs.Commands.{Commands, events_of};
-    ghost use Rattle.bump_core.specs.Headline.{Headline, LabelsStay, ClosedStay};
+    ghost use Rattle.bump_core.specs.Headline.{Headline, ClosedStay};
+    ghost use Rattle.bump_core.specs.Labels.{KeepsLabels};
     ghost use Rattle.bump_core.specs.Opening.{new_state};
-    ghost use Rattle.bump_core.specs.Runs.{Steps, Runs, run_of};
+    ghost use Rattle.bump_core.specs.Runs.{Steps, Runs, run_of, made};
     ghost use Rattle.bump_core.specs.State.{head, SameSizes};
     ghost use Rattle.bump_core.specs.Readers.{list_of, time_of, label_of, holds_at, accounts_of, sent_of, received_of, applied_of};
     ghost use Rattle.bump_core.specs.Worlds.{IsLawful};
@@ -141,7 +142,7 @@ impl World {
         ensures sizes { SameSizes self.old self.new }
         ensures lawful { IsLawful self.new }
         ensures headline { Headline self.new }
-        ensures labels { LabelsStay self.old self.new }
+        ensures labels { KeepsLabels self.old (made events.now result) self.new }
         ensures closed { ClosedStay self.old self.new }
     {
         let _ = &self.parts;

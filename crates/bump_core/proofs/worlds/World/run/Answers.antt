@@ -2,7 +2,8 @@ use Rattle.std.proofs.Common.{take, subst}
 use Rattle.std.proofs.lemmas.Option.{slice_get-get_or}
 use Rattle.bump_core.specs.Worlds.{IsLawful}
 use Rattle.bump_core.proofs.Headlines.{headline}
-use Rattle.bump_core.proofs.Staying.{labels_stay, closed_stay}
+use Rattle.bump_core.proofs.Labels.{keeps_labels}
+use Rattle.bump_core.proofs.Staying.{closed_stay}
 use Rattle.bump_core.proofs.Steps.{run_lawful}
 use Rattle.bump_core.proofs.Running.{run_refused, run_more, refused_stays}
 use Rattle.bump_core.proofs.Sizes.{run_sizes, refused_sizes}
@@ -21,7 +22,7 @@ pub returns-clause-sizes : goal.returns-clause-sizes
 returns-clause-sizes c = run_sizes c.args.self.now _ c.loop-place.self c.loop-place.invariant
 
 pub returns-in-Err-clause-labels : goal.returns-in-Err-clause-labels
-returns-in-Err-clause-labels c = labels_stay c.args.self.now (take c.loop-place.place c.args.events.now) c.step.new.self (subst IsLawful c.self.view_is c.self.invariant.0)
+returns-in-Err-clause-labels c = keeps_labels (take c.loop-place.place c.args.events.now) c.args.self.now c.step.new.self (subst IsLawful c.self.view_is c.self.invariant.0)
     (refused_stays c.args.self.now (take c.loop-place.place c.args.events.now) c.loop-place.self _ c.step.new.self c.in-Err.refused c.loop-place.invariant c.in-Err.ensures.step)
 
 pub returns-in-Err-clause-closed : goal.returns-in-Err-clause-closed
@@ -35,7 +36,7 @@ pub returns-clause-headline : goal.returns-clause-headline
 returns-clause-headline c = headline c.loop-place.self (run_lawful c.args.self.now (take c.loop-place.place c.args.events.now) c.loop-place.self (subst IsLawful c.self.view_is c.self.invariant.0) c.loop-place.invariant)
 
 pub returns-clause-labels : goal.returns-clause-labels
-returns-clause-labels c = labels_stay c.args.self.now (take c.loop-place.place c.args.events.now) c.loop-place.self (subst IsLawful c.self.view_is c.self.invariant.0) c.loop-place.invariant
+returns-clause-labels c = keeps_labels (take c.loop-place.place c.args.events.now) c.args.self.now c.loop-place.self (subst IsLawful c.self.view_is c.self.invariant.0) c.loop-place.invariant
 
 pub returns-clause-closed : goal.returns-clause-closed
 returns-clause-closed c = closed_stay c.args.self.now (take c.loop-place.place c.args.events.now) c.loop-place.self c.loop-place.invariant
