@@ -1,4 +1,7 @@
-use Rattle.std.proofs.Common.{take, subst}
+use Rattle.std.proofs.Common.{List, take, subst, arith}
+use Rattle.std.proofs.lemmas.List.{take_all}
+use Rattle.bump_core.specs.declared.events.Event.{Event}
+use Rattle.bump_core.specs.Labels.{KeepsLabels}
 use Rattle.std.proofs.lemmas.Option.{slice_get-get_or}
 use Rattle.bump_core.specs.Worlds.{IsLawful}
 use Rattle.bump_core.proofs.Headlines.{headline}
@@ -36,7 +39,8 @@ pub returns-clause-headline : goal.returns-clause-headline
 returns-clause-headline c = headline c.loop-place.self (run_lawful c.args.self.now (take c.loop-place.place c.args.events.now) c.loop-place.self (subst IsLawful c.self.view_is c.self.invariant.0) c.loop-place.invariant)
 
 pub returns-clause-labels : goal.returns-clause-labels
-returns-clause-labels c = keeps_labels (take c.loop-place.place c.args.events.now) c.args.self.now c.loop-place.self (subst IsLawful c.self.view_is c.self.invariant.0) c.loop-place.invariant
+returns-clause-labels c = subst (λ (es : List Event). KeepsLabels c.args.self.now es c.loop-place.self) (take_all c.loop-place.place c.args.events.now (omega arith))
+    (keeps_labels (take c.loop-place.place c.args.events.now) c.args.self.now c.loop-place.self (subst IsLawful c.self.view_is c.self.invariant.0) c.loop-place.invariant)
 
 pub returns-clause-closed : goal.returns-clause-closed
 returns-clause-closed c = closed_stay c.args.self.now (take c.loop-place.place c.args.events.now) c.loop-place.self c.loop-place.invariant
