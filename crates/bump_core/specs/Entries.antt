@@ -6,9 +6,9 @@ use Rattle.bump_core.specs.declared.history.Cause.{Cause}
 use Rattle.bump_core.specs.declared.history.Cause.TheVariants.{Pull, Bump}
 use Rattle.bump_core.specs.declared.history.Change.{Change}
 use Rattle.bump_core.specs.declared.history.Change.TheVariants as change
-use Rattle.bump_core.specs.declared.lanes.AppliedBump.{AppliedBump}
-use Rattle.bump_core.specs.declared.lanes.Outcome.{Outcome}
-use Rattle.bump_core.specs.declared.lanes.Outcome.TheVariants as outcome
+use Rattle.bump_core.specs.declared.bumps.AppliedBump.{AppliedBump}
+use Rattle.bump_core.specs.declared.bumps.Outcome.{Outcome}
+use Rattle.bump_core.specs.declared.bumps.Outcome.TheVariants as outcome
 use Rattle.bump_core.specs.Lives.{is_same}
 use Rattle.bump_core.specs.Tables.{is_warm, is_cold}
 use Rattle.bump_core.specs.Totals.{how_many}

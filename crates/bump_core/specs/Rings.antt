@@ -2,12 +2,12 @@
 use Rattle.std.specs.Prelude.{◌≡◌, ℕ, suc, ◌+◌, ◌≤◌, List, [], ◌∷◌, ◌++◌, length, drop, map}
 use Rattle.bump_core.specs.declared.items.ItemId.{ItemId}
 use Rattle.bump_core.specs.declared.bumps.Accounts.{Accounts}
-use Rattle.bump_core.specs.declared.lanes.AppliedBump.{AppliedBump}
-use Rattle.bump_core.specs.declared.lanes.Bump.{Bump}
+use Rattle.bump_core.specs.declared.bumps.AppliedBump.{AppliedBump}
+use Rattle.bump_core.specs.declared.bumps.Bump.{Bump}
 use Rattle.bump_core.specs.declared.lanes.Lane.{Lane}
 use Rattle.bump_core.specs.declared.lanes.Lane.TheVariants as lane
-use Rattle.bump_core.specs.declared.workers.Hand.{Hand}
-use Rattle.bump_core.specs.declared.workers.Hand.TheVariants as hand
+use Rattle.bump_core.specs.declared.hands.Hand.{Hand}
+use Rattle.bump_core.specs.declared.hands.Hand.TheVariants as hand
 use Rattle.bump_core.specs.State.{WorkerState}
 
 -- what was sent, and not received

@@ -6,11 +6,11 @@ use Rattle.bump_core.specs.declared.items.Head.{Head}
 use Rattle.bump_core.specs.declared.bumps.Accounts.{Accounts}
 use Rattle.bump_core.specs.declared.chunks.Chunk.{Chunk}
 use Rattle.bump_core.specs.declared.history.Change.{Change}
-use Rattle.bump_core.specs.declared.lanes.AppliedBump.{AppliedBump}
+use Rattle.bump_core.specs.declared.bumps.AppliedBump.{AppliedBump}
 use Rattle.bump_core.specs.declared.lanes.Lane.{Lane}
 use Rattle.bump_core.specs.declared.lanes.Lane.TheVariants as lane
-use Rattle.bump_core.specs.declared.workers.Hand.{Hand}
-use Rattle.bump_core.specs.declared.workers.Hand.TheVariants as hand
+use Rattle.bump_core.specs.declared.hands.Hand.{Hand}
+use Rattle.bump_core.specs.declared.hands.Hand.TheVariants as hand
 use Rattle.bump_core.specs.Heads.{fresh_head}
 use Rattle.bump_core.specs.History.{subject, target}
 use Rattle.bump_core.specs.Lists.{Lists, to_front}

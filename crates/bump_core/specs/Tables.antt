@@ -8,8 +8,8 @@ use Rattle.bump_core.specs.declared.items.Head.{Head}
 use Rattle.bump_core.specs.declared.items.ItemId.{ItemId}
 use Rattle.bump_core.specs.declared.bumps.Ended.{Ended}
 use Rattle.bump_core.specs.declared.bumps.Ended.TheVariants.{Freed, Deferred}
-use Rattle.bump_core.specs.declared.lanes.Outcome.{Outcome}
-use Rattle.bump_core.specs.declared.lanes.Outcome.TheVariants as outcome
+use Rattle.bump_core.specs.declared.bumps.Outcome.{Outcome}
+use Rattle.bump_core.specs.declared.bumps.Outcome.TheVariants as outcome
 use Rattle.bump_core.specs.declared.commands.Dropped.{Dropped}
 use Rattle.bump_core.specs.declared.commands.Dropped.TheVariants.{Full, Busy, RefsFull}
 use Rattle.bump_core.specs.declared.commands.Pulled.{Pulled}

@@ -7,8 +7,8 @@ use Rattle.bump_core.specs.declared.history.Change.{Change}
 use Rattle.bump_core.specs.declared.history.Change.TheVariants as change
 use Rattle.bump_core.specs.declared.lanes.Lane.{Lane}
 use Rattle.bump_core.specs.declared.lanes.Lane.TheVariants as lane
-use Rattle.bump_core.specs.declared.workers.Hand.{Hand}
-use Rattle.bump_core.specs.declared.workers.Hand.TheVariants as hand
+use Rattle.bump_core.specs.declared.hands.Hand.{Hand}
+use Rattle.bump_core.specs.declared.hands.Hand.TheVariants as hand
 use Rattle.bump_core.specs.Totals.{total}
 use Rattle.bump_core.specs.Lives.{life, one_if, count_of}
 use Rattle.bump_core.specs.Lawful.{Lawful}

@@ -1,6 +1,32 @@
 //! Bumps: what became of each, and how many there were.
 use crate::items::ItemId;
 
+/// No worker attempts more bumps than this.
+pub const MOST_ATTEMPTS: u64 = 4_611_686_018_427_387_903;
+
+/// A bump on its way: its number among its worker's accepted bumps, and its item.
+#[derive(Clone, Copy)]
+pub struct Bump {
+    pub number: u64,
+    pub life: ItemId,
+}
+
+/// What applying a bump did: as `Applied`, without what became of an item that was gone.
+#[derive(Clone, Copy, Debug, PartialEq, Eq)]
+pub enum Outcome {
+    Moved,
+    TimeOnly,
+    Gone,
+}
+
+/// A bump that a lane has applied.
+#[derive(Clone, Copy, Debug, PartialEq, Eq)]
+pub struct AppliedBump {
+    pub number: u64,
+    pub life: ItemId,
+    pub outcome: Outcome,
+}
+
 /// Whether an unlinked item's chunk was free at once, or is still held.
 #[derive(Clone, Copy, Debug, PartialEq, Eq)]
 pub enum Ended {

@@ -1,4 +1,11 @@
 //! Commands: each is a call of the running store as its events, with nothing between them.
+mod attempts;
+mod hits;
+mod holds;
+mod lanes;
+mod links;
+mod pulls;
+
 use crate::bumps::Entry;
 use crate::items::ItemId;
 use crate::places::Tail;

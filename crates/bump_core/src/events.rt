@@ -1,6 +1,13 @@
 //! Events: each is one atomic step of one thread.
+mod attempts;
+mod hits;
+mod holds;
+mod lanes;
+mod links;
+mod pulls;
+
+use crate::bumps::Outcome;
 use crate::items::{Head, ItemId};
-use crate::lanes::Outcome;
 use crate::places::Segment;
 use std::alloc::AllocError;
 

@@ -3,31 +3,9 @@ ghost use Rattle.std.specs.Prelude.{◌≡◌};
 ghost use Rattle.bump_core.specs.State.{applied_life};
 ghost use Rattle.bump_core.specs.Events.{carried, tried, applied_now, cleared_active, is_empty, ending_at};
 
+use crate::bumps::{Bump, Outcome};
 use crate::items::{Head, ItemId};
 use crate::places::Segment;
-
-/// What applying a bump did: as `Applied`, without what became of an item that was gone.
-#[derive(Clone, Copy, Debug, PartialEq, Eq)]
-pub enum Outcome {
-    Moved,
-    TimeOnly,
-    Gone,
-}
-
-/// A bump on its way: its number among its worker's accepted bumps, and its item.
-#[derive(Clone, Copy)]
-pub struct Bump {
-    pub number: u64,
-    pub life: ItemId,
-}
-
-/// A bump that a lane has applied.
-#[derive(Clone, Copy, Debug, PartialEq, Eq)]
-pub struct AppliedBump {
-    pub number: u64,
-    pub life: ItemId,
-    pub outcome: Outcome,
-}
 
 /// How far a lane is with the bump that it carries.
 #[derive(Clone, Copy)]

@@ -1,4 +1,6 @@
 //! Segments of the recency list, and the lists of a class.
+ghost use Rattle.std.specs.Prelude.{◌≡◌};
+ghost use Rattle.bump_core.specs.History.{place_of};
 
 /// A segment of a class's recency list: memcached's HOT, WARM and COLD.
 #[derive(Clone, Copy, Debug, PartialEq, Eq)]
@@ -31,4 +33,17 @@ pub enum Place {
 
     /// Free, and never linked again: its generations are used up.
     Retired,
+}
+
+impl Segment {
+    /// The list of a segment.
+    pub(crate) fn place(self) -> Place
+        ensures { result ≡ place_of self }
+    {
+        match self {
+            Segment::Hot => Place::Hot,
+            Segment::Warm => Place::Warm,
+            Segment::Cold => Place::Cold,
+        }
+    }
 }

@@ -1,27 +1,10 @@
 //! What a World keeps of a worker, of its ring and of its lane.
-ghost use Rattle.std.specs.Prelude.{◌≡◌, ◌≤◌, length};
-ghost use Rattle.bump_core.specs.State.{tried_life, life_in_hand, cleared_life, is_idle, is_on};
-ghost use Rattle.bump_core.specs.Lawful.{bit};
+ghost use Rattle.std.specs.Prelude.{◌≤◌, length};
 
-use crate::bumps::Accounts;
+use crate::bumps::{Accounts, AppliedBump};
+use crate::hands::Hand;
 use crate::items::ItemId;
-use crate::lanes::{AppliedBump, Lane};
-
-/// How far a worker is with an attempted bump.
-#[derive(Clone, Copy)]
-pub enum Hand {
-    /// It attempts none.
-    Idle,
-
-    /// It tries to take a reference for the bump.
-    Trying(ItemId),
-
-    /// It has the reference in its hand.
-    InHand(ItemId),
-
-    /// The bump was dropped, and ACTIVE is to be cleared.
-    Clearing(ItemId),
-}
+use crate::lanes::Lane;
 
 /// A worker with its ring and its lane.
 #[derive(Drop)]
@@ -45,53 +28,4 @@ pub struct Worker {
     /// The bumps that its lane applied, in order.
     pub applied: Vec<AppliedBump>,
     ghost received_sent: { received ≤ length sent.items },
-}
-
-impl Hand {
-    /// Whether no bump is attempted.
-    pub fn is_idle(self) -> bool
-        ensures { result ≡ is_idle self }
-    {
-        matches!(self, Hand::Idle)
-    }
-
-    /// Whether a worker is on a life.
-    pub fn is_on(self, life: ItemId) -> bool
-        ensures { bit result ≡ is_on life self }
-    {
-        match self {
-            Hand::Idle => false,
-            Hand::Trying(on) | Hand::InHand(on) | Hand::Clearing(on) => life.is_same(on),
-        }
-    }
-
-    /// The life of the bump that is tried, if one is.
-    pub fn tried(self) -> Option<ItemId>
-        ensures { result ≡ tried_life self }
-    {
-        match self {
-            Hand::Trying(life) => Some(life),
-            _ => None,
-        }
-    }
-
-    /// The life of the bump in the hand, if one is.
-    pub fn in_hand(self) -> Option<ItemId>
-        ensures { result ≡ life_in_hand self }
-    {
-        match self {
-            Hand::InHand(life) => Some(life),
-            _ => None,
-        }
-    }
-
-    /// The life whose ACTIVE is to be cleared, if one is.
-    pub fn cleared(self) -> Option<ItemId>
-        ensures { result ≡ cleared_life self }
-    {
-        match self {
-            Hand::Clearing(life) => Some(life),
-            _ => None,
-        }
-    }
 }

@@ -1,14 +1,11 @@
 //! The sequential World.
-use crate::bumps::Accounts;
+mod readers;
+
 use crate::commands::{Answer, Command};
 use crate::configs::Config;
 use crate::events::{Event, Refused, Reply};
-use crate::items::{Head, ItemId};
-use crate::lanes::AppliedBump;
 use crate::parts::Parts;
-use crate::places::Place;
 use std::alloc::{AllocError, Global};
-use std::collections::VecDeque;
 use std::marker::Model;
 
 /// Why nothing was made: memory was asked for and refused. It is std's error for that.
@@ -33,7 +30,7 @@ impl Model for World {
 }
 
 impl World {
-    ghost use Rattle.std.specs.Prelude.{◌≡◌, ◌<◌, IfOk, OnOk, Some, All, length};
+    ghost use Rattle.std.specs.Prelude.{◌≡◌, IfOk, OnOk, Some};
     ghost use Rattle.bump_core.specs.Commands.{Commands, events_of};
     ghost use Rattle.bump_core.specs.Headline.{Headline, ClosedStay};
     ghost use Rattle.bump_core.specs.Labels.{KeepsLabels};
@@ -50,79 +47,6 @@ impl World {
         Ok(World {
             parts: Parts::new(alloc, config)?,
         })
-    }
-
-    /// The chunks of a class's list, front first. The class is one of the configuration's.
-    pub fn list(&self, class: u32, place: Place) -> &VecDeque<u32>
-        requires { class < length self.now.classes }
-        ensures chunks { result.now.items ≡ list_of self.now class place }
-        ensures in_range { All (λ c. c < length self.now.chunks) result.now.items }
-    {
-        self.parts.list(class, place)
-    }
-
-    /// A chunk's head. The chunk is one of the configuration's.
-    pub fn head(&self, chunk: u32) -> Head
-        requires { chunk < length self.now.chunks }
-        ensures { result ≡ head self.now chunk }
-    {
-        self.parts.head(chunk)
-    }
-
-    /// A chunk's time, in the caller's ticks. The chunk is one of the configuration's.
-    pub fn time(&self, chunk: u32) -> u64
-        requires { chunk < length self.now.chunks }
-        ensures { result ≡ time_of self.now chunk }
-    {
-        self.parts.chunk(chunk).time
-    }
-
-    /// A chunk's label. The chunk is one of the configuration's.
-    pub fn label(&self, chunk: u32) -> u64
-        requires { chunk < length self.now.chunks }
-        ensures { result ≡ label_of self.now chunk }
-    {
-        self.parts.chunk(chunk).label
-    }
-
-    /// How many holds a chunk's life has. The chunk is one of the configuration's.
-    pub fn holds(&self, chunk: u32) -> u32
-        requires { chunk < length self.now.chunks }
-        ensures { result ≡ holds_at self.now chunk }
-    {
-        self.parts.chunk(chunk).holds
-    }
-
-    /// A worker's counts of bumps. The worker is one of the configuration's.
-    pub fn accounts(&self, worker: u32) -> Accounts
-        requires { worker < length self.now.workers }
-        ensures { result ≡ accounts_of self.now worker }
-    {
-        self.parts.accounts(worker)
-    }
-
-    /// The bumps that a worker's ring accepted, in order. The worker is one of the configuration's.
-    pub fn sent(&self, worker: u32) -> &[ItemId]
-        requires { worker < length self.now.workers }
-        ensures { result.now ≡ sent_of self.now worker }
-    {
-        self.parts.sent_bumps(worker)
-    }
-
-    /// The bumps that a worker's lane took, in order. The worker is one of the configuration's.
-    pub fn received(&self, worker: u32) -> &[ItemId]
-        requires { worker < length self.now.workers }
-        ensures { result.now ≡ received_of self.now worker }
-    {
-        self.parts.received_bumps(worker)
-    }
-
-    /// The bumps that a worker's lane applied, in order. The worker is one of the configuration's.
-    pub fn applied(&self, worker: u32) -> &[AppliedBump]
-        requires { worker < length self.now.workers }
-        ensures { result.now ≡ applied_of self.now worker }
-    {
-        self.parts.applied_bumps(worker)
     }
 
     /// Makes an event. Refused as NotEnabled exactly where it isn't enabled, and as OutOfMemory for want of memory; a

@@ -13,9 +13,9 @@ use Rattle.bump_core.specs.declared.commands.Command.{Command}
 use Rattle.bump_core.specs.declared.commands.Command.TheVariants as command
 use Rattle.bump_core.specs.declared.commands.Dropped.{Dropped}
 use Rattle.bump_core.specs.declared.items.ItemId.{ItemId}
-use Rattle.bump_core.specs.declared.lanes.Bump.{Bump}
-use Rattle.bump_core.specs.declared.lanes.Outcome.{Outcome}
-use Rattle.bump_core.specs.declared.lanes.Outcome.TheVariants as outcome
+use Rattle.bump_core.specs.declared.bumps.Bump.{Bump}
+use Rattle.bump_core.specs.declared.bumps.Outcome.{Outcome}
+use Rattle.bump_core.specs.declared.bumps.Outcome.TheVariants as outcome
 use Rattle.bump_core.specs.declared.places.Segment.{Segment}
 use Rattle.bump_core.specs.declared.places.Tail.{Tail}
 use Rattle.bump_core.specs.Commands.{is_allowed, command_after, pull_to, pulled_at, hit, hit_at, attempt, dropped_at, is_exhausted, apply_bump, bumped_lists, outcome_next, ended_at, bump_next, is_half_made, tail_of}

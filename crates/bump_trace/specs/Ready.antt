@@ -1,7 +1,7 @@
 -- Between two lines of a trace no command is half made.
 use Rattle.std.specs.Prelude.{◌≡◌, true, All, length}
 use Rattle.bump_core.specs.declared.lanes.Lane.TheVariants as lane
-use Rattle.bump_core.specs.declared.workers.Hand.TheVariants as hand
+use Rattle.bump_core.specs.declared.hands.Hand.TheVariants as hand
 use Rattle.bump_core.specs.State.{State, WorkerState}
 use Rattle.bump_trace.specs.declared.bench.Bench.{Bench}
 use Rattle.bump_trace.specs.declared.session.Progress.{Progress}

@@ -1,5 +1,5 @@
 use Rattle.std.proofs.Common.{Some, refl, sym, ap, ◌∙◌}
-use Rattle.bump_core.proofs.PlainLists.{without_removed, without_popped, without_absent, times_absent}
+use Rattle.bump_core.proofs.classes.PlainLists.{without_removed, without_popped, without_absent, times_absent}
 use Rattle.bump_core.proofs.classes.take_out.Goals as goal
 
 pub returns-then-last-chunk-clause-items : goal.returns-then-last-chunk-clause-items

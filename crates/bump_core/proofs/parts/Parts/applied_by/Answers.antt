@@ -1,6 +1,6 @@
 use Rattle.std.proofs.Common.{rules}
 use Rattle.bump_core.specs.Views.{state_of}
-use Rattle.bump_core.proofs.Reaches.{some_applied}
+use Rattle.bump_core.proofs.parts.LookUps.{some_applied}
 use Rattle.bump_core.proofs.parts.Parts.applied_by.Goals as goal
 
 pub returns-clause-chunk : goal.returns-clause-chunk

@@ -1,5 +1,5 @@
 use Rattle.bump_core.specs.Views.{state_of}
-use Rattle.bump_core.proofs.Reaches.{some_next_in_range, some_next_linked, some_next_gone}
+use Rattle.bump_core.proofs.parts.LookUps.{some_next_in_range, some_next_linked, some_next_gone}
 use Rattle.bump_core.proofs.parts.Parts.bump_next.Goals as goal
 
 pub returns-clause-chunk : goal.returns-clause-chunk

@@ -1,7 +1,7 @@
 use Rattle.std.proofs.Common.{List, ap}
 use Rattle.bump_core.specs.State.{ClassState, no_class, class_with_change}
 use Rattle.bump_core.specs.Views.{state_of, class_view}
-use Rattle.bump_core.proofs.Views.{rewritten, unchanged, on_err}
+use Rattle.bump_core.proofs.parts.Views.{rewritten, unchanged, on_err}
 use Rattle.bump_core.proofs.parts.Parts.change_class.Goals as goal
 
 pub returns-clause-ok : goal.returns-clause-ok

@@ -1,10 +1,10 @@
 use Rattle.std.proofs.Common.{List, [], ◌∷◌, ◌++◌, ap}
-use Rattle.bump_core.specs.declared.lanes.AppliedBump.{AppliedBump}
+use Rattle.bump_core.specs.declared.bumps.AppliedBump.{AppliedBump}
 use Rattle.bump_core.specs.declared.lanes.Lane.TheVariants.{Empty}
 use Rattle.bump_core.specs.Events.{applied_bump}
 use Rattle.bump_core.specs.State.{WorkerState, new_worker}
 use Rattle.bump_core.specs.Views.{state_of, worker_view}
-use Rattle.bump_core.proofs.Views.{rewritten}
+use Rattle.bump_core.proofs.parts.Views.{rewritten}
 use Rattle.bump_core.proofs.parts.Parts.finish_aboard.Goals as goal
 
 pub returns : goal.returns

@@ -1,11 +1,11 @@
 use Rattle.std.proofs.Common.{List, [], ◌∷◌, ◌++◌, ap, ap₂}
 use Rattle.bump_core.specs.declared.items.ItemId.{ItemId}
-use Rattle.bump_core.specs.declared.lanes.AppliedBump.{AppliedBump}
+use Rattle.bump_core.specs.declared.bumps.AppliedBump.{AppliedBump}
 use Rattle.bump_core.specs.declared.lanes.Lane.TheVariants.{Empty}
 use Rattle.bump_core.specs.Events.{applied_bump}
 use Rattle.bump_core.specs.State.{WorkerState, new_worker}
 use Rattle.bump_core.specs.Views.{state_of, worker_view}
-use Rattle.bump_core.proofs.Views.{rewritten, next_received}
+use Rattle.bump_core.proofs.parts.Views.{rewritten, next_received}
 use Rattle.bump_core.proofs.parts.Parts.finish_taken.Goals as goal
 
 pub returns : goal.returns

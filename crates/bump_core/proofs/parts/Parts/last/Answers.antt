@@ -1,6 +1,6 @@
 use Rattle.bump_core.specs.Tables.{segment_of}
 use Rattle.bump_core.specs.Views.{state_of}
-use Rattle.bump_core.proofs.Fronts.{some_last}
+use Rattle.bump_core.proofs.worlds.Fronts.{some_last}
 use Rattle.bump_core.proofs.parts.Parts.last.Goals as goal
 
 pub returns-clause-linked : goal.returns-clause-linked

@@ -1,6 +1,6 @@
 use Rattle.std.proofs.Common.{rules}
 use Rattle.bump_core.specs.Views.{state_of}
-use Rattle.bump_core.proofs.Reaches.{some_tried_bump}
+use Rattle.bump_core.proofs.parts.LookUps.{some_tried_bump}
 use Rattle.bump_core.proofs.parts.Parts.looked_at_by.Goals as goal
 
 pub returns-clause-chunk : goal.returns-clause-chunk

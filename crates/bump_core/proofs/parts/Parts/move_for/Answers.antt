@@ -2,7 +2,7 @@ use Rattle.std.proofs.Common.{ap, sym}
 use Rattle.bump_core.specs.declared.places.Place.TheVariants.{Cold}
 use Rattle.bump_core.specs.History.{place_of}
 use Rattle.bump_core.specs.Views.{state_of}
-use Rattle.bump_core.proofs.Fronts.{linked_stands_at}
+use Rattle.bump_core.proofs.worlds.Fronts.{linked_stands_at}
 use Rattle.bump_core.proofs.parts.Parts.move_for.Goals as goal
 
 pub change_class-requires-clause-stands : goal.change_class-requires-clause-stands

@@ -1,5 +1,5 @@
 use Rattle.bump_core.specs.Views.{state_of}
-use Rattle.bump_core.proofs.Fronts.{some_next}
+use Rattle.bump_core.proofs.worlds.Fronts.{some_next}
 use Rattle.bump_core.proofs.parts.Parts.next_chunk.Goals as goal
 
 pub returns-clause-stands : goal.returns-clause-stands

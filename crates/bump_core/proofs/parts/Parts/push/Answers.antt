@@ -1,6 +1,6 @@
 use Rattle.std.proofs.Common.{refl, arith}
 use Rattle.bump_core.specs.Views.{state_of}
-use Rattle.bump_core.proofs.Reaches.{in_hand_counts}
+use Rattle.bump_core.proofs.parts.LookUps.{in_hand_counts}
 use Rattle.bump_core.proofs.parts.Parts.push.Goals as goal
 
 pub push_bump-requires-clause-fits : goal.push_bump-requires-clause-fits

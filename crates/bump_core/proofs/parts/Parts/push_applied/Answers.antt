@@ -1,9 +1,9 @@
 use Rattle.std.proofs.Common.{List, [], ◌∷◌, ◌++◌, ap}
-use Rattle.bump_core.specs.declared.lanes.AppliedBump.{AppliedBump}
+use Rattle.bump_core.specs.declared.bumps.AppliedBump.{AppliedBump}
 use Rattle.bump_core.specs.declared.lanes.Lane.TheVariants.{Empty}
 use Rattle.bump_core.specs.State.{WorkerState, new_worker}
 use Rattle.bump_core.specs.Views.{state_of, worker_view}
-use Rattle.bump_core.proofs.Views.{rewritten, unchanged, on_err}
+use Rattle.bump_core.proofs.parts.Views.{rewritten, unchanged, on_err}
 use Rattle.bump_core.proofs.parts.Parts.push_applied.Goals as goal
 
 pub returns-clause-ok : goal.returns-clause-ok

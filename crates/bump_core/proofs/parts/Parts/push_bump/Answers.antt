@@ -1,10 +1,10 @@
 use Rattle.std.proofs.Common.{List, [], ◌∷◌, ◌++◌, ◌+◌, take, ap, ap₂, ◌∙◌}
 use Rattle.std.proofs.lemmas.List.{take-append-le}
 use Rattle.bump_core.specs.declared.items.ItemId.{ItemId}
-use Rattle.bump_core.specs.declared.workers.Hand.TheVariants.{Idle}
+use Rattle.bump_core.specs.declared.hands.Hand.TheVariants.{Idle}
 use Rattle.bump_core.specs.State.{WorkerState, new_worker}
 use Rattle.bump_core.specs.Views.{state_of, worker_view}
-use Rattle.bump_core.proofs.Views.{rewritten, unchanged, on_err}
+use Rattle.bump_core.proofs.parts.Views.{rewritten, unchanged, on_err}
 use Rattle.bump_core.proofs.parts.Parts.push_bump.Goals as goal
 
 pub returns-clause-ok : goal.returns-clause-ok

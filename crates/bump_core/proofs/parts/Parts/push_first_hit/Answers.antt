@@ -2,7 +2,7 @@ use Rattle.std.proofs.Common.{List, [], ◌∷◌, ◌++◌, ap}
 use Rattle.bump_core.specs.declared.items.ItemId.{ItemId}
 use Rattle.bump_core.specs.State.{WorkerState, new_worker}
 use Rattle.bump_core.specs.Views.{state_of, worker_view}
-use Rattle.bump_core.proofs.Views.{rewritten, unchanged, on_err}
+use Rattle.bump_core.proofs.parts.Views.{rewritten, unchanged, on_err}
 use Rattle.bump_core.proofs.parts.Parts.push_first_hit.Goals as goal
 
 pub returns-clause-ok : goal.returns-clause-ok

@@ -3,7 +3,7 @@ use Rattle.std.proofs.lemmas.List.{take-append-le}
 use Rattle.bump_core.specs.declared.items.ItemId.{ItemId}
 use Rattle.bump_core.specs.State.{WorkerState, new_worker}
 use Rattle.bump_core.specs.Views.{state_of, worker_view}
-use Rattle.bump_core.proofs.Views.{rewritten, unchanged, on_err}
+use Rattle.bump_core.proofs.parts.Views.{rewritten, unchanged, on_err}
 use Rattle.bump_core.proofs.parts.Parts.queue.Goals as goal
 
 pub returns-clause-ok : goal.returns-clause-ok

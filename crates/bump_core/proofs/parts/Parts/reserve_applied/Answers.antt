@@ -1,8 +1,8 @@
 use Rattle.std.proofs.Common.{List, ap}
-use Rattle.bump_core.specs.declared.lanes.AppliedBump.{AppliedBump}
+use Rattle.bump_core.specs.declared.bumps.AppliedBump.{AppliedBump}
 use Rattle.bump_core.specs.State.{WorkerState}
 use Rattle.bump_core.specs.Views.{state_of, worker_view}
-use Rattle.bump_core.proofs.Views.{unchanged}
+use Rattle.bump_core.proofs.parts.Views.{unchanged}
 use Rattle.bump_core.proofs.parts.Parts.reserve_applied.Goals as goal
 
 pub returns-clause-state : goal.returns-clause-state

@@ -1,7 +1,7 @@
 use Rattle.std.proofs.Common.{List, refl, ap}
 use Rattle.bump_core.specs.State.{WorkerState, new_worker}
 use Rattle.bump_core.specs.Views.{state_of, worker_view}
-use Rattle.bump_core.proofs.Views.{rewritten}
+use Rattle.bump_core.proofs.parts.Views.{rewritten}
 use Rattle.bump_core.proofs.parts.Parts.set_hand.Goals as goal
 
 pub returns : goal.returns

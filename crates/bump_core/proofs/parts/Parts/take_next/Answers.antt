@@ -4,7 +4,7 @@ use Rattle.bump_core.specs.declared.lanes.Lane.TheVariants.{Carrying}
 use Rattle.bump_core.specs.Events.{bump_of}
 use Rattle.bump_core.specs.State.{WorkerState, new_worker}
 use Rattle.bump_core.specs.Views.{state_of, worker_view}
-use Rattle.bump_core.proofs.Views.{rewritten, next_received}
+use Rattle.bump_core.proofs.parts.Views.{rewritten, next_received}
 use Rattle.bump_core.proofs.parts.Parts.take_next.Goals as goal
 
 pub returns-clause-after : goal.returns-clause-after

@@ -4,8 +4,8 @@ use Rattle.bump_core.specs.Commands.{events_of}
 use Rattle.bump_core.specs.Runs.{run_of}
 use Rattle.bump_core.specs.State.{State, SameSizes}
 use Rattle.bump_core.specs.Views.{state_of}
-use Rattle.bump_core.proofs.Made.{command_keeps, command_events, command_sizes}
-use Rattle.bump_core.proofs.Headlines.{headline}
+use Rattle.bump_core.proofs.commands.AreEvents.{command_keeps, command_events, command_sizes}
+use Rattle.bump_core.proofs.worlds.Headline.{headline}
 use Rattle.bump_core.proofs.worlds.World.command.Goals as goal
 
 pub invariant_of-self : goal.invariant_of-self

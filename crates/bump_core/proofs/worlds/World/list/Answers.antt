@@ -2,7 +2,7 @@ use Rattle.std.proofs.Common.{subst, ap, ◌∙◌}
 use Rattle.bump_core.specs.Lists.{list_at}
 use Rattle.bump_core.specs.State.{class}
 use Rattle.bump_core.specs.Worlds.{IsLawful}
-use Rattle.bump_core.proofs.Fronts.{listed_in_range}
+use Rattle.bump_core.proofs.worlds.Fronts.{listed_in_range}
 use Rattle.bump_core.proofs.worlds.World.list.Goals as goal
 
 pub returns-clause-in_range : goal.returns-clause-in_range

@@ -1,6 +1,6 @@
 use Rattle.std.proofs.Common.{subst, sym}
-use Rattle.bump_core.proofs.Steps.{Keeps}
-use Rattle.bump_core.proofs.Openings.{keeps_valid}
+use Rattle.bump_core.proofs.worlds.StaysLawful.{Keeps}
+use Rattle.bump_core.proofs.worlds.Opening.{keeps_valid}
 use Rattle.bump_core.proofs.worlds.World.new.Goals as goal
 
 pub invariant_of-result : goal.invariant_of-result

@@ -4,12 +4,12 @@ use Rattle.bump_core.specs.declared.events.Event.{Event}
 use Rattle.bump_core.specs.Labels.{KeepsLabels}
 use Rattle.std.proofs.lemmas.Option.{slice_get-get_or}
 use Rattle.bump_core.specs.Worlds.{IsLawful}
-use Rattle.bump_core.proofs.Headlines.{headline}
-use Rattle.bump_core.proofs.Labels.{keeps_labels}
-use Rattle.bump_core.proofs.Staying.{closed_stay}
-use Rattle.bump_core.proofs.Steps.{run_lawful}
-use Rattle.bump_core.proofs.Running.{run_refused, run_more, refused_stays}
-use Rattle.bump_core.proofs.Sizes.{run_sizes, refused_sizes}
+use Rattle.bump_core.proofs.worlds.Headline.{headline}
+use Rattle.bump_core.proofs.worlds.Labels.{keeps_labels}
+use Rattle.bump_core.proofs.worlds.ClosedRings.{closed_stay}
+use Rattle.bump_core.proofs.worlds.StaysLawful.{run_lawful}
+use Rattle.bump_core.proofs.events.Runs.{run_refused, run_more, refused_stays}
+use Rattle.bump_core.proofs.worlds.Sizes.{run_sizes, refused_sizes}
 use Rattle.bump_core.proofs.worlds.World.run.Goals as goal
 
 pub returns-in-Err-clause-run : goal.returns-in-Err-clause-run

@@ -1,9 +1,9 @@
 use Rattle.std.proofs.Common.{subst}
 use Rattle.bump_core.specs.Views.{state_of}
 use Rattle.bump_core.specs.State.{State, SameSizes}
-use Rattle.bump_core.proofs.Sizes.{step_sizes}
-use Rattle.bump_core.proofs.Headlines.{headline}
-use Rattle.bump_core.proofs.Steps.{step_keeps}
+use Rattle.bump_core.proofs.worlds.Sizes.{step_sizes}
+use Rattle.bump_core.proofs.worlds.Headline.{headline}
+use Rattle.bump_core.proofs.worlds.StaysLawful.{step_keeps}
 use Rattle.bump_core.proofs.worlds.World.step.Goals as goal
 
 pub invariant_of-self : goal.invariant_of-self

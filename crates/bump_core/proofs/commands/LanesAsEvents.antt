@@ -1,0 +1,249 @@
+-- Applying a bump is its events.
+use Rattle.std.proofs.Common.{◌≡◌, ℕ, ◌<◌, Bool, true, false, not, ◌&&◌, List, [], ◌∷◌, ◌++◌, length, slice_set, Option, Some, None, if◌then◌else◌, refl, sym, ap, ap₂, ◌∙◌, subst, arith}
+use Rattle.std.proofs.lemmas.Bool.{and_parts, and_from, ltb-true, lt-ltb, both_ways, not-true}
+use Rattle.std.proofs.lemmas.Option.{slice_get_within}
+use Rattle.std.specs.Option.{option_map_or}
+use Rattle.std.specs.Prelude.{option_map}
+use Rattle.std.proofs.lemmas.List.{set-get_or}
+use Rattle.bump_core.specs.declared.places.Segment.TheVariants as segment
+use Rattle.bump_core.specs.declared.items.ItemId.{ItemId}
+use Rattle.bump_core.specs.declared.items.Head.{Head}
+use Rattle.bump_core.specs.declared.chunks.Chunk.{Chunk}
+use Rattle.bump_core.specs.declared.history.Cause.TheVariants.{Bump as BumpOf}
+use Rattle.bump_core.specs.declared.history.Change.{Change}
+use Rattle.bump_core.specs.declared.history.Change.TheVariants as change
+use Rattle.bump_core.specs.declared.bumps.Bump.{Bump}
+use Rattle.bump_core.specs.declared.lanes.Lane.{Lane}
+use Rattle.bump_core.specs.declared.lanes.Lane.TheVariants as lane
+use Rattle.bump_core.specs.declared.bumps.AppliedBump.{AppliedBump}
+use Rattle.bump_core.specs.declared.bumps.Outcome.{Outcome}
+use Rattle.bump_core.specs.declared.bumps.Outcome.TheVariants as outcome
+use Rattle.bump_core.specs.declared.events.Event.{Event}
+use Rattle.bump_core.specs.declared.events.Event.TheVariants as event
+use Rattle.bump_core.specs.declared.commands.Command.TheVariants as command
+use Rattle.bump_core.specs.Lives.{count_of}
+use Rattle.bump_core.specs.Tables.{is_cold}
+use Rattle.bump_core.specs.State.{State, ClassState, WorkerState, chunk, head, class, worker, no_chunk, class_with_change, is_worker, with_worker, with_change, class_from, class_of, some_and, applies_in, is_under_application}
+use Rattle.bump_core.specs.Worlds.{references, aboard_of, IsLawful, NothingUnlinked}
+use Rattle.bump_core.specs.Heads.{one_fewer, cleared_head, moved_head}
+use Rattle.bump_core.specs.Events.{next_bump, carried, tried, applied_now, cleared_active, is_empty, outcome_tried, ending_at, ending, with_time, bump_of, take_bump, with_lane, clear_for, move_for, applied_bump, alight}
+use Rattle.bump_core.specs.Runs.{run_of}
+use Rattle.bump_core.specs.Commands.{is_allowed, events_of, command_after, bump_next, is_half_made, outcome_next, ended_at, bumped_chunk, bumped_worker, bumped_lists, apply_bump, take_events, apply_events}
+use Rattle.bump_core.proofs.worlds.NothingUnlinked.{referred_linked}
+use Rattle.bump_core.proofs.workers.Ring.{next_in_ring}
+use Rattle.bump_core.proofs.worlds.LawfulStates.{one_if_same, referred_in_range, in_ring_referred, aboard_referred}
+use Rattle.bump_core.proofs.events.Runs.{run_step}
+use Rattle.bump_core.proofs.Updates.{none_written}
+use Rattle.bump_core.proofs.commands.ChangedState.{at, at_start, chunk_at, worker_at, is_worker_at, on_chunk, on_worker, on_both}
+
+-- The steps of a bump, on its chunk, its worker and the classes.
+module _ (s : State) (b : Bump) (w : ℕ) (c_in : b.life.chunk < length s.chunks) (w_in : w < length s.workers) (ks : List ClassState) (x : Chunk) (y : WorkerState) (es : List Event) where
+  -- the state with the classes, the chunk and the worker
+  abbrev t : State
+  t = at s b.life.chunk w ks x y
+
+  -- the worker's lane is read
+  lane_at : (worker t w).lane ≡ y.lane
+  lane_at = ap (λ (z : WorkerState). z.lane) (worker_at s b.life.chunk w c_in w_in ks x y)
+
+  -- the lane looks at the head
+  try_step : y.lane ≡ lane.Carrying b → is_under_application t (class_of t b.life.chunk) ≡ false
+      → run_of t (event.Try w ∷ es) ≡ run_of (at s b.life.chunk w ks x (record y { lane = lane.Tried b })) es
+  try_step is rest =
+      let bump : carried (worker t w).lane ≡ Some b = ap carried (lane_at ∙ is) in
+      run_step t _ (event.Try w) es
+      (and_from _ _ (is_worker_at s b.life.chunk w c_in w_in ks x y) (ap (some_and (λ (a : Bump). not (is_under_application t (class_of t a.life.chunk)))) bump ∙ ap not rest))
+      (ap (λ m. option_map_or (λ (a : Bump). with_lane t w (lane.Tried a)) m t) bump
+      ∙ on_worker s b.life.chunk w c_in w_in ks x y (λ z. record z { lane = lane.Tried b }))
+
+  -- the lane stores the time
+  time_step : (now : ℕ) → applied_now y.lane ≡ Some b → x.head.linked ≡ true
+      → run_of t (event.BumpTime w now ∷ es) ≡ run_of (at s b.life.chunk w ks (record x { time = now }) y) es
+  time_step now is on =
+      let bump : applied_now (worker t w).lane ≡ Some b = ap applied_now lane_at ∙ is in
+      run_step t _ (event.BumpTime w now) es
+      (and_from _ _ (is_worker_at s b.life.chunk w c_in w_in ks x y)
+      (ap (some_and (λ (a : Bump). (head t a.life.chunk).linked)) bump ∙ (ap (λ (z : Chunk). z.head.linked) (chunk_at s b.life.chunk w c_in w_in ks x y) ∙ on)))
+      (ap (λ m. option_map_or (λ (a : Bump). with_time t a.life.chunk now) m t) bump
+      ∙ on_chunk s b.life.chunk w c_in w_in ks x y (λ z. record z { time = now }))
+
+  -- the lane clears ACTIVE
+  clear_step : y.lane ≡ lane.Tried b → x.head.linked ≡ true → is_cold x.head.segment ≡ true
+      → run_of t (event.ClearFor w ∷ es) ≡ run_of (at s b.life.chunk w ks (record x { head = cleared_head x.head }) (record y { lane = lane.Cleared b x.head.active })) es
+  clear_step is on cold =
+      let bump : tried (worker t w).lane ≡ Some b = ap tried (lane_at ∙ is) in
+      run_step t _ (event.ClearFor w) es
+      (and_from _ _ (is_worker_at s b.life.chunk w c_in w_in ks x y)
+      (ap (some_and (λ (a : Bump). (head t a.life.chunk).linked && is_cold (head t a.life.chunk).segment)) bump
+      ∙ (ap (λ (z : Chunk). z.head.linked && is_cold z.head.segment) (chunk_at s b.life.chunk w c_in w_in ks x y) ∙ and_from _ _ on cold)))
+      (ap (λ m. option_map_or (clear_for t w) m t) bump
+      ∙ on_both s b.life.chunk w c_in w_in ks x y (λ z. record z { head = cleared_head z.head }) (λ a z. record z { lane = lane.Cleared b a.head.active }))
+
+  -- the class's entry of the move
+  abbrev entry : Change
+  entry = change.Moved b.life segment.Cold segment.Warm (BumpOf w b.number)
+
+  -- the lane moves the item
+  move_step : y.lane ≡ lane.Cleared b true
+      → run_of t (event.MoveFor w ∷ es) ≡ run_of (with_change (at s b.life.chunk w ks (record x { head = moved_head segment.Warm x.head }) (record y { lane = lane.Moved b })) (class_from ks b.life.chunk) entry) es
+  move_step is =
+      let bump : cleared_active (worker t w).lane ≡ Some b = ap cleared_active (lane_at ∙ is) in
+      run_step t _ (event.MoveFor w) es
+      (and_from _ _ (is_worker_at s b.life.chunk w c_in w_in ks x y) (ap (some_and (λ (a : Bump). true)) bump))
+      (ap (λ m. option_map_or (move_for t w) m t) bump
+      ∙ ap (λ u. with_change u (class_from ks b.life.chunk) entry) (on_both s b.life.chunk w c_in w_in ks x y (λ z. record z { head = moved_head segment.Warm z.head }) (λ a z. record z { lane = lane.Moved b })))
+
+  -- the lane gives the reference back
+  alight_step : (out : Outcome) → ((heads : ℕ → Head) → heads b.life.chunk ≡ x.head → ending_at heads y.lane ≡ Some (applied_bump b out))
+      → run_of t (event.Alight w ∷ es) ≡ run_of (at s b.life.chunk w ks (record x { head = one_fewer x.head }) (record y { lane = lane.Empty; applied = y.applied ++ applied_bump b out ∷ [] })) es
+  alight_step out ends =
+      let comes : ending t w ≡ Some (applied_bump b out) = ap (ending_at (head t)) lane_at ∙ ends (head t) (ap (λ (z : Chunk). z.head) (chunk_at s b.life.chunk w c_in w_in ks x y)) in
+      run_step t _ (event.Alight w) es
+      (and_from _ _ (is_worker_at s b.life.chunk w c_in w_in ks x y) (ap (some_and (λ (a : AppliedBump). true)) comes))
+      (ap (λ m. option_map_or (alight t w) m t) comes
+      ∙ on_both s b.life.chunk w c_in w_in ks x y (λ z. record z { head = one_fewer z.head }) (λ a z. record z { lane = lane.Empty; applied = z.applied ++ applied_bump b out ∷ [] }))
+
+-- A bump that a lane carries, of a linked chunk, while no lane applies one of its class.
+module _ (s : State) (b : Bump) (w now : ℕ) (c_in : b.life.chunk < length s.chunks) (w_in : w < length s.workers) (on : (head s b.life.chunk).linked ≡ true)
+    (rest : is_under_application s (class_of s b.life.chunk) ≡ false) (received : List ItemId) where
+  -- the chunk's number
+  abbrev c : ℕ
+  c = b.life.chunk
+
+  -- its head
+  abbrev h : Head
+  h = head s c
+
+  -- the chunk
+  abbrev x : Chunk
+  x = chunk s c
+
+  -- the worker when the lane is so far
+  abbrev y : Lane → WorkerState
+  y l = record (worker s w) { received = received; lane = l }
+
+  -- the worker when the bump is applied
+  abbrev z : Outcome → WorkerState
+  z o = record (y lane.Empty) { applied = (worker s w).applied ++ applied_bump b o ∷ [] }
+
+  -- the lane looks at the head and stores the time
+  begun : (es : List Event) → run_of (at s c w s.classes x (y (lane.Carrying b))) (event.Try w ∷ event.BumpTime w now ∷ es) ≡ run_of (at s c w s.classes (record x { time = now }) (y (lane.Tried b))) es
+  begun es = try_step s b w c_in w_in s.classes x (y (lane.Carrying b)) (event.BumpTime w now ∷ es) refl
+      (none_written (λ (v : WorkerState). applies_in s (class_of s c) v.lane) s.workers w (y (lane.Carrying b)) rest refl)
+      ∙ time_step s b w c_in w_in s.classes x (y (lane.Tried b)) es now refl on
+
+  -- an item in HOT or WARM gets the time alone
+  timed : is_cold h.segment ≡ false → run_of (at s c w s.classes x (y (lane.Carrying b))) (event.Try w ∷ event.BumpTime w now ∷ event.Alight w ∷ [])
+      ≡ Some (at s c w s.classes (bumped_chunk x now outcome.TimeOnly) (z outcome.TimeOnly))
+  timed warm = begun (event.Alight w ∷ [])
+      ∙ alight_step s b w c_in w_in s.classes (record x { time = now }) (y (lane.Tried b)) [] outcome.TimeOnly
+      (λ heads same. ap (λ (f : Head). option_map (applied_bump b) (outcome_tried f)) same
+      ∙ ap (option_map (applied_bump b)) (ap (λ i. if not i then Some outcome.Gone else (if is_cold h.segment then None else Some outcome.TimeOnly)) on ∙ ap (λ d. if d then None else Some outcome.TimeOnly) warm))
+
+  -- so does one in COLD whose ACTIVE is clear
+  unmarked : is_cold h.segment ≡ true → h.active ≡ false → run_of (at s c w s.classes x (y (lane.Carrying b))) (event.Try w ∷ event.BumpTime w now ∷ event.ClearFor w ∷ event.Alight w ∷ [])
+      ≡ Some (at s c w s.classes (bumped_chunk x now outcome.TimeOnly) (z outcome.TimeOnly))
+  unmarked cold clear = begun (event.ClearFor w ∷ event.Alight w ∷ [])
+      ∙ (clear_step s b w c_in w_in s.classes (record x { time = now }) (y (lane.Tried b)) (event.Alight w ∷ []) refl on cold
+      ∙ (alight_step s b w c_in w_in s.classes (record x { head = cleared_head h; time = now }) (y (lane.Cleared b h.active)) [] outcome.TimeOnly (λ heads same. ap (λ d. ending_at heads (lane.Cleared b d)) clear)
+      ∙ ap (λ (a : Bool). Some (at s c w s.classes (record x { head = record (one_fewer h) { active = a }; time = now }) (z outcome.TimeOnly))) (sym clear)))
+
+  -- one whose ACTIVE is set is moved
+  moved : is_cold h.segment ≡ true → h.active ≡ true → run_of (at s c w s.classes x (y (lane.Carrying b))) (event.Try w ∷ event.BumpTime w now ∷ event.ClearFor w ∷ event.MoveFor w ∷ event.Alight w ∷ [])
+      ≡ Some (with_change (at s c w s.classes (bumped_chunk x now outcome.Moved) (z outcome.Moved)) (class_of s c) (change.Moved b.life segment.Cold segment.Warm (BumpOf w b.number)))
+  moved cold set = begun (event.ClearFor w ∷ event.MoveFor w ∷ event.Alight w ∷ [])
+      ∙ (clear_step s b w c_in w_in s.classes (record x { time = now }) (y (lane.Tried b)) (event.MoveFor w ∷ event.Alight w ∷ []) refl on cold
+      ∙ (move_step s b w c_in w_in s.classes (record x { head = cleared_head h; time = now }) (y (lane.Cleared b h.active)) (event.Alight w ∷ []) (ap (lane.Cleared b) set)
+      ∙ alight_step s b w c_in w_in (slice_set s.classes (class_of s c) (class_with_change (class s (class_of s c)) (change.Moved b.life segment.Cold segment.Warm (BumpOf w b.number))))
+      (record x { head = moved_head segment.Warm (cleared_head h); time = now }) (y (lane.Moved b)) [] outcome.Moved (λ heads same. refl)))
+
+  -- the outcome, by LINKED, by whether the segment bits say COLD, and by ACTIVE
+  abbrev out : Bool → Bool → Bool → Outcome
+  out i d a = if not i then outcome.Gone else (if d && a then outcome.Moved else outcome.TimeOnly)
+
+  -- applying the bump is what the update table says
+  applied_made : run_of (at s c w s.classes x (y (lane.Carrying b))) (apply_events h w now c)
+      ≡ Some (bumped_lists (at s c w s.classes (bumped_chunk x now (outcome_next s b)) (z (outcome_next s b))) w b (outcome_next s b) (ended_at s c))
+  applied_made = by h.linked (is_cold h.segment) h.active on refl refl
+    where
+      by : (i d a : Bool) → i ≡ true → is_cold h.segment ≡ d → h.active ≡ a
+          → run_of (at s c w s.classes x (y (lane.Carrying b)))
+          (if not i then event.Try w ∷ event.Alight w ∷ event.Load c ∷ []
+          else (if not d then event.Try w ∷ event.BumpTime w now ∷ event.Alight w ∷ []
+          else (if a then event.Try w ∷ event.BumpTime w now ∷ event.ClearFor w ∷ event.MoveFor w ∷ event.Alight w ∷ []
+          else event.Try w ∷ event.BumpTime w now ∷ event.ClearFor w ∷ event.Alight w ∷ [])))
+          ≡ Some (bumped_lists (at s c w s.classes (bumped_chunk x now (out i d a)) (z (out i d a))) w b (out i d a) (ended_at s c))
+      by false d a is cold mark = absurd (both_ways false refl is)
+      by true false a is warm mark = timed warm
+      by true true true is cold set = moved cold set
+      by true true false is cold clear = unmarked cold clear
+
+-- what is to be shown, by the next bump
+abbrev Made : State → ℕ → ℕ → Option Bump → Type 0
+Made s w now m = run_of s (option_map_or (λ (b : Bump). take_events w (worker s w).lane ++ apply_events (head s b.life.chunk) w now b.life.chunk) m []) ≡ Some (option_map_or (apply_bump s w now) m s)
+
+-- the worker when it received these and its lane is so far
+abbrev laned : State → ℕ → List ItemId → Lane → WorkerState
+laned s w r l = record (worker s w) { received = r; lane = l }
+
+-- applying the next bump of a worker is its events
+pub next_made : (s : State) → IsLawful s → NothingUnlinked s → (w now : ℕ) → is_allowed s (command.Next w now) ≡ true → run_of s (events_of s (command.Next w now)) ≡ Some (command_after s (command.Next w now))
+next_made s o none w now allowed = by (worker s w).lane refl
+  where
+    both : (is_worker s w ≡ true) × ((not (is_half_made (worker s w).lane) && not (some_and (λ b. is_under_application s (class_of s b.life.chunk)) (bump_next (worker s w)))) ≡ true)
+    both = and_parts _ _ allowed
+
+    more : (not (is_half_made (worker s w).lane) ≡ true) × (not (some_and (λ b. is_under_application s (class_of s b.life.chunk)) (bump_next (worker s w))) ≡ true)
+    more = and_parts _ _ both.1
+
+    w_in : w < length s.workers
+    w_in = ltb-true w (length s.workers) both.0
+
+    -- no lane applies a bump of the class of the next one
+    rests : (b : Bump) → bump_next (worker s w) ≡ Some b → is_under_application s (class_of s b.life.chunk) ≡ false
+    rests b is = not-true _ (ap (λ m. not (some_and (λ (a : Bump). is_under_application s (class_of s a.life.chunk)) m)) (sym is) ∙ more.1)
+
+    -- the bump that the lane carries is applied
+    ends : (b : Bump) (r : List ItemId) → bump_next (worker s w) ≡ Some b → 0 < references s b.life.chunk b.life.generation
+        → r ≡ (bumped_worker (worker s w) b (outcome_next s b)).received
+        → run_of (at s b.life.chunk w s.classes (chunk s b.life.chunk) (laned s w r (lane.Carrying b))) (apply_events (head s b.life.chunk) w now b.life.chunk) ≡ Some (apply_bump s w now b)
+    ends b r is some same = applied_made s b w now (referred_in_range s o b.life.chunk b.life.generation some) w_in (referred_linked s o none b.life.chunk b.life.generation some) (rests b is) r
+        ∙ ap (λ (q : List ItemId). Some (bumped_lists (at s b.life.chunk w s.classes (bumped_chunk (chunk s b.life.chunk) now (outcome_next s b))
+        (record (worker s w) { received = q; lane = lane.Empty; applied = (worker s w).applied ++ applied_bump b (outcome_next s b) ∷ [] })) w b (outcome_next s b) (ended_at s b.life.chunk))) same
+
+    -- a bump that is aboard
+    aboard_made : (b : Bump) → (worker s w).lane ≡ lane.Carrying b → Made s w now (Some b)
+    aboard_made b is =
+        let bump : bump_next (worker s w) ≡ Some b = ap (λ l. bump_next (record (worker s w) { lane = l })) is in
+        let some = aboard_referred s o w b.life w_in (omega (arith, ap (aboard_of b.life) is, one_if_same b.life)) in
+        ap (λ l. run_of s (take_events w l ++ apply_events (head s b.life.chunk) w now b.life.chunk)) is
+        ∙ (ap (λ u. run_of u (apply_events (head s b.life.chunk) w now b.life.chunk)) (at_start s b.life.chunk w ∙ ap (λ l. at s b.life.chunk w s.classes (chunk s b.life.chunk) (laned s w (worker s w).received l)) is)
+        ∙ ends b (worker s w).received bump some (ap (λ l. (bumped_worker (record (worker s w) { lane = l }) b (outcome_next s b)).received) (sym is)))
+
+    -- a bump that waits in the ring
+    waiting_made : (l : ItemId) → (worker s w).lane ≡ lane.Empty → next_bump (worker s w) ≡ Some l → bump_next (worker s w) ≡ Some (bump_of (length (worker s w).received) l)
+        → Made s w now (Some (bump_of (length (worker s w).received) l))
+    waiting_made l is next bump =
+        let b = bump_of (length (worker s w).received) l in
+        let some = in_ring_referred s o w l w_in (omega (arith, ap (count_of l) (next_in_ring (worker s w) l next), one_if_same l)) in
+        let r = (worker s w).received ++ l ∷ [] in
+        ap (λ m. run_of s (take_events w m ++ apply_events (head s l.chunk) w now l.chunk)) is
+        ∙ (run_step s (at s l.chunk w s.classes (chunk s l.chunk) (laned s w r (lane.Carrying b))) (event.TakeBump w) (apply_events (head s l.chunk) w now l.chunk)
+        (and_from _ _ both.0 (and_from _ _ (ap is_empty is) (lt-ltb _ _ (slice_get_within (worker s w).sent (length (worker s w).received) l next))))
+        (ap (λ m. option_map_or (take_bump s w) m s) next ∙ ap (λ cs. with_worker (record s { chunks = cs }) w (laned s w r (lane.Carrying b))) (sym (set-get_or s.chunks l.chunk no_chunk)))
+        ∙ ends b r bump some (ap (λ m. (bumped_worker (record (worker s w) { lane = m }) b (outcome_next s b)).received) (sym is)))
+
+    -- the lane is empty
+    empty_made : (worker s w).lane ≡ lane.Empty → (m : Option ItemId) → next_bump (worker s w) ≡ m → Made s w now (bump_next (worker s w))
+    empty_made is m next = here m next (ap (λ l. bump_next (record (worker s w) { lane = l })) is ∙ ap (λ n. option_map_or (λ l. Some (bump_of (length (worker s w).received) l)) n None) next)
+      where
+        here : (m : Option ItemId) → next_bump (worker s w) ≡ m → bump_next (worker s w) ≡ option_map_or (λ l. Some (bump_of (length (worker s w).received) l)) m None → Made s w now (bump_next (worker s w))
+        here None next bump = subst (Made s w now) (sym bump) refl
+        here (Some l) next bump = subst (Made s w now) (sym bump) (waiting_made l is next bump)
+
+    by : (l : Lane) → (worker s w).lane ≡ l → Made s w now (bump_next (worker s w))
+    by lane.Empty is = empty_made is (next_bump (worker s w)) refl
+    by (lane.Carrying b) is = subst (Made s w now) (sym (ap (λ l. bump_next (record (worker s w) { lane = l })) is)) (aboard_made b is)
+    by (lane.Tried b) is = absurd (both_ways _ (not-true _ more.0) (ap is_half_made is))
+    by (lane.Cleared b found) is = absurd (both_ways _ (not-true _ more.0) (ap is_half_made is))
+    by (lane.Moved b) is = absurd (both_ways _ (not-true _ more.0) (ap is_half_made is))

@@ -1,0 +1,9 @@
+pub mod Enabled
+pub mod LawfulAttempts
+pub mod LawfulHits
+pub mod LawfulHolds
+pub mod LawfulLanes
+pub mod LawfulLinks
+pub mod LawfulPulls
+pub mod Moves
+pub mod Runs

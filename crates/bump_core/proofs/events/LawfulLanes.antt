@@ -1,0 +1,211 @@
+-- What a lane does leaves a lawful state lawful.
+use Rattle.std.proofs.Common.{◌≡◌, ℕ, suc, ◌<◌, Bool, true, false, not, ◌&&◌, nat_lt, List, [], ◌∷◌, ◌++◌, map, length, drop, slice_index_or, Some, refl, sym, ap, ◌∙◌, arith, append_assoc, length-append, subst}
+use Rattle.std.proofs.lemmas.List.{append-nil, map-append, get_or-set_same, length-set}
+use Rattle.std.proofs.lemmas.Bool.{and_parts, ltb-true, not-true}
+use Rattle.std.proofs.lemmas.Option.{slice_get-get_or}
+use Rattle.std.specs.Option.{option_map_or}
+use Rattle.bump_core.specs.declared.places.Segment.TheVariants as segment
+use Rattle.bump_core.specs.declared.items.ItemId.{ItemId}
+use Rattle.bump_core.specs.declared.items.Head.{Head}
+use Rattle.bump_core.specs.declared.bumps.Bump.{Bump}
+use Rattle.bump_core.specs.declared.lanes.Lane.{Lane}
+use Rattle.bump_core.specs.declared.lanes.Lane.TheVariants as lane
+use Rattle.bump_core.specs.declared.bumps.AppliedBump.{AppliedBump}
+use Rattle.bump_core.specs.declared.bumps.Outcome.{Outcome}
+use Rattle.bump_core.specs.declared.events.Event.TheVariants as event
+use Rattle.bump_core.specs.Lives.{life, one_if, count_of}
+use Rattle.bump_core.specs.Tables.{is_cold}
+use Rattle.bump_core.specs.Rings.{in_ring, aboard, bump_applied, IsWorker}
+use Rattle.bump_core.specs.State.{State, WorkerState, chunk, head, worker, class_of, with_head, is_worker, some_and, applied_life, is_under_application, new_worker}
+use Rattle.bump_core.specs.Heads.{cleared_head, moved_head}
+use Rattle.bump_core.specs.Events.{with_time, next_bump, bump_of, carried, tried, applied_now, is_empty, ending, is_enabled, after, take_bump, with_lane, clear_for, alight, move_for, cleared_active}
+use Rattle.bump_core.specs.Worlds.{aboard_of, WaitsToMove, IsLawful, place, references, first_hits_of}
+use Rattle.bump_core.proofs.workers.Ring.{lane_further, next_in_ring, numbered_append}
+use Rattle.bump_core.proofs.worlds.LawfulStates.{linked_in_range, aboard_in_range, aboard_current, applied_aboard, waiting_linked}
+use Rattle.bump_core.proofs.worlds.Frames.{worker_lawful, both_marked, both_unreferred, alone_kept, chunk_here, time_lawful}
+use Rattle.bump_core.proofs.events.Enabled.{some_and_parts, lawful_by_some, empty_from, carrying_from, tried_from, cold_from, applied_from, worker_from, none_applies, applied_by_ending, move_for_from, cleared_from}
+use Rattle.bump_core.specs.declared.history.Change.TheVariants as change
+use Rattle.bump_core.specs.declared.history.Cause.TheVariants.{Bump as BumpOf}
+use Rattle.bump_core.proofs.classes.Tiles.{class_within, class_owns}
+use Rattle.bump_core.proofs.chunks.Laws.{moved}
+use Rattle.bump_core.proofs.events.Moves.{change_lawful}
+
+-- a lane with no bump aboard takes the next one from the ring
+pub take_bump_lawful : (s : State) (w : ℕ) (l : ItemId) → IsLawful s → w < length s.workers → (worker s w).lane ≡ lane.Empty → next_bump (worker s w) ≡ Some l → IsLawful (take_bump s w l)
+take_bump_lawful s w l o inside empty next = worker_lawful s w y o inside
+    (λ m. omega (arith, ap (aboard_of m) empty, ap (count_of m) was_ring, ap (count_of m) ring))
+    (λ m. refl)
+    (λ m. omega arith)
+    (record {
+      ring = record {
+        prefix = was.ring.prefix ∙ ap (λ xs. (worker s w).received ++ xs) was_ring ∙ sym (append_assoc (worker s w).received (l ∷ []) rest) ∙ ap (λ xs. ((worker s w).received ++ l ∷ []) ++ xs) (sym ring);
+        room = omega (arith, was.ring.room, ap length was_ring, ap length ring);
+      };
+      applied = ap (λ bs. bs ++ bump_of (length (worker s w).received) l ∷ []) (sym (append-nil (map bump_applied (worker s w).applied)) ∙ ap (λ x. map bump_applied (worker s w).applied ++ aboard x) (sym empty) ∙ was.applied)
+          ∙ sym (numbered_append 0 (worker s w).received (l ∷ []) (length (worker s w).received) (omega arith));
+      accounts = was.accounts;
+    })
+    (λ v a b inside_too ne of_v of_y same. let u : ⊥ = cc in u)
+    tt
+  where
+    y : WorkerState
+    y = record (worker s w) { received = (worker s w).received ++ l ∷ []; lane = lane.Carrying (bump_of (length (worker s w).received) l) }
+
+    was : IsWorker s.capacity (worker s w)
+    was = o.workers w inside
+
+    rest : List ItemId
+    rest = drop (suc (length (worker s w).received)) (worker s w).sent
+
+    was_ring : in_ring (worker s w) ≡ l ∷ rest
+    was_ring = next_in_ring (worker s w) l next
+
+    ring : in_ring y ≡ rest
+    ring = ap (λ n. drop n (worker s w).sent) (let more : length ((worker s w).received ++ l ∷ []) ≡ suc (length (worker s w).received) = omega (arith, length-append (worker s w).received (l ∷ [])) in more)
+
+-- where no lane applies a bump of its class the lane looks at the item of its bump
+pub try_lawful : (s : State) (w : ℕ) (b : Bump) → IsLawful s → w < length s.workers → (worker s w).lane ≡ lane.Carrying b → is_under_application s (class_of s b.life.chunk) ≡ false → IsLawful (with_lane s w (lane.Tried b))
+try_lawful s w b o inside is rest = worker_lawful s w (record (worker s w) { lane = lane.Tried b }) o inside
+    (λ m. omega (arith, ap (aboard_of m) is))
+    (λ m. refl)
+    (λ m. omega arith)
+    (lane_further s.capacity (worker s w) (lane.Tried b) (o.workers w inside) (sym (ap aboard is)))
+    (λ v l m inside_too ne of_v of_y same. none_applies s (class_of s b.life.chunk) v l rest inside_too of_v (same ∙ ap (λ z. class_of s z.chunk) (let back : m ≡ b.life = cc in back)))
+    tt
+
+-- an item of COLD waits to be moved or not
+waits_cleared : (s : State) (b : Bump) (found : Bool) → (head s b.life.chunk).linked ≡ true → (head s b.life.chunk).segment ≡ segment.Cold → WaitsToMove s (lane.Cleared b found)
+waits_cleared s b true on cold = (on, cold)
+waits_cleared s b false on cold = tt
+
+-- the lane clears ACTIVE of an item that it found linked in COLD
+pub clear_for_lawful : (s : State) (w : ℕ) (b : Bump) → IsLawful s → w < length s.workers → (worker s w).lane ≡ lane.Tried b → (head s b.life.chunk).linked ≡ true → (head s b.life.chunk).segment ≡ segment.Cold → IsLawful (clear_for s w b)
+clear_for_lawful s w b o inside is on cold = both_marked s b.life.chunk false w y o within inside (omega arith)
+    (λ m. omega (arith, ap (aboard_of m) is))
+    (λ m. refl)
+    (λ m. omega (arith, o.hands m))
+    (lane_further s.capacity (worker s w) (lane.Cleared b (head s b.life.chunk).active) (o.workers w inside) (sym (ap aboard is)))
+    (alone_kept s w y inside o (sym (ap applied_life is)))
+    (waits_cleared (with_head s b.life.chunk h) b (head s b.life.chunk).active (ap (λ z. z.head.linked) here ∙ on) (ap (λ z. z.head.segment) here ∙ cold))
+  where
+    within : b.life.chunk < length s.chunks
+    within = linked_in_range s o b.life.chunk on
+
+    h : Head
+    h = cleared_head (head s b.life.chunk)
+
+    y : WorkerState
+    y = record (worker s w) { lane = lane.Cleared b (head s b.life.chunk).active }
+
+    here : chunk (with_head s b.life.chunk h) b.life.chunk ≡ record (chunk s b.life.chunk) { head = h }
+    here = chunk_here s b.life.chunk (record (chunk s b.life.chunk) { head = h }) within
+
+-- the bump that a lane applies is the one aboard
+pub applied_alone_aboard : (x : Lane) (b : Bump) → applied_now x ≡ Some b → aboard x ≡ b ∷ []
+applied_alone_aboard lane.Empty b is = absurd (let u : ⊥ = cc in u)
+applied_alone_aboard (lane.Carrying a) b is = absurd (let u : ⊥ = cc in u)
+applied_alone_aboard (lane.Tried a) b is = ap (λ (z : Bump). z ∷ []) (let same : a ≡ b = cc in same)
+applied_alone_aboard (lane.Cleared a found) b is = ap (λ (z : Bump). z ∷ []) (let same : a ≡ b = cc in same)
+applied_alone_aboard (lane.Moved a) b is = ap (λ (z : Bump). z ∷ []) (let same : a ≡ b = cc in same)
+
+-- and its life is the one that counts
+pub applied_counts_for : (x : Lane) (b : Bump) → applied_now x ≡ Some b → (m : ItemId) → aboard_of m x ≡ one_if m b.life
+applied_counts_for lane.Empty b is m = absurd (let u : ⊥ = cc in u)
+applied_counts_for (lane.Carrying a) b is m = absurd (let u : ⊥ = cc in u)
+applied_counts_for (lane.Tried a) b is m = ap (λ (z : Bump). one_if m z.life) (let same : a ≡ b = cc in same)
+applied_counts_for (lane.Cleared a found) b is m = ap (λ (z : Bump). one_if m z.life) (let same : a ≡ b = cc in same)
+applied_counts_for (lane.Moved a) b is m = ap (λ (z : Bump). one_if m z.life) (let same : a ≡ b = cc in same)
+
+-- the lane gives the reference of the bump that it applied back
+pub alight_lawful : (s : State) (w : ℕ) (a : AppliedBump) → IsLawful s → w < length s.workers → applied_now (worker s w).lane ≡ Some (bump_applied a) → IsLawful (alight s w a)
+alight_lawful s w a o inside is = both_unreferred s a.life w (record (worker s w) { lane = lane.Empty; applied = (worker s w).applied ++ a ∷ [] }) o
+    (aboard_in_range s o w a.life inside counts) inside (aboard_current s o w a.life inside counts)
+    (λ m. omega (arith, applied_counts_for (worker s w).lane (bump_applied a) is m))
+    (λ m. refl)
+    (λ m. omega (arith, o.hands m))
+    (record {
+      ring = was.ring;
+      applied = append-nil (map bump_applied ((worker s w).applied ++ a ∷ [])) ∙ map-append bump_applied (worker s w).applied (a ∷ [])
+          ∙ ap (λ bs. map bump_applied (worker s w).applied ++ bs) (sym (applied_alone_aboard (worker s w).lane (bump_applied a) is)) ∙ was.applied;
+      accounts = was.accounts;
+    })
+    (λ v l m inside_too ne of_v of_y same. let u : ⊥ = cc in u)
+    tt
+  where
+    counts : 0 < aboard_of a.life (worker s w).lane
+    counts = applied_aboard s o w a.life (applied_from (worker s w).lane (bump_applied a) is)
+
+    was : IsWorker s.capacity (worker s w)
+    was = o.workers w inside
+
+-- The events.
+
+-- a lane takes the next bump
+pub after_take_bump : (s : State) (w : ℕ) → IsLawful s → is_enabled s (event.TakeBump w) ≡ true → IsLawful (after s (event.TakeBump w))
+after_take_bump s w o enabled = let parts = and_parts (is_worker s w) (is_empty (worker s w).lane && nat_lt (length (worker s w).received) (length (worker s w).sent)) enabled in
+    let more = and_parts (is_empty (worker s w).lane) (nat_lt (length (worker s w).received) (length (worker s w).sent)) parts.1 in
+    let l : ItemId = slice_index_or (worker s w).sent (length (worker s w).received) (life 0 0) in
+    let next : next_bump (worker s w) ≡ Some l = slice_get-get_or (worker s w).sent (length (worker s w).received) (life 0 0) (ltb-true (length (worker s w).received) (length (worker s w).sent) more.1) in
+    lawful_by_some (take_bump s w) s (next_bump (worker s w)) l next
+    (take_bump_lawful s w l o (worker_from s w parts.0) (empty_from (worker s w).lane more.0) next)
+
+-- the lane looks at the item of its bump
+pub after_try : (s : State) (w : ℕ) → IsLawful s → is_enabled s (event.Try w) ≡ true → IsLawful (after s (event.Try w))
+after_try s w o enabled = let parts = and_parts (is_worker s w) (some_and (λ b. not (is_under_application s (class_of s b.life.chunk))) (carried (worker s w).lane)) enabled in
+    let found = some_and_parts (λ (b : Bump). not (is_under_application s (class_of s b.life.chunk))) (carried (worker s w).lane) parts.1 in
+    lawful_by_some (λ b. with_lane s w (lane.Tried b)) s (carried (worker s w).lane) found.0 found.1
+    (try_lawful s w found.0 o (worker_from s w parts.0) (carrying_from (worker s w).lane found.0 found.1) (not-true (is_under_application s (class_of s found.0.life.chunk)) found.2))
+
+-- the lane stores the time
+pub after_bump_time : (s : State) (w t : ℕ) → IsLawful s → is_enabled s (event.BumpTime w t) ≡ true → IsLawful (after s (event.BumpTime w t))
+after_bump_time s w t o enabled = let parts = and_parts (is_worker s w) (some_and (λ b. (head s b.life.chunk).linked) (applied_now (worker s w).lane)) enabled in
+    let found = some_and_parts (λ (b : Bump). (head s b.life.chunk).linked) (applied_now (worker s w).lane) parts.1 in
+    lawful_by_some (λ b. with_time s b.life.chunk t) s (applied_now (worker s w).lane) found.0 found.1 (time_lawful s found.0.life.chunk t o)
+
+-- the lane clears ACTIVE
+pub after_clear_for : (s : State) (w : ℕ) → IsLawful s → is_enabled s (event.ClearFor w) ≡ true → IsLawful (after s (event.ClearFor w))
+after_clear_for s w o enabled = let parts = and_parts (is_worker s w) (some_and (λ b. (head s b.life.chunk).linked && is_cold (head s b.life.chunk).segment) (tried (worker s w).lane)) enabled in
+    let found = some_and_parts (λ (b : Bump). (head s b.life.chunk).linked && is_cold (head s b.life.chunk).segment) (tried (worker s w).lane) parts.1 in
+    let head_says = and_parts (head s found.0.life.chunk).linked (is_cold (head s found.0.life.chunk).segment) found.2 in
+    lawful_by_some (clear_for s w) s (tried (worker s w).lane) found.0 found.1
+    (clear_for_lawful s w found.0 o (worker_from s w parts.0) (tried_from (worker s w).lane found.0 found.1) head_says.0 (cold_from (head s found.0.life.chunk).segment head_says.1))
+
+-- the lane gives the bump's reference back
+pub after_alight : (s : State) (w : ℕ) → IsLawful s → is_enabled s (event.Alight w) ≡ true → IsLawful (after s (event.Alight w))
+after_alight s w o enabled = let parts = and_parts (is_worker s w) (some_and (λ a. true) (ending s w)) enabled in
+    let found = some_and_parts (λ (a : AppliedBump). true) (ending s w) parts.1 in
+    lawful_by_some (alight s w) s (ending s w) found.0 found.1
+    (alight_lawful s w found.0 o (worker_from s w parts.0) (applied_by_ending (head s) (worker s w).lane found.0 found.1))
+
+-- a lane that moved its item does not wait to move it
+two_lanes : (s : State) (v w : ℕ) (a b : Bump) → v ≡ w → (worker s v).lane ≡ lane.Cleared a true → (worker s w).lane ≡ lane.Moved b → ⊥
+two_lanes s v w a b same cleared moved = let both : lane.Cleared a true ≡ lane.Moved b = sym cleared ∙ (ap (λ (u : ℕ). (worker s u).lane) same ∙ moved) in cc
+
+-- a move for a bump keeps a World lawful
+pub after_move_for : (s : State) → IsLawful s → (w : ℕ) → is_enabled s (event.MoveFor w) ≡ true → IsLawful (after s (event.MoveFor w))
+after_move_for s o w enabled = let may = move_for_from s w enabled in
+    lawful_by_some (move_for s w) s (cleared_active (worker s w).lane) may.0 may.2 (goes may.0 may.1 (cleared_from (worker s w).lane may.0 may.2))
+  where
+    stays : (b : Bump) → w < length s.workers → (worker s w).lane ≡ lane.Cleared b true → IsLawful (with_lane s w (lane.Moved b))
+    stays b within is = worker_lawful s w (record (worker s w) { lane = lane.Moved b }) o within
+        (λ l. omega (arith, ap (aboard_of l) is))
+        (λ l. refl)
+        (λ l. omega arith)
+        (lane_further s.capacity (worker s w) (lane.Moved b) (o.workers w within) (sym (ap aboard is)))
+        (alone_kept s w (record (worker s w) { lane = lane.Moved b }) within o (sym (ap applied_life is)))
+        tt
+
+    goes : (b : Bump) → w < length s.workers → (worker s w).lane ≡ lane.Cleared b true → IsLawful (move_for s w b)
+    goes b within is =
+        let on = (waiting_linked s o w b within is).0 in
+        let c = b.life.chunk in
+        let in_range = linked_in_range s o c on in
+        let t = with_lane s w (lane.Moved b) in
+        let p : IsLawful t = stays b within is in
+        let here : (worker t w).lane ≡ lane.Moved b = ap (λ y. y.lane) (get_or-set_same s.workers w (record (worker s w) { lane = lane.Moved b }) new_worker within) in
+        let w_in : w < length t.workers = subst (λ (n : ℕ). w < n) (sym (length-set s.workers w (record (worker s w) { lane = lane.Moved b }))) within in
+        change_lawful t p c (moved_head segment.Warm (head s c)) (class_of s c) (change.Moved b.life segment.Cold segment.Warm (BumpOf w b.number)) (class_within s o.tiles c in_range) (class_owns s o.tiles c in_range) refl
+        (λ g. refl)
+        (moved s.refs_limit (head s c) (place s c) (references t c) (first_hits_of t c) (p.chunks c) segment.Warm on)
+        (aboard_current s o w b.life within (applied_aboard s o w b.life (ap applied_life is)))
+        (λ v v_in a cleared same. two_lanes t v w a b (p.alone v w a.life b.life v_in w_in (ap applied_life cleared) (ap applied_life here) (ap (class_of t) same)) cleared here)

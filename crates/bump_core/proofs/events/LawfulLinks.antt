@@ -1,0 +1,57 @@
+-- The events of links leave a lawful state lawful: the next item's label and time, and the link.
+use Rattle.std.proofs.Common.{◌≡◌, ℕ, true, false, refl, arith, ◌<◌, length, ◌+◌, cond, eqb, Bool, Some, sym, ◌∙◌, subst}
+use Rattle.bump_core.specs.declared.events.Event.TheVariants as event
+use Rattle.bump_core.specs.State.{State, head, chunk, class}
+use Rattle.bump_core.specs.Events.{next_chunk, is_enabled, after, with_time, with_label, next_life, link}
+use Rattle.bump_core.specs.Worlds.{references, first_hits_of, place, IsLawful, owns}
+use Rattle.bump_core.proofs.events.Enabled.{next_from, lawful_by_some}
+use Rattle.bump_core.proofs.worlds.Frames.{time_lawful, label_lawful}
+use Rattle.std.proofs.lemmas.Bool.{both_ways}
+use Rattle.bump_core.specs.declared.items.Head.{Head}
+use Rattle.bump_core.specs.declared.history.Change.TheVariants as change
+use Rattle.bump_core.specs.declared.chunks.Chunk.{Chunk}
+use Rattle.bump_core.specs.Heads.{newborn}
+use Rattle.bump_core.proofs.classes.Tiles.{class_owns}
+use Rattle.bump_core.proofs.worlds.Fronts.{next_front}
+use Rattle.bump_core.proofs.worlds.LawfulStates.{unused_shown, held_by, held_here, unused_unreferred, waiting_linked}
+use Rattle.bump_core.proofs.chunks.Laws.{born}
+use Rattle.bump_core.proofs.events.Moves.{change_lawful}
+
+-- where a life has no holds it has none under another head
+held_none : (x : Chunk) (h : Head) → ((g : ℕ) → held_by x g ≡ 0) → (g : ℕ) → held_by (record x { head = h }) g ≡ held_by x g
+held_none x h none g = by (eqb h.generation g) ∙ sym (none g)
+  where
+    empty : x.holds ≡ 0
+    empty = sym (held_here x) ∙ none x.head.generation
+
+    by : (b : Bool) → cond b x.holds 0 ≡ 0
+    by true = empty
+    by false = refl
+
+-- The events.
+
+-- the label of the next item of a class is stored
+pub after_put_label : (s : State) (k x : ℕ) → IsLawful s → is_enabled s (event.PutLabel k x) ≡ true → IsLawful (after s (event.PutLabel k x))
+after_put_label s k x o enabled = let next = next_from s k enabled in
+    lawful_by_some (λ c. with_label s c x) s (next_chunk s k) next.0 next.2 (label_lawful s next.0 x o)
+
+-- the time of the next item of a class is stored
+pub after_put_time : (s : State) (k t : ℕ) → IsLawful s → is_enabled s (event.PutTime k t) ≡ true → IsLawful (after s (event.PutTime k t))
+after_put_time s k t o enabled = let next = next_from s k enabled in
+    lawful_by_some (λ c. with_time s c t) s (next_chunk s k) next.0 next.2 (time_lawful s next.0 t o)
+
+-- a link keeps a World lawful
+pub after_link : (s : State) → IsLawful s → (k : ℕ) → is_enabled s (event.Link k) ≡ true → IsLawful (after s (event.Link k))
+after_link s o k enabled = let next = next_from s k enabled in lawful_by_some (link s k) s (next_chunk s k) next.0 next.2 (linked next.0 next.1 next.2)
+  where
+    linked : (c : ℕ) → k < length s.classes → next_chunk s k ≡ Some c → IsLawful (link s k c)
+    linked c within next =
+        let at = next_front s o k c within next in
+        let off = (unused_shown s o c at.2).0 in
+        let none = unused_unreferred s o c at.2 in
+        let own = subst (λ (j : ℕ). owns (class s j) c ≡ true) at.0 (class_owns s o.tiles c at.1) in
+        change_lawful s o c (newborn ((head s c).generation + 1)) k (change.Linked (next_life s c)) within own refl
+        (λ g. held_none (chunk s c) (newborn ((head s c).generation + 1)) (λ n. omega (arith, none n)) g)
+        (born s.refs_limit (head s c) (place s c) (references s c) (first_hits_of s c) (o.chunks c) at.2 o.limit)
+        refl
+        (λ w w_in b is same. both_ways (head s c).linked off (subst (λ (d : ℕ). (head s d).linked ≡ true) same (waiting_linked s o w b w_in is).0))

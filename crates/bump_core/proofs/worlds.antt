@@ -1,0 +1,10 @@
+pub mod ClosedRings
+pub mod Frames
+pub mod Fronts
+pub mod Headline
+pub mod Labels
+pub mod LawfulStates
+pub mod NothingUnlinked
+pub mod Opening
+pub mod Sizes
+pub mod StaysLawful

@@ -1,0 +1,284 @@
+//! The command of a lane: the next bump is applied at once, by the update table.
+ghost use Rattle.std.specs.Prelude.{◌≡◌, ◌<◌, [], ◌∷◌, ◌++◌, IfSome, IfOk, OnOk, OnErr, Some, true, false, length};
+ghost use Rattle.bump_core.specs.History.{place_of};
+ghost use Rattle.bump_core.specs.Lists.{StandsAt};
+ghost use Rattle.bump_core.specs.State.{class, class_of, head, worker, with_worker};
+ghost use Rattle.bump_core.specs.Heads.{one_fewer};
+ghost use Rattle.bump_core.specs.Tables.{outcome_of, ended_of};
+ghost use Rattle.bump_core.specs.Events.{applied_bump, next_bump};
+ghost use Rattle.bump_core.specs.Commands.{Commands, bump_next, is_half_made, bumped_chunk, bumped_worker, bumped_lists, apply_bump, entry_of, ended_at, outcome_next};
+ghost use Rattle.bump_core.specs.Views.{state_of, HasRoom};
+ghost use Rattle.bump_core.specs.Worlds.{IsLawful};
+ghost use Rattle.bump_core.specs.declared.commands.Command.TheVariants as command;
+ghost use Rattle.bump_core.specs.declared.lanes.Lane.TheVariants as lane;
+ghost use Rattle.bump_core.specs.declared.places.Place.TheVariants.{Cold, Dying};
+ghost use Rattle.bump_core.specs.declared.bumps.Outcome.TheVariants.{Moved, Gone};
+ghost use Rattle.bump_core.specs.declared.bumps.Ended.TheVariants.{Freed, Deferred};
+
+use crate::bumps::{Applied, AppliedBump, Bump, Ended, Entry, Outcome};
+use crate::chunks::Chunk;
+use crate::commands::Answer;
+use crate::events::Refused;
+use crate::history::{Cause, Change};
+use crate::items::Head;
+use crate::lanes::Lane;
+use crate::parts::Parts;
+use crate::places::{Place, Segment};
+use std::alloc::AllocError;
+
+impl Lane {
+    /// Whether another command is half way in applying the bump aboard.
+    fn is_half_made(self) -> bool
+        ensures { result ≡ is_half_made self }
+    {
+        !matches!(self, Lane::Empty | Lane::Carrying(_))
+    }
+}
+
+impl Head {
+    /// The update table: what applying a bump comes to, by the head found and by whether the clearing step found ACTIVE.
+    fn outcome(self, cleared: bool) -> Outcome
+        ensures { result ≡ outcome_of self cleared }
+    {
+        if !self.linked {
+            return Outcome::Gone;
+        }
+        if matches!(self.segment, Segment::Cold) && cleared {
+            return Outcome::Moved;
+        }
+        Outcome::TimeOnly
+    }
+}
+
+impl Head {
+    /// What the end of an unlinked life comes to when one reference is given back.
+    fn ended(self) -> Ended
+        ensures { result ≡ ended_of (one_fewer self) }
+    {
+        if self.refs.saturating_sub(1) == 0 {
+            return Ended::Freed;
+        }
+        Ended::Deferred
+    }
+}
+
+impl Chunk {
+    /// The chunk of a bump that was applied: the bump's reference is given back.
+    fn bumped(self, now: u64, outcome: Outcome) -> Chunk
+        ensures { result ≡ bumped_chunk self now outcome }
+    {
+        let refs = self.head.refs.saturating_sub(1);
+        let head = match outcome {
+            Outcome::Moved => Head {
+                refs,
+                active: false,
+                segment: Segment::Warm,
+                ..self.head
+            },
+            Outcome::TimeOnly | Outcome::Gone => Head { refs, ..self.head },
+        };
+        let time = match outcome {
+            Outcome::Moved | Outcome::TimeOnly => now,
+            Outcome::Gone => self.time,
+        };
+        Chunk { head, time, ..self }
+    }
+}
+
+impl Parts {
+    /// The bump that a lane applies next: the one aboard, or else the first that waits.
+    fn bump_of(&self, w: u32) -> Option<Bump>
+        requires { w < length (state_of self.now).workers }
+        ensures { result ≡ bump_next (worker (state_of self.now) w) }
+    {
+        match self.lane(w) {
+            Lane::Empty => {
+                let number = self.received(w) as u64;
+                match self.next_bump(w) {
+                    Some(life) => Some(Bump { number, life }),
+                    None => None,
+                }
+            }
+            Lane::Carrying(bump) => Some(bump),
+            Lane::Tried(_) | Lane::Cleared(_, _) | Lane::Moved(_) => None,
+        }
+    }
+
+    /// The same, with where its chunk stands.
+    fn bump_next(&self, w: u32) -> Option<Bump>
+        requires worker { w < length (state_of self.now).workers }
+        requires lawful { IsLawful (state_of self.now) }
+        ensures bump { result ≡ bump_next (worker (state_of self.now) w) }
+        ensures chunk { IfSome result (λ b. b.life.chunk < length (state_of self.now).chunks) }
+        ensures linked { IfSome result (λ b. (head (state_of self.now) b.life.chunk).linked ≡ true
+            → StandsAt b.life.chunk (place_of (head (state_of self.now) b.life.chunk).segment) (class (state_of self.now) (class_of (state_of self.now) b.life.chunk)).lists) }
+        ensures gone { IfSome result (λ b. (head (state_of self.now) b.life.chunk).linked ≡ false
+            → StandsAt b.life.chunk Dying (class (state_of self.now) (class_of (state_of self.now) b.life.chunk)).lists) }
+    {
+        self.bump_of(w)
+    }
+
+    /// Makes room for one more applied bump.
+    fn reserve_applied(&mut self, w: u32) -> Result<(), AllocError>
+        requires { w < length (state_of self.old).workers }
+        ensures state { state_of self.new ≡ state_of self.old }
+        ensures room { OnOk result (HasRoom self.new w) }
+    {
+        self.workers[w as usize].applied.reserve(1)?;
+        Ok(())
+    }
+
+    /// A lane is done with a bump that it took just now.
+    fn finish_taken(&mut self, w: u32, bump: Bump, outcome: Outcome)
+        requires worker { w < length (state_of self.old).workers }
+        requires room { HasRoom self.old w }
+        requires next { next_bump (worker (state_of self.old) w) ≡ Some bump.life }
+        ensures { state_of self.new ≡ with_worker (state_of self.old) w (record (worker (state_of self.old) w) {
+          received = (worker (state_of self.old) w).received ++ bump.life ∷ [];
+          lane = lane.Empty;
+          applied = (worker (state_of self.old) w).applied ++ applied_bump bump outcome ∷ [];
+        }) }
+    {
+        let worker = &mut self.workers[w as usize];
+        worker.received += 1;
+        worker.lane = Lane::Empty;
+        worker.applied.push_reserved(AppliedBump {
+            number: bump.number,
+            life: bump.life,
+            outcome,
+        });
+    }
+
+    /// A lane is done with the bump aboard.
+    fn finish_aboard(&mut self, w: u32, bump: Bump, outcome: Outcome)
+        requires worker { w < length (state_of self.old).workers }
+        requires room { HasRoom self.old w }
+        ensures { state_of self.new ≡ with_worker (state_of self.old) w (record (worker (state_of self.old) w) {
+          lane = lane.Empty;
+          applied = (worker (state_of self.old) w).applied ++ applied_bump bump outcome ∷ [];
+        }) }
+    {
+        let worker = &mut self.workers[w as usize];
+        worker.lane = Lane::Empty;
+        worker.applied.push_reserved(AppliedBump {
+            number: bump.number,
+            life: bump.life,
+            outcome,
+        });
+    }
+
+    /// A lane is done with a bump.
+    fn finish(&mut self, w: u32, bump: Bump, outcome: Outcome)
+        requires worker { w < length (state_of self.old).workers }
+        requires room { HasRoom self.old w }
+        requires next { bump_next (worker (state_of self.old) w) ≡ Some bump }
+        ensures { state_of self.new ≡ with_worker (state_of self.old) w (bumped_worker (worker (state_of self.old) w) bump outcome) }
+    {
+        match self.lane(w) {
+            Lane::Empty => self.finish_taken(w, bump, outcome),
+            Lane::Carrying(_) | Lane::Tried(_) | Lane::Cleared(_, _) | Lane::Moved(_) => {
+                self.finish_aboard(w, bump, outcome)
+            }
+        }
+    }
+
+    /// The lists of the bump's class: its item is moved, or its chunk is free.
+    fn change_for(
+        &mut self,
+        w: u32,
+        bump: Bump,
+        outcome: Outcome,
+        ended: Ended,
+    ) -> Result<(), AllocError>
+        requires chunk { bump.life.chunk < length (state_of self.old).chunks }
+        requires moved { outcome ≡ Moved → StandsAt bump.life.chunk Cold (class (state_of self.old) (class_of (state_of self.old) bump.life.chunk)).lists }
+        requires gone { outcome ≡ Gone → StandsAt bump.life.chunk Dying (class (state_of self.old) (class_of (state_of self.old) bump.life.chunk)).lists }
+        requires lawful { IsLawful (state_of self.old) }
+        ensures ok { OnOk result (state_of self.new ≡ bumped_lists (state_of self.old) w bump outcome ended) }
+        ensures err { OnErr result (state_of self.new ≡ state_of self.old) }
+        ensures workers { self.new.workers ≡ self.old.workers }
+    {
+        let chunk = bump.life.chunk;
+        let class = self.class_of(chunk);
+        match (outcome, ended) {
+            (Outcome::Moved, _) => self.change_class(
+                class,
+                chunk,
+                Place::Cold,
+                Place::Warm,
+                Change::Moved(
+                    bump.life,
+                    Segment::Cold,
+                    Segment::Warm,
+                    Cause::Bump(w, bump.number),
+                ),
+            ),
+            (Outcome::Gone, Ended::Freed) if bump.life.generation == u32::MAX => self.change_class(
+                class,
+                chunk,
+                Place::Dying,
+                Place::Retired,
+                Change::Retired(bump.life),
+            ),
+            (Outcome::Gone, Ended::Freed) => self.change_class(
+                class,
+                chunk,
+                Place::Dying,
+                Place::Unused,
+                Change::Swept(bump.life),
+            ),
+            _ => Ok(()),
+        }
+    }
+
+    /// Applies a bump.
+    fn apply(&mut self, w: u32, now: u64, bump: Bump) -> Result<Entry, AllocError>
+        requires worker { w < length (state_of self.old).workers }
+        requires lawful { IsLawful (state_of self.old) }
+        requires next { bump_next (worker (state_of self.old) w) ≡ Some bump }
+        requires chunk { bump.life.chunk < length (state_of self.old).chunks }
+        requires linked { (head (state_of self.old) bump.life.chunk).linked ≡ true
+            → StandsAt bump.life.chunk (place_of (head (state_of self.old) bump.life.chunk).segment) (class (state_of self.old) (class_of (state_of self.old) bump.life.chunk)).lists }
+        requires gone { (head (state_of self.old) bump.life.chunk).linked ≡ false
+            → StandsAt bump.life.chunk Dying (class (state_of self.old) (class_of (state_of self.old) bump.life.chunk)).lists }
+        ensures ok { OnOk result (state_of self.new ≡ apply_bump (state_of self.old) w now bump) }
+        ensures entry { IfOk result (λ e. e ≡ entry_of (state_of self.old) bump) }
+        ensures err { OnErr result (state_of self.new ≡ state_of self.old) }
+    {
+        let chunk = self.chunk(bump.life.chunk);
+        let outcome = chunk.head.outcome(chunk.head.active);
+        let ended = chunk.head.ended();
+        self.reserve_applied(w)?;
+        self.change_for(w, bump, outcome, ended)?;
+        self.finish(w, bump, outcome);
+        self.set_chunk(bump.life.chunk, chunk.bumped(now, outcome));
+        let applied = match outcome {
+            Outcome::Moved => Applied::Moved,
+            Outcome::TimeOnly => Applied::TimeOnly,
+            Outcome::Gone => Applied::Gone(ended),
+        };
+        Ok(Entry {
+            number: bump.number,
+            life: bump.life,
+            applied,
+        })
+    }
+
+    /// Applies the next bump of a worker.
+    pub fn call_next(&mut self, worker: u32, now: u64) -> Result<Answer, Refused>
+        requires { IsLawful (state_of self.old) }
+        ensures { Commands (state_of self.old) (command.Next worker now) (state_of self.new) result }
+    {
+        if !self.has_worker(worker) || self.lane(worker).is_half_made() {
+            return Err(Refused::NotEnabled);
+        }
+        let Some(bump) = self.bump_next(worker) else {
+            return Ok(Answer::Nothing);
+        };
+        if self.is_under_application(self.class_of(bump.life.chunk)) {
+            return Err(Refused::NotEnabled);
+        }
+        let entry = self.apply(worker, now, bump)?;
+        Ok(Answer::Bumped(entry))
+    }
+}

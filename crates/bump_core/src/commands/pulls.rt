@@ -1,0 +1,162 @@
+//! The command of a pull: its change at once, by the tail table.
+ghost use Rattle.std.specs.Prelude.{◌≡◌, ◌<◌, IfSome, OnOk, OnErr, Some, true, length};
+ghost use Rattle.bump_core.specs.Commands.{Commands, tail_of, is_list_over, pull_to};
+ghost use Rattle.bump_core.specs.History.{place_of};
+ghost use Rattle.bump_core.specs.Lists.{StandsAt};
+ghost use Rattle.bump_core.specs.State.{head, class, class_of, last_of};
+ghost use Rattle.bump_core.specs.Tables.{pulled_of, pulled_to, segment_of};
+ghost use Rattle.bump_core.specs.Views.{state_of};
+ghost use Rattle.bump_core.specs.Worlds.{IsLawful};
+ghost use Rattle.bump_core.specs.declared.commands.Command.TheVariants as command;
+
+use crate::commands::{Answer, Pulled};
+use crate::events::Refused;
+use crate::history::{Cause, Change};
+use crate::items::{Head, ItemId};
+use crate::parts::Parts;
+use crate::places::{Segment, Tail};
+use std::alloc::AllocError;
+use std::collections::VecDeque;
+
+impl Tail {
+    /// The segment of the list that a pull looks at.
+    fn segment(self) -> Segment
+        ensures { result ≡ segment_of self }
+    {
+        match self {
+            Tail::Hot => Segment::Hot,
+            Tail::Warm => Segment::Warm,
+            Tail::Cold => Segment::Cold,
+        }
+    }
+
+    /// The tail table: what a pull does with the last item of the list, by ACTIVE and by whether the list has more items
+    /// than its limit.
+    fn pulled(self, active: bool, over: bool, id: ItemId) -> Pulled
+        ensures { result ≡ pulled_of self active over id }
+    {
+        match self {
+            Tail::Hot if active => Pulled::Warm(id),
+            Tail::Warm if active => Pulled::Again(id),
+            Tail::Cold if active => Pulled::Warm(id),
+            Tail::Hot | Tail::Warm if over => Pulled::Cold(id),
+            _ => Pulled::Stay(id),
+        }
+    }
+}
+
+impl Pulled {
+    /// The segment to whose front the item goes, if it is moved.
+    fn to(self) -> Option<Segment>
+        ensures { result ≡ pulled_to self }
+    {
+        match self {
+            Pulled::Warm(_) | Pulled::Again(_) => Some(Segment::Warm),
+            Pulled::Cold(_) => Some(Segment::Cold),
+            Pulled::Empty | Pulled::Stay(_) => None,
+        }
+    }
+}
+
+/// The last chunk of a list.
+fn last_of(list: &VecDeque<u32>) -> Option<u32>
+    ensures { result ≡ last_of list.now.items }
+{
+    match list.back() {
+        Some(chunk) => Some(*chunk),
+        None => None,
+    }
+}
+
+impl Parts {
+    /// The last chunk of a class's HOT, WARM or COLD.
+    fn tail(&self, k: u32, tail: Tail) -> Option<u32>
+        requires { k < length (state_of self.now).classes }
+        ensures { result ≡ tail_of (state_of self.now) k tail }
+    {
+        last_of(self.list(k, tail.segment().place()))
+    }
+
+    /// Whether that list has more items than its limit.
+    fn is_list_over(&self, k: u32, tail: Tail) -> bool
+        requires { k < length (state_of self.now).classes }
+        ensures { result ≡ is_list_over (state_of self.now) k tail }
+    {
+        let class = &self.classes[k as usize];
+        match tail {
+            Tail::Hot => class.lists.hot.len() > class.hot_limit as usize,
+            Tail::Warm => class.lists.warm.len() > class.warm_limit as usize,
+            Tail::Cold => false,
+        }
+    }
+
+    /// The chunk that a pull looks at.
+    fn last(&self, k: u32, tail: Tail) -> Option<u32>
+        requires class { k < length (state_of self.now).classes }
+        requires lawful { IsLawful (state_of self.now) }
+        ensures last { result ≡ tail_of (state_of self.now) k tail }
+        ensures linked { IfSome result (λ c. (c < length (state_of self.now).chunks) × (class_of (state_of self.now) c ≡ k)
+            × ((head (state_of self.now) c).linked ≡ true) × ((head (state_of self.now) c).segment ≡ segment_of tail)
+            × StandsAt c (place_of (segment_of tail)) (class (state_of self.now) k).lists) }
+    {
+        self.tail(k, tail)
+    }
+
+    /// The last item of a list goes to the front of a segment, without ACTIVE.
+    fn pull_to(&mut self, k: u32, tail: Tail, last: u32, to: Segment) -> Result<(), AllocError>
+        requires class { k < length (state_of self.old).classes }
+        requires chunk { last < length (state_of self.old).chunks }
+        requires stands { StandsAt last (place_of (segment_of tail)) (class (state_of self.old) k).lists }
+        ensures ok { OnOk result (state_of self.new ≡ pull_to (state_of self.old) k tail last (Some to)) }
+        ensures err { OnErr result (state_of self.new ≡ state_of self.old) }
+    {
+        let head = self.head(last);
+        let id = ItemId {
+            chunk: last,
+            generation: head.generation,
+        };
+        let from = tail.segment();
+        self.change_class(
+            k as usize,
+            last,
+            from.place(),
+            to.place(),
+            Change::Moved(id, from, to, Cause::Pull),
+        )?;
+        self.set_head(
+            last,
+            Head {
+                active: false,
+                segment: to,
+                ..head
+            },
+        );
+        Ok(())
+    }
+
+    /// Looks at the last item of a list, and moves it by the tail table.
+    pub fn call_pull(&mut self, k: u32, tail: Tail) -> Result<Answer, Refused>
+        requires { IsLawful (state_of self.old) }
+        ensures { Commands (state_of self.old) (command.Pull k tail) (state_of self.new) result }
+    {
+        if !self.has_class(k) {
+            return Err(Refused::NotEnabled);
+        }
+        let Some(last) = self.last(k, tail) else {
+            return Ok(Answer::Pulled(Pulled::Empty));
+        };
+        if self.is_under_application(k as usize) {
+            return Err(Refused::NotEnabled);
+        }
+        let head = self.head(last);
+        let id = ItemId {
+            chunk: last,
+            generation: head.generation,
+        };
+        let pulled = tail.pulled(head.active, self.is_list_over(k, tail), id);
+        if let Some(to) = pulled.to() {
+            self.pull_to(k, tail, last, to)?;
+        }
+        Ok(Answer::Pulled(pulled))
+    }
+}

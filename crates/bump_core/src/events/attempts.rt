@@ -1,0 +1,191 @@
+//! Events of an attempted bump, from its reference to the worker's ring, or to its drop.
+ghost use Rattle.std.specs.Prelude.{◌≡◌, ◌<◌, IsSome, IfSome, length};
+ghost use Rattle.bump_core.specs.State.{worker, tried_life, life_in_hand, cleared_life};
+ghost use Rattle.bump_core.specs.Runs.{Steps};
+ghost use Rattle.bump_core.specs.Views.{state_of};
+ghost use Rattle.bump_core.specs.Worlds.{IsLawful};
+ghost use Rattle.bump_core.specs.declared.events.Event.TheVariants as event;
+
+use crate::bumps::Accounts;
+use crate::events::{Refused, Reply};
+use crate::hands::Hand;
+use crate::items::{Head, ItemId};
+use crate::parts::Parts;
+
+impl Parts {
+    /// The life of the bump that a worker tries to take a reference for, if it does.
+    fn tried_by(&self, w: u32) -> Option<ItemId>
+        requires { IsLawful (state_of self.now) }
+        ensures life { result ≡ tried_life (worker (state_of self.now) w).hand }
+        ensures worker { IsSome result → w < length (state_of self.now).workers }
+        ensures chunk { IfSome result (λ l. l.chunk < length (state_of self.now).chunks) }
+    {
+        if !self.has_worker(w) {
+            return None;
+        }
+        self.hand(w).tried()
+    }
+
+    /// The life of the bump in a worker's hand, if there is one.
+    fn in_hand_by(&self, w: u32) -> Option<ItemId>
+        requires { IsLawful (state_of self.now) }
+        ensures life { result ≡ life_in_hand (worker (state_of self.now) w).hand }
+        ensures worker { IsSome result → w < length (state_of self.now).workers }
+        ensures chunk { IfSome result (λ l. l.chunk < length (state_of self.now).chunks) }
+    {
+        if !self.has_worker(w) {
+            return None;
+        }
+        self.hand(w).in_hand()
+    }
+
+    /// The life whose ACTIVE a worker is to clear, if there is one.
+    fn cleared_by(&self, w: u32) -> Option<ItemId>
+        requires { IsLawful (state_of self.now) }
+        ensures life { result ≡ cleared_life (worker (state_of self.now) w).hand }
+        ensures worker { IsSome result → w < length (state_of self.now).workers }
+        ensures chunk { IfSome result (λ l. l.chunk < length (state_of self.now).chunks) }
+    {
+        if !self.has_worker(w) {
+            return None;
+        }
+        self.hand(w).cleared()
+    }
+
+    /// The attempted bump gets its reference.
+    pub fn reserve(&mut self, worker: u32) -> Result<Reply, Refused>
+        requires { IsLawful (state_of self.old) }
+        ensures { Steps (state_of self.old) (event.Reserve worker) (state_of self.new) result }
+    {
+        let Some(life) = self.tried_by(worker) else {
+            return Err(Refused::NotEnabled);
+        };
+        let head = self.head(life.chunk);
+        if head.refs >= self.refs_limit {
+            return Err(Refused::NotEnabled);
+        }
+        let accounts = self.accounts(worker);
+        self.set_head(
+            life.chunk,
+            Head {
+                refs: head.refs + 1,
+                ..head
+            },
+        );
+        self.set_hand(worker, Hand::InHand(life), accounts);
+        Ok(Reply::Done)
+    }
+
+    /// The attempted bump is dropped: the count is at its limit.
+    pub fn drop_refs(&mut self, worker: u32) -> Result<Reply, Refused>
+        requires { IsLawful (state_of self.old) }
+        ensures { Steps (state_of self.old) (event.DropRefs worker) (state_of self.new) result }
+    {
+        let Some(life) = self.tried_by(worker) else {
+            return Err(Refused::NotEnabled);
+        };
+        let head = self.head(life.chunk);
+        if head.refs < self.refs_limit {
+            return Err(Refused::NotEnabled);
+        }
+        let accounts = self.accounts(worker);
+        self.set_hand(
+            worker,
+            Hand::Clearing(life),
+            Accounts {
+                refs: accounts.refs + 1,
+                ..accounts
+            },
+        );
+        Ok(Reply::Word(head))
+    }
+
+    /// The attempted bump is dropped: other threads were faster too often.
+    pub fn drop_busy(&mut self, worker: u32) -> Result<Reply, Refused>
+        requires { IsLawful (state_of self.old) }
+        ensures { Steps (state_of self.old) (event.DropBusy worker) (state_of self.new) result }
+    {
+        let Some(life) = self.tried_by(worker) else {
+            return Err(Refused::NotEnabled);
+        };
+        let head = self.head(life.chunk);
+        let accounts = self.accounts(worker);
+        self.set_hand(
+            worker,
+            Hand::Clearing(life),
+            Accounts {
+                busy: accounts.busy + 1,
+                ..accounts
+            },
+        );
+        Ok(Reply::Word(head))
+    }
+
+    /// The worker's ring takes the bump.
+    pub fn push(&mut self, worker: u32) -> Result<Reply, Refused>
+        requires { IsLawful (state_of self.old) }
+        ensures { Steps (state_of self.old) (event.Push worker) (state_of self.new) result }
+    {
+        let Some(life) = self.in_hand_by(worker) else {
+            return Err(Refused::NotEnabled);
+        };
+        if !self.is_open(worker) || self.waiting(worker) >= self.capacity as usize {
+            return Err(Refused::NotEnabled);
+        }
+        let number = self.sent(worker) as u64;
+        self.push_bump(worker, life)?;
+        Ok(Reply::Number(number))
+    }
+
+    /// The bump is dropped for want of room in the ring, and its reference is given back.
+    pub fn drop_full(&mut self, worker: u32) -> Result<Reply, Refused>
+        requires { IsLawful (state_of self.old) }
+        ensures { Steps (state_of self.old) (event.DropFull worker) (state_of self.new) result }
+    {
+        let Some(life) = self.in_hand_by(worker) else {
+            return Err(Refused::NotEnabled);
+        };
+        if self.sent(worker) < self.capacity as usize {
+            return Err(Refused::NotEnabled);
+        }
+        let head = self.head(life.chunk);
+        let accounts = self.accounts(worker);
+        self.set_head(
+            life.chunk,
+            Head {
+                refs: head.refs.saturating_sub(1),
+                ..head
+            },
+        );
+        self.set_hand(
+            worker,
+            Hand::Clearing(life),
+            Accounts {
+                full: accounts.full + 1,
+                ..accounts
+            },
+        );
+        Ok(Reply::Word(head))
+    }
+
+    /// After a drop ACTIVE is cleared.
+    pub fn unmark(&mut self, worker: u32) -> Result<Reply, Refused>
+        requires { IsLawful (state_of self.old) }
+        ensures { Steps (state_of self.old) (event.Unmark worker) (state_of self.new) result }
+    {
+        let Some(life) = self.cleared_by(worker) else {
+            return Err(Refused::NotEnabled);
+        };
+        let head = self.head(life.chunk);
+        let accounts = self.accounts(worker);
+        self.set_head(
+            life.chunk,
+            Head {
+                active: false,
+                ..head
+            },
+        );
+        self.set_hand(worker, Hand::Idle, accounts);
+        Ok(Reply::Word(head))
+    }
+}

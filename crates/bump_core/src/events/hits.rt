@@ -1,0 +1,88 @@
+//! Events of hits: the marks that a hit leaves, and its time.
+ghost use Rattle.std.specs.Prelude.{◌≡◌};
+ghost use Rattle.bump_core.specs.Events.{may_hit};
+ghost use Rattle.bump_core.specs.Runs.{Steps};
+ghost use Rattle.bump_core.specs.Views.{state_of};
+ghost use Rattle.bump_core.specs.declared.events.Event.TheVariants as event;
+
+use crate::bumps::{Accounts, MOST_ATTEMPTS};
+use crate::chunks::Chunk;
+use crate::events::{Refused, Reply};
+use crate::hands::Hand;
+use crate::items::{Head, ItemId};
+use crate::parts::Parts;
+use crate::places::Segment;
+
+impl Parts {
+    /// A hit stores the time.
+    pub fn store_time(&mut self, life: ItemId, time: u64) -> Result<Reply, Refused>
+        ensures { Steps (state_of self.old) (event.StoreTime life time) (state_of self.new) result }
+    {
+        if !self.is_held(life) {
+            return Err(Refused::NotEnabled);
+        }
+        let chunk = self.chunk(life.chunk);
+        self.set_chunk(life.chunk, Chunk { time, ..chunk });
+        Ok(Reply::Done)
+    }
+
+    /// Whether a worker may begin a step of a hit on a life.
+    pub fn may_hit(&self, worker: u32, life: ItemId) -> bool
+        ensures { result ≡ may_hit (state_of self.now) worker life }
+    {
+        self.is_open(worker) && self.hand(worker).is_idle() && self.has_free_hold(life)
+    }
+
+    /// A hit sets FETCHED.
+    pub fn fetch(&mut self, worker: u32, life: ItemId) -> Result<Reply, Refused>
+        ensures { Steps (state_of self.old) (event.Fetch worker life) (state_of self.new) result }
+    {
+        if !self.may_hit(worker, life) {
+            return Err(Refused::NotEnabled);
+        }
+        let head = self.head(life.chunk);
+        if !head.fetched {
+            self.push_first_hit(worker, life)?;
+        }
+        self.set_head(
+            life.chunk,
+            Head {
+                fetched: true,
+                ..head
+            },
+        );
+        Ok(Reply::Word(head))
+    }
+
+    /// A hit sets ACTIVE, and where it was clear in COLD, a bump is attempted.
+    pub fn mark(&mut self, worker: u32, life: ItemId) -> Result<Reply, Refused>
+        ensures { Steps (state_of self.old) (event.Mark worker life) (state_of self.new) result }
+    {
+        if !self.may_hit(worker, life) {
+            return Err(Refused::NotEnabled);
+        }
+        let head = self.head(life.chunk);
+        let accounts = self.accounts(worker);
+        if !head.fetched || accounts.attempted >= MOST_ATTEMPTS {
+            return Err(Refused::NotEnabled);
+        }
+        self.set_head(
+            life.chunk,
+            Head {
+                active: true,
+                ..head
+            },
+        );
+        if !head.active && matches!(head.segment, Segment::Cold) {
+            self.set_hand(
+                worker,
+                Hand::Trying(life),
+                Accounts {
+                    attempted: accounts.attempted + 1,
+                    ..accounts
+                },
+            );
+        }
+        Ok(Reply::Word(head))
+    }
+}

@@ -1,0 +1,72 @@
+//! Events of holds: loads, and holds that are taken and given back.
+ghost use Rattle.std.specs.Prelude.{◌≡◌};
+ghost use Rattle.bump_core.specs.Runs.{Steps};
+ghost use Rattle.bump_core.specs.Views.{state_of};
+ghost use Rattle.bump_core.specs.Worlds.{IsLawful};
+ghost use Rattle.bump_core.specs.declared.events.Event.TheVariants as event;
+
+use crate::chunks::Chunk;
+use crate::events::{Refused, Reply};
+use crate::items::{Head, ItemId};
+use crate::parts::Parts;
+
+impl Parts {
+    /// A load of the head.
+    pub fn load(&self, chunk: u32) -> Result<Reply, Refused>
+        ensures { Steps (state_of self.now) (event.Load chunk) (state_of self.now) result }
+    {
+        if !self.has_chunk(chunk) {
+            return Err(Refused::NotEnabled);
+        }
+        Ok(Reply::Word(self.head(chunk)))
+    }
+
+    /// A reader's hold is taken.
+    pub fn take(&mut self, worker: u32, life: ItemId) -> Result<Reply, Refused>
+        requires { IsLawful (state_of self.old) }
+        ensures { Steps (state_of self.old) (event.Take worker life) (state_of self.new) result }
+    {
+        if !self.is_open(worker) || !self.is_linked(life) {
+            return Err(Refused::NotEnabled);
+        }
+        let chunk = self.chunk(life.chunk);
+        if chunk.head.refs >= self.refs_limit {
+            return Err(Refused::NotEnabled);
+        }
+        self.set_chunk(
+            life.chunk,
+            Chunk {
+                head: Head {
+                    refs: chunk.head.refs + 1,
+                    ..chunk.head
+                },
+                holds: chunk.holds + 1,
+                ..chunk
+            },
+        );
+        Ok(Reply::Done)
+    }
+
+    /// A hold is given back.
+    pub fn release(&mut self, life: ItemId) -> Result<Reply, Refused>
+        requires { IsLawful (state_of self.old) }
+        ensures { Steps (state_of self.old) (event.Release life) (state_of self.new) result }
+    {
+        if !self.has_free_hold(life) {
+            return Err(Refused::NotEnabled);
+        }
+        let chunk = self.chunk(life.chunk);
+        self.set_chunk(
+            life.chunk,
+            Chunk {
+                head: Head {
+                    refs: chunk.head.refs - 1,
+                    ..chunk.head
+                },
+                holds: chunk.holds - 1,
+                ..chunk
+            },
+        );
+        Ok(Reply::Word(chunk.head))
+    }
+}

@@ -1,0 +1,81 @@
+//! Events of links: the next item of a class gets its label and its time, and begins its life.
+ghost use Rattle.std.specs.Prelude.{◌≡◌};
+ghost use Rattle.bump_core.specs.Events.{is_class_at_rest};
+ghost use Rattle.bump_core.specs.Runs.{Steps};
+ghost use Rattle.bump_core.specs.Views.{state_of};
+ghost use Rattle.bump_core.specs.Worlds.{IsLawful};
+ghost use Rattle.bump_core.specs.declared.events.Event.TheVariants as event;
+
+use crate::chunks::Chunk;
+use crate::events::{Refused, Reply};
+use crate::history::Change;
+use crate::items::{Head, ItemId};
+use crate::parts::Parts;
+use crate::places::Place;
+
+impl Parts {
+    /// Whether a class exists and no lane applies a bump of it.
+    fn is_class_at_rest(&self, k: u32) -> bool
+        ensures { result ≡ is_class_at_rest (state_of self.now) k }
+    {
+        self.has_class(k) && !self.is_under_application(k as usize)
+    }
+
+    /// The label of the next item of a class is stored.
+    pub fn put_label(&mut self, k: u32, label: u64) -> Result<Reply, Refused>
+        requires { IsLawful (state_of self.old) }
+        ensures { Steps (state_of self.old) (event.PutLabel k label) (state_of self.new) result }
+    {
+        if !self.is_class_at_rest(k) {
+            return Err(Refused::NotEnabled);
+        }
+        let Some(next) = self.next_chunk(k) else {
+            return Err(Refused::NotEnabled);
+        };
+        let chunk = self.chunk(next);
+        self.set_chunk(next, Chunk { label, ..chunk });
+        Ok(Reply::Done)
+    }
+
+    /// The time of the next item of a class is stored.
+    pub fn put_time(&mut self, k: u32, time: u64) -> Result<Reply, Refused>
+        requires { IsLawful (state_of self.old) }
+        ensures { Steps (state_of self.old) (event.PutTime k time) (state_of self.new) result }
+    {
+        if !self.is_class_at_rest(k) {
+            return Err(Refused::NotEnabled);
+        }
+        let Some(next) = self.next_chunk(k) else {
+            return Err(Refused::NotEnabled);
+        };
+        let chunk = self.chunk(next);
+        self.set_chunk(next, Chunk { time, ..chunk });
+        Ok(Reply::Done)
+    }
+
+    /// The next item of a class begins its life, at the front of HOT.
+    pub fn link(&mut self, k: u32) -> Result<Reply, Refused>
+        requires { IsLawful (state_of self.old) }
+        ensures { Steps (state_of self.old) (event.Link k) (state_of self.new) result }
+    {
+        if !self.is_class_at_rest(k) {
+            return Err(Refused::NotEnabled);
+        }
+        let Some(next) = self.next_chunk(k) else {
+            return Err(Refused::NotEnabled);
+        };
+        let life = ItemId {
+            chunk: next,
+            generation: self.head(next).generation + 1,
+        };
+        self.change_class(
+            k as usize,
+            next,
+            Place::Unused,
+            Place::Hot,
+            Change::Linked(life),
+        )?;
+        self.set_head(next, Head::newborn(life.generation));
+        Ok(Reply::Life(life))
+    }
+}

@@ -1,0 +1,83 @@
+//! Events of pulls: ACTIVE is cleared, and items move to the front of a segment.
+ghost use Rattle.std.specs.Prelude.{◌≡◌};
+ghost use Rattle.bump_core.specs.Events.{may_move};
+ghost use Rattle.bump_core.specs.Runs.{Steps};
+ghost use Rattle.bump_core.specs.Views.{state_of};
+ghost use Rattle.bump_core.specs.Worlds.{IsLawful};
+ghost use Rattle.bump_core.specs.declared.events.Event.TheVariants as event;
+
+use crate::events::{Refused, Reply};
+use crate::history::{Cause, Change};
+use crate::items::{Head, ItemId};
+use crate::parts::Parts;
+use crate::places::Segment;
+
+impl Segment {
+    /// Whether a pull may move an item from this segment to another.
+    fn may_move(self, to: Segment) -> bool
+        ensures { result ≡ may_move self to }
+    {
+        match (self, to) {
+            (Segment::Hot | Segment::Warm, Segment::Warm | Segment::Cold) => true,
+            (Segment::Cold, Segment::Warm) => true,
+            _ => false,
+        }
+    }
+}
+
+impl Parts {
+    /// A pull clears ACTIVE.
+    pub fn clear_active(&mut self, chunk: u32) -> Result<Reply, Refused>
+        ensures { Steps (state_of self.old) (event.ClearActive chunk) (state_of self.new) result }
+    {
+        if !self.has_chunk(chunk) {
+            return Err(Refused::NotEnabled);
+        }
+        let head = self.head(chunk);
+        if !head.linked || self.is_under_application(self.class_of(chunk)) {
+            return Err(Refused::NotEnabled);
+        }
+        self.set_head(
+            chunk,
+            Head {
+                active: false,
+                ..head
+            },
+        );
+        Ok(Reply::Word(head))
+    }
+
+    /// A pull moves an item to the front of a segment.
+    pub fn move_chunk(&mut self, chunk: u32, to: Segment) -> Result<Reply, Refused>
+        requires { IsLawful (state_of self.old) }
+        ensures { Steps (state_of self.old) (event.Move chunk to) (state_of self.new) result }
+    {
+        if !self.has_chunk(chunk) {
+            return Err(Refused::NotEnabled);
+        }
+        let head = self.head(chunk);
+        let class = self.class_of(chunk);
+        if !head.linked || !head.segment.may_move(to) || self.is_under_application(class) {
+            return Err(Refused::NotEnabled);
+        }
+        let life = ItemId {
+            chunk,
+            generation: head.generation,
+        };
+        self.change_class(
+            class,
+            chunk,
+            head.segment.place(),
+            to.place(),
+            Change::Moved(life, head.segment, to, Cause::Pull),
+        )?;
+        self.set_head(
+            chunk,
+            Head {
+                segment: to,
+                ..head
+            },
+        );
+        Ok(Reply::Done)
+    }
+}

@@ -1,0 +1,132 @@
+//! How the parts of a World are changed.
+ghost use Rattle.std.specs.Prelude.{◌≡◌, ◌<◌, ◌+◌, ◌≤◌, ◌^◌, [], ◌∷◌, ◌++◌, OnOk, OnErr, length, Some};
+ghost use Rattle.bump_core.specs.Lists.{StandsAt};
+ghost use Rattle.bump_core.specs.History.{subject, target};
+ghost use Rattle.bump_core.specs.State.{chunk, class, worker, with_chunk, with_head, with_worker, with_change};
+ghost use Rattle.bump_core.specs.Events.{with_lane, next_bump, take_bump, push};
+ghost use Rattle.bump_core.specs.Views.{state_of};
+ghost use Rattle.bump_core.specs.declared.hands.Hand.TheVariants as hand;
+ghost use Rattle.bump_core.specs.declared.lanes.Lane.TheVariants as lane;
+
+use crate::bumps::{Accounts, AppliedBump, Bump, Outcome};
+use crate::chunks::Chunk;
+use crate::hands::Hand;
+use crate::history::Change;
+use crate::items::{Head, ItemId};
+use crate::lanes::{AppliedBump, Bump, Lane};
+use crate::lanes::Lane;
+use crate::parts::Parts;
+use crate::places::Place;
+use std::alloc::AllocError;
+
+impl Parts {
+    /// Writes a chunk.
+    pub fn set_chunk(&mut self, c: u32, chunk: Chunk)
+        requires { c < length (state_of self.old).chunks }
+        ensures { state_of self.new ≡ with_chunk (state_of self.old) c chunk }
+    {
+        self.chunks[c as usize] = chunk;
+    }
+
+    /// Writes a chunk's head.
+    pub fn set_head(&mut self, c: u32, head: Head)
+        requires { c < length (state_of self.old).chunks }
+        ensures { state_of self.new ≡ with_head (state_of self.old) c head }
+    {
+        let chunk = self.chunk(c);
+        self.set_chunk(c, Chunk { head, ..chunk });
+    }
+
+    /// Writes how far a worker is with an attempt, and its counts.
+    pub fn set_hand(&mut self, w: u32, hand: Hand, accounts: Accounts)
+        requires { w < length (state_of self.old).workers }
+        ensures { state_of self.new ≡ with_worker (state_of self.old) w (record (worker (state_of self.old) w) { hand = hand; accounts = accounts }) }
+    {
+        let worker = &mut self.workers[w as usize];
+        worker.hand = hand;
+        worker.accounts = accounts;
+    }
+
+    /// Writes how far a lane is.
+    pub fn set_lane(&mut self, w: u32, lane: Lane)
+        requires { w < length (state_of self.old).workers }
+        ensures { state_of self.new ≡ with_lane (state_of self.old) w lane }
+    {
+        self.workers[w as usize].lane = lane;
+    }
+
+    /// Names an item among those that a worker was the first to hit.
+    pub fn push_first_hit(&mut self, w: u32, life: ItemId) -> Result<(), AllocError>
+        requires { w < length (state_of self.old).workers }
+        ensures ok { OnOk result (state_of self.new ≡ with_worker (state_of self.old) w (record (worker (state_of self.old) w) { first_hits = (worker (state_of self.old) w).first_hits ++ life ∷ [] })) }
+        ensures err { OnErr result (state_of self.new ≡ state_of self.old) }
+    {
+        self.workers[w as usize].first_hits.push(life)?;
+        Ok(())
+    }
+
+    /// A worker's ring takes a bump.
+    pub fn push_bump(&mut self, w: u32, life: ItemId) -> Result<(), AllocError>
+        requires worker { w < length (state_of self.old).workers }
+        requires fits { (worker (state_of self.old) w).accounts.accepted + 1 < 2 ^ 64 }
+        ensures ok { OnOk result (state_of self.new ≡ push (state_of self.old) w life) }
+        ensures err { OnErr result (state_of self.new ≡ state_of self.old) }
+    {
+        let worker = &mut self.workers[w as usize];
+        worker.sent.push(life)?;
+        worker.accounts.accepted += 1;
+        worker.hand = Hand::Idle;
+        Ok(())
+    }
+
+    /// A lane takes the next bump from its ring, where one waits. Answers its number.
+    pub fn take_next(&mut self, w: u32, life: ItemId) -> u64
+        requires worker { w < length (state_of self.old).workers }
+        requires next { next_bump (worker (state_of self.old) w) ≡ Some life }
+        ensures after { state_of self.new ≡ take_bump (state_of self.old) w life }
+        ensures number { result ≡ length (worker (state_of self.old) w).received }
+    {
+        let worker = &mut self.workers[w as usize];
+        let number = worker.received as u64;
+        worker.received += 1;
+        worker.lane = Lane::Carrying(Bump { number, life });
+        number
+    }
+
+    /// A lane is done with its bump.
+    pub fn push_applied(&mut self, w: u32, applied: AppliedBump) -> Result<(), AllocError>
+        requires { w < length (state_of self.old).workers }
+        ensures ok { OnOk result (state_of self.new ≡ with_worker (state_of self.old) w (record (worker (state_of self.old) w) {
+          lane = lane.Empty;
+          applied = (worker (state_of self.old) w).applied ++ applied ∷ [];
+        })) }
+        ensures err { OnErr result (state_of self.new ≡ state_of self.old) }
+    {
+        let worker = &mut self.workers[w as usize];
+        worker.applied.push(applied)?;
+        worker.lane = Lane::Empty;
+        Ok(())
+    }
+
+    /// A chunk of a class comes to the front of a list, and the entry that says so joins the class's history.
+    pub fn change_class(
+        &mut self,
+        k: usize,
+        chunk: u32,
+        from: Place,
+        to: Place,
+        entry: Change,
+    ) -> Result<(), AllocError>
+        requires class { k < length (state_of self.old).classes }
+        requires stands { StandsAt chunk from (class (state_of self.old) k).lists }
+        requires subject { (subject entry).chunk ≡ chunk }
+        requires target { target entry ≡ to }
+        ensures ok { OnOk result (state_of self.new ≡ with_change (state_of self.old) k entry) }
+        ensures err { OnErr result (state_of self.new ≡ state_of self.old) }
+        ensures workers { self.new.workers ≡ self.old.workers }
+    {
+        let class = &mut self.classes[k];
+        class.change(chunk, from, to, entry)?;
+        Ok(())
+    }
+}

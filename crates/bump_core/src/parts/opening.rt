@@ -1,0 +1,165 @@
+//! The parts of a new World.
+ghost use Rattle.std.specs.Prelude.{◌≡◌, ℕ, ◌+◌, ◌-◌, ◌≤◌, ◌<◌, ◌^◌, IfOk, map, replicate};
+ghost use Rattle.bump_core.specs.Configs.{chunks_of};
+ghost use Rattle.bump_core.specs.Lists.{ascending};
+ghost use Rattle.bump_core.specs.Opening.{fresh_chunk, new_class, classes_from, new_state};
+ghost use Rattle.bump_core.specs.State.{new_worker};
+ghost use Rattle.bump_core.specs.Views.{class_view, worker_view, state_of};
+
+use crate::bumps::Accounts;
+use crate::chunks::Chunk;
+use crate::classes::{Class, ClassLists};
+use crate::configs::{ClassConfig, Config, MAX_CHUNKS};
+use crate::hands::Hand;
+use crate::items::Head;
+use crate::lanes::Lane;
+use crate::parts::Parts;
+use crate::places::Segment;
+use crate::workers::Worker;
+use std::alloc::{AllocError, Global};
+use std::collections::VecDeque;
+
+/// The chunks from one number on and below another, ascending.
+fn ascending(alloc: Global, first: u32, end: u32) -> Result<VecDeque<u32>, AllocError>
+    requires { first ≤ end }
+    ensures { IfOk result (λ q. q.items ≡ ascending first (end - first)) }
+{
+    let mut chunks = VecDeque::with_capacity(alloc, (end - first) as usize)?;
+    for chunk in first..end {
+        chunks.push_back(chunk)?;
+    }
+    Ok(chunks)
+}
+
+/// A class whose chunks, from `first` on, are all UNUSED, and fresh with this generation.
+fn new_class(
+    alloc: Global,
+    fresh: u32,
+    first: u32,
+    config: ClassConfig,
+) -> Result<Class, AllocError>
+    requires { first + config.chunks < 2 ^ 32 }
+    ensures { IfOk result (λ k. class_view k ≡ new_class fresh first config) }
+{
+    let end = first + config.chunks;
+    Ok(Class {
+        first,
+        end,
+        fresh,
+        hot_limit: config.hot,
+        warm_limit: config.warm,
+        lists: ClassLists {
+            hot: VecDeque::new(alloc),
+            warm: VecDeque::new(alloc),
+            cold: VecDeque::new(alloc),
+            dying: VecDeque::new(alloc),
+            unused: ascending(alloc, first, end)?,
+            retired: VecDeque::new(alloc),
+        },
+        history: Vec::new(alloc),
+    })
+}
+
+/// All classes: the first has the first chunks, the next the next.
+fn new_classes(
+    alloc: Global,
+    fresh: u32,
+    configs: &[ClassConfig],
+) -> Result<Vec<Class>, AllocError>
+    requires { chunks_of configs.now ≤ MAX_CHUNKS }
+    ensures { IfOk result (λ ks. map class_view ks.items ≡ classes_from fresh 0 configs.now) }
+{
+    let mut classes = Vec::new(alloc);
+    let mut first = 0;
+    for config in configs {
+        let class = new_class(alloc, fresh, first, *config)?;
+        first = class.end;
+        classes.push(class)?;
+    }
+    Ok(classes)
+}
+
+/// A worker that has done nothing.
+fn new_worker(alloc: Global) -> Worker
+    ensures { worker_view result ≡ new_worker }
+{
+    Worker {
+        hand: Hand::Idle,
+        is_open: true,
+        accounts: Accounts {
+            attempted: 0,
+            accepted: 0,
+            full: 0,
+            busy: 0,
+            refs: 0,
+        },
+        first_hits: Vec::new(alloc),
+        sent: Vec::new(alloc),
+        received: 0,
+        lane: Lane::Empty,
+        applied: Vec::new(alloc),
+    }
+}
+
+/// So many workers that have done nothing.
+fn new_workers(alloc: Global, count: u32) -> Result<Vec<Worker>, AllocError>
+    ensures { IfOk result (λ ws. map worker_view ws.items ≡ replicate count new_worker) }
+{
+    let mut workers = Vec::new(alloc);
+    for _ in 0..count {
+        workers.push(new_worker(alloc))?;
+    }
+    Ok(workers)
+}
+
+/// How many chunks the classes have together.
+fn count_chunks(configs: &[ClassConfig]) -> u32
+    requires { chunks_of configs.now ≤ MAX_CHUNKS }
+    ensures { result ≡ chunks_of configs.now }
+{
+    let mut count = 0;
+    for config in configs {
+        count += config.chunks;
+    }
+    count
+}
+
+impl Chunk {
+    /// A chunk before its first life, whose generation is one more.
+    fn fresh(generation: u32) -> Chunk
+        ensures { result ≡ fresh_chunk generation }
+    {
+        Chunk {
+            head: Head {
+                refs: 0,
+                linked: false,
+                fetched: false,
+                active: false,
+                segment: Segment::Hot,
+                generation,
+            },
+            time: 0,
+            label: 0,
+            holds: 0,
+        }
+    }
+}
+
+impl Parts {
+    /// The parts of a new World.
+    pub fn new(alloc: Global, config: &Config) -> Result<Parts, AllocError>
+        ensures state { IfOk result (λ p. state_of p ≡ new_state config.now) }
+        ensures generation { config.now.first_generation < 2 ^ 32 }
+    {
+        let classes = config.classes.as_slice();
+        let fresh = config.first_generation - 1;
+        let chunk = Chunk::fresh(fresh);
+        Ok(Parts {
+            refs_limit: config.refs_limit,
+            capacity: config.capacity,
+            chunks: vec![in alloc; chunk; count_chunks(classes) as usize]?,
+            classes: new_classes(alloc, fresh, classes)?,
+            workers: new_workers(alloc, config.workers)?,
+        })
+    }
+}

@@ -1,0 +1,249 @@
+//! How the parts of a World are read.
+ghost use Rattle.std.specs.Prelude.{◌≡◌, ◌<◌, IfSome, length};
+ghost use Rattle.bump_core.specs.State.{chunk, head, worker, is_chunk, is_class, is_worker, is_current, is_linked, is_held, workers_on, has_free_hold, class_of, is_under_application, is_open, class};
+ghost use Rattle.bump_core.specs.Events.{next_bump, waiting, next_chunk};
+ghost use Rattle.bump_core.specs.Lists.{StandsAt, list_at};
+ghost use Rattle.bump_core.specs.Worlds.{IsLawful};
+ghost use Rattle.bump_core.specs.declared.places.Place.TheVariants.{Unused};
+ghost use Rattle.bump_core.specs.Views.{state_of};
+
+use crate::bumps::{Accounts, AppliedBump};
+use crate::chunks::Chunk;
+use crate::hands::Hand;
+use crate::items::{Head, ItemId};
+use crate::lanes::Lane;
+use crate::parts::Parts;
+use crate::places::Place;
+use std::collections::VecDeque;
+
+impl Parts {
+    /// Whether there is a chunk of this number.
+    pub fn has_chunk(&self, c: u32) -> bool
+        ensures { result ≡ is_chunk (state_of self.now) c }
+    {
+        (c as usize) < self.chunks.len()
+    }
+
+    /// Whether there is a class of this number.
+    pub fn has_class(&self, k: u32) -> bool
+        ensures { result ≡ is_class (state_of self.now) k }
+    {
+        (k as usize) < self.classes.len()
+    }
+
+    /// Whether there is a worker of this number.
+    pub fn has_worker(&self, w: u32) -> bool
+        ensures { result ≡ is_worker (state_of self.now) w }
+    {
+        (w as usize) < self.workers.len()
+    }
+
+    /// A chunk.
+    pub fn chunk(&self, c: u32) -> Chunk
+        requires { c < length (state_of self.now).chunks }
+        ensures { result ≡ chunk (state_of self.now) c }
+    {
+        self.chunks[c as usize]
+    }
+
+    /// A chunk's head.
+    pub fn head(&self, c: u32) -> Head
+        requires { c < length (state_of self.now).chunks }
+        ensures { result ≡ head (state_of self.now) c }
+    {
+        self.chunk(c).head
+    }
+
+    /// How far a worker is with an attempt.
+    pub fn hand(&self, w: u32) -> Hand
+        requires { w < length (state_of self.now).workers }
+        ensures { result ≡ (worker (state_of self.now) w).hand }
+    {
+        self.workers[w as usize].hand
+    }
+
+    /// Whether a life is its chunk's.
+    pub fn is_current(&self, life: ItemId) -> bool
+        ensures { result ≡ is_current (state_of self.now) life }
+    {
+        self.has_chunk(life.chunk) && self.head(life.chunk).generation == life.generation
+    }
+
+    /// Whether a life is its chunk's and is linked.
+    pub fn is_linked(&self, life: ItemId) -> bool
+        ensures { result ≡ is_linked (state_of self.now) life }
+    {
+        self.is_current(life) && self.head(life.chunk).linked
+    }
+
+    /// Whether a life is its chunk's and has a hold.
+    pub fn is_held(&self, life: ItemId) -> bool
+        ensures { result ≡ is_held (state_of self.now) life }
+    {
+        self.is_current(life) && self.chunk(life.chunk).holds > 0
+    }
+
+    /// Whether a worker's ring still takes bumps.
+    pub fn is_open(&self, w: u32) -> bool
+        ensures { result ≡ is_open (state_of self.now) w }
+    {
+        self.has_worker(w) && self.workers[w as usize].is_open
+    }
+
+    /// How many workers that aren't idle are on a life.
+    pub fn workers_on(&self, life: ItemId) -> usize
+        ensures { result ≡ workers_on (state_of self.now) life }
+    {
+        let mut count = 0;
+        for worker in &self.workers {
+            if worker.hand.is_on(life) {
+                count += 1;
+            }
+        }
+        count
+    }
+
+    /// Whether a life has a hold that no worker uses.
+    pub fn has_free_hold(&self, life: ItemId) -> bool
+        ensures { result ≡ has_free_hold (state_of self.now) life }
+    {
+        self.is_current(life) && self.workers_on(life) < self.chunk(life.chunk).holds as usize
+    }
+
+    /// The number of a chunk's class.
+    pub fn class_of(&self, c: u32) -> usize
+        ensures { result ≡ class_of (state_of self.now) c }
+    {
+        for (k, class) in self.classes.iter().enumerate() {
+            if c < class.end {
+                return k;
+            }
+        }
+        self.classes.len()
+    }
+
+    /// Whether a lane applies a bump of a class.
+    pub fn is_under_application(&self, k: usize) -> bool
+        ensures { result ≡ is_under_application (state_of self.now) k }
+    {
+        for worker in &self.workers {
+            if let Some(life) = worker.lane.applied_life() {
+                if self.class_of(life.chunk) == k {
+                    return true;
+                }
+            }
+        }
+        false
+    }
+
+    /// A worker's counts.
+    pub fn accounts(&self, w: u32) -> Accounts
+        requires { w < length (state_of self.now).workers }
+        ensures { result ≡ (worker (state_of self.now) w).accounts }
+    {
+        self.workers[w as usize].accounts
+    }
+
+    /// How far a lane is.
+    pub fn lane(&self, w: u32) -> Lane
+        requires { w < length (state_of self.now).workers }
+        ensures { result ≡ (worker (state_of self.now) w).lane }
+    {
+        self.workers[w as usize].lane
+    }
+
+    /// How many bumps a worker's ring accepted.
+    pub fn sent(&self, w: u32) -> usize
+        requires { w < length (state_of self.now).workers }
+        ensures { result ≡ length (worker (state_of self.now) w).sent }
+    {
+        self.workers[w as usize].sent.len()
+    }
+
+    /// The front of a class's UNUSED.
+    fn unused_front(&self, k: u32) -> Option<u32>
+        requires { k < length (state_of self.now).classes }
+        ensures { result ≡ next_chunk (state_of self.now) k }
+    {
+        self.classes[k as usize].lists.unused.front().copied()
+    }
+
+    /// The chunk that the next link of a class takes.
+    pub fn next_chunk(&self, k: u32) -> Option<u32>
+        requires class { k < length (state_of self.now).classes }
+        requires lawful { IsLawful (state_of self.now) }
+        ensures front { result ≡ next_chunk (state_of self.now) k }
+        ensures stands { IfSome result (λ c. (c < length (state_of self.now).chunks) × (class_of (state_of self.now) c ≡ k)
+            × ((head (state_of self.now) c).generation < 4294967295) × StandsAt c Unused (class (state_of self.now) k).lists) }
+    {
+        self.unused_front(k)
+    }
+
+    /// How many bumps wait in a worker's ring.
+    pub fn waiting(&self, w: u32) -> usize
+        requires { w < length (state_of self.now).workers }
+        ensures { result ≡ waiting (worker (state_of self.now) w) }
+    {
+        let worker = &self.workers[w as usize];
+        worker.sent.len() - worker.received
+    }
+
+    /// The next bump that a worker's lane takes, if one waits.
+    pub fn next_bump(&self, w: u32) -> Option<ItemId>
+        requires { w < length (state_of self.now).workers }
+        ensures { result ≡ next_bump (worker (state_of self.now) w) }
+    {
+        let worker = &self.workers[w as usize];
+        worker.sent.get(worker.received).copied()
+    }
+
+    /// A list of a class.
+    pub fn list(&self, k: u32, place: Place) -> &VecDeque<u32>
+        requires { k < length (state_of self.now).classes }
+        ensures { result.now.items ≡ list_at (class (state_of self.now) k).lists place }
+    {
+        let lists = &self.classes[k as usize].lists;
+        match place {
+            Place::Hot => &lists.hot,
+            Place::Warm => &lists.warm,
+            Place::Cold => &lists.cold,
+            Place::Dying => &lists.dying,
+            Place::Unused => &lists.unused,
+            Place::Retired => &lists.retired,
+        }
+    }
+
+    /// The bumps that a worker's ring accepted.
+    pub fn sent_bumps(&self, w: u32) -> &[ItemId]
+        requires { w < length (state_of self.now).workers }
+        ensures { result.now ≡ (worker (state_of self.now) w).sent }
+    {
+        self.workers[w as usize].sent.as_slice()
+    }
+
+    /// The bumps that a worker's lane took.
+    pub fn received_bumps(&self, w: u32) -> &[ItemId]
+        requires { w < length (state_of self.now).workers }
+        ensures { result.now ≡ (worker (state_of self.now) w).received }
+    {
+        let worker = &self.workers[w as usize];
+        let sent = worker.sent.as_slice();
+        &sent[..worker.received]
+    }
+
+    /// The bumps that a worker's lane applied.
+    pub fn applied_bumps(&self, w: u32) -> &[AppliedBump]
+        requires { w < length (state_of self.now).workers }
+        ensures { result.now ≡ (worker (state_of self.now) w).applied }
+    {
+        self.workers[w as usize].applied.as_slice()
+    }
+
+    /// How many bumps a worker's lane took.
+    pub fn received(&self, w: u32) -> usize
+        requires { w < length (state_of self.now).workers }
+        ensures { result ≡ length (worker (state_of self.now) w).received }
+    {
+        self.received_bumps(w).len()
+    }
+}

@@ -1,0 +1,85 @@
+//! What the World tells of itself.
+ghost use Rattle.std.specs.Prelude.{◌≡◌, ◌<◌, All, length};
+ghost use Rattle.bump_core.specs.State.{head};
+ghost use Rattle.bump_core.specs.Readers.{list_of, time_of, label_of, holds_at, accounts_of, sent_of, received_of, applied_of};
+
+use crate::bumps::{Accounts, AppliedBump};
+use crate::items::{Head, ItemId};
+use crate::places::Place;
+use crate::worlds::World;
+use std::collections::VecDeque;
+
+impl World {
+    /// The chunks of a class's list, front first. The class is one of the configuration's.
+    pub fn list(&self, class: u32, place: Place) -> &VecDeque<u32>
+        requires { class < length self.now.classes }
+        ensures chunks { result.now.items ≡ list_of self.now class place }
+        ensures in_range { All (λ c. c < length self.now.chunks) result.now.items }
+    {
+        self.parts.list(class, place)
+    }
+
+    /// A chunk's head. The chunk is one of the configuration's.
+    pub fn head(&self, chunk: u32) -> Head
+        requires { chunk < length self.now.chunks }
+        ensures { result ≡ head self.now chunk }
+    {
+        self.parts.head(chunk)
+    }
+
+    /// A chunk's time, in the caller's ticks. The chunk is one of the configuration's.
+    pub fn time(&self, chunk: u32) -> u64
+        requires { chunk < length self.now.chunks }
+        ensures { result ≡ time_of self.now chunk }
+    {
+        self.parts.chunk(chunk).time
+    }
+
+    /// A chunk's label. The chunk is one of the configuration's.
+    pub fn label(&self, chunk: u32) -> u64
+        requires { chunk < length self.now.chunks }
+        ensures { result ≡ label_of self.now chunk }
+    {
+        self.parts.chunk(chunk).label
+    }
+
+    /// How many holds a chunk's life has. The chunk is one of the configuration's.
+    pub fn holds(&self, chunk: u32) -> u32
+        requires { chunk < length self.now.chunks }
+        ensures { result ≡ holds_at self.now chunk }
+    {
+        self.parts.chunk(chunk).holds
+    }
+
+    /// A worker's counts of bumps. The worker is one of the configuration's.
+    pub fn accounts(&self, worker: u32) -> Accounts
+        requires { worker < length self.now.workers }
+        ensures { result ≡ accounts_of self.now worker }
+    {
+        self.parts.accounts(worker)
+    }
+
+    /// The bumps that a worker's ring accepted, in order. The worker is one of the configuration's.
+    pub fn sent(&self, worker: u32) -> &[ItemId]
+        requires { worker < length self.now.workers }
+        ensures { result.now ≡ sent_of self.now worker }
+    {
+        self.parts.sent_bumps(worker)
+    }
+
+    /// The bumps that a worker's lane took, in order. The worker is one of the configuration's.
+    pub fn received(&self, worker: u32) -> &[ItemId]
+        requires { worker < length self.now.workers }
+        ensures { result.now ≡ received_of self.now worker }
+    {
+        self.parts.received_bumps(worker)
+    }
+
+    /// The bumps that a worker's lane applied, in order. The worker is one of the configuration's.
+    pub fn applied(&self, worker: u32) -> &[AppliedBump]
+        requires { worker < length self.now.workers }
+        ensures { result.now ≡ applied_of self.now worker }
+    {
+        self.parts.applied_bumps(worker)
+    }
+}
