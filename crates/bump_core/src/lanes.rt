@@ -3,7 +3,7 @@ ghost use Rattle.std.specs.Prelude.{◌≡◌};
 ghost use Rattle.bump_core.specs.State.{applied_life};
 ghost use Rattle.bump_core.specs.Events.{carried, tried, applied_now, cleared_active, is_empty, ending_at};
 
-use crate::bumps::{Bump, Outcome};
+use crate::bumps::{AppliedBump, Bump, Outcome};
 use crate::items::{Head, ItemId};
 use crate::places::Segment;
 

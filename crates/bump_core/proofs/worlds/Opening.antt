@@ -11,7 +11,8 @@ use Rattle.bump_core.specs.declared.configs.Config.{Config}
 use Rattle.bump_core.specs.declared.chunks.Chunk.{Chunk}
 use Rattle.bump_core.specs.declared.places.Place.TheVariants.{Unused}
 use Rattle.bump_core.specs.Totals.{total}
-use Rattle.bump_core.specs.Configs.{chunks_of, first_fault, is_within}
+use Rattle.bump_core.specs.Configs.{chunks_of, first_fault, HaveChunks}
+use Rattle.bump_core.proofs.configs.Bounds.{bounds}
 use Rattle.bump_core.specs.Lists.{ascending, opening}
 use Rattle.bump_core.specs.Heads.{fresh_head}
 use Rattle.bump_core.specs.Lawful.{Lawful}
@@ -35,29 +36,8 @@ ascending_more c end below = ap (ascending c) apart ∙ ap (λ (k : ℕ). c ∷ 
 pub ascending_pushed : (xs ys all : List ℕ) (c end : ℕ) → c < end → ys ≡ xs ++ c ∷ [] → xs ++ ascending c (end - c) ≡ all → ys ++ ascending (c + 1) (end - (c + 1)) ≡ all
 ascending_pushed xs ys all c end below pushed so_far = ap (λ (zs : List ℕ). zs ++ ascending (c + 1) (end - (c + 1))) pushed ∙ append_assoc xs (c ∷ []) (ascending (c + 1) (end - (c + 1))) ∙ ap (λ (zs : List ℕ). xs ++ zs) (sym (ascending_more c end below)) ∙ so_far
 
--- What a configuration without faults has.
-
--- a test for a fault that found none failed, and the tests behind it found none
-clear : {A : Type 0} (b : Bool) (x : A) (o : Option A) → is_none (cond b (Some x) o) ≡ true → (b ≡ false) × (is_none o ≡ true)
-clear true x o e = absurd (let u : ⊥ = cc in u)
-clear false x o e = (refl, e)
-
--- no class is without chunks
-abbrev AllHaveChunks : List ClassConfig → Type 0
-AllHaveChunks [] = Unit {0}
-AllHaveChunks (k ∷ ks) = (0 < k.chunks) × AllHaveChunks ks
-
--- where no class tests as without chunks none is
-all_have_chunks : (ks : List ClassConfig) → list_any (λ k. k.chunks == 0) ks ≡ false → AllHaveChunks ks
-all_have_chunks [] e = tt
-all_have_chunks (k ∷ ks) e = by (ℕ_discrete k.chunks 0) (λ rest. all_have_chunks ks rest)
-  where
-    by : Dec (k.chunks ≡ 0) → (list_any (λ k. k.chunks == 0) ks ≡ false → AllHaveChunks ks) → (0 < k.chunks) × AllHaveChunks ks
-    by (yes none) rest = absurd (let u : ⊥ = cc (sym (ap (λ b. b || list_any (λ k. k.chunks == 0) ks) (eq-eqb k.chunks 0 none)) ∙ e) in u)
-    by (no some) rest = (omega arith, rest (sym (ap (λ b. b || list_any (λ k. k.chunks == 0) ks) (ne_eqb k.chunks 0 some)) ∙ e))
-
 -- the classes of a new World stand one behind the other
-tiles_new : (fresh from : ℕ) (ks : List ClassConfig) → AllHaveChunks ks → Tiles from (classes_from fresh from ks) (from + chunks_of ks)
+tiles_new : (fresh from : ℕ) (ks : List ClassConfig) → HaveChunks ks → Tiles from (classes_from fresh from ks) (from + chunks_of ks)
 tiles_new fresh from [] all = omega arith
 tiles_new fresh from (k ∷ ks) all = (refl, omega (arith, all.0), subst (λ (n : ℕ). Tiles (from + k.chunks) (classes_from fresh (from + k.chunks) ks) n) (omega arith) (tiles_new fresh (from + k.chunks) ks all.1))
 
@@ -66,6 +46,11 @@ class_new : (fresh from : ℕ) (ks : List ClassConfig) (k : ℕ) → IsClass (ge
 class_new fresh from [] k = (record { lists = refl; entries = tt }, refl)
 class_new fresh from (c ∷ cs) zero = (record { lists = ap (opening from) (omega arith); entries = tt }, refl)
 class_new fresh from (c ∷ cs) (suc k) = class_new fresh (from + c.chunks) cs k
+
+-- there are as many classes as are configured
+classes_long : (g from : ℕ) (ks : List ClassConfig) → length (classes_from g from ks) ≡ length ks
+classes_long g from [] = refl
+classes_long g from (c ∷ cs) = omega (arith, classes_long g (from + c.chunks) cs)
 
 -- each class of a new World has fresh chunks of this generation
 class_fresh : (g from : ℕ) (ks : List ClassConfig) (k : ℕ) → k < length (classes_from g from ks) → (get_or (classes_from g from ks) k no_class).fresh ≡ g
@@ -118,7 +103,8 @@ fresh_lawful limit h r x few no_r no_x = record {
 new_is_worker : (capacity : ℕ) → IsWorker capacity new_worker
 new_is_worker capacity = record { ring = record { prefix = refl; room = omega arith }; applied = refl; accounts = record { accepted = refl; attempted = omega arith; most = omega arith } }
 
-module _ (config : Config) (early : config.first_generation < 4294967296) (two : 2 ≤ config.refs_limit) (all : AllHaveChunks config.classes) where
+module _ (config : Config) (early : config.first_generation < 4294967296) (two : 2 ≤ config.refs_limit) (all : HaveChunks config.classes)
+    (few_classes : length config.classes ≤ 16) (few_chunks : chunks_of config.classes ≤ 1000000) (few_workers : config.workers ≤ 64) where
   -- the new World
   abbrev s : State
   s = new_state config
@@ -170,17 +156,14 @@ module _ (config : Config) (early : config.first_generation < 4294967296) (two :
 
   -- a new World keeps what a World keeps
   pub keeps_new : Keeps s
-  keeps_new = (lawful, λ k within. subst NoneUnlinked (sym (class_new (config.first_generation - 1) 0 config.classes k).1) tt)
+  keeps_new = (lawful, (λ k within. subst NoneUnlinked (sym (class_new (config.first_generation - 1) 0 config.classes k).1) tt), record {
+    classes = omega (arith, few_classes, classes_long (config.first_generation - 1) 0 config.classes);
+    chunks = omega (arith, few_chunks, length-replicate (chunks_of config.classes) (fresh_chunk (config.first_generation - 1)));
+    workers = omega (arith, few_workers, length-replicate config.workers new_worker);
+  })
 
 -- a World made from a configuration without faults does
 pub keeps_valid : (config : Config) → config.first_generation < 4294967296 → is_none (first_fault config.workers config.capacity config.refs_limit config.first_generation config.classes) ≡ true → Keeps (new_state config)
 keeps_valid config early valid =
-    let workers = clear (not (is_within 1 64 config.workers)) Workers _ valid in
-    let capacity = clear (not (is_within 1 65536 config.capacity)) Capacity _ workers.1 in
-    let limit = clear (not (is_within 2 65535 config.refs_limit)) RefsLimit _ capacity.1 in
-    let generation = clear (config.first_generation == 0) Generation _ limit.1 in
-    let classes = clear (not (is_within 1 16 (length config.classes))) Classes _ generation.1 in
-    let chunks = clear _ Chunks _ classes.1 in
-    keeps_new config early
-    (leb-true 2 config.refs_limit (and_parts (nat_le 2 config.refs_limit) (nat_le config.refs_limit 65535) (not-false _ limit.0)).0)
-    (all_have_chunks config.classes (or_parts (list_any (λ k. k.chunks == 0) config.classes) (nat_lt 1000000 (chunks_of config.classes)) chunks.0).0)
+    let b = bounds config.workers config.capacity config.refs_limit config.first_generation config.classes valid in
+    keeps_new config early b.limit_least b.chunks_each b.classes_most b.chunks_most b.workers_most

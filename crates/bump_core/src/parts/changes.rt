@@ -8,12 +8,11 @@ ghost use Rattle.bump_core.specs.Views.{state_of};
 ghost use Rattle.bump_core.specs.declared.hands.Hand.TheVariants as hand;
 ghost use Rattle.bump_core.specs.declared.lanes.Lane.TheVariants as lane;
 
-use crate::bumps::{Accounts, AppliedBump, Bump, Outcome};
+use crate::bumps::{Accounts, AppliedBump, Bump};
 use crate::chunks::Chunk;
 use crate::hands::Hand;
 use crate::history::Change;
 use crate::items::{Head, ItemId};
-use crate::lanes::{AppliedBump, Bump, Lane};
 use crate::lanes::Lane;
 use crate::parts::Parts;
 use crate::places::Place;
