@@ -10,25 +10,25 @@ use crate::bumps::Entry;
 use crate::items::ItemId;
 use crate::places::Tail;
 
-/// A call.
-#[derive(Clone, Copy)]
+/// A call. A `now` is the time that it stores, in the caller's ticks.
+#[derive(Clone, Copy, Debug, PartialEq, Eq)]
 pub enum Command {
-    /// Stores an item in a class (memcached's `do_item_link`).
+    /// Stores an item with its label in a class (memcached's `do_item_link`).
     Link { class: u32, label: u64, now: u64 },
 
     /// Looks at the last item of a list, and moves it by the tail table (memcached's `lru_pull_tail`).
     Pull { class: u32, tail: Tail },
 
-    /// Takes a hold of an item (memcached's `do_item_get`).
+    /// A worker's reader takes a hold of an item (memcached's `do_item_get`).
     Take { worker: u32, id: ItemId },
 
-    /// A hit by a hold (memcached's `do_item_bump`).
+    /// A hit by a worker on an item of which there is a hold (memcached's `do_item_bump`).
     Touch { worker: u32, id: ItemId, now: u64 },
 
-    /// The label of a held item.
+    /// Tells the label of a held item.
     Label { id: ItemId },
 
-    /// Gives a hold back (memcached's `do_item_remove`).
+    /// Gives a hold of an item back (memcached's `do_item_remove`).
     Release { id: ItemId },
 
     /// Applies the next bump of a worker (memcached's `lru_maintainer_bumps` and `do_item_update`).
@@ -41,7 +41,7 @@ pub enum Dropped {
     /// The worker's ring had no room.
     Full,
 
-    /// Eight exchanges failed.
+    /// Eight exchanges failed, since other threads were faster. No command answers it: nothing comes between its events.
     Busy,
 
     /// The reference count was at its limit.
@@ -54,16 +54,16 @@ pub enum Touch {
     /// It was the item's first.
     First,
 
-    /// The item was marked already.
+    /// The item was hit before, and is ACTIVE already.
     Already,
 
     /// It set ACTIVE in HOT or WARM, and stored the time.
     Marked,
 
-    /// It queued a bump, with this number among its worker's accepted bumps.
+    /// It set ACTIVE in COLD, and queued a bump with this number among its worker's accepted bumps, from 0.
     Queued(u64),
 
-    /// It attempted a bump, which was dropped.
+    /// It attempted a bump in COLD, which was dropped; ACTIVE is clear again.
     Dropped(Dropped),
 
     /// The worker attempted 4,611,686,018,427,387,903 bumps before, and makes no further hit.
@@ -92,22 +92,37 @@ pub enum Pulled {
 /// What a command answers.
 #[derive(Clone, Copy, Debug, PartialEq, Eq)]
 pub enum Answer {
+    /// A link stored this item.
     Linked(ItemId),
 
-    /// No chunk of the class is UNUSED.
+    /// No chunk of the class is UNUSED: nothing was stored.
     NoFreeChunk,
+
+    /// A pull did this.
     Pulled(Pulled),
+
+    /// A hold was taken.
     Held,
+
+    /// No hold was taken: there is no chunk of this number.
     NoSuchChunk,
 
-    /// The item is of another generation than the chunk, or not linked.
+    /// No hold was taken: the item is of another generation than the chunk, or not linked.
     Stale,
 
-    /// The reference count is at its limit.
+    /// No hold was taken: the reference count is at its limit.
     RefsFull,
+
+    /// A hit did this.
     Touched(Touch),
+
+    /// The label of the item.
     Label(u64),
+
+    /// A hold was given back.
     Done,
+
+    /// This bump was applied.
     Bumped(Entry),
 
     /// No bump waits.

@@ -4,15 +4,21 @@ ghost use Rattle.std.specs.Result.{result_err};
 ghost use Rattle.bump_core.specs.Configs.{first_fault, have_wrong_chunks};
 
 use std::marker::Model;
+use thiserror::Error;
 
 /// The greatest number of chunks of all classes together.
 pub const MAX_CHUNKS: u32 = 1_000_000;
 
-/// A class: how many chunks it has, and over which sizes (counts of items) pulls take from HOT and WARM.
+/// What a class is made from.
 #[derive(Clone, Copy, Debug, PartialEq, Eq)]
 pub struct ClassConfig {
+    /// How many chunks it has: 1 or more, and all classes together at most 1,000,000.
     pub chunks: u32,
+
+    /// A pull takes items from HOT where it has more than this.
     pub hot: u32,
+
+    /// A pull takes items from WARM where it has more than this.
     pub warm: u32,
 }
 
@@ -32,24 +38,30 @@ impl Model for Classes {
 }
 
 /// Why no store is made from a configuration.
-#[derive(Clone, Copy, Debug, PartialEq, Eq)]
+#[derive(Clone, Copy, Debug, PartialEq, Eq, Error)]
 pub enum ConfigFault {
     /// Not 1 to 64 workers.
+    #[error("a store has 1 to 64 workers")]
     Workers,
 
     /// A ring's capacity is not 1 to 65,536 entries.
+    #[error("a ring has room for 1 to 65,536 bumps")]
     Capacity,
 
     /// The limit of a reference count is not 2 to 65,535.
+    #[error("the limit of a reference count is 2 to 65,535")]
     RefsLimit,
 
-    /// The first generation is 0.
+    /// The first generation is 0, and not 1 to 4,294,967,295.
+    #[error("the first generation is 1 to 4,294,967,295")]
     Generation,
 
     /// Not 1 to 16 classes.
+    #[error("a store has 1 to 16 classes")]
     Classes,
 
     /// A class without chunks, or more than 1,000,000 chunks together.
+    #[error("a class has 1 chunk or more, and all together at most 1,000,000")]
     Chunks,
 }
 

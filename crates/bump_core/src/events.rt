@@ -10,78 +10,80 @@ use crate::bumps::Outcome;
 use crate::items::{Head, ItemId};
 use crate::places::Segment;
 use std::alloc::AllocError;
+use thiserror::Error;
 
 /// One load, store, exchange or fetch on one word of one chunk, or one push into a ring, or one take from a ring.
 /// Where such a step is made under the class lock and stands for a change of the lists, that change belongs to it.
-#[derive(Clone, Copy)]
+#[derive(Clone, Copy, Debug, PartialEq, Eq)]
 pub enum Event {
-    /// A load of the head.
+    /// A load of a chunk's head. Answers the head.
     Load { chunk: u32 },
 
-    /// A reader's hold is taken.
+    /// A worker's reader takes a hold of an item (memcached's `do_item_get`).
     Take { worker: u32, life: ItemId },
 
-    /// A hit sets FETCHED.
+    /// A hit by a worker sets FETCHED of an item. Answers the head that it found.
     Fetch { worker: u32, life: ItemId },
 
-    /// A hit sets ACTIVE, and where it was clear in COLD, a bump is attempted.
+    /// A hit by a worker sets ACTIVE of an item, and where it was clear in COLD, a bump is attempted (memcached's
+    /// `do_item_bump`). Answers the head that it found.
     Mark { worker: u32, life: ItemId },
 
-    /// The attempted bump gets its reference.
+    /// A worker's attempted bump gets its reference.
     Reserve { worker: u32 },
 
-    /// The attempted bump is dropped: the count is at its limit.
+    /// A worker's attempted bump is dropped: the count is at its limit. Answers the head.
     DropRefs { worker: u32 },
 
-    /// The attempted bump is dropped: other threads were faster too often.
+    /// A worker's attempted bump is dropped: other threads were faster too often. Answers the head.
     DropBusy { worker: u32 },
 
-    /// The worker's ring takes the bump.
+    /// A worker's ring takes its bump (memcached's `lru_bump_async`). Answers the bump's number.
     Push { worker: u32 },
 
-    /// The bump is dropped for want of room in the ring, and its reference is given back.
+    /// A worker's bump is dropped for want of room in its ring, and its reference is given back. Answers the head that it found.
     DropFull { worker: u32 },
 
-    /// After a drop ACTIVE is cleared.
+    /// After a drop a worker clears ACTIVE. Answers the head that it found.
     Unmark { worker: u32 },
 
-    /// A hit stores the time.
+    /// A hit stores the time of an item, in the caller's ticks.
     StoreTime { life: ItemId, time: u64 },
 
-    /// A hold is given back.
+    /// A hold of an item is given back (memcached's `do_item_remove`). Answers the head that it found.
     Release { life: ItemId },
 
     /// The label of the next item of a class is stored.
     PutLabel { class: u32, label: u64 },
 
-    /// The time of the next item of a class is stored.
+    /// The time of the next item of a class is stored, in the caller's ticks.
     PutTime { class: u32, time: u64 },
 
-    /// The next item of a class begins its life, at the front of HOT.
+    /// The next item of a class begins its life, at the front of HOT (memcached's `do_item_link`). Answers the item.
     Link { class: u32 },
 
-    /// A pull clears ACTIVE.
+    /// A pull clears ACTIVE of a chunk. Answers the head that it found.
     ClearActive { chunk: u32 },
 
-    /// A pull moves an item to the front of a segment.
+    /// A pull moves a chunk's item to the front of a segment (memcached's `lru_pull_tail`).
     Move { chunk: u32, to: Segment },
 
-    /// A lane takes the next bump from its worker's ring.
+    /// A worker's lane takes the next bump from its ring (memcached's `lru_maintainer_bumps`). Answers the bump's number.
     TakeBump { worker: u32 },
 
-    /// The lane looks at the head of its bump's item.
+    /// A worker's lane looks at the head of its bump's item, under the class lock. Answers the head.
     Try { worker: u32 },
 
-    /// The lane stores the time.
+    /// A worker's lane stores the time of its bump's item, in the caller's ticks (memcached's `do_item_update`).
     BumpTime { worker: u32, time: u64 },
 
-    /// The lane clears ACTIVE.
+    /// A worker's lane clears ACTIVE of its bump's item. Answers the head that it found.
     ClearFor { worker: u32 },
 
-    /// The lane moves the item to the front of WARM.
+    /// A worker's lane moves its bump's item to the front of WARM.
     MoveFor { worker: u32 },
 
-    /// The lane gives the bump's reference back.
+    /// A worker's lane gives its bump's reference back, and is done with it. Answers what became of the bump.
     Alight { worker: u32 },
 }
 
@@ -91,7 +93,7 @@ pub enum Reply {
     /// The head that the event found.
     Word(Head),
 
-    /// The number of a bump.
+    /// The number of a bump among its worker's accepted bumps, from 0.
     Number(u64),
 
     /// The item that begins its life.
@@ -99,14 +101,20 @@ pub enum Reply {
 
     /// What became of a bump.
     Outcome(Outcome),
+
+    /// The event was made, and has nothing to tell.
     Done,
 }
 
 /// Why an event or a command was refused. Nothing was changed.
-#[derive(Clone, Copy, Debug, PartialEq, Eq)]
+#[derive(Clone, Copy, Debug, PartialEq, Eq, Error)]
 pub enum Refused {
     /// A number is out of range, or the event's condition does not hold.
+    #[error("not enabled")]
     NotEnabled,
+
+    /// Memory was asked for and refused.
+    #[error("out of memory")]
     OutOfMemory,
 }
 

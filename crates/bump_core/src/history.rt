@@ -2,10 +2,13 @@
 use crate::items::ItemId;
 use crate::places::Segment;
 
-/// Why a chunk moved: by a pull, or for a bump of this worker with this number.
+/// Why a chunk moved.
 #[derive(Clone, Copy, Debug, PartialEq, Eq)]
 pub enum Cause {
+    /// By a pull.
     Pull,
+
+    /// For a bump: its worker, and its number among that worker's accepted bumps.
     Bump(u32, u64),
 }
 
@@ -15,7 +18,7 @@ pub enum Change {
     /// The life began, in HOT.
     Linked(ItemId),
 
-    /// The item went from one segment to the front of another, or of the same.
+    /// The item went from one segment (the first) to the front of another (the second), or of the same.
     Moved(ItemId, Segment, Segment, Cause),
 
     /// The item was unlinked, and its chunk is DYING.

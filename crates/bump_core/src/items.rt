@@ -5,17 +5,20 @@ ghost use Rattle.bump_core.specs.Lives.{is_same};
 
 use crate::places::Segment;
 
-/// An item: a life of a chunk. Chunks are numbered from 0 over all classes, generations go from 1 to 4,294,967,295.
+/// An item: a life of a chunk.
 #[derive(Clone, Copy, Debug, PartialEq, Eq)]
 pub struct ItemId {
+    /// The chunk, numbered from 0 over all classes: the first class has the first chunks, the next class the next.
     pub chunk: u32,
+
+    /// Which of the chunk's lives: the configured first generation, then one more with each link, up to 4,294,967,295.
     pub generation: u32,
 }
 
 /// What a chunk's head word says.
 #[derive(Clone, Copy, Debug, PartialEq, Eq)]
 pub struct Head {
-    /// The reference count: how many hold the chunk, its being linked included.
+    /// The reference count: how many hold the chunk, its being linked included. At most the configured limit.
     pub refs: u32,
 
     /// Whether the item is linked (memcached's `ITEM_LINKED`).
@@ -24,13 +27,15 @@ pub struct Head {
     /// Whether the item was hit since it was linked (memcached's `ITEM_FETCHED`).
     pub fetched: bool,
 
-    /// Whether the item was hit twice or more since the mark was last cleared (memcached's `ITEM_ACTIVE`).
+    /// Whether a hit found FETCHED set since the item was linked, and since the mark was last cleared (memcached's
+    /// `ITEM_ACTIVE`). Pulls, applied bumps and drops clear it and leave FETCHED, so one more hit sets it again.
     pub active: bool,
 
-    /// The segment that the item is in, or was in when it was unlinked.
+    /// The segment that the item is in, or was in when it was unlinked; HOT before the chunk's first life.
     pub segment: Segment,
 
-    /// The generation of the chunk's life.
+    /// The generation of the chunk's life, or of its last one where the chunk is free. Before the first life it is one
+    /// less than the configured first generation.
     pub generation: u32,
 }
 

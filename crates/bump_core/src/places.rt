@@ -5,24 +5,39 @@ ghost use Rattle.bump_core.specs.History.{place_of};
 /// A segment of a class's recency list: memcached's HOT, WARM and COLD.
 #[derive(Clone, Copy, Debug, PartialEq, Eq)]
 pub enum Segment {
+    /// Where an item begins.
     Hot,
+
+    /// Where an item goes that a pull or a bump finds ACTIVE.
     Warm,
+
+    /// Where a pull moves an item that isn't ACTIVE. Only here a hit attempts a bump.
     Cold,
 }
 
 /// The list whose last item a pull looks at.
 #[derive(Clone, Copy, Debug, PartialEq, Eq)]
 pub enum Tail {
+    /// HOT, which a pull brings down to its limit.
     Hot,
+
+    /// WARM, which a pull brings down to its limit.
     Warm,
+
+    /// COLD, which has no limit: a pull only rescues an item that is ACTIVE.
     Cold,
 }
 
 /// One of the six lists of a class. A chunk stands in exactly one of them at every moment.
 #[derive(Clone, Copy, Debug, PartialEq, Eq)]
 pub enum Place {
+    /// The items of HOT.
     Hot,
+
+    /// The items of WARM.
     Warm,
+
+    /// The items of COLD.
     Cold,
 
     /// Unlinked while it was held, and not yet found without holders.
