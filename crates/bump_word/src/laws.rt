@@ -11,8 +11,7 @@ ghost use Rattle.bump_core.specs.declared.places.Segment.TheVariants.{Hot, Warm,
 ghost use Rattle.bump_word.specs.Layout.{segment_first, generation_first, generation_width};
 ghost use Rattle.bump_word.specs.Words.{Spells, IsPacked, IsUnpacked, number_of, word_of, segment_bits, segment_change};
 ghost use Rattle.bump_word.specs.Steps.{Changes, Tests, Reads};
-ghost use Rattle.bump_core.specs.Heads.{one_more as with_one_more, one_fewer, fetched_head, active_head, cleared_head, moved_head};
-ghost use Rattle.bump_core.specs.Lawful.{newborn};
+ghost use Rattle.bump_core.specs.Heads.{newborn, severed_head, one_more as with_one_more, one_fewer, fetched_head, active_head, cleared_head, moved_head};
 
 use crate::layout::{ACTIVE, FETCHED, GENERATION_AT, LINKED, REFS_AT, REFS_MAX, SEGMENT_AT};
 
@@ -77,8 +76,7 @@ pub fn clear_active()
 /// and the count at least 1.
 pub fn unlink()
     ensures { Changes (λ n. (n + (2 ^ 64 - LINK)) % 2 ^ 64)
-        (λ h. (h.linked ≡ true) × (0 < h.refs))
-        (λ h. record h { refs = h.refs - 1; linked = false }) }
+        (λ h. (h.linked ≡ true) × (0 < h.refs)) severed_head }
 {}
 
 /// An item goes to another segment, or stays in its own, by an exclusive or with what [`segment_xor`](crate::segment_xor)
