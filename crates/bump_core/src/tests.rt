@@ -1,6 +1,8 @@
 //! What no clause says: known answers, and that calls succeed.
 ghost use Rattle.std.specs.Prelude.{◌≡◌, ◌<◌, IfSome, length};
+ghost use Rattle.bump_core.specs.Headline.{Headline};
 ghost use Rattle.bump_core.specs.State.{SameSizes};
+ghost use Rattle.bump_core.specs.Worlds.{IsLawful};
 
 use super::*;
 use std::alloc::{AllocError, Global};
@@ -509,5 +511,42 @@ fn the_first_of_two_faults_is_answered(rt: HostRuntime) -> Result<(), Fail> {
         let made = Config::new(workers, capacity, refs_limit, generation, classes);
         assert_eq!(rt; made.err(), *fault, "at {numbers:?}");
     }
+    Ok(())
+}
+
+/// Whoever holds a World can tell that it is lawful, and as the headline says.
+fn is_as_promised(world: &World)
+    ensures lawful { IsLawful world.now }
+    ensures headline { Headline world.now }
+{
+    world.promise();
+}
+
+/// How many chunks are UNUSED, over all classes: a caller that can test its own arguments.
+fn count_unused(world: &World) -> usize {
+    let mut count: usize = 0;
+    for class in 0..world.classes() {
+        count = count.saturating_add(world.list(class, Place::Unused).len());
+    }
+    count
+}
+
+#[test]
+fn a_world_tells_how_much_there_is(rt: HostRuntime) -> Result<(), Fail> {
+    let alloc = rt.alloc();
+    let mut classes = Vec::new(alloc);
+    for chunks in [2, 3].iter() {
+        classes.push(ClassConfig {
+            chunks: *chunks,
+            hot: 5,
+            warm: 5,
+        })?;
+    }
+    let config = Config::new(3, 4, 4, 1, classes).ok().ok_or("a fault")?;
+    let world = World::new(alloc, &config)?;
+    is_as_promised(&world);
+    let told = (world.classes(), world.chunks(), world.workers());
+    assert_eq!(rt; told, (2, 5, 3));
+    assert_eq!(rt; count_unused(&world), 5);
     Ok(())
 }
