@@ -272,17 +272,24 @@ const PROMOTED: Readers = Readers {
     ),
 };
 
+/// Says that an allocation was refused, so that whoever makes each fail in turn knows when none is left.
+fn tell_refusal(rt: &HostRuntime) -> Result<(), Fail> {
+    eprintln!(rt; "an allocation was refused")?;
+    Ok(())
+}
+
 // Where an allocation is made to fail, whichever it is, the refused call has changed nothing, and is made again.
 #[test]
 fn commands_promote_and_refusals_change_nothing(rt: HostRuntime) -> Result<(), Fail> {
     let Some(mut world) = world(rt.alloc(), 4, 0, 5) else {
-        return Ok(());
+        return tell_refusal(&rt);
     };
     for (command, answer) in PROMOTION.iter() {
         let before = told_by(&world);
         let first = world.command(*command);
         let told = match first {
             Err(Refused::OutOfMemory) => {
+                tell_refusal(&rt)?;
                 assert_eq!(rt; told_by(&world), before);
                 world.command(*command)
             }
@@ -298,11 +305,12 @@ fn commands_promote_and_refusals_change_nothing(rt: HostRuntime) -> Result<(), F
 #[test]
 fn steps_promote_and_refusals_change_nothing(rt: HostRuntime) -> Result<(), Fail> {
     let Some(mut world) = world(rt.alloc(), 4, 0, 5) else {
-        return Ok(());
+        return tell_refusal(&rt);
     };
     for event in PROMOTION_EVENTS.iter() {
         let before = told_by(&world);
         if world.step(*event) == Err(Refused::OutOfMemory) {
+            tell_refusal(&rt)?;
             assert_eq!(rt; told_by(&world), before);
             assert!(rt; world.step(*event).is_ok());
         }
@@ -315,10 +323,11 @@ fn steps_promote_and_refusals_change_nothing(rt: HostRuntime) -> Result<(), Fail
 #[test]
 fn runs_promote_and_go_on_after_a_refusal(rt: HostRuntime) -> Result<(), Fail> {
     let Some(mut world) = world(rt.alloc(), 4, 0, 5) else {
-        return Ok(());
+        return tell_refusal(&rt);
     };
     let events = PROMOTION_EVENTS.as_slice();
     if let Err((place, refused)) = world.run(events) {
+        tell_refusal(&rt)?;
         assert_eq!(rt; refused, Refused::OutOfMemory);
         assert!(rt; place < events.len());
         assert_eq!(rt; world.run(&events[place..]), Ok(()));
