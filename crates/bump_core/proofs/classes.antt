@@ -1,4 +1,5 @@
 pub mod PlainLists
 pub mod Replay
 pub mod SixLists
+pub mod Standings
 pub mod Tiles

@@ -1,7 +1,8 @@
+pub mod ClosedRings
 pub mod Frames
 pub mod Fronts
 pub mod Headline
-pub mod LabelsAndClosedRings
+pub mod Labels
 pub mod LawfulStates
 pub mod NothingUnlinked
 pub mod Opening

@@ -36,14 +36,13 @@ use Rattle.bump_core.specs.declared.events.Event.{Event}
 use Rattle.bump_core.specs.declared.events.Event.TheVariants as event
 use Rattle.bump_core.specs.declared.events.Refused.{Refused}
 use Rattle.bump_core.specs.declared.events.Refused.TheVariants.{NotEnabled, OutOfMemory}
-use Rattle.bump_core.specs.Lawful.{newborn}
 use Rattle.bump_core.specs.Lives.{life}
 use Rattle.bump_core.specs.History.{place_of}
 use Rattle.bump_core.specs.Lists.{list_at}
-use Rattle.bump_core.specs.Tables.{Hit, IsFirst, IsAlready, IsMarked, Attempts, is_cold, hit_of, dropped_of, outcome_of, pulled_of, pulled_to, segment_of}
+use Rattle.bump_core.specs.Tables.{Get, IsStale, IsRefsFull, IsHeld, Hit, IsFirst, IsAlready, IsMarked, Attempts, is_cold, is_over, get_of, ended_of, hit_of, dropped_of, outcome_of, pulled_of, pulled_to, segment_of}
 use Rattle.bump_core.specs.State.{State, WorkerState, chunk, head, class, worker, is_chunk, is_class, is_worker, with_chunk, with_head, with_worker, with_change, class_of, is_linked, is_held, has_free_hold, is_open, is_idle, some_and, is_under_application, last_of}
 use Rattle.bump_core.specs.Rings.{most_attempts}
-use Rattle.bump_core.specs.Heads.{one_more, one_fewer, fetched_head, active_head}
+use Rattle.bump_core.specs.Heads.{newborn, one_more, one_fewer, fetched_head, active_head}
 use Rattle.bump_core.specs.Events.{is_under_limit, next_chunk, next_life, waiting, next_bump, bump_of, applied_bump, with_hold, without_hold}
 
 -- Pulls.
@@ -52,15 +51,15 @@ use Rattle.bump_core.specs.Events.{is_under_limit, next_chunk, next_life, waitin
 abbrev pub tail_of : State → ℕ → Tail → Option ℕ
 tail_of s k t = last_of (list_at (class s k).lists (place_of (segment_of t)))
 
--- that list has more items than its limit
-abbrev pub is_over : State → ℕ → Tail → Bool
-is_over s k tail.Hot = nat_lt (class s k).hot_limit (length (class s k).lists.hot)
-is_over s k tail.Warm = nat_lt (class s k).warm_limit (length (class s k).lists.warm)
-is_over s k tail.Cold = false
+-- that list has more items than its limit; COLD has none
+abbrev pub is_list_over : State → ℕ → Tail → Bool
+is_list_over s k tail.Hot = is_over (length (class s k).lists.hot) (class s k).hot_limit
+is_list_over s k tail.Warm = is_over (length (class s k).lists.warm) (class s k).warm_limit
+is_list_over s k tail.Cold = false
 
 -- what a pull does with its item, by the tail table
 abbrev pub pulled_at : State → ℕ → Tail → ℕ → Pulled
-pulled_at s k t c = pulled_of t (head s c).active (is_over s k t) (life c (head s c).generation)
+pulled_at s k t c = pulled_of t (head s c).active (is_list_over s k t) (life c (head s c).generation)
 
 -- the item goes to the front of a segment without ACTIVE, or nothing happens
 abbrev pub pull_to : State → ℕ → Tail → ℕ → Option Segment → State
@@ -74,9 +73,27 @@ pull s k t c = pull_to s k t c (pulled_to (pulled_at s k t c))
 
 -- Holds.
 
--- what taking a hold answers
-abbrev pub take_answer : State → ItemId → Answer
-take_answer s l = if not (is_chunk s l.chunk) then answer.NoSuchChunk else (if not (is_linked s l) then answer.Stale else (if is_under_limit s l.chunk then answer.Held else answer.RefsFull))
+-- what a get answers, by what it comes to
+abbrev pub get_answer : Get → Answer
+get_answer IsStale = answer.Stale
+get_answer IsRefsFull = answer.RefsFull
+get_answer IsHeld = answer.Held
+
+-- what a get of this life comes to, by the word that stands there
+abbrev pub get_at : State → ItemId → Get
+get_at s l = get_of s.refs_limit l.generation (head s l.chunk)
+
+-- a hold is taken where the get comes to that
+abbrev pub held_by_get : State → ItemId → Get → State
+held_by_get s l IsStale = s
+held_by_get s l IsRefsFull = s
+held_by_get s l IsHeld = with_hold s l.chunk
+
+-- its events, after the load
+abbrev pub get_events : ℕ → ItemId → Get → List Event
+get_events w l IsStale = []
+get_events w l IsRefsFull = []
+get_events w l IsHeld = event.Take w l ∷ []
 
 -- Hits.
 
@@ -144,9 +161,9 @@ is_half_made _ = true
 abbrev pub outcome_next : State → Bump → Outcome
 outcome_next s b = let h = head s b.life.chunk in outcome_of h h.active
 
--- whether an unlinked chunk has other holders when a bump's reference is given back
+-- what the end of an unlinked life comes to when a bump's reference is given back
 abbrev pub ended_at : State → ℕ → Ended
-ended_at s c = if (head s c).refs - 1 == 0 then Freed else Deferred
+ended_at s c = ended_of (one_fewer (head s c))
 
 abbrev pub applied_as : State → Bump → Outcome → Applied
 applied_as s b outcome.Moved = applied.Moved
@@ -206,7 +223,7 @@ is_allowed s (command.Next w now) = is_worker s w && (not (is_half_made (worker 
 abbrev pub answer_of : State → Command → Answer
 answer_of s (command.Link k x now) = option_map_or (λ c. answer.Linked (next_life s c)) (next_chunk s k) answer.NoFreeChunk
 answer_of s (command.Pull k t) = answer.Pulled (option_map_or (pulled_at s k t) (tail_of s k t) pulled.Empty)
-answer_of s (command.Take w l) = take_answer s l
+answer_of s (command.Take w l) = if is_chunk s l.chunk then get_answer (get_at s l) else answer.NoSuchChunk
 answer_of s (command.Touch w l now) = answer.Touched (if is_exhausted s w then touch.Exhausted else hit_answer s w l (hit_at s l))
 answer_of s (command.Label l) = answer.Label (chunk s l.chunk).label
 answer_of s (command.Release l) = answer.Done
@@ -220,7 +237,7 @@ link_labelled s k x now c = with_change (with_chunk s c (record (chunk s c) { he
 abbrev pub command_after : State → Command → State
 command_after s (command.Link k x now) = option_map_or (link_labelled s k x now) (next_chunk s k) s
 command_after s (command.Pull k t) = option_map_or (pull s k t) (tail_of s k t) s
-command_after s (command.Take w l) = if is_linked s l && is_under_limit s l.chunk then with_hold s l.chunk else s
+command_after s (command.Take w l) = if is_chunk s l.chunk then held_by_get s l (get_at s l) else s
 command_after s (command.Touch w l now) = if is_exhausted s w then s else hit s w l now (hit_at s l)
 command_after s (command.Label l) = s
 command_after s (command.Release l) = without_hold s l.chunk
@@ -261,14 +278,15 @@ apply_events h w now c =
 abbrev pub events_of : State → Command → List Event
 events_of s (command.Link k x now) = option_map_or (λ c. event.PutLabel k x ∷ event.PutTime k now ∷ event.Link k ∷ []) (next_chunk s k) []
 events_of s (command.Pull k t) = option_map_or (λ c. event.ClearActive c ∷ move_events c (pulled_to (pulled_at s k t c))) (tail_of s k t) []
-events_of s (command.Take w l) = if not (is_chunk s l.chunk) then [] else (event.Load l.chunk ∷ (if is_linked s l && is_under_limit s l.chunk then event.Take w l ∷ [] else []))
+events_of s (command.Take w l) = if is_chunk s l.chunk then event.Load l.chunk ∷ get_events w l (get_at s l) else []
 events_of s (command.Touch w l now) = if is_exhausted s w then [] else hit_events s w l now (hit_at s l)
 events_of s (command.Label l) = event.Load l.chunk ∷ []
 events_of s (command.Release l) = event.Release l ∷ []
 events_of s (command.Next w now) = option_map_or (λ b. take_events w (worker s w).lane ++ apply_events (head s b.life.chunk) w now b.life.chunk) (bump_next (worker s w)) []
 
--- What a command does: where it is allowed it answers and leaves what the tables say, else it refuses; a refusal changes nothing.
+-- What a command does: where it is allowed it answers and leaves what the tables say, else it refuses. Want of memory is the
+-- last refusal: only a command that is allowed meets it. A refusal changes nothing.
 abbrev pub Commands : State → Command → State → Result Answer Refused → Type 0
 Commands old c new (Ok answer) = (is_allowed old c ≡ true) × (new ≡ command_after old c) × (answer ≡ answer_of old c)
 Commands old c new (Err NotEnabled) = (is_allowed old c ≡ false) × (new ≡ old)
-Commands old c new (Err OutOfMemory) = new ≡ old
+Commands old c new (Err OutOfMemory) = (is_allowed old c ≡ true) × (new ≡ old)

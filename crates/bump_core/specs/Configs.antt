@@ -1,5 +1,5 @@
 -- Which configurations are refused, and why.
-use Rattle.std.specs.Prelude.{ℕ, Bool, List, [], ◌∷◌, Option, length, nat_lt, nat_le, not, ◌&&◌, ◌||◌, ◌==◌, find}
+use Rattle.std.specs.Prelude.{ℕ, ◌<◌, ◌≤◌, Bool, List, [], ◌∷◌, Option, length, nat_lt, nat_le, not, ◌&&◌, ◌||◌, ◌==◌, find}
 use Rattle.std.specs.List.{list_any}
 use Rattle.bump_core.specs.declared.configs.ClassConfig.{ClassConfig}
 use Rattle.bump_core.specs.declared.configs.ConfigFault.{ConfigFault}
@@ -31,3 +31,22 @@ has_fault workers capacity limit generation classes Chunks = have_wrong_chunks c
 abbrev pub first_fault : ℕ → ℕ → ℕ → ℕ → List ClassConfig → Option ConfigFault
 first_fault workers capacity limit generation classes =
     find (has_fault workers capacity limit generation classes) (Workers ∷ Capacity ∷ RefsLimit ∷ Generation ∷ Classes ∷ Chunks ∷ [])
+
+-- each class has a chunk or more
+abbrev pub HaveChunks : List ClassConfig → Type 0
+HaveChunks [] = Unit {0}
+HaveChunks (k ∷ ks) = (0 < k.chunks) × HaveChunks ks
+
+-- the bounds of a configuration without faults
+pub record Bounds (workers capacity limit generation : ℕ) (classes : List ClassConfig) : Type 0 where
+  pub workers_least : 1 ≤ workers
+  pub workers_most : workers ≤ 64
+  pub capacity_least : 1 ≤ capacity
+  pub capacity_most : capacity ≤ 65536
+  pub limit_least : 2 ≤ limit
+  pub limit_most : limit ≤ 65535
+  pub generation_least : 1 ≤ generation
+  pub classes_least : 1 ≤ length classes
+  pub classes_most : length classes ≤ 16
+  pub chunks_each : HaveChunks classes
+  pub chunks_most : chunks_of classes ≤ 1000000

@@ -1,7 +1,7 @@
 -- Events: when each is enabled, the state after it, and its reply.
-use Rattle.std.specs.Prelude.{ℕ, ◌+◌, ◌-◌, Bool, true, false, not, ◌&&◌, nat_lt, [], ◌∷◌, ◌++◌, length, slice_get, Option, None, Some, if◌then◌else◌}
+use Rattle.std.specs.Prelude.{ℕ, ◌+◌, ◌-◌, Bool, true, false, not, ◌&&◌, nat_lt, [], ◌∷◌, ◌++◌, length, slice_get, Option, None, Some, option_map, if◌then◌else◌}
 use Rattle.std.specs.Option.{option_map_or}
-use Rattle.bump_core.specs.Heads.{one_more, one_fewer, fetched_head, active_head, cleared_head, moved_head}
+use Rattle.bump_core.specs.Heads.{newborn, one_more, one_fewer, fetched_head, active_head, cleared_head, moved_head}
 use Rattle.bump_core.specs.declared.places.Segment.{Segment}
 use Rattle.bump_core.specs.declared.places.Segment.TheVariants as segment
 use Rattle.bump_core.specs.declared.items.ItemId.{ItemId}
@@ -19,7 +19,6 @@ use Rattle.bump_core.specs.declared.events.Event.{Event}
 use Rattle.bump_core.specs.declared.events.Event.TheVariants as event
 use Rattle.bump_core.specs.declared.events.Reply.{Reply}
 use Rattle.bump_core.specs.declared.events.Reply.TheVariants as reply
-use Rattle.bump_core.specs.Lawful.{newborn}
 use Rattle.bump_core.specs.Lives.{life}
 use Rattle.bump_core.specs.Tables.{is_cold}
 use Rattle.bump_core.specs.Rings.{most_attempts}
@@ -81,20 +80,27 @@ abbrev pub is_empty : Lane → Bool
 is_empty lane.Empty = true
 is_empty _ = false
 
--- what a lane may end its bump with, by how far it is and the head of the bump's item
-abbrev pub outcome_at : Lane → Head → Option Outcome
-outcome_at (lane.Tried b) h = if not h.linked then Some outcome.Gone else (if is_cold h.segment then None else Some outcome.TimeOnly)
-outcome_at (lane.Cleared b found) h = if found then None else Some outcome.TimeOnly
-outcome_at (lane.Moved b) h = Some outcome.Moved
-outcome_at _ h = None
+-- a bump, and what became of it
+abbrev pub applied_bump : Bump → Outcome → AppliedBump
+applied_bump b o = record { number = b.number; life = b.life; outcome = o }
 
--- the chunk of the bump that a lane applies, or that it is about to
-abbrev pub lane_chunk : State → ℕ → ℕ
-lane_chunk s w = option_map_or (λ b. b.life.chunk) (applied_now (worker s w).lane) 0
+-- what a lane may end its bump with when it looked at the head of the bump's item
+abbrev pub outcome_tried : Head → Option Outcome
+outcome_tried found = if not found.linked then Some outcome.Gone else (if is_cold found.segment then None else Some outcome.TimeOnly)
 
--- what the worker's lane may end its bump with
-abbrev pub lane_outcome : State → ℕ → Option Outcome
-lane_outcome s w = outcome_at (worker s w).lane (head s (lane_chunk s w))
+-- The bump that a lane may end, and what with, by how far the lane is and the heads of all chunks: it looked at an item that it
+-- has nothing to move of, or found ACTIVE clear, or moved the item.
+abbrev pub ending_at : (ℕ → Head) → Lane → Option AppliedBump
+ending_at heads lane.Empty = None
+ending_at heads (lane.Carrying b) = None
+ending_at heads (lane.Tried b) = option_map (applied_bump b) (outcome_tried (heads b.life.chunk))
+ending_at heads (lane.Cleared b true) = None
+ending_at heads (lane.Cleared b false) = Some (applied_bump b outcome.TimeOnly)
+ending_at heads (lane.Moved b) = Some (applied_bump b outcome.Moved)
+
+-- the same of a worker's lane
+abbrev pub ending : State → ℕ → Option AppliedBump
+ending s w = ending_at (head s) (worker s w).lane
 
 -- When an event is enabled. Numbers out of range name nothing, and no event is enabled of them.
 abbrev pub is_enabled : State → Event → Bool
@@ -120,7 +126,7 @@ is_enabled s (event.Try w) = is_worker s w && some_and (λ b. not (is_under_appl
 is_enabled s (event.BumpTime w t) = is_worker s w && some_and (λ b. (head s b.life.chunk).linked) (applied_now (worker s w).lane)
 is_enabled s (event.ClearFor w) = is_worker s w && some_and (λ b. (head s b.life.chunk).linked && is_cold (head s b.life.chunk).segment) (tried (worker s w).lane)
 is_enabled s (event.MoveFor w) = is_worker s w && some_and (λ b. true) (cleared_active (worker s w).lane)
-is_enabled s (event.Alight w) = is_worker s w && some_and (λ o. true) (lane_outcome s w)
+is_enabled s (event.Alight w) = is_worker s w && some_and (λ a. true) (ending s w)
 
 -- The changes that the events make, by the chunk, worker or class that they concern.
 
@@ -201,13 +207,10 @@ move_for s w b =
     let c = b.life.chunk in
     with_lane (with_change (with_head s c (moved_head segment.Warm (head s c))) (class_of s c) (change.Moved b.life segment.Cold segment.Warm (BumpOf w b.number))) w (lane.Moved b)
 
-abbrev pub applied_bump : Bump → Outcome → AppliedBump
-applied_bump b o = record { number = b.number; life = b.life; outcome = o }
-
-abbrev pub alight : State → ℕ → Bump → Outcome → State
-alight s w b o =
+abbrev pub alight : State → ℕ → AppliedBump → State
+alight s w a =
     let x = worker s w in
-    with_worker (with_head s b.life.chunk (one_fewer (head s b.life.chunk))) w (record x { lane = lane.Empty; applied = x.applied ++ applied_bump b o ∷ [] })
+    with_worker (with_head s a.life.chunk (one_fewer (head s a.life.chunk))) w (record x { lane = lane.Empty; applied = x.applied ++ a ∷ [] })
 
 -- The state after an event that is enabled.
 abbrev pub after : State → Event → State
@@ -233,7 +236,7 @@ after s (event.Try w) = option_map_or (λ b. with_lane s w (lane.Tried b)) (carr
 after s (event.BumpTime w t) = option_map_or (λ b. with_time s b.life.chunk t) (applied_now (worker s w).lane) s
 after s (event.ClearFor w) = option_map_or (clear_for s w) (tried (worker s w).lane) s
 after s (event.MoveFor w) = option_map_or (move_for s w) (cleared_active (worker s w).lane) s
-after s (event.Alight w) = option_map_or (λ b. option_map_or (alight s w b) (lane_outcome s w) s) (applied_now (worker s w).lane) s
+after s (event.Alight w) = option_map_or (alight s w) (ending s w) s
 
 -- the head that an event finds at a chunk
 abbrev pub word_at : State → ℕ → Reply
@@ -263,4 +266,4 @@ reply_of s (event.Try w) = option_map_or (λ b. word_at s b.life.chunk) (carried
 reply_of s (event.BumpTime w t) = reply.Done
 reply_of s (event.ClearFor w) = option_map_or (λ b. word_at s b.life.chunk) (tried (worker s w).lane) reply.Done
 reply_of s (event.MoveFor w) = reply.Done
-reply_of s (event.Alight w) = option_map_or reply.Outcome (lane_outcome s w) reply.Done
+reply_of s (event.Alight w) = option_map_or (λ a. reply.Outcome a.outcome) (ending s w) reply.Done

@@ -1,37 +1,45 @@
 -- What a World promises of its rings, its accounts, its free chunks and its lists, in the words of the headline.
-use Rattle.std.specs.Prelude.{◌≡◌, ℕ, ◌+◌, ◌<◌, true, false, List, ◌++◌, length, map}
+use Rattle.std.specs.Prelude.{◌≡◌, ℕ, ◌+◌, ◌<◌, true, false, ◌&&◌, List, ◌++◌, length, map}
+use Rattle.bump_core.specs.declared.places.Place.{Place}
+use Rattle.bump_core.specs.History.{is_place}
+use Rattle.bump_core.specs.Lawful.{bit, Shows, IsUsed}
+use Rattle.bump_core.specs.Lists.{Lists, list_at, times}
+use Rattle.bump_core.specs.Rings.{in_ring, aboard, bump_applied, numbered_from, IsRing, IsAccounts, attempts_of}
+use Rattle.bump_core.specs.State.{State, WorkerState, head, class, class_of, worker, chunk}
+use Rattle.bump_core.specs.Worlds.{references, owns, stands_in, place}
 use Rattle.bump_core.specs.declared.bumps.Bump.{Bump}
-use Rattle.bump_core.specs.Lawful.{IsUsed}
-use Rattle.bump_core.specs.Lists.{Lists, times}
-use Rattle.bump_core.specs.Rings.{bump_applied, numbered_from, attempts_of}
-use Rattle.bump_core.specs.State.{State, WorkerState, chunk, head, class, class_of, worker}
-use Rattle.bump_core.specs.Worlds.{references, place, owns}
 
--- What a lane applied is the first part of what its worker's ring accepted, numbered from 0: so every bump is applied once at
--- most, and in that worker's order.
+-- What a lane applied, then the bump aboard, and then the bumps in the ring are what the ring accepted, numbered from 0: so every
+-- bump is applied once at most, and in that worker's order, and what is not applied yet is still on its way.
 abbrev pub AppliesInOrder : WorkerState → Type 0
-AppliesInOrder x = (rest : List Bump) × (map bump_applied x.applied ++ rest ≡ numbered_from 0 x.sent)
+AppliesInOrder x = map bump_applied x.applied ++ aboard x.lane ++ numbered_from (length x.received) (in_ring x) ≡ numbered_from 0 x.sent
 
 -- how often a chunk stands in the lists of a class
 abbrev pub times_in_all : ℕ → Lists → ℕ
 times_in_all c l = times c l.hot + times c l.warm + times c l.cold + times c l.dying + times c l.unused + times c l.retired
 
+-- How a chunk stands to the list of class k at a place.
+pub record Stands (s : State) (k c : ℕ) (q : Place) : Type 0 where
+  -- it is there once exactly where the class has it and its history leaves it there, and not at all elsewhere
+  pub listed : times c (list_at (class s k).lists q) ≡ bit (owns (class s k) c && is_place (stands_in (class s k) c).0 q)
+  -- where it is there, LINKED and the segment bits of its head say so
+  pub shown : 0 < times c (list_at (class s k).lists q) → Shows (head s c) q
+  -- and it has the generation in which the history leaves it
+  pub generation : 0 < times c (list_at (class s k).lists q) → (head s c).generation ≡ (stands_in (class s k) c).1
+
 pub record Headline (s : State) : Type 0 where
   -- each lane applies what its worker's ring accepted, once and in order
   pub in_order : (w : ℕ) → w < length s.workers → AppliesInOrder (worker s w)
-  -- a ring accepted what was sent
-  pub accepted : (w : ℕ) → w < length s.workers → (worker s w).accounts.accepted ≡ length (worker s w).sent
-  -- accepted and dropped bumps, and the attempt under way, add up to those attempted
-  pub add_up : (w : ℕ) → w < length s.workers
-      → (worker s w).accounts.attempted ≡ (worker s w).accounts.accepted + (worker s w).accounts.full + (worker s w).accounts.busy + (worker s w).accounts.refs + attempts_of (worker s w).hand
+  -- a lane received the first part of what the ring accepted, and the ring has room for the rest
+  pub rings : (w : ℕ) → w < length s.workers → IsRing s.capacity (worker s w).sent (worker s w).received
+  -- a ring accepted what was sent; accepted and dropped bumps, and the attempt under way, add up to those attempted
+  pub accounts : (w : ℕ) → w < length s.workers → IsAccounts (worker s w).accounts (length (worker s w).sent) (worker s w).hand
   -- no chunk is free while a reader's hold, a worker's hand, a ring or a lane has a reference to a life of it
   pub none_free : (c g : ℕ) → 0 < references s c g → (times c (class s (class_of s c)).lists.unused ≡ 0) × (times c (class s (class_of s c)).lists.retired ≡ 0)
+  -- the lists of a class have no repeats and no chunk of another class, and agree with its history and the heads
+  pub stands : (k c : ℕ) (q : Place) → k < length s.classes → Stands s k c q
   -- each chunk of a class stands once in its six lists
   pub once : (k c : ℕ) → k < length s.classes → owns (class s k) c ≡ true → times_in_all c (class s k).lists ≡ 1
-
--- A chunk that is in use, in the same life as before, has its label still: the one that was stored before its link.
-abbrev pub LabelsStay : State → State → Type 0
-LabelsStay old new = (c : ℕ) → (head new c).generation ≡ (head old c).generation → IsUsed (place new c) → (chunk new c).label ≡ (chunk old c).label
 
 -- A ring that was closed stays closed, and has accepted nothing since.
 abbrev pub ClosedStay : State → State → Type 0

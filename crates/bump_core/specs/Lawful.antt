@@ -44,11 +44,3 @@ pub record Lawful (limit : ℕ) (h : Head) (at : Place) (references first_hits :
   pub once : (g : ℕ) → first_hits g ≤ 1
   -- and no life that is still to come has one
   pub past : (g : ℕ) → 0 < first_hits g → g ≤ h.generation
-
--- the head of a chunk before its first life
-abbrev pub fresh_head : ℕ → Head
-fresh_head g = record { refs = 0; linked = false; fetched = false; active = false; segment = segment.Hot; generation = g }
-
--- the head of a new life
-abbrev pub newborn : ℕ → Head
-newborn g = record { refs = 1; linked = true; fetched = false; active = false; segment = segment.Hot; generation = g }

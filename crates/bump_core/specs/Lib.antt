@@ -5,6 +5,7 @@ pub mod Events
 pub mod Headline
 pub mod Heads
 pub mod History
+pub mod Labels
 pub mod Lawful
 pub mod Lists
 pub mod Lives

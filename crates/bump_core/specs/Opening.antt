@@ -4,7 +4,7 @@ use Rattle.bump_core.specs.declared.configs.ClassConfig.{ClassConfig}
 use Rattle.bump_core.specs.declared.configs.Config.{Config}
 use Rattle.bump_core.specs.declared.chunks.Chunk.{Chunk}
 use Rattle.bump_core.specs.Configs.{chunks_of}
-use Rattle.bump_core.specs.Lawful.{fresh_head}
+use Rattle.bump_core.specs.Heads.{fresh_head}
 use Rattle.bump_core.specs.Lists.{opening}
 use Rattle.bump_core.specs.State.{State, ClassState, new_worker}
 
@@ -12,14 +12,14 @@ use Rattle.bump_core.specs.State.{State, ClassState, new_worker}
 abbrev pub fresh_chunk : ℕ → Chunk
 fresh_chunk g = record { head = fresh_head g; time = 0; label = 0; holds = 0 }
 
--- a class whose chunks are all UNUSED
-abbrev pub new_class : ℕ → ClassConfig → ClassState
-new_class first k = record { first = first; end = first + k.chunks; hot_limit = k.hot; warm_limit = k.warm; lists = opening first k.chunks; history = [] }
+-- a class whose chunks are all UNUSED, and fresh with this generation
+abbrev pub new_class : ℕ → ℕ → ClassConfig → ClassState
+new_class fresh first k = record { first = first; end = first + k.chunks; fresh = fresh; hot_limit = k.hot; warm_limit = k.warm; lists = opening first k.chunks; history = [] }
 
 -- the first class has the first chunks, the next class the next
-abbrev pub classes_from : ℕ → List ClassConfig → List ClassState
-classes_from first [] = []
-classes_from first (k ∷ ks) = new_class first k ∷ classes_from (first + k.chunks) ks
+abbrev pub classes_from : ℕ → ℕ → List ClassConfig → List ClassState
+classes_from fresh first [] = []
+classes_from fresh first (k ∷ ks) = new_class fresh first k ∷ classes_from fresh (first + k.chunks) ks
 
 -- All chunks are fresh, with the generation before the first one; no worker has done anything.
 abbrev pub opening_state : ℕ → ℕ → ℕ → ℕ → List ClassConfig → State
@@ -27,7 +27,7 @@ opening_state workers capacity limit generation classes = record {
   refs_limit = limit;
   capacity = capacity;
   chunks = replicate (chunks_of classes) (fresh_chunk (generation - 1));
-  classes = classes_from 0 classes;
+  classes = classes_from (generation - 1) 0 classes;
   workers = replicate workers new_worker;
 }
 

@@ -7,19 +7,26 @@ use Rattle.bump_core.specs.declared.events.Refused.TheVariants.{NotEnabled, OutO
 use Rattle.bump_core.specs.State.{State}
 use Rattle.bump_core.specs.Events.{is_enabled, after, reply_of}
 
--- What a step does: where the event is enabled it makes it and answers its reply, else it refuses; a refusal changes nothing.
+-- What a step does: where the event is enabled it makes it and answers its reply, else it refuses. Want of memory is the last
+-- refusal: only an event that is enabled meets it. A refusal changes nothing.
 abbrev pub Steps : State → Event → State → Result Reply Refused → Type 0
 Steps old e new (Ok reply) = (is_enabled old e ≡ true) × (new ≡ after old e) × (reply ≡ reply_of old e)
 Steps old e new (Err NotEnabled) = (is_enabled old e ≡ false) × (new ≡ old)
-Steps old e new (Err OutOfMemory) = new ≡ old
+Steps old e new (Err OutOfMemory) = (is_enabled old e ≡ true) × (new ≡ old)
 
 -- the state after all events in order, where each is enabled in its turn
 abbrev pub run_of : State → List Event → Option State
 run_of s [] = Some s
 run_of s (e ∷ es) = if is_enabled s e then run_of (after s e) es else None
 
--- What a run does: it makes the events in order up to the first that is refused, and tells its place.
+-- the events that a run made: all, or those before the refused one
+abbrev pub made : List Event → Result Unit (ℕ × Refused) → List Event
+made es (Ok u) = es
+made es (Err (n, refused)) = take n es
+
+-- What a run does: it makes the events in order up to the first that is refused, and tells its place. That event was not
+-- enabled in the state that the events before it left; or it was, and memory was wanting.
 abbrev pub Runs : State → List Event → State → Result Unit (ℕ × Refused) → Type 0
 Runs old es new (Ok u) = run_of old es ≡ Some new
 Runs old es new (Err (n, NotEnabled)) = (run_of old (take n es) ≡ Some new) × (e : Event) × (slice_get es n ≡ Some e) × (is_enabled new e ≡ false)
-Runs old es new (Err (n, OutOfMemory)) = (run_of old (take n es) ≡ Some new) × (e : Event) × (slice_get es n ≡ Some e)
+Runs old es new (Err (n, OutOfMemory)) = (run_of old (take n es) ≡ Some new) × (e : Event) × (slice_get es n ≡ Some e) × (is_enabled new e ≡ true)

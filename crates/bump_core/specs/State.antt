@@ -11,16 +11,18 @@ use Rattle.bump_core.specs.declared.lanes.Lane.{Lane}
 use Rattle.bump_core.specs.declared.lanes.Lane.TheVariants as lane
 use Rattle.bump_core.specs.declared.hands.Hand.{Hand}
 use Rattle.bump_core.specs.declared.hands.Hand.TheVariants as hand
-use Rattle.bump_core.specs.Lawful.{fresh_head}
+use Rattle.bump_core.specs.Heads.{fresh_head}
 use Rattle.bump_core.specs.History.{subject, target}
 use Rattle.bump_core.specs.Lists.{Lists, to_front}
 use Rattle.bump_core.specs.Lives.{is_same}
 use Rattle.bump_core.specs.Totals.{total}
 
--- a class: its chunks from first on and below end, the limits of HOT and WARM, its lists and its history
+-- a class: its chunks from first on and below end, the generation with which each is fresh, the limits of HOT and WARM, its
+-- lists and its history
 pub record ClassState : Type 0 where
   pub first : ℕ
   pub end : ℕ
+  pub fresh : ℕ
   pub hot_limit : ℕ
   pub warm_limit : ℕ
   pub lists : Lists
@@ -50,7 +52,7 @@ abbrev pub no_chunk : Chunk
 no_chunk = record { head = fresh_head 0; time = 0; label = 0; holds = 0 }
 
 abbrev pub no_class : ClassState
-no_class = record { first = 0; end = 0; hot_limit = 0; warm_limit = 0; lists = record { hot = []; warm = []; cold = []; dying = []; unused = []; retired = [] }; history = [] }
+no_class = record { first = 0; end = 0; fresh = 0; hot_limit = 0; warm_limit = 0; lists = record { hot = []; warm = []; cold = []; dying = []; unused = []; retired = [] }; history = [] }
 
 abbrev pub no_accounts : Accounts
 no_accounts = record { attempted = 0; accepted = 0; full = 0; busy = 0; refs = 0 }

@@ -1,17 +1,42 @@
--- The tables: what a hit, an attempt, an applied bump and a pull come to, by the words found.
-use Rattle.std.specs.Prelude.{Bool, true, false, not, ◌&&◌, if◌then◌else◌, Option, None, Some}
+-- The tables: what a get, a hit, an attempt, an applied bump, an end and a pull come to, by the words found.
+use Rattle.std.specs.Prelude.{ℕ, Bool, true, false, not, ◌&&◌, ◌==◌, nat_lt, if◌then◌else◌, Option, None, Some}
 use Rattle.bump_core.specs.declared.places.Segment.{Segment}
 use Rattle.bump_core.specs.declared.places.Segment.TheVariants as segment
 use Rattle.bump_core.specs.declared.places.Tail.{Tail}
 use Rattle.bump_core.specs.declared.places.Tail.TheVariants as tail
 use Rattle.bump_core.specs.declared.items.Head.{Head}
 use Rattle.bump_core.specs.declared.items.ItemId.{ItemId}
+use Rattle.bump_core.specs.declared.bumps.Ended.{Ended}
+use Rattle.bump_core.specs.declared.bumps.Ended.TheVariants.{Freed, Deferred}
 use Rattle.bump_core.specs.declared.bumps.Outcome.{Outcome}
 use Rattle.bump_core.specs.declared.bumps.Outcome.TheVariants as outcome
 use Rattle.bump_core.specs.declared.commands.Dropped.{Dropped}
 use Rattle.bump_core.specs.declared.commands.Dropped.TheVariants.{Full, Busy, RefsFull}
 use Rattle.bump_core.specs.declared.commands.Pulled.{Pulled}
-use Rattle.bump_core.specs.declared.commands.Pulled.TheVariants.{Stay, Warm, Again, Cold}
+use Rattle.bump_core.specs.declared.commands.Pulled.TheVariants.{Empty, Stay, Warm, Again, Cold}
+
+-- what a get comes to
+pub data Get : Type 0 where
+  IsStale : Get
+  IsRefsFull : Get
+  IsHeld : Get
+
+-- the word is of a linked item of this generation
+abbrev pub is_of : ℕ → Head → Bool
+is_of generation found = found.linked && (found.generation == generation)
+
+-- The get table, by the limit, the generation that is asked for, and the word found: Stale comes before RefsFull.
+abbrev pub get_of : ℕ → ℕ → Head → Get
+get_of limit generation found = if not (is_of generation found) then IsStale else (if nat_lt found.refs limit then IsHeld else IsRefsFull)
+
+-- What the end of an unlinked life comes to, by the word that the load behind it found: its chunk is free where that shows
+-- no reference.
+abbrev pub ended_of : Head → Ended
+ended_of found = if found.refs == 0 then Freed else Deferred
+
+-- a list of this size is over its limit
+abbrev pub is_over : ℕ → ℕ → Bool
+is_over size limit = nat_lt limit size
 
 -- what a hit comes to: its answer, or that it attempts a bump
 pub data Hit : Type 0 where
@@ -20,10 +45,16 @@ pub data Hit : Type 0 where
   IsMarked : Hit
   Attempts : Hit
 
--- whether the segment bits say COLD
+-- whether the segment bits say COLD, or WARM
 abbrev pub is_cold : Segment → Bool
+is_cold segment.Hot = false
+is_cold segment.Warm = false
 is_cold segment.Cold = true
-is_cold _ = false
+
+abbrev pub is_warm : Segment → Bool
+is_warm segment.Hot = false
+is_warm segment.Warm = true
+is_warm segment.Cold = false
 
 -- whether a hit that found this word by its first step makes the second one
 abbrev pub makes_second : Head → Bool
@@ -54,10 +85,11 @@ pulled_of tail.Cold active over id = if active then Warm id else Stay id
 
 -- the segment to whose front a pull moves the item, if it moves it
 abbrev pub pulled_to : Pulled → Option Segment
+pulled_to Empty = None
+pulled_to (Stay id) = None
 pulled_to (Warm id) = Some segment.Warm
 pulled_to (Again id) = Some segment.Warm
 pulled_to (Cold id) = Some segment.Cold
-pulled_to _ = None
 
 -- the segment of the list that a pull looks at
 abbrev pub segment_of : Tail → Segment

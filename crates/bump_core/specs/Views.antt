@@ -23,6 +23,7 @@ abbrev pub class_view : Class → ClassState
 class_view k = record {
   first = k.first;
   end = k.end;
+  fresh = k.fresh;
   hot_limit = k.hot_limit;
   warm_limit = k.warm_limit;
   lists = lists_of k.lists;

@@ -1,7 +1,6 @@
 -- What a lawful World is.
-use Rattle.std.specs.Prelude.{◌≡◌, ℕ, ◌+◌, ◌-◌, ◌<◌, ◌≤◌, Bool, true, cond, ◌==◌, ◌&&◌, nat_le, nat_lt, List, [], ◌∷◌, length, Some}
+use Rattle.std.specs.Prelude.{◌≡◌, ℕ, ◌+◌, ◌<◌, ◌≤◌, Bool, true, cond, ◌==◌, List, [], ◌∷◌, length, Some}
 use Rattle.bump_core.specs.declared.places.Place.{Place}
-use Rattle.bump_core.specs.declared.places.Place.TheVariants.{Unused}
 use Rattle.bump_core.specs.declared.places.Segment.TheVariants as segment
 use Rattle.bump_core.specs.declared.items.ItemId.{ItemId}
 use Rattle.bump_core.specs.declared.history.Change.{Change}
@@ -13,8 +12,7 @@ use Rattle.bump_core.specs.declared.hands.Hand.TheVariants as hand
 use Rattle.bump_core.specs.Totals.{total}
 use Rattle.bump_core.specs.Lives.{life, one_if, count_of}
 use Rattle.bump_core.specs.Lawful.{Lawful}
-use Rattle.bump_core.specs.Lists.{opening}
-use Rattle.bump_core.specs.History.{subject, standing_from, replay}
+use Rattle.bump_core.specs.History.{Standing, standing_in, is_between, AreBetween, replayed}
 use Rattle.bump_core.specs.State.{State, ClassState, WorkerState, chunk, head, class, worker, class_of, workers_on, applied_life}
 use Rattle.bump_core.specs.Rings.{in_ring, IsWorker}
 
@@ -47,21 +45,23 @@ references s c g = holds_of s (life c g) + total (bumps_of (life c g)) s.workers
 abbrev pub first_hits_of : State → ℕ → ℕ → ℕ
 first_hits_of s c g = total (λ x. count_of (life c g) x.first_hits) s.workers
 
--- the list in which its class's history leaves a chunk
+-- where a class's history leaves a chunk: its place, and its generation
+abbrev pub stands_in : ClassState → ℕ → Standing
+stands_in k c = standing_in k.fresh k.history c
+
 abbrev pub place_in : ClassState → ℕ → Place
-place_in k c = (standing_from c (Unused, 0) k.history).0
+place_in k c = (stands_in k c).0
+
+-- the same of the class of the chunk
+abbrev pub standing : State → ℕ → Standing
+standing s c = stands_in (class s (class_of s c)) c
 
 abbrev pub place : State → ℕ → Place
-place s c = place_in (class s (class_of s c)) c
+place s c = (standing s c).0
 
 -- the chunk is one of the class's
 abbrev pub owns : ClassState → ℕ → Bool
-owns k c = nat_le k.first c && nat_lt c k.end
-
--- each entry of a history is of a chunk of the class
-abbrev pub AreOf : ClassState → List Change → Type 0
-AreOf k [] = Unit {0}
-AreOf k (e ∷ es) = (owns k (subject e).chunk ≡ true) × AreOf k es
+owns k c = is_between k.first k.end c
 
 -- the first class has the first chunks, the next class the next, and so on to the last
 abbrev pub Tiles : ℕ → List ClassState → ℕ → Type 0
@@ -70,8 +70,8 @@ Tiles from (k ∷ ks) end = (k.first ≡ from) × (k.first < k.end) × Tiles k.e
 
 -- a class's lists are the replay of its history
 pub record IsClass (k : ClassState) : Type 0 where
-  pub lists : k.lists ≡ replay (opening k.first (k.end - k.first)) k.history
-  pub entries : AreOf k k.history
+  pub lists : k.lists ≡ replayed k.first k.end k.history
+  pub entries : AreBetween k.first k.end k.history
 
 -- where a lane found ACTIVE and has not moved the item yet, the item is linked and in COLD
 abbrev pub WaitsToMove : State → Lane → Type 0
@@ -83,6 +83,8 @@ pub record IsLawful (s : State) : Type 0 where
   pub tiles : Tiles 0 s.classes (length s.chunks)
   -- each chunk is lawful
   pub chunks : (c : ℕ) → Lawful s.refs_limit (head s c) (place s c) (references s c) (first_hits_of s c)
+  -- and its class's history leaves it in its generation
+  pub generations : (c : ℕ) → (standing s c).1 ≡ (head s c).generation
   -- each life has a hold for each worker that isn't Idle on it
   pub hands : (l : ItemId) → workers_on s l ≤ holds_of s l
   pub classes : (k : ℕ) → k < length s.classes → IsClass (class s k)
@@ -91,6 +93,12 @@ pub record IsLawful (s : State) : Type 0 where
   pub alone : (v w : ℕ) (l m : ItemId) → v < length s.workers → w < length s.workers
       → applied_life (worker s v).lane ≡ Some l → applied_life (worker s w).lane ≡ Some m → class_of s l.chunk ≡ class_of s m.chunk → v ≡ w
   pub waits : (w : ℕ) → w < length s.workers → WaitsToMove s (worker s w).lane
+
+-- no more classes, chunks and workers than a configuration may have
+pub record IsSized (s : State) : Type 0 where
+  pub classes : length s.classes ≤ 16
+  pub chunks : length s.chunks ≤ 1000000
+  pub workers : length s.workers ≤ 64
 
 -- A history in which nothing was unlinked: it has links and moves alone.
 abbrev pub NoneUnlinked : List Change → Type 0

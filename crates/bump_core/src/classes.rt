@@ -28,6 +28,9 @@ pub struct Class {
     pub first: u32,
     pub end: u32,
 
+    /// The generation of its chunks before their first lives.
+    pub fresh: u32,
+
     /// A pull takes from HOT where it has more items than this.
     pub hot_limit: u32,
 

@@ -1,6 +1,6 @@
 //! Names of items, and what a chunk's head word says.
 ghost use Rattle.std.specs.Prelude.{◌≡◌};
-ghost use Rattle.bump_core.specs.Lawful.{newborn};
+ghost use Rattle.bump_core.specs.Heads.{newborn};
 ghost use Rattle.bump_core.specs.Lives.{is_same};
 
 use crate::places::Segment;

@@ -1,9 +1,9 @@
 //! Draining lanes: each takes the bumps of one worker's ring, and applies them in order.
 ghost use Rattle.std.specs.Prelude.{◌≡◌};
 ghost use Rattle.bump_core.specs.State.{applied_life};
-ghost use Rattle.bump_core.specs.Events.{carried, tried, applied_now, cleared_active, is_empty, outcome_at};
+ghost use Rattle.bump_core.specs.Events.{carried, tried, applied_now, cleared_active, is_empty, ending_at};
 
-use crate::bumps::{Bump, Outcome};
+use crate::bumps::{AppliedBump, Bump, Outcome};
 use crate::items::{Head, ItemId};
 use crate::places::Segment;
 
@@ -85,15 +85,22 @@ impl Lane {
     }
 
     /// What the lane may end its bump with, by the head of the bump's item, if it may.
-    pub fn outcome(self, head: Head) -> Option<Outcome>
-        ensures { result ≡ outcome_at self head }
+    pub fn ending(self, head: Head) -> Option<AppliedBump>
+        ensures { result ≡ ending_at (λ _. head) self }
     {
-        match self {
-            Lane::Tried(_) if !head.linked => Some(Outcome::Gone),
-            Lane::Tried(_) if !matches!(head.segment, Segment::Cold) => Some(Outcome::TimeOnly),
-            Lane::Cleared(_, false) => Some(Outcome::TimeOnly),
-            Lane::Moved(_) => Some(Outcome::Moved),
-            _ => None,
-        }
+        let (bump, outcome) = match self {
+            Lane::Tried(bump) if !head.linked => (bump, Outcome::Gone),
+            Lane::Tried(bump) if !matches!(head.segment, Segment::Cold) => {
+                (bump, Outcome::TimeOnly)
+            }
+            Lane::Cleared(bump, false) => (bump, Outcome::TimeOnly),
+            Lane::Moved(bump) => (bump, Outcome::Moved),
+            _ => return None,
+        };
+        Some(AppliedBump {
+            number: bump.number,
+            life: bump.life,
+            outcome,
+        })
     }
 }

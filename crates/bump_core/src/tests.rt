@@ -1,6 +1,8 @@
 //! What no clause says: known answers, and that calls succeed.
 ghost use Rattle.std.specs.Prelude.{◌≡◌, ◌<◌, IfSome, length};
+ghost use Rattle.bump_core.specs.Headline.{Headline};
 ghost use Rattle.bump_core.specs.State.{SameSizes};
+ghost use Rattle.bump_core.specs.Worlds.{IsLawful};
 
 use super::*;
 use std::alloc::{AllocError, Global};
@@ -270,17 +272,24 @@ const PROMOTED: Readers = Readers {
     ),
 };
 
+/// Says that an allocation was refused, so that whoever makes each fail in turn knows when none is left.
+fn tell_refusal(rt: &HostRuntime) -> Result<(), Fail> {
+    eprintln!(rt; "an allocation was refused")?;
+    Ok(())
+}
+
 // Where an allocation is made to fail, whichever it is, the refused call has changed nothing, and is made again.
 #[test]
 fn commands_promote_and_refusals_change_nothing(rt: HostRuntime) -> Result<(), Fail> {
     let Some(mut world) = world(rt.alloc(), 4, 0, 5) else {
-        return Ok(());
+        return tell_refusal(&rt);
     };
     for (command, answer) in PROMOTION.iter() {
         let before = told_by(&world);
         let first = world.command(*command);
         let told = match first {
             Err(Refused::OutOfMemory) => {
+                tell_refusal(&rt)?;
                 assert_eq!(rt; told_by(&world), before);
                 world.command(*command)
             }
@@ -296,11 +305,12 @@ fn commands_promote_and_refusals_change_nothing(rt: HostRuntime) -> Result<(), F
 #[test]
 fn steps_promote_and_refusals_change_nothing(rt: HostRuntime) -> Result<(), Fail> {
     let Some(mut world) = world(rt.alloc(), 4, 0, 5) else {
-        return Ok(());
+        return tell_refusal(&rt);
     };
     for event in PROMOTION_EVENTS.iter() {
         let before = told_by(&world);
         if world.step(*event) == Err(Refused::OutOfMemory) {
+            tell_refusal(&rt)?;
             assert_eq!(rt; told_by(&world), before);
             assert!(rt; world.step(*event).is_ok());
         }
@@ -313,10 +323,11 @@ fn steps_promote_and_refusals_change_nothing(rt: HostRuntime) -> Result<(), Fail
 #[test]
 fn runs_promote_and_go_on_after_a_refusal(rt: HostRuntime) -> Result<(), Fail> {
     let Some(mut world) = world(rt.alloc(), 4, 0, 5) else {
-        return Ok(());
+        return tell_refusal(&rt);
     };
     let events = PROMOTION_EVENTS.as_slice();
     if let Err((place, refused)) = world.run(events) {
+        tell_refusal(&rt)?;
         assert_eq!(rt; refused, Refused::OutOfMemory);
         assert!(rt; place < events.len());
         assert_eq!(rt; world.run(&events[place..]), Ok(()));
@@ -509,5 +520,42 @@ fn the_first_of_two_faults_is_answered(rt: HostRuntime) -> Result<(), Fail> {
         let made = Config::new(workers, capacity, refs_limit, generation, classes);
         assert_eq!(rt; made.err(), *fault, "at {numbers:?}");
     }
+    Ok(())
+}
+
+/// Whoever holds a World can tell that it is lawful, and as the headline says.
+fn is_as_promised(world: &World)
+    ensures lawful { IsLawful world.now }
+    ensures headline { Headline world.now }
+{
+    world.promise();
+}
+
+/// How many chunks are UNUSED, over all classes: a caller that can test its own arguments.
+fn count_unused(world: &World) -> usize {
+    let mut count: usize = 0;
+    for class in 0..world.classes() {
+        count = count.saturating_add(world.list(class, Place::Unused).len());
+    }
+    count
+}
+
+#[test]
+fn a_world_tells_how_much_there_is(rt: HostRuntime) -> Result<(), Fail> {
+    let alloc = rt.alloc();
+    let mut classes = Vec::new(alloc);
+    for chunks in [2, 3].iter() {
+        classes.push(ClassConfig {
+            chunks: *chunks,
+            hot: 5,
+            warm: 5,
+        })?;
+    }
+    let config = Config::new(3, 4, 4, 1, classes).ok().ok_or("a fault")?;
+    let world = World::new(alloc, &config)?;
+    is_as_promised(&world);
+    let told = (world.classes(), world.chunks(), world.workers());
+    assert_eq!(rt; told, (2, 5, 3));
+    assert_eq!(rt; count_unused(&world), 5);
     Ok(())
 }

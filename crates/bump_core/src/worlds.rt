@@ -20,22 +20,24 @@ pub struct World {
 impl Model for World {
     ghost use Rattle.bump_core.specs.State.{State};
     ghost use Rattle.bump_core.specs.Views.{state_of};
-    ghost use Rattle.bump_core.specs.Worlds.{IsLawful, NothingUnlinked};
+    ghost use Rattle.bump_core.specs.Worlds.{IsLawful, NothingUnlinked, IsSized};
 
     ghost Value = { State };
 
     ghost view = { λ a. state_of a.parts };
 
-    ghost invariant = { λ a. IsLawful (state_of a.parts) × NothingUnlinked (state_of a.parts) };
+    ghost invariant = { λ a. IsLawful (state_of a.parts) × NothingUnlinked (state_of a.parts) × IsSized (state_of a.parts) };
 }
 
 impl World {
     ghost use Rattle.std.specs.Prelude.{◌≡◌, IfOk, OnOk, Some};
     ghost use Rattle.bump_core.specs.Commands.{Commands, events_of};
-    ghost use Rattle.bump_core.specs.Headline.{Headline, LabelsStay, ClosedStay};
+    ghost use Rattle.bump_core.specs.Headline.{Headline, ClosedStay};
+    ghost use Rattle.bump_core.specs.Labels.{KeepsLabels};
     ghost use Rattle.bump_core.specs.Opening.{new_state};
-    ghost use Rattle.bump_core.specs.Runs.{Steps, Runs, run_of};
-    ghost use Rattle.bump_core.specs.State.{SameSizes};
+    ghost use Rattle.bump_core.specs.Runs.{Steps, Runs, run_of, made};
+    ghost use Rattle.bump_core.specs.State.{head, SameSizes};
+    ghost use Rattle.bump_core.specs.Readers.{list_of, time_of, label_of, holds_at, accounts_of, sent_of, received_of, applied_of};
     ghost use Rattle.bump_core.specs.Worlds.{IsLawful};
 
     /// A World in which nothing has happened: every chunk is UNUSED, in ascending order, and every worker is idle.
@@ -64,7 +66,7 @@ impl World {
         ensures sizes { SameSizes self.old self.new }
         ensures lawful { IsLawful self.new }
         ensures headline { Headline self.new }
-        ensures labels { LabelsStay self.old self.new }
+        ensures labels { KeepsLabels self.old (made events.now result) self.new }
         ensures closed { ClosedStay self.old self.new }
     {
         let _ = &self.parts;

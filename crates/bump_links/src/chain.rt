@@ -10,16 +10,26 @@ use super::{NODES_MAX, NONE};
 /// The links of one node, side by side, and the list that holds it.
 #[derive(Clone, Copy)]
 pub(crate) struct Node {
+    /// The node that follows it in its list, or `NONE` behind the last.
     pub(crate) forward: u32,
+
+    /// The node before it in its list, or `NONE` at the front.
     pub(crate) back: u32,
+
+    /// The list that holds it.
     pub(crate) list: u32,
 }
 
 /// The ends of one list and its count of nodes.
 #[derive(Clone, Copy)]
 pub(crate) struct Header {
+    /// The front of the list, or `NONE` where it is empty.
     pub(crate) head: u32,
+
+    /// The back of the list, or `NONE` where it is empty.
     pub(crate) tail: u32,
+
+    /// How many nodes the list has.
     pub(crate) size: u32,
 }
 

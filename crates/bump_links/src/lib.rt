@@ -64,6 +64,25 @@ impl Links {
         Ok(links)
     }
 
+    /// The count of nodes, which stays what it was made with: a node is a number below it. It is at most
+    /// `NODES_MAX`.
+    pub fn nodes(&self) -> u32
+        ensures count { result ≡ self.now.nodes }
+        ensures few { result ≤ NODES_MAX }
+        ensures each_once { HoldsEachOnce self.now }
+    {
+        self.nodes.len() as u32
+    }
+
+    /// The count of lists, which stays what it was made with: a list is a number below it. It is at most
+    /// `LISTS_MAX`.
+    pub fn lists(&self) -> u32
+        ensures count { result ≡ length self.now.lists }
+        ensures few { result ≤ LISTS_MAX }
+    {
+        self.headers.len() as u32
+    }
+
     /// Moves a node to the front of a list, out of the list that holds it, which may be the same. All
     /// other nodes stay where they are. `node` is below the count of nodes and `list` below that of lists.
     pub fn move_front(&mut self, node: u32, list: u32)

@@ -37,6 +37,38 @@ fn expect_list(
     Ok(())
 }
 
+// Whether the list that holds a node has others too, or `None` where there is no such node: a function that knows nothing
+// of its arguments, and asks.
+fn has_company(links: &Links, node: u32) -> Option<bool> {
+    if node >= links.nodes() {
+        return None;
+    }
+    let list = links.list_of(node);
+    Some(list < links.lists() && links.len(list) > 1)
+}
+
+// The front of a list, or `None` where there is none, or no such list.
+fn front_if_list(links: &Links, list: u32) -> Option<u32> {
+    if list < links.lists() {
+        links.front(list)
+    } else {
+        None
+    }
+}
+
+#[test]
+fn counts_are_told(rt: HostRuntime) -> Result<(), Fail> {
+    let mut links = Links::new(rt.alloc(), 3, 2, 0)?;
+    links.move_front(1, 1);
+    assert_eq!(rt; (links.nodes(), links.lists()), (3, 2));
+    assert_eq!(rt; has_company(&links, 0), Some(true));
+    assert_eq!(rt; has_company(&links, 1), Some(false));
+    assert_eq!(rt; has_company(&links, 3), None);
+    assert_eq!(rt; front_if_list(&links, 1), Some(1));
+    assert_eq!(rt; front_if_list(&links, 2), None);
+    Ok(())
+}
+
 #[test]
 fn three_nodes_in_two_lists(rt: HostRuntime) -> Result<(), Fail> {
     let alloc = rt.alloc();
@@ -150,18 +182,28 @@ fn many_moves_beside_plain_lists(rt: HostRuntime) -> Result<(), Fail> {
     Ok(())
 }
 
+// `checks/refused_allocations` looks for these words, so as to know that the allocation was one of this test.
+fn tell_refused(rt: &impl Eprint) -> Result<(), Fail> {
+    eprintln!(rt; "an allocation was refused")?;
+    Ok(())
+}
+
 // Holds whichever one allocation is refused: the call may be made again, and the lists are as before.
 #[test]
 fn a_refused_allocation_changes_nothing(rt: HostRuntime) -> Result<(), Fail> {
     let alloc = rt.alloc();
     let mut links = match Links::new(alloc, 4, 2, 1) {
         Ok(links) => links,
-        Err(_) => Links::new(alloc, 4, 2, 1)?,
+        Err(_) => {
+            tell_refused(&rt)?;
+            Links::new(alloc, 4, 2, 1)?
+        }
     };
     links.move_front(2, 0);
 
-    if let Ok(found) = links.walk(alloc, 1) {
-        assert_eq!(rt; found.as_slice(), [0, 1, 3].as_slice());
+    match links.walk(alloc, 1) {
+        Ok(found) => assert_eq!(rt; found.as_slice(), [0, 1, 3].as_slice()),
+        Err(_) => tell_refused(&rt)?,
     }
     assert_eq!(rt; links.front(1), Some(0));
     assert_eq!(rt; links.back(1), Some(3));
@@ -170,8 +212,9 @@ fn a_refused_allocation_changes_nothing(rt: HostRuntime) -> Result<(), Fail> {
     assert_eq!(rt; links.list_of(2), 0);
     assert_eq!(rt; links.front(0), Some(2));
     assert_eq!(rt; links.len(0), 1);
-    if let Ok(found) = links.walk(alloc, 1) {
-        assert_eq!(rt; found.as_slice(), [0, 1, 3].as_slice());
+    match links.walk(alloc, 1) {
+        Ok(found) => assert_eq!(rt; found.as_slice(), [0, 1, 3].as_slice()),
+        Err(_) => tell_refused(&rt)?,
     }
     Ok(())
 }

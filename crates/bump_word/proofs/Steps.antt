@@ -11,7 +11,7 @@ use Rattle.bump_word.specs.Layout.{refs_width, linked_first, fetched_first, acti
 use Rattle.bump_word.specs.Words.{number_of, word_of, Spells, segment_bits, segment_change}
 use Rattle.bump_core.specs.Lawful.{bit}
 use Rattle.bump_word.specs.Steps.{Changes, Tests, Reads}
-use Rattle.bump_core.specs.Lawful.{newborn}
+use Rattle.bump_core.specs.Heads.{newborn}
 use Rattle.bump_word.proofs.Words.{fields, number_lt}
 
 -- a reference more is the next number

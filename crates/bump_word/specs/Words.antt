@@ -1,5 +1,5 @@
 -- Which number a Head is.
-use Rattle.std.specs.Prelude.{◌≡◌, ℕ, ◌+◌, ◌*◌, ◌/◌, ◌%◌, ◌^◌, ◌<◌, bit_xor}
+use Rattle.std.specs.Prelude.{◌≡◌, ℕ, ◌+◌, ◌*◌, ◌/◌, ◌%◌, ◌^◌, ◌<◌, bit_xor, Option, Some}
 use Rattle.bump_core.specs.declared.items.Head.{Head}
 use Rattle.bump_core.specs.Lawful.{bit}
 use Rattle.bump_core.specs.declared.places.Segment.{Segment}
@@ -28,6 +28,14 @@ Fits h = (h.refs < 2 ^ refs_width) × (h.generation < 2 ^ generation_width)
 -- the number is the word of this Head
 abbrev pub Spells : ℕ → Head → Type 0
 Spells n h = (n ≡ word_of h) × Fits h
+
+-- what `pack` gives for a Head: its word
+abbrev pub IsPacked : Head → ℕ → Type 0
+IsPacked h n = n ≡ word_of h
+
+-- what `unpack` answers for a number: whichever Head it is the word of, that Head is the answer
+abbrev pub FindsHead : ℕ → Option Head → Type 0
+FindsHead n answer = (h : Head) → Spells n h → answer ≡ Some h
 
 -- the number that the bits make that are zero in each Head's word
 abbrev pub zeros_of : ℕ → ℕ

@@ -3,16 +3,15 @@
 //!
 //! A step is written as a function from the number that it finds to the number that it leaves. It answers the number that
 //! it found, so what it answers is the word of the Head before.
-ghost use Rattle.std.specs.Prelude.{◌≡◌, ◌≢◌, ◌==◌, ℕ, ◌+◌, ◌-◌, ◌*◌, ◌%◌, ◌/◌, ◌^◌, ◌<◌, true, false, bit_and, bit_or, bit_xor, ⊤};
+ghost use Rattle.std.specs.Prelude.{◌≡◌, ◌≢◌, ◌==◌, ℕ, ◌+◌, ◌-◌, ◌*◌, ◌%◌, ◌/◌, ◌^◌, ◌<◌, true, false, ◌≤◌, bit_and, bit_or, bit_xor, ⊤, Option, Some};
 ghost use prog.Atomic.{either};
 ghost use Rattle.bump_core.specs.declared.items.Head.{Head as TheHead};
 ghost use Rattle.bump_core.specs.declared.places.Segment.{Segment as TheSegment};
 ghost use Rattle.bump_core.specs.declared.places.Segment.TheVariants.{Hot, Warm, Cold};
 ghost use Rattle.bump_word.specs.Layout.{segment_first, generation_first, generation_width};
-ghost use Rattle.bump_word.specs.Words.{Spells, number_of, word_of, segment_bits, segment_change};
+ghost use Rattle.bump_word.specs.Words.{Spells, IsPacked, FindsHead, number_of, word_of, segment_bits, segment_change};
 ghost use Rattle.bump_word.specs.Steps.{Changes, Tests, Reads};
-ghost use Rattle.bump_core.specs.Heads.{one_more as with_one_more, one_fewer, fetched_head, active_head, cleared_head, moved_head};
-ghost use Rattle.bump_core.specs.Lawful.{newborn};
+ghost use Rattle.bump_core.specs.Heads.{newborn, severed_head, one_more as with_one_more, one_fewer, fetched_head, active_head, cleared_head, moved_head};
 
 use crate::layout::{ACTIVE, FETCHED, GENERATION_AT, LINKED, REFS_AT, REFS_MAX, SEGMENT_AT};
 
@@ -77,8 +76,7 @@ pub fn clear_active()
 /// and the count at least 1.
 pub fn unlink()
     ensures { Changes (λ n. (n + (2 ^ 64 - LINK)) % 2 ^ 64)
-        (λ h. (h.linked ≡ true) × (0 < h.refs))
-        (λ h. record h { refs = h.refs - 1; linked = false }) }
+        (λ h. (h.linked ≡ true) × (0 < h.refs)) severed_head }
 {}
 
 /// An item goes to another segment, or stays in its own, by an exclusive or with what [`segment_xor`](crate::segment_xor)
@@ -143,6 +141,16 @@ pub fn read_refs()
 /// The generation is what a shift leaves, since it stands in the highest bits.
 pub fn read_generation()
     ensures { Reads (λ n. n / 2 ^ generation_first) (λ h. h.generation) }
+{}
+
+/// There and back: what [`unpack`](crate::unpack) answers for the number that [`pack`](crate::pack) gives for a Head is that
+/// Head; and where `unpack` answers a Head, that Head may be packed, and `pack` gives the number that was read. The clauses
+/// speak of any numbers and answers, in the words of the contracts of the two calls, so a caller has the law of its own calls.
+pub fn there_and_back()
+    ensures there { (h : TheHead) (n : ℕ) (answer : Option TheHead) → h.refs ≤ REFS_MAX → h.generation < 2 ^ 32 →
+        IsPacked h n → FindsHead n answer → answer ≡ Some h }
+    ensures back { (n packed : ℕ) (h : TheHead) → Spells n h → IsPacked h packed → packed ≡ n }
+    ensures may_be_packed { (n : ℕ) (h : TheHead) → Spells n h → h.refs ≤ REFS_MAX }
 {}
 
 /// A number is the word of one Head at most, and such a number has 64 bits.

@@ -1,8 +1,8 @@
 //! Words with known numbers, words that are no Head's, and a table there and back.
-ghost use Rattle.std.specs.Prelude.{◌≡◌, ◌≤◌};
+ghost use Rattle.std.specs.Prelude.{◌≡◌, ◌≤◌, IfSome};
 
 use crate::laws::{ALL_BUT_ACTIVE, LINK, ONE_REFERENCE};
-use crate::{ACTIVE, FETCHED, LINKED, REFS_MAX, pack, segment_xor, unpack};
+use crate::{ACTIVE, FETCHED, LINKED, REFS_MAX, laws, pack, segment_xor, unpack};
 use bump_core::{Head, Segment};
 
 const NEWBORN: Head = Head {
@@ -14,12 +14,21 @@ const NEWBORN: Head = Head {
     generation: 1,
 };
 
-// What a caller knows of the two calls together.
+// What a caller that knows no bit knows of the two calls together, by the law.
 fn there_and_back(head: Head) -> Option<Head>
     requires { head.refs ≤ REFS_MAX }
     ensures { result ≡ Some head }
 {
+    laws::there_and_back();
     unpack(pack(head))
+}
+
+fn back_and_there(word: u64) -> Option<u64>
+    ensures { IfSome result (λ packed. packed ≡ word) }
+{
+    laws::there_and_back();
+    let head = unpack(word)?;
+    Some(pack(head))
 }
 
 #[test]
@@ -84,7 +93,8 @@ fn table_there_and_back(rt: HostRuntime) {
                         segment,
                         generation,
                     };
-                    assert_eq!(rt; unpack(pack(head)), Some(head));
+                    assert_eq!(rt; there_and_back(head), Some(head));
+                    assert_eq!(rt; back_and_there(pack(head)), Some(pack(head)));
                 }
             }
         }

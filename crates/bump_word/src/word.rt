@@ -1,7 +1,6 @@
 //! From a Head to its word, and back.
 ghost use Rattle.std.specs.Prelude.{◌≡◌, ◌≢◌, ◌⊎◌, ◌↔◌, ◌≤◌, IsNone, IfSome};
-ghost use Rattle.bump_core.specs.declared.items.Head.{Head as TheHead};
-ghost use Rattle.bump_word.specs.Words.{word_of, Spells, zeros_of, segment_bits};
+ghost use Rattle.bump_word.specs.Words.{IsPacked, FindsHead, Spells, zeros_of, segment_bits};
 
 use crate::layout::{
     ACTIVE_AT, FETCHED_AT, GENERATION_AT, LINKED_AT, REFS_AT, REFS_MAX, SEGMENT_AT, ZERO_AT,
@@ -12,7 +11,7 @@ use bump_core::Head;
 /// The word of a Head, whose reference count is at most [`REFS_MAX`].
 pub fn pack(head: Head) -> u64
     requires { head.refs ≤ REFS_MAX }
-    ensures { result ≡ word_of head }
+    ensures { IsPacked head result }
 {
     u64::from(head.refs) << REFS_AT.first
         | u64::from(head.linked) << LINKED_AT.first
@@ -26,7 +25,7 @@ pub fn pack(head: Head) -> u64
 /// bits are no segment's number: such a word is no Head's.
 pub fn unpack(word: u64) -> Option<Head>
     ensures head { IfSome result (λ h. Spells word h) }
-    ensures every { (h : TheHead) → Spells word h → result ≡ Some h }
+    ensures every { FindsHead word result }
     ensures none { IsNone result ↔ ((zeros_of word ≢ 0) ⊎ (segment_bits word ≡ 3)) }
 {
     if ZERO_AT.read(word) != 0 {

@@ -1,23 +1,29 @@
--- How the program ends after a fault.
-use Rattle.std.specs.Prelude.{◌≡◌, ℕ, codes, Option, Some, None}
+-- How the program ends after a failure.
+use Rattle.std.specs.Prelude.{◌≡◌, ℕ, List, codes, Option, Some, None}
 use Rattle.std.specs.Borrow.{Bor}
-use Rattle.std.specs.Prelude.{List}
-use Rattle.bump_trace.specs.declared.model.SimFault.{SimFault}
-use Rattle.bump_trace.specs.declared.model.SimFault.TheVariants as faults
+use Rattle.bump_trace.specs.declared.model.SimFault.TheVariants as fault
+use Rattle.bumpsim.specs.declared.Failure.{Failure}
+use Rattle.bumpsim.specs.declared.Failure.TheVariants as failure
 
--- 2 where the trace has a fault, 1 for all others
-abbrev pub status_of : SimFault → ℕ
-status_of faults.Trace = 2
-status_of _ = 1
+-- 3 where the words are no command, 2 where the trace has a fault, 1 where it could not be run
+abbrev pub status_of : Failure → ℕ
+status_of failure.Usage = 3
+status_of (failure.Run fault.Trace) = 2
+status_of (failure.Run fault.Read) = 1
+status_of (failure.Run fault.Size) = 1
+status_of (failure.Run fault.Write) = 1
+status_of (failure.Run fault.Memory) = 1
 
-abbrev pub IsWord : Option (Bor (List ℕ)) → List ℕ → Type 0
-IsWord (Some word) text = word.now ≡ text
-IsWord None text = ⊥
+-- the word is this text
+abbrev pub IsText : Option (Bor (List ℕ)) → List ℕ → Type 0
+IsText (Some word) text = word.now ≡ text
+IsText None text = ⊥
 
--- the word on standard error: none for a fault of the trace
-abbrev pub fault_word : SimFault → Option (Bor (List ℕ)) → Type 0
-fault_word faults.Trace word = word ≡ None
-fault_word faults.Read word = IsWord word (codes "read")
-fault_word faults.Size word = IsWord word (codes "size")
-fault_word faults.Write word = IsWord word (codes "write")
-fault_word faults.Memory word = IsWord word (codes "memory")
+-- the word on standard error: none for a fault of the trace, which is the last line of the text
+abbrev pub IsWordOf : Failure → Option (Bor (List ℕ)) → Type 0
+IsWordOf failure.Usage word = IsText word (codes "usage")
+IsWordOf (failure.Run fault.Trace) word = word ≡ None
+IsWordOf (failure.Run fault.Read) word = IsText word (codes "read")
+IsWordOf (failure.Run fault.Size) word = IsText word (codes "size")
+IsWordOf (failure.Run fault.Write) word = IsText word (codes "write")
+IsWordOf (failure.Run fault.Memory) word = IsText word (codes "memory")

@@ -11,6 +11,7 @@ use std::alloc::Global;
 /// Why the words are not taken.
 #[derive(Clone, Copy, Debug, PartialEq, Eq)]
 pub enum Refusal {
+    /// Memory ran out.
     Memory,
 
     /// They are no command of the program.

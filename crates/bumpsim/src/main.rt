@@ -2,10 +2,10 @@
 #![tactic(auto)]
 
 ghost use Rattle.std.specs.Prelude.{◌≡◌};
-ghost use Rattle.bumpsim.specs.Status.{status_of, fault_word};
+ghost use Rattle.bumpsim.specs.Status.{status_of, IsWordOf};
 
 mod command_line;
-pub mod rows;
+pub mod worked_command_lines;
 
 use bump_trace::{Counted, SimFault, run_model};
 use command_line::{Refusal, file};
@@ -13,61 +13,71 @@ use std::env;
 use std::fs::File;
 use std::process::ExitCode;
 
-/// The status with which the program ends after a fault.
-fn status(fault: SimFault) -> u8
-    ensures { result ≡ status_of fault }
+/// Why the program ends with another status than 0.
+#[derive(Clone, Copy)]
+enum Failure {
+    /// The words of the command line are no command of the program.
+    Usage,
+
+    /// The trace has a fault, or could not be run.
+    Run(SimFault),
+}
+
+/// The status with which the program ends after a failure.
+fn status(failure: Failure) -> u8
+    ensures { result ≡ status_of failure }
 {
-    match fault {
-        SimFault::Trace => 2,
-        SimFault::Read | SimFault::Size | SimFault::Write | SimFault::Memory => 1,
+    match failure {
+        Failure::Usage => 3,
+        Failure::Run(SimFault::Trace) => 2,
+        Failure::Run(SimFault::Read | SimFault::Size | SimFault::Write | SimFault::Memory) => 1,
     }
 }
 
-/// The word that is said of a fault. A fault of the trace is the last line of its text.
-fn word(fault: SimFault) -> Option<&'static str>
-    ensures { fault_word fault result }
+/// The word that is said of a failure. A fault of the trace is the last line of its text.
+fn word(failure: Failure) -> Option<&'static str>
+    ensures { IsWordOf failure result }
 {
-    match fault {
-        SimFault::Trace => None,
-        SimFault::Read => Some("read"),
-        SimFault::Size => Some("size"),
-        SimFault::Write => Some("write"),
-        SimFault::Memory => Some("memory"),
+    match failure {
+        Failure::Usage => Some("usage"),
+        Failure::Run(SimFault::Trace) => None,
+        Failure::Run(SimFault::Read) => Some("read"),
+        Failure::Run(SimFault::Size) => Some("size"),
+        Failure::Run(SimFault::Write) => Some("write"),
+        Failure::Run(SimFault::Memory) => Some("memory"),
     }
 }
 
-fn failed(rt: &impl Eprint, fault: SimFault) -> u8
-    ensures { result ≡ status_of fault }
+/// Says the word of a failure on standard error, and answers its status.
+fn failed(rt: &impl Eprint, failure: Failure) -> u8
+    ensures { result ≡ status_of failure }
 {
-    if let Some(word) = word(fault) {
+    if let Some(word) = word(failure) {
         let _ = eprintln!(rt; "{word}");
     }
-    status(fault)
+    status(failure)
 }
 
 fn run(rt: &HostRuntime) -> u8 {
     let Ok(args) = env::args(rt) else {
-        return failed(rt, SimFault::Read);
+        return failed(rt, Failure::Run(SimFault::Read));
     };
     let Ok(words) = args.collect::<Vec<String>>(rt.alloc()) else {
-        return failed(rt, SimFault::Memory);
+        return failed(rt, Failure::Run(SimFault::Memory));
     };
     let path = match file(rt.alloc(), &words) {
         Ok(path) => path,
-        Err(Refusal::Memory) => return failed(rt, SimFault::Memory),
-        Err(Refusal::Usage) => {
-            let _ = eprintln!(rt; "usage");
-            return 3;
-        }
+        Err(Refusal::Memory) => return failed(rt, Failure::Run(SimFault::Memory)),
+        Err(Refusal::Usage) => return failed(rt, Failure::Usage),
     };
     let Ok(file) = File::open(rt, path) else {
-        return failed(rt, SimFault::Read);
+        return failed(rt, Failure::Run(SimFault::Read));
     };
     let mut reader = Counted::new(file);
     let mut writer = Counted::new(std::io::writer(rt));
     match run_model(rt.alloc(), &mut reader, &mut writer) {
         Ok(()) => 0,
-        Err(fault) => failed(rt, fault),
+        Err(fault) => failed(rt, Failure::Run(fault)),
     }
 }
 

@@ -41,15 +41,14 @@ fn draw_moves(alloc: Global, nodes: u32) -> Result<Vec<Move>, AllocError>
     Ok(moves)
 }
 
-// Makes each move.
-fn make_moves(links: &mut Links, nodes: u32, moves: &[Move])
-    requires nodes { links.old.nodes ≡ nodes }
-    requires lists { length links.old.lists ≡ 8 }
-    ensures nodes { links.new.nodes ≡ nodes }
-    ensures lists { length links.new.lists ≡ 8 }
+// Makes each move of a node and a list that there are.
+fn make_moves(links: &mut Links, moves: &[Move])
+    ensures { length links.new.lists ≡ length links.old.lists }
 {
+    let nodes = links.nodes();
+    let lists = links.lists();
     for step in moves {
-        if step.node < nodes && step.list < LISTS {
+        if step.node < nodes && step.list < lists {
             links.move_front(step.node, step.list);
         }
     }
@@ -65,7 +64,7 @@ fn time_moves(clock: &impl Clock, alloc: Global, nodes: u32) -> io::Result<(u128
     let mut links = Links::new(alloc, nodes, LISTS, 0)?;
     let start = Instant::now(clock)?;
     for _round in 0..ROUNDS {
-        make_moves(&mut links, nodes, &moves);
+        make_moves(&mut links, &moves);
     }
     let spent = start.elapsed(clock)?;
     Ok((spent.as_nanos(), links.len(1)))

@@ -10,7 +10,8 @@ use Rattle.bump_core.specs.declared.places.Segment.{Segment}
 use Rattle.bump_core.specs.declared.places.Segment.TheVariants as segment
 use Rattle.bump_core.specs.declared.places.Place.TheVariants.{Hot, Warm, Cold, Dying, Unused, Retired}
 use Rattle.bump_core.specs.History.{place_of}
-use Rattle.bump_core.specs.Lawful.{bit, Shows, IsUsed, Lawful, newborn}
+use Rattle.bump_core.specs.Lawful.{bit, Shows, IsUsed, Lawful}
+use Rattle.bump_core.specs.Heads.{newborn, one_more, one_fewer, fetched_head, moved_head, severed_head}
 
 -- a mark counts at most 1
 pub bit_at_most : (b : Bool) → bit b ≤ 1
@@ -104,7 +105,7 @@ module _ (limit : ℕ) (h : Head) (at : Place) (r x : ℕ → ℕ) (o : Lawful l
 
   -- one more reference to the chunk's life
   pub referred : (q : ℕ → ℕ) → IsUsed at → h.refs < limit → q h.generation ≡ r h.generation + 1 → ((g : ℕ) → g ≢ h.generation → q g ≡ r g)
-      → Lawful limit (record h { refs = h.refs + 1 }) at q x
+      → Lawful limit (one_more h) at q x
   referred q used few here there = record {
     counted = omega (arith, o.counted);
     within = omega arith;
@@ -117,7 +118,7 @@ module _ (limit : ℕ) (h : Head) (at : Place) (r x : ℕ → ℕ) (o : Lawful l
   }
 
   -- one reference fewer
-  pub unreferred : (q : ℕ → ℕ) → q h.generation + 1 ≡ r h.generation → ((g : ℕ) → g ≢ h.generation → q g ≡ r g) → Lawful limit (record h { refs = h.refs - 1 }) at q x
+  pub unreferred : (q : ℕ → ℕ) → q h.generation + 1 ≡ r h.generation → ((g : ℕ) → g ≢ h.generation → q g ≡ r g) → Lawful limit (one_fewer h) at q x
   unreferred q here there = record {
     counted = omega (arith, o.counted);
     within = omega (arith, o.within);
@@ -130,7 +131,7 @@ module _ (limit : ℕ) (h : Head) (at : Place) (r x : ℕ → ℕ) (o : Lawful l
   }
 
   -- the first hit of the life
-  pub named_first : (y : ℕ → ℕ) → h.fetched ≡ false → y h.generation ≡ x h.generation + 1 → ((g : ℕ) → g ≢ h.generation → y g ≡ x g) → Lawful limit (record h { fetched = true }) at r y
+  pub named_first : (y : ℕ → ℕ) → h.fetched ≡ false → y h.generation ≡ x h.generation + 1 → ((g : ℕ) → g ≢ h.generation → y g ≡ x g) → Lawful limit (fetched_head h) at r y
   named_first y clear here there = let none : bit h.fetched ≡ 0 = ap bit clear in record {
     counted = o.counted;
     within = o.within;
@@ -143,7 +144,7 @@ module _ (limit : ℕ) (h : Head) (at : Place) (r x : ℕ → ℕ) (o : Lawful l
   }
 
   -- a hit that isn't the first
-  pub fetched_again : h.fetched ≡ true → Lawful limit (record h { fetched = true }) at r x
+  pub fetched_again : h.fetched ≡ true → Lawful limit (fetched_head h) at r x
   fetched_again on = record {
     counted = o.counted;
     within = o.within;
@@ -169,7 +170,7 @@ module _ (limit : ℕ) (h : Head) (at : Place) (r x : ℕ → ℕ) (o : Lawful l
   }
 
   -- the chunk is unlinked, and its holders stay
-  pub severed : h.linked ≡ true → Lawful limit (record h { refs = h.refs - 1; linked = false }) Dying r x
+  pub severed : h.linked ≡ true → Lawful limit (severed_head h) Dying r x
   severed on = record {
     counted = omega (arith, o.counted, ap bit on);
     within = omega (arith, o.within);
@@ -208,7 +209,7 @@ module _ (limit : ℕ) (h : Head) (at : Place) (r x : ℕ → ℕ) (o : Lawful l
   }
 
   -- a linked chunk goes to another list
-  pub moved : (to : Segment) → h.linked ≡ true → Lawful limit (record h { segment = to }) (place_of to) r x
+  pub moved : (to : Segment) → h.linked ≡ true → Lawful limit (moved_head to h) (place_of to) r x
   moved to on = record {
     counted = o.counted;
     within = o.within;

@@ -5,12 +5,12 @@ use Rattle.bump_core.specs.declared.places.Place.{Place}
 use Rattle.bump_core.specs.declared.places.Place.TheVariants.{Hot, Warm, Cold, Dying, Unused, Retired}
 use Rattle.bump_core.specs.declared.history.Change.{Change}
 use Rattle.bump_core.specs.Lawful.{bit}
-use Rattle.bump_core.specs.History.{subject, target, Standing, standing_after, standing_from, replay}
+use Rattle.bump_core.specs.History.{is_place, subject, target, Standing, standing_after, standing_from, standing_in, is_between, AreBetween, replay, replayed}
 use Rattle.bump_core.specs.Lists.{Lists, list_at, to_front, opening, times}
 use Rattle.bump_core.specs.State.{ClassState}
-use Rattle.bump_core.specs.Worlds.{owns, AreOf, IsClass, place_in}
+use Rattle.bump_core.specs.Worlds.{owns, IsClass, place_in}
 use Rattle.bump_core.proofs.classes.PlainLists.{times_ascending, same_row}
-use Rattle.bump_core.proofs.classes.SixLists.{is_place, times_front}
+use Rattle.bump_core.proofs.classes.SixLists.{times_front}
 
 -- the lists have the chunk once, at its place, where it is of the class
 abbrev pub Places : ℕ → Bool → Standing → Lists → Type 0
@@ -25,26 +25,26 @@ places_after c own at l e of o q = times_front c (subject e).chunk (target e) q 
     by false s = o q
 
 -- a history keeps the lists and the standing in step
-pub places : (k : ClassState) (c : ℕ) (at : Standing) (l : Lists) (es : List Change) → AreOf k es → Places c (owns k c) at l → Places c (owns k c) (standing_from c at es) (replay l es)
-places k c at l [] all o = o
-places k c at l (e ∷ es) all o = places k c (standing_after c at e) (to_front (subject e).chunk (target e) l) es all.1 (places_after c (owns k c) at l e (λ s. ap (owns k) (sym s) ∙ all.0) o)
+pub places : (first end c : ℕ) (at : Standing) (l : Lists) (es : List Change) → AreBetween first end es → Places c (is_between first end c) at l → Places c (is_between first end c) (standing_from c at es) (replay l es)
+places first end c at l [] all o = o
+places first end c at l (e ∷ es) all o = places first end c (standing_after c at e) (to_front (subject e).chunk (target e) l) es all.1 (places_after c (is_between first end c) at l e (λ s. ap (is_between first end) (sym s) ∙ all.0) o)
 
 -- the lists of a class at the start
-pub places_open : (k : ClassState) (c g : ℕ) → Places c (owns k c) (Unused, g) (opening k.first (k.end - k.first))
-places_open k c g Unused = times_ascending c k.first (k.end - k.first) ∙ (same_row c k.first k.end ∙ sym (ap bit (and-true (owns k c))))
-places_open k c g Hot = sym (ap bit (and-false (owns k c)))
-places_open k c g Warm = sym (ap bit (and-false (owns k c)))
-places_open k c g Cold = sym (ap bit (and-false (owns k c)))
-places_open k c g Dying = sym (ap bit (and-false (owns k c)))
-places_open k c g Retired = sym (ap bit (and-false (owns k c)))
+pub places_open : (first end c g : ℕ) → Places c (is_between first end c) (Unused, g) (opening first (end - first))
+places_open first end c g Unused = times_ascending c first (end - first) ∙ (same_row c first end ∙ sym (ap bit (and-true (is_between first end c))))
+places_open first end c g Hot = sym (ap bit (and-false (is_between first end c)))
+places_open first end c g Warm = sym (ap bit (and-false (is_between first end c)))
+places_open first end c g Cold = sym (ap bit (and-false (is_between first end c)))
+places_open first end c g Dying = sym (ap bit (and-false (is_between first end c)))
+places_open first end c g Retired = sym (ap bit (and-false (is_between first end c)))
 
 -- after any history of a class, the list at a place has a chunk once where the history leaves it there, and else not
-pub replayed : (k : ClassState) (c g : ℕ) (es : List Change) → AreOf k es → Places c (owns k c) (standing_from c (Unused, g) es) (replay (opening k.first (k.end - k.first)) es)
-replayed k c g es all = places k c (Unused, g) (opening k.first (k.end - k.first)) es all (places_open k c g)
+pub replayed_lists : (first end fresh c : ℕ) (es : List Change) → AreBetween first end es → Places c (is_between first end c) (standing_in fresh es c) (replayed first end es)
+replayed_lists first end fresh c es all = places first end c (Unused, fresh) (opening first (end - first)) es all (places_open first end c fresh)
 
 -- the same of the lists of a lawful class
 pub in_lists : (k : ClassState) (c : ℕ) (q : Place) → IsClass k → times c (list_at k.lists q) ≡ bit (owns k c && is_place (place_in k c) q)
-in_lists k c q o = ap (λ l. times c (list_at l q)) o.lists ∙ replayed k c 0 k.history o.entries q
+in_lists k c q o = ap (λ l. times c (list_at l q)) o.lists ∙ replayed_lists k.first k.end k.fresh c k.history o.entries q
 
 -- one more entry is one more move to the front
 pub replay_push : (l : Lists) (es : List Change) (e : Change) → replay l (es ++ e ∷ []) ≡ to_front (subject e).chunk (target e) (replay l es)
@@ -57,6 +57,6 @@ standing_push c at [] e = refl
 standing_push c at (d ∷ es) e = standing_push c (standing_after c at d) es e
 
 -- one more entry of a chunk of the class
-pub are_of_push : (k : ClassState) (es : List Change) (e : Change) → AreOf k es → owns k (subject e).chunk ≡ true → AreOf k (es ++ e ∷ [])
-are_of_push k [] e all own = (own, tt)
-are_of_push k (d ∷ es) e all own = (all.0, are_of_push k es e all.1 own)
+pub are_between_push : (first end : ℕ) (es : List Change) (e : Change) → AreBetween first end es → is_between first end (subject e).chunk ≡ true → AreBetween first end (es ++ e ∷ [])
+are_between_push first end [] e all own = (own, tt)
+are_between_push first end (d ∷ es) e all own = (all.0, are_between_push first end es e all.1 own)

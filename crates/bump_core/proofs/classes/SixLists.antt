@@ -1,60 +1,12 @@
 -- The six lists of a class and their places: which list is at a place, and what a move to the front does to each.
-use Rattle.std.proofs.Common.{◌≡◌, ℕ, ◌+◌, ◌≢◌, cond, eqb, Bool, true, false, ◌∷◌, refl, sym, ap, ◌∙◌, arith, eq-eqb, ne_eqb, eqb-true}
+use Rattle.std.proofs.Common.{◌≡◌, ℕ, ◌+◌, ◌≢◌, cond, eqb, Bool, true, false, ◌∷◌, refl, sym, ap, ◌∙◌, arith, eq-eqb, ne_eqb}
 use native.Mathlib.Decide.{ℕ_discrete}
 use Rattle.bump_core.specs.declared.places.Place.{Place}
 use Rattle.bump_core.specs.declared.places.Place.TheVariants.{Hot, Warm, Cold, Dying, Unused, Retired}
+use Rattle.bump_core.specs.History.{is_place}
 use Rattle.bump_core.specs.Lawful.{bit}
 use Rattle.bump_core.specs.Lists.{Lists, list_at, without, all_without, to_front, with_list, times}
 use Rattle.bump_core.proofs.classes.PlainLists.{times_without, times_without_other}
-
--- Places that are one or two.
-
--- a number for each place
-abbrev pub number : Place → ℕ
-number Hot = 0
-number Warm = 1
-number Cold = 2
-number Dying = 3
-number Unused = 4
-number Retired = 5
-
--- whether two places are one
-abbrev pub is_place : Place → Place → Bool
-is_place p q = eqb (number p) (number q)
-
--- the place of a number
-abbrev place_numbered : ℕ → Place
-place_numbered n = cond (eqb n 0) Hot (cond (eqb n 1) Warm (cond (eqb n 2) Cold (cond (eqb n 3) Dying (cond (eqb n 4) Unused Retired))))
-
--- a place has its number
-numbered_number : (p : Place) → place_numbered (number p) ≡ p
-numbered_number Hot = refl
-numbered_number Warm = refl
-numbered_number Cold = refl
-numbered_number Dying = refl
-numbered_number Unused = refl
-numbered_number Retired = refl
-
--- places that test as one are one
-pub same_place : (p q : Place) → is_place p q ≡ true → p ≡ q
-same_place p q e = sym (numbered_number p) ∙ (ap place_numbered (eqb-true (number p) (number q) e) ∙ numbered_number q)
-
--- one place tests as itself
-pub place_same : (p q : Place) → p ≡ q → is_place p q ≡ true
-place_same p q e = eq-eqb (number p) (number q) (ap number e)
-
--- two places test as two
-pub other_place : (p q : Place) → p ≢ q → is_place p q ≡ false
-other_place p q ne = ne_eqb (number p) (number q) (λ e. ne (sym (numbered_number p) ∙ (ap place_numbered e ∙ numbered_number q)))
-
--- a place is one of the six
-pub one_place : (p : Place) → bit (is_place p Hot) + bit (is_place p Warm) + bit (is_place p Cold) + bit (is_place p Dying) + bit (is_place p Unused) + bit (is_place p Retired) ≡ 1
-one_place Hot = refl
-one_place Warm = refl
-one_place Cold = refl
-one_place Dying = refl
-one_place Unused = refl
-one_place Retired = refl
 
 -- The list at a place.
 

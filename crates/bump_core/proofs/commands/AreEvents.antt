@@ -31,7 +31,7 @@ commands_are_events s o none (command.Next w now) allowed = next_made s o none w
 -- a command that is refused changes nothing
 refused_same : (old : State) (c : Command) (new : State) (r : Refused) → Commands old c new (Err r) → new ≡ old
 refused_same old c new NotEnabled refused = refused.1
-refused_same old c new OutOfMemory refused = refused
+refused_same old c new OutOfMemory refused = refused.1
 
 -- the events of a command that was made
 pub command_events : (old : State) (c : Command) (new : State) (r : Result Answer Refused) → Keeps old → Commands old c new r → OnOk r (run_of old (events_of old c) ≡ Some new)

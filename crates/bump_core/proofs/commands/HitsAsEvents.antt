@@ -247,4 +247,4 @@ touch_made s o w l now allowed = by (is_exhausted s w) refl
     by false still =
         let idle : is_idle (worker s w).hand ≡ true = ap (λ (b : Bool). b || is_idle (worker s w).hand) (sym still) ∙ more.1 in
         hit_made s w l now w_in c_in free.0 (omega (arith, ltb-true (workers_on s l) (chunk s l.chunk).holds free.1)) opened.1 (idle_from (worker s w).hand idle)
-        (and_from _ _ both.0 (and_from _ _ idle more.0)) (few_where (worker s w).accounts.attempted (o.workers w w_in).most still)
+        (and_from _ _ both.0 (and_from _ _ idle more.0)) (few_where (worker s w).accounts.attempted (o.workers w w_in).accounts.most still)

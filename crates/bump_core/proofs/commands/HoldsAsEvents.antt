@@ -1,13 +1,14 @@
 -- The commands of holds are their events: a get, the label of what is held, and a release.
 use Rattle.std.proofs.Common.{◌≡◌, ℕ, ltb, eqb, Bool, true, false, not, ◌&&◌, [], ◌∷◌, Some, if◌then◌else◌, refl, ◌∙◌}
-use Rattle.std.proofs.lemmas.Bool.{and_parts, and_from, both_ways, and_left}
+use Rattle.std.proofs.lemmas.Bool.{and_parts, and_from}
 use Rattle.bump_core.specs.declared.items.ItemId.{ItemId}
 use Rattle.bump_core.specs.declared.events.Event.TheVariants as event
 use Rattle.bump_core.specs.declared.commands.Command.TheVariants as command
 use Rattle.bump_core.specs.State.{State, chunk, head, is_chunk, is_linked}
 use Rattle.bump_core.specs.Events.{is_under_limit, with_hold}
 use Rattle.bump_core.specs.Runs.{run_of}
-use Rattle.bump_core.specs.Commands.{is_allowed, events_of, command_after}
+use Rattle.bump_core.specs.Commands.{is_allowed, events_of, command_after, get_at, get_events, held_by_get}
+use Rattle.bump_core.specs.Tables.{Get, IsStale, IsRefsFull, IsHeld}
 use Rattle.bump_core.proofs.events.Runs.{run_step}
 
 -- the label of a held item is one load
@@ -18,17 +19,26 @@ label_made s l allowed = run_step s s (event.Load l.chunk) [] (and_parts (is_chu
 pub release_made : (s : State) (l : ItemId) → is_allowed s (command.Release l) ≡ true → run_of s (events_of s (command.Release l)) ≡ Some (command_after s (command.Release l))
 release_made s l allowed = run_step s _ (event.Release l) [] allowed refl
 
+-- a get that comes to a hold found a linked word of the generation, and a count under the limit
+held_from : (on same few : Bool) → (if not (on && same) then IsStale else (if few then IsHeld else IsRefsFull)) ≡ IsHeld → (on ≡ true) × (same ≡ true) × (few ≡ true)
+held_from true true true is = (refl, refl, refl)
+held_from true true false is = absurd (let u : ⊥ = cc in u)
+held_from true false few is = absurd (let u : ⊥ = cc in u)
+held_from false same few is = absurd (let u : ⊥ = cc in u)
+
 -- a hold is taken by a load and, if the item is linked and its count under the limit, an exchange
 pub take_made : (s : State) (w : ℕ) (l : ItemId) → is_allowed s (command.Take w l) ≡ true → run_of s (events_of s (command.Take w l)) ≡ Some (command_after s (command.Take w l))
-take_made s w l allowed = by (is_chunk s l.chunk) (is_linked s l && is_under_limit s l.chunk) refl refl none
+take_made s w l allowed = by (is_chunk s l.chunk) (get_at s l) refl refl
   where
-    none : is_chunk s l.chunk ≡ false → (is_linked s l && is_under_limit s l.chunk) ≡ false
-    none out = and_left (is_linked s l) (is_under_limit s l.chunk) (and_left (is_chunk s l.chunk && eqb (head s l.chunk).generation l.generation) (head s l.chunk).linked (and_left (is_chunk s l.chunk) (eqb (head s l.chunk).generation l.generation) out))
+    may : is_chunk s l.chunk ≡ true → get_at s l ≡ IsHeld → (is_linked s l && is_under_limit s l.chunk) ≡ true
+    may in_range is =
+        let found = held_from (head s l.chunk).linked (eqb (head s l.chunk).generation l.generation) (ltb (head s l.chunk).refs s.refs_limit) is in
+        and_from _ _ (and_from _ _ (and_from _ _ in_range found.1) found.0) found.2
 
-    by : (a b : Bool) → is_chunk s l.chunk ≡ a → (is_linked s l && is_under_limit s l.chunk) ≡ b → (a ≡ false → b ≡ false)
-        → run_of s (if not a then [] else (event.Load l.chunk ∷ (if b then event.Take w l ∷ [] else []))) ≡ Some (if b then with_hold s l.chunk else s)
-    by false true in_range may out = absurd (both_ways true (out refl) refl)
-    by false false in_range may out = refl
-    by true false in_range may out = run_step s s (event.Load l.chunk) [] in_range refl
-    by true true in_range may out = run_step s s (event.Load l.chunk) (event.Take w l ∷ []) in_range refl
-        ∙ run_step s (with_hold s l.chunk) (event.Take w l) [] (and_from _ _ allowed may) refl
+    by : (a : Bool) (g : Get) → is_chunk s l.chunk ≡ a → get_at s l ≡ g
+        → run_of s (if a then event.Load l.chunk ∷ get_events w l g else []) ≡ Some (if a then held_by_get s l g else s)
+    by false g out is = refl
+    by true IsStale in_range is = run_step s s (event.Load l.chunk) [] in_range refl
+    by true IsRefsFull in_range is = run_step s s (event.Load l.chunk) [] in_range refl
+    by true IsHeld in_range is = run_step s s (event.Load l.chunk) (event.Take w l ∷ []) in_range refl
+        ∙ run_step s (with_hold s l.chunk) (event.Take w l) [] (and_from _ _ allowed (may in_range is)) refl

@@ -3,6 +3,7 @@ use Rattle.std.proofs.Common.{◌≡◌, ℕ, ◌<◌, Bool, true, false, not, �
 use Rattle.std.proofs.lemmas.Bool.{and_parts, and_from, ltb-true, lt-ltb, both_ways, not-true}
 use Rattle.std.proofs.lemmas.Option.{slice_get_within}
 use Rattle.std.specs.Option.{option_map_or}
+use Rattle.std.specs.Prelude.{option_map}
 use Rattle.std.proofs.lemmas.List.{set-get_or}
 use Rattle.bump_core.specs.declared.places.Segment.TheVariants as segment
 use Rattle.bump_core.specs.declared.items.ItemId.{ItemId}
@@ -14,6 +15,7 @@ use Rattle.bump_core.specs.declared.history.Change.TheVariants as change
 use Rattle.bump_core.specs.declared.bumps.Bump.{Bump}
 use Rattle.bump_core.specs.declared.lanes.Lane.{Lane}
 use Rattle.bump_core.specs.declared.lanes.Lane.TheVariants as lane
+use Rattle.bump_core.specs.declared.bumps.AppliedBump.{AppliedBump}
 use Rattle.bump_core.specs.declared.bumps.Outcome.{Outcome}
 use Rattle.bump_core.specs.declared.bumps.Outcome.TheVariants as outcome
 use Rattle.bump_core.specs.declared.events.Event.{Event}
@@ -24,7 +26,7 @@ use Rattle.bump_core.specs.Tables.{is_cold}
 use Rattle.bump_core.specs.State.{State, ClassState, WorkerState, chunk, head, class, worker, no_chunk, class_with_change, is_worker, with_worker, with_change, class_from, class_of, some_and, applies_in, is_under_application}
 use Rattle.bump_core.specs.Worlds.{references, aboard_of, IsLawful, NothingUnlinked}
 use Rattle.bump_core.specs.Heads.{one_fewer, cleared_head, moved_head}
-use Rattle.bump_core.specs.Events.{next_bump, carried, tried, applied_now, cleared_active, is_empty, outcome_at, lane_outcome, with_time, bump_of, take_bump, with_lane, clear_for, move_for, applied_bump, alight}
+use Rattle.bump_core.specs.Events.{next_bump, carried, tried, applied_now, cleared_active, is_empty, outcome_tried, ending_at, ending, with_time, bump_of, take_bump, with_lane, clear_for, move_for, applied_bump, alight}
 use Rattle.bump_core.specs.Runs.{run_of}
 use Rattle.bump_core.specs.Commands.{is_allowed, events_of, command_after, bump_next, is_half_made, outcome_next, ended_at, bumped_chunk, bumped_worker, bumped_lists, apply_bump, take_events, apply_events}
 use Rattle.bump_core.proofs.worlds.NothingUnlinked.{referred_linked}
@@ -92,15 +94,13 @@ module _ (s : State) (b : Bump) (w : ℕ) (c_in : b.life.chunk < length s.chunks
       ∙ ap (λ u. with_change u (class_from ks b.life.chunk) entry) (on_both s b.life.chunk w c_in w_in ks x y (λ z. record z { head = moved_head segment.Warm z.head }) (λ a z. record z { lane = lane.Moved b })))
 
   -- the lane gives the reference back
-  alight_step : (out : Outcome) → applied_now y.lane ≡ Some b → outcome_at y.lane x.head ≡ Some out
+  alight_step : (out : Outcome) → ((heads : ℕ → Head) → heads b.life.chunk ≡ x.head → ending_at heads y.lane ≡ Some (applied_bump b out))
       → run_of t (event.Alight w ∷ es) ≡ run_of (at s b.life.chunk w ks (record x { head = one_fewer x.head }) (record y { lane = lane.Empty; applied = y.applied ++ applied_bump b out ∷ [] })) es
-  alight_step out is ends =
-      let bump : applied_now (worker t w).lane ≡ Some b = ap applied_now lane_at ∙ is in
-      let comes : lane_outcome t w ≡ Some out = ap (λ m. outcome_at (worker t w).lane (head t (option_map_or (λ (a : Bump). a.life.chunk) m 0))) bump
-      ∙ (ap₂ (λ (l : Lane) (z : Chunk). outcome_at l z.head) lane_at (chunk_at s b.life.chunk w c_in w_in ks x y) ∙ ends) in
+  alight_step out ends =
+      let comes : ending t w ≡ Some (applied_bump b out) = ap (ending_at (head t)) lane_at ∙ ends (head t) (ap (λ (z : Chunk). z.head) (chunk_at s b.life.chunk w c_in w_in ks x y)) in
       run_step t _ (event.Alight w) es
-      (and_from _ _ (is_worker_at s b.life.chunk w c_in w_in ks x y) (ap (some_and (λ (o : Outcome). true)) comes))
-      (ap₂ (λ m n. option_map_or (λ a. option_map_or (alight t w a) n t) m t) bump comes
+      (and_from _ _ (is_worker_at s b.life.chunk w c_in w_in ks x y) (ap (some_and (λ (a : AppliedBump). true)) comes))
+      (ap (λ m. option_map_or (alight t w) m t) comes
       ∙ on_both s b.life.chunk w c_in w_in ks x y (λ z. record z { head = one_fewer z.head }) (λ a z. record z { lane = lane.Empty; applied = z.applied ++ applied_bump b out ∷ [] }))
 
 -- A bump that a lane carries, of a linked chunk, while no lane applies one of its class.
@@ -136,15 +136,16 @@ module _ (s : State) (b : Bump) (w now : ℕ) (c_in : b.life.chunk < length s.ch
   timed : is_cold h.segment ≡ false → run_of (at s c w s.classes x (y (lane.Carrying b))) (event.Try w ∷ event.BumpTime w now ∷ event.Alight w ∷ [])
       ≡ Some (at s c w s.classes (bumped_chunk x now outcome.TimeOnly) (z outcome.TimeOnly))
   timed warm = begun (event.Alight w ∷ [])
-      ∙ alight_step s b w c_in w_in s.classes (record x { time = now }) (y (lane.Tried b)) [] outcome.TimeOnly refl
-      (ap (λ i. if not i then Some outcome.Gone else (if is_cold h.segment then None else Some outcome.TimeOnly)) on ∙ ap (λ d. if d then None else Some outcome.TimeOnly) warm)
+      ∙ alight_step s b w c_in w_in s.classes (record x { time = now }) (y (lane.Tried b)) [] outcome.TimeOnly
+      (λ heads same. ap (λ (f : Head). option_map (applied_bump b) (outcome_tried f)) same
+      ∙ ap (option_map (applied_bump b)) (ap (λ i. if not i then Some outcome.Gone else (if is_cold h.segment then None else Some outcome.TimeOnly)) on ∙ ap (λ d. if d then None else Some outcome.TimeOnly) warm))
 
   -- so does one in COLD whose ACTIVE is clear
   unmarked : is_cold h.segment ≡ true → h.active ≡ false → run_of (at s c w s.classes x (y (lane.Carrying b))) (event.Try w ∷ event.BumpTime w now ∷ event.ClearFor w ∷ event.Alight w ∷ [])
       ≡ Some (at s c w s.classes (bumped_chunk x now outcome.TimeOnly) (z outcome.TimeOnly))
   unmarked cold clear = begun (event.ClearFor w ∷ event.Alight w ∷ [])
       ∙ (clear_step s b w c_in w_in s.classes (record x { time = now }) (y (lane.Tried b)) (event.Alight w ∷ []) refl on cold
-      ∙ (alight_step s b w c_in w_in s.classes (record x { head = cleared_head h; time = now }) (y (lane.Cleared b h.active)) [] outcome.TimeOnly refl (ap (λ d. if d then None else Some outcome.TimeOnly) clear)
+      ∙ (alight_step s b w c_in w_in s.classes (record x { head = cleared_head h; time = now }) (y (lane.Cleared b h.active)) [] outcome.TimeOnly (λ heads same. ap (λ d. ending_at heads (lane.Cleared b d)) clear)
       ∙ ap (λ (a : Bool). Some (at s c w s.classes (record x { head = record (one_fewer h) { active = a }; time = now }) (z outcome.TimeOnly))) (sym clear)))
 
   -- one whose ACTIVE is set is moved
@@ -154,7 +155,7 @@ module _ (s : State) (b : Bump) (w now : ℕ) (c_in : b.life.chunk < length s.ch
       ∙ (clear_step s b w c_in w_in s.classes (record x { time = now }) (y (lane.Tried b)) (event.MoveFor w ∷ event.Alight w ∷ []) refl on cold
       ∙ (move_step s b w c_in w_in s.classes (record x { head = cleared_head h; time = now }) (y (lane.Cleared b h.active)) (event.Alight w ∷ []) (ap (lane.Cleared b) set)
       ∙ alight_step s b w c_in w_in (slice_set s.classes (class_of s c) (class_with_change (class s (class_of s c)) (change.Moved b.life segment.Cold segment.Warm (BumpOf w b.number))))
-      (record x { head = moved_head segment.Warm (cleared_head h); time = now }) (y (lane.Moved b)) [] outcome.Moved refl refl))
+      (record x { head = moved_head segment.Warm (cleared_head h); time = now }) (y (lane.Moved b)) [] outcome.Moved (λ heads same. refl)))
 
   -- the outcome, by LINKED, by whether the segment bits say COLD, and by ACTIVE
   abbrev out : Bool → Bool → Bool → Outcome

@@ -12,14 +12,14 @@ use Rattle.bump_core.specs.declared.history.Cause.TheVariants.{Pull}
 use Rattle.bump_core.specs.declared.history.Change.TheVariants as change
 use Rattle.bump_core.specs.declared.events.Event.TheVariants as event
 use Rattle.bump_core.specs.declared.commands.Command.TheVariants as command
+use Rattle.bump_core.specs.Heads.{cleared_head, moved_head}
 use Rattle.bump_core.specs.Lives.{life}
 use Rattle.bump_core.specs.Tables.{pulled_of, pulled_to, segment_of}
 use Rattle.bump_core.specs.State.{State, chunk, head, no_chunk, with_head, with_change, class_of, is_under_application}
 use Rattle.bump_core.specs.Worlds.{IsLawful}
-use Rattle.bump_core.specs.Heads.{cleared_head, moved_head}
 use Rattle.bump_core.specs.Events.{is_enabled, after, may_move}
 use Rattle.bump_core.specs.Runs.{run_of}
-use Rattle.bump_core.specs.Commands.{is_allowed, events_of, command_after, tail_of, is_over, pulled_at, pull_to, pull, move_events}
+use Rattle.bump_core.specs.Commands.{is_allowed, events_of, command_after, tail_of, is_list_over, pulled_at, pull_to, pull, move_events}
 use Rattle.bump_core.proofs.worlds.Fronts.{last_linked}
 use Rattle.bump_core.proofs.events.Runs.{run_step}
 use Rattle.bump_core.proofs.commands.LinksAsEvents.{at_rest}
@@ -65,7 +65,7 @@ pull_made s o k t allowed = by (tail_of s k t) refl
         enabled = and_from _ _ (lt-ltb c (length s.chunks) at.0) (and_from _ _ at.2 rest)
 
         moves : (m : Option Segment) → pulled_to (pulled_at s k t c) ≡ m → run_of s (event.ClearActive c ∷ move_events c m) ≡ Some (pull_to s k t c m)
-        moves None stays = run_step s s (event.ClearActive c) [] enabled (cleared_again s c (tail_stays t (head s c).active (is_over s k t) (life c (head s c).generation) stays))
+        moves None stays = run_step s s (event.ClearActive c) [] enabled (cleared_again s c (tail_stays t (head s c).active (is_list_over s k t) (life c (head s c).generation) stays))
         moves (Some to) goes = run_step s (with_head s c (cleared_head (head s c))) (event.ClearActive c) (event.Move c to ∷ []) enabled refl
             ∙ run_step (with_head s c (cleared_head (head s c))) (pull_to s k t c (Some to)) (event.Move c to) [] may moved
           where
@@ -75,7 +75,7 @@ pull_made s o k t allowed = by (tail_of s k t) refl
             may : is_enabled (with_head s c (cleared_head (head s c))) (event.Move c to) ≡ true
             may = and_from _ _ (lt-ltb c _ (omega (arith, at.0, length-set s.chunks c (record (chunk s c) { head = cleared_head (head s c) }))))
                 (and_from _ _ (ap (λ a. a.head.linked) read ∙ at.2)
-                (and_from _ _ (ap (λ a. may_move a.head.segment to) read ∙ (ap (λ g. may_move g to) at.3 ∙ tail_moves t (head s c).active (is_over s k t) (life c (head s c).generation) to goes)) rest))
+                (and_from _ _ (ap (λ a. may_move a.head.segment to) read ∙ (ap (λ g. may_move g to) at.3 ∙ tail_moves t (head s c).active (is_list_over s k t) (life c (head s c).generation) to goes)) rest))
 
             moved : after (with_head s c (cleared_head (head s c))) (event.Move c to) ≡ pull_to s k t c (Some to)
             moved = ap (λ cs. with_change (record s { chunks = cs }) (class_of s c) (change.Moved (life c (head (with_head s c (cleared_head (head s c))) c).generation) (head (with_head s c (cleared_head (head s c))) c).segment to Pull))

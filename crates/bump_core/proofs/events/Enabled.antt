@@ -3,8 +3,11 @@ use Rattle.std.proofs.Common.{eq-eqb, ◌≡◌, ℕ, ◌<◌, Bool, true, false
 use Rattle.std.proofs.lemmas.Bool.{and_parts, ltb-true, not-true, eqb-true, false≢true}
 use Rattle.std.proofs.lemmas.List.Folds.{list_any_at}
 use Rattle.std.specs.Option.{option_map_or}
+use Rattle.std.specs.Prelude.{option_map}
 use Rattle.bump_core.specs.declared.items.Head.{Head}
+use Rattle.bump_core.specs.declared.bumps.AppliedBump.{AppliedBump}
 use Rattle.bump_core.specs.declared.bumps.Outcome.{Outcome}
+use Rattle.bump_core.specs.declared.bumps.Outcome.TheVariants as outcome
 use Rattle.bump_core.specs.declared.items.ItemId.{ItemId}
 use Rattle.bump_core.specs.declared.bumps.Bump.{Bump}
 use Rattle.bump_core.specs.declared.lanes.Lane.{Lane}
@@ -14,8 +17,9 @@ use Rattle.bump_core.specs.declared.hands.Hand.{Hand}
 use Rattle.bump_core.specs.declared.hands.Hand.TheVariants as hand
 use Rattle.bump_core.specs.declared.places.Segment.{Segment}
 use Rattle.bump_core.specs.declared.places.Segment.TheVariants as segment
+use Rattle.bump_core.specs.Rings.{bump_applied}
 use Rattle.bump_core.specs.Tables.{is_cold}
-use Rattle.bump_core.specs.Events.{is_enabled, is_class_at_rest, may_move, next_chunk, may_hit, outcome_at, carried, tried, applied_now, cleared_active, is_empty}
+use Rattle.bump_core.specs.Events.{is_enabled, is_class_at_rest, may_move, next_chunk, may_hit, applied_bump, outcome_tried, ending_at, carried, tried, applied_now, cleared_active, is_empty}
 use Rattle.bump_core.specs.State.{is_class, State, chunk, head, worker, is_chunk, is_current, has_free_hold, is_open, is_worker, workers_on, some_and, tried_life, life_in_hand, cleared_life, is_idle, applied_life, applies_in, class_of, is_under_application, new_worker}
 use Rattle.bump_core.specs.Worlds.{IsLawful}
 
@@ -142,13 +146,19 @@ may_hit_from s w l is = let first = and_parts (is_open s w) (is_idle (worker s w
 pub none_applies : (s : State) (k v : ℕ) (l : ItemId) → is_under_application s k ≡ false → v < length s.workers → applied_life (worker s v).lane ≡ Some l → class_of s l.chunk ≡ k → ⊥
 none_applies s k v l rest within applies same = false≢true (sym rest ∙ list_any_at (λ x. applies_in s k x.lane) s.workers v new_worker within (ap (some_and (λ m. class_of s m.chunk == k)) applies ∙ eq-eqb (class_of s l.chunk) k same))
 
--- a lane that may end its bump has it aboard
-pub applied_by_outcome : (x : Lane) (h : Head) (e : Outcome) → outcome_at x h ≡ Some e → (b : Bump) × (applied_now x ≡ Some b)
-applied_by_outcome lane.Empty h e is = absurd (let u : ⊥ = cc in u)
-applied_by_outcome (lane.Carrying b) h e is = absurd (let u : ⊥ = cc in u)
-applied_by_outcome (lane.Tried b) h e is = (b, refl)
-applied_by_outcome (lane.Cleared b found) h e is = (b, refl)
-applied_by_outcome (lane.Moved b) h e is = (b, refl)
+-- what a lane may end with when it looked at its bump's item is of that bump
+tried_ending : (b : Bump) (o : Option Outcome) (a : AppliedBump) → option_map (applied_bump b) o ≡ Some a → b ≡ bump_applied a
+tried_ending b None a is = absurd (let u : ⊥ = cc in u)
+tried_ending b (Some e) a is = let same : applied_bump b e ≡ a = cc in ap bump_applied same
+
+-- a lane that may end a bump applies it
+pub applied_by_ending : (heads : ℕ → Head) (x : Lane) (a : AppliedBump) → ending_at heads x ≡ Some a → applied_now x ≡ Some (bump_applied a)
+applied_by_ending heads lane.Empty a is = absurd (let u : ⊥ = cc in u)
+applied_by_ending heads (lane.Carrying b) a is = absurd (let u : ⊥ = cc in u)
+applied_by_ending heads (lane.Tried b) a is = ap (λ (z : Bump). Some z) (tried_ending b (outcome_tried (heads b.life.chunk)) a is)
+applied_by_ending heads (lane.Cleared b true) a is = absurd (let u : ⊥ = cc in u)
+applied_by_ending heads (lane.Cleared b false) a is = let same : applied_bump b outcome.TimeOnly ≡ a = cc in ap (λ (z : AppliedBump). Some (bump_applied z)) same
+applied_by_ending heads (lane.Moved b) a is = let same : applied_bump b outcome.Moved ≡ a = cc in ap (λ (z : AppliedBump). Some (bump_applied z)) same
 
 -- a class at rest whose next item may be labelled, timed or linked: it exists, and has a front of UNUSED
 pub next_from : (s : State) (k : ℕ) → (is_class_at_rest s k && some_and (λ c. true) (next_chunk s k)) ≡ true → (c : ℕ) × (k < length s.classes) × (next_chunk s k ≡ Some c)

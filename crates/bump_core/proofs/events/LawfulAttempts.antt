@@ -33,7 +33,7 @@ reserve_lawful s w l o inside is few = both_lawful_off_lane s l.chunk h w y with
     (λ g. refl)
     (λ g. omega (arith, first_hits_after s l.chunk h w y within inside refl l.chunk g)))
     (λ m. omega (arith, o.hands m, ap (is_on m) is))
-    (record { prefix = was.prefix; room = was.room; applied = was.applied; accepted = was.accepted; attempted = omega (arith, was.attempted, ap attempts_of is); most = was.most })
+    (record { ring = was.ring; applied = was.applied; accounts = record { accepted = was.accounts.accepted; attempted = omega (arith, was.accounts.attempted, ap attempts_of is); most = was.accounts.most } })
   where
     within : l.chunk < length s.chunks
     within = tried_in_range s o w l inside is
@@ -70,7 +70,7 @@ dropped_lawful s w l a o inside is accepted attempted one_more = let was = o.wor
     (λ m. omega (arith, ap (in_hand_of m) is))
     (λ m. refl)
     (λ m. omega (arith, ap (is_on m) is))
-    (record { prefix = was.prefix; room = was.room; applied = was.applied; accepted = accepted ∙ was.accepted; attempted = omega (arith, was.attempted, ap attempts_of is); most = omega (arith, was.most) })
+    (record { ring = was.ring; applied = was.applied; accounts = record { accepted = accepted ∙ was.accounts.accepted; attempted = omega (arith, was.accounts.attempted, ap attempts_of is); most = omega (arith, was.accounts.most) } })
     (alone_kept s w y inside o refl)
     (o.waits w inside)
 
@@ -89,12 +89,16 @@ push_lawful s w l o inside is room = worker_lawful s w y o inside
     (λ m. refl)
     (λ m. omega arith)
     (record {
-      prefix = ap (λ xs. xs ++ l ∷ []) was.prefix ∙ append_assoc (worker s w).received (in_ring (worker s w)) (l ∷ []) ∙ ap (λ xs. (worker s w).received ++ xs) (sym ring);
-      room = omega (arith, ap length ring, length-append (in_ring (worker s w)) (l ∷ []), length-drop (length (worker s w).received) (worker s w).sent);
+      ring = record {
+        prefix = ap (λ xs. xs ++ l ∷ []) was.ring.prefix ∙ append_assoc (worker s w).received (in_ring (worker s w)) (l ∷ []) ∙ ap (λ xs. (worker s w).received ++ xs) (sym ring);
+        room = omega (arith, ap length ring, length-append (in_ring (worker s w)) (l ∷ []), length-drop (length (worker s w).received) (worker s w).sent);
+      };
       applied = was.applied;
-      accepted = omega (arith, was.accepted, length-append (worker s w).sent (l ∷ []));
-      attempted = omega (arith, was.attempted, ap attempts_of is);
-      most = was.most;
+      accounts = record {
+        accepted = omega (arith, was.accounts.accepted, length-append (worker s w).sent (l ∷ []));
+        attempted = omega (arith, was.accounts.attempted, ap attempts_of is);
+        most = was.accounts.most;
+      };
     })
     (alone_kept s w y inside o refl)
     (o.waits w inside)
@@ -114,7 +118,7 @@ drop_full_lawful s w l o inside is = both_unreferred s l w y o (in_hand_in_range
     (λ m. omega (arith, ap (in_hand_of m) is))
     (λ m. refl)
     (λ m. omega (arith, o.hands m, ap (is_on m) is))
-    (record { prefix = was.prefix; room = was.room; applied = was.applied; accepted = was.accepted; attempted = omega (arith, was.attempted, ap attempts_of is); most = was.most })
+    (record { ring = was.ring; applied = was.applied; accounts = record { accepted = was.accounts.accepted; attempted = omega (arith, was.accounts.attempted, ap attempts_of is); most = was.accounts.most } })
     (alone_kept s w y inside o refl)
     (waits_kept s l.chunk (one_fewer (head s l.chunk)) w o inside refl refl)
   where
@@ -130,7 +134,7 @@ unmark_lawful s w l o inside is = both_marked s l.chunk false w y o (cleared_in_
     (λ m. omega (arith, ap (in_hand_of m) is))
     (λ m. refl)
     (λ m. omega (arith, o.hands m))
-    (record { prefix = was.prefix; room = was.room; applied = was.applied; accepted = was.accepted; attempted = omega (arith, was.attempted, ap attempts_of is); most = was.most })
+    (record { ring = was.ring; applied = was.applied; accounts = record { accepted = was.accounts.accepted; attempted = omega (arith, was.accounts.attempted, ap attempts_of is); most = was.accounts.most } })
     (alone_kept s w y inside o refl)
     (waits_kept s l.chunk (cleared_head (head s l.chunk)) w o inside refl refl)
   where

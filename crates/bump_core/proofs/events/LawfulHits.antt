@@ -34,7 +34,7 @@ fetch_lawful s w l o inside within current = by_test IsLawful (head s l.chunk).f
     (λ g. omega (arith, references_after s l.chunk h w y within inside refl l.chunk g))
     (λ g. refl))
     (λ m. omega (arith, o.hands m))
-    (record { prefix = was.prefix; room = was.room; applied = was.applied; accepted = was.accepted; attempted = was.attempted; most = was.most }))
+    (record { ring = was.ring; applied = was.applied; accounts = record { accepted = was.accounts.accepted; attempted = was.accounts.attempted; most = was.accounts.most } }))
   where
     h : Head
     h = fetched_head (head s l.chunk)
@@ -62,7 +62,7 @@ mark_lawful s w l o inside idle within current free fetched few = by_test IsLawf
       | inl e ↦ omega (arith, ap (workers_on s) e, ap (holds_of s) e, ap (λ k. one_if k l) e, one_if_same l, held_at (chunk s l.chunk) l.generation current)
       | inr none ↦ omega (arith, o.hands m)
     ])
-    (record { prefix = was.prefix; room = was.room; applied = was.applied; accepted = was.accepted; attempted = omega (arith, was.attempted, ap attempts_of idle); most = omega (arith, few) })
+    (record { ring = was.ring; applied = was.applied; accounts = record { accepted = was.accounts.accepted; attempted = omega (arith, was.accounts.attempted, ap attempts_of idle); most = omega (arith, few) } })
     (alone_kept s w y inside o refl)
     (waits_kept s l.chunk h w o inside refl refl))
     (λ no. head_lawful s l.chunk h o within refl refl refl (marked s.refs_limit (head s l.chunk) (place s l.chunk) (references s l.chunk) (first_hits_of s l.chunk) (o.chunks l.chunk) true set))

@@ -18,7 +18,7 @@ use Rattle.bump_core.proofs.events.Enabled.{current_from, free_hold_from}
 
 -- a linked chunk under the limit gets one more hold
 pub hold_lawful : (s : State) (c : ℕ) → IsLawful s → (head s c).linked ≡ true → c < length s.chunks → (head s c).refs < s.refs_limit → IsLawful (with_hold s c)
-hold_lawful s c o on within few = chunk_lawful s c x o within refl refl
+hold_lawful s c o on within few = chunk_lawful s c x o within refl refl refl
     (referred s.refs_limit (head s c) (place s c) (references s c) (first_hits_of s c) (o.chunks c) (references (with_chunk s c x) c) (used_where_linked (head s c) (place s c) (o.chunks c).shown on) few
     (omega (arith, now (head s c).generation, held_here x, held_here (chunk s c)))
     (λ g ne. omega (arith, now g, held_else x g ne, held_else (chunk s c) g ne)))
@@ -34,7 +34,7 @@ hold_lawful s c o on within few = chunk_lawful s c x o within refl refl
 
 -- a chunk with more holds than workers on its life gets one fewer
 pub unhold_lawful : (s : State) (c : ℕ) → IsLawful s → c < length s.chunks → workers_on s (life c (head s c).generation) < (chunk s c).holds → IsLawful (without_hold s c)
-unhold_lawful s c o within free = chunk_lawful s c x o within refl refl
+unhold_lawful s c o within free = chunk_lawful s c x o within refl refl refl
     (unreferred s.refs_limit (head s c) (place s c) (references s c) (first_hits_of s c) (o.chunks c) (references (with_chunk s c x) c)
     (omega (arith, now (head s c).generation, held_here x, held_here (chunk s c)))
     (λ g ne. omega (arith, now g, held_else x g ne, held_else (chunk s c) g ne)))

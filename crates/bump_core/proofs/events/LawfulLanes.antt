@@ -1,6 +1,6 @@
 -- What a lane does leaves a lawful state lawful.
-use Rattle.std.proofs.Common.{◌≡◌, ℕ, suc, ◌<◌, Bool, true, false, not, ◌&&◌, nat_lt, List, [], ◌∷◌, ◌++◌, map, length, drop, slice_index_or, Some, refl, sym, ap, ◌∙◌, arith, append_assoc, length-append}
-use Rattle.std.proofs.lemmas.List.{append-nil, map-append}
+use Rattle.std.proofs.Common.{◌≡◌, ℕ, suc, ◌<◌, Bool, true, false, not, ◌&&◌, nat_lt, List, [], ◌∷◌, ◌++◌, map, length, drop, slice_index_or, Some, refl, sym, ap, ◌∙◌, arith, append_assoc, length-append, subst}
+use Rattle.std.proofs.lemmas.List.{append-nil, map-append, get_or-set_same, length-set}
 use Rattle.std.proofs.lemmas.Bool.{and_parts, ltb-true, not-true}
 use Rattle.std.proofs.lemmas.Option.{slice_get-get_or}
 use Rattle.std.specs.Option.{option_map_or}
@@ -10,41 +10,23 @@ use Rattle.bump_core.specs.declared.items.Head.{Head}
 use Rattle.bump_core.specs.declared.bumps.Bump.{Bump}
 use Rattle.bump_core.specs.declared.lanes.Lane.{Lane}
 use Rattle.bump_core.specs.declared.lanes.Lane.TheVariants as lane
+use Rattle.bump_core.specs.declared.bumps.AppliedBump.{AppliedBump}
 use Rattle.bump_core.specs.declared.bumps.Outcome.{Outcome}
 use Rattle.bump_core.specs.declared.events.Event.TheVariants as event
 use Rattle.bump_core.specs.Lives.{life, one_if, count_of}
 use Rattle.bump_core.specs.Tables.{is_cold}
 use Rattle.bump_core.specs.Rings.{in_ring, aboard, bump_applied, IsWorker}
-use Rattle.bump_core.specs.State.{State, WorkerState, chunk, head, worker, class_of, with_head, is_worker, some_and, applied_life, is_under_application}
-use Rattle.bump_core.specs.Heads.{cleared_head}
-use Rattle.bump_core.specs.Events.{with_time, next_bump, bump_of, carried, tried, applied_now, is_empty, lane_chunk, lane_outcome, is_enabled, after, take_bump, with_lane, clear_for, applied_bump, alight}
-use Rattle.bump_core.specs.Worlds.{aboard_of, WaitsToMove, IsLawful}
+use Rattle.bump_core.specs.State.{State, WorkerState, chunk, head, worker, class_of, with_head, is_worker, some_and, applied_life, is_under_application, new_worker}
+use Rattle.bump_core.specs.Heads.{cleared_head, moved_head}
+use Rattle.bump_core.specs.Events.{with_time, next_bump, bump_of, carried, tried, applied_now, is_empty, ending, is_enabled, after, take_bump, with_lane, clear_for, alight, move_for, cleared_active}
+use Rattle.bump_core.specs.Worlds.{aboard_of, WaitsToMove, IsLawful, place, references, first_hits_of}
 use Rattle.bump_core.proofs.workers.Ring.{lane_further, next_in_ring, numbered_append}
-use Rattle.bump_core.proofs.worlds.LawfulStates.{linked_in_range, aboard_in_range, aboard_current, applied_aboard}
+use Rattle.bump_core.proofs.worlds.LawfulStates.{linked_in_range, aboard_in_range, aboard_current, applied_aboard, waiting_linked}
 use Rattle.bump_core.proofs.worlds.Frames.{worker_lawful, both_marked, both_unreferred, alone_kept, chunk_here, time_lawful}
-use Rattle.bump_core.proofs.events.Enabled.{some_and_parts, lawful_by_some, empty_from, carrying_from, tried_from, cold_from, applied_from, worker_from, none_applies, applied_by_outcome}
-use Rattle.std.proofs.Common.{◌≡◌, ℕ, ◌<◌, Bool, true, false, List, [], ◌∷◌, ◌++◌, length, Some, refl, sym, ap, ◌∙◌, subst, arith}
-use Rattle.std.proofs.lemmas.List.{get_or-set_same, length-set}
-use Rattle.bump_core.specs.declared.places.Segment.TheVariants as segment
-use Rattle.bump_core.specs.declared.items.Head.{Head}
-use Rattle.bump_core.specs.declared.items.ItemId.{ItemId}
+use Rattle.bump_core.proofs.events.Enabled.{some_and_parts, lawful_by_some, empty_from, carrying_from, tried_from, cold_from, applied_from, worker_from, none_applies, applied_by_ending, move_for_from, cleared_from}
 use Rattle.bump_core.specs.declared.history.Change.TheVariants as change
 use Rattle.bump_core.specs.declared.history.Cause.TheVariants.{Bump as BumpOf}
-use Rattle.bump_core.specs.declared.bumps.Bump.{Bump}
-use Rattle.bump_core.specs.declared.lanes.Lane.{Lane}
-use Rattle.bump_core.specs.declared.lanes.Lane.TheVariants as lane
-use Rattle.bump_core.specs.declared.events.Event.TheVariants as event
-use Rattle.bump_core.specs.Lives.{life}
-use Rattle.bump_core.specs.Rings.{aboard}
-use Rattle.bump_core.specs.State.{State, chunk, head, worker, new_worker, with_head, class_of, applied_life}
-use Rattle.bump_core.specs.Worlds.{IsLawful, WaitsToMove, place, references, first_hits_of, aboard_of}
-use Rattle.bump_core.specs.Heads.{moved_head}
-use Rattle.bump_core.specs.Events.{is_enabled, after, move_for, with_lane, cleared_active}
 use Rattle.bump_core.proofs.classes.Tiles.{class_within, class_owns}
-use Rattle.bump_core.proofs.worlds.LawfulStates.{linked_in_range, waiting_linked}
-use Rattle.bump_core.proofs.workers.Ring.{lane_further}
-use Rattle.bump_core.proofs.worlds.Frames.{worker_lawful, alone_kept}
-use Rattle.bump_core.proofs.events.Enabled.{lawful_by_some, move_for_from, none_applies, cleared_from}
 use Rattle.bump_core.proofs.chunks.Laws.{moved}
 use Rattle.bump_core.proofs.events.Moves.{change_lawful}
 
@@ -55,13 +37,13 @@ take_bump_lawful s w l o inside empty next = worker_lawful s w y o inside
     (λ m. refl)
     (λ m. omega arith)
     (record {
-      prefix = was.prefix ∙ ap (λ xs. (worker s w).received ++ xs) was_ring ∙ sym (append_assoc (worker s w).received (l ∷ []) rest) ∙ ap (λ xs. ((worker s w).received ++ l ∷ []) ++ xs) (sym ring);
-      room = omega (arith, was.room, ap length was_ring, ap length ring);
+      ring = record {
+        prefix = was.ring.prefix ∙ ap (λ xs. (worker s w).received ++ xs) was_ring ∙ sym (append_assoc (worker s w).received (l ∷ []) rest) ∙ ap (λ xs. ((worker s w).received ++ l ∷ []) ++ xs) (sym ring);
+        room = omega (arith, was.ring.room, ap length was_ring, ap length ring);
+      };
       applied = ap (λ bs. bs ++ bump_of (length (worker s w).received) l ∷ []) (sym (append-nil (map bump_applied (worker s w).applied)) ∙ ap (λ x. map bump_applied (worker s w).applied ++ aboard x) (sym empty) ∙ was.applied)
           ∙ sym (numbered_append 0 (worker s w).received (l ∷ []) (length (worker s w).received) (omega arith));
-      accepted = was.accepted;
-      attempted = was.attempted;
-      most = was.most;
+      accounts = was.accounts;
     })
     (λ v a b inside_too ne of_v of_y same. let u : ⊥ = cc in u)
     tt
@@ -135,26 +117,23 @@ applied_counts_for (lane.Cleared a found) b is m = ap (λ (z : Bump). one_if m z
 applied_counts_for (lane.Moved a) b is m = ap (λ (z : Bump). one_if m z.life) (let same : a ≡ b = cc in same)
 
 -- the lane gives the reference of the bump that it applied back
-pub alight_lawful : (s : State) (w : ℕ) (b : Bump) (e : Outcome) → IsLawful s → w < length s.workers → applied_now (worker s w).lane ≡ Some b → IsLawful (alight s w b e)
-alight_lawful s w b e o inside is = both_unreferred s b.life w (record (worker s w) { lane = lane.Empty; applied = (worker s w).applied ++ applied_bump b e ∷ [] }) o
-    (aboard_in_range s o w b.life inside counts) inside (aboard_current s o w b.life inside counts)
-    (λ m. omega (arith, applied_counts_for (worker s w).lane b is m))
+pub alight_lawful : (s : State) (w : ℕ) (a : AppliedBump) → IsLawful s → w < length s.workers → applied_now (worker s w).lane ≡ Some (bump_applied a) → IsLawful (alight s w a)
+alight_lawful s w a o inside is = both_unreferred s a.life w (record (worker s w) { lane = lane.Empty; applied = (worker s w).applied ++ a ∷ [] }) o
+    (aboard_in_range s o w a.life inside counts) inside (aboard_current s o w a.life inside counts)
+    (λ m. omega (arith, applied_counts_for (worker s w).lane (bump_applied a) is m))
     (λ m. refl)
     (λ m. omega (arith, o.hands m))
     (record {
-      prefix = was.prefix;
-      room = was.room;
-      applied = append-nil (map bump_applied ((worker s w).applied ++ applied_bump b e ∷ [])) ∙ map-append bump_applied (worker s w).applied (applied_bump b e ∷ [])
-          ∙ ap (λ bs. map bump_applied (worker s w).applied ++ bs) (sym (applied_alone_aboard (worker s w).lane b is)) ∙ was.applied;
-      accepted = was.accepted;
-      attempted = was.attempted;
-      most = was.most;
+      ring = was.ring;
+      applied = append-nil (map bump_applied ((worker s w).applied ++ a ∷ [])) ∙ map-append bump_applied (worker s w).applied (a ∷ [])
+          ∙ ap (λ bs. map bump_applied (worker s w).applied ++ bs) (sym (applied_alone_aboard (worker s w).lane (bump_applied a) is)) ∙ was.applied;
+      accounts = was.accounts;
     })
     (λ v l m inside_too ne of_v of_y same. let u : ⊥ = cc in u)
     tt
   where
-    counts : 0 < aboard_of b.life (worker s w).lane
-    counts = applied_aboard s o w b.life (applied_from (worker s w).lane b is)
+    counts : 0 < aboard_of a.life (worker s w).lane
+    counts = applied_aboard s o w a.life (applied_from (worker s w).lane (bump_applied a) is)
 
     was : IsWorker s.capacity (worker s w)
     was = o.workers w inside
@@ -193,11 +172,10 @@ after_clear_for s w o enabled = let parts = and_parts (is_worker s w) (some_and 
 
 -- the lane gives the bump's reference back
 pub after_alight : (s : State) (w : ℕ) → IsLawful s → is_enabled s (event.Alight w) ≡ true → IsLawful (after s (event.Alight w))
-after_alight s w o enabled = let parts = and_parts (is_worker s w) (some_and (λ e. true) (lane_outcome s w)) enabled in
-    let found = some_and_parts (λ (e : Outcome). true) (lane_outcome s w) parts.1 in
-    let applied = applied_by_outcome (worker s w).lane (head s (lane_chunk s w)) found.0 found.1 in
-    lawful_by_some (λ b. option_map_or (alight s w b) (lane_outcome s w) s) s (applied_now (worker s w).lane) applied.0 applied.1
-    (lawful_by_some (alight s w applied.0) s (lane_outcome s w) found.0 found.1 (alight_lawful s w applied.0 found.0 o (worker_from s w parts.0) applied.1))
+after_alight s w o enabled = let parts = and_parts (is_worker s w) (some_and (λ a. true) (ending s w)) enabled in
+    let found = some_and_parts (λ (a : AppliedBump). true) (ending s w) parts.1 in
+    lawful_by_some (alight s w) s (ending s w) found.0 found.1
+    (alight_lawful s w found.0 o (worker_from s w parts.0) (applied_by_ending (head s) (worker s w).lane found.0 found.1))
 
 -- a lane that moved its item does not wait to move it
 two_lanes : (s : State) (v w : ℕ) (a b : Bump) → v ≡ w → (worker s v).lane ≡ lane.Cleared a true → (worker s w).lane ≡ lane.Moved b → ⊥
@@ -229,4 +207,5 @@ after_move_for s o w enabled = let may = move_for_from s w enabled in
         change_lawful t p c (moved_head segment.Warm (head s c)) (class_of s c) (change.Moved b.life segment.Cold segment.Warm (BumpOf w b.number)) (class_within s o.tiles c in_range) (class_owns s o.tiles c in_range) refl
         (λ g. refl)
         (moved s.refs_limit (head s c) (place s c) (references t c) (first_hits_of t c) (p.chunks c) segment.Warm on)
+        (aboard_current s o w b.life within (applied_aboard s o w b.life (ap applied_life is)))
         (λ v v_in a cleared same. two_lanes t v w a b (p.alone v w a.life b.life v_in w_in (ap applied_life cleared) (ap applied_life here) (ap (class_of t) same)) cleared here)

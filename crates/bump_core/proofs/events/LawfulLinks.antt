@@ -1,25 +1,19 @@
 -- The events of links leave a lawful state lawful: the next item's label and time, and the link.
-use Rattle.std.proofs.Common.{◌≡◌, ℕ, true, false, refl, arith, ◌<◌, length}
+use Rattle.std.proofs.Common.{◌≡◌, ℕ, true, false, refl, arith, ◌<◌, length, ◌+◌, cond, eqb, Bool, Some, sym, ◌∙◌, subst}
 use Rattle.bump_core.specs.declared.events.Event.TheVariants as event
-use Rattle.bump_core.specs.State.{State, head}
-use Rattle.bump_core.specs.Events.{next_chunk, is_enabled, after, with_time, with_label}
-use Rattle.bump_core.specs.Worlds.{references, first_hits_of, place, IsLawful}
+use Rattle.bump_core.specs.State.{State, head, chunk, class}
+use Rattle.bump_core.specs.Events.{next_chunk, is_enabled, after, with_time, with_label, next_life, link}
+use Rattle.bump_core.specs.Worlds.{references, first_hits_of, place, IsLawful, owns}
 use Rattle.bump_core.proofs.events.Enabled.{next_from, lawful_by_some}
 use Rattle.bump_core.proofs.worlds.Frames.{time_lawful, label_lawful}
-use Rattle.std.proofs.Common.{◌≡◌, ℕ, ◌+◌, ◌<◌, cond, eqb, Bool, true, false, length, Some, refl, sym, ◌∙◌, subst, arith}
 use Rattle.std.proofs.lemmas.Bool.{both_ways}
 use Rattle.bump_core.specs.declared.items.Head.{Head}
 use Rattle.bump_core.specs.declared.history.Change.TheVariants as change
 use Rattle.bump_core.specs.declared.chunks.Chunk.{Chunk}
-use Rattle.bump_core.specs.declared.events.Event.TheVariants as event
-use Rattle.bump_core.specs.Lawful.{newborn}
-use Rattle.bump_core.specs.State.{State, chunk, head, class}
-use Rattle.bump_core.specs.Worlds.{IsLawful, owns, place, references, first_hits_of}
-use Rattle.bump_core.specs.Events.{is_enabled, after, next_chunk, next_life, link}
+use Rattle.bump_core.specs.Heads.{newborn}
 use Rattle.bump_core.proofs.classes.Tiles.{class_owns}
 use Rattle.bump_core.proofs.worlds.Fronts.{next_front}
 use Rattle.bump_core.proofs.worlds.LawfulStates.{unused_shown, held_by, held_here, unused_unreferred, waiting_linked}
-use Rattle.bump_core.proofs.events.Enabled.{lawful_by_some, next_from}
 use Rattle.bump_core.proofs.chunks.Laws.{born}
 use Rattle.bump_core.proofs.events.Moves.{change_lawful}
 
@@ -59,4 +53,5 @@ after_link s o k enabled = let next = next_from s k enabled in lawful_by_some (l
         change_lawful s o c (newborn ((head s c).generation + 1)) k (change.Linked (next_life s c)) within own refl
         (λ g. held_none (chunk s c) (newborn ((head s c).generation + 1)) (λ n. omega (arith, none n)) g)
         (born s.refs_limit (head s c) (place s c) (references s c) (first_hits_of s c) (o.chunks c) at.2 o.limit)
+        refl
         (λ w w_in b is same. both_ways (head s c).linked off (subst (λ (d : ℕ). (head s d).linked ≡ true) same (waiting_linked s o w b w_in is).0))

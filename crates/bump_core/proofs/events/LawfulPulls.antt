@@ -1,27 +1,19 @@
 -- The events of pulls leave a lawful state lawful: ACTIVE is cleared, and an item moves to the front of a segment.
-use Rattle.std.proofs.Common.{◌≡◌, ℕ, true, false, not, ◌&&◌, refl, arith, ◌<◌, length}
+use Rattle.std.proofs.Common.{◌≡◌, ℕ, true, false, not, ◌&&◌, refl, arith, ◌<◌, length, ap}
 use Rattle.std.proofs.lemmas.Bool.{and_parts}
 use Rattle.bump_core.specs.declared.events.Event.TheVariants as event
-use Rattle.bump_core.specs.State.{State, head, class_of, is_chunk, is_under_application, with_head}
-use Rattle.bump_core.specs.Heads.{cleared_head}
+use Rattle.bump_core.specs.State.{State, head, class_of, is_chunk, is_under_application, with_head, applied_life}
+use Rattle.bump_core.specs.Heads.{cleared_head, moved_head}
 use Rattle.bump_core.specs.Events.{is_enabled, after}
 use Rattle.bump_core.specs.Worlds.{references, first_hits_of, place, IsLawful}
-use Rattle.bump_core.proofs.chunks.Laws.{marked}
-use Rattle.bump_core.proofs.events.Enabled.{chunk_from}
+use Rattle.bump_core.proofs.chunks.Laws.{marked, moved}
+use Rattle.bump_core.proofs.events.Enabled.{chunk_from, move_from, none_applies}
 use Rattle.bump_core.proofs.worlds.Frames.{head_lawful}
-use Rattle.std.proofs.Common.{◌≡◌, ℕ, ◌<◌, true, false, length, refl, ap, arith}
 use Rattle.bump_core.specs.declared.places.Segment.{Segment}
 use Rattle.bump_core.specs.declared.history.Change.TheVariants as change
 use Rattle.bump_core.specs.declared.history.Cause.TheVariants.{Pull}
-use Rattle.bump_core.specs.declared.events.Event.TheVariants as event
 use Rattle.bump_core.specs.Lives.{life}
-use Rattle.bump_core.specs.State.{State, head, with_head, class_of, applied_life}
-use Rattle.bump_core.specs.Worlds.{IsLawful, place, references, first_hits_of}
-use Rattle.bump_core.specs.Heads.{moved_head}
-use Rattle.bump_core.specs.Events.{is_enabled, after}
 use Rattle.bump_core.proofs.classes.Tiles.{class_within, class_owns}
-use Rattle.bump_core.proofs.events.Enabled.{move_from, none_applies}
-use Rattle.bump_core.proofs.chunks.Laws.{moved}
 use Rattle.bump_core.proofs.events.Moves.{change_lawful}
 
 -- a pull clears ACTIVE
@@ -41,4 +33,5 @@ after_move s o c to enabled = let may = move_from s c to enabled in
     change_lawful s o c (moved_head to (head s c)) (class_of s c) (change.Moved (life c (head s c).generation) (head s c).segment to Pull) (class_within s o.tiles c may.0) (class_owns s o.tiles c may.0) refl
     (λ g. refl)
     (moved s.refs_limit (head s c) (place s c) (references s c) (first_hits_of s c) (o.chunks c) to may.1)
+    refl
     (λ w w_in b is same. none_applies s (class_of s c) w b.life may.2 w_in (ap applied_life is) (ap (class_of s) same))

@@ -10,39 +10,43 @@ use Rattle.bump_core.specs.declared.history.Change.{Change}
 use Rattle.bump_core.specs.declared.bumps.Bump.{Bump}
 use Rattle.bump_core.specs.declared.lanes.Lane.{Lane}
 use Rattle.bump_core.specs.declared.lanes.Lane.TheVariants as lane
+use Rattle.bump_core.specs.declared.chunks.Chunk.{Chunk}
+use Rattle.bump_core.specs.declared.events.Event.TheVariants as event
 use Rattle.bump_core.specs.Lawful.{Lawful}
 use Rattle.bump_core.specs.Lives.{life}
 use Rattle.bump_core.specs.Totals.{total}
 use Rattle.bump_core.specs.History.{Standing, subject, target, standing_from}
 use Rattle.bump_core.specs.Lists.{to_front, opening}
-use Rattle.bump_core.specs.State.{State, ClassState, chunk, head, class, worker, no_chunk, no_class, with_head, with_change, class_with_change, class_of}
-use Rattle.bump_core.specs.Worlds.{Tiles, IsLawful, IsClass, AreOf, WaitsToMove, owns, place, place_in, references, first_hits_of, holds_of, bumps_of}
-use Rattle.bump_core.proofs.classes.Replay.{replay_push, standing_push, are_of_push}
-use Rattle.bump_core.proofs.classes.Tiles.{class_kept, tiles_kept, owner, owned_in_range}
-use Rattle.bump_core.proofs.worlds.LawfulStates.{held_by}
-use Rattle.bump_core.proofs.chunks.Laws.{lawful_same}
+use Rattle.bump_core.specs.Rings.{aboard}
+use Rattle.bump_core.specs.State.{State, ClassState, chunk, head, class, worker, no_chunk, no_class, new_worker, with_head, with_change, class_with_change, class_of, applied_life}
+use Rattle.bump_core.specs.Worlds.{Tiles, IsLawful, IsClass, WaitsToMove, owns, stands_in, standing, place, references, first_hits_of, holds_of, bumps_of, aboard_of, place_in}
+use Rattle.bump_core.specs.Heads.{newborn, moved_head}
+use Rattle.bump_core.specs.Events.{is_enabled, after, next_chunk, next_life, link, move_for, with_lane, cleared_active}
+use Rattle.bump_core.proofs.classes.Replay.{replay_push, standing_push, are_between_push}
+use Rattle.bump_core.proofs.classes.Tiles.{class_kept, tiles_kept, class_within, class_owns, owner, owned_in_range}
+use Rattle.bump_core.proofs.worlds.Fronts.{next_front}
+use Rattle.bump_core.proofs.worlds.LawfulStates.{unused_shown, held_by, held_here, linked_in_range, unused_unreferred, waiting_linked, aboard_current, applied_aboard}
+use Rattle.bump_core.proofs.workers.Ring.{lane_further}
+use Rattle.bump_core.proofs.worlds.Frames.{worker_lawful, alone_kept}
+use Rattle.bump_core.proofs.events.Enabled.{lawful_by_some, next_from, move_from, move_for_from, none_applies, cleared_from}
+use Rattle.bump_core.proofs.chunks.Laws.{lawful_same, born, moved}
 
 -- One more entry in the history of a class.
-
--- entries of a class's chunks are so of a class with the same bounds
-are_of_kept : (j k : ClassState) (es : List Change) → ((c : ℕ) → owns k c ≡ owns j c) → AreOf j es → AreOf k es
-are_of_kept j k [] same all = tt
-are_of_kept j k (e ∷ es) same all = (same (subject e).chunk ∙ all.0, are_of_kept j k es same all.1)
 
 -- a class with one more entry of its chunks is lawful
 pub class_pushed : (k : ClassState) (e : Change) → IsClass k → owns k (subject e).chunk ≡ true → IsClass (class_with_change k e)
 class_pushed k e o own = record {
   lists = ap (to_front (subject e).chunk (target e)) o.lists ∙ sym (replay_push (opening k.first (k.end - k.first)) k.history e);
-  entries = are_of_kept k (class_with_change k e) (k.history ++ e ∷ []) (λ c. refl) (are_of_push k k.history e o.entries own);
+  entries = are_between_push k.first k.end k.history e o.entries own;
 }
 
--- the entry's chunk is at the entry's place
-pub place_pushed : (k : ClassState) (e : Change) (c : ℕ) → (subject e).chunk ≡ c → place_in (class_with_change k e) c ≡ target e
-place_pushed k e c is = ap (λ (at : Standing). at.0) (standing_push c (Unused, 0) k.history e ∙ cond-true (eqb (subject e).chunk c) (target e, (subject e).generation) (standing_from c (Unused, 0) k.history) (eq-eqb _ _ is))
+-- the entry's chunk stands at the entry's place, with its generation
+pub stands_pushed : (k : ClassState) (e : Change) (c : ℕ) → (subject e).chunk ≡ c → stands_in (class_with_change k e) c ≡ (target e, (subject e).generation)
+stands_pushed k e c is = standing_push c (Unused, k.fresh) k.history e ∙ cond-true (eqb (subject e).chunk c) (target e, (subject e).generation) (stands_in k c) (eq-eqb _ _ is)
 
 -- another chunk stays where it is
-pub place_not_pushed : (k : ClassState) (e : Change) (c : ℕ) → ((subject e).chunk ≡ c → ⊥) → place_in (class_with_change k e) c ≡ place_in k c
-place_not_pushed k e c other = ap (λ (at : Standing). at.0) (standing_push c (Unused, 0) k.history e ∙ cond-false (eqb (subject e).chunk c) (target e, (subject e).generation) (standing_from c (Unused, 0) k.history) (ne_eqb _ _ other))
+pub stands_not_pushed : (k : ClassState) (e : Change) (c : ℕ) → ((subject e).chunk ≡ c → ⊥) → stands_in (class_with_change k e) c ≡ stands_in k c
+stands_not_pushed k e c other = standing_push c (Unused, k.fresh) k.history e ∙ cond-false (eqb (subject e).chunk c) (target e, (subject e).generation) (stands_in k c) (ne_eqb _ _ other)
 
 -- A chunk with another head, and an entry in the history of its class that moves it.
 module _ (s : State) (o : IsLawful s) (c : ℕ) (h : Head) (k : ℕ) (e : Change) (within : k < length s.classes) (own : owns (class s k) c ≡ true) (is : (subject e).chunk ≡ c) where
@@ -70,21 +74,29 @@ module _ (s : State) (o : IsLawful s) (c : ℕ) (h : Head) (k : ℕ) (e : Change
   pub chunk_unchanged : (d : ℕ) → d ≢ c → chunk changed d ≡ chunk s d
   chunk_unchanged d other = get_or-set_other s.chunks c d (record (chunk s c) { head = h }) no_chunk other
 
+  -- the chunk stands at the entry's place, with its generation
+  standing_changed : standing changed c ≡ (target e, (subject e).generation)
+  standing_changed = ap (λ (j : ℕ). stands_in (class changed j) c) (class_of_changed c ∙ owner s o.tiles k c within own)
+      ∙ (ap (λ x. stands_in x c) class_changed ∙ stands_pushed (class s k) e c is)
+
+  -- the other chunks stand where they stood
+  pub standing_unchanged : (d : ℕ) → d ≢ c → standing changed d ≡ standing s d
+  standing_unchanged d other = ap (λ (j : ℕ). stands_in (class changed j) d) (class_of_changed d) ∙ by (ℕ_discrete (class_of s d) k)
+    where
+      by : Dec (class_of s d ≡ k) → stands_in (class changed (class_of s d)) d ≡ stands_in (class s (class_of s d)) d
+      by (yes same) = ap (λ (j : ℕ). stands_in (class changed j) d) same
+          ∙ (ap (λ x. stands_in x d) class_changed
+          ∙ (stands_not_pushed (class s k) e d (λ q. other (sym q ∙ is))
+          ∙ ap (λ (j : ℕ). stands_in (class s j) d) (sym same)))
+      by (no differs) = ap (λ x. stands_in x d) (class_unchanged (class_of s d) differs)
+
   -- the chunk is at the entry's place
   place_changed : place changed c ≡ target e
-  place_changed = ap (λ (j : ℕ). place_in (class changed j) c) (class_of_changed c ∙ owner s o.tiles k c within own)
-      ∙ (ap (λ x. place_in x c) class_changed ∙ place_pushed (class s k) e c is)
+  place_changed = ap (λ (at : Standing). at.0) standing_changed
 
   -- the other chunks are at theirs
   pub place_unchanged : (d : ℕ) → d ≢ c → place changed d ≡ place s d
-  place_unchanged d other = ap (λ (j : ℕ). place_in (class changed j) d) (class_of_changed d) ∙ by (ℕ_discrete (class_of s d) k)
-    where
-      by : Dec (class_of s d ≡ k) → place_in (class changed (class_of s d)) d ≡ place_in (class s (class_of s d)) d
-      by (yes same) = ap (λ (j : ℕ). place_in (class changed j) d) same
-          ∙ (ap (λ x. place_in x d) class_changed
-          ∙ (place_not_pushed (class s k) e d (λ q. other (sym q ∙ is))
-          ∙ ap (λ (j : ℕ). place_in (class s j) d) (sym same)))
-      by (no differs) = ap (λ x. place_in x d) (class_unchanged (class_of s d) differs)
+  place_unchanged d other = ap (λ (at : Standing). at.0) (standing_unchanged d other)
 
   module _ (same_holds : (g : ℕ) → held_by (record (chunk s c) { head = h }) g ≡ held_by (chunk s c) g) where
     -- each life has its holds
@@ -104,14 +116,16 @@ module _ (s : State) (o : IsLawful s) (c : ℕ) (h : Head) (k : ℕ) (e : Change
 
     -- where the chunk is lawful with its new head at its new place, and no lane waits to move it, the World is lawful
     pub change_lawful : Lawful s.refs_limit h (target e) (references s c) (first_hits_of s c)
+        → (subject e).generation ≡ h.generation
         → ((w : ℕ) → w < length s.workers → (b : Bump) → (worker s w).lane ≡ lane.Cleared b true → b.life.chunk ≢ c)
         → IsLawful (with_change (with_head s c h) k e)
-    change_lawful law free = record {
+    change_lawful law generation free = record {
       limit = o.limit;
       tiles = subst (λ (n : ℕ). Tiles 0 changed.classes n) (sym (length-set s.chunks c (record (chunk s c) { head = h })))
           (tiles_kept 0 s.classes (length s.chunks) k (class_with_change (class s k) e) refl refl o.tiles);
       chunks = λ d. chunk_law d (ℕ_discrete d c);
       hands = λ l. omega (arith, o.hands l, holds_changed l);
+      generations = λ d. generation_law d (ℕ_discrete d c);
       classes = λ j in_range. class_law j (omega (arith, length-set s.classes k (class_with_change (class s k) e))) (ℕ_discrete j k);
       workers = o.workers;
       alone = λ v w l m v_in w_in v_on w_on same. o.alone v w l m v_in w_in v_on w_on (sym (class_of_changed l.chunk) ∙ (same ∙ class_of_changed m.chunk));
@@ -123,6 +137,11 @@ module _ (s : State) (o : IsLawful s) (c : ℕ) (h : Head) (k : ℕ) (e : Change
             (lawful_same s.refs_limit h (head changed c) (target e) (place changed c) (references s c) (references changed c) (first_hits_of s c) (ap (λ x. x.head) chunk_changed) place_changed (references_changed c) law)
         chunk_law d (no differs) = lawful_same s.refs_limit (head s d) (head changed d) (place s d) (place changed d) (references s d) (references changed d) (first_hits_of s d)
             (ap (λ x. x.head) (chunk_unchanged d differs)) (place_unchanged d differs) (references_changed d) (o.chunks d)
+
+        generation_law : (d : ℕ) → Dec (d ≡ c) → (standing changed d).1 ≡ (head changed d).generation
+        generation_law d (yes same) = subst (λ (d : ℕ). (standing changed d).1 ≡ (head changed d).generation) (sym same)
+            (ap (λ (at : Standing). at.1) standing_changed ∙ (generation ∙ sym (ap (λ x. x.head.generation) chunk_changed)))
+        generation_law d (no differs) = ap (λ (at : Standing). at.1) (standing_unchanged d differs) ∙ (o.generations d ∙ sym (ap (λ x. x.head.generation) (chunk_unchanged d differs)))
 
         class_law : (j : ℕ) → j < length s.classes → Dec (j ≡ k) → IsClass (class changed j)
         class_law j in_range (yes same) = subst IsClass (sym (ap (class changed) same ∙ class_changed)) (class_pushed (class s k) e (o.classes k within) (ap (owns (class s k)) is ∙ own))

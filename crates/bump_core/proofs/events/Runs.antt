@@ -35,12 +35,12 @@ run_more s es n d t new within ends enabled made = ap (run_of s) (take_more es n
 -- a step that is refused changes nothing
 pub refused_same : (t : State) (e : Event) (new : State) (r : Refused) → Steps t e new (Err r) → new ≡ t
 refused_same t e new NotEnabled refused = refused.1
-refused_same t e new OutOfMemory refused = refused
+refused_same t e new OutOfMemory refused = refused.1
 
 -- a run up to its first refusal
 pub run_refused : (old : State) (es : List Event) (n : ℕ) (t new : State) (e : Event) (r : Refused) → run_of old (take n es) ≡ Some t → slice_get es n ≡ Some e → Steps t e new (Err r) → Runs old es new (Err (n, r))
 run_refused old es n t new e NotEnabled ends at refused = (ends ∙ ap (λ x. Some x) (sym refused.1), e, at, ap (λ x. is_enabled x e) refused.1 ∙ refused.0)
-run_refused old es n t new e OutOfMemory ends at refused = (ends ∙ ap (λ x. Some x) (sym refused), e, at)
+run_refused old es n t new e OutOfMemory ends at refused = (ends ∙ ap (λ x. Some x) (sym refused.1), e, at, ap (λ x. is_enabled x e) refused.1 ∙ refused.0)
 
 -- a step that is refused behind a run: the state is still the one that the run left
 pub refused_stays : (s : State) (es : List Event) (t : State) (e : Event) (new : State) (r : Refused) → run_of s es ≡ Some t → Steps t e new (Err r) → run_of s es ≡ Some new

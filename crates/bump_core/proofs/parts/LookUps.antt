@@ -59,7 +59,7 @@ module _ (s : State) (o : IsLawful s) (w : ℕ) where
 
   -- a worker with a bump in its hand has accepted fewer than the most that it may attempt
   pub in_hand_counts : (l : ItemId) → w < length s.workers → Some l ≡ life_in_hand (worker s w).hand → (worker s w).accounts.accepted < most_attempts
-  in_hand_counts l within e = omega (arith, in_hand_under_way s o w l within (in_hand_from (worker s w).hand l (sym e)), (o.workers w within).most)
+  in_hand_counts l within e = omega (arith, in_hand_under_way s o w l within (in_hand_from (worker s w).hand l (sym e)), (o.workers w within).accounts.most)
 
 -- A lane, and the bump that it applies next.
 module _ (s : State) (o : IsLawful s) (w : ℕ) (within : w < length s.workers) where

@@ -27,10 +27,7 @@ numbered_append n (x ∷ xs) ys k e = ap (λ (bs : List Bump). bump_of n x ∷ b
 -- a lane further on with the same bump keeps its worker lawful
 pub lane_further : (capacity : ℕ) (x : WorkerState) (z : Lane) → IsWorker capacity x → aboard z ≡ aboard x.lane → IsWorker capacity (record x { lane = z })
 lane_further capacity x z was same = record {
-  prefix = was.prefix;
-  room = was.room;
+  ring = was.ring;
   applied = ap (λ bs. map bump_applied x.applied ++ bs) same ∙ was.applied;
-  accepted = was.accepted;
-  attempted = was.attempted;
-  most = was.most;
+  accounts = was.accounts;
 }

@@ -126,19 +126,20 @@ worker_lawful s w y o within bumps hits hands lawful alone waits = record {
       (λ g. omega (arith, bumps (life c g), total_written (bumps_of (life c g)) s.workers w y new_worker within))
       (λ g. omega (arith, hits (life c g), total_written (hits_in (life c g)) s.workers w y new_worker within));
   hands = λ l. omega (arith, o.hands l, hands l, total_written (λ x. is_on l x.hand) s.workers w y new_worker within);
+  generations = o.generations;
   classes = o.classes;
   workers = each_worker s w y within (IsWorker s.capacity) lawful o.workers;
   alone = alone_after s w y within o alone;
   waits = each_worker s w y within (λ x. WaitsToMove s x.lane) waits o.waits;
 }
 
--- One chunk changed, and no worker.
+-- One chunk changed, which stays in its life, and no worker.
 pub chunk_lawful : (s : State) (c : ℕ) (x : Chunk) → IsLawful s → c < length s.chunks
-    → x.head.linked ≡ (head s c).linked → x.head.segment ≡ (head s c).segment
+    → x.head.generation ≡ (head s c).generation → x.head.linked ≡ (head s c).linked → x.head.segment ≡ (head s c).segment
     → Lawful s.refs_limit x.head (place s c) (references (with_chunk s c x) c) (first_hits_of s c)
     → ((g : ℕ) → workers_on s (life c g) ≤ held_by x g)
     → IsLawful (with_chunk s c x)
-chunk_lawful s c x o within linked segments lawful hands = record {
+chunk_lawful s c x o within generations linked segments lawful hands = record {
   limit = o.limit;
   tiles = subst (Tiles 0 s.classes) (sym (length-set s.chunks c x)) o.tiles;
   chunks = chunks_framed s (slice_set s.chunks c x) s.workers o c (λ d ne. get_or-set_other s.chunks c d x no_chunk ne) (λ l ne. refl) (λ l ne. refl)
@@ -147,6 +148,7 @@ chunk_lawful s c x o within linked segments lawful hands = record {
       (λ e. subst (λ k. workers_on s (life k l.generation) ≤ held_by (chunk (with_chunk s c x) k) l.generation) (sym e)
       (subst (λ (z : Chunk). workers_on s (life c l.generation) ≤ held_by z l.generation) (sym (chunk_here s c x within)) (hands l.generation)))
       (λ ne. omega (arith, o.hands l, ap (λ z. held_by z l.generation) (get_or-set_other s.chunks c l.chunk x no_chunk ne)));
+  generations = λ d. o.generations d ∙ sym (each_chunk s c x (λ z. z.head.generation) generations d);
   classes = o.classes;
   workers = o.workers;
   alone = o.alone;
@@ -158,7 +160,7 @@ pub chunk_kept : (s : State) (c : ℕ) (x : Chunk) → IsLawful s → c < length
     → x.holds ≡ (chunk s c).holds → x.head.generation ≡ (head s c).generation → x.head.linked ≡ (head s c).linked → x.head.segment ≡ (head s c).segment
     → Lawful s.refs_limit x.head (place s c) (references s c) (first_hits_of s c)
     → IsLawful (with_chunk s c x)
-chunk_kept s c x o within holds generations linked segments lawful = chunk_lawful s c x o within linked segments
+chunk_kept s c x o within holds generations linked segments lawful = chunk_lawful s c x o within generations linked segments
     (relawful s.refs_limit x.head (place s c) (references s c) (first_hits_of s c) lawful (references (with_chunk s c x) c) (first_hits_of s c)
     (λ g. omega (arith, ap (λ z. held_by z g) (chunk_here s c x within), same g))
     (λ g. refl))
@@ -219,6 +221,7 @@ module _ (s : State) (c : ℕ) (h : Head) (w : ℕ) (y : WorkerState) (within_ch
         (λ l ne. omega (arith, hits l ne, total_written (hits_in l) s.workers w y new_worker within))
         (subst (λ (z : Chunk). Lawful s.refs_limit z.head (place s c) (references (with_worker (with_head s c h) w y) c) (first_hits_of (with_worker (with_head s c h) w y) c)) (sym (chunk_here s c (record (chunk s c) { head = h }) within_chunks)) lawful);
     hands = λ l. omega (arith, holds_kept l, hands l, total_written (λ x. is_on l x.hand) s.workers w y new_worker within);
+    generations = λ d. o.generations d ∙ sym (each_chunk s c (record (chunk s c) { head = h }) (λ z. z.head.generation) same d);
     classes = o.classes;
     workers = each_worker s w y within (IsWorker s.capacity) new o.workers;
     alone = alone_after s w y within o alone;

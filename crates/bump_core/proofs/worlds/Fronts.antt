@@ -7,7 +7,7 @@ use Rattle.bump_core.specs.declared.places.Segment.{Segment}
 use Rattle.bump_core.specs.declared.places.Place.{Place}
 use Rattle.bump_core.specs.declared.places.Place.TheVariants.{Hot, Warm, Cold, Dying, Unused, Retired}
 use Rattle.bump_core.specs.Lawful.{bit, Shows}
-use Rattle.bump_core.specs.History.{place_of}
+use Rattle.bump_core.specs.History.{place_of, is_place}
 use Rattle.bump_core.specs.Lists.{list_at, without, all_without, put_before, to_front, with_list, times, StandsAt}
 use Rattle.bump_core.specs.Events.{next_chunk}
 use Rattle.bump_core.specs.State.{State, head, class, class_of, last_of}
@@ -16,7 +16,8 @@ use Rattle.bump_core.proofs.worlds.LawfulStates.{linked_in_range, unused_shown}
 use Rattle.bump_core.proofs.chunks.Laws.{bit_some, placed_where_linked, in_segment}
 use Rattle.bump_core.proofs.classes.PlainLists.{Once, split_once, without_absent, times_at, index_of, remove_at, position_within, first_split, last_there}
 use Rattle.bump_core.proofs.classes.Replay.{in_lists}
-use Rattle.bump_core.proofs.classes.SixLists.{is_place, same_place, place_same, taken_out}
+use Rattle.bump_core.proofs.classes.SixLists.{taken_out}
+use Rattle.bump_core.proofs.classes.Standings.{same_place, place_same}
 use Rattle.bump_core.proofs.classes.Tiles.{class_within, class_owns, owner, owned_in_range}
 
 module _ (s : State) (o : IsLawful s) where

@@ -1,28 +1,27 @@
 -- What the headline says follows from that a World is lawful.
-use Rattle.std.proofs.Common.{◌≡◌, ℕ, ◌<◌, ◌&&◌, Bool, true, List, ◌++◌, length, map, refl, sym, ap, ◌∙◌, subst, arith, append_assoc}
+use Rattle.std.proofs.Common.{◌≡◌, ℕ, ◌<◌, ◌&&◌, Bool, true, List, ◌++◌, length, map, refl, sym, ap, ◌∙◌, subst, arith}
+use Rattle.std.proofs.lemmas.Bool.{and_parts}
 use Rattle.bump_core.specs.declared.places.Place.{Place}
 use Rattle.bump_core.specs.declared.places.Place.TheVariants.{Hot, Warm, Cold, Dying, Unused, Retired}
 use Rattle.bump_core.specs.declared.bumps.Bump.{Bump}
-use Rattle.bump_core.specs.Headline.{Headline, AppliesInOrder, times_in_all}
-use Rattle.bump_core.specs.Lawful.{bit, IsUsed}
+use Rattle.bump_core.specs.Headline.{Headline, AppliesInOrder, Stands, times_in_all}
+use Rattle.bump_core.specs.History.{is_place}
+use Rattle.bump_core.specs.Lawful.{bit, IsUsed, Shows}
 use Rattle.bump_core.specs.Lists.{list_at, times}
 use Rattle.bump_core.specs.Rings.{in_ring, aboard, bump_applied, numbered_from, IsWorker}
-use Rattle.bump_core.specs.State.{State, WorkerState, class, worker}
-use Rattle.bump_core.specs.Worlds.{owns, place, place_in, IsLawful}
+use Rattle.bump_core.specs.State.{State, WorkerState, class, head, worker}
+use Rattle.bump_core.specs.Worlds.{owns, place, place_in, stands_in, IsLawful}
 use Rattle.bump_core.proofs.worlds.LawfulStates.{referred_in_range, referred_used}
-use Rattle.bump_core.proofs.worlds.Fronts.{times_in, never_at}
+use Rattle.bump_core.proofs.worlds.Fronts.{times_in, listed, never_at}
 use Rattle.bump_core.proofs.workers.Ring.{numbered_append}
-use Rattle.bump_core.proofs.classes.SixLists.{is_place, other_place, one_place}
+use Rattle.bump_core.proofs.classes.Standings.{other_place, one_place}
 
 -- a lawful worker's lane applies what its ring accepted, in order
 pub applies_in_order : (capacity : ℕ) (x : WorkerState) → IsWorker capacity x → AppliesInOrder x
-applies_in_order capacity x p = (
-  aboard x.lane ++ numbered_from (length x.received) (in_ring x),
-  sym (append_assoc (map bump_applied x.applied) (aboard x.lane) (numbered_from (length x.received) (in_ring x)))
-      ∙ (ap (λ (bs : List Bump). bs ++ numbered_from (length x.received) (in_ring x)) p.applied
-      ∙ (sym (numbered_append 0 x.received (in_ring x) (length x.received) (omega arith))
-      ∙ ap (numbered_from 0) (sym p.prefix))),
-)
+applies_in_order capacity x p =
+    ap (λ (bs : List Bump). bs ++ numbered_from (length x.received) (in_ring x)) p.applied
+    ∙ (sym (numbered_append 0 x.received (in_ring x) (length x.received) (omega arith))
+    ∙ ap (numbered_from 0) (sym p.ring.prefix))
 
 -- a chunk of a class stands once in its six lists
 pub once_in_all : (s : State) → IsLawful s → (k c : ℕ) → k < length s.classes → owns (class s k) c ≡ true → times_in_all c (class s k).lists ≡ 1
@@ -31,15 +30,24 @@ once_in_all s o k c within own = omega (arith, at Hot, at Warm, at Cold, at Dyin
     at : (q : Place) → times c (list_at (class s k).lists q) ≡ bit (is_place (place_in (class s k) c) q)
     at q = times_in s o k c q within ∙ ap (λ (b : Bool). bit (b && is_place (place_in (class s k) c) q)) own
 
+-- how a chunk stands to a list of a class
+pub stands_to : (s : State) → IsLawful s → (k c : ℕ) (q : Place) → k < length s.classes → Stands s k c q
+stands_to s o k c q within = record {
+  listed = times_in s o k c q within;
+  shown = λ some. subst (Shows (head s c)) (listed s o k c q within some).2 (o.chunks c).shown;
+  generation = λ some. sym (o.generations c) ∙ ap (λ (j : ℕ). (stands_in (class s j) c).1) (listed s o k c q within some).0;
+}
+
 -- a lawful World is as the headline says
 pub headline : (s : State) → IsLawful s → Headline s
 headline s o = record {
   in_order = λ w within. applies_in_order s.capacity (worker s w) (o.workers w within);
-  accepted = λ w within. (o.workers w within).accepted;
-  add_up = λ w within. (o.workers w within).attempted;
+  rings = λ w within. (o.workers w within).ring;
+  accounts = λ w within. (o.workers w within).accounts;
   none_free = λ c g some.
       let within = referred_in_range s o c g some in
       let used = referred_used s o c g some in
       (never_at s o c (place s c) Unused within refl (other_place (place s c) Unused (λ e. subst IsUsed e used)), never_at s o c (place s c) Retired within refl (other_place (place s c) Retired (λ e. subst IsUsed e used)));
+  stands = stands_to s o;
   once = once_in_all s o;
 }

@@ -305,7 +305,7 @@ module _ (s : State) (o : IsLawful s) where
   -- while an attempt is under way the attempted are one more than the accepted and the dropped
   pub counts_under_way : (w : ℕ) → w < length s.workers → attempts_of (worker s w).hand ≡ 1
       → (worker s w).accounts.accepted + (worker s w).accounts.full + (worker s w).accounts.busy + (worker s w).accounts.refs + 1 ≡ (worker s w).accounts.attempted
-  counts_under_way w within one = omega (arith, (o.workers w within).attempted)
+  counts_under_way w within one = omega (arith, (o.workers w within).accounts.attempted)
 
   -- so it is while the worker tries to take a reference
   pub tried_under_way : (w : ℕ) (l : ItemId) → w < length s.workers → (worker s w).hand ≡ hand.Trying l
@@ -319,8 +319,8 @@ module _ (s : State) (o : IsLawful s) where
 
   -- a lane received no more than was sent
   pub received_within : (w : ℕ) → w < length s.workers → length (worker s w).received ≤ length (worker s w).sent
-  received_within w within = omega (arith, ap length (o.workers w within).prefix, length-append (worker s w).received (in_ring (worker s w)))
+  received_within w within = omega (arith, ap length (o.workers w within).ring.prefix, length-append (worker s w).received (in_ring (worker s w)))
 
   -- no more were sent than attempted
   pub sent_within : (w : ℕ) → w < length s.workers → length (worker s w).sent ≤ (worker s w).accounts.attempted
-  sent_within w within = omega (arith, (o.workers w within).accepted, (o.workers w within).attempted)
+  sent_within w within = omega (arith, (o.workers w within).accounts.accepted, (o.workers w within).accounts.attempted)

@@ -18,7 +18,7 @@ use Rattle.bump_core.specs.History.{place_of, Standing, standing_from}
 use Rattle.bump_core.specs.State.{State, ClassState, class, worker, no_class, with_change, class_with_change, head, class_of, tried_life, life_in_hand, cleared_life}
 use Rattle.bump_core.specs.Lives.{life}
 use Rattle.bump_core.specs.Worlds.{place, references, IsLawful, NoneUnlinked, NothingUnlinked}
-use Rattle.bump_core.specs.Events.{after, reserve, drop_refs, drop_busy, push, drop_full, unmark, with_label, with_time, link, take_bump, clear_for, move_for, alight, next_chunk, next_life, next_bump, carried, applied_now, tried, cleared_active, lane_outcome}
+use Rattle.bump_core.specs.Events.{after, reserve, drop_refs, drop_busy, push, drop_full, unmark, with_label, with_time, link, take_bump, clear_for, move_for, alight, next_chunk, next_life, next_bump, carried, applied_now, tried, cleared_active, ending}
 use Rattle.bump_core.proofs.chunks.Laws.{dying_where_unlinked}
 use Rattle.bump_core.proofs.worlds.LawfulStates.{referred_in_range, referred_used}
 use Rattle.bump_core.proofs.classes.Tiles.{class_within}
@@ -72,7 +72,7 @@ nothing_unlinked s (event.Try w) n = by_value NothingUnlinked _ (carried (worker
 nothing_unlinked s (event.BumpTime w t) n = by_value NothingUnlinked _ (applied_now (worker s w).lane) s (λ b is. n) n
 nothing_unlinked s (event.ClearFor w) n = by_value NothingUnlinked (clear_for s w) (tried (worker s w).lane) s (λ b is. n) n
 nothing_unlinked s (event.MoveFor w) n = by_value NothingUnlinked (move_for s w) (cleared_active (worker s w).lane) s (λ b is. kept_change s (class_of s b.life.chunk) (change.Moved b.life segment.Cold segment.Warm (BumpOf w b.number)) tt n) n
-nothing_unlinked s (event.Alight w) n = by_value NothingUnlinked _ (applied_now (worker s w).lane) s (λ b is. by_value NothingUnlinked (alight s w b) (lane_outcome s w) s (λ o is. n) n) n
+nothing_unlinked s (event.Alight w) n = by_value NothingUnlinked (alight s w) (ending s w) s (λ a is. n) n
 
 -- Where nothing was unlinked, a chunk with a reference is linked.
 
@@ -110,4 +110,4 @@ linked_shown h p shows used on = true_from_ne_false h.linked (λ off. subst NotE
 -- a chunk with a reference is linked
 pub referred_linked : (s : State) → IsLawful s → NothingUnlinked s → (c g : ℕ) → 0 < references s c g → (head s c).linked ≡ true
 referred_linked s o none c g some = linked_shown (head s c) (place s c) (o.chunks c).shown (referred_used s o c g some)
-    (stands_on c (Unused, 0) (class s (class_of s c)).history tt (none (class_of s c) (class_within s o.tiles c (referred_in_range s o c g some))))
+    (stands_on c (Unused, (class s (class_of s c)).fresh) (class s (class_of s c)).history tt (none (class_of s c) (class_within s o.tiles c (referred_in_range s o c g some))))

@@ -1,9 +1,9 @@
 -- A new World is lawful.
-use Rattle.std.proofs.Common.{◌≡◌, ℕ, zero, suc, ◌+◌, ◌-◌, ◌<◌, ◌≤◌, Bool, true, false, not, cond, ◌||◌, List, [], ◌∷◌, ◌++◌, length, get_or, Option, Some, refl, sym, ap, ◌∙◌, subst, arith, add-one, append_assoc, eq-eqb, ne_eqb}
+use Rattle.std.proofs.Common.{◌≡◌, ℕ, zero, suc, ◌+◌, ◌-◌, ◌<◌, ◌≤◌, Bool, true, false, not, cond, ◌||◌, List, [], ◌∷◌, ◌++◌, length, get_or, Option, Some, refl, sym, ap, ◌∙◌, subst, arith, add-one, append_assoc, eq-eqb, ne_eqb, ◌⊎◌, inl, inr}
 use Rattle.std.specs.Prelude.{◌==◌, replicate, is_none, nat_le, nat_lt}
 use Rattle.std.specs.List.{list_any}
-use Rattle.std.proofs.lemmas.Bool.{and_parts, or_parts, leb-true, not-false}
-use Rattle.std.proofs.lemmas.List.{length-replicate}
+use Rattle.std.proofs.lemmas.Bool.{and_parts, or_parts, leb-true, not-false, cases_lt}
+use Rattle.std.proofs.lemmas.List.{length-replicate, get_or_past}
 use native.Mathlib.Decide.{ℕ_discrete}
 use Rattle.bump_core.specs.declared.configs.ClassConfig.{ClassConfig}
 use Rattle.bump_core.specs.declared.configs.ConfigFault.TheVariants.{Workers, Capacity, RefsLimit, Generation, Classes, Chunks}
@@ -11,15 +11,18 @@ use Rattle.bump_core.specs.declared.configs.Config.{Config}
 use Rattle.bump_core.specs.declared.chunks.Chunk.{Chunk}
 use Rattle.bump_core.specs.declared.places.Place.TheVariants.{Unused}
 use Rattle.bump_core.specs.Totals.{total}
-use Rattle.bump_core.specs.Configs.{chunks_of, first_fault, is_within}
+use Rattle.bump_core.specs.Configs.{chunks_of, first_fault, HaveChunks}
+use Rattle.bump_core.proofs.configs.Bounds.{bounds}
 use Rattle.bump_core.specs.Lists.{ascending, opening}
-use Rattle.bump_core.specs.Lawful.{Lawful, fresh_head}
+use Rattle.bump_core.specs.Heads.{fresh_head}
+use Rattle.bump_core.specs.Lawful.{Lawful}
 use Rattle.bump_core.specs.History.{standing_from}
 use Rattle.bump_core.specs.Lives.{life, count_of}
 use Rattle.bump_core.specs.Rings.{IsWorker}
-use Rattle.bump_core.specs.State.{State, WorkerState, head, no_chunk, no_class, new_worker, class_of, applied_life, is_on}
+use Rattle.bump_core.specs.State.{State, ClassState, WorkerState, head, class, no_chunk, no_class, new_worker, class_of, applied_life, is_on}
 use Rattle.bump_core.specs.Opening.{fresh_chunk, classes_from, new_state}
-use Rattle.bump_core.specs.Worlds.{IsLawful, NoneUnlinked, IsClass, Tiles, references, first_hits_of, holds_of, bumps_of, place, WaitsToMove}
+use Rattle.bump_core.specs.Worlds.{IsLawful, NoneUnlinked, IsClass, Tiles, references, first_hits_of, holds_of, bumps_of, standing, place, WaitsToMove}
+use Rattle.bump_core.proofs.classes.Tiles.{class_within, class_out}
 use Rattle.bump_core.proofs.worlds.StaysLawful.{Keeps}
 
 -- the chunks from one on are it and those from the next one on
@@ -33,37 +36,33 @@ ascending_more c end below = ap (ascending c) apart ∙ ap (λ (k : ℕ). c ∷ 
 pub ascending_pushed : (xs ys all : List ℕ) (c end : ℕ) → c < end → ys ≡ xs ++ c ∷ [] → xs ++ ascending c (end - c) ≡ all → ys ++ ascending (c + 1) (end - (c + 1)) ≡ all
 ascending_pushed xs ys all c end below pushed so_far = ap (λ (zs : List ℕ). zs ++ ascending (c + 1) (end - (c + 1))) pushed ∙ append_assoc xs (c ∷ []) (ascending (c + 1) (end - (c + 1))) ∙ ap (λ (zs : List ℕ). xs ++ zs) (sym (ascending_more c end below)) ∙ so_far
 
--- What a configuration without faults has.
-
--- a test for a fault that found none failed, and the tests behind it found none
-clear : {A : Type 0} (b : Bool) (x : A) (o : Option A) → is_none (cond b (Some x) o) ≡ true → (b ≡ false) × (is_none o ≡ true)
-clear true x o e = absurd (let u : ⊥ = cc in u)
-clear false x o e = (refl, e)
-
--- no class is without chunks
-abbrev AllHaveChunks : List ClassConfig → Type 0
-AllHaveChunks [] = Unit {0}
-AllHaveChunks (k ∷ ks) = (0 < k.chunks) × AllHaveChunks ks
-
--- where no class tests as without chunks none is
-all_have_chunks : (ks : List ClassConfig) → list_any (λ k. k.chunks == 0) ks ≡ false → AllHaveChunks ks
-all_have_chunks [] e = tt
-all_have_chunks (k ∷ ks) e = by (ℕ_discrete k.chunks 0) (λ rest. all_have_chunks ks rest)
-  where
-    by : Dec (k.chunks ≡ 0) → (list_any (λ k. k.chunks == 0) ks ≡ false → AllHaveChunks ks) → (0 < k.chunks) × AllHaveChunks ks
-    by (yes none) rest = absurd (let u : ⊥ = cc (sym (ap (λ b. b || list_any (λ k. k.chunks == 0) ks) (eq-eqb k.chunks 0 none)) ∙ e) in u)
-    by (no some) rest = (omega arith, rest (sym (ap (λ b. b || list_any (λ k. k.chunks == 0) ks) (ne_eqb k.chunks 0 some)) ∙ e))
-
 -- the classes of a new World stand one behind the other
-tiles_new : (from : ℕ) (ks : List ClassConfig) → AllHaveChunks ks → Tiles from (classes_from from ks) (from + chunks_of ks)
-tiles_new from [] all = omega arith
-tiles_new from (k ∷ ks) all = (refl, omega (arith, all.0), subst (λ (n : ℕ). Tiles (from + k.chunks) (classes_from (from + k.chunks) ks) n) (omega arith) (tiles_new (from + k.chunks) ks all.1))
+tiles_new : (fresh from : ℕ) (ks : List ClassConfig) → HaveChunks ks → Tiles from (classes_from fresh from ks) (from + chunks_of ks)
+tiles_new fresh from [] all = omega arith
+tiles_new fresh from (k ∷ ks) all = (refl, omega (arith, all.0), subst (λ (n : ℕ). Tiles (from + k.chunks) (classes_from fresh (from + k.chunks) ks) n) (omega arith) (tiles_new fresh (from + k.chunks) ks all.1))
 
 -- each class of a new World has no history, and its lists are those at the start
-class_new : (from : ℕ) (ks : List ClassConfig) (k : ℕ) → IsClass (get_or (classes_from from ks) k no_class) × ((get_or (classes_from from ks) k no_class).history ≡ [])
-class_new from [] k = (record { lists = refl; entries = tt }, refl)
-class_new from (c ∷ cs) zero = (record { lists = ap (opening from) (omega arith); entries = tt }, refl)
-class_new from (c ∷ cs) (suc k) = class_new (from + c.chunks) cs k
+class_new : (fresh from : ℕ) (ks : List ClassConfig) (k : ℕ) → IsClass (get_or (classes_from fresh from ks) k no_class) × ((get_or (classes_from fresh from ks) k no_class).history ≡ [])
+class_new fresh from [] k = (record { lists = refl; entries = tt }, refl)
+class_new fresh from (c ∷ cs) zero = (record { lists = ap (opening from) (omega arith); entries = tt }, refl)
+class_new fresh from (c ∷ cs) (suc k) = class_new fresh (from + c.chunks) cs k
+
+-- there are as many classes as are configured
+classes_long : (g from : ℕ) (ks : List ClassConfig) → length (classes_from g from ks) ≡ length ks
+classes_long g from [] = refl
+classes_long g from (c ∷ cs) = omega (arith, classes_long g (from + c.chunks) cs)
+
+-- each class of a new World has fresh chunks of this generation
+class_fresh : (g from : ℕ) (ks : List ClassConfig) (k : ℕ) → k < length (classes_from g from ks) → (get_or (classes_from g from ks) k no_class).fresh ≡ g
+class_fresh g from [] k within = absurd (omega arith)
+class_fresh g from (c ∷ cs) zero within = refl
+class_fresh g from (c ∷ cs) (suc k) within = class_fresh g (from + c.chunks) cs k (omega arith)
+
+-- a chunk of a new World that there is has this generation
+chunk_fresh : (n g c : ℕ) → c < n → (get_or (replicate n (fresh_chunk g)) c no_chunk).head.generation ≡ g
+chunk_fresh zero g c within = absurd (omega arith)
+chunk_fresh (suc n) g zero within = refl
+chunk_fresh (suc n) g (suc c) within = chunk_fresh n g c (omega arith)
 
 -- a worker of a new World is new
 worker_new : (n w : ℕ) → get_or (replicate n new_worker) w new_worker ≡ new_worker
@@ -102,9 +101,10 @@ fresh_lawful limit h r x few no_r no_x = record {
 
 -- no worker of a new World has done anything
 new_is_worker : (capacity : ℕ) → IsWorker capacity new_worker
-new_is_worker capacity = record { prefix = refl; room = omega arith; applied = refl; accepted = refl; attempted = omega arith; most = omega arith }
+new_is_worker capacity = record { ring = record { prefix = refl; room = omega arith }; applied = refl; accounts = record { accepted = refl; attempted = omega arith; most = omega arith } }
 
-module _ (config : Config) (early : config.first_generation < 4294967296) (two : 2 ≤ config.refs_limit) (all : AllHaveChunks config.classes) where
+module _ (config : Config) (early : config.first_generation < 4294967296) (two : 2 ≤ config.refs_limit) (all : HaveChunks config.classes)
+    (few_classes : length config.classes ≤ 16) (few_chunks : chunks_of config.classes ≤ 1000000) (few_workers : config.workers ≤ 64) where
   -- the new World
   abbrev s : State
   s = new_state config
@@ -119,17 +119,36 @@ module _ (config : Config) (early : config.first_generation < 4294967296) (two :
   law : (c : ℕ) → Lawful s.refs_limit (head s c) (place s c) (references s c) (first_hits_of s c)
   law c = let fresh = chunk_new (chunks_of config.classes) (config.first_generation - 1) c (omega (arith, early)) in
       subst (λ h. Lawful s.refs_limit h (place s c) (references s c) (first_hits_of s c)) (sym (ap (λ (x : Chunk). x.head) fresh.2))
-      (subst (λ p. Lawful s.refs_limit (fresh_head fresh.0) p (references s c) (first_hits_of s c)) (sym (ap (λ es. (standing_from c (Unused, 0) es).0) (class_new 0 config.classes (class_of s c)).1))
+      (subst (λ p. Lawful s.refs_limit (fresh_head fresh.0) p (references s c) (first_hits_of s c)) (sym (ap (λ es. (standing_from c (Unused, (class s (class_of s c)).fresh) es).0) (class_new (config.first_generation - 1) 0 config.classes (class_of s c)).1))
       (fresh_lawful s.refs_limit fresh.0 (references s c) (first_hits_of s c) fresh.1 (references_new c) (λ g. none_of (λ x. count_of (life c g) x.first_hits) config.workers refl)))
+
+  -- the classes have the chunks, one after another
+  tiles : Tiles 0 s.classes (length s.chunks)
+  tiles = subst (λ (n : ℕ). Tiles 0 s.classes n) (omega (arith, length-replicate (chunks_of config.classes) (fresh_chunk (config.first_generation - 1)))) (tiles_new (config.first_generation - 1) 0 config.classes all)
+
+  -- where no entry speaks of a chunk it stands as its class began
+  began : (c : ℕ) → (standing s c).1 ≡ (class s (class_of s c)).fresh
+  began c = ap (λ es. (standing_from c (Unused, (class s (class_of s c)).fresh) es).1) (class_new (config.first_generation - 1) 0 config.classes (class_of s c)).1
+
+  -- each chunk stands in its generation
+  generation : (c : ℕ) → (standing s c).1 ≡ (head s c).generation
+  generation c = began c ∙ by (cases_lt c (length s.chunks))
+    where
+      by : (c < length s.chunks) ⊎ (length s.chunks ≤ c) → (class s (class_of s c)).fresh ≡ (head s c).generation
+      by (inl within) = class_fresh (config.first_generation - 1) 0 config.classes (class_of s c) (class_within s tiles c within)
+          ∙ sym (chunk_fresh (chunks_of config.classes) (config.first_generation - 1) c (omega (arith, length-replicate (chunks_of config.classes) (fresh_chunk (config.first_generation - 1)))))
+      by (inr past) = ap (λ (k : ClassState). k.fresh) (get_or_past s.classes (class_of s c) no_class (omega (arith, class_out s tiles c past)))
+          ∙ sym (ap (λ (x : Chunk). x.head.generation) (get_or_past s.chunks c no_chunk past))
 
   -- and so is the World
   lawful : IsLawful s
   lawful = record {
     limit = omega (arith, two);
-    tiles = subst (λ (n : ℕ). Tiles 0 (classes_from 0 config.classes) n) (omega (arith, length-replicate (chunks_of config.classes) (fresh_chunk (config.first_generation - 1)))) (tiles_new 0 config.classes all);
+    tiles = tiles;
     chunks = law;
     hands = λ l. omega (arith, none_of (λ w. is_on l w.hand) config.workers refl);
-    classes = λ k within. (class_new 0 config.classes k).0;
+    generations = generation;
+    classes = λ k within. (class_new (config.first_generation - 1) 0 config.classes k).0;
     workers = λ w within. subst (IsWorker s.capacity) (sym (worker_new config.workers w)) (new_is_worker s.capacity);
     alone = λ v w l m v_in w_in of_v of_w same. absurd (let u : ⊥ = cc (ap (λ x. applied_life x.lane) (worker_new config.workers v)) in u);
     waits = λ w within. subst (λ x. WaitsToMove s x.lane) (sym (worker_new config.workers w)) tt;
@@ -137,17 +156,14 @@ module _ (config : Config) (early : config.first_generation < 4294967296) (two :
 
   -- a new World keeps what a World keeps
   pub keeps_new : Keeps s
-  keeps_new = (lawful, λ k within. subst NoneUnlinked (sym (class_new 0 config.classes k).1) tt)
+  keeps_new = (lawful, (λ k within. subst NoneUnlinked (sym (class_new (config.first_generation - 1) 0 config.classes k).1) tt), record {
+    classes = omega (arith, few_classes, classes_long (config.first_generation - 1) 0 config.classes);
+    chunks = omega (arith, few_chunks, length-replicate (chunks_of config.classes) (fresh_chunk (config.first_generation - 1)));
+    workers = omega (arith, few_workers, length-replicate config.workers new_worker);
+  })
 
 -- a World made from a configuration without faults does
 pub keeps_valid : (config : Config) → config.first_generation < 4294967296 → is_none (first_fault config.workers config.capacity config.refs_limit config.first_generation config.classes) ≡ true → Keeps (new_state config)
 keeps_valid config early valid =
-    let workers = clear (not (is_within 1 64 config.workers)) Workers _ valid in
-    let capacity = clear (not (is_within 1 65536 config.capacity)) Capacity _ workers.1 in
-    let limit = clear (not (is_within 2 65535 config.refs_limit)) RefsLimit _ capacity.1 in
-    let generation = clear (config.first_generation == 0) Generation _ limit.1 in
-    let classes = clear (not (is_within 1 16 (length config.classes))) Classes _ generation.1 in
-    let chunks = clear _ Chunks _ classes.1 in
-    keeps_new config early
-    (leb-true 2 config.refs_limit (and_parts (nat_le 2 config.refs_limit) (nat_le config.refs_limit 65535) (not-false _ limit.0)).0)
-    (all_have_chunks config.classes (or_parts (list_any (λ k. k.chunks == 0) config.classes) (nat_lt 1000000 (chunks_of config.classes)) chunks.0).0)
+    let b = bounds config.workers config.capacity config.refs_limit config.first_generation config.classes valid in
+    keeps_new config early b.limit_least b.chunks_each b.classes_most b.chunks_most b.workers_most

@@ -12,7 +12,7 @@ use Rattle.bump_core.specs.declared.events.Reply.{Reply}
 use Rattle.bump_core.specs.declared.events.Refused.{Refused}
 use Rattle.bump_core.specs.Lives.{life}
 use Rattle.bump_core.specs.State.{State, WorkerState, SameSizes, class, head, worker, with_chunk, with_worker, with_change, class_with_change, tried_life, life_in_hand, cleared_life}
-use Rattle.bump_core.specs.Events.{after, reserve, drop_refs, drop_busy, push, drop_full, unmark, with_label, with_time, link, take_bump, clear_for, move_for, alight, next_chunk, next_life, next_bump, carried, applied_now, tried, cleared_active, lane_outcome}
+use Rattle.bump_core.specs.Events.{after, reserve, drop_refs, drop_busy, push, drop_full, unmark, with_label, with_time, link, take_bump, clear_for, move_for, alight, next_chunk, next_life, next_bump, carried, applied_now, tried, cleared_active, ending}
 use Rattle.bump_core.specs.Runs.{Steps, run_of}
 use Rattle.bump_core.proofs.events.Enabled.{by_test, by_value}
 use Rattle.bump_core.proofs.events.Runs.{by_step, by_run, refused_stays}
@@ -61,7 +61,7 @@ after_sizes s (event.Try w) = by_value (SameSizes s) _ (carried (worker s w).lan
 after_sizes s (event.BumpTime w t) = by_value (SameSizes s) _ (applied_now (worker s w).lane) s (λ b is. chunk_sizes s _ _) (refl, refl, refl)
 after_sizes s (event.ClearFor w) = by_value (SameSizes s) (clear_for s w) (tried (worker s w).lane) s (λ b is. both_sizes s _ w _ _) (refl, refl, refl)
 after_sizes s (event.MoveFor w) = by_value (SameSizes s) (move_for s w) (cleared_active (worker s w).lane) s (λ b is. all_sizes s _ _ w _ (change.Moved b.life segment.Cold segment.Warm (BumpOf w b.number)) _) (refl, refl, refl)
-after_sizes s (event.Alight w) = by_value (SameSizes s) _ (applied_now (worker s w).lane) s (λ b is. by_value (SameSizes s) (alight s w b) (lane_outcome s w) s (λ o is. both_sizes s _ w _ _) (refl, refl, refl)) (refl, refl, refl)
+after_sizes s (event.Alight w) = by_value (SameSizes s) (alight s w) (ending s w) s (λ a is. both_sizes s _ w _ _) (refl, refl, refl)
 
 -- so does a run
 pub run_sizes : (s : State) (es : List Event) (t : State) → run_of s es ≡ Some t → SameSizes s t

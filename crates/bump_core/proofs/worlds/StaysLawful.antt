@@ -1,13 +1,14 @@
 -- Each event that is enabled leaves a lawful state lawful, and so does a run; what a World keeps, a step and a run keep.
-use Rattle.std.proofs.Common.{◌≡◌, true, List, Some, Result}
+use Rattle.std.proofs.Common.{◌≡◌, ◌≤◌, true, List, length, Some, Result, arith}
 use Rattle.bump_core.specs.declared.events.Event.{Event}
 use Rattle.bump_core.specs.declared.events.Event.TheVariants as event
 use Rattle.bump_core.specs.declared.events.Reply.{Reply}
 use Rattle.bump_core.specs.declared.events.Refused.{Refused}
 use Rattle.bump_core.specs.Runs.{Steps, run_of}
-use Rattle.bump_core.specs.State.{State}
+use Rattle.bump_core.specs.State.{State, SameSizes}
 use Rattle.bump_core.specs.Events.{is_enabled, after}
-use Rattle.bump_core.specs.Worlds.{IsLawful, NothingUnlinked}
+use Rattle.bump_core.specs.Worlds.{IsLawful, NothingUnlinked, IsSized}
+use Rattle.bump_core.proofs.worlds.Sizes.{after_sizes}
 use Rattle.bump_core.proofs.events.Runs.{by_step, by_run}
 use Rattle.bump_core.proofs.worlds.NothingUnlinked.{nothing_unlinked}
 use Rattle.bump_core.proofs.events.LawfulHolds.{after_load, after_take, after_release}
@@ -51,13 +52,17 @@ lawful_after s o (event.Alight w) = after_alight s w o
 pub run_lawful : (s : State) (es : List Event) (t : State) → IsLawful s → run_of s es ≡ Some t → IsLawful t
 run_lawful s es t o ends = by_run IsLawful lawful_after s es t o ends
 
--- what a World keeps: it is lawful, and nothing was unlinked
+-- what a World keeps: it is lawful, nothing was unlinked, and there are no more classes, chunks and workers than may be
 abbrev pub Keeps : State → Type 0
-Keeps s = IsLawful s × NothingUnlinked s
+Keeps s = IsLawful s × NothingUnlinked s × IsSized s
 
--- each event that is enabled keeps both
+-- as many classes, chunks and workers as before are no more than may be
+sized_after : (s t : State) → SameSizes s t → IsSized s → IsSized t
+sized_after s t same sized = record { classes = omega (arith, same.1, sized.classes); chunks = omega (arith, same.0, sized.chunks); workers = omega (arith, same.2, sized.workers) }
+
+-- each event that is enabled keeps all
 pub keeps_after : (s : State) → Keeps s → (e : Event) → is_enabled s e ≡ true → Keeps (after s e)
-keeps_after s k e enabled = (lawful_after s k.0 e enabled, nothing_unlinked s e k.1)
+keeps_after s k e enabled = (lawful_after s k.0 e enabled, nothing_unlinked s e k.1, sized_after s (after s e) (after_sizes s e) k.2)
 
 -- so does a step
 pub step_keeps : (old : State) (e : Event) (new : State) (r : Result Reply Refused) → Keeps old → Steps old e new r → Keeps new

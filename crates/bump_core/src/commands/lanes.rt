@@ -1,9 +1,10 @@
 //! The command of a lane: the next bump is applied at once, by the update table.
-ghost use Rattle.std.specs.Prelude.{◌≡◌, ◌==◌, ◌-◌, ◌<◌, if◌then◌else◌, [], ◌∷◌, ◌++◌, IfSome, IfOk, OnOk, OnErr, Some, true, false, length};
+ghost use Rattle.std.specs.Prelude.{◌≡◌, ◌<◌, [], ◌∷◌, ◌++◌, IfSome, IfOk, OnOk, OnErr, Some, true, false, length};
 ghost use Rattle.bump_core.specs.History.{place_of};
 ghost use Rattle.bump_core.specs.Lists.{StandsAt};
 ghost use Rattle.bump_core.specs.State.{class, class_of, head, worker, with_worker};
-ghost use Rattle.bump_core.specs.Tables.{outcome_of};
+ghost use Rattle.bump_core.specs.Heads.{one_fewer};
+ghost use Rattle.bump_core.specs.Tables.{outcome_of, ended_of};
 ghost use Rattle.bump_core.specs.Events.{applied_bump, next_bump};
 ghost use Rattle.bump_core.specs.Commands.{Commands, bump_next, is_half_made, bumped_chunk, bumped_worker, bumped_lists, apply_bump, entry_of, ended_at, outcome_next};
 ghost use Rattle.bump_core.specs.Views.{state_of, HasRoom};
@@ -50,9 +51,9 @@ impl Head {
 }
 
 impl Head {
-    /// Whether a chunk has other holders when one reference is given back.
+    /// What the end of an unlinked life comes to when one reference is given back.
     fn ended(self) -> Ended
-        ensures { result ≡ (if self.refs - 1 == 0 then Freed else Deferred) }
+        ensures { result ≡ ended_of (one_fewer self) }
     {
         if self.refs.saturating_sub(1) == 0 {
             return Ended::Freed;

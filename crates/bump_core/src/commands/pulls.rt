@@ -1,6 +1,6 @@
 //! The command of a pull: its change at once, by the tail table.
 ghost use Rattle.std.specs.Prelude.{◌≡◌, ◌<◌, IfSome, OnOk, OnErr, Some, true, length};
-ghost use Rattle.bump_core.specs.Commands.{Commands, tail_of, is_over, pull_to};
+ghost use Rattle.bump_core.specs.Commands.{Commands, tail_of, is_list_over, pull_to};
 ghost use Rattle.bump_core.specs.History.{place_of};
 ghost use Rattle.bump_core.specs.Lists.{StandsAt};
 ghost use Rattle.bump_core.specs.State.{head, class, class_of, last_of};
@@ -78,9 +78,9 @@ impl Parts {
     }
 
     /// Whether that list has more items than its limit.
-    fn is_over(&self, k: u32, tail: Tail) -> bool
+    fn is_list_over(&self, k: u32, tail: Tail) -> bool
         requires { k < length (state_of self.now).classes }
-        ensures { result ≡ is_over (state_of self.now) k tail }
+        ensures { result ≡ is_list_over (state_of self.now) k tail }
     {
         let class = &self.classes[k as usize];
         match tail {
@@ -153,7 +153,7 @@ impl Parts {
             chunk: last,
             generation: head.generation,
         };
-        let pulled = tail.pulled(head.active, self.is_over(k, tail), id);
+        let pulled = tail.pulled(head.active, self.is_list_over(k, tail), id);
         if let Some(to) = pulled.to() {
             self.pull_to(k, tail, last, to)?;
         }

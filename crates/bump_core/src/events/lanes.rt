@@ -181,10 +181,10 @@ impl Parts {
             return Err(Refused::NotEnabled);
         };
         let head = self.head(bump.life.chunk);
-        let Some(outcome) = self.lane(worker).outcome(head) else {
+        let Some(applied) = self.lane(worker).ending(head) else {
             return Err(Refused::NotEnabled);
         };
-        self.push_applied(worker, bump, outcome)?;
+        self.push_applied(worker, applied)?;
         self.set_head(
             bump.life.chunk,
             Head {
@@ -192,6 +192,6 @@ impl Parts {
                 ..head
             },
         );
-        Ok(Reply::Outcome(outcome))
+        Ok(Reply::Outcome(applied.outcome))
     }
 }

@@ -3,12 +3,12 @@ ghost use Rattle.std.specs.Prelude.{◌≡◌, ◌<◌, ◌+◌, ◌≤◌, ◌^
 ghost use Rattle.bump_core.specs.Lists.{StandsAt};
 ghost use Rattle.bump_core.specs.History.{subject, target};
 ghost use Rattle.bump_core.specs.State.{chunk, class, worker, with_chunk, with_head, with_worker, with_change};
-ghost use Rattle.bump_core.specs.Events.{with_lane, next_bump, take_bump, push, applied_bump};
+ghost use Rattle.bump_core.specs.Events.{with_lane, next_bump, take_bump, push};
 ghost use Rattle.bump_core.specs.Views.{state_of};
 ghost use Rattle.bump_core.specs.declared.hands.Hand.TheVariants as hand;
 ghost use Rattle.bump_core.specs.declared.lanes.Lane.TheVariants as lane;
 
-use crate::bumps::{Accounts, AppliedBump, Bump, Outcome};
+use crate::bumps::{Accounts, AppliedBump, Bump};
 use crate::chunks::Chunk;
 use crate::hands::Hand;
 use crate::history::Change;
@@ -93,20 +93,16 @@ impl Parts {
     }
 
     /// A lane is done with its bump.
-    pub fn push_applied(&mut self, w: u32, bump: Bump, outcome: Outcome) -> Result<(), AllocError>
+    pub fn push_applied(&mut self, w: u32, applied: AppliedBump) -> Result<(), AllocError>
         requires { w < length (state_of self.old).workers }
         ensures ok { OnOk result (state_of self.new ≡ with_worker (state_of self.old) w (record (worker (state_of self.old) w) {
           lane = lane.Empty;
-          applied = (worker (state_of self.old) w).applied ++ applied_bump bump outcome ∷ [];
+          applied = (worker (state_of self.old) w).applied ++ applied ∷ [];
         })) }
         ensures err { OnErr result (state_of self.new ≡ state_of self.old) }
     {
         let worker = &mut self.workers[w as usize];
-        worker.applied.push(AppliedBump {
-            number: bump.number,
-            life: bump.life,
-            outcome,
-        })?;
+        worker.applied.push(applied)?;
         worker.lane = Lane::Empty;
         Ok(())
     }

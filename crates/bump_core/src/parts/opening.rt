@@ -31,15 +31,21 @@ fn ascending(alloc: Global, first: u32, end: u32) -> Result<VecDeque<u32>, Alloc
     Ok(chunks)
 }
 
-/// A class whose chunks, from `first` on, are all UNUSED.
-fn new_class(alloc: Global, first: u32, config: ClassConfig) -> Result<Class, AllocError>
+/// A class whose chunks, from `first` on, are all UNUSED, and fresh with this generation.
+fn new_class(
+    alloc: Global,
+    fresh: u32,
+    first: u32,
+    config: ClassConfig,
+) -> Result<Class, AllocError>
     requires { first + config.chunks < 2 ^ 32 }
-    ensures { IfOk result (λ k. class_view k ≡ new_class first config) }
+    ensures { IfOk result (λ k. class_view k ≡ new_class fresh first config) }
 {
     let end = first + config.chunks;
     Ok(Class {
         first,
         end,
+        fresh,
         hot_limit: config.hot,
         warm_limit: config.warm,
         lists: ClassLists {
@@ -55,14 +61,18 @@ fn new_class(alloc: Global, first: u32, config: ClassConfig) -> Result<Class, Al
 }
 
 /// All classes: the first has the first chunks, the next the next.
-fn new_classes(alloc: Global, configs: &[ClassConfig]) -> Result<Vec<Class>, AllocError>
+fn new_classes(
+    alloc: Global,
+    fresh: u32,
+    configs: &[ClassConfig],
+) -> Result<Vec<Class>, AllocError>
     requires { chunks_of configs.now ≤ MAX_CHUNKS }
-    ensures { IfOk result (λ ks. map class_view ks.items ≡ classes_from 0 configs.now) }
+    ensures { IfOk result (λ ks. map class_view ks.items ≡ classes_from fresh 0 configs.now) }
 {
     let mut classes = Vec::new(alloc);
     let mut first = 0;
     for config in configs {
-        let class = new_class(alloc, first, *config)?;
+        let class = new_class(alloc, fresh, first, *config)?;
         first = class.end;
         classes.push(class)?;
     }
@@ -142,12 +152,13 @@ impl Parts {
         ensures generation { config.now.first_generation < 2 ^ 32 }
     {
         let classes = config.classes.as_slice();
-        let chunk = Chunk::fresh(config.first_generation - 1);
+        let fresh = config.first_generation - 1;
+        let chunk = Chunk::fresh(fresh);
         Ok(Parts {
             refs_limit: config.refs_limit,
             capacity: config.capacity,
             chunks: vec![in alloc; chunk; count_chunks(classes) as usize]?,
-            classes: new_classes(alloc, classes)?,
+            classes: new_classes(alloc, fresh, classes)?,
             workers: new_workers(alloc, config.workers)?,
         })
     }

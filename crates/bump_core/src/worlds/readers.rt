@@ -1,6 +1,8 @@
 //! What the World tells of itself.
 ghost use Rattle.std.specs.Prelude.{◌≡◌, ◌<◌, All, length};
 ghost use Rattle.bump_core.specs.State.{head};
+ghost use Rattle.bump_core.specs.Headline.{Headline};
+ghost use Rattle.bump_core.specs.Worlds.{IsLawful};
 ghost use Rattle.bump_core.specs.Readers.{list_of, time_of, label_of, holds_at, accounts_of, sent_of, received_of, applied_of};
 
 use crate::bumps::{Accounts, AppliedBump};
@@ -10,6 +12,35 @@ use crate::worlds::World;
 use std::collections::VecDeque;
 
 impl World {
+    /// How many classes there are: 1 to 16. They are numbered from 0.
+    pub fn classes(&self) -> u32
+        ensures { result ≡ length self.now.classes }
+    {
+        self.parts.classes.len() as u32
+    }
+
+    /// How many chunks all classes have together: 1 to 1,000,000. They are numbered from 0.
+    pub fn chunks(&self) -> u32
+        ensures { result ≡ length self.now.chunks }
+    {
+        self.parts.chunks.len() as u32
+    }
+
+    /// How many workers there are: 1 to 64. They are numbered from 0.
+    pub fn workers(&self) -> u32
+        ensures { result ≡ length self.now.workers }
+    {
+        self.parts.workers.len() as u32
+    }
+
+    /// The promise, for whoever holds a World: it is lawful at every moment. Does nothing.
+    pub fn promise(&self)
+        ensures lawful { IsLawful self.now }
+        ensures headline { Headline self.now }
+    {
+        let _ = &self.parts;
+    }
+
     /// The chunks of a class's list, front first. The class is one of the configuration's.
     pub fn list(&self, class: u32, place: Place) -> &VecDeque<u32>
         requires { class < length self.now.classes }

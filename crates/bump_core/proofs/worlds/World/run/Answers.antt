@@ -1,8 +1,12 @@
-use Rattle.std.proofs.Common.{take, subst}
+use Rattle.std.proofs.Common.{List, take, subst, arith}
+use Rattle.std.proofs.lemmas.List.{take_all}
+use Rattle.bump_core.specs.declared.events.Event.{Event}
+use Rattle.bump_core.specs.Labels.{KeepsLabels}
 use Rattle.std.proofs.lemmas.Option.{slice_get-get_or}
 use Rattle.bump_core.specs.Worlds.{IsLawful}
 use Rattle.bump_core.proofs.worlds.Headline.{headline}
-use Rattle.bump_core.proofs.worlds.LabelsAndClosedRings.{labels_stay, closed_stay}
+use Rattle.bump_core.proofs.worlds.Labels.{keeps_labels}
+use Rattle.bump_core.proofs.worlds.ClosedRings.{closed_stay}
 use Rattle.bump_core.proofs.worlds.StaysLawful.{run_lawful}
 use Rattle.bump_core.proofs.events.Runs.{run_refused, run_more, refused_stays}
 use Rattle.bump_core.proofs.worlds.Sizes.{run_sizes, refused_sizes}
@@ -21,7 +25,7 @@ pub returns-clause-sizes : goal.returns-clause-sizes
 returns-clause-sizes c = run_sizes c.args.self.now _ c.loop-place.self c.loop-place.invariant
 
 pub returns-in-Err-clause-labels : goal.returns-in-Err-clause-labels
-returns-in-Err-clause-labels c = labels_stay c.args.self.now (take c.loop-place.place c.args.events.now) c.step.new.self (subst IsLawful c.self.view_is c.self.invariant.0)
+returns-in-Err-clause-labels c = keeps_labels (take c.loop-place.place c.args.events.now) c.args.self.now c.step.new.self (subst IsLawful c.self.view_is c.self.invariant.0)
     (refused_stays c.args.self.now (take c.loop-place.place c.args.events.now) c.loop-place.self _ c.step.new.self c.in-Err.refused c.loop-place.invariant c.in-Err.ensures.step)
 
 pub returns-in-Err-clause-closed : goal.returns-in-Err-clause-closed
@@ -35,7 +39,8 @@ pub returns-clause-headline : goal.returns-clause-headline
 returns-clause-headline c = headline c.loop-place.self (run_lawful c.args.self.now (take c.loop-place.place c.args.events.now) c.loop-place.self (subst IsLawful c.self.view_is c.self.invariant.0) c.loop-place.invariant)
 
 pub returns-clause-labels : goal.returns-clause-labels
-returns-clause-labels c = labels_stay c.args.self.now (take c.loop-place.place c.args.events.now) c.loop-place.self (subst IsLawful c.self.view_is c.self.invariant.0) c.loop-place.invariant
+returns-clause-labels c = subst (λ (es : List Event). KeepsLabels c.args.self.now es c.loop-place.self) (take_all c.loop-place.place c.args.events.now (omega arith))
+    (keeps_labels (take c.loop-place.place c.args.events.now) c.args.self.now c.loop-place.self (subst IsLawful c.self.view_is c.self.invariant.0) c.loop-place.invariant)
 
 pub returns-clause-closed : goal.returns-clause-closed
 returns-clause-closed c = closed_stay c.args.self.now (take c.loop-place.place c.args.events.now) c.loop-place.self c.loop-place.invariant

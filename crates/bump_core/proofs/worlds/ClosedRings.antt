@@ -1,0 +1,90 @@
+-- A ring that was closed stays closed, and accepts nothing.
+use Rattle.std.proofs.Common.{◌≡◌, ℕ, ◌+◌, ◌<◌, ◌≤◌, ◌&&◌, not, true, false, List, length, Some, refl, sym, ap, ◌∙◌, subst, arith, nat_lt}
+use Rattle.std.proofs.lemmas.Bool.{and_parts, both_ways}
+use Rattle.std.proofs.lemmas.List.{get_or-set_other}
+use native.Mathlib.Decide.{ℕ_discrete}
+use Rattle.bump_core.specs.declared.chunks.Chunk.{Chunk}
+use Rattle.bump_core.specs.declared.events.Event.{Event}
+use Rattle.bump_core.specs.declared.events.Event.TheVariants as event
+use Rattle.bump_core.specs.declared.history.Cause.TheVariants.{Pull, Bump as BumpOf}
+use Rattle.bump_core.specs.declared.history.Change.{Change}
+use Rattle.bump_core.specs.declared.history.Change.TheVariants as change
+use Rattle.bump_core.specs.declared.items.Head.{Head}
+use Rattle.bump_core.specs.declared.bumps.Bump.{Bump}
+use Rattle.bump_core.specs.declared.places.Place.TheVariants.{Unused}
+use Rattle.bump_core.specs.declared.places.Segment.{Segment}
+use Rattle.bump_core.specs.declared.places.Segment.TheVariants as segment
+use Rattle.bump_core.specs.Heads.{moved_head, one_more, one_fewer, fetched_head, active_head, cleared_head}
+use Rattle.bump_core.specs.Events.{is_enabled, after, next_chunk, next_life, next_bump, carried, tried, applied_now, cleared_active, ending, waiting, reserve, drop_refs, drop_busy, push, drop_full, unmark, with_label, with_time, link, take_bump, clear_for, move_for, alight}
+use Rattle.bump_core.specs.Headline.{ClosedStay}
+use Rattle.bump_core.specs.History.{subject}
+use Rattle.bump_core.specs.Lives.{life}
+use Rattle.bump_core.specs.Runs.{run_of}
+use Rattle.bump_core.specs.State.{State, WorkerState, chunk, head, class, worker, no_chunk, new_worker, with_chunk, with_head, with_worker, with_change, class_of, is_worker, is_open, some_and, tried_life, life_in_hand, cleared_life}
+use Rattle.bump_core.specs.Tables.{is_cold}
+use Rattle.bump_core.specs.Worlds.{IsLawful, owns, place}
+use Rattle.bump_core.proofs.events.Enabled.{next_from, move_from, move_for_from, by_test, by_value, cleared_from}
+use Rattle.bump_core.proofs.events.Runs.{by_run}
+use Rattle.bump_core.proofs.Updates.{same_read}
+use Rattle.bump_core.proofs.worlds.Fronts.{next_front}
+use Rattle.bump_core.proofs.worlds.LawfulStates.{linked_in_range, waiting_linked}
+use Rattle.bump_core.proofs.chunks.Laws.{used_where_linked}
+use Rattle.bump_core.proofs.events.Moves.{chunk_changed, chunk_unchanged, place_unchanged}
+use Rattle.bump_core.proofs.worlds.StaysLawful.{lawful_after}
+use Rattle.bump_core.proofs.classes.Tiles.{class_within, class_owns}
+
+-- Rings.
+
+-- no ring changed
+closed_here : (s : State) → ClosedStay s s
+closed_here s w closed = (closed, refl)
+
+-- from a state to a later one, and from there to one later still
+closed_on : (s t u : State) → ClosedStay s t → ClosedStay t u → ClosedStay s u
+closed_on s t u first second w closed = let a = first w closed in let b = second w a.0 in (b.0, b.1 ∙ a.1)
+
+-- one worker changed, and not its ring
+closed_worked : (s : State) (w : ℕ) (y : WorkerState) → y.is_open ≡ (worker s w).is_open → y.sent ≡ (worker s w).sent → ClosedStay s (with_worker s w y)
+closed_worked s w y opens sents v closed =
+    (same_read (λ (x : WorkerState). x.is_open) s.workers w y new_worker opens v ∙ closed, same_read (λ (x : WorkerState). x.sent) s.workers w y new_worker sents v)
+
+-- one worker changed, whose ring was open
+closed_else : (s : State) (w : ℕ) (y : WorkerState) → (worker s w).is_open ≡ true → ClosedStay s (with_worker s w y)
+closed_else s w y opened v closed = by (ℕ_discrete v w)
+  where
+    by : Dec (v ≡ w) → ((worker (with_worker s w y) v).is_open ≡ false) × ((worker (with_worker s w y) v).sent ≡ (worker s v).sent)
+    by (yes is) = absurd (both_ways (worker s w).is_open (sym (ap (λ (u : ℕ). (worker s u).is_open) is) ∙ closed) opened)
+    by (no other) = let there = get_or-set_other s.workers w v y new_worker other in (ap (λ (x : WorkerState). x.is_open) there ∙ closed, ap (λ (x : WorkerState). x.sent) there)
+
+-- no event that is enabled opens a closed ring, or sends a bump by it
+closed_after : (s : State) (e : Event) → is_enabled s e ≡ true → ClosedStay s (after s e)
+closed_after s (event.Load c) enabled = closed_here s
+closed_after s (event.Take w l) enabled = closed_here s
+closed_after s (event.Fetch w l) enabled = by_test (ClosedStay s) (head s l.chunk).fetched _ _ (λ on. closed_here s) (λ off. closed_worked s w _ refl refl)
+closed_after s (event.Mark w l) enabled = by_test (ClosedStay s) (not (head s l.chunk).active && is_cold (head s l.chunk).segment) _ _ (λ on. closed_worked s w _ refl refl) (λ off. closed_here s)
+closed_after s (event.Reserve w) enabled = by_value (ClosedStay s) (reserve s w) (tried_life (worker s w).hand) s (λ l is. closed_worked s w _ refl refl) (closed_here s)
+closed_after s (event.DropRefs w) enabled = by_value (ClosedStay s) (drop_refs s w) (tried_life (worker s w).hand) s (λ l is. closed_worked s w _ refl refl) (closed_here s)
+closed_after s (event.DropBusy w) enabled = by_value (ClosedStay s) (drop_busy s w) (tried_life (worker s w).hand) s (λ l is. closed_worked s w _ refl refl) (closed_here s)
+closed_after s (event.Push w) enabled = by_value (ClosedStay s) (push s w) (life_in_hand (worker s w).hand) s
+    (λ l is. closed_else s w _ (and_parts (is_worker s w) (worker s w).is_open (and_parts (is_open s w) (some_and (λ l. nat_lt (waiting (worker s w)) s.capacity) (life_in_hand (worker s w).hand)) enabled).0).1) (closed_here s)
+closed_after s (event.DropFull w) enabled = by_value (ClosedStay s) (drop_full s w) (life_in_hand (worker s w).hand) s (λ l is. closed_worked s w _ refl refl) (closed_here s)
+closed_after s (event.Unmark w) enabled = by_value (ClosedStay s) (unmark s w) (cleared_life (worker s w).hand) s (λ l is. closed_worked s w _ refl refl) (closed_here s)
+closed_after s (event.StoreTime l t) enabled = closed_here s
+closed_after s (event.Release l) enabled = closed_here s
+closed_after s (event.PutLabel k x) enabled = by_value (ClosedStay s) (λ c. with_label s c x) (next_chunk s k) s (λ c is. closed_here s) (closed_here s)
+closed_after s (event.PutTime k t) enabled = by_value (ClosedStay s) (λ c. with_time s c t) (next_chunk s k) s (λ c is. closed_here s) (closed_here s)
+closed_after s (event.Link k) enabled = by_value (ClosedStay s) (link s k) (next_chunk s k) s (λ c is. closed_here s) (closed_here s)
+closed_after s (event.ClearActive c) enabled = closed_here s
+closed_after s (event.Move c to) enabled = closed_here s
+closed_after s (event.TakeBump w) enabled = by_value (ClosedStay s) (take_bump s w) (next_bump (worker s w)) s (λ l is. closed_worked s w _ refl refl) (closed_here s)
+closed_after s (event.Try w) enabled = by_value (ClosedStay s) _ (carried (worker s w).lane) s (λ b is. closed_worked s w _ refl refl) (closed_here s)
+closed_after s (event.BumpTime w t) enabled = by_value (ClosedStay s) _ (applied_now (worker s w).lane) s (λ b is. closed_here s) (closed_here s)
+closed_after s (event.ClearFor w) enabled = by_value (ClosedStay s) (clear_for s w) (tried (worker s w).lane) s (λ b is. closed_worked s w _ refl refl) (closed_here s)
+closed_after s (event.MoveFor w) enabled = by_value (ClosedStay s) (move_for s w) (cleared_active (worker s w).lane) s (λ b is. closed_worked s w _ refl refl) (closed_here s)
+closed_after s (event.Alight w) enabled = by_value (ClosedStay s) (alight s w) (ending s w) s (λ a is. closed_worked s w _ refl refl) (closed_here s)
+
+-- Runs.
+
+-- a run opens no closed ring, and sends no bump by one
+pub closed_stay : (s : State) (es : List Event) (t : State) → run_of s es ≡ Some t → ClosedStay s t
+closed_stay s es t ends = by_run (ClosedStay s) (λ u stay e enabled. closed_on s u (after u e) stay (closed_after u e enabled)) s es t (closed_here s) ends

@@ -1,0 +1,50 @@
+-- The label of a life: the last one that was stored for its chunk before the life began.
+use Rattle.std.specs.Prelude.{◌≡◌, ℕ, ◌==◌, List, [], ◌∷◌, ◌++◌, Option, None, Some, if◌then◌else◌}
+use Rattle.std.specs.Option.{option_map_or}
+use Rattle.bump_core.specs.declared.items.ItemId.{ItemId}
+use Rattle.bump_core.specs.declared.events.Event.{Event}
+use Rattle.bump_core.specs.declared.events.Event.TheVariants as event
+use Rattle.bump_core.specs.Events.{after, next_chunk, next_life}
+use Rattle.bump_core.specs.Lawful.{IsUsed}
+use Rattle.bump_core.specs.Lives.{life, is_same}
+use Rattle.bump_core.specs.State.{State, chunk, head}
+use Rattle.bump_core.specs.Worlds.{place}
+
+-- What is done about labels: one is stored for a chunk, or a life begins.
+pub data LabelStep : Type 0 where
+  Stored : ℕ → ℕ → LabelStep
+  Begun : ItemId → LabelStep
+
+-- the life's label, if it began with these steps; before them its chunk's label word was x
+abbrev pub label_of_life : ItemId → ℕ → List LabelStep → Option ℕ
+label_of_life l x [] = None
+label_of_life l x (Stored c y ∷ steps) = label_of_life l (if c == l.chunk then y else x) steps
+label_of_life l x (Begun m ∷ steps) = if is_same l m then Some x else label_of_life l x steps
+
+-- what an event does about labels
+abbrev pub label_steps_of : State → Event → List LabelStep
+label_steps_of s (event.PutLabel k x) = option_map_or (λ c. Stored c x ∷ []) (next_chunk s k) []
+label_steps_of s (event.Link k) = option_map_or (λ c. Begun (next_life s c) ∷ []) (next_chunk s k) []
+label_steps_of s _ = []
+
+-- what the events of a run do about labels, in order
+abbrev pub label_steps : State → List Event → List LabelStep
+label_steps s [] = []
+label_steps s (e ∷ es) = label_steps_of s e ++ label_steps (after s e) es
+
+-- the chunk was in use in its life of this generation, with this label
+pub record WasLabelled (s : State) (c g x : ℕ) : Type 0 where
+  pub generation : (head s c).generation ≡ g
+  pub used : IsUsed (place s c)
+  pub label : (chunk s c).label ≡ x
+
+-- the life that now stands at a chunk began with these steps, with this label; or it had it before
+abbrev pub IsLabel : State → ℕ → ℕ → ℕ → Option ℕ → Type 0
+IsLabel s c g x (Some y) = x ≡ y
+IsLabel s c g x None = WasLabelled s c g x
+
+-- Each chunk in use has its life's label in its label word.
+abbrev pub KeepsLabels : State → List Event → State → Type 0
+KeepsLabels old es new =
+    (c : ℕ) → IsUsed (place new c)
+    → IsLabel old c (head new c).generation (chunk new c).label (label_of_life (life c (head new c).generation) (chunk old c).label (label_steps old es))

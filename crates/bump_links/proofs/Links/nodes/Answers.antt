@@ -1,0 +1,9 @@
+-- The links spell the lists, so each node stands in one of them once.
+use Rattle.std.proofs.Common.{subst}
+use Rattle.bump_links.specs.Lists.{HoldsEachOnce}
+use Rattle.bump_links.proofs.MoveLemmas.{holds_each_once}
+use Rattle.bump_links.proofs.Links.nodes.Goals as goal
+
+pub returns-clause-each_once : goal.returns-clause-each_once
+returns-clause-each_once c =
+    subst HoldsEachOnce c.self.view_is (holds_each_once c.self.inside.nodes.items c.self.inside.headers.items c.self.invariant)
