@@ -7,10 +7,10 @@ use Rattle.bump_core.specs.declared.commands.Command.TheVariants as command
 use Rattle.bump_core.specs.Commands.{answer_of, command_after}
 use Rattle.bump_core.specs.Lists.{ascending}
 use Rattle.bump_core.specs.State.{State}
-use Rattle.bump_trace.specs.Commands.{Drained, drained_none, drained_one, drained_both, drained_by, drained_of, drained_through, drain_by, drain_said}
-use Rattle.bump_trace.specs.Stages.{BenchState, Open, say}
+use Rattle.bump_trace.specs.OpenStore.{Drained, drained_none, drained_one, drained_both, drained_by, drained_of, drained_through, drain_by, drain_said}
+use Rattle.bump_trace.specs.Stages.{StoreState, Open, say}
 use Rattle.bump_trace.specs.Text.{drain_line}
-use Rattle.bump_trace.proofs.Ascending.{ascending_more, ascending_done}
+use Rattle.bump_trace.proofs.AscendingLoops.{ascending_more, ascending_done}
 
 abbrev pub so_far : State → List ℕ → ℕ → Drained
 so_far s text n = record { state = s; text = text; count = n }
@@ -89,10 +89,10 @@ worker_step now w end k n m s t text out all below room p q r h =
     rw (p, q, r) (worker_more now w end n s text (drained_of now w k s) all below (ap (λ i. drained_of now w i s) (sym room)) h)
 
 -- the whole line
-pub drain_meant : (b c : BenchState) (now count n : ℕ) (text out : List ℕ) → length b.state.workers ≡ count
+pub drain_meant : (b c : StoreState) (now count n : ℕ) (text out : List ℕ) → length b.state.workers ≡ count
     → IsAll c.state text n (drained_through now (ascending 0 count) b.state) → c ≡ record b { state = c.state } → out ≡ text ++ drain_line n
     → drain_said b now ≡ Ok (say (Open c) out)
 unfolding drain_said
 drain_meant b c now count n text out len all same put =
     ap (λ w. Ok (drain_by b (drained_through now (ascending 0 w) b.state))) len
-    ∙ ap₂ (λ x t. Ok (say (Open x) t)) (sym (same ∙ ap (λ s. let x : BenchState = record b { state = s } in x) all.same_state)) (sym (put ∙ ap₂ (λ t m. t ++ drain_line m) all.same_text all.same_count))
+    ∙ ap₂ (λ x t. Ok (say (Open x) t)) (sym (same ∙ ap (λ s. let x : StoreState = record b { state = s } in x) all.same_state)) (sym (put ∙ ap₂ (λ t m. t ++ drain_line m) all.same_text all.same_count))

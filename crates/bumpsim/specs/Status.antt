@@ -2,8 +2,8 @@
 use Rattle.std.specs.Prelude.{◌≡◌, ℕ, codes, Option, Some, None}
 use Rattle.std.specs.Borrow.{Bor}
 use Rattle.std.specs.Prelude.{List}
-use Rattle.bump_trace.specs.declared.model.SimFault.{SimFault}
-use Rattle.bump_trace.specs.declared.model.SimFault.TheVariants as faults
+use Rattle.bump_trace.specs.declared.runs.SimFault.{SimFault}
+use Rattle.bump_trace.specs.declared.runs.SimFault.TheVariants as faults
 
 -- 2 where the trace has a fault, 1 for all others
 abbrev pub status_of : SimFault → ℕ
