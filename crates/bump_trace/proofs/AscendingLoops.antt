@@ -3,6 +3,7 @@ use Rattle.std.proofs.Common.{◌≡◌, ℕ, suc, ◌+◌, ◌-◌, ◌<◌, �
 use Rattle.std.specs.List.{flat_map}
 use Rattle.bump_core.specs.Lists.{ascending}
 
+-- one more number is the first, and then the others
 ascending_suc : (c n m : ℕ) → m ≡ suc n → ascending c m ≡ c ∷ ascending (c + 1) n
 ascending_suc c n m e = ap (ascending c) e ∙ ap (λ k. c ∷ ascending k n) (sym (add-one c))
 
@@ -10,6 +11,7 @@ ascending_suc c n m e = ap (ascending c) e ∙ ap (λ k. c ∷ ascending k n) (s
 pub ascending_more : (c end : ℕ) → c < end → ascending c (end - c) ≡ c ∷ ascending (c + 1) (end - (c + 1))
 ascending_more c end below = ascending_suc c (end - (c + 1)) (end - c) (omega arith)
 
+-- past the end there is no number
 pub ascending_done : (c end : ℕ) → end ≤ c → ascending c (end - c) ≡ []
 ascending_done c end past = let none : end - c ≡ 0 = omega arith in ap (ascending c) none
 

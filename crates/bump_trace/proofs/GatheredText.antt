@@ -19,6 +19,7 @@ gathered_more held mid holds sent old new text p q =
     let (more, wrote, same) = q in
     (sent ++ more, appends_more held mid holds sent more p wrote, append_assoc sent more new ∙ ap (λ l. sent ++ l) same ∙ sym (append_assoc sent old text))
 
+-- two texts before a verdict are one
 prepend_both : (a b : List ℕ) (v : Verdict) → prepend a (prepend b v) ≡ prepend (a ++ b) v
 prepend_both a b v = ap (λ t. let w : Verdict = record { text = t; is_fault = v.is_fault } in w) (sym (append_assoc a b v.text))
 

@@ -8,6 +8,7 @@ use Rattle.bump_trace.specs.Stages.{opened, declared}
 use Rattle.bump_trace.specs.OpenStore.{set_said, get_said, pull_said, drain_said, show_said, instruction_said}
 use Rattle.bump_trace.specs.Meaning.{verdict_of, step, effect, fault_at_end}
 
+-- the definitions from a trace's bytes to its text
 unfoldable pub on_traces : ⊤
 unfolding verdict_of step effect fault_at_end opened declared instruction_said set_said get_said pull_said drain_said show_said list_line worker_line field line_of line_of_words digits
 on_traces = tt

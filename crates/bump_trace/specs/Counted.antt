@@ -16,6 +16,7 @@ calls_of c = c.calls
 abbrev pub failed_of : {T : Type 0} → Counted T → ℕ
 failed_of c = c.failed
 
+-- the call is to be made again
 abbrev pub is_interrupted : ErrorKind → Bool
 is_interrupted Interrupted = true
 is_interrupted _ = false

@@ -59,5 +59,6 @@ fault_of_kind U64 = fault.Number
 fault_of_kind Name = fault.Name
 fault_of_kind Segment = fault.Segment
 
+-- a word as a field of a kind, or the fault that it is none
 unfoldable pub field : (kind : Kind) → List ℕ → Result (Value kind) Fault
 field kind word = or_fault (fault_of_kind kind) (value_of kind word)

@@ -33,6 +33,7 @@ pub record Row : Type 0 where
   pub kinds : List Kind
   pub line : LineFrom kinds
 
+-- a row of the table
 abbrev pub row : List ℕ → (kinds : List Kind) → LineFrom kinds → Row
 row word kinds line = record { word = word; kinds = kinds; line = line }
 
@@ -40,7 +41,7 @@ row word kinds line = record { word = word; kinds = kinds; line = line }
 abbrev pub table : List Row
 table =
     row (codes "store") (U32 ∷ U32 ∷ U32 ∷ U32 ∷ []) (λ workers capacity refs generation.
-        Declares (Store (record { workers = workers; capacity = capacity; refs_limit = refs; first_generation = generation })))
+    Declares (Store (record { workers = workers; capacity = capacity; refs_limit = refs; first_generation = generation })))
     ∷ row (codes "class") (U32 ∷ U32 ∷ U32 ∷ []) (λ chunks hot warm. Declares (Class (record { chunks = chunks; hot = hot; warm = warm })))
     ∷ row (codes "set") (Name ∷ U32 ∷ U64 ∷ []) (λ name class label. Makes (Set name class label))
     ∷ row (codes "get") (U32 ∷ Name ∷ []) (λ worker name. Makes (Get worker name))
@@ -62,6 +63,7 @@ with_fields [] line [] = line
 with_fields (kind ∷ kinds) line (word ∷ words) = with_fields kinds (with_field line (field kind word)) words
 with_fields kinds line words = Err fault.Count
 
+-- COMMAND where there is no row, else the fields by it
 abbrev pub by_row : Option Row → List (List ℕ) → Result Line Fault
 by_row None fields = Err fault.Command
 by_row (Some row) fields = with_fields row.kinds (Ok row.line) fields

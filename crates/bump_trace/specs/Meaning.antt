@@ -14,6 +14,7 @@ unfoldable pub effect : Stage → ℕ → Line → Result Said Fault
 effect stage now (Declares d) = declared stage d
 effect stage now (Makes i) = opened stage >>= (λ store. instruction_said store now i)
 
+-- more than 255 bytes
 abbrev pub is_long : List ℕ → Bool
 is_long line = nat_lt 255 (length line)
 
@@ -26,6 +27,7 @@ is_skipped (b ∷ bs) = b == 35
 unfoldable pub step : Stage → ℕ → List ℕ → Result Said Fault
 step stage n line = if is_long line then Err fault.Long else (if is_skipped line then Ok (say stage []) else (line_of_words (split_at_spaces line) >>= effect stage n))
 
+-- the fault, if it is one
 abbrev pub fault_in : {A : Type 0} → Result A Fault → Option Fault
 fault_in (Ok x) = None
 fault_in (Err e) = Some e
@@ -39,12 +41,15 @@ pub record Verdict : Type 0 where
   pub text : List ℕ
   pub is_fault : Bool
 
+-- text before a verdict
 abbrev pub prepend : List ℕ → Verdict → Verdict
 prepend text v = record { text = text ++ v.text; is_fault = v.is_fault }
 
+-- the end by a fault of line n
 abbrev pub failed : ℕ → Fault → Verdict
 failed n e = record { text = fault_line n e; is_fault = true }
 
+-- the end of the input at line n
 abbrev pub ended : ℕ → Option Fault → Verdict
 ended n None = record { text = []; is_fault = false }
 ended n (Some e) = failed n e
@@ -64,5 +69,6 @@ run n (line ∷ next ∷ others) stage = go_on n (run (n + 1) (next ∷ others))
 abbrev pub parts_of : List ℕ → List (List ℕ)
 parts_of bytes = slice_split (λ b. b == 10) bytes
 
+-- The verdict on an input: its lines from number 1 on, with nothing said before.
 unfoldable pub verdict_of : List ℕ → Verdict
 verdict_of input = run 1 (parts_of input) Before

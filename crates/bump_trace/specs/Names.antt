@@ -7,6 +7,7 @@ use Rattle.bump_core.specs.declared.items.ItemId.{ItemId}
 abbrev pub Names : Type 0
 Names = List ℕ → Option ItemId
 
+-- no name is bound
 abbrev pub no_names : Names
 no_names name = None
 

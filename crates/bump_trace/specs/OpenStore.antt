@@ -26,9 +26,11 @@ abbrev pub names_after : Answer → List ℕ → Names → Names
 names_after (answer.Linked id) name names = bind name id names
 names_after _ name names = names
 
+-- the text of the answer, and the name bound
 abbrev pub set_by : StoreState → List ℕ → Answer → Said
 set_by b name a = say (Open (record b { names = names_after a name b.names })) (set_line name a)
 
+-- where there is such a class
 unfoldable pub set_said : StoreState → ℕ → List ℕ → ℕ → ℕ → Result Said Fault
 set_said b now name k label =
     let c = command.Link k label now in
@@ -42,14 +44,17 @@ get_held b now w name id =
     say (Open (with_command (with_command b hit) (command.Release id)))
     (get_held_line w name (answer_of b.state (command.Label id)) (answer_of b.state hit))
 
+-- a hold is used, and any other answer told
 abbrev pub get_by : StoreState → ℕ → ℕ → List ℕ → ItemId → Answer → Said
 get_by b now w name id answer.Held = get_held b now w name id
 get_by b now w name id other = say (Open b) (get_line w name other)
 
+-- of the item that the name is bound to
 abbrev pub get_bound : StoreState → ℕ → ℕ → List ℕ → Option ItemId → Result Said Fault
 get_bound b now w name None = Err fault.Unbound
 get_bound b now w name (Some id) = let c = command.Take w id in Ok (get_by (with_command b c) now w name id (answer_of b.state c))
 
+-- where there is such a worker
 unfoldable pub get_said : StoreState → ℕ → ℕ → List ℕ → Result Said Fault
 get_said b now w name = if is_worker b.state w then get_bound b now w name (b.names name) else Err fault.Worker
 
@@ -65,6 +70,7 @@ pub record Drained : Type 0 where
   pub text : List ℕ
   pub count : ℕ
 
+-- no bump
 abbrev pub drained_none : State → Drained
 drained_none s = record { state = s; text = []; count = 0 }
 
@@ -72,6 +78,7 @@ drained_none s = record { state = s; text = []; count = 0 }
 abbrev pub drained_both : Drained → Drained → Drained
 drained_both a b = record { state = b.state; text = a.text ++ b.text; count = a.count + b.count }
 
+-- one bump
 abbrev pub drained_one : State → ℕ → Entry → Drained
 drained_one s w e = record { state = s; text = bump_line w e; count = 1 }
 
@@ -90,9 +97,11 @@ abbrev pub drained_through : ℕ → List ℕ → State → Drained
 drained_through now [] s = drained_none s
 drained_through now (w ∷ ws) s = let d = drained_of now w s.capacity s in drained_both d (drained_through now ws d.state)
 
+-- the text of all bumps, and how many they were
 abbrev pub drain_by : StoreState → Drained → Said
 drain_by b d = say (Open (record b { state = d.state })) (d.text ++ drain_line d.count)
 
+-- all workers
 unfoldable pub drain_said : StoreState → ℕ → Result Said Fault
 drain_said b now = Ok (drain_by b (drained_through now (ascending 0 (length b.state.workers)) b.state))
 

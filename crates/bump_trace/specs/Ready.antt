@@ -13,6 +13,7 @@ pub record IsResting (x : WorkerState) : Type 0 where
   pub idle : x.hand ≡ hand.Idle
   pub empty : x.lane ≡ lane.Empty
 
+-- all workers rest
 abbrev pub IsAtRest : State → Type 0
 IsAtRest s = All IsResting s.workers
 

@@ -30,6 +30,7 @@ pub record Said : Type 0 where
   pub stage : Stage
   pub text : List ℕ
 
+-- a stage with a text
 abbrev pub say : Stage → List ℕ → Said
 say stage text = record { stage = stage; text = text }
 
@@ -60,6 +61,7 @@ new_store shape classes = record {
   names = no_names;
 }
 
+-- a store, unless there is a fault
 abbrev pub unless_fault : Option Fault → StoreState → Result StoreState Fault
 unless_fault None store = Ok store
 unless_fault (Some e) store = Err e

@@ -46,6 +46,7 @@ chunk_text place.Dying c h time = item_text c h time
 chunk_text place.Unused c h time = decimal c
 chunk_text place.Retired c h time = decimal c
 
+-- the word of a list
 abbrev pub place_word : Place → List ℕ
 place_word place.Hot = codes "hot"
 place_word place.Warm = codes "warm"
@@ -70,6 +71,7 @@ list_entry s p c = codes " " ++ chunk_text p c (head s c) (chunk s c).time
 unfoldable pub list_line : State → ℕ → Place → List ℕ
 list_line s k p = let cs = list_at (class s k).lists p in list_start k p (length cs) ++ flat_map (list_entry s p) cs ++ codes "\n"
 
+-- the lines of a class
 abbrev pub class_lines : State → ℕ → List ℕ
 class_lines s k = flat_map (list_line s k) all_places
 
@@ -83,6 +85,7 @@ accounts_text a applied =
 abbrev pub accounts_line : ℕ → Accounts → ℕ → List ℕ
 accounts_line w a applied = codes "worker " ++ decimal w ++ codes " " ++ accounts_text a applied ++ codes "\n"
 
+-- the line of a worker
 unfoldable pub worker_line : State → ℕ → List ℕ
 worker_line s w = accounts_line w (worker s w).accounts (length (worker s w).applied)
 

@@ -21,6 +21,7 @@ use Rattle.bump_trace.specs.declared.open_store.OpenStore.{OpenStore}
 use Rattle.bump_trace.specs.declared.stages.Stage.{Stage}
 use Rattle.bump_trace.specs.declared.stages.Stage.TheVariants as stage
 
+-- a command with its names as bytes
 abbrev pub seen_instruction : Instruction → lines.Instruction
 seen_instruction (instruction.Set name class label) = lines.Set name.now class label
 seen_instruction (instruction.Get worker name) = lines.Get worker name.now
@@ -28,6 +29,7 @@ seen_instruction (instruction.Pull class tail) = lines.Pull class tail
 seen_instruction instruction.Drain = lines.Drain
 seen_instruction instruction.Show = lines.Show
 
+-- a line with its names as bytes
 abbrev pub seen_line : Line → lines.Line
 seen_line (Declares d) = lines.Declares d
 seen_line (Makes i) = lines.Makes (seen_instruction i)
@@ -41,12 +43,15 @@ Gives view (Err e) read = read ≡ Err e
 abbrev pub bindings_of : BTreeMap (Bor (List ℕ)) ItemId → names.Names
 bindings_of ids name = get_by (λ key. slice_cmp nat_cmp name key.now) ids
 
+-- the names of a map
 abbrev pub names_of : Names → names.Names
 names_of names = bindings_of names.ids
 
+-- an open store as the definitions see it
 abbrev pub store_of : OpenStore → stages.StoreState
 store_of b = record { state = b.world; names = names_of b.names }
 
+-- a stage as the definitions see it
 abbrev pub stage_of : Stage → stages.Stage
 stage_of stage.Before = stages.Before
 stage_of (stage.Classes shape classes) = stages.Classes shape classes.items
