@@ -89,14 +89,16 @@ fn refused_bytes(rt: HostRuntime) {
     assert!(rt; writer.into_inner().is_empty());
 }
 
-/// How the run of a trace ends, of which no more than a front of the text may be written, and how much of it was not.
-fn run_expecting(rt: &HostRuntime, trace: &str, text: &str) -> (Result<(), SimFault>, usize) {
+/// How the run of a trace ends, and the writer that looked at its text.
+fn run_expecting<'a>(
+    alloc: Global,
+    trace: &str,
+    text: &'a str,
+) -> (Result<(), SimFault>, Expecting<'a>) {
     let mut reader = Counted::new(trace.as_bytes());
     let mut writer = Counted::new(Expecting::new(text.as_bytes()));
-    let ended = run_model(rt.alloc(), &mut reader, &mut writer);
-    let written = writer.into_inner();
-    assert!(rt; written.is_front(), "{trace}");
-    (ended, written.left())
+    let ended = run_model(alloc, &mut reader, &mut writer);
+    (ended, writer.into_inner())
 }
 
 /// Whichever one allocation is refused: the run ends with its whole text, or as Memory with a front of it, and then the
@@ -104,13 +106,14 @@ fn run_expecting(rt: &HostRuntime, trace: &str, text: &str) -> (Result<(), SimFa
 #[test]
 fn a_refused_allocation_leaves_a_front_of_the_text(rt: HostRuntime) {
     let (trace, text, _) = WORKED[4];
-    let (ended, left) = run_expecting(&rt, trace, text);
+    let (mut ended, mut written) = run_expecting(rt.alloc(), trace, text);
+    assert!(rt; written.is_front());
     if ended == Err(SimFault::Memory) {
-        assert!(rt; run_expecting(&rt, trace, text) == (Ok(()), 0));
-    } else {
-        assert!(rt; ended == Ok(()));
-        assert_eq!(rt; left, 0);
+        (ended, written) = run_expecting(rt.alloc(), trace, text);
     }
+    assert!(rt; ended == Ok(()));
+    assert!(rt; written.is_front());
+    assert_eq!(rt; written.left(), 0);
 }
 
 /// A line of `show` that is longer than what is gathered before it is written.
