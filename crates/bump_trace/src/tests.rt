@@ -102,18 +102,21 @@ fn run_expecting<'a>(
 }
 
 /// Whichever one allocation is refused: the run ends with its whole text, or as Memory with a front of it, and then the
-/// same run made again ends with its whole text.
+/// same run made again ends with its whole text. Where one was refused the test says so, so that whoever refuses each in
+/// turn knows when none is left.
 #[test]
-fn a_refused_allocation_leaves_a_front_of_the_text(rt: HostRuntime) {
+fn a_refused_allocation_leaves_a_front_of_the_text(rt: HostRuntime) -> Result<(), Fail> {
     let (trace, text, _) = WORKED[4];
     let (mut ended, mut written) = run_expecting(rt.alloc(), trace, text);
     assert!(rt; written.is_front());
     if ended == Err(SimFault::Memory) {
+        eprintln!(rt; "an allocation was refused")?;
         (ended, written) = run_expecting(rt.alloc(), trace, text);
     }
     assert!(rt; ended == Ok(()));
     assert!(rt; written.is_front());
     assert_eq!(rt; written.left(), 0);
+    Ok(())
 }
 
 /// A line of `show` that is longer than what is gathered before it is written.
