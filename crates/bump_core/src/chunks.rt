@@ -2,7 +2,7 @@
 use crate::items::Head;
 
 /// What a World keeps of a chunk.
-#[derive(Clone, Copy, Debug, PartialEq, Eq)]
+#[derive(Clone, Copy)]
 pub struct Chunk {
     /// What its head word says.
     pub head: Head,

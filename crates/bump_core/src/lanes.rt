@@ -8,7 +8,7 @@ use crate::items::{Head, ItemId};
 use crate::places::Segment;
 
 /// How far a lane is with the bump that it carries.
-#[derive(Clone, Copy, Debug, PartialEq, Eq)]
+#[derive(Clone, Copy)]
 pub enum Lane {
     /// No bump is aboard.
     Empty,

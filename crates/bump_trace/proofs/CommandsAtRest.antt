@@ -18,10 +18,10 @@ use Rattle.bump_core.specs.declared.bumps.Outcome.{Outcome}
 use Rattle.bump_core.specs.declared.bumps.Outcome.TheVariants as outcome
 use Rattle.bump_core.specs.declared.places.Segment.{Segment}
 use Rattle.bump_core.specs.declared.places.Tail.{Tail}
-use Rattle.bump_core.specs.Commands.{is_allowed, command_after, pull_to, pulled_at, hit, hit_at, attempt, dropped_at, is_exhausted, apply_bump, bumped_lists, outcome_next, ended_at, bump_next, is_half_made, tail_of}
+use Rattle.bump_core.specs.Commands.{is_allowed, command_after, pull_to, pulled_at, hit, hit_at, attempt, dropped_at, is_exhausted, apply_bump, bumped_lists, outcome_next, ended_at, bump_next, is_half_made, tail_of, get_at, held_by_get}
 use Rattle.bump_core.specs.Events.{next_chunk}
 use Rattle.bump_core.specs.State.{State, ClassState, WorkerState, new_worker, no_chunk, chunk, head, worker, is_class, is_worker, with_chunk, with_class, with_worker, class_of, is_current, is_held, has_free_hold, is_open, is_idle, is_on, workers_on, some_and, is_under_application, applies_in}
-use Rattle.bump_core.specs.Tables.{Hit, IsFirst, IsAlready, IsMarked, Attempts, pulled_to}
+use Rattle.bump_core.specs.Tables.{Get, IsStale, IsRefsFull, IsHeld, Hit, IsFirst, IsAlready, IsMarked, Attempts, pulled_to}
 use Rattle.bump_core.specs.Totals.{total}
 use Rattle.bump_trace.specs.Ready.{IsResting, IsAtRest}
 
@@ -99,11 +99,17 @@ keeps_bump s w now b =
     keeps_both _ _ _ (keeps_both _ _ _ (keeps_chunk s b.life.chunk _) (keeps_worker _ w _ (λ r. record { open_ring = r.open_ring; idle = r.idle; empty = refl })))
     (keeps_lists _ w b (outcome_next s b) (ended_at s b.life.chunk))
 
+-- a hold is taken where the get comes to that
+keeps_get : (s : State) (l : ItemId) (g : Get) → Keeps s (held_by_get s l g)
+keeps_get s l IsStale = keeps_same s
+keeps_get s l IsRefsFull = keeps_same s
+keeps_get s l IsHeld = keeps_chunk s l.chunk _
+
 -- each command
 pub keeps_command : (s : State) (c : Command) → Keeps s (command_after s c)
 keeps_command s (command.Link k x now) = keeps_option s _ (next_chunk s k) (λ c. keeps_both _ _ _ (keeps_chunk s c _) (keeps_class _ k _))
 keeps_command s (command.Pull k t) = keeps_option s _ (tail_of s k t) (λ c. keeps_pull_to s k t c (pulled_to (pulled_at s k t c)))
-keeps_command s (command.Take w l) = keeps_if s _ _ _ (keeps_chunk s l.chunk _) (keeps_same s)
+keeps_command s (command.Take w l) = keeps_if s _ _ _ (keeps_get s l (get_at s l)) (keeps_same s)
 keeps_command s (command.Touch w l now) = keeps_if s _ _ _ (keeps_same s) (keeps_hit s w l now (hit_at s l))
 keeps_command s (command.Label l) = keeps_same s
 keeps_command s (command.Release l) = keeps_chunk s l.chunk _

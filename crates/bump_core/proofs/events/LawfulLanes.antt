@@ -27,7 +27,7 @@ use Rattle.bump_core.proofs.events.Enabled.{some_and_parts, lawful_by_some, empt
 use Rattle.bump_core.specs.declared.history.Change.TheVariants as change
 use Rattle.bump_core.specs.declared.history.Cause.TheVariants.{Bump as BumpOf}
 use Rattle.bump_core.proofs.classes.Tiles.{class_within, class_owns}
-use Rattle.bump_core.proofs.chunks.Laws.{moved}
+use Rattle.bump_core.proofs.Laws.{moved}
 use Rattle.bump_core.proofs.events.Moves.{change_lawful}
 
 -- a lane with no bump aboard takes the next one from the ring

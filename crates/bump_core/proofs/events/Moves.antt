@@ -22,14 +22,14 @@ use Rattle.bump_core.specs.State.{State, ClassState, chunk, head, class, worker,
 use Rattle.bump_core.specs.Worlds.{Tiles, IsLawful, IsClass, WaitsToMove, owns, stands_in, standing, place, references, first_hits_of, holds_of, bumps_of, aboard_of, place_in}
 use Rattle.bump_core.specs.Heads.{newborn, moved_head}
 use Rattle.bump_core.specs.Events.{is_enabled, after, next_chunk, next_life, link, move_for, with_lane, cleared_active}
-use Rattle.bump_core.proofs.classes.Replay.{replay_push, standing_push, are_between_push}
+use Rattle.bump_core.proofs.Replay.{replay_push, standing_push, are_between_push}
 use Rattle.bump_core.proofs.classes.Tiles.{class_kept, tiles_kept, class_within, class_owns, owner, owned_in_range}
 use Rattle.bump_core.proofs.worlds.Fronts.{next_front}
 use Rattle.bump_core.proofs.worlds.LawfulStates.{unused_shown, held_by, held_here, linked_in_range, unused_unreferred, waiting_linked, aboard_current, applied_aboard}
 use Rattle.bump_core.proofs.workers.Ring.{lane_further}
 use Rattle.bump_core.proofs.worlds.Frames.{worker_lawful, alone_kept}
 use Rattle.bump_core.proofs.events.Enabled.{lawful_by_some, next_from, move_from, move_for_from, none_applies, cleared_from}
-use Rattle.bump_core.proofs.chunks.Laws.{lawful_same, born, moved}
+use Rattle.bump_core.proofs.Laws.{lawful_same, born, moved}
 
 -- One more entry in the history of a class.
 

@@ -28,7 +28,7 @@ use Rattle.bump_core.proofs.events.Runs.{by_run}
 use Rattle.bump_core.proofs.Updates.{same_read}
 use Rattle.bump_core.proofs.worlds.Fronts.{next_front}
 use Rattle.bump_core.proofs.worlds.LawfulStates.{linked_in_range, waiting_linked}
-use Rattle.bump_core.proofs.chunks.Laws.{used_where_linked}
+use Rattle.bump_core.proofs.Laws.{used_where_linked}
 use Rattle.bump_core.proofs.events.Moves.{chunk_changed, chunk_unchanged, place_unchanged}
 use Rattle.bump_core.proofs.worlds.StaysLawful.{lawful_after}
 use Rattle.bump_core.proofs.classes.Tiles.{class_within, class_owns}

@@ -14,7 +14,7 @@ use Rattle.bump_core.specs.Worlds.{owns, place, place_in, stands_in, IsLawful}
 use Rattle.bump_core.proofs.worlds.LawfulStates.{referred_in_range, referred_used}
 use Rattle.bump_core.proofs.worlds.Fronts.{times_in, listed, never_at}
 use Rattle.bump_core.proofs.workers.Ring.{numbered_append}
-use Rattle.bump_core.proofs.classes.Standings.{other_place, one_place}
+use Rattle.bump_core.proofs.Standings.{other_place, one_place}
 
 -- a lawful worker's lane applies what its ring accepted, in order
 pub applies_in_order : (capacity : ℕ) (x : WorkerState) → IsWorker capacity x → AppliesInOrder x

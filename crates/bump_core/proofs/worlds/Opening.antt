@@ -12,7 +12,8 @@ use Rattle.bump_core.specs.declared.chunks.Chunk.{Chunk}
 use Rattle.bump_core.specs.declared.places.Place.TheVariants.{Unused}
 use Rattle.bump_core.specs.Totals.{total}
 use Rattle.bump_core.specs.Configs.{chunks_of, first_fault, HaveChunks}
-use Rattle.bump_core.proofs.configs.Bounds.{bounds}
+use Rattle.bump_core.proofs.Bounds.{bounds}
+use Rattle.bump_core.proofs.NewClasses.{classes_long}
 use Rattle.bump_core.specs.Lists.{ascending, opening}
 use Rattle.bump_core.specs.Heads.{fresh_head}
 use Rattle.bump_core.specs.Lawful.{Lawful}
@@ -46,11 +47,6 @@ class_new : (fresh from : ℕ) (ks : List ClassConfig) (k : ℕ) → IsClass (ge
 class_new fresh from [] k = (record { lists = refl; entries = tt }, refl)
 class_new fresh from (c ∷ cs) zero = (record { lists = ap (opening from) (omega arith); entries = tt }, refl)
 class_new fresh from (c ∷ cs) (suc k) = class_new fresh (from + c.chunks) cs k
-
--- there are as many classes as are configured
-pub classes_long : (g from : ℕ) (ks : List ClassConfig) → length (classes_from g from ks) ≡ length ks
-classes_long g from [] = refl
-classes_long g from (c ∷ cs) = omega (arith, classes_long g (from + c.chunks) cs)
 
 -- each class of a new World has fresh chunks of this generation
 class_fresh : (g from : ℕ) (ks : List ClassConfig) (k : ℕ) → k < length (classes_from g from ks) → (get_or (classes_from g from ks) k no_class).fresh ≡ g
