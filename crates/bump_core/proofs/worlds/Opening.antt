@@ -152,11 +152,15 @@ module _ (config : Config) (early : config.first_generation < 4294967296) (two :
 
   -- a new World keeps what a World keeps
   pub keeps_new : Keeps s
-  keeps_new = (lawful, (λ k within. subst NoneUnlinked (sym (class_new (config.first_generation - 1) 0 config.classes k).1) tt), record {
-    classes = omega (arith, few_classes, classes_long (config.first_generation - 1) 0 config.classes);
-    chunks = omega (arith, few_chunks, length-replicate (chunks_of config.classes) (fresh_chunk (config.first_generation - 1)));
-    workers = omega (arith, few_workers, length-replicate config.workers new_worker);
-  })
+  keeps_new = (
+    lawful,
+    (λ k within. subst NoneUnlinked (sym (class_new (config.first_generation - 1) 0 config.classes k).1) tt),
+    record {
+      classes = omega (arith, few_classes, classes_long (config.first_generation - 1) 0 config.classes);
+      chunks = omega (arith, few_chunks, length-replicate (chunks_of config.classes) (fresh_chunk (config.first_generation - 1)));
+      workers = omega (arith, few_workers, length-replicate config.workers new_worker);
+    },
+  )
 
 -- a World made from a configuration without faults does
 pub keeps_valid : (config : Config) → config.first_generation < 4294967296 → is_none (first_fault config.workers config.capacity config.refs_limit config.first_generation config.classes) ≡ true → Keeps (new_state config)
