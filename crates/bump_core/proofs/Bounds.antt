@@ -1,5 +1,5 @@
 -- A configuration without faults is within its bounds.
-use Rattle.std.proofs.Common.{◌≡◌, ℕ, ◌+◌, ◌<◌, ◌≤◌, Bool, true, false, not, cond, ◌||◌, List, [], ◌∷◌, length, Option, Some, sym, ap, ◌∙◌, arith, eq-eqb, ne_eqb, refl}
+use Rattle.std.proofs.Common.{◌≡◌, ℕ, ◌<◌, ◌≤◌, Bool, true, false, not, cond, ◌||◌, List, [], ◌∷◌, length, Option, Some, sym, ap, ◌∙◌, arith, eq-eqb, ne_eqb, refl}
 use Rattle.std.specs.Prelude.{◌==◌, is_none, nat_le, nat_lt}
 use Rattle.std.specs.List.{list_any}
 use Rattle.std.proofs.lemmas.Bool.{and_parts, or_parts, leb-true, ltb-false, not-false}

@@ -1,12 +1,9 @@
 -- A new World is lawful.
-use Rattle.std.proofs.Common.{◌≡◌, ℕ, zero, suc, ◌+◌, ◌-◌, ◌<◌, ◌≤◌, Bool, true, false, not, cond, ◌||◌, List, [], ◌∷◌, ◌++◌, length, get_or, Option, Some, refl, sym, ap, ◌∙◌, subst, arith, add-one, append_assoc, eq-eqb, ne_eqb, ◌⊎◌, inl, inr}
-use Rattle.std.specs.Prelude.{◌==◌, replicate, is_none, nat_le, nat_lt}
-use Rattle.std.specs.List.{list_any}
-use Rattle.std.proofs.lemmas.Bool.{and_parts, or_parts, leb-true, not-false, cases_lt}
+use Rattle.std.proofs.Common.{◌≡◌, ℕ, zero, suc, ◌+◌, ◌-◌, ◌<◌, ◌≤◌, Bool, true, false, cond, List, [], ◌∷◌, ◌++◌, length, get_or, refl, sym, ap, ◌∙◌, subst, arith, add-one, append_assoc, ◌⊎◌, inl, inr}
+use Rattle.std.specs.Prelude.{◌==◌, replicate, is_none}
+use Rattle.std.proofs.lemmas.Bool.{cases_lt}
 use Rattle.std.proofs.lemmas.List.{length-replicate, get_or_past}
-use native.Mathlib.Decide.{ℕ_discrete}
 use Rattle.bump_core.specs.declared.configs.ClassConfig.{ClassConfig}
-use Rattle.bump_core.specs.declared.configs.ConfigFault.TheVariants.{Workers, Capacity, RefsLimit, Generation, Classes, Chunks}
 use Rattle.bump_core.specs.declared.configs.Config.{Config}
 use Rattle.bump_core.specs.declared.chunks.Chunk.{Chunk}
 use Rattle.bump_core.specs.declared.places.Place.TheVariants.{Unused}
