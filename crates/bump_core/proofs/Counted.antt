@@ -1,7 +1,7 @@
 -- Elements of a list, and how many pass a test.
-use Rattle.std.proofs.Common.{◌≡◌, ℕ, zero, suc, ◌+◌, ◌<◌, Bool, true, false, cond, List, [], ◌∷◌, ◌++◌, length, slice_index_or, refl, sym, ap, ◌∙◌, arith, add-one}
+use Rattle.std.proofs.Common.{◌≡◌, zero, suc, ◌+◌, ◌<◌, Bool, true, false, cond, List, [], ◌∷◌, refl, ap, ◌∙◌, arith}
 use Rattle.std.specs.List.{Contains}
-use Rattle.bump_core.specs.Totals.{total, how_many}
+use Rattle.bump_core.specs.Totals.{how_many}
 
 -- a test that passes counts one
 counts : (b : Bool) → b ≡ true → 0 < cond b 1 0

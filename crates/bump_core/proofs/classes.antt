@@ -1,5 +1,3 @@
 pub mod PlainLists
-pub mod Replay
 pub mod SixLists
-pub mod Standings
 pub mod Tiles

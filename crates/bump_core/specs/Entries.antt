@@ -1,6 +1,5 @@
 -- When an entry of a lane is true. What the lists show of it is counted, entry by entry of a history.
 use Rattle.std.specs.Prelude.{ℕ, ◌<◌, Bool, false, ◌==◌, ◌&&◌, List}
-use Rattle.bump_core.specs.declared.places.Segment.{Segment}
 use Rattle.bump_core.specs.declared.items.ItemId.{ItemId}
 use Rattle.bump_core.specs.declared.history.Cause.{Cause}
 use Rattle.bump_core.specs.declared.history.Cause.TheVariants.{Pull, Bump}

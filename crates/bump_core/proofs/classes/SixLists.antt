@@ -1,5 +1,5 @@
 -- The six lists of a class and their places: which list is at a place, and what a move to the front does to each.
-use Rattle.std.proofs.Common.{◌≡◌, ℕ, ◌+◌, ◌≢◌, cond, eqb, Bool, true, false, ◌∷◌, refl, sym, ap, ◌∙◌, arith, eq-eqb, ne_eqb}
+use Rattle.std.proofs.Common.{◌≡◌, ℕ, ◌≢◌, cond, eqb, Bool, true, false, ◌∷◌, refl, sym, ap, ◌∙◌, arith, eq-eqb, ne_eqb}
 use native.Mathlib.Decide.{ℕ_discrete}
 use Rattle.bump_core.specs.declared.places.Place.{Place}
 use Rattle.bump_core.specs.declared.places.Place.TheVariants.{Hot, Warm, Cold, Dying, Unused, Retired}

@@ -12,7 +12,7 @@ use Rattle.bump_core.specs.State.{State, WorkerState, head, worker, with_head, w
 use Rattle.bump_core.specs.Heads.{one_more, one_fewer, cleared_head}
 use Rattle.bump_core.specs.Events.{is_under_limit, waiting, is_enabled, after, reserve, drop_refs, drop_busy, push, drop_full, unmark}
 use Rattle.bump_core.specs.Worlds.{in_hand_of, bumps_of, references, first_hits_of, place, IsLawful}
-use Rattle.bump_core.proofs.chunks.Laws.{relawful, referred}
+use Rattle.bump_core.proofs.Laws.{relawful, referred}
 use Rattle.bump_core.proofs.workers.Ring.{in_ring_push}
 use Rattle.bump_core.proofs.Updates.{count_push}
 use Rattle.bump_core.proofs.worlds.LawfulStates.{one_if_elsewhere, one_if_at, one_if_not_at, referred_used, tried_referred, tried_in_range, tried_current, in_hand_in_range, in_hand_current, cleared_in_range, received_within}

@@ -13,7 +13,7 @@ use Rattle.bump_core.specs.State.{State, WorkerState, chunk, head, worker, with_
 use Rattle.bump_core.specs.Heads.{fetched_head, active_head}
 use Rattle.bump_core.specs.Events.{may_hit, is_enabled, after, fetch, mark}
 use Rattle.bump_core.specs.Worlds.{holds_of, in_hand_of, references, first_hits_of, place, IsLawful}
-use Rattle.bump_core.proofs.chunks.Laws.{relawful, named_first, fetched_again, marked}
+use Rattle.bump_core.proofs.Laws.{relawful, named_first, fetched_again, marked}
 use Rattle.bump_core.proofs.Updates.{count_push}
 use Rattle.bump_core.proofs.worlds.LawfulStates.{held_at, one_if_same, one_if_elsewhere, one_if_at, one_if_not_at, one_if_cases}
 use Rattle.bump_core.proofs.worlds.Frames.{alone_kept, waits_kept, both_marked, head_lawful, time_lawful, both_lawful_off_lane, references_after, first_hits_after}

@@ -11,7 +11,7 @@ use Rattle.bump_core.specs.State.{State, chunk, head, with_chunk, workers_on, is
 use Rattle.bump_core.specs.Heads.{one_more, one_fewer}
 use Rattle.bump_core.specs.Events.{is_under_limit, is_enabled, after, with_hold, without_hold}
 use Rattle.bump_core.specs.Worlds.{holds_of, references, first_hits_of, place, IsLawful}
-use Rattle.bump_core.proofs.chunks.Laws.{used_where_linked, referred, unreferred}
+use Rattle.bump_core.proofs.Laws.{used_where_linked, referred, unreferred}
 use Rattle.bump_core.proofs.worlds.LawfulStates.{held_by, held_here, held_else}
 use Rattle.bump_core.proofs.worlds.Frames.{chunk_here, chunk_lawful}
 use Rattle.bump_core.proofs.events.Enabled.{current_from, free_hold_from}

@@ -3,7 +3,6 @@ use Rattle.std.proofs.Common.{◌≡◌, ℕ, suc, ◌<◌, Bool, true, false, n
 use Rattle.std.proofs.lemmas.List.{append-nil, map-append, get_or-set_same, length-set}
 use Rattle.std.proofs.lemmas.Bool.{and_parts, ltb-true, not-true}
 use Rattle.std.proofs.lemmas.Option.{slice_get-get_or}
-use Rattle.std.specs.Option.{option_map_or}
 use Rattle.bump_core.specs.declared.places.Segment.TheVariants as segment
 use Rattle.bump_core.specs.declared.items.ItemId.{ItemId}
 use Rattle.bump_core.specs.declared.items.Head.{Head}
@@ -11,7 +10,6 @@ use Rattle.bump_core.specs.declared.bumps.Bump.{Bump}
 use Rattle.bump_core.specs.declared.lanes.Lane.{Lane}
 use Rattle.bump_core.specs.declared.lanes.Lane.TheVariants as lane
 use Rattle.bump_core.specs.declared.bumps.AppliedBump.{AppliedBump}
-use Rattle.bump_core.specs.declared.bumps.Outcome.{Outcome}
 use Rattle.bump_core.specs.declared.events.Event.TheVariants as event
 use Rattle.bump_core.specs.Lives.{life, one_if, count_of}
 use Rattle.bump_core.specs.Tables.{is_cold}
@@ -27,7 +25,7 @@ use Rattle.bump_core.proofs.events.Enabled.{some_and_parts, lawful_by_some, empt
 use Rattle.bump_core.specs.declared.history.Change.TheVariants as change
 use Rattle.bump_core.specs.declared.history.Cause.TheVariants.{Bump as BumpOf}
 use Rattle.bump_core.proofs.classes.Tiles.{class_within, class_owns}
-use Rattle.bump_core.proofs.chunks.Laws.{moved}
+use Rattle.bump_core.proofs.Laws.{moved}
 use Rattle.bump_core.proofs.events.Moves.{change_lawful}
 
 -- a lane with no bump aboard takes the next one from the ring

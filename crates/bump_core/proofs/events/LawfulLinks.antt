@@ -14,7 +14,7 @@ use Rattle.bump_core.specs.Heads.{newborn}
 use Rattle.bump_core.proofs.classes.Tiles.{class_owns}
 use Rattle.bump_core.proofs.worlds.Fronts.{next_front}
 use Rattle.bump_core.proofs.worlds.LawfulStates.{unused_shown, held_by, held_here, unused_unreferred, waiting_linked}
-use Rattle.bump_core.proofs.chunks.Laws.{born}
+use Rattle.bump_core.proofs.Laws.{born}
 use Rattle.bump_core.proofs.events.Moves.{change_lawful}
 
 -- where a life has no holds it has none under another head

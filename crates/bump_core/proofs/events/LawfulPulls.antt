@@ -6,7 +6,7 @@ use Rattle.bump_core.specs.State.{State, head, class_of, is_chunk, is_under_appl
 use Rattle.bump_core.specs.Heads.{cleared_head, moved_head}
 use Rattle.bump_core.specs.Events.{is_enabled, after}
 use Rattle.bump_core.specs.Worlds.{references, first_hits_of, place, IsLawful}
-use Rattle.bump_core.proofs.chunks.Laws.{marked, moved}
+use Rattle.bump_core.proofs.Laws.{marked, moved}
 use Rattle.bump_core.proofs.events.Enabled.{chunk_from, move_from, none_applies}
 use Rattle.bump_core.proofs.worlds.Frames.{head_lawful}
 use Rattle.bump_core.specs.declared.places.Segment.{Segment}

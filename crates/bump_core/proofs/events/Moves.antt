@@ -1,5 +1,5 @@
 -- A chunk that gets another head and moves in the lists of its class keeps a World lawful.
-use Rattle.std.proofs.Common.{◌≡◌, ℕ, ◌+◌, ◌-◌, ◌<◌, ◌≢◌, eqb, true, false, List, [], ◌∷◌, ◌++◌, length, refl, sym, ap, ◌∙◌, subst, arith, eq-eqb}
+use Rattle.std.proofs.Common.{◌≡◌, ℕ, ◌+◌, ◌-◌, ◌<◌, ◌≢◌, eqb, true, false, length, refl, sym, ap, ◌∙◌, subst, arith, eq-eqb}
 use Rattle.std.proofs.lemmas.Bool.{cond-true, cond-false, ne_eqb}
 use Rattle.std.proofs.lemmas.List.{get_or-set_same, get_or-set_other, length-set}
 use native.Mathlib.Decide.{ℕ_discrete}
@@ -10,26 +10,17 @@ use Rattle.bump_core.specs.declared.history.Change.{Change}
 use Rattle.bump_core.specs.declared.bumps.Bump.{Bump}
 use Rattle.bump_core.specs.declared.lanes.Lane.{Lane}
 use Rattle.bump_core.specs.declared.lanes.Lane.TheVariants as lane
-use Rattle.bump_core.specs.declared.chunks.Chunk.{Chunk}
-use Rattle.bump_core.specs.declared.events.Event.TheVariants as event
 use Rattle.bump_core.specs.Lawful.{Lawful}
 use Rattle.bump_core.specs.Lives.{life}
 use Rattle.bump_core.specs.Totals.{total}
-use Rattle.bump_core.specs.History.{Standing, subject, target, standing_from}
+use Rattle.bump_core.specs.History.{Standing, subject, target}
 use Rattle.bump_core.specs.Lists.{to_front, opening}
-use Rattle.bump_core.specs.Rings.{aboard}
-use Rattle.bump_core.specs.State.{State, ClassState, chunk, head, class, worker, no_chunk, no_class, new_worker, with_head, with_change, class_with_change, class_of, applied_life}
-use Rattle.bump_core.specs.Worlds.{Tiles, IsLawful, IsClass, WaitsToMove, owns, stands_in, standing, place, references, first_hits_of, holds_of, bumps_of, aboard_of, place_in}
-use Rattle.bump_core.specs.Heads.{newborn, moved_head}
-use Rattle.bump_core.specs.Events.{is_enabled, after, next_chunk, next_life, link, move_for, with_lane, cleared_active}
-use Rattle.bump_core.proofs.classes.Replay.{replay_push, standing_push, are_between_push}
-use Rattle.bump_core.proofs.classes.Tiles.{class_kept, tiles_kept, class_within, class_owns, owner, owned_in_range}
-use Rattle.bump_core.proofs.worlds.Fronts.{next_front}
-use Rattle.bump_core.proofs.worlds.LawfulStates.{unused_shown, held_by, held_here, linked_in_range, unused_unreferred, waiting_linked, aboard_current, applied_aboard}
-use Rattle.bump_core.proofs.workers.Ring.{lane_further}
-use Rattle.bump_core.proofs.worlds.Frames.{worker_lawful, alone_kept}
-use Rattle.bump_core.proofs.events.Enabled.{lawful_by_some, next_from, move_from, move_for_from, none_applies, cleared_from}
-use Rattle.bump_core.proofs.chunks.Laws.{lawful_same, born, moved}
+use Rattle.bump_core.specs.State.{State, ClassState, chunk, head, class, worker, no_chunk, no_class, with_head, with_change, class_with_change, class_of}
+use Rattle.bump_core.specs.Worlds.{Tiles, IsLawful, IsClass, WaitsToMove, owns, stands_in, standing, place, references, first_hits_of, holds_of, bumps_of}
+use Rattle.bump_core.proofs.Replay.{replay_push, standing_push, are_between_push}
+use Rattle.bump_core.proofs.classes.Tiles.{class_kept, tiles_kept, owner, owned_in_range}
+use Rattle.bump_core.proofs.worlds.LawfulStates.{held_by}
+use Rattle.bump_core.proofs.Laws.{lawful_same}
 
 -- One more entry in the history of a class.
 

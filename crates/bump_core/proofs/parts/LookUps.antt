@@ -20,7 +20,7 @@ use Rattle.bump_core.proofs.events.Enabled.{trying_from, in_hand_from, clearing_
 use Rattle.bump_core.proofs.worlds.LawfulStates.{one_if_same, bumps_counted, referred_in_range, referred_used, tried_in_range, in_hand_in_range, cleared_in_range, in_hand_under_way, carrying_in_range, looked_in_range, applied_in_range, linked_in_range, waiting_linked}
 use Rattle.bump_core.proofs.worlds.Fronts.{stands, linked_stands}
 use Rattle.bump_core.proofs.workers.Ring.{next_in_ring}
-use Rattle.bump_core.proofs.chunks.Laws.{dying_where_unlinked}
+use Rattle.bump_core.proofs.Laws.{dying_where_unlinked}
 
 -- the next bump has a reference
 next_counted : (x : WorkerState) (b : Bump) → bump_next x ≡ Some b → 0 < bumps_of b.life x

@@ -1,37 +1,18 @@
 -- A ring that was closed stays closed, and accepts nothing.
-use Rattle.std.proofs.Common.{◌≡◌, ℕ, ◌+◌, ◌<◌, ◌≤◌, ◌&&◌, not, true, false, List, length, Some, refl, sym, ap, ◌∙◌, subst, arith, nat_lt}
+use Rattle.std.proofs.Common.{◌≡◌, ℕ, ◌&&◌, not, true, false, List, Some, refl, sym, ap, ◌∙◌, nat_lt}
 use Rattle.std.proofs.lemmas.Bool.{and_parts, both_ways}
 use Rattle.std.proofs.lemmas.List.{get_or-set_other}
 use native.Mathlib.Decide.{ℕ_discrete}
-use Rattle.bump_core.specs.declared.chunks.Chunk.{Chunk}
 use Rattle.bump_core.specs.declared.events.Event.{Event}
 use Rattle.bump_core.specs.declared.events.Event.TheVariants as event
-use Rattle.bump_core.specs.declared.history.Cause.TheVariants.{Pull, Bump as BumpOf}
-use Rattle.bump_core.specs.declared.history.Change.{Change}
-use Rattle.bump_core.specs.declared.history.Change.TheVariants as change
-use Rattle.bump_core.specs.declared.items.Head.{Head}
-use Rattle.bump_core.specs.declared.bumps.Bump.{Bump}
-use Rattle.bump_core.specs.declared.places.Place.TheVariants.{Unused}
-use Rattle.bump_core.specs.declared.places.Segment.{Segment}
-use Rattle.bump_core.specs.declared.places.Segment.TheVariants as segment
-use Rattle.bump_core.specs.Heads.{moved_head, one_more, one_fewer, fetched_head, active_head, cleared_head}
-use Rattle.bump_core.specs.Events.{is_enabled, after, next_chunk, next_life, next_bump, carried, tried, applied_now, cleared_active, ending, waiting, reserve, drop_refs, drop_busy, push, drop_full, unmark, with_label, with_time, link, take_bump, clear_for, move_for, alight}
+use Rattle.bump_core.specs.Events.{is_enabled, after, next_chunk, next_bump, carried, tried, applied_now, cleared_active, ending, waiting, reserve, drop_refs, drop_busy, push, drop_full, unmark, with_label, with_time, link, take_bump, clear_for, move_for, alight}
 use Rattle.bump_core.specs.Headline.{ClosedStay}
-use Rattle.bump_core.specs.History.{subject}
-use Rattle.bump_core.specs.Lives.{life}
 use Rattle.bump_core.specs.Runs.{run_of}
-use Rattle.bump_core.specs.State.{State, WorkerState, chunk, head, class, worker, no_chunk, new_worker, with_chunk, with_head, with_worker, with_change, class_of, is_worker, is_open, some_and, tried_life, life_in_hand, cleared_life}
+use Rattle.bump_core.specs.State.{State, WorkerState, head, worker, new_worker, with_worker, is_worker, is_open, some_and, tried_life, life_in_hand, cleared_life}
 use Rattle.bump_core.specs.Tables.{is_cold}
-use Rattle.bump_core.specs.Worlds.{IsLawful, owns, place}
-use Rattle.bump_core.proofs.events.Enabled.{next_from, move_from, move_for_from, by_test, by_value, cleared_from}
+use Rattle.bump_core.proofs.events.Enabled.{by_test, by_value}
 use Rattle.bump_core.proofs.events.Runs.{by_run}
 use Rattle.bump_core.proofs.Updates.{same_read}
-use Rattle.bump_core.proofs.worlds.Fronts.{next_front}
-use Rattle.bump_core.proofs.worlds.LawfulStates.{linked_in_range, waiting_linked}
-use Rattle.bump_core.proofs.chunks.Laws.{used_where_linked}
-use Rattle.bump_core.proofs.events.Moves.{chunk_changed, chunk_unchanged, place_unchanged}
-use Rattle.bump_core.proofs.worlds.StaysLawful.{lawful_after}
-use Rattle.bump_core.proofs.classes.Tiles.{class_within, class_owns}
 
 -- Rings.
 

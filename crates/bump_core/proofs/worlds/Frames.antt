@@ -17,7 +17,7 @@ use Rattle.bump_core.specs.State.{State, WorkerState, chunk, head, worker, no_ch
 use Rattle.bump_core.specs.Heads.{one_fewer}
 use Rattle.bump_core.specs.Events.{with_time, with_label}
 use Rattle.bump_core.specs.Worlds.{holds_of, bumps_of, references, first_hits_of, place, Tiles, WaitsToMove, IsLawful}
-use Rattle.bump_core.proofs.chunks.Laws.{relawful, marked, unreferred}
+use Rattle.bump_core.proofs.Laws.{relawful, marked, unreferred}
 use Rattle.bump_core.proofs.worlds.LawfulStates.{held_by, one_if_elsewhere, one_if_at, one_if_not_at}
 use Rattle.bump_core.proofs.Updates.{same_read, total_written}
 

@@ -13,11 +13,11 @@ use Rattle.bump_core.specs.Events.{next_chunk}
 use Rattle.bump_core.specs.State.{State, head, class, class_of, last_of}
 use Rattle.bump_core.specs.Worlds.{owns, place, place_in, IsLawful}
 use Rattle.bump_core.proofs.worlds.LawfulStates.{linked_in_range, unused_shown}
-use Rattle.bump_core.proofs.chunks.Laws.{bit_some, placed_where_linked, in_segment}
+use Rattle.bump_core.proofs.Laws.{bit_some, placed_where_linked, in_segment}
 use Rattle.bump_core.proofs.classes.PlainLists.{Once, split_once, without_absent, times_at, index_of, remove_at, position_within, first_split, last_there}
-use Rattle.bump_core.proofs.classes.Replay.{in_lists}
+use Rattle.bump_core.proofs.Replay.{in_lists}
 use Rattle.bump_core.proofs.classes.SixLists.{taken_out}
-use Rattle.bump_core.proofs.classes.Standings.{same_place, place_same}
+use Rattle.bump_core.proofs.Standings.{same_place, place_same}
 use Rattle.bump_core.proofs.classes.Tiles.{class_within, class_owns, owner, owned_in_range}
 
 module _ (s : State) (o : IsLawful s) where

@@ -1,6 +1,5 @@
 -- What the headline says follows from that a World is lawful.
-use Rattle.std.proofs.Common.{◌≡◌, ℕ, ◌<◌, ◌&&◌, Bool, true, List, ◌++◌, length, map, refl, sym, ap, ◌∙◌, subst, arith}
-use Rattle.std.proofs.lemmas.Bool.{and_parts}
+use Rattle.std.proofs.Common.{◌≡◌, ℕ, ◌<◌, ◌&&◌, Bool, true, List, ◌++◌, length, refl, sym, ap, ◌∙◌, subst, arith}
 use Rattle.bump_core.specs.declared.places.Place.{Place}
 use Rattle.bump_core.specs.declared.places.Place.TheVariants.{Hot, Warm, Cold, Dying, Unused, Retired}
 use Rattle.bump_core.specs.declared.bumps.Bump.{Bump}
@@ -8,13 +7,13 @@ use Rattle.bump_core.specs.Headline.{Headline, AppliesInOrder, Stands, times_in_
 use Rattle.bump_core.specs.History.{is_place}
 use Rattle.bump_core.specs.Lawful.{bit, IsUsed, Shows}
 use Rattle.bump_core.specs.Lists.{list_at, times}
-use Rattle.bump_core.specs.Rings.{in_ring, aboard, bump_applied, numbered_from, IsWorker}
+use Rattle.bump_core.specs.Rings.{in_ring, numbered_from, IsWorker}
 use Rattle.bump_core.specs.State.{State, WorkerState, class, head, worker}
 use Rattle.bump_core.specs.Worlds.{owns, place, place_in, stands_in, IsLawful}
 use Rattle.bump_core.proofs.worlds.LawfulStates.{referred_in_range, referred_used}
 use Rattle.bump_core.proofs.worlds.Fronts.{times_in, listed, never_at}
 use Rattle.bump_core.proofs.workers.Ring.{numbered_append}
-use Rattle.bump_core.proofs.classes.Standings.{other_place, one_place}
+use Rattle.bump_core.proofs.Standings.{other_place, one_place}
 
 -- a lawful worker's lane applies what its ring accepted, in order
 pub applies_in_order : (capacity : ℕ) (x : WorkerState) → IsWorker capacity x → AppliesInOrder x

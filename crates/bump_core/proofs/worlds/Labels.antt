@@ -1,5 +1,5 @@
 -- A chunk in use has its life's label in its label word, after any run.
-use Rattle.std.proofs.Common.{◌≡◌, ℕ, ◌+◌, ◌<◌, ◌≤◌, ◌&&◌, not, cond, eqb, Bool, true, false, List, [], ◌∷◌, ◌++◌, length, Option, None, Some, if◌then◌else◌, refl, sym, ap, ◌∙◌, subst, arith, eq-eqb, ne_eqb, eqb-true, ◌⊎◌, inl, inr, ⊎_elim}
+use Rattle.std.proofs.Common.{◌≡◌, ℕ, ◌+◌, ◌<◌, ◌≤◌, ◌&&◌, not, eqb, Bool, true, false, List, [], ◌∷◌, ◌++◌, length, Option, None, Some, if◌then◌else◌, refl, sym, ap, ◌∙◌, subst, arith, eq-eqb, ne_eqb, eqb-true, ◌⊎◌, inl, inr, ⊎_elim}
 use Rattle.std.proofs.lemmas.Bool.{and_parts, and_from, both_ways}
 use Rattle.std.proofs.lemmas.List.{get_or-set_same, get_or-set_other}
 use Rattle.std.specs.Option.{option_map_or}
@@ -19,7 +19,7 @@ use Rattle.bump_core.specs.declared.places.Segment.TheVariants as segment
 use Rattle.bump_core.specs.Heads.{newborn, moved_head, one_more, one_fewer, fetched_head, active_head, cleared_head}
 use Rattle.bump_core.specs.Events.{is_enabled, after, next_chunk, next_life, next_bump, carried, tried, applied_now, cleared_active, ending, reserve, drop_refs, drop_busy, push, drop_full, unmark, with_label, with_time, link, take_bump, clear_for, move_for, alight}
 use Rattle.bump_core.specs.History.{subject}
-use Rattle.bump_core.specs.Labels.{LabelStep, Stored, Begun, label_of_life, label_steps_of, label_steps, WasLabelled, IsLabel, KeepsLabels}
+use Rattle.bump_core.specs.Labels.{LabelStep, Stored, Begun, label_of_life, label_steps, IsLabel, KeepsLabels}
 use Rattle.bump_core.specs.Lawful.{IsUsed}
 use Rattle.bump_core.specs.Lives.{life, is_same}
 use Rattle.bump_core.specs.Runs.{run_of}
@@ -31,7 +31,7 @@ use Rattle.bump_core.proofs.events.Runs.{run_parts}
 use Rattle.bump_core.proofs.Updates.{same_read}
 use Rattle.bump_core.proofs.worlds.Fronts.{next_front}
 use Rattle.bump_core.proofs.worlds.LawfulStates.{linked_in_range, waiting_linked}
-use Rattle.bump_core.proofs.chunks.Laws.{used_where_linked}
+use Rattle.bump_core.proofs.Laws.{used_where_linked}
 use Rattle.bump_core.proofs.events.Moves.{chunk_changed, chunk_unchanged, place_unchanged}
 use Rattle.bump_core.proofs.worlds.StaysLawful.{lawful_after}
 use Rattle.bump_core.proofs.classes.Tiles.{class_within, class_owns}

@@ -18,7 +18,7 @@ use Rattle.bump_core.specs.Rings.{in_ring, attempts_of}
 use Rattle.bump_core.specs.State.{State, chunk, head, worker, class_of, no_class, new_worker, is_on, applied_life}
 use Rattle.bump_core.specs.Worlds.{holds_of, in_hand_of, aboard_of, bumps_of, references, first_hits_of, place_in, place, WaitsToMove, IsLawful}
 use Rattle.bump_core.proofs.classes.Tiles.{class_out}
-use Rattle.bump_core.proofs.chunks.Laws.{used_where_linked, none_where_free}
+use Rattle.bump_core.proofs.Laws.{used_where_linked, none_where_free}
 use Rattle.bump_core.proofs.Updates.{term_within}
 
 -- Whether two lives are one.

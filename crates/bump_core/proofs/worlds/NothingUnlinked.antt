@@ -19,7 +19,7 @@ use Rattle.bump_core.specs.State.{State, ClassState, class, worker, no_class, wi
 use Rattle.bump_core.specs.Lives.{life}
 use Rattle.bump_core.specs.Worlds.{place, references, IsLawful, NoneUnlinked, NothingUnlinked}
 use Rattle.bump_core.specs.Events.{after, reserve, drop_refs, drop_busy, push, drop_full, unmark, with_label, with_time, link, take_bump, clear_for, move_for, alight, next_chunk, next_life, next_bump, carried, applied_now, tried, cleared_active, ending}
-use Rattle.bump_core.proofs.chunks.Laws.{dying_where_unlinked}
+use Rattle.bump_core.proofs.Laws.{dying_where_unlinked}
 use Rattle.bump_core.proofs.worlds.LawfulStates.{referred_in_range, referred_used}
 use Rattle.bump_core.proofs.classes.Tiles.{class_within}
 use Rattle.bump_core.proofs.events.Enabled.{by_test, by_value}

@@ -1,18 +1,16 @@
 -- A new World is lawful.
-use Rattle.std.proofs.Common.{◌≡◌, ℕ, zero, suc, ◌+◌, ◌-◌, ◌<◌, ◌≤◌, Bool, true, false, not, cond, ◌||◌, List, [], ◌∷◌, ◌++◌, length, get_or, Option, Some, refl, sym, ap, ◌∙◌, subst, arith, add-one, append_assoc, eq-eqb, ne_eqb, ◌⊎◌, inl, inr}
-use Rattle.std.specs.Prelude.{◌==◌, replicate, is_none, nat_le, nat_lt}
-use Rattle.std.specs.List.{list_any}
-use Rattle.std.proofs.lemmas.Bool.{and_parts, or_parts, leb-true, not-false, cases_lt}
+use Rattle.std.proofs.Common.{◌≡◌, ℕ, zero, suc, ◌+◌, ◌-◌, ◌<◌, ◌≤◌, Bool, true, false, cond, List, [], ◌∷◌, ◌++◌, length, get_or, refl, sym, ap, ◌∙◌, subst, arith, add-one, append_assoc, ◌⊎◌, inl, inr}
+use Rattle.std.specs.Prelude.{◌==◌, replicate, is_none}
+use Rattle.std.proofs.lemmas.Bool.{cases_lt}
 use Rattle.std.proofs.lemmas.List.{length-replicate, get_or_past}
-use native.Mathlib.Decide.{ℕ_discrete}
 use Rattle.bump_core.specs.declared.configs.ClassConfig.{ClassConfig}
-use Rattle.bump_core.specs.declared.configs.ConfigFault.TheVariants.{Workers, Capacity, RefsLimit, Generation, Classes, Chunks}
 use Rattle.bump_core.specs.declared.configs.Config.{Config}
 use Rattle.bump_core.specs.declared.chunks.Chunk.{Chunk}
 use Rattle.bump_core.specs.declared.places.Place.TheVariants.{Unused}
 use Rattle.bump_core.specs.Totals.{total}
 use Rattle.bump_core.specs.Configs.{chunks_of, first_fault, HaveChunks}
-use Rattle.bump_core.proofs.configs.Bounds.{bounds}
+use Rattle.bump_core.proofs.Bounds.{bounds}
+use Rattle.bump_core.proofs.NewClasses.{classes_long}
 use Rattle.bump_core.specs.Lists.{ascending, opening}
 use Rattle.bump_core.specs.Heads.{fresh_head}
 use Rattle.bump_core.specs.Lawful.{Lawful}
@@ -46,11 +44,6 @@ class_new : (fresh from : ℕ) (ks : List ClassConfig) (k : ℕ) → IsClass (ge
 class_new fresh from [] k = (record { lists = refl; entries = tt }, refl)
 class_new fresh from (c ∷ cs) zero = (record { lists = ap (opening from) (omega arith); entries = tt }, refl)
 class_new fresh from (c ∷ cs) (suc k) = class_new fresh (from + c.chunks) cs k
-
--- there are as many classes as are configured
-classes_long : (g from : ℕ) (ks : List ClassConfig) → length (classes_from g from ks) ≡ length ks
-classes_long g from [] = refl
-classes_long g from (c ∷ cs) = omega (arith, classes_long g (from + c.chunks) cs)
 
 -- each class of a new World has fresh chunks of this generation
 class_fresh : (g from : ℕ) (ks : List ClassConfig) (k : ℕ) → k < length (classes_from g from ks) → (get_or (classes_from g from ks) k no_class).fresh ≡ g
@@ -156,11 +149,15 @@ module _ (config : Config) (early : config.first_generation < 4294967296) (two :
 
   -- a new World keeps what a World keeps
   pub keeps_new : Keeps s
-  keeps_new = (lawful, (λ k within. subst NoneUnlinked (sym (class_new (config.first_generation - 1) 0 config.classes k).1) tt), record {
-    classes = omega (arith, few_classes, classes_long (config.first_generation - 1) 0 config.classes);
-    chunks = omega (arith, few_chunks, length-replicate (chunks_of config.classes) (fresh_chunk (config.first_generation - 1)));
-    workers = omega (arith, few_workers, length-replicate config.workers new_worker);
-  })
+  keeps_new = (
+    lawful,
+    (λ k within. subst NoneUnlinked (sym (class_new (config.first_generation - 1) 0 config.classes k).1) tt),
+    record {
+      classes = omega (arith, few_classes, classes_long (config.first_generation - 1) 0 config.classes);
+      chunks = omega (arith, few_chunks, length-replicate (chunks_of config.classes) (fresh_chunk (config.first_generation - 1)));
+      workers = omega (arith, few_workers, length-replicate config.workers new_worker);
+    },
+  )
 
 -- a World made from a configuration without faults does
 pub keeps_valid : (config : Config) → config.first_generation < 4294967296 → is_none (first_fault config.workers config.capacity config.refs_limit config.first_generation config.classes) ≡ true → Keeps (new_state config)

@@ -1,5 +1,5 @@
 -- Each event that is enabled leaves a lawful state lawful, and so does a run; what a World keeps, a step and a run keep.
-use Rattle.std.proofs.Common.{◌≡◌, ◌≤◌, true, List, length, Some, Result, arith}
+use Rattle.std.proofs.Common.{◌≡◌, true, List, Some, Result, arith}
 use Rattle.bump_core.specs.declared.events.Event.{Event}
 use Rattle.bump_core.specs.declared.events.Event.TheVariants as event
 use Rattle.bump_core.specs.declared.events.Reply.{Reply}

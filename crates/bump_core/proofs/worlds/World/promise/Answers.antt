@@ -1,5 +1,4 @@
 use Rattle.std.proofs.Common.{subst}
-use Rattle.bump_core.specs.Headline.{Headline}
 use Rattle.bump_core.specs.Worlds.{IsLawful}
 use Rattle.bump_core.proofs.worlds.Headline.{headline}
 use Rattle.bump_core.proofs.worlds.World.promise.Goals as goal
