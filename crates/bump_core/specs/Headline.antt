@@ -3,7 +3,8 @@ use Rattle.std.specs.Prelude.{◌≡◌, ℕ, ◌+◌, ◌<◌, true, false, ◌
 use Rattle.bump_core.specs.declared.places.Place.{Place}
 use Rattle.bump_core.specs.History.{is_place}
 use Rattle.bump_core.specs.Lawful.{bit, Shows, IsUsed}
-use Rattle.bump_core.specs.Lists.{Lists, list_at, times}
+use Rattle.bump_links.specs.Lists.{times}
+use Rattle.bump_core.specs.Lists.{Lists, list_at}
 use Rattle.bump_core.specs.Rings.{in_ring, aboard, bump_applied, numbered_from, IsRing, IsAccounts, attempts_of}
 use Rattle.bump_core.specs.State.{State, WorkerState, head, class, class_of, worker, chunk}
 use Rattle.bump_core.specs.Worlds.{references, owns, stands_in, place}
