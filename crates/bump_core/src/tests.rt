@@ -1,9 +1,13 @@
 //! What no clause says: known answers, and that calls succeed.
 ghost use Rattle.std.specs.Prelude.{◌≡◌, ◌<◌, IfOk, IfSome, length};
+ghost use Rattle.bump_core.specs.Headline.{Headline};
 ghost use Rattle.bump_core.specs.Readers.{list_of};
+ghost use Rattle.bump_core.specs.State.{SameSizes};
+ghost use Rattle.bump_core.specs.Worlds.{IsLawful};
 
 use super::*;
 use std::alloc::{AllocError, Global};
+use std::process::Abort;
 use std::test::Fail;
 
 /// A World of one worker and one class of two chunks, as a trace begins one, where memory is not refused.
@@ -68,6 +72,49 @@ fn told_by(world: &World) -> Readers
         received: (received.len(), received.last().copied()),
         applied: (applied.len(), applied.last().copied()),
     }
+}
+
+/// Makes commands in turn, each of which gives its answer.
+fn expect_answers(rt: &impl Abort, world: &mut World, rows: &[(Command, Answer)])
+    ensures { SameSizes world.old world.new }
+{
+    for (command, answer) in rows.iter() {
+        assert_eq!(rt; world.command(*command), Ok(*answer));
+    }
+}
+
+fn linked(now: u64) -> (Command, Answer) {
+    let command = Command::Link {
+        class: 0,
+        label: 7,
+        now,
+    };
+    (command, Answer::Linked(FIRST))
+}
+
+fn pulled(tail: Tail, pulled: Pulled) -> (Command, Answer) {
+    (Command::Pull { class: 0, tail }, Answer::Pulled(pulled))
+}
+
+fn held() -> (Command, Answer) {
+    let command = Command::Take {
+        worker: 0,
+        id: FIRST,
+    };
+    (command, Answer::Held)
+}
+
+fn touched(now: u64, touch: Touch) -> (Command, Answer) {
+    let command = Command::Touch {
+        worker: 0,
+        id: FIRST,
+        now,
+    };
+    (command, Answer::Touched(touch))
+}
+
+fn released() -> (Command, Answer) {
+    (Command::Release { id: FIRST }, Answer::Done)
 }
 
 /// A promotion: an item is stored, pulled to COLD, hit twice, and its bump applied. Each command with its answer.
@@ -226,17 +273,24 @@ const PROMOTED: Readers = Readers {
     ),
 };
 
+/// Says that an allocation was refused, so that whoever makes each fail in turn knows when none is left.
+fn tell_refusal(rt: &HostRuntime) -> Result<(), Fail> {
+    eprintln!(rt; "an allocation was refused")?;
+    Ok(())
+}
+
 // Where an allocation is made to fail, whichever it is, the refused call has changed nothing, and is made again.
 #[test]
 fn commands_promote_and_refusals_change_nothing(rt: HostRuntime) -> Result<(), Fail> {
     let Some(mut world) = world(rt.alloc(), 4, 0, 5) else {
-        return Ok(());
+        return tell_refusal(&rt);
     };
     for (command, answer) in PROMOTION.iter() {
         let before = told_by(&world);
         let first = world.command(*command);
         let told = match first {
             Err(Refused::OutOfMemory) => {
+                tell_refusal(&rt)?;
                 assert_eq!(rt; told_by(&world), before);
                 world.command(*command)
             }
@@ -252,11 +306,12 @@ fn commands_promote_and_refusals_change_nothing(rt: HostRuntime) -> Result<(), F
 #[test]
 fn steps_promote_and_refusals_change_nothing(rt: HostRuntime) -> Result<(), Fail> {
     let Some(mut world) = world(rt.alloc(), 4, 0, 5) else {
-        return Ok(());
+        return tell_refusal(&rt);
     };
     for event in PROMOTION_EVENTS.iter() {
         let before = told_by(&world);
         if world.step(*event) == Err(Refused::OutOfMemory) {
+            tell_refusal(&rt)?;
             assert_eq!(rt; told_by(&world), before);
             assert!(rt; world.step(*event).is_ok());
         }
@@ -269,15 +324,134 @@ fn steps_promote_and_refusals_change_nothing(rt: HostRuntime) -> Result<(), Fail
 #[test]
 fn runs_promote_and_go_on_after_a_refusal(rt: HostRuntime) -> Result<(), Fail> {
     let Some(mut world) = world(rt.alloc(), 4, 0, 5) else {
-        return Ok(());
+        return tell_refusal(&rt);
     };
     let events = PROMOTION_EVENTS.as_slice();
     if let Err((place, refused)) = world.run(events) {
+        tell_refusal(&rt)?;
         assert_eq!(rt; refused, Refused::OutOfMemory);
         assert!(rt; place < events.len());
         assert_eq!(rt; world.run(&events[place..]), Ok(()));
     }
     assert_eq!(rt; told_by(&world), PROMOTED);
+    Ok(())
+}
+
+const NO_BUMPS: Accounts = Accounts {
+    attempted: 0,
+    accepted: 0,
+    full: 0,
+    busy: 0,
+    refs: 0,
+};
+
+// In HOT the second hit stores the time and attempts no bump, and the third finds the item ACTIVE and stores nothing.
+#[test]
+fn the_second_hit_in_hot_marks(rt: HostRuntime) -> Result<(), Fail> {
+    let mut world = world(rt.alloc(), 4, 5, 5).ok_or("no memory")?;
+    let rows = [
+        linked(3),
+        held(),
+        touched(4, Touch::First),
+        touched(5, Touch::Marked),
+        touched(6, Touch::Already),
+        released(),
+    ];
+    expect_answers(&rt, &mut world, &rows);
+    let told = told_by(&world);
+    let head = Head {
+        refs: 1,
+        linked: true,
+        fetched: true,
+        active: true,
+        segment: Segment::Hot,
+        generation: 1,
+    };
+    assert_eq!(rt; told.heads.0, head);
+    assert_eq!(rt; told.times, (5, 0));
+    assert_eq!(rt; told.hot, (1, Some(0), Some(0)));
+    assert_eq!(rt; told.accounts, NO_BUMPS);
+    assert_eq!(rt; told.sent, (0, None));
+    Ok(())
+}
+
+// A pull rescues a marked item and clears ACTIVE, but not FETCHED, so that one more hit marks it again.
+#[test]
+fn a_rescued_item_is_marked_by_one_more_hit(rt: HostRuntime) -> Result<(), Fail> {
+    let mut world = world(rt.alloc(), 4, 0, 1).ok_or("no memory")?;
+    let rows = [
+        linked(3),
+        held(),
+        touched(4, Touch::First),
+        touched(5, Touch::Marked),
+        pulled(Tail::Hot, Pulled::Warm(FIRST)),
+        touched(7, Touch::Marked),
+        pulled(Tail::Warm, Pulled::Again(FIRST)),
+        pulled(Tail::Warm, Pulled::Stay(FIRST)),
+        released(),
+    ];
+    expect_answers(&rt, &mut world, &rows);
+    let told = told_by(&world);
+    let head = Head {
+        refs: 1,
+        linked: true,
+        fetched: true,
+        active: false,
+        segment: Segment::Warm,
+        generation: 1,
+    };
+    assert_eq!(rt; told.heads.0, head);
+    assert_eq!(rt; told.times, (7, 0));
+    assert_eq!(rt; told.warm, (1, Some(0), Some(0)));
+    assert_eq!(rt; told.accounts, NO_BUMPS);
+    Ok(())
+}
+
+// In COLD the second hit queues a bump, and the third finds the item ACTIVE: no second bump, and no time.
+#[test]
+fn a_queued_item_is_marked_already(rt: HostRuntime) -> Result<(), Fail> {
+    let mut world = world(rt.alloc(), 4, 0, 5).ok_or("no memory")?;
+    let rows = [
+        linked(3),
+        pulled(Tail::Hot, Pulled::Cold(FIRST)),
+        held(),
+        touched(5, Touch::First),
+        touched(6, Touch::Queued(0)),
+        touched(7, Touch::Already),
+        released(),
+    ];
+    expect_answers(&rt, &mut world, &rows);
+    let told = told_by(&world);
+    let head = Head {
+        refs: 2,
+        linked: true,
+        fetched: true,
+        active: true,
+        segment: Segment::Cold,
+        generation: 1,
+    };
+    let accounts = Accounts {
+        attempted: 1,
+        accepted: 1,
+        ..NO_BUMPS
+    };
+    assert_eq!(rt; told.heads.0, head);
+    assert_eq!(rt; told.times, (3, 0));
+    assert_eq!(rt; told.cold, (1, Some(0), Some(0)));
+    assert_eq!(rt; told.accounts, accounts);
+    assert_eq!(rt; told.sent, (1, Some(FIRST)));
+    assert_eq!(rt; told.received, (0, None));
+    Ok(())
+}
+
+#[test]
+fn errors_say_what_they_are(rt: HostRuntime) -> Result<(), Fail> {
+    let refused = format!(in rt.alloc(); "{}; {}", Refused::NotEnabled, Refused::OutOfMemory)?;
+    assert_eq!(rt; refused.as_str(), "not enabled; out of memory");
+    let fault = format!(in rt.alloc(); "{}", ConfigFault::Workers)?;
+    assert_eq!(rt; fault.as_str(), "a store has 1 to 64 workers");
+    let memory = format!(in rt.alloc(); "{}", AllocError)?;
+    assert_eq!(rt; memory.as_str(), "memory allocation failed");
     Ok(())
 }
 
@@ -386,5 +560,42 @@ fn the_first_of_two_faults_is_answered(rt: HostRuntime) -> Result<(), Fail> {
         let made = Config::new(workers, capacity, refs_limit, generation, classes);
         assert_eq!(rt; made.err(), *fault, "at {numbers:?}");
     }
+    Ok(())
+}
+
+/// Whoever holds a World can tell that it is lawful, and as the headline says.
+fn is_as_promised(world: &World)
+    ensures lawful { IsLawful world.now }
+    ensures headline { Headline world.now }
+{
+    world.promise();
+}
+
+/// How many chunks are UNUSED, over all classes: a caller that can test its own arguments.
+fn count_unused(world: &World) -> usize {
+    let mut count: usize = 0;
+    for class in 0..world.classes() {
+        count = count.saturating_add(world.list(class, Place::Unused).len());
+    }
+    count
+}
+
+#[test]
+fn a_world_tells_how_much_there_is(rt: HostRuntime) -> Result<(), Fail> {
+    let alloc = rt.alloc();
+    let mut classes = Vec::new(alloc);
+    for chunks in [2, 3].iter() {
+        classes.push(ClassConfig {
+            chunks: *chunks,
+            hot: 5,
+            warm: 5,
+        })?;
+    }
+    let config = Config::new(3, 4, 4, 1, classes).ok().ok_or("a fault")?;
+    let world = World::new(alloc, &config)?;
+    is_as_promised(&world);
+    let told = (world.classes(), world.chunks(), world.workers());
+    assert_eq!(rt; told, (2, 5, 3));
+    assert_eq!(rt; count_unused(&world), 5);
     Ok(())
 }

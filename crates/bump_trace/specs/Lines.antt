@@ -1,119 +1,83 @@
--- What a line says.
-use Rattle.std.specs.Prelude.{ℕ, ◌^◌, List, [], ◌∷◌, Option, Some, None, Result, Ok, Err, if◌then◌else◌, codes}
+-- The lines of a trace: the table of their first words and fields, and how a line is read by it.
+use Rattle.std.specs.Prelude.{ℕ, ◌==◌, List, [], ◌∷◌, find, codes, Option, Some, None, Result, Ok, Err}
+use Rattle.std.specs.List.{slice_split}
 use Rattle.std.specs.Str.{bytes_eq}
-use Rattle.bump_core.specs.declared.configs.ClassConfig.{ClassConfig}
 use Rattle.bump_core.specs.declared.places.Tail.{Tail}
-use Rattle.bump_core.specs.declared.places.Tail.TheVariants.{Hot, Warm, Cold}
-use Rattle.bump_trace.specs.Numbers.{number_of}
-use Rattle.bump_trace.specs.Words.{is_name}
-use Rattle.bump_trace.specs.declared.fault.Fault.{Fault}
-use Rattle.bump_trace.specs.declared.fault.Fault.TheVariants as fault
-use Rattle.bump_trace.specs.declared.line.Shape.{Shape}
+use Rattle.bump_trace.specs.Fields.{Kind, U32, U64, Name, Segment, Value, field}
+use Rattle.bump_trace.specs.declared.faults.Fault.{Fault}
+use Rattle.bump_trace.specs.declared.faults.Fault.TheVariants as fault
+use Rattle.bump_trace.specs.declared.lines.Declaration.{Declaration}
+use Rattle.bump_trace.specs.declared.lines.Declaration.TheVariants.{Store, Class}
 
--- A command with its fields:
---   store WORKERS CAPACITY REFS GENERATION
---   class CHUNKS HOT WARM
---   set NAME CLASS LABEL
---   get WORKER NAME
---   pull CLASS hot|warm|cold
---   drain
---   show
+-- what is done on an open store, with the fields of its line
 pub data Instruction : Type 0 where
-  Store : Shape → Instruction
-  Class : ClassConfig → Instruction
   Set : List ℕ → ℕ → ℕ → Instruction
   Get : ℕ → List ℕ → Instruction
   Pull : ℕ → Tail → Instruction
   Drain : Instruction
   Show : Instruction
 
--- the first fault, or what follows
-infixl 10 ◌>>=◌
-abbrev pub ◌>>=◌ : {A B : Type 0} → Result A Fault → (A → Result B Fault) → Result B Fault
-(Ok x) >>= f = f x
-(Err e) >>= f = Err e
+-- A line says what the store is, or what is done on it.
+pub data Line : Type 0 where
+  Declares : Declaration → Line
+  Makes : Instruction → Line
 
-abbrev pub or_fault : {A : Type 0} → Fault → Option A → Result A Fault
-or_fault e (Some x) = Ok x
-or_fault e None = Err e
+-- with a value for each kind, a line
+abbrev pub LineFrom : List Kind → Type 0
+LineFrom [] = Line
+LineFrom (kind ∷ kinds) = Value kind → LineFrom kinds
 
--- A label has 64 bits, all other numbers have 32.
-unfoldable pub long_field : List ℕ → Result ℕ Fault
-long_field word = or_fault fault.Number (number_of (2 ^ 64) word)
+-- a first word, the kinds of the fields behind it, and the line that it is with such fields
+pub record Row : Type 0 where
+  pub word : List ℕ
+  pub kinds : List Kind
+  pub line : LineFrom kinds
 
-unfoldable pub short_field : List ℕ → Result ℕ Fault
-short_field word = or_fault fault.Number (number_of (2 ^ 32) word)
+-- a row of the table
+abbrev pub row : List ℕ → (kinds : List Kind) → LineFrom kinds → Row
+row word kinds line = record { word = word; kinds = kinds; line = line }
 
-unfoldable pub name_field : List ℕ → Result (List ℕ) Fault
-name_field word = if is_name word then Ok word else Err fault.Name
+-- The table: a row for each line that a trace may have.
+abbrev pub table : List Row
+table =
+    row (codes "store") (U32 ∷ U32 ∷ U32 ∷ U32 ∷ []) (λ workers capacity refs generation.
+    Declares (Store (record { workers = workers; capacity = capacity; refs_limit = refs; first_generation = generation })))
+    ∷ row (codes "class") (U32 ∷ U32 ∷ U32 ∷ []) (λ chunks hot warm. Declares (Class (record { chunks = chunks; hot = hot; warm = warm })))
+    ∷ row (codes "set") (Name ∷ U32 ∷ U64 ∷ []) (λ name class label. Makes (Set name class label))
+    ∷ row (codes "get") (U32 ∷ Name ∷ []) (λ worker name. Makes (Get worker name))
+    ∷ row (codes "pull") (U32 ∷ Segment ∷ []) (λ class segment. Makes (Pull class segment))
+    ∷ row (codes "drain") [] (Makes Drain)
+    ∷ row (codes "show") [] (Makes Show)
+    ∷ []
 
-unfoldable pub segment_field : List ℕ → Result Tail Fault
-segment_field word =
-    if bytes_eq word (codes "hot") then Ok Hot
-    else (if bytes_eq word (codes "warm") then Ok Warm
-    else (if bytes_eq word (codes "cold") then Ok Cold
-    else Err fault.Segment))
+-- a line with one more of its fields, or the first fault
+abbrev pub with_field : {A B : Type 0} → Result (A → B) Fault → Result A Fault → Result B Fault
+with_field (Ok line) (Ok value) = Ok (line value)
+with_field (Ok line) (Err e) = Err e
+with_field (Err e) value = Err e
 
--- Each command's fields, from left to right.
-unfoldable pub store_of : List (List ℕ) → Result Instruction Fault
-store_of (workers ∷ capacity ∷ refs ∷ generation ∷ []) = do
-  w ← short_field workers
-  c ← short_field capacity
-  r ← short_field refs
-  g ← short_field generation
-  Ok (Store (record { workers = w; capacity = c; refs_limit = r; first_generation = g }))
-store_of fields = Err fault.Count
+-- The fields, from left to right. COUNT comes before what is wrong with any of them, so the first fault waits until all
+-- are counted.
+abbrev pub with_fields : (kinds : List Kind) → Result (LineFrom kinds) Fault → List (List ℕ) → Result Line Fault
+with_fields [] line [] = line
+with_fields (kind ∷ kinds) line (word ∷ words) = with_fields kinds (with_field line (field kind word)) words
+with_fields kinds line words = Err fault.Count
 
-unfoldable pub class_of : List (List ℕ) → Result Instruction Fault
-class_of (chunks ∷ hot ∷ warm ∷ []) = do
-  c ← short_field chunks
-  h ← short_field hot
-  w ← short_field warm
-  Ok (Class (record { chunks = c; hot = h; warm = w }))
-class_of fields = Err fault.Count
+-- COMMAND where there is no row, else the fields by it
+abbrev pub by_row : Option Row → List (List ℕ) → Result Line Fault
+by_row None fields = Err fault.Command
+by_row (Some row) fields = with_fields row.kinds (Ok row.line) fields
 
-unfoldable pub set_of : List (List ℕ) → Result Instruction Fault
-set_of (name ∷ class ∷ label ∷ []) = do
-  n ← name_field name
-  k ← short_field class
-  x ← long_field label
-  Ok (Set n k x)
-set_of fields = Err fault.Count
+-- what a line says, by the row of its first word
+unfoldable pub line_of : List ℕ → List (List ℕ) → Result Line Fault
+line_of word fields = by_row (find (λ r. bytes_eq word r.word) table) fields
 
-unfoldable pub get_of : List (List ℕ) → Result Instruction Fault
-get_of (worker ∷ name ∷ []) = do
-  w ← short_field worker
-  n ← name_field name
-  Ok (Get w n)
-get_of fields = Err fault.Count
+-- The words of a line are what stands between spaces. Two words have exactly one space between them, so another space
+-- makes an empty word.
+abbrev pub split_at_spaces : List ℕ → List (List ℕ)
+split_at_spaces line = slice_split (λ b. b == 32) line
 
-unfoldable pub pull_of : List (List ℕ) → Result Instruction Fault
-pull_of (class ∷ segment ∷ []) = do
-  k ← short_field class
-  t ← segment_field segment
-  Ok (Pull k t)
-pull_of fields = Err fault.Count
-
-unfoldable pub drain_of : List (List ℕ) → Result Instruction Fault
-drain_of [] = Ok Drain
-drain_of fields = Err fault.Count
-
-unfoldable pub show_of : List (List ℕ) → Result Instruction Fault
-show_of [] = Ok Show
-show_of fields = Err fault.Count
-
--- the first word is the command, the others are its fields
-unfoldable pub command_of : List ℕ → List (List ℕ) → Result Instruction Fault
-command_of word fields =
-    if bytes_eq word (codes "store") then store_of fields
-    else (if bytes_eq word (codes "class") then class_of fields
-    else (if bytes_eq word (codes "set") then set_of fields
-    else (if bytes_eq word (codes "get") then get_of fields
-    else (if bytes_eq word (codes "pull") then pull_of fields
-    else (if bytes_eq word (codes "drain") then drain_of fields
-    else (if bytes_eq word (codes "show") then show_of fields
-    else Err fault.Command))))))
-
-unfoldable pub instruction_of : List (List ℕ) → Result Instruction Fault
-instruction_of [] = Err fault.Command
-instruction_of (word ∷ fields) = command_of word fields
+-- what a line says, by its words
+unfoldable pub line_of_words : List (List ℕ) → Result Line Fault
+line_of_words [] = Err fault.Command
+line_of_words (word ∷ fields) = line_of word fields

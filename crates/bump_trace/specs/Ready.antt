@@ -3,9 +3,9 @@ use Rattle.std.specs.Prelude.{◌≡◌, true, All, length}
 use Rattle.bump_core.specs.declared.lanes.Lane.TheVariants as lane
 use Rattle.bump_core.specs.declared.hands.Hand.TheVariants as hand
 use Rattle.bump_core.specs.State.{State, WorkerState}
-use Rattle.bump_trace.specs.declared.bench.Bench.{Bench}
-use Rattle.bump_trace.specs.declared.session.Progress.{Progress}
-use Rattle.bump_trace.specs.declared.session.Progress.TheVariants as progress
+use Rattle.bump_trace.specs.declared.open_store.OpenStore.{OpenStore}
+use Rattle.bump_trace.specs.declared.stages.Stage.{Stage}
+use Rattle.bump_trace.specs.declared.stages.Stage.TheVariants as stage
 
 -- the worker's ring takes bumps, and neither the worker nor its lane has anything in hand
 pub record IsResting (x : WorkerState) : Type 0 where
@@ -13,18 +13,19 @@ pub record IsResting (x : WorkerState) : Type 0 where
   pub idle : x.hand ≡ hand.Idle
   pub empty : x.lane ≡ lane.Empty
 
+-- all workers rest
 abbrev pub IsAtRest : State → Type 0
 IsAtRest s = All IsResting s.workers
 
 -- the numbers kept beside the World are its own, and it is at rest
-pub record IsReady (b : Bench) : Type 0 where
+pub record IsReady (b : OpenStore) : Type 0 where
   pub workers : length b.world.workers ≡ b.workers
   pub classes : length b.world.classes ≡ b.classes
   pub capacity : b.world.capacity ≡ b.capacity
   pub rest : IsAtRest b.world
 
 -- a store that is open is ready
-abbrev pub IsSettled : Progress → Type 0
-IsSettled progress.Before = Unit {0}
-IsSettled (progress.Classes shape classes) = Unit {0}
-IsSettled (progress.Open bench) = IsReady bench
+abbrev pub IsSettled : Stage → Type 0
+IsSettled stage.Before = Unit {0}
+IsSettled (stage.Classes shape classes) = Unit {0}
+IsSettled (stage.Open store) = IsReady store

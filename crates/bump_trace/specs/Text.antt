@@ -1,4 +1,4 @@
--- The printed text: ids, flags, list lines, accounts, and the line of each command.
+-- The printed text: ids, flags, list lines, accounts, answers, and the line of each command.
 use Rattle.std.specs.Prelude.{ℕ, List, [], ◌∷◌, ◌++◌, length, codes, decimal, if◌then◌else◌}
 use Rattle.std.specs.List.{flat_map}
 use Rattle.bump_core.specs.declared.bumps.Accounts.{Accounts}
@@ -6,6 +6,8 @@ use Rattle.bump_core.specs.declared.bumps.Applied.{Applied}
 use Rattle.bump_core.specs.declared.bumps.Applied.TheVariants.{Moved, TimeOnly, Gone}
 use Rattle.bump_core.specs.declared.bumps.Ended.TheVariants.{Freed, Deferred}
 use Rattle.bump_core.specs.declared.bumps.Entry.{Entry}
+use Rattle.bump_core.specs.declared.commands.Answer.{Answer}
+use Rattle.bump_core.specs.declared.commands.Answer.TheVariants as answer
 use Rattle.bump_core.specs.declared.commands.Dropped.TheVariants.{Full, Busy, RefsFull}
 use Rattle.bump_core.specs.declared.commands.Pulled.{Pulled}
 use Rattle.bump_core.specs.declared.commands.Pulled.TheVariants as pulled
@@ -16,12 +18,12 @@ use Rattle.bump_core.specs.declared.items.ItemId.{ItemId}
 use Rattle.bump_core.specs.declared.places.Place.{Place}
 use Rattle.bump_core.specs.declared.places.Place.TheVariants as place
 use Rattle.bump_core.specs.declared.places.Tail.{Tail}
-use Rattle.bump_core.specs.declared.places.Tail.TheVariants as tail
 use Rattle.bump_core.specs.Lists.{list_at, ascending}
 use Rattle.bump_core.specs.Lives.{life}
 use Rattle.bump_core.specs.State.{State, chunk, head, class, worker}
-use Rattle.bump_trace.specs.Words.{word_of}
-use Rattle.bump_trace.specs.declared.fault.Fault.{Fault}
+use Rattle.bump_trace.specs.Faults.{fault_word}
+use Rattle.bump_trace.specs.Fields.{tail_word}
+use Rattle.bump_trace.specs.declared.faults.Fault.{Fault}
 
 -- CHUNK.GENERATION
 abbrev pub id_text : ItemId → List ℕ
@@ -36,11 +38,15 @@ abbrev pub item_text : ℕ → Head → ℕ → List ℕ
 item_text c h time = id_text (life c h.generation) ++ codes ":" ++ decimal h.refs ++ codes ":" ++ flags_text h ++ codes ":" ++ decimal time
 
 -- An item of HOT, WARM, COLD or DYING is told whole, a chunk of UNUSED or RETIRED by its number.
-abbrev pub entry_text : Place → ℕ → Head → ℕ → List ℕ
-entry_text place.Unused c h time = decimal c
-entry_text place.Retired c h time = decimal c
-entry_text _ c h time = item_text c h time
+abbrev pub chunk_text : Place → ℕ → Head → ℕ → List ℕ
+chunk_text place.Hot c h time = item_text c h time
+chunk_text place.Warm c h time = item_text c h time
+chunk_text place.Cold c h time = item_text c h time
+chunk_text place.Dying c h time = item_text c h time
+chunk_text place.Unused c h time = decimal c
+chunk_text place.Retired c h time = decimal c
 
+-- the word of a list
 abbrev pub place_word : Place → List ℕ
 place_word place.Hot = codes "hot"
 place_word place.Warm = codes "warm"
@@ -59,12 +65,13 @@ list_start k p length = codes "class " ++ decimal k ++ codes " " ++ place_word p
 
 -- a space, and what is told of a chunk of the list
 abbrev pub list_entry : State → Place → ℕ → List ℕ
-list_entry s p c = codes " " ++ entry_text p c (head s c) (chunk s c).time
+list_entry s p c = codes " " ++ chunk_text p c (head s c) (chunk s c).time
 
 -- class C PLACE LEN, and then the entries of the list, front first
 unfoldable pub list_line : State → ℕ → Place → List ℕ
 list_line s k p = let cs = list_at (class s k).lists p in list_start k p (length cs) ++ flat_map (list_entry s p) cs ++ codes "\n"
 
+-- the lines of a class
 abbrev pub class_lines : State → ℕ → List ℕ
 class_lines s k = flat_map (list_line s k) all_places
 
@@ -78,6 +85,7 @@ accounts_text a applied =
 abbrev pub accounts_line : ℕ → Accounts → ℕ → List ℕ
 accounts_line w a applied = codes "worker " ++ decimal w ++ codes " " ++ accounts_text a applied ++ codes "\n"
 
+-- the line of a worker
 unfoldable pub worker_line : State → ℕ → List ℕ
 worker_line s w = accounts_line w (worker s w).accounts (length (worker s w).applied)
 
@@ -104,11 +112,6 @@ pulled_text (pulled.Warm id) = codes "warm " ++ id_text id
 pulled_text (pulled.Again id) = codes "again " ++ id_text id
 pulled_text (pulled.Cold id) = codes "cold " ++ id_text id
 
-abbrev pub tail_word : Tail → List ℕ
-tail_word tail.Hot = codes "hot"
-tail_word tail.Warm = codes "warm"
-tail_word tail.Cold = codes "cold"
-
 -- what applying a bump did
 abbrev pub applied_text : Applied → List ℕ
 applied_text Moved = codes "warm"
@@ -116,28 +119,48 @@ applied_text TimeOnly = codes "time"
 applied_text (Gone Freed) = codes "gone freed"
 applied_text (Gone Deferred) = codes "gone deferred"
 
--- set NAME ID, or set NAME full
-abbrev pub set_line : List ℕ → ItemId → List ℕ
-set_line name id = codes "set " ++ name ++ codes " " ++ id_text id ++ codes "\n"
+-- N ID, and what applying the bump did
+abbrev pub entry_text : Entry → List ℕ
+entry_text e = decimal e.number ++ codes " " ++ id_text e.life ++ codes " " ++ applied_text e.applied
 
-abbrev pub set_full_line : List ℕ → List ℕ
-set_full_line name = codes "set " ++ name ++ codes " full\n"
+-- How each answer is told. A hold that was given back, and a bump that isn't there, are told by no words.
+abbrev pub answer_text : Answer → List ℕ
+answer_text (answer.Linked id) = id_text id
+answer_text answer.NoFreeChunk = codes "full"
+answer_text (answer.Pulled p) = pulled_text p
+answer_text answer.Held = codes "held"
+answer_text answer.NoSuchChunk = codes "miss"
+answer_text answer.Stale = codes "miss"
+answer_text answer.RefsFull = codes "refs"
+answer_text (answer.Touched t) = touch_text t
+answer_text (answer.Label x) = decimal x
+answer_text answer.Done = []
+answer_text (answer.Bumped e) = entry_text e
+answer_text answer.Nothing = []
 
--- get W NAME LABEL HIT
-abbrev pub get_line : ℕ → List ℕ → ℕ → Touch → List ℕ
-get_line w name label hit = codes "get " ++ decimal w ++ codes " " ++ name ++ codes " " ++ decimal label ++ codes " " ++ touch_text hit ++ codes "\n"
+-- set NAME, and the answer
+abbrev pub set_line : List ℕ → Answer → List ℕ
+set_line name a = codes "set " ++ name ++ codes " " ++ answer_text a ++ codes "\n"
 
--- get W NAME, and why there was no hold
-abbrev pub get_refused_line : ℕ → List ℕ → List ℕ → List ℕ
-get_refused_line w name why = codes "get " ++ decimal w ++ codes " " ++ name ++ codes " " ++ why ++ codes "\n"
+-- get W NAME
+abbrev pub get_start : ℕ → List ℕ → List ℕ
+get_start w name = codes "get " ++ decimal w ++ codes " " ++ name ++ codes " "
 
--- pull CLASS SEGMENT, and what it did
-abbrev pub pull_line : ℕ → Tail → Pulled → List ℕ
-pull_line k t p = codes "pull " ++ decimal k ++ codes " " ++ tail_word t ++ codes " " ++ pulled_text p ++ codes "\n"
+-- get W NAME, and the answer
+abbrev pub get_line : ℕ → List ℕ → Answer → List ℕ
+get_line w name a = get_start w name ++ answer_text a ++ codes "\n"
+
+-- get W NAME LABEL HIT, of an item that was held
+abbrev pub get_held_line : ℕ → List ℕ → Answer → Answer → List ℕ
+get_held_line w name label hit = get_start w name ++ answer_text label ++ codes " " ++ answer_text hit ++ codes "\n"
+
+-- pull CLASS SEGMENT, and the answer
+abbrev pub pull_line : ℕ → Tail → Answer → List ℕ
+pull_line k t a = codes "pull " ++ decimal k ++ codes " " ++ tail_word t ++ codes " " ++ answer_text a ++ codes "\n"
 
 -- bump W N ID, and what it did
 abbrev pub bump_line : ℕ → Entry → List ℕ
-bump_line w e = codes "bump " ++ decimal w ++ codes " " ++ decimal e.number ++ codes " " ++ id_text e.life ++ codes " " ++ applied_text e.applied ++ codes "\n"
+bump_line w e = codes "bump " ++ decimal w ++ codes " " ++ entry_text e ++ codes "\n"
 
 -- drain N
 abbrev pub drain_line : ℕ → List ℕ
@@ -145,4 +168,4 @@ drain_line n = codes "drain " ++ decimal n ++ codes "\n"
 
 -- line N: WORD
 abbrev pub fault_line : ℕ → Fault → List ℕ
-fault_line n fault = codes "line " ++ decimal n ++ codes ": " ++ word_of fault ++ codes "\n"
+fault_line n fault = codes "line " ++ decimal n ++ codes ": " ++ fault_word fault ++ codes "\n"

@@ -2,18 +2,22 @@
 //! means stands in `specs/Meaning.antt`; `run_model` is proved to write that text and nothing else.
 #![tactic(auto)]
 
-mod bench;
 mod counted;
-mod fault;
-mod line;
-mod model;
+mod cutting;
+mod faults;
+mod fields;
+mod gathering;
+mod lines;
 mod names;
-mod output;
-pub mod rows;
-mod session;
+mod open_store;
+mod reading;
+mod runs;
+mod stages;
+mod text;
+pub mod worked_traces;
 
 pub use counted::Counted;
-pub use model::{SimFault, run_model};
+pub use runs::{SimFault, run_model};
 
 #[cfg(test)]
 mod tests;

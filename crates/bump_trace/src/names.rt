@@ -1,7 +1,7 @@
 //! The names of items.
 
-ghost use Rattle.std.specs.Prelude.{◌≡◌, None, OnOk, OnErr};
-ghost use Rattle.bump_trace.specs.Stages.{bind};
+ghost use Rattle.std.specs.Prelude.{◌≡◌, OnOk};
+ghost use Rattle.bump_trace.specs.Names.{no_names, bind};
 
 use bump_core::ItemId;
 use std::alloc::{AllocError, Global};
@@ -18,7 +18,7 @@ impl<'a> Names<'a> {
 
     /// No name is bound.
     pub fn new(alloc: Global) -> Names<'a>
-        ensures { names_of result ≡ (λ name. None) }
+        ensures { names_of result ≡ no_names }
     {
         Names {
             ids: BTreeMap::new(alloc),

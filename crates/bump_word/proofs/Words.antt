@@ -1,10 +1,10 @@
 -- The fields of a head word, and that one word is one Head's.
-use Rattle.std.proofs.Common.{◌≡◌, ℕ, zero, suc, ◌+◌, ◌-◌, ◌*◌, ◌/◌, ◌%◌, ◌^◌, ◌<◌, ◌≤◌, Bool, true, false, refl, sym, ap, ◌∙◌, arith, Option, Some}
+use Rattle.std.proofs.Common.{◌≡◌, ℕ, zero, suc, ◌+◌, ◌*◌, ◌/◌, ◌%◌, ◌^◌, ◌<◌, ◌≤◌, Bool, true, false, refl, sym, ap, ◌∙◌, arith, Option, Some}
 use Rattle.bump_core.specs.declared.items.Head.{Head}
 use Rattle.bump_core.specs.declared.places.Segment.{Segment}
 use Rattle.bump_core.specs.declared.places.Segment.TheVariants.{Hot, Warm, Cold}
 use Rattle.bump_word.specs.Layout.{refs_width, linked_first, fetched_first, active_first, segment_first, segment_width, generation_first, generation_width}
-use Rattle.bump_word.specs.Words.{number_of, Spells, IsPacked, IsUnpacked, zeros_of, segment_bits}
+use Rattle.bump_word.specs.Words.{number_of, Spells, IsPacked, FindsHead, zeros_of, segment_bits}
 use Rattle.bump_core.specs.Lawful.{bit}
 
 -- a flag's number is at most 1
@@ -76,14 +76,10 @@ one_head n g h a b = let x = fields n g a in let y = fields n h b in
     let generation : g.generation ≡ h.generation = sym x.generation ∙ y.generation in
     λ k. record { refs = refs k; linked = linked k; fetched = fetched k; active = active k; segment = segment k; generation = generation k }
 
--- what is read of the word of a Head that was packed is that Head
-pub there : (h : Head) (n : ℕ) (answer : Option Head) → h.refs ≤ 2 ^ refs_width - 1 → h.generation < 2 ^ generation_width → IsPacked h n → IsUnpacked n answer → answer ≡ Some h
-there h n answer refs generation packed unpacked = unpacked.every h (packed, (omega (arith, refs), generation))
+-- what is found at the word of a Head is that Head
+pub there : (h : Head) (n : ℕ) (answer : Option Head) → h.refs < 2 ^ refs_width → h.generation < 2 ^ generation_width → IsPacked h n → FindsHead n answer → answer ≡ Some h
+there h n answer refs generation packed every = every h (packed, (refs, generation))
 
 -- the word of a Head that was read is the number that it was read of
-pub back : (n m : ℕ) (h : Head) → IsUnpacked n (Some h) → IsPacked h m → m ≡ n
-back n m h unpacked packed = packed ∙ sym unpacked.head.0
-
--- a Head that was read may be packed
-pub may_be_packed : (n : ℕ) (h : Head) → IsUnpacked n (Some h) → h.refs ≤ 2 ^ refs_width - 1
-may_be_packed n h unpacked = omega (arith, unpacked.head.1.0)
+pub back : (n packed : ℕ) (h : Head) → Spells n h → IsPacked h packed → packed ≡ n
+back n packed h spelled is = is ∙ sym spelled.0

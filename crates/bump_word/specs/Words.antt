@@ -1,5 +1,5 @@
 -- Which number a Head is.
-use Rattle.std.specs.Prelude.{◌≡◌, ◌≢◌, ◌⊎◌, ◌↔◌, ℕ, ◌+◌, ◌*◌, ◌/◌, ◌%◌, ◌^◌, ◌<◌, bit_xor, Option, Some, IsNone, IfSome}
+use Rattle.std.specs.Prelude.{◌≡◌, ℕ, ◌+◌, ◌*◌, ◌/◌, ◌%◌, ◌^◌, ◌<◌, bit_xor, Option, Some}
 use Rattle.bump_core.specs.declared.items.Head.{Head}
 use Rattle.bump_core.specs.Lawful.{bit}
 use Rattle.bump_core.specs.declared.places.Segment.{Segment}
@@ -29,9 +29,13 @@ Fits h = (h.refs < 2 ^ refs_width) × (h.generation < 2 ^ generation_width)
 abbrev pub Spells : ℕ → Head → Type 0
 Spells n h = (n ≡ word_of h) × Fits h
 
--- what `pack` gives for a Head: the word of the Head
+-- what `pack` gives for a Head: its word
 abbrev pub IsPacked : Head → ℕ → Type 0
 IsPacked h n = n ≡ word_of h
+
+-- what `unpack` answers for a number: whichever Head it is the word of, that Head is the answer
+abbrev pub FindsHead : ℕ → Option Head → Type 0
+FindsHead n answer = (h : Head) → Spells n h → answer ≡ Some h
 
 -- the number that the bits make that are zero in each Head's word
 abbrev pub zeros_of : ℕ → ℕ
@@ -40,13 +44,6 @@ zeros_of n = n / 2 ^ zero_first % 2 ^ zero_width
 -- the number that the segment's bits make
 abbrev pub segment_bits : ℕ → ℕ
 segment_bits n = n / 2 ^ segment_first % 2 ^ segment_width
-
--- what `unpack` answers for a number: the one Head whose word it is, where there is such a Head, and None exactly where a
--- bit is set that is zero in each Head's word, or where the segment's bits are the number of no segment
-pub record IsUnpacked (n : ℕ) (answer : Option Head) : Type 0 where
-  pub head : IfSome answer (λ h. Spells n h)
-  pub every : (h : Head) → Spells n h → answer ≡ Some h
-  pub none : IsNone answer ↔ ((zeros_of n ≢ 0) ⊎ (segment_bits n ≡ 3))
 
 -- the exclusive or of two segments' numbers, at the segment's place
 abbrev pub segment_change : Segment → Segment → ℕ

@@ -9,7 +9,7 @@ ghost use Rattle.bump_core.specs.declared.items.Head.{Head as TheHead};
 ghost use Rattle.bump_core.specs.declared.places.Segment.{Segment as TheSegment};
 ghost use Rattle.bump_core.specs.declared.places.Segment.TheVariants.{Hot, Warm, Cold};
 ghost use Rattle.bump_word.specs.Layout.{segment_first, generation_first, generation_width};
-ghost use Rattle.bump_word.specs.Words.{Spells, IsPacked, IsUnpacked, number_of, word_of, segment_bits, segment_change};
+ghost use Rattle.bump_word.specs.Words.{Spells, IsPacked, FindsHead, number_of, word_of, segment_bits, segment_change};
 ghost use Rattle.bump_word.specs.Steps.{Changes, Tests, Reads};
 ghost use Rattle.bump_core.specs.Heads.{newborn, severed_head, one_more as with_one_more, one_fewer, fetched_head, active_head, cleared_head, moved_head};
 
@@ -143,14 +143,14 @@ pub fn read_generation()
     ensures { Reads (λ n. n / 2 ^ generation_first) (λ h. h.generation) }
 {}
 
-/// There and back. What [`unpack`](crate::unpack) answers for the number that [`pack`](crate::pack) gives for a Head is that
+/// There and back: what [`unpack`](crate::unpack) answers for the number that [`pack`](crate::pack) gives for a Head is that
 /// Head; and where `unpack` answers a Head, that Head may be packed, and `pack` gives the number that was read. The clauses
-/// speak of any two answers that the contracts of the two calls allow, in the words of those contracts.
+/// speak of any numbers and answers, in the words of the contracts of the two calls, so a caller has the law of its own calls.
 pub fn there_and_back()
     ensures there { (h : TheHead) (n : ℕ) (answer : Option TheHead) → h.refs ≤ REFS_MAX → h.generation < 2 ^ 32 →
-        IsPacked h n → IsUnpacked n answer → answer ≡ Some h }
-    ensures back { (n m : ℕ) (h : TheHead) → IsUnpacked n (Some h) → IsPacked h m → m ≡ n }
-    ensures may_be_packed { (n : ℕ) (h : TheHead) → IsUnpacked n (Some h) → h.refs ≤ REFS_MAX }
+        IsPacked h n → FindsHead n answer → answer ≡ Some h }
+    ensures back { (n packed : ℕ) (h : TheHead) → Spells n h → IsPacked h packed → packed ≡ n }
+    ensures may_be_packed { (n : ℕ) (h : TheHead) → Spells n h → h.refs ≤ REFS_MAX }
 {}
 
 /// A number is the word of one Head at most, and such a number has 64 bits.

@@ -1,6 +1,6 @@
 //! From a Head to its word, and back.
-ghost use Rattle.std.specs.Prelude.{◌≤◌};
-ghost use Rattle.bump_word.specs.Words.{IsPacked, IsUnpacked};
+ghost use Rattle.std.specs.Prelude.{◌≡◌, ◌≢◌, ◌⊎◌, ◌↔◌, ◌≤◌, IsNone, IfSome};
+ghost use Rattle.bump_word.specs.Words.{IsPacked, FindsHead, Spells, zeros_of, segment_bits};
 
 use crate::layout::{
     ACTIVE_AT, FETCHED_AT, GENERATION_AT, LINKED_AT, REFS_AT, REFS_MAX, SEGMENT_AT, ZERO_AT,
@@ -24,7 +24,9 @@ pub fn pack(head: Head) -> u64
 /// The Head of a word. None exactly where one of the bits between segment and generation is set, or where the segment's
 /// bits are no segment's number: such a word is no Head's.
 pub fn unpack(word: u64) -> Option<Head>
-    ensures { IsUnpacked word result }
+    ensures head { IfSome result (λ h. Spells word h) }
+    ensures every { FindsHead word result }
+    ensures none { IsNone result ↔ ((zeros_of word ≢ 0) ⊎ (segment_bits word ≡ 3)) }
 {
     if ZERO_AT.read(word) != 0 {
         return None;

@@ -1,7 +1,7 @@
 -- How the program ends after a failure.
 use Rattle.std.specs.Prelude.{◌≡◌, ℕ, List, codes, Option, Some, None}
 use Rattle.std.specs.Borrow.{Bor}
-use Rattle.bump_trace.specs.declared.model.SimFault.TheVariants as fault
+use Rattle.bump_trace.specs.declared.runs.SimFault.TheVariants as fault
 use Rattle.bumpsim.specs.declared.Failure.{Failure}
 use Rattle.bumpsim.specs.declared.Failure.TheVariants as failure
 

@@ -37,7 +37,7 @@ class_new fresh from (c ∷ cs) zero = (record { lists = ap (opening from) (omeg
 class_new fresh from (c ∷ cs) (suc k) = class_new fresh (from + c.chunks) cs k
 
 -- there are as many classes as are configured
-classes_long : (g from : ℕ) (ks : List ClassConfig) → length (classes_from g from ks) ≡ length ks
+pub classes_long : (g from : ℕ) (ks : List ClassConfig) → length (classes_from g from ks) ≡ length ks
 classes_long g from [] = refl
 classes_long g from (c ∷ cs) = omega (arith, classes_long g (from + c.chunks) cs)
 

@@ -1,9 +1,0 @@
-use Rattle.std.proofs.Common.{arith}
-use Rattle.std.proofs.lemmas.Bool.{lt-ltb}
-use Rattle.bump_trace.proofs.Rest.{pull_allowed}
-use Rattle.bump_trace.proofs.bench.Bench.pull.Goals as goal
-
-pub command-requires-clause-allowed : goal.command-requires-clause-allowed
-command-requires-clause-allowed c =
-    let ready = c.requires.ready in
-    pull_allowed c.args.self.now.world c.args.class c.args.tail ready.rest (lt-ltb _ _ (omega (arith, ready.classes)))

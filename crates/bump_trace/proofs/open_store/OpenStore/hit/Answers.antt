@@ -1,0 +1,25 @@
+use Rattle.std.proofs.Common.{◌≡◌, ap, sym, subst, true, arith}
+use Rattle.std.proofs.lemmas.Bool.{lt-ltb}
+use Rattle.bump_core.specs.State.{State, is_held}
+use Rattle.bump_trace.specs.declared.open_store.OpenStore.{OpenStore}
+use Rattle.bump_trace.proofs.CommandsAtRest.{touch_allowed, release_allowed, held_after_touch}
+use Rattle.bump_trace.proofs.open_store.OpenStore.hit.Goals as goal
+
+pub command-requires-2-clause-allowed : goal.command-requires-2-clause-allowed
+command-requires-2-clause-allowed c =
+    let label = c.in_ok-label.ensures in
+    let s = c.command.new.self.world in
+    let same = ap (λ (b : OpenStore). b.world) label.after in
+    let count = ap (λ (b : OpenStore). b.workers) label.after in
+    let held : is_held s c.args.id ≡ true = subst (λ (t : State). is_held t c.args.id ≡ true) (sym same) c.requires.hold in
+    touch_allowed s c.args.worker c.args.id c.args.now label.ready.rest (lt-ltb _ _ (omega (arith, label.ready.workers, count, c.requires.worker))) held
+
+pub command-requires-3-clause-allowed : goal.command-requires-3-clause-allowed
+command-requires-3-clause-allowed c =
+    let label = c.in_ok-label.ensures in
+    let touch = c.in_ok-hit.ensures in
+    let s = c.command.new.self.world in
+    let same = ap (λ (b : OpenStore). b.world) label.after in
+    let held : is_held s c.args.id ≡ true = subst (λ (t : State). is_held t c.args.id ≡ true) (sym same) c.requires.hold in
+    let still = subst (λ (t : State). is_held t c.args.id ≡ true) (sym (ap (λ (b : OpenStore). b.world) touch.after)) (held_after_touch s c.args.worker c.args.id c.args.now held) in
+    release_allowed c.command-2.new.self.world c.args.id touch.ready.rest still

@@ -1,0 +1,29 @@
+use Rattle.std.proofs.Common.{◌≡◌, ◌+◌, not, false, sym, refl, ap, ◌∙◌, ◌++◌, ◌≤◌, take, length, length-append, length-take, arith}
+use Rattle.std.specs.IoError.{error_kind}
+use Rattle.bump_trace.specs.Counted.{is_interrupted, count_if}
+use Rattle.bump_trace.proofs.KnownBytes.{consumes_more, consumes_kept}
+use Rattle.bump_trace.proofs.reading.read_all.Goals as goal
+use Rattle.bump_trace.proofs.reading.read_all.Goals.{in-Ok+else-n-len+in_ok-extend_from_slice-in-Ok, in-Err+else-not-is_interruption}
+
+pub loop-preserved : goal.loop-preserved
+loop-preserved g c =
+    elim c.match-read.branch [
+      | in-Ok+else-n-len+in_ok-extend_from_slice-in-Ok w ↦
+          let piece = take w.in-Ok.n c.read.new.buf in
+          let all : c.match-read.bytes.items ≡ c.loop.bytes.items ++ piece = ap (λ v. v.items) w.bytes-is ∙ w.in_ok-extend_from_slice-in-Ok.ensures.items in
+          let long : length c.match-read.bytes.items ≡ length c.loop.bytes.items + length piece = ap length all ∙ length-append c.loop.bytes.items piece in
+          let short : length piece ≤ w.in-Ok.n = rw length-take (omega arith) in
+          record { taken = consumes_more _ _ _ c.loop.bytes.items piece c.match-read.bytes.items c.loop.invariant.taken w.in-Ok.ensures.bytes.0 all; size = omega arith; calls = omega (arith, w.in-Ok.ensures.calls, c.loop.invariant.calls, c.loop-test.true); failed = w.in-Ok.ensures.failed ∙ c.loop.invariant.failed }
+      | in-Err+else-not-is_interruption w ↦
+          let same : c.match-read.bytes.items ≡ c.loop.bytes.items = ap (λ v. v.items) w.bytes-is in
+          let none : not (is_interrupted (error_kind w.in-Err.e)) ≡ false = ap (λ k. not (is_interrupted k)) (sym w.kind.ensures) ∙ ap not (sym w.if-not-is_interruption.ensures) in
+          record { taken = consumes_kept _ _ _ c.loop.bytes.items c.match-read.bytes.items c.loop.invariant.taken w.in-Err.ensures.bytes same; size = omega (arith, ap length same); calls = omega (arith, w.in-Err.ensures.calls, c.loop.invariant.calls, c.loop-test.true); failed = w.in-Err.ensures.failed ∙ ap (λ b. count_if b c.loop.reader.failed) none ∙ c.loop.invariant.failed }
+    ]
+
+pub returns-then-n-len-clause-long : goal.returns-then-n-len-clause-long
+returns-then-n-len-clause-long g c =
+    let piece = take c.in-Ok.n c.read.new.buf in
+    let all = c.loop.bytes.items ++ piece in
+    let long : length all ≡ length c.loop.bytes.items + length piece = length-append c.loop.bytes.items piece in
+    let whole : length piece ≡ c.in-Ok.n = rw length-take (omega (arith, c.in-Ok.ensures.bound)) in
+    (all, consumes_more _ _ _ c.loop.bytes.items piece all c.loop.invariant.taken c.in-Ok.ensures.bytes.0 refl, omega (arith, long, whole, c.if-n-len.true, c.len.ensures))

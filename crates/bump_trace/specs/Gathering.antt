@@ -1,0 +1,31 @@
+-- Text that is gathered before it is written.
+use Rattle.std.specs.Prelude.{◌≡◌, ◌<◌, ℕ, Bool, List, ◌++◌, Option}
+use Rattle.std.specs.Io.KnownBytes.{Appends}
+use Rattle.bump_trace.specs.Meaning.{verdict_of}
+use Rattle.bump_trace.specs.Text.{fault_line}
+use Rattle.bump_trace.specs.declared.faults.LineError.{LineError}
+use Rattle.bump_trace.specs.declared.faults.LineError.TheVariants as errors
+use Rattle.bump_trace.specs.declared.runs.SimFault.{SimFault}
+use Rattle.bump_trace.specs.declared.runs.SimFault.TheVariants as faults
+
+-- What was gathered, and then this text, is what was written and what is gathered now.
+abbrev pub Gathers : Option (List ℕ) → Option (List ℕ) → List ℕ → List ℕ → List ℕ → Type 0
+Gathers held holds old new text = (sent : List ℕ) × Appends held holds sent × (sent ++ new ≡ old ++ text)
+
+-- The line of a fault was gathered.
+abbrev pub GathersFault : Option (List ℕ) → Option (List ℕ) → List ℕ → List ℕ → ℕ → LineError → Type 0
+GathersFault held holds old new number errors.Memory = ⊥
+GathersFault held holds old new number (errors.Fault fault) = Gathers held holds old new (fault_line number fault)
+
+-- What was written, and what is gathered, is the text of the input.
+abbrev pub RunsInto : Option (List ℕ) → Option (List ℕ) → List ℕ → List ℕ → Bool → Type 0
+RunsInto held holds gathered input is_fault =
+    (sent : List ℕ) × Appends held holds sent × (sent ++ gathered ≡ (verdict_of input).text) × ((verdict_of input).is_fault ≡ is_fault)
+
+-- a fault while the text is made and written: a write failed, or there was no memory
+abbrev pub IsOfWriting : ℕ → SimFault → Type 0
+IsOfWriting failed faults.Trace = ⊥
+IsOfWriting failed faults.Read = ⊥
+IsOfWriting failed faults.Size = ⊥
+IsOfWriting failed faults.Write = 0 < failed
+IsOfWriting failed faults.Memory = Unit {0}

@@ -1,0 +1,16 @@
+-- What the names of items are bound to.
+use Rattle.std.specs.Prelude.{ℕ, List, Option, Some, None, if◌then◌else◌}
+use Rattle.std.specs.Str.{bytes_eq}
+use Rattle.bump_core.specs.declared.items.ItemId.{ItemId}
+
+-- what each name is bound to
+abbrev pub Names : Type 0
+Names = List ℕ → Option ItemId
+
+-- no name is bound
+abbrev pub no_names : Names
+no_names name = None
+
+-- the last binding of a name wins
+abbrev pub bind : List ℕ → ItemId → Names → Names
+bind name id names other = if bytes_eq name other then Some id else names other

@@ -1,0 +1,118 @@
+-- What is done on an open store by each line, by the tables on the whole state, and the text that each gives.
+use Rattle.std.specs.Prelude.{ℕ, zero, suc, ◌+◌, List, [], ◌∷◌, ◌++◌, length, Option, Some, None, Result, Ok, Err, if◌then◌else◌}
+use Rattle.bump_core.specs.declared.bumps.Entry.{Entry}
+use Rattle.bump_core.specs.declared.commands.Answer.{Answer}
+use Rattle.bump_core.specs.declared.commands.Answer.TheVariants as answer
+use Rattle.bump_core.specs.declared.commands.Command.{Command}
+use Rattle.bump_core.specs.declared.commands.Command.TheVariants as command
+use Rattle.bump_core.specs.declared.items.ItemId.{ItemId}
+use Rattle.bump_core.specs.declared.places.Tail.{Tail}
+use Rattle.bump_core.specs.Commands.{answer_of, command_after}
+use Rattle.bump_core.specs.Lists.{ascending}
+use Rattle.bump_core.specs.State.{State, is_class, is_worker}
+use Rattle.bump_trace.specs.Lines.{Instruction, Set, Get, Pull, Drain, Show}
+use Rattle.bump_trace.specs.Names.{Names, bind}
+use Rattle.bump_trace.specs.Stages.{StoreState, Open, Said, say}
+use Rattle.bump_trace.specs.Text.{set_line, get_line, get_held_line, pull_line, bump_line, drain_line, show_text}
+use Rattle.bump_trace.specs.declared.faults.Fault.{Fault}
+use Rattle.bump_trace.specs.declared.faults.Fault.TheVariants as fault
+
+-- the store after a command, with the same names
+abbrev pub with_command : StoreState → Command → StoreState
+with_command b c = record b { state = command_after b.state c }
+
+-- set NAME CLASS LABEL: an item is linked, and the name is bound to it; after any other answer the bindings stay.
+abbrev pub names_after : Answer → List ℕ → Names → Names
+names_after (answer.Linked id) name names = bind name id names
+names_after _ name names = names
+
+-- the text of the answer, and the name bound
+abbrev pub set_by : StoreState → List ℕ → Answer → Said
+set_by b name a = say (Open (record b { names = names_after a name b.names })) (set_line name a)
+
+-- where there is such a class
+unfoldable pub set_said : StoreState → ℕ → List ℕ → ℕ → ℕ → Result Said Fault
+set_said b now name k label =
+    let c = command.Link k label now in
+    if is_class b.state k then Ok (set_by (with_command b c) name (answer_of b.state c)) else Err fault.Class
+
+-- get W NAME: a hold is taken; by it the label is read and the item is hit; and it is given back. Where there is no hold
+-- the answer says why.
+abbrev pub get_held : StoreState → ℕ → ℕ → List ℕ → ItemId → Said
+get_held b now w name id =
+    let hit = command.Touch w id now in
+    say (Open (with_command (with_command b hit) (command.Release id)))
+    (get_held_line w name (answer_of b.state (command.Label id)) (answer_of b.state hit))
+
+-- a hold is used, and any other answer told
+abbrev pub get_by : StoreState → ℕ → ℕ → List ℕ → ItemId → Answer → Said
+get_by b now w name id answer.Held = get_held b now w name id
+get_by b now w name id other = say (Open b) (get_line w name other)
+
+-- of the item that the name is bound to
+abbrev pub get_bound : StoreState → ℕ → ℕ → List ℕ → Option ItemId → Result Said Fault
+get_bound b now w name None = Err fault.Unbound
+get_bound b now w name (Some id) = let c = command.Take w id in Ok (get_by (with_command b c) now w name id (answer_of b.state c))
+
+-- where there is such a worker
+unfoldable pub get_said : StoreState → ℕ → ℕ → List ℕ → Result Said Fault
+get_said b now w name = if is_worker b.state w then get_bound b now w name (b.names name) else Err fault.Worker
+
+-- pull CLASS SEGMENT
+unfoldable pub pull_said : StoreState → ℕ → Tail → Result Said Fault
+pull_said b k t =
+    let c = command.Pull k t in
+    if is_class b.state k then Ok (say (Open (with_command b c)) (pull_line k t (answer_of b.state c))) else Err fault.Class
+
+-- drain: of each worker, ascending, the bumps are applied until there is none, at most as many as its ring has room for.
+pub record Drained : Type 0 where
+  pub state : State
+  pub text : List ℕ
+  pub count : ℕ
+
+-- no bump
+abbrev pub drained_none : State → Drained
+drained_none s = record { state = s; text = []; count = 0 }
+
+-- first these, then those
+abbrev pub drained_both : Drained → Drained → Drained
+drained_both a b = record { state = b.state; text = a.text ++ b.text; count = a.count + b.count }
+
+-- one bump
+abbrev pub drained_one : State → ℕ → Entry → Drained
+drained_one s w e = record { state = s; text = bump_line w e; count = 1 }
+
+-- what is done after one more answer: a bump, and then the others; any other answer is the end
+abbrev pub drained_by : Answer → State → ℕ → (State → Drained) → Drained
+drained_by (answer.Bumped e) s w others = drained_both (drained_one s w e) (others s)
+drained_by _ s w others = drained_none s
+
+-- a worker's bumps, at most so many
+abbrev pub drained_of : ℕ → ℕ → ℕ → State → Drained
+drained_of now w zero s = drained_none s
+drained_of now w (suc more) s = let c = command.Next w now in drained_by (answer_of s c) (command_after s c) w (drained_of now w more)
+
+-- these workers, one after another
+abbrev pub drained_through : ℕ → List ℕ → State → Drained
+drained_through now [] s = drained_none s
+drained_through now (w ∷ ws) s = let d = drained_of now w s.capacity s in drained_both d (drained_through now ws d.state)
+
+-- the text of all bumps, and how many they were
+abbrev pub drain_by : StoreState → Drained → Said
+drain_by b d = say (Open (record b { state = d.state })) (d.text ++ drain_line d.count)
+
+-- all workers
+unfoldable pub drain_said : StoreState → ℕ → Result Said Fault
+drain_said b now = Ok (drain_by b (drained_through now (ascending 0 (length b.state.workers)) b.state))
+
+-- show
+unfoldable pub show_said : StoreState → Result Said Fault
+show_said b = Ok (say (Open b) (show_text b.state))
+
+-- what each line does
+unfoldable pub instruction_said : StoreState → ℕ → Instruction → Result Said Fault
+instruction_said b now (Set name k label) = set_said b now name k label
+instruction_said b now (Get w name) = get_said b now w name
+instruction_said b now (Pull k t) = pull_said b k t
+instruction_said b now Drain = drain_said b now
+instruction_said b now Show = show_said b

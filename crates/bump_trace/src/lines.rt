@@ -1,0 +1,240 @@
+//! What a line says.
+
+ghost use Rattle.std.specs.Prelude.{◌≡◌, IfOk, map, codes};
+ghost use Rattle.bump_trace.specs.Lines.{split_at_spaces, line_of, line_of_words};
+ghost use Rattle.bump_trace.specs.Views.{seen_line, Gives};
+
+use crate::faults::Fault;
+use crate::fields::{name_field, segment_field, u32_field, u64_field};
+use bump_core::{ClassConfig, Tail};
+use std::alloc::{AllocError, Global};
+
+/// What a `store` line says. The ranges are looked at where the store is opened.
+#[derive(Clone, Copy, Debug, PartialEq, Eq)]
+pub struct Shape {
+    /// How many workers there are.
+    pub workers: u32,
+
+    /// How many bumps each worker's ring has room for.
+    pub capacity: u32,
+
+    /// The greatest reference count of a chunk.
+    pub refs_limit: u32,
+
+    /// The generation of each chunk's first life.
+    pub first_generation: u32,
+}
+
+/// A line that says what the store is.
+#[derive(Clone, Copy, Debug, PartialEq, Eq)]
+pub enum Declaration {
+    /// `store`: the workers, their rings and the limits.
+    Store(Shape),
+
+    /// `class`: one more class.
+    Class(ClassConfig),
+}
+
+/// A line that says what is done on the open store.
+#[derive(Clone, Copy, Debug, PartialEq, Eq)]
+pub enum Instruction<'a> {
+    /// `set`: an item is stored under a name.
+    Set {
+        /// The name that is bound to the item.
+        name: &'a [u8],
+
+        /// The number of the class that it is stored in.
+        class: u32,
+
+        /// Its label.
+        label: u64,
+    },
+
+    /// `get`: the item of a name is held, read, hit and given back.
+    Get {
+        /// The number of the worker that hits it.
+        worker: u32,
+
+        /// The name that is bound to the item.
+        name: &'a [u8],
+    },
+
+    /// `pull`: the last item of a list is looked at.
+    Pull {
+        /// The number of the class.
+        class: u32,
+
+        /// The list.
+        tail: Tail,
+    },
+
+    /// `drain`: the queued bumps are applied.
+    Drain,
+
+    /// `show`: all lists and accounts are printed.
+    Show,
+}
+
+/// What a line says.
+#[derive(Clone, Copy, Debug, PartialEq, Eq)]
+pub enum Line<'a> {
+    /// What the store is.
+    Declares(Declaration),
+
+    /// What is done on it.
+    Makes(Instruction<'a>),
+}
+
+/// The words of a line: what stands between spaces.
+pub fn words(alloc: Global, line: &[u8]) -> Result<Vec<&[u8]>, AllocError>
+    ensures { IfOk result (λ words. map (λ w. w.now) words.items ≡ split_at_spaces line.now) }
+{
+    line.split(|b| *b == b' ').collect(alloc)
+}
+
+#[tactic(auto, unfolding(crate::specs::Lines::line_of))]
+fn store<'a>(fields: &[&'a [u8]]) -> Result<Line<'a>, Fault>
+    ensures { Gives seen_line result (line_of (codes "store") (map (λ w. w.now) fields.now)) }
+{
+    match fields {
+        [workers, capacity, refs_limit, first_generation] => {
+            let workers = u32_field(workers);
+            let capacity = u32_field(capacity);
+            let refs_limit = u32_field(refs_limit);
+            let first_generation = u32_field(first_generation);
+            Ok(Line::Declares(Declaration::Store(Shape {
+                workers: workers?,
+                capacity: capacity?,
+                refs_limit: refs_limit?,
+                first_generation: first_generation?,
+            })))
+        }
+        _ => Err(Fault::Count),
+    }
+}
+
+#[tactic(auto, unfolding(crate::specs::Lines::line_of))]
+fn class<'a>(fields: &[&'a [u8]]) -> Result<Line<'a>, Fault>
+    ensures { Gives seen_line result (line_of (codes "class") (map (λ w. w.now) fields.now)) }
+{
+    match fields {
+        [chunks, hot, warm] => {
+            let chunks = u32_field(chunks);
+            let hot = u32_field(hot);
+            let warm = u32_field(warm);
+            Ok(Line::Declares(Declaration::Class(ClassConfig {
+                chunks: chunks?,
+                hot: hot?,
+                warm: warm?,
+            })))
+        }
+        _ => Err(Fault::Count),
+    }
+}
+
+#[tactic(auto, unfolding(crate::specs::Lines::line_of))]
+fn set<'a>(fields: &[&'a [u8]]) -> Result<Line<'a>, Fault>
+    ensures { Gives seen_line result (line_of (codes "set") (map (λ w. w.now) fields.now)) }
+{
+    match fields {
+        [name, class, label] => {
+            let name = name_field(name);
+            let class = u32_field(class);
+            let label = u64_field(label);
+            Ok(Line::Makes(Instruction::Set {
+                name: name?,
+                class: class?,
+                label: label?,
+            }))
+        }
+        _ => Err(Fault::Count),
+    }
+}
+
+#[tactic(auto, unfolding(crate::specs::Lines::line_of))]
+fn get<'a>(fields: &[&'a [u8]]) -> Result<Line<'a>, Fault>
+    ensures { Gives seen_line result (line_of (codes "get") (map (λ w. w.now) fields.now)) }
+{
+    match fields {
+        [worker, name] => {
+            let worker = u32_field(worker);
+            let name = name_field(name);
+            Ok(Line::Makes(Instruction::Get {
+                worker: worker?,
+                name: name?,
+            }))
+        }
+        _ => Err(Fault::Count),
+    }
+}
+
+#[tactic(auto, unfolding(crate::specs::Lines::line_of))]
+fn pull<'a>(fields: &[&'a [u8]]) -> Result<Line<'a>, Fault>
+    ensures { Gives seen_line result (line_of (codes "pull") (map (λ w. w.now) fields.now)) }
+{
+    match fields {
+        [class, tail] => {
+            let class = u32_field(class);
+            let tail = segment_field(tail);
+            Ok(Line::Makes(Instruction::Pull {
+                class: class?,
+                tail: tail?,
+            }))
+        }
+        _ => Err(Fault::Count),
+    }
+}
+
+#[tactic(auto, unfolding(crate::specs::Lines::line_of))]
+fn drain<'a>(fields: &[&'a [u8]]) -> Result<Line<'a>, Fault>
+    ensures { Gives seen_line result (line_of (codes "drain") (map (λ w. w.now) fields.now)) }
+{
+    match fields {
+        [] => Ok(Line::Makes(Instruction::Drain)),
+        _ => Err(Fault::Count),
+    }
+}
+
+#[tactic(auto, unfolding(crate::specs::Lines::line_of))]
+fn show<'a>(fields: &[&'a [u8]]) -> Result<Line<'a>, Fault>
+    ensures { Gives seen_line result (line_of (codes "show") (map (λ w. w.now) fields.now)) }
+{
+    match fields {
+        [] => Ok(Line::Makes(Instruction::Show)),
+        _ => Err(Fault::Count),
+    }
+}
+
+#[tactic(auto, unfolding(crate::specs::Lines::line_of))]
+fn by_first_word<'a>(word: &[u8], fields: &[&'a [u8]]) -> Result<Line<'a>, Fault>
+    ensures { Gives seen_line result (line_of word.now (map (λ w. w.now) fields.now)) }
+{
+    if word == b"store".as_slice() {
+        store(fields)
+    } else if word == b"class".as_slice() {
+        class(fields)
+    } else if word == b"set".as_slice() {
+        set(fields)
+    } else if word == b"get".as_slice() {
+        get(fields)
+    } else if word == b"pull".as_slice() {
+        pull(fields)
+    } else if word == b"drain".as_slice() {
+        drain(fields)
+    } else if word == b"show".as_slice() {
+        show(fields)
+    } else {
+        Err(Fault::Command)
+    }
+}
+
+/// What a line says, by its words.
+#[tactic(auto, unfolding(crate::specs::Lines::line_of_words))]
+pub fn read<'a>(words: &[&'a [u8]]) -> Result<Line<'a>, Fault>
+    ensures { Gives seen_line result (line_of_words (map (λ w. w.now) words.now)) }
+{
+    match words {
+        [] => Err(Fault::Command),
+        [word, fields @ ..] => by_first_word(word, fields),
+    }
+}

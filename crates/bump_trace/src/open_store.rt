@@ -1,0 +1,319 @@
+//! What is done on an open store.
+
+ghost use Rattle.std.specs.Prelude.{◌≡◌, ◌<◌, ◌≤◌, ◌+◌, ◌^◌, true, List, [], ◌∷◌, ◌++◌, IfOk, IfErr, OnOk, Ok, None, All, length};
+ghost use Rattle.std.specs.List.{flat_map};
+ghost use Rattle.bump_core.specs.Commands.{is_allowed, answer_of, command_after};
+ghost use Rattle.bump_core.specs.State.{is_held};
+ghost use Rattle.bump_core.specs.Lists.{ascending};
+ghost use Rattle.bump_core.specs.Readers.{list_of};
+ghost use Rattle.bump_trace.specs.Stages.{Open};
+ghost use Rattle.bump_trace.specs.OpenStore.{get_held, set_said, get_said, pull_said, drain_said, show_said, instruction_said, drained_of, drained_through};
+ghost use Rattle.bump_trace.specs.Names.{no_names};
+ghost use Rattle.bump_core.specs.Opening.{new_state};
+ghost use Rattle.bump_trace.specs.declared.faults.LineError.TheVariants.{Memory};
+ghost use Rattle.bump_trace.specs.Text.{list_entry, list_line, class_lines, worker_line, show_text};
+
+use crate::faults::{Fault, LineError};
+use crate::lines::Instruction;
+use crate::names::Names;
+use crate::text::{
+    put_bump, put_chunk, put_drain, put_get, put_get_held, put_list_start, put_pull, put_set,
+    put_worker,
+};
+use bump_core::{Answer, Command, Config, ItemId, Place, Refused, Tail, World};
+use std::alloc::{AllocError, Global};
+
+/// An open store: a World with the names of its items, and how many workers and classes it has and bumps each ring has
+/// room for.
+#[derive(Drop)]
+pub struct OpenStore<'a> {
+    world: World,
+    names: Names<'a>,
+    workers: u32,
+    classes: u32,
+    capacity: u32,
+}
+
+impl<'a> OpenStore<'a> {
+    ghost use Rattle.bump_trace.specs.Ready.{IsReady};
+    ghost use Rattle.bump_trace.specs.Views.{seen_instruction, store_of, Does, Drains};
+
+    /// A new World of this configuration, without names.
+    pub fn new(alloc: Global, config: &Config) -> Result<OpenStore<'a>, LineError>
+        ensures new { IfOk result (λ b. store_of b ≡ record { state = new_state config.now; names = no_names }) }
+        ensures ready { IfOk result (λ b. IsReady b) }
+        ensures err { IfErr result (λ e. e ≡ Memory) }
+    {
+        let world = World::new(alloc, config)?;
+        Ok(OpenStore {
+            world,
+            names: Names::new(alloc),
+            workers: config.workers,
+            classes: config.classes.as_slice().len() as u32,
+            capacity: config.capacity,
+        })
+    }
+
+    /// Makes a command that is allowed.
+    fn command(&mut self, command: Command) -> Result<Answer, LineError>
+        requires ready { IsReady self.old }
+        requires allowed { is_allowed self.old.world command ≡ true }
+        ensures answer { IfOk result (λ a. a ≡ answer_of self.old.world command) }
+        ensures err { IfErr result (λ e. e ≡ Memory) }
+        ensures after { OnOk result (self.new ≡ record self.old { world = command_after self.old.world command }) }
+        ensures ready { OnOk result (IsReady self.new) }
+    {
+        match self.world.command(command) {
+            Ok(answer) => Ok(answer),
+            Err(Refused::OutOfMemory) => Err(LineError::Memory),
+            Err(Refused::NotEnabled) => unreachable!(),
+        }
+    }
+
+    /// Links an item, and binds the name to it.
+    #[tactic(auto, unfolding(crate::specs::OpenStore::set_said))]
+    fn set(
+        &mut self,
+        now: u64,
+        name: &'a [u8],
+        class: u32,
+        label: u64,
+        out: &mut Vec<u8>,
+    ) -> Result<(), LineError>
+        requires ready { IsReady self.old }
+        requires empty { out.old.items ≡ [] }
+        ensures said { Does (Open (store_of self.new)) out.new.items result (set_said (store_of self.old) now name.entry.now class label) }
+        ensures ready { OnOk result (IsReady self.new) }
+    {
+        if class >= self.classes {
+            return Err(LineError::Fault(Fault::Class));
+        }
+        let answer = self.command(Command::Link { class, label, now })?;
+        if let Answer::Linked(id) = answer {
+            self.names.bind(name, id)?;
+        }
+        put_set(out, name, answer)?;
+        Ok(())
+    }
+
+    /// Reads the label of a held item, hits the item, and gives the hold back.
+    fn hit(
+        &mut self,
+        now: u64,
+        worker: u32,
+        name: &[u8],
+        id: ItemId,
+        out: &mut Vec<u8>,
+    ) -> Result<(), LineError>
+        requires ready { IsReady self.old }
+        requires worker { worker < self.old.workers }
+        requires hold { is_held self.old.world id ≡ true }
+        requires empty { out.old.items ≡ [] }
+        ensures said { Does (Open (store_of self.new)) out.new.items result (Ok (get_held (store_of self.old) now worker name.now id)) }
+        ensures ready { OnOk result (IsReady self.new) }
+    {
+        let label = self.command(Command::Label { id })?;
+        let hit = self.command(Command::Touch { worker, id, now })?;
+        let _ = self.command(Command::Release { id })?;
+        put_get_held(out, worker, name, label, hit)?;
+        Ok(())
+    }
+
+    /// Takes a hold of the item that the name is bound to, and hits it.
+    #[tactic(auto, unfolding(crate::specs::OpenStore::get_said))]
+    fn get(
+        &mut self,
+        now: u64,
+        worker: u32,
+        name: &'a [u8],
+        out: &mut Vec<u8>,
+    ) -> Result<(), LineError>
+        requires ready { IsReady self.old }
+        requires empty { out.old.items ≡ [] }
+        ensures said { Does (Open (store_of self.new)) out.new.items result (get_said (store_of self.old) now worker name.entry.now) }
+        ensures ready { OnOk result (IsReady self.new) }
+    {
+        if worker >= self.workers {
+            return Err(LineError::Fault(Fault::Worker));
+        }
+        let Some(id) = self.names.get(name) else {
+            return Err(LineError::Fault(Fault::Unbound));
+        };
+        match self.command(Command::Take { worker, id })? {
+            Answer::Held => self.hit(now, worker, name, id, out),
+            other => {
+                put_get(out, worker, name, other)?;
+                Ok(())
+            }
+        }
+    }
+
+    /// Looks at the last item of a list, and moves it by the tail table.
+    #[tactic(auto, unfolding(crate::specs::OpenStore::pull_said))]
+    fn pull(&mut self, class: u32, tail: Tail, out: &mut Vec<u8>) -> Result<(), LineError>
+        requires ready { IsReady self.old }
+        requires empty { out.old.items ≡ [] }
+        ensures said { Does (Open (store_of self.new)) out.new.items result (pull_said (store_of self.old) class tail) }
+        ensures ready { OnOk result (IsReady self.new) }
+    {
+        if class >= self.classes {
+            return Err(LineError::Fault(Fault::Class));
+        }
+        let answer = self.command(Command::Pull { class, tail })?;
+        put_pull(out, class, tail, answer)?;
+        Ok(())
+    }
+
+    /// Applies a worker's bumps until there is none, at most as many as its ring has room for, and says how many.
+    fn drain_worker(&mut self, now: u64, worker: u32, out: &mut Vec<u8>) -> Result<u64, LineError>
+        requires ready { IsReady self.old }
+        requires worker { worker < self.old.workers }
+        ensures drained { Drains self.old self.new out.old.items out.new.items result (drained_of now worker self.old.capacity self.old.world) }
+        ensures few { IfOk result (λ n. n < 2 ^ 32) }
+        ensures ready { OnOk result (IsReady self.new) }
+    {
+        let mut count = 0u64;
+        for _ in 0..self.capacity {
+            match self.command(Command::Next { worker, now })? {
+                Answer::Bumped(entry) => put_bump(out, worker, entry)?,
+                _ => return Ok(count),
+            }
+            count += 1;
+        }
+        Ok(count)
+    }
+
+    /// Applies the bumps of all workers, and says how many they were.
+    #[tactic(auto, unfolding(crate::specs::OpenStore::drain_said))]
+    fn drain(&mut self, now: u64, out: &mut Vec<u8>) -> Result<(), LineError>
+        requires ready { IsReady self.old }
+        requires empty { out.old.items ≡ [] }
+        ensures said { Does (Open (store_of self.new)) out.new.items result (drain_said (store_of self.old) now) }
+        ensures ready { OnOk result (IsReady self.new) }
+    {
+        let mut count = 0u64;
+        for worker in 0..self.workers {
+            count += self.drain_worker(now, worker, out)?;
+        }
+        put_drain(out, count)?;
+        Ok(())
+    }
+
+    /// What is told of these chunks of a list.
+    fn put_chunks(&self, out: &mut Vec<u8>, place: Place, chunks: &[u32]) -> Result<(), AllocError>
+        requires { All (λ c. c < length self.now.world.chunks) chunks.now }
+        ensures { OnOk result (out.new.items ≡ out.old.items ++ flat_map (list_entry self.now.world place) chunks.now) }
+    {
+        for chunk in chunks {
+            out.extend_from_slice(b" ")?;
+            put_chunk(
+                out,
+                place,
+                *chunk,
+                self.world.head(*chunk),
+                self.world.time(*chunk),
+            )?;
+        }
+        Ok(())
+    }
+
+    /// What is told of all chunks of a list.
+    fn put_entries(&self, out: &mut Vec<u8>, class: u32, place: Place) -> Result<(), AllocError>
+        requires { class < length self.now.world.classes }
+        ensures { OnOk result (out.new.items ≡ out.old.items ++ flat_map (list_entry self.now.world place) (list_of self.now.world class place)) }
+    {
+        let (front, back) = self.world.list(class, place).as_slices();
+        self.put_chunks(out, place, front)?;
+        self.put_chunks(out, place, back)?;
+        Ok(())
+    }
+
+    /// The line of a list.
+    #[tactic(auto, unfolding(crate::specs::Text::list_line))]
+    fn put_list(&self, out: &mut Vec<u8>, class: u32, place: Place) -> Result<(), AllocError>
+        requires { class < length self.now.world.classes }
+        ensures { OnOk result (out.new.items ≡ out.old.items ++ list_line self.now.world class place) }
+    {
+        put_list_start(out, class, place, self.world.list(class, place).len())?;
+        self.put_entries(out, class, place)?;
+        out.extend_from_slice(b"\n")
+    }
+
+    /// The lines of a class's lists.
+    fn put_class(&self, out: &mut Vec<u8>, class: u32) -> Result<(), AllocError>
+        requires { class < length self.now.world.classes }
+        ensures { OnOk result (out.new.items ≡ out.old.items ++ class_lines self.now.world class) }
+    {
+        self.put_list(out, class, Place::Hot)?;
+        self.put_list(out, class, Place::Warm)?;
+        self.put_list(out, class, Place::Cold)?;
+        self.put_list(out, class, Place::Dying)?;
+        self.put_list(out, class, Place::Unused)?;
+        self.put_list(out, class, Place::Retired)?;
+        Ok(())
+    }
+
+    fn put_classes(&self, out: &mut Vec<u8>) -> Result<(), AllocError>
+        requires { IsReady self.now }
+        ensures { OnOk result (out.new.items ≡ out.old.items ++ flat_map (class_lines self.now.world) (ascending 0 self.now.classes)) }
+    {
+        for class in 0..self.classes {
+            self.put_class(out, class)?;
+        }
+        Ok(())
+    }
+
+    /// The line of a worker.
+    #[tactic(auto, unfolding(crate::specs::Text::worker_line))]
+    fn put_accounts(&self, out: &mut Vec<u8>, worker: u32) -> Result<(), AllocError>
+        requires { worker < length self.now.world.workers }
+        ensures { OnOk result (out.new.items ≡ out.old.items ++ worker_line self.now.world worker) }
+    {
+        let applied = self.world.applied(worker).len() as u64;
+        put_worker(out, worker, self.world.accounts(worker), applied)
+    }
+
+    fn put_workers(&self, out: &mut Vec<u8>) -> Result<(), AllocError>
+        requires { IsReady self.now }
+        ensures { OnOk result (out.new.items ≡ out.old.items ++ flat_map (worker_line self.now.world) (ascending 0 self.now.workers)) }
+    {
+        for worker in 0..self.workers {
+            self.put_accounts(out, worker)?;
+        }
+        Ok(())
+    }
+
+    /// Prints all lists and accounts.
+    #[tactic(auto, unfolding(crate::specs::OpenStore::show_said))]
+    fn show(&self, out: &mut Vec<u8>) -> Result<(), LineError>
+        requires ready { IsReady self.now }
+        requires empty { out.old.items ≡ [] }
+        ensures { Does (Open (store_of self.now)) out.new.items result (show_said (store_of self.now)) }
+    {
+        self.put_classes(out)?;
+        self.put_workers(out)?;
+        Ok(())
+    }
+
+    /// Does what a line says.
+    #[tactic(auto, unfolding(crate::specs::OpenStore::instruction_said))]
+    pub fn run(
+        &mut self,
+        now: u64,
+        instruction: Instruction<'a>,
+        out: &mut Vec<u8>,
+    ) -> Result<(), LineError>
+        requires ready { IsReady self.old }
+        requires empty { out.old.items ≡ [] }
+        ensures said { Does (Open (store_of self.new)) out.new.items result (instruction_said (store_of self.old) now (seen_instruction instruction.entry)) }
+        ensures ready { OnOk result (IsReady self.new) }
+    {
+        match instruction {
+            Instruction::Set { name, class, label } => self.set(now, name, class, label, out),
+            Instruction::Get { worker, name } => self.get(now, worker, name, out),
+            Instruction::Pull { class, tail } => self.pull(class, tail, out),
+            Instruction::Drain => self.drain(now, out),
+            Instruction::Show => self.show(out),
+        }
+    }
+}

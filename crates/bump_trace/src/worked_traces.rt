@@ -1,0 +1,175 @@
+//! Worked traces: each function has the text of a trace as its clause, and nothing to do.
+#![tactic(auto, unfolding(crate::proofs::WorkedTraces::on_traces))]
+
+ghost use Rattle.std.specs.Prelude.{◌≡◌, ◌++◌, true, false, codes};
+ghost use Rattle.bump_trace.specs.Meaning.{verdict_of};
+
+/// A new store: all chunks are free, in ascending order.
+pub fn nothing_done()
+    ensures { verdict_of (codes "store 1 4 4 1\nclass 2 5 5\nshow\n") ≡ record { text = codes "class 0 hot 0\nclass 0 warm 0\nclass 0 cold 0\nclass 0 dying 0\nclass 0 unused 2 0 1\nclass 0 retired 0\nworker 0 attempted 0 accepted 0 full 0 busy 0 refs 0 applied 0\n"; is_fault = false } }
+{}
+
+/// The second hit in HOT marks the item, stores the time and queues nothing.
+pub fn hits_in_hot()
+    ensures { verdict_of (codes "store 1 4 4 1\nclass 2 5 5\nset a 0 7\nget 0 a\nget 0 a\nshow\n") ≡ record { text = codes "set a 0.1\nget 0 a 7 first\nget 0 a 7 marked\nclass 0 hot 1 0.1:1:fa:5\nclass 0 warm 0\nclass 0 cold 0\nclass 0 dying 0\nclass 0 unused 1 1\nclass 0 retired 0\nworker 0 attempted 0 accepted 0 full 0 busy 0 refs 0 applied 0\n"; is_fault = false } }
+{}
+
+/// ACTIVE rescues an item even where the limit is 0.
+pub fn rescue_from_hot()
+    ensures { verdict_of (codes "store 1 4 4 1\nclass 2 0 0\nset a 0 7\nget 0 a\nget 0 a\npull 0 hot\nshow\n") ≡ record { text = codes "set a 0.1\nget 0 a 7 first\nget 0 a 7 marked\npull 0 hot warm 0.1\nclass 0 hot 0\nclass 0 warm 1 0.1:1:f:5\nclass 0 cold 0\nclass 0 dying 0\nclass 0 unused 1 1\nclass 0 retired 0\nworker 0 attempted 0 accepted 0 full 0 busy 0 refs 0 applied 0\n"; is_fault = false } }
+{}
+
+/// An item that was not hit goes from HOT to COLD, and stays there.
+pub fn pulls_of_unmarked()
+    ensures { verdict_of (codes "store 1 4 4 1\nclass 2 0 5\nset a 0 7\npull 0 hot\npull 0 hot\npull 0 cold\n") ≡ record { text = codes "set a 0.1\npull 0 hot cold 0.1\npull 0 hot empty\npull 0 cold stay 0.1\n"; is_fault = false } }
+{}
+
+/// A second hit in COLD queues a bump, which moves the item to WARM.
+pub fn promotion()
+    ensures { verdict_of (codes "store 1 4 4 1\nclass 2 0 5\nset a 0 7\npull 0 hot\nget 0 a\nget 0 a\ndrain\nshow\n") ≡ record { text = codes "set a 0.1\npull 0 hot cold 0.1\nget 0 a 7 first\nget 0 a 7 queued 0\nbump 0 0 0.1 warm\ndrain 1\nclass 0 hot 0\nclass 0 warm 1 0.1:1:f:7\nclass 0 cold 0\nclass 0 dying 0\nclass 0 unused 1 1\nclass 0 retired 0\nworker 0 attempted 1 accepted 1 full 0 busy 0 refs 0 applied 1\n"; is_fault = false } }
+{}
+
+/// While its bump waits, a further hit of the item does nothing.
+pub fn already_queued()
+    ensures { verdict_of (codes "store 1 4 4 1\nclass 2 0 5\nset a 0 7\npull 0 hot\nget 0 a\nget 0 a\nget 0 a\nshow\n") ≡ record { text = codes "set a 0.1\npull 0 hot cold 0.1\nget 0 a 7 first\nget 0 a 7 queued 0\nget 0 a 7 already\nclass 0 hot 0\nclass 0 warm 0\nclass 0 cold 1 0.1:2:fa:3\nclass 0 dying 0\nclass 0 unused 1 1\nclass 0 retired 0\nworker 0 attempted 1 accepted 1 full 0 busy 0 refs 0 applied 0\n"; is_fault = false } }
+{}
+
+/// A ring with room for one bump drops the next.
+pub fn full_ring()
+    ensures { verdict_of (codes "store 1 1 4 1\nclass 2 0 5\nset a 0 7\nset b 0 8\npull 0 hot\npull 0 hot\nget 0 a\nget 0 a\nget 0 b\nget 0 b\nshow\n") ≡ record { text = codes "set a 0.1\nset b 1.1\npull 0 hot cold 0.1\npull 0 hot cold 1.1\nget 0 a 7 first\nget 0 a 7 queued 0\nget 0 b 8 first\nget 0 b 8 dropped full\nclass 0 hot 0\nclass 0 warm 0\nclass 0 cold 2 1.1:1:f:4 0.1:2:fa:3\nclass 0 dying 0\nclass 0 unused 0\nclass 0 retired 0\nworker 0 attempted 2 accepted 1 full 1 busy 0 refs 0 applied 0\n"; is_fault = false } }
+{}
+
+/// A drained ring takes bumps again.
+pub fn drained_ring()
+    ensures { verdict_of (codes "store 1 1 4 1\nclass 2 0 5\nset a 0 7\nset b 0 8\npull 0 hot\npull 0 hot\nget 0 a\nget 0 a\nget 0 b\nget 0 b\ndrain\nget 0 b\n") ≡ record { text = codes "set a 0.1\nset b 1.1\npull 0 hot cold 0.1\npull 0 hot cold 1.1\nget 0 a 7 first\nget 0 a 7 queued 0\nget 0 b 8 first\nget 0 b 8 dropped full\nbump 0 0 0.1 warm\ndrain 1\nget 0 b 8 queued 1\n"; is_fault = false } }
+{}
+
+/// An item that a pull rescued is no longer in COLD when its bump is applied: its time is stored.
+pub fn rescue_before_the_bump()
+    ensures { verdict_of (codes "store 1 4 4 1\nclass 2 0 5\nset a 0 7\npull 0 hot\nget 0 a\nget 0 a\npull 0 cold\ndrain\nshow\n") ≡ record { text = codes "set a 0.1\npull 0 hot cold 0.1\nget 0 a 7 first\nget 0 a 7 queued 0\npull 0 cold warm 0.1\nbump 0 0 0.1 time\ndrain 1\nclass 0 hot 0\nclass 0 warm 1 0.1:1:f:8\nclass 0 cold 0\nclass 0 dying 0\nclass 0 unused 1 1\nclass 0 retired 0\nworker 0 attempted 1 accepted 1 full 0 busy 0 refs 0 applied 1\n"; is_fault = false } }
+{}
+
+/// The middle item of three is taken out of its list.
+pub fn middle_of_three()
+    ensures { verdict_of (codes "store 1 4 4 1\nclass 3 0 5\nset a 0 1\nset b 0 2\nset c 0 3\npull 0 hot\npull 0 hot\npull 0 hot\nget 0 b\nget 0 b\ndrain\nshow\n") ≡ record { text = codes "set a 0.1\nset b 1.1\nset c 2.1\npull 0 hot cold 0.1\npull 0 hot cold 1.1\npull 0 hot cold 2.1\nget 0 b 2 first\nget 0 b 2 queued 0\nbump 0 0 1.1 warm\ndrain 1\nclass 0 hot 0\nclass 0 warm 1 1.1:1:f:11\nclass 0 cold 2 2.1:1:-:5 0.1:1:-:3\nclass 0 dying 0\nclass 0 unused 0\nclass 0 retired 0\nworker 0 attempted 1 accepted 1 full 0 busy 0 refs 0 applied 1\n"; is_fault = false } }
+{}
+
+/// An input without lines.
+pub fn no_input()
+    ensures { verdict_of (codes "") ≡ record { text = codes "line 1: ORDER\n"; is_fault = true } }
+{}
+
+/// No workers.
+pub fn no_workers()
+    ensures { verdict_of (codes "store 0 4 4 1\nclass 2 5 5\nshow\n") ≡ record { text = codes "line 3: WORKERS\n"; is_fault = true } }
+{}
+
+/// A fault of the configuration is found at the end of the input, where there is no command.
+pub fn no_capacity()
+    ensures { verdict_of (codes "store 1 0 4 1\nclass 2 5 5\n") ≡ record { text = codes "line 3: CAPACITY\n"; is_fault = true } }
+{}
+
+/// The input ends inside a line.
+pub fn truncated()
+    ensures { verdict_of (codes "store 1 4 4 1\nclass 2 5 5\nsho") ≡ record { text = codes "line 3: TRUNCATED\n"; is_fault = true } }
+{}
+
+/// The first word is no command.
+pub fn no_command()
+    ensures { verdict_of (codes "store 1 4 4 1\nclass 2 5 5\nfly 0\n") ≡ record { text = codes "line 3: COMMAND\n"; is_fault = true } }
+{}
+
+/// There is no class 1.
+pub fn no_class()
+    ensures { verdict_of (codes "store 1 4 4 1\nclass 2 5 5\nset a 1 7\n") ≡ record { text = codes "line 3: CLASS\n"; is_fault = true } }
+{}
+
+/// There is no worker 1.
+pub fn no_worker()
+    ensures { verdict_of (codes "store 1 4 4 1\nclass 2 5 5\nget 1 a\n") ≡ record { text = codes "line 3: WORKER\n"; is_fault = true } }
+{}
+
+/// The name was never bound.
+pub fn unbound()
+    ensures { verdict_of (codes "store 1 4 4 1\nclass 2 5 5\nget 0 a\n") ≡ record { text = codes "line 3: UNBOUND\n"; is_fault = true } }
+{}
+
+/// A number has no leading zero.
+pub fn leading_zero()
+    ensures { verdict_of (codes "store 1 4 4 1\nclass 2 5 5\nset a 0 07\n") ≡ record { text = codes "line 3: NUMBER\n"; is_fault = true } }
+{}
+
+/// A skipped line is too long, too.
+pub fn long_comment()
+    ensures { verdict_of (codes "store 1 4 4 1\nclass 2 5 5\n################################################################################################################################################################################################################################################################\n") ≡ record { text = codes "line 3: LONG\n"; is_fault = true } }
+{}
+
+/// So is the end of the input, before it is said to be inside a line.
+pub fn long_end()
+    ensures { verdict_of (codes "store 1 4 4 1\nclass 2 5 5\n################################################################################################################################################################################################################################################################") ≡ record { text = codes "line 3: LONG\n"; is_fault = true } }
+{}
+
+/// A line of 255 bytes is not too long.
+pub fn longest_comment()
+    ensures { verdict_of (codes "store 1 4 4 1\nclass 2 5 5\n###############################################################################################################################################################################################################################################################\n") ≡ record { text = codes ""; is_fault = false } }
+{}
+
+/// Two spaces have an empty word between them.
+pub fn two_spaces()
+    ensures { verdict_of (codes "store 1 4 4 1\nclass 2 5 5\nget 0  a\n") ≡ record { text = codes "line 3: COUNT\n"; is_fault = true } }
+{}
+
+/// So has a space at the end of a line.
+pub fn space_behind()
+    ensures { verdict_of (codes "store 1 4 4 1\nclass 2 5 5\nshow \n") ≡ record { text = codes "line 3: COUNT\n"; is_fault = true } }
+{}
+
+/// And a space in front, whose empty word is no command.
+pub fn space_in_front()
+    ensures { verdict_of (codes "store 1 4 4 1\nclass 2 5 5\n show\n") ≡ record { text = codes "line 3: COMMAND\n"; is_fault = true } }
+{}
+
+/// A name has small letters.
+pub fn upper_case()
+    ensures { verdict_of (codes "store 1 4 4 1\nclass 2 5 5\nset A 0 7\n") ≡ record { text = codes "line 3: NAME\n"; is_fault = true } }
+{}
+
+/// A name has at most 32 bytes.
+pub fn long_name()
+    ensures { verdict_of (codes "store 1 4 4 1\nclass 2 5 5\nset aaaaaaaaaaaaaaaaaaaaaaaaaaaaaaaaa 0 7\n") ≡ record { text = codes "line 3: NAME\n"; is_fault = true } }
+{}
+
+/// The number of a worker has 32 bits.
+pub fn wide_worker()
+    ensures { verdict_of (codes "store 1 4 4 1\nclass 2 5 5\nget 4294967296 a\n") ≡ record { text = codes "line 3: NUMBER\n"; is_fault = true } }
+{}
+
+/// A label has 64 bits.
+pub fn wide_label()
+    ensures { verdict_of (codes "store 1 4 4 1\nclass 2 5 5\nset a 0 18446744073709551616\n") ≡ record { text = codes "line 3: NUMBER\n"; is_fault = true } }
+{}
+
+/// There is no such segment.
+pub fn no_segment()
+    ensures { verdict_of (codes "store 1 4 4 1\nclass 2 5 5\npull 0 temp\n") ≡ record { text = codes "line 3: SEGMENT\n"; is_fault = true } }
+{}
+
+/// A second `store`.
+pub fn second_store()
+    ensures { verdict_of (codes "store 1 4 4 1\nclass 2 5 5\nstore 1 4 4 1\n") ≡ record { text = codes "line 3: ORDER\n"; is_fault = true } }
+{}
+
+/// A word that is no command comes before the faults of the configuration.
+pub fn command_first()
+    ensures { verdict_of (codes "store 0 4 4 1\nclass 2 5 5\nfly 0\n") ≡ record { text = codes "line 3: COMMAND\n"; is_fault = true } }
+{}
+
+/// No classes.
+pub fn no_classes()
+    ensures { verdict_of (codes "store 1 4 4 1\nshow\n") ≡ record { text = codes "line 2: CLASSES\n"; is_fault = true } }
+{}
+
+/// Too many chunks.
+pub fn many_chunks()
+    ensures { verdict_of (codes "store 1 4 4 1\nclass 1000001 5 5\nshow\n") ≡ record { text = codes "line 3: CHUNKS\n"; is_fault = true } }
+{}
