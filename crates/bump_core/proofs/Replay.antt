@@ -6,7 +6,8 @@ use Rattle.bump_core.specs.declared.places.Place.TheVariants.{Hot, Warm, Cold, D
 use Rattle.bump_core.specs.declared.history.Change.{Change}
 use Rattle.bump_core.specs.Lawful.{bit}
 use Rattle.bump_core.specs.History.{is_place, subject, target, Standing, standing_after, standing_from, standing_in, is_between, AreBetween, replay, replayed}
-use Rattle.bump_core.specs.Lists.{Lists, list_at, to_front, opening, times}
+use Rattle.bump_links.specs.Lists.{times}
+use Rattle.bump_core.specs.Lists.{Lists, list_at, to_front, opening}
 use Rattle.bump_core.specs.State.{ClassState}
 use Rattle.bump_core.specs.Worlds.{owns, IsClass, place_in}
 use Rattle.bump_core.proofs.classes.PlainLists.{times_ascending, same_row}

@@ -22,7 +22,8 @@ use Rattle.bump_core.specs.declared.events.Reply.TheVariants as reply
 use Rattle.bump_core.specs.Lives.{life}
 use Rattle.bump_core.specs.Tables.{is_cold}
 use Rattle.bump_core.specs.Rings.{most_attempts}
-use Rattle.bump_core.specs.State.{State, WorkerState, chunk, head, class, worker, is_chunk, is_class, is_worker, with_chunk, with_head, with_worker, with_change, class_of, is_linked, is_held, has_free_hold, is_open, tried_life, life_in_hand, cleared_life, is_idle, some_and, is_under_application, first_of}
+use Rattle.bump_links.specs.Lists.{first_of}
+use Rattle.bump_core.specs.State.{State, WorkerState, chunk, head, class, worker, is_chunk, is_class, is_worker, with_chunk, with_head, with_worker, with_change, class_of, is_linked, is_held, has_free_hold, is_open, tried_life, life_in_hand, cleared_life, is_idle, some_and, is_under_application}
 
 -- the count is under the limit
 abbrev pub is_under_limit : State → ℕ → Bool

@@ -1,3 +1,4 @@
+pub mod ClassLists
 pub mod Commands
 pub mod Configs
 pub mod Entries

@@ -179,17 +179,6 @@ applies_in s k x = some_and (λ l. class_of s l.chunk == k) (applied_life x)
 abbrev pub is_under_application : State → ℕ → Bool
 is_under_application s k = list_any (λ w. applies_in s k w.lane) s.workers
 
--- the last of a list
-abbrev pub last_of : List ℕ → Option ℕ
-last_of [] = None
-last_of (x ∷ []) = Some x
-last_of (x ∷ y ∷ ys) = last_of (y ∷ ys)
-
--- the first of a list
-abbrev pub first_of : List ℕ → Option ℕ
-first_of [] = None
-first_of (x ∷ xs) = Some x
-
 -- There are as many chunks, classes and workers as before.
 abbrev pub SameSizes : State → State → Type 0
 SameSizes old new = (length new.chunks ≡ length old.chunks) × (length new.classes ≡ length old.classes) × (length new.workers ≡ length old.workers)

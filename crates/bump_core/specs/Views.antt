@@ -1,23 +1,10 @@
 -- What the parts of the program stand for.
 use Rattle.std.specs.Prelude.{◌≡◌, ◌<◌, ℕ, map, take, slice_index_or, vec_len}
 use Rattle.std.specs.Vec.{vec_capacity}
-use Rattle.bump_core.specs.declared.classes.ClassLists.{ClassLists}
 use Rattle.bump_core.specs.declared.classes.Class.{Class}
 use Rattle.bump_core.specs.declared.workers.Worker.{Worker}
 use Rattle.bump_core.specs.declared.parts.Parts.{Parts}
-use Rattle.bump_core.specs.Lists.{Lists}
 use Rattle.bump_core.specs.State.{State, ClassState, WorkerState}
-
--- the lists that the queues contain
-abbrev pub lists_of : ClassLists → Lists
-lists_of l = record {
-  hot = l.hot.items;
-  warm = l.warm.items;
-  cold = l.cold.items;
-  dying = l.dying.items;
-  unused = l.unused.items;
-  retired = l.retired.items;
-}
 
 abbrev pub class_view : Class → ClassState
 class_view k = record {
@@ -26,7 +13,7 @@ class_view k = record {
   fresh = k.fresh;
   hot_limit = k.hot_limit;
   warm_limit = k.warm_limit;
-  lists = lists_of k.lists;
+  lists = k.lists;
   history = k.history.items;
 }
 

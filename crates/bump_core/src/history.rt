@@ -1,6 +1,9 @@
 //! What happened to the lists of a class.
+ghost use Rattle.std.specs.Prelude.{◌≡◌};
+ghost use Rattle.bump_core.specs.History.{subject, target};
+
 use crate::items::ItemId;
-use crate::places::Segment;
+use crate::places::{Place, Segment};
 
 /// Why a chunk moved.
 #[derive(Clone, Copy, Debug, PartialEq, Eq)]
@@ -29,4 +32,32 @@ pub enum Change {
 
     /// As Swept, but the chunk's generations are used up: it is RETIRED.
     Retired(ItemId),
+}
+
+impl Change {
+    /// The chunk that it puts at a front.
+    pub(crate) fn chunk(self) -> u32
+        ensures { result ≡ (subject self).chunk }
+    {
+        match self {
+            Change::Linked(life)
+            | Change::Moved(life, _, _, _)
+            | Change::Unlinked(life)
+            | Change::Swept(life)
+            | Change::Retired(life) => life.chunk,
+        }
+    }
+
+    /// The list to whose front it puts the chunk.
+    pub(crate) fn place(self) -> Place
+        ensures { result ≡ target self }
+    {
+        match self {
+            Change::Linked(_) => Place::Hot,
+            Change::Moved(_, _, to, _) => to.place(),
+            Change::Unlinked(_) => Place::Dying,
+            Change::Swept(_) => Place::Unused,
+            Change::Retired(_) => Place::Retired,
+        }
+    }
 }

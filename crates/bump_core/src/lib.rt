@@ -3,6 +3,7 @@
 
 mod bumps;
 mod chunks;
+mod class_lists;
 mod classes;
 mod commands;
 mod configs;
@@ -19,6 +20,7 @@ mod worlds;
 
 pub use bumps::{Accounts, Applied, AppliedBump, Bump, Ended, Entry, MOST_ATTEMPTS, Outcome};
 pub use chunks::Chunk;
+pub use class_lists::{ClassLists, ListedChunks};
 pub use commands::{Answer, Command, Dropped, Pulled, Touch};
 pub use configs::{ClassConfig, Classes, Config, ConfigFault, MAX_CHUNKS};
 pub use events::{Event, Refused, Reply};

@@ -1,6 +1,6 @@
 //! Segments of the recency list, and the lists of a class.
-ghost use Rattle.std.specs.Prelude.{◌≡◌};
-ghost use Rattle.bump_core.specs.History.{place_of};
+ghost use Rattle.std.specs.Prelude.{◌≡◌, ◌<◌};
+ghost use Rattle.bump_core.specs.History.{place_of, place_number};
 
 /// A segment of a class's recency list: memcached's HOT, WARM and COLD.
 #[derive(Clone, Copy, Debug, PartialEq, Eq)]
@@ -59,6 +59,23 @@ impl Segment {
             Segment::Hot => Place::Hot,
             Segment::Warm => Place::Warm,
             Segment::Cold => Place::Cold,
+        }
+    }
+}
+
+impl Place {
+    /// The number of its list among the six of a class.
+    pub(crate) fn number(self) -> u32
+        ensures number { result ≡ place_number self }
+        ensures one_of_six { result < 6 }
+    {
+        match self {
+            Place::Hot => 0,
+            Place::Warm => 1,
+            Place::Cold => 2,
+            Place::Dying => 3,
+            Place::Unused => 4,
+            Place::Retired => 5,
         }
     }
 }

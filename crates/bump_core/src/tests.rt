@@ -1,6 +1,7 @@
 //! What no clause says: known answers, and that calls succeed.
-ghost use Rattle.std.specs.Prelude.{◌≡◌, ◌<◌, IfSome, length};
+ghost use Rattle.std.specs.Prelude.{◌≡◌, ◌<◌, IfOk, IfSome, length};
 ghost use Rattle.bump_core.specs.Headline.{Headline};
+ghost use Rattle.bump_core.specs.Readers.{list_of};
 ghost use Rattle.bump_core.specs.State.{SameSizes};
 ghost use Rattle.bump_core.specs.Worlds.{IsLawful};
 
@@ -45,8 +46,8 @@ struct Readers {
 fn ends(world: &World, place: Place) -> (usize, Option<u32>, Option<u32>)
     requires { 0 < length world.now.classes }
 {
-    let list = world.list(0, place);
-    (list.len(), list.front().copied(), list.back().copied())
+    let mut list = world.list(0, place);
+    (list.len(), list.next(), world.list_back(0, place))
 }
 
 fn told_by(world: &World) -> Readers
@@ -470,6 +471,45 @@ fn links_take_the_front_of_unused(rt: HostRuntime) -> Result<(), Fail> {
     let told = told_by(&world);
     assert_eq!(rt; told.hot, (2, Some(1), Some(0)));
     assert_eq!(rt; told.unused, (0, None, None));
+    Ok(())
+}
+
+/// The chunks of a list, in the order in which a loop meets them.
+fn chunks_met(
+    alloc: Global,
+    world: &World,
+    class: u32,
+    place: Place,
+) -> Result<Vec<u32>, AllocError>
+    requires { class < length world.now.classes }
+    ensures { IfOk result (λ met. met.items ≡ list_of world.now class place) }
+{
+    let mut met = Vec::new(alloc);
+    for chunk in world.list(class, place) {
+        met.push(chunk)?;
+    }
+    Ok(met)
+}
+
+#[test]
+fn lists_are_read_front_first(rt: HostRuntime) -> Result<(), Fail> {
+    let alloc = rt.alloc();
+    let mut world = world(alloc, 4, 5, 5).ok_or("no memory")?;
+    assert_eq!(rt; chunks_met(alloc, &world, 0, Place::Unused)?.as_slice(), [0, 1].as_slice());
+    let links = [Event::Link { class: 0 }, Event::Link { class: 0 }];
+    assert_eq!(rt; world.run(&links), Ok(()));
+    assert_eq!(rt; chunks_met(alloc, &world, 0, Place::Hot)?.as_slice(), [1, 0].as_slice());
+    assert_eq!(rt; world.list_back(0, Place::Hot), Some(0));
+    assert_eq!(rt; world.list_len(0, Place::Hot), 2);
+    assert_eq!(rt; world.list(0, Place::Unused).next(), None);
+    let to = Segment::Hot;
+    let turned = world.step(Event::Move { chunk: 0, to });
+    assert_eq!(rt; turned, Err(Refused::NotEnabled));
+    let to = Segment::Cold;
+    let moved = world.step(Event::Move { chunk: 1, to });
+    assert_eq!(rt; moved, Ok(Reply::Done));
+    assert_eq!(rt; chunks_met(alloc, &world, 0, Place::Hot)?.as_slice(), [0].as_slice());
+    assert_eq!(rt; chunks_met(alloc, &world, 0, Place::Cold)?.as_slice(), [1].as_slice());
     Ok(())
 }
 

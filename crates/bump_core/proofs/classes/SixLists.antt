@@ -5,8 +5,10 @@ use Rattle.bump_core.specs.declared.places.Place.{Place}
 use Rattle.bump_core.specs.declared.places.Place.TheVariants.{Hot, Warm, Cold, Dying, Unused, Retired}
 use Rattle.bump_core.specs.History.{is_place}
 use Rattle.bump_core.specs.Lawful.{bit}
-use Rattle.bump_core.specs.Lists.{Lists, list_at, without, all_without, to_front, with_list, times}
-use Rattle.bump_core.proofs.classes.PlainLists.{times_without, times_without_other}
+use Rattle.bump_core.specs.Lists.{Lists, list_at, all_without, to_front}
+use Rattle.bump_links.specs.Lists.{times, without}
+use Rattle.bump_links.proofs.ListsLemmas.{times-without_same, times-without_other}
+use Rattle.bump_core.proofs.classes.PlainLists.{times_same, times_other}
 
 -- The list at a place.
 
@@ -22,15 +24,6 @@ list_at_without c Cold l = refl
 list_at_without c Dying l = refl
 list_at_without c Unused l = refl
 list_at_without c Retired l = refl
-
--- where only the list at one place has the chunk, the other five stay as they are
-pub taken_out : (c : ℕ) (p : Place) (l : Lists) → ((q : Place) → is_place p q ≡ false → without c (list_at l q) ≡ list_at l q) → all_without c l ≡ with_list p (without c (list_at l p)) l
-taken_out c Hot l kept = λ i. record { hot = without c l.hot; warm = kept Warm refl i; cold = kept Cold refl i; dying = kept Dying refl i; unused = kept Unused refl i; retired = kept Retired refl i }
-taken_out c Warm l kept = λ i. record { hot = kept Hot refl i; warm = without c l.warm; cold = kept Cold refl i; dying = kept Dying refl i; unused = kept Unused refl i; retired = kept Retired refl i }
-taken_out c Cold l kept = λ i. record { hot = kept Hot refl i; warm = kept Warm refl i; cold = without c l.cold; dying = kept Dying refl i; unused = kept Unused refl i; retired = kept Retired refl i }
-taken_out c Dying l kept = λ i. record { hot = kept Hot refl i; warm = kept Warm refl i; cold = kept Cold refl i; dying = without c l.dying; unused = kept Unused refl i; retired = kept Retired refl i }
-taken_out c Unused l kept = λ i. record { hot = kept Hot refl i; warm = kept Warm refl i; cold = kept Cold refl i; dying = kept Dying refl i; unused = without c l.unused; retired = kept Retired refl i }
-taken_out c Retired l kept = λ i. record { hot = kept Hot refl i; warm = kept Warm refl i; cold = kept Cold refl i; dying = kept Dying refl i; unused = kept Unused refl i; retired = without c l.retired }
 
 -- the list at a place after a move to the front
 pub list_at_front : (c : ℕ) (p q : Place) (l : Lists) → list_at (to_front c p l) q ≡ cond (is_place p q) (c ∷ without c (list_at l q)) (without c (list_at l q))
@@ -76,12 +69,12 @@ pub times_front : (c d : ℕ) (p q : Place) (l : Lists) → times c (list_at (to
 times_front c d p q l = ap (times c) (list_at_front d p q l) ∙ by (ℕ_discrete d c)
   where
     here : d ≡ c → (b : Bool) → times c (cond b (d ∷ without d (list_at l q)) (without d (list_at l q))) ≡ bit b
-    here s true = omega (arith, ap bit (eq-eqb d c s), ap (λ (x : ℕ). times c (without x (list_at l q))) s, times_without c (list_at l q))
-    here s false = ap (λ (x : ℕ). times c (without x (list_at l q))) s ∙ times_without c (list_at l q)
+    here s true = omega (arith, times_same c d (without d (list_at l q)) s, ap (λ (x : ℕ). times c (without x (list_at l q))) s, times-without_same c (list_at l q))
+    here s false = ap (λ (x : ℕ). times c (without x (list_at l q))) s ∙ times-without_same c (list_at l q)
 
     there : d ≢ c → (b : Bool) → times c (cond b (d ∷ without d (list_at l q)) (without d (list_at l q))) ≡ times c (list_at l q)
-    there n true = omega (arith, ap bit (ne_eqb d c n), times_without_other d c (λ q. n (sym q)) (list_at l q))
-    there n false = times_without_other d c (λ q. n (sym q)) (list_at l q)
+    there n true = times_other c d (without d (list_at l q)) n ∙ times-without_other c d (list_at l q) (λ q. n (sym q))
+    there n false = times-without_other c d (list_at l q) (λ q. n (sym q))
 
     by : Dec (d ≡ c) → times c (cond (is_place p q) (d ∷ without d (list_at l q)) (without d (list_at l q))) ≡ cond (eqb d c) (bit (is_place p q)) (times c (list_at l q))
     by (yes s) = here s (is_place p q) ∙ ap (λ b. cond b (bit (is_place p q)) (times c (list_at l q))) (sym (eq-eqb d c s))

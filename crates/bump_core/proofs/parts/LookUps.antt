@@ -9,7 +9,6 @@ use Rattle.bump_core.specs.declared.bumps.Bump.{Bump}
 use Rattle.bump_core.specs.declared.lanes.Lane.{Lane}
 use Rattle.bump_core.specs.declared.lanes.Lane.TheVariants as lane
 use Rattle.bump_core.specs.History.{place_of}
-use Rattle.bump_core.specs.Lists.{StandsAt}
 use Rattle.bump_core.specs.Lives.{one_if, count_of}
 use Rattle.bump_core.specs.Rings.{most_attempts}
 use Rattle.bump_core.specs.State.{State, WorkerState, head, class, class_of, worker, tried_life, life_in_hand, cleared_life}
@@ -18,7 +17,6 @@ use Rattle.bump_core.specs.Commands.{bump_next}
 use Rattle.bump_core.specs.Worlds.{IsLawful, aboard_of, bumps_of, references, place}
 use Rattle.bump_core.proofs.events.Enabled.{trying_from, in_hand_from, clearing_from, carrying_from, tried_from, applied_from, cleared_from}
 use Rattle.bump_core.proofs.worlds.LawfulStates.{one_if_same, bumps_counted, referred_in_range, referred_used, tried_in_range, in_hand_in_range, cleared_in_range, in_hand_under_way, carrying_in_range, looked_in_range, applied_in_range, linked_in_range, waiting_linked}
-use Rattle.bump_core.proofs.worlds.Fronts.{stands, linked_stands}
 use Rattle.bump_core.proofs.workers.Ring.{next_in_ring}
 use Rattle.bump_core.proofs.Laws.{dying_where_unlinked}
 
@@ -91,14 +89,3 @@ module _ (s : State) (o : IsLawful s) (w : ℕ) (within : w < length s.workers) 
   pub some_next_in_range : (r : Option Bump) → r ≡ bump_next (worker s w) → IfSome r (λ b. b.life.chunk < length s.chunks)
   some_next_in_range None is = tt
   some_next_in_range (Some b) is = referred_in_range s o b.life.chunk b.life.generation (next_referred b (sym is))
-
-  -- where it is linked it stands in the list of its segment
-  pub some_next_linked : (r : Option Bump) → r ≡ bump_next (worker s w) → IfSome r (λ b. (head s b.life.chunk).linked ≡ true → StandsAt b.life.chunk (place_of (head s b.life.chunk).segment) (class s (class_of s b.life.chunk)).lists)
-  some_next_linked None is = tt
-  some_next_linked (Some b) is = λ on. linked_stands s o b.life.chunk on
-
-  -- and else in DYING
-  pub some_next_gone : (r : Option Bump) → r ≡ bump_next (worker s w) → IfSome r (λ b. (head s b.life.chunk).linked ≡ false → StandsAt b.life.chunk Dying (class s (class_of s b.life.chunk)).lists)
-  some_next_gone None is = tt
-  some_next_gone (Some b) is = let some = next_referred b (sym is) in λ off. stands s o b.life.chunk Dying (referred_in_range s o b.life.chunk b.life.generation some)
-      (dying_where_unlinked (head s b.life.chunk) (place s b.life.chunk) (o.chunks b.life.chunk).shown (referred_used s o b.life.chunk b.life.generation some) off)

@@ -11,7 +11,7 @@ use Rattle.bump_core.specs.Totals.{total}
 use Rattle.bump_core.specs.Configs.{chunks_of, first_fault, HaveChunks}
 use Rattle.bump_core.proofs.Bounds.{bounds}
 use Rattle.bump_core.proofs.NewClasses.{classes_long}
-use Rattle.bump_core.specs.Lists.{ascending, opening}
+use Rattle.bump_core.specs.Lists.{opening}
 use Rattle.bump_core.specs.Heads.{fresh_head}
 use Rattle.bump_core.specs.Lawful.{Lawful}
 use Rattle.bump_core.specs.History.{standing_from}
@@ -22,17 +22,6 @@ use Rattle.bump_core.specs.Opening.{fresh_chunk, classes_from, new_state}
 use Rattle.bump_core.specs.Worlds.{IsLawful, NoneUnlinked, IsClass, Tiles, references, first_hits_of, holds_of, bumps_of, standing, place, WaitsToMove}
 use Rattle.bump_core.proofs.classes.Tiles.{class_within, class_out}
 use Rattle.bump_core.proofs.worlds.StaysLawful.{Keeps}
-
--- the chunks from one on are it and those from the next one on
-pub ascending_more : (c end : ℕ) → c < end → ascending c (end - c) ≡ c ∷ ascending (c + 1) (end - (c + 1))
-ascending_more c end below = ap (ascending c) apart ∙ ap (λ (k : ℕ). c ∷ ascending k (end - (c + 1))) (sym (add-one c))
-  where
-    apart : end - c ≡ suc (end - (c + 1))
-    apart = omega arith
-
--- a list with the next chunk at its end, and those behind it
-pub ascending_pushed : (xs ys all : List ℕ) (c end : ℕ) → c < end → ys ≡ xs ++ c ∷ [] → xs ++ ascending c (end - c) ≡ all → ys ++ ascending (c + 1) (end - (c + 1)) ≡ all
-ascending_pushed xs ys all c end below pushed so_far = ap (λ (zs : List ℕ). zs ++ ascending (c + 1) (end - (c + 1))) pushed ∙ append_assoc xs (c ∷ []) (ascending (c + 1) (end - (c + 1))) ∙ ap (λ (zs : List ℕ). xs ++ zs) (sym (ascending_more c end below)) ∙ so_far
 
 -- the classes of a new World stand one behind the other
 tiles_new : (fresh from : ℕ) (ks : List ClassConfig) → HaveChunks ks → Tiles from (classes_from fresh from ks) (from + chunks_of ks)

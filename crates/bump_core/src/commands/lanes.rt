@@ -1,7 +1,5 @@
 //! The command of a lane: the next bump is applied at once, by the update table.
 ghost use Rattle.std.specs.Prelude.{◌≡◌, ◌<◌, [], ◌∷◌, ◌++◌, IfSome, IfOk, OnOk, OnErr, Some, true, false, length};
-ghost use Rattle.bump_core.specs.History.{place_of};
-ghost use Rattle.bump_core.specs.Lists.{StandsAt};
 ghost use Rattle.bump_core.specs.State.{class, class_of, head, worker, with_worker};
 ghost use Rattle.bump_core.specs.Heads.{one_fewer};
 ghost use Rattle.bump_core.specs.Tables.{outcome_of, ended_of};
@@ -11,7 +9,6 @@ ghost use Rattle.bump_core.specs.Views.{state_of, HasRoom};
 ghost use Rattle.bump_core.specs.Worlds.{IsLawful};
 ghost use Rattle.bump_core.specs.declared.commands.Command.TheVariants as command;
 ghost use Rattle.bump_core.specs.declared.lanes.Lane.TheVariants as lane;
-ghost use Rattle.bump_core.specs.declared.places.Place.TheVariants.{Cold, Dying};
 ghost use Rattle.bump_core.specs.declared.bumps.Outcome.TheVariants.{Moved, Gone};
 ghost use Rattle.bump_core.specs.declared.bumps.Ended.TheVariants.{Freed, Deferred};
 
@@ -23,7 +20,7 @@ use crate::history::{Cause, Change};
 use crate::items::Head;
 use crate::lanes::Lane;
 use crate::parts::Parts;
-use crate::places::{Place, Segment};
+use crate::places::Segment;
 use std::alloc::AllocError;
 
 impl Lane {
@@ -104,16 +101,12 @@ impl Parts {
         }
     }
 
-    /// The same, with where its chunk stands.
+    /// The same, with its chunk in range.
     fn bump_next(&self, w: u32) -> Option<Bump>
         requires worker { w < length (state_of self.now).workers }
         requires lawful { IsLawful (state_of self.now) }
         ensures bump { result ≡ bump_next (worker (state_of self.now) w) }
         ensures chunk { IfSome result (λ b. b.life.chunk < length (state_of self.now).chunks) }
-        ensures linked { IfSome result (λ b. (head (state_of self.now) b.life.chunk).linked ≡ true
-            → StandsAt b.life.chunk (place_of (head (state_of self.now) b.life.chunk).segment) (class (state_of self.now) (class_of (state_of self.now) b.life.chunk)).lists) }
-        ensures gone { IfSome result (λ b. (head (state_of self.now) b.life.chunk).linked ≡ false
-            → StandsAt b.life.chunk Dying (class (state_of self.now) (class_of (state_of self.now) b.life.chunk)).lists) }
     {
         self.bump_of(w)
     }
@@ -191,21 +184,15 @@ impl Parts {
         ended: Ended,
     ) -> Result<(), AllocError>
         requires chunk { bump.life.chunk < length (state_of self.old).chunks }
-        requires moved { outcome ≡ Moved → StandsAt bump.life.chunk Cold (class (state_of self.old) (class_of (state_of self.old) bump.life.chunk)).lists }
-        requires gone { outcome ≡ Gone → StandsAt bump.life.chunk Dying (class (state_of self.old) (class_of (state_of self.old) bump.life.chunk)).lists }
         requires lawful { IsLawful (state_of self.old) }
         ensures ok { OnOk result (state_of self.new ≡ bumped_lists (state_of self.old) w bump outcome ended) }
         ensures err { OnErr result (state_of self.new ≡ state_of self.old) }
         ensures workers { self.new.workers ≡ self.old.workers }
     {
-        let chunk = bump.life.chunk;
-        let class = self.class_of(chunk);
+        let class = self.class_of(bump.life.chunk);
         match (outcome, ended) {
             (Outcome::Moved, _) => self.change_class(
                 class,
-                chunk,
-                Place::Cold,
-                Place::Warm,
                 Change::Moved(
                     bump.life,
                     Segment::Cold,
@@ -213,20 +200,10 @@ impl Parts {
                     Cause::Bump(w, bump.number),
                 ),
             ),
-            (Outcome::Gone, Ended::Freed) if bump.life.generation == u32::MAX => self.change_class(
-                class,
-                chunk,
-                Place::Dying,
-                Place::Retired,
-                Change::Retired(bump.life),
-            ),
-            (Outcome::Gone, Ended::Freed) => self.change_class(
-                class,
-                chunk,
-                Place::Dying,
-                Place::Unused,
-                Change::Swept(bump.life),
-            ),
+            (Outcome::Gone, Ended::Freed) if bump.life.generation == u32::MAX => {
+                self.change_class(class, Change::Retired(bump.life))
+            }
+            (Outcome::Gone, Ended::Freed) => self.change_class(class, Change::Swept(bump.life)),
             _ => Ok(()),
         }
     }
@@ -237,10 +214,6 @@ impl Parts {
         requires lawful { IsLawful (state_of self.old) }
         requires next { bump_next (worker (state_of self.old) w) ≡ Some bump }
         requires chunk { bump.life.chunk < length (state_of self.old).chunks }
-        requires linked { (head (state_of self.old) bump.life.chunk).linked ≡ true
-            → StandsAt bump.life.chunk (place_of (head (state_of self.old) bump.life.chunk).segment) (class (state_of self.old) (class_of (state_of self.old) bump.life.chunk)).lists }
-        requires gone { (head (state_of self.old) bump.life.chunk).linked ≡ false
-            → StandsAt bump.life.chunk Dying (class (state_of self.old) (class_of (state_of self.old) bump.life.chunk)).lists }
         ensures ok { OnOk result (state_of self.new ≡ apply_bump (state_of self.old) w now bump) }
         ensures entry { IfOk result (λ e. e ≡ entry_of (state_of self.old) bump) }
         ensures err { OnErr result (state_of self.new ≡ state_of self.old) }

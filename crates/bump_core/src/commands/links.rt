@@ -11,7 +11,6 @@ use crate::events::Refused;
 use crate::history::Change;
 use crate::items::{Head, ItemId};
 use crate::parts::Parts;
-use crate::places::Place;
 
 impl Parts {
     /// Stores an item in a class.
@@ -33,13 +32,7 @@ impl Parts {
             chunk: next,
             generation: chunk.head.generation + 1,
         };
-        self.change_class(
-            k as usize,
-            next,
-            Place::Unused,
-            Place::Hot,
-            Change::Linked(life),
-        )?;
+        self.change_class(k as usize, Change::Linked(life))?;
         self.set_chunk(
             next,
             Chunk {

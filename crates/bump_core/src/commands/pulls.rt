@@ -1,9 +1,8 @@
 //! The command of a pull: its change at once, by the tail table.
 ghost use Rattle.std.specs.Prelude.{◌≡◌, ◌<◌, IfSome, OnOk, OnErr, Some, true, length};
 ghost use Rattle.bump_core.specs.Commands.{Commands, tail_of, is_list_over, pull_to};
-ghost use Rattle.bump_core.specs.History.{place_of};
-ghost use Rattle.bump_core.specs.Lists.{StandsAt};
-ghost use Rattle.bump_core.specs.State.{head, class, class_of, last_of};
+ghost use Rattle.bump_core.specs.Lists.{IsListed};
+ghost use Rattle.bump_core.specs.State.{head, class, class_of};
 ghost use Rattle.bump_core.specs.Tables.{pulled_of, pulled_to, segment_of};
 ghost use Rattle.bump_core.specs.Views.{state_of};
 ghost use Rattle.bump_core.specs.Worlds.{IsLawful};
@@ -14,9 +13,8 @@ use crate::events::Refused;
 use crate::history::{Cause, Change};
 use crate::items::{Head, ItemId};
 use crate::parts::Parts;
-use crate::places::{Segment, Tail};
+use crate::places::{Place, Segment, Tail};
 use std::alloc::AllocError;
-use std::collections::VecDeque;
 
 impl Tail {
     /// The segment of the list that a pull looks at.
@@ -58,23 +56,13 @@ impl Pulled {
     }
 }
 
-/// The last chunk of a list.
-fn last_of(list: &VecDeque<u32>) -> Option<u32>
-    ensures { result ≡ last_of list.now.items }
-{
-    match list.back() {
-        Some(chunk) => Some(*chunk),
-        None => None,
-    }
-}
-
 impl Parts {
     /// The last chunk of a class's HOT, WARM or COLD.
     fn tail(&self, k: u32, tail: Tail) -> Option<u32>
         requires { k < length (state_of self.now).classes }
         ensures { result ≡ tail_of (state_of self.now) k tail }
     {
-        last_of(self.list(k, tail.segment().place()))
+        self.list_back(k, tail.segment().place())
     }
 
     /// Whether that list has more items than its limit.
@@ -84,8 +72,8 @@ impl Parts {
     {
         let class = &self.classes[k as usize];
         match tail {
-            Tail::Hot => class.lists.hot.len() > class.hot_limit as usize,
-            Tail::Warm => class.lists.warm.len() > class.warm_limit as usize,
+            Tail::Hot => class.lists.len(Place::Hot) > class.hot_limit,
+            Tail::Warm => class.lists.len(Place::Warm) > class.warm_limit,
             Tail::Cold => false,
         }
     }
@@ -96,8 +84,7 @@ impl Parts {
         requires lawful { IsLawful (state_of self.now) }
         ensures last { result ≡ tail_of (state_of self.now) k tail }
         ensures linked { IfSome result (λ c. (c < length (state_of self.now).chunks) × (class_of (state_of self.now) c ≡ k)
-            × ((head (state_of self.now) c).linked ≡ true) × ((head (state_of self.now) c).segment ≡ segment_of tail)
-            × StandsAt c (place_of (segment_of tail)) (class (state_of self.now) k).lists) }
+            × ((head (state_of self.now) c).linked ≡ true) × ((head (state_of self.now) c).segment ≡ segment_of tail)) }
     {
         self.tail(k, tail)
     }
@@ -106,7 +93,7 @@ impl Parts {
     fn pull_to(&mut self, k: u32, tail: Tail, last: u32, to: Segment) -> Result<(), AllocError>
         requires class { k < length (state_of self.old).classes }
         requires chunk { last < length (state_of self.old).chunks }
-        requires stands { StandsAt last (place_of (segment_of tail)) (class (state_of self.old) k).lists }
+        requires listed { IsListed last (class (state_of self.old) k).lists }
         ensures ok { OnOk result (state_of self.new ≡ pull_to (state_of self.old) k tail last (Some to)) }
         ensures err { OnErr result (state_of self.new ≡ state_of self.old) }
     {
@@ -115,13 +102,9 @@ impl Parts {
             chunk: last,
             generation: head.generation,
         };
-        let from = tail.segment();
         self.change_class(
             k as usize,
-            last,
-            from.place(),
-            to.place(),
-            Change::Moved(id, from, to, Cause::Pull),
+            Change::Moved(id, tail.segment(), to, Cause::Pull),
         )?;
         self.set_head(
             last,

@@ -15,7 +15,7 @@ use crate::history::{Cause, Change};
 use crate::items::Head;
 use crate::lanes::Lane;
 use crate::parts::Parts;
-use crate::places::{Place, Segment};
+use crate::places::Segment;
 
 impl Parts {
     /// The bump that a lane took and has not looked at yet, if there is one.
@@ -151,9 +151,6 @@ impl Parts {
         let head = self.head(chunk);
         self.change_class(
             self.class_of(chunk),
-            chunk,
-            Place::Cold,
-            Place::Warm,
             Change::Moved(
                 bump.life,
                 Segment::Cold,

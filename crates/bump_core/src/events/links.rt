@@ -11,7 +11,6 @@ use crate::events::{Refused, Reply};
 use crate::history::Change;
 use crate::items::{Head, ItemId};
 use crate::parts::Parts;
-use crate::places::Place;
 
 impl Parts {
     /// Whether a class exists and no lane applies a bump of it.
@@ -68,13 +67,7 @@ impl Parts {
             chunk: next,
             generation: self.head(next).generation + 1,
         };
-        self.change_class(
-            k as usize,
-            next,
-            Place::Unused,
-            Place::Hot,
-            Change::Linked(life),
-        )?;
+        self.change_class(k as usize, Change::Linked(life))?;
         self.set_head(next, Head::newborn(life.generation));
         Ok(Reply::Life(life))
     }

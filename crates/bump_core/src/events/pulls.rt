@@ -64,13 +64,7 @@ impl Parts {
             chunk,
             generation: head.generation,
         };
-        self.change_class(
-            class,
-            chunk,
-            head.segment.place(),
-            to.place(),
-            Change::Moved(life, head.segment, to, Cause::Pull),
-        )?;
+        self.change_class(class, Change::Moved(life, head.segment, to, Cause::Pull))?;
         self.set_head(
             chunk,
             Head {

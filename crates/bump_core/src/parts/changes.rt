@@ -1,7 +1,7 @@
 //! How the parts of a World are changed.
 ghost use Rattle.std.specs.Prelude.{◌≡◌, ◌<◌, ◌+◌, ◌≤◌, ◌^◌, [], ◌∷◌, ◌++◌, OnOk, OnErr, length, Some};
-ghost use Rattle.bump_core.specs.Lists.{StandsAt};
-ghost use Rattle.bump_core.specs.History.{subject, target};
+ghost use Rattle.bump_core.specs.Lists.{IsListed};
+ghost use Rattle.bump_core.specs.History.{subject};
 ghost use Rattle.bump_core.specs.State.{chunk, class, worker, with_chunk, with_head, with_worker, with_change};
 ghost use Rattle.bump_core.specs.Events.{with_lane, next_bump, take_bump, push};
 ghost use Rattle.bump_core.specs.Views.{state_of};
@@ -15,7 +15,6 @@ use crate::history::Change;
 use crate::items::{Head, ItemId};
 use crate::lanes::Lane;
 use crate::parts::Parts;
-use crate::places::Place;
 use std::alloc::AllocError;
 
 impl Parts {
@@ -107,25 +106,16 @@ impl Parts {
         Ok(())
     }
 
-    /// A chunk of a class comes to the front of a list, and the entry that says so joins the class's history.
-    pub fn change_class(
-        &mut self,
-        k: usize,
-        chunk: u32,
-        from: Place,
-        to: Place,
-        entry: Change,
-    ) -> Result<(), AllocError>
+    /// An entry joins the history of a class, and its chunk, one of the class, comes to the front of its list.
+    pub fn change_class(&mut self, k: usize, entry: Change) -> Result<(), AllocError>
         requires class { k < length (state_of self.old).classes }
-        requires stands { StandsAt chunk from (class (state_of self.old) k).lists }
-        requires subject { (subject entry).chunk ≡ chunk }
-        requires target { target entry ≡ to }
+        requires listed { IsListed (subject entry).chunk (class (state_of self.old) k).lists }
         ensures ok { OnOk result (state_of self.new ≡ with_change (state_of self.old) k entry) }
         ensures err { OnErr result (state_of self.new ≡ state_of self.old) }
         ensures workers { self.new.workers ≡ self.old.workers }
     {
         let class = &mut self.classes[k];
-        class.change(chunk, from, to, entry)?;
+        class.change(entry)?;
         Ok(())
     }
 }

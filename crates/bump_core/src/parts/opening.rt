@@ -1,14 +1,14 @@
 //! The parts of a new World.
 ghost use Rattle.std.specs.Prelude.{◌≡◌, ℕ, ◌+◌, ◌-◌, ◌≤◌, ◌<◌, ◌^◌, IfOk, map, replicate};
-ghost use Rattle.bump_core.specs.Configs.{chunks_of};
-ghost use Rattle.bump_core.specs.Lists.{ascending};
+ghost use Rattle.bump_core.specs.Configs.{chunks_of, HaveChunks};
 ghost use Rattle.bump_core.specs.Opening.{fresh_chunk, new_class, classes_from, new_state};
 ghost use Rattle.bump_core.specs.State.{new_worker};
 ghost use Rattle.bump_core.specs.Views.{class_view, worker_view, state_of};
 
 use crate::bumps::Accounts;
 use crate::chunks::Chunk;
-use crate::classes::{Class, ClassLists};
+use crate::class_lists::ClassLists;
+use crate::classes::Class;
 use crate::configs::{ClassConfig, Config, MAX_CHUNKS};
 use crate::hands::Hand;
 use crate::items::Head;
@@ -17,19 +17,6 @@ use crate::parts::Parts;
 use crate::places::Segment;
 use crate::workers::Worker;
 use std::alloc::{AllocError, Global};
-use std::collections::VecDeque;
-
-/// The chunks from one number on and below another, ascending.
-fn ascending(alloc: Global, first: u32, end: u32) -> Result<VecDeque<u32>, AllocError>
-    requires { first ≤ end }
-    ensures { IfOk result (λ q. q.items ≡ ascending first (end - first)) }
-{
-    let mut chunks = VecDeque::with_capacity(alloc, (end - first) as usize)?;
-    for chunk in first..end {
-        chunks.push_back(chunk)?;
-    }
-    Ok(chunks)
-}
 
 /// A class whose chunks, from `first` on, are all UNUSED, and fresh with this generation.
 fn new_class(
@@ -38,31 +25,29 @@ fn new_class(
     first: u32,
     config: ClassConfig,
 ) -> Result<Class, AllocError>
-    requires { first + config.chunks < 2 ^ 32 }
+    requires some { 1 ≤ config.chunks }
+    requires few { first + config.chunks ≤ MAX_CHUNKS }
     ensures { IfOk result (λ k. class_view k ≡ new_class fresh first config) }
 {
-    let end = first + config.chunks;
     Ok(Class {
         first,
-        end,
+        end: first + config.chunks,
         fresh,
         hot_limit: config.hot,
         warm_limit: config.warm,
-        lists: ClassLists {
-            hot: VecDeque::new(alloc),
-            warm: VecDeque::new(alloc),
-            cold: VecDeque::new(alloc),
-            dying: VecDeque::new(alloc),
-            unused: ascending(alloc, first, end)?,
-            retired: VecDeque::new(alloc),
-        },
+        lists: ClassLists::new(alloc, first, config.chunks)?,
         history: Vec::new(alloc),
     })
 }
 
 /// All classes: the first has the first chunks, the next the next.
-fn new_classes(alloc: Global, fresh: u32, configs: &[ClassConfig]) -> Result<Vec<Class>, AllocError>
-    requires { chunks_of configs.now ≤ MAX_CHUNKS }
+fn new_classes(
+    alloc: Global,
+    fresh: u32,
+    configs: &[ClassConfig],
+) -> Result<Vec<Class>, AllocError>
+    requires some { HaveChunks configs.now }
+    requires few { chunks_of configs.now ≤ MAX_CHUNKS }
     ensures { IfOk result (λ ks. map class_view ks.items ≡ classes_from fresh 0 configs.now) }
 {
     let mut classes = Vec::new(alloc);

@@ -2,19 +2,19 @@
 ghost use Rattle.std.specs.Prelude.{◌≡◌, ◌<◌, IfSome, length};
 ghost use Rattle.bump_core.specs.State.{chunk, head, worker, is_chunk, is_class, is_worker, is_current, is_linked, is_held, workers_on, has_free_hold, class_of, is_under_application, is_open, class};
 ghost use Rattle.bump_core.specs.Events.{next_bump, waiting, next_chunk};
-ghost use Rattle.bump_core.specs.Lists.{StandsAt, list_at};
+ghost use Rattle.bump_core.specs.Lists.{list_at};
 ghost use Rattle.bump_core.specs.Worlds.{IsLawful};
-ghost use Rattle.bump_core.specs.declared.places.Place.TheVariants.{Unused};
+ghost use Rattle.bump_links.specs.Lists.{last_of};
 ghost use Rattle.bump_core.specs.Views.{state_of};
 
 use crate::bumps::{Accounts, AppliedBump};
 use crate::chunks::Chunk;
+use crate::class_lists::ListedChunks;
 use crate::hands::Hand;
 use crate::items::{Head, ItemId};
 use crate::lanes::Lane;
 use crate::parts::Parts;
 use crate::places::Place;
-use std::collections::VecDeque;
 
 impl Parts {
     /// Whether there is a chunk of this number.
@@ -165,7 +165,7 @@ impl Parts {
         requires { k < length (state_of self.now).classes }
         ensures { result ≡ next_chunk (state_of self.now) k }
     {
-        self.classes[k as usize].lists.unused.front().copied()
+        self.classes[k as usize].lists.front(Place::Unused)
     }
 
     /// The chunk that the next link of a class takes.
@@ -173,8 +173,8 @@ impl Parts {
         requires class { k < length (state_of self.now).classes }
         requires lawful { IsLawful (state_of self.now) }
         ensures front { result ≡ next_chunk (state_of self.now) k }
-        ensures stands { IfSome result (λ c. (c < length (state_of self.now).chunks) × (class_of (state_of self.now) c ≡ k)
-            × ((head (state_of self.now) c).generation < 4294967295) × StandsAt c Unused (class (state_of self.now) k).lists) }
+        ensures free { IfSome result (λ c. (c < length (state_of self.now).chunks) × (class_of (state_of self.now) c ≡ k)
+            × ((head (state_of self.now) c).generation < 4294967295)) }
     {
         self.unused_front(k)
     }
@@ -197,20 +197,28 @@ impl Parts {
         worker.sent.get(worker.received).copied()
     }
 
-    /// A list of a class.
-    pub fn list(&self, k: u32, place: Place) -> &VecDeque<u32>
+    /// The chunks of a list of a class.
+    pub fn list(&self, k: u32, place: Place) -> ListedChunks<'_>
         requires { k < length (state_of self.now).classes }
-        ensures { result.now.items ≡ list_at (class (state_of self.now) k).lists place }
+        ensures { result ≡ list_at (class (state_of self.now) k).lists place }
     {
-        let lists = &self.classes[k as usize].lists;
-        match place {
-            Place::Hot => &lists.hot,
-            Place::Warm => &lists.warm,
-            Place::Cold => &lists.cold,
-            Place::Dying => &lists.dying,
-            Place::Unused => &lists.unused,
-            Place::Retired => &lists.retired,
-        }
+        self.classes[k as usize].lists.chunks(place)
+    }
+
+    /// The last chunk of a list of a class.
+    pub fn list_back(&self, k: u32, place: Place) -> Option<u32>
+        requires { k < length (state_of self.now).classes }
+        ensures { result ≡ last_of (list_at (class (state_of self.now) k).lists place) }
+    {
+        self.classes[k as usize].lists.back(place)
+    }
+
+    /// How many chunks a list of a class has.
+    pub fn list_len(&self, k: u32, place: Place) -> u32
+        requires { k < length (state_of self.now).classes }
+        ensures { result ≡ length (list_at (class (state_of self.now) k).lists place) }
+    {
+        self.classes[k as usize].lists.len(place)
     }
 
     /// The bumps that a worker's ring accepted.

@@ -1,15 +1,16 @@
 //! What the World tells of itself.
 ghost use Rattle.std.specs.Prelude.{◌≡◌, ◌<◌, All, length};
+ghost use Rattle.bump_links.specs.Lists.{last_of};
 ghost use Rattle.bump_core.specs.State.{head};
 ghost use Rattle.bump_core.specs.Headline.{Headline};
 ghost use Rattle.bump_core.specs.Worlds.{IsLawful};
 ghost use Rattle.bump_core.specs.Readers.{list_of, time_of, label_of, holds_at, accounts_of, sent_of, received_of, applied_of};
 
 use crate::bumps::{Accounts, AppliedBump};
+use crate::class_lists::ListedChunks;
 use crate::items::{Head, ItemId};
 use crate::places::Place;
 use crate::worlds::World;
-use std::collections::VecDeque;
 
 impl World {
     /// How many classes there are: 1 to 16. They are numbered from 0.
@@ -41,13 +42,31 @@ impl World {
         let _ = &self.parts;
     }
 
-    /// The chunks of a class's list, front first. The class is one of the configuration's.
-    pub fn list(&self, class: u32, place: Place) -> &VecDeque<u32>
+    /// The chunks of a class's list, front first. The class is one of the configuration's. It takes no memory, and the
+    /// time of the chunks that are read.
+    pub fn list(&self, class: u32, place: Place) -> ListedChunks<'_>
         requires { class < length self.now.classes }
-        ensures chunks { result.now.items ≡ list_of self.now class place }
-        ensures in_range { All (λ c. c < length self.now.chunks) result.now.items }
+        ensures chunks { result ≡ list_of self.now class place }
+        ensures in_range { All (λ c. c < length self.now.chunks) result }
     {
         self.parts.list(class, place)
+    }
+
+    /// The last chunk of a class's list, or `None` where it is empty: the one that a pull looks at in HOT, WARM or COLD.
+    /// The class is one of the configuration's. It takes constant time.
+    pub fn list_back(&self, class: u32, place: Place) -> Option<u32>
+        requires { class < length self.now.classes }
+        ensures { result ≡ last_of (list_of self.now class place) }
+    {
+        self.parts.list_back(class, place)
+    }
+
+    /// How many chunks a class's list has. The class is one of the configuration's. It takes constant time.
+    pub fn list_len(&self, class: u32, place: Place) -> u32
+        requires { class < length self.now.classes }
+        ensures { result ≡ length (list_of self.now class place) }
+    {
+        self.parts.list_len(class, place)
     }
 
     /// A chunk's head. The chunk is one of the configuration's.
