@@ -3,7 +3,6 @@ pub mod KnownBytes
 pub mod CommandsAtRest
 pub mod AscendingLoops
 pub mod CutLines
-pub mod TwoPieces
 pub mod Draining
 pub mod SameButWorld
 pub mod GatheredText

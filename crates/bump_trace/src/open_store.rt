@@ -199,32 +199,21 @@ impl<'a> OpenStore<'a> {
         Ok(())
     }
 
-    /// What is told of these chunks of a list.
-    fn put_chunks(&self, out: &mut Vec<u8>, place: Place, chunks: &[u32]) -> Result<(), AllocError>
-        requires { All (λ c. c < length self.now.world.chunks) chunks.now }
-        ensures { OnOk result (out.new.items ≡ out.old.items ++ flat_map (list_entry self.now.world place) chunks.now) }
-    {
-        for chunk in chunks {
-            out.extend_from_slice(b" ")?;
-            put_chunk(
-                out,
-                place,
-                *chunk,
-                self.world.head(*chunk),
-                self.world.time(*chunk),
-            )?;
-        }
-        Ok(())
-    }
-
     /// What is told of all chunks of a list.
     fn put_entries(&self, out: &mut Vec<u8>, class: u32, place: Place) -> Result<(), AllocError>
         requires { class < length self.now.world.classes }
         ensures { OnOk result (out.new.items ≡ out.old.items ++ flat_map (list_entry self.now.world place) (list_of self.now.world class place)) }
     {
-        let (front, back) = self.world.list(class, place).as_slices();
-        self.put_chunks(out, place, front)?;
-        self.put_chunks(out, place, back)?;
+        for chunk in self.world.list(class, place) {
+            out.extend_from_slice(b" ")?;
+            put_chunk(
+                out,
+                place,
+                chunk,
+                self.world.head(chunk),
+                self.world.time(chunk),
+            )?;
+        }
         Ok(())
     }
 
@@ -234,7 +223,7 @@ impl<'a> OpenStore<'a> {
         requires { class < length self.now.world.classes }
         ensures { OnOk result (out.new.items ≡ out.old.items ++ list_line self.now.world class place) }
     {
-        put_list_start(out, class, place, self.world.list(class, place).len())?;
+        put_list_start(out, class, place, self.world.list_len(class, place))?;
         self.put_entries(out, class, place)?;
         out.extend_from_slice(b"\n")
     }

@@ -84,7 +84,7 @@ pub fn put_list_start(
     out: &mut Vec<u8>,
     class: u32,
     place: Place,
-    len: usize,
+    len: u32,
 ) -> Result<(), AllocError>
     ensures { OnOk result (out.new.items ≡ out.old.items ++ list_start class place len) }
 {
@@ -93,7 +93,7 @@ pub fn put_list_start(
     out.extend_from_slice(b" ")?;
     out.extend_from_slice(word_of_place(place).as_bytes())?;
     out.extend_from_slice(b" ")?;
-    put_number(out, len as u64)
+    put_number(out, u64::from(len))
 }
 
 fn put_accounts(out: &mut Vec<u8>, accounts: Accounts, applied: u64) -> Result<(), AllocError>
