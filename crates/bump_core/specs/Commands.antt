@@ -41,7 +41,7 @@ use Rattle.bump_core.specs.History.{place_of}
 use Rattle.bump_core.specs.Lists.{list_at}
 use Rattle.bump_core.specs.Tables.{Get, IsStale, IsRefsFull, IsHeld, Hit, IsFirst, IsAlready, IsMarked, Attempts, is_cold, is_over, get_of, ended_of, hit_of, dropped_of, outcome_of, pulled_of, pulled_to, segment_of}
 use Rattle.bump_links.specs.Lists.{last_of}
-use Rattle.bump_core.specs.State.{State, WorkerState, chunk, head, class, worker, is_chunk, is_class, is_worker, with_chunk, with_head, with_worker, with_change, class_of, is_linked, is_held, has_free_hold, is_open, is_idle, some_and, is_under_application}
+use Rattle.bump_core.specs.State.{State, WorkerState, chunk, head, class, worker, is_chunk, is_class, is_worker, with_chunk, with_head, with_worker, with_change, class_of, is_held, has_free_hold, is_open, is_idle, some_and, is_under_application}
 use Rattle.bump_core.specs.Rings.{most_attempts}
 use Rattle.bump_core.specs.Heads.{newborn, one_more, one_fewer, fetched_head, active_head}
 use Rattle.bump_core.specs.Events.{is_under_limit, next_chunk, next_life, waiting, next_bump, bump_of, applied_bump, with_hold, without_hold}

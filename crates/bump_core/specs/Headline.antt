@@ -2,13 +2,12 @@
 use Rattle.std.specs.Prelude.{◌≡◌, ℕ, ◌+◌, ◌<◌, true, false, ◌&&◌, ◌++◌, length, map}
 use Rattle.bump_core.specs.declared.places.Place.{Place}
 use Rattle.bump_core.specs.History.{is_place}
-use Rattle.bump_core.specs.Lawful.{bit, Shows, IsUsed}
+use Rattle.bump_core.specs.Lawful.{bit, Shows}
 use Rattle.bump_links.specs.Lists.{times}
 use Rattle.bump_core.specs.Lists.{Lists, list_at}
-use Rattle.bump_core.specs.Rings.{in_ring, aboard, bump_applied, numbered_from, IsRing, IsAccounts, attempts_of}
-use Rattle.bump_core.specs.State.{State, WorkerState, head, class, class_of, worker, chunk}
-use Rattle.bump_core.specs.Worlds.{references, owns, stands_in, place}
-use Rattle.bump_core.specs.declared.bumps.Bump.{Bump}
+use Rattle.bump_core.specs.Rings.{in_ring, aboard, bump_applied, numbered_from, IsRing, IsAccounts}
+use Rattle.bump_core.specs.State.{State, WorkerState, head, class, class_of, worker}
+use Rattle.bump_core.specs.Worlds.{references, owns, stands_in}
 
 -- What a lane applied, then the bump aboard, and then the bumps in the ring are what the ring accepted, numbered from 0: so every
 -- bump is applied once at most, and in that worker's order, and what is not applied yet is still on its way.

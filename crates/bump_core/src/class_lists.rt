@@ -5,13 +5,12 @@ ghost use Rattle.bump_core.specs.Lists.{list_at, to_front, opening, IsListed};
 
 mod walk;
 
-pub use walk::ListedChunks;
-
 use crate::configs::MAX_CHUNKS;
 use crate::places::Place;
 use bump_links::Links;
 use std::alloc::{AllocError, Global};
 use std::marker::Model;
+pub use walk::ListedChunks;
 
 /// How many lists a class has.
 const LISTS: u32 = 6;

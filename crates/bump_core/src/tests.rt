@@ -495,10 +495,16 @@ fn chunks_met(
 fn lists_are_read_front_first(rt: HostRuntime) -> Result<(), Fail> {
     let alloc = rt.alloc();
     let mut world = world(alloc, 4, 5, 5).ok_or("no memory")?;
-    assert_eq!(rt; chunks_met(alloc, &world, 0, Place::Unused)?.as_slice(), [0, 1].as_slice());
+    assert_eq!(rt;
+        chunks_met(alloc, &world, 0, Place::Unused)?.as_slice(),
+        [0, 1].as_slice()
+    );
     let links = [Event::Link { class: 0 }, Event::Link { class: 0 }];
     assert_eq!(rt; world.run(&links), Ok(()));
-    assert_eq!(rt; chunks_met(alloc, &world, 0, Place::Hot)?.as_slice(), [1, 0].as_slice());
+    assert_eq!(rt;
+        chunks_met(alloc, &world, 0, Place::Hot)?.as_slice(),
+        [1, 0].as_slice()
+    );
     assert_eq!(rt; world.list_back(0, Place::Hot), Some(0));
     assert_eq!(rt; world.list_len(0, Place::Hot), 2);
     assert_eq!(rt; world.list(0, Place::Unused).next(), None);
@@ -508,8 +514,14 @@ fn lists_are_read_front_first(rt: HostRuntime) -> Result<(), Fail> {
     let to = Segment::Cold;
     let moved = world.step(Event::Move { chunk: 1, to });
     assert_eq!(rt; moved, Ok(Reply::Done));
-    assert_eq!(rt; chunks_met(alloc, &world, 0, Place::Hot)?.as_slice(), [0].as_slice());
-    assert_eq!(rt; chunks_met(alloc, &world, 0, Place::Cold)?.as_slice(), [1].as_slice());
+    assert_eq!(rt;
+        chunks_met(alloc, &world, 0, Place::Hot)?.as_slice(),
+        [0].as_slice()
+    );
+    assert_eq!(rt;
+        chunks_met(alloc, &world, 0, Place::Cold)?.as_slice(),
+        [1].as_slice()
+    );
     Ok(())
 }
 

@@ -1,5 +1,5 @@
 -- Nodes as chunks: the lists of a class that links stand for, what a move of a node does to them, and what is read of them.
-use Rattle.std.proofs.Common.{◌≡◌, ◌≢◌, ℕ, zero, suc, ◌+◌, ◌-◌, ◌<◌, ◌≤◌, Bool, cond, eqb, List, [], ◌∷◌, length, get_or, set, map, Option, Some, None, IfSome, refl, sym, ◌∙◌, ap, subst, arith, inl, inr}
+use Rattle.std.proofs.Common.{◌≡◌, ◌≢◌, ℕ, zero, suc, ◌+◌, ◌-◌, ◌<◌, ◌≤◌, cond, eqb, List, [], ◌∷◌, length, get_or, set, map, Option, Some, None, IfSome, refl, sym, ◌∙◌, ap, subst, arith, inl, inr}
 use Rattle.std.specs.Prelude.{option_map}
 use Rattle.std.specs.List.{AllByRecursion, range_with_len}
 use Rattle.std.proofs.lemmas.Bool.{ne_eqb, eq-eqb}
@@ -11,7 +11,7 @@ use Rattle.bump_links.specs.Lists as links
 use Rattle.bump_core.specs.declared.places.Place.{Place}
 use Rattle.bump_core.specs.declared.places.Place.TheVariants.{Hot, Warm, Cold, Dying, Unused, Retired}
 use Rattle.bump_core.specs.History.{place_number, is_place}
-use Rattle.bump_core.specs.Lists.{Lists, list_at, to_front, opening, IsListed}
+use Rattle.bump_core.specs.Lists.{list_at, to_front, opening, IsListed}
 use Rattle.bump_core.specs.ClassLists.{chunks_from, listed_from, lists_from, AreSixLists}
 use Rattle.bump_core.proofs.classes.SixLists.{same_lists, list_at_front}
 

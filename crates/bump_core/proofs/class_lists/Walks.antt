@@ -41,17 +41,17 @@ begins c (suc k) (x ∷ xs) is =
     let there : 0 < times c xs = rest.there in
     elim (eqb_tells x c) [
       | inl t ↦ record {
-          is = rest.is;
-          within = omega (arith, below);
-          there = rw t.0 (omega arith);
-          next = λ once. absurd (let k : suc (times c xs) ≡ 1 = rw t.0 at once in omega (arith, there, k));
-        }
+        is = rest.is;
+        within = omega (arith, below);
+        there = rw t.0 (omega arith);
+        next = λ once. absurd (let k : suc (times c xs) ≡ 1 = rw t.0 at once in omega (arith, there, k));
+      }
       | inr f ↦ record {
-          is = rest.is;
-          within = omega (arith, below);
-          there = rw f.0 there;
-          next = λ once. rw f.0 (rest.next (rw f.0 at once));
-        }
+        is = rest.is;
+        within = omega (arith, below);
+        there = rw f.0 there;
+        next = λ once. rw f.0 (rest.next (rw f.0 at once));
+      }
     ]
 
 -- a walk that has an element next

@@ -1,24 +1,21 @@
 -- What workers and lanes reach for: the chunk of what a look-up answered is in range, and stands where its head says.
-use Rattle.std.proofs.Common.{◌≡◌, ℕ, ◌<◌, length, Option, Some, None, true, false, refl, sym, ap, arith, ◌∙◌}
+use Rattle.std.proofs.Common.{◌≡◌, ℕ, ◌<◌, length, Option, Some, None, true, refl, sym, ap, arith, ◌∙◌}
 use Rattle.std.specs.Prelude.{IfSome}
 use Rattle.std.specs.Option.{option_map_or}
 use Rattle.bump_core.specs.declared.items.ItemId.{ItemId}
-use Rattle.bump_core.specs.declared.places.Place.TheVariants.{Dying}
 use Rattle.bump_core.specs.declared.places.Segment.TheVariants as segment
 use Rattle.bump_core.specs.declared.bumps.Bump.{Bump}
 use Rattle.bump_core.specs.declared.lanes.Lane.{Lane}
 use Rattle.bump_core.specs.declared.lanes.Lane.TheVariants as lane
-use Rattle.bump_core.specs.History.{place_of}
 use Rattle.bump_core.specs.Lives.{one_if, count_of}
 use Rattle.bump_core.specs.Rings.{most_attempts}
-use Rattle.bump_core.specs.State.{State, WorkerState, head, class, class_of, worker, tried_life, life_in_hand, cleared_life}
+use Rattle.bump_core.specs.State.{State, WorkerState, head, worker, tried_life, life_in_hand, cleared_life}
 use Rattle.bump_core.specs.Events.{next_bump, bump_of, carried, tried, applied_now, cleared_active}
 use Rattle.bump_core.specs.Commands.{bump_next}
-use Rattle.bump_core.specs.Worlds.{IsLawful, aboard_of, bumps_of, references, place}
+use Rattle.bump_core.specs.Worlds.{IsLawful, aboard_of, bumps_of, references}
 use Rattle.bump_core.proofs.events.Enabled.{trying_from, in_hand_from, clearing_from, carrying_from, tried_from, applied_from, cleared_from}
-use Rattle.bump_core.proofs.worlds.LawfulStates.{one_if_same, bumps_counted, referred_in_range, referred_used, tried_in_range, in_hand_in_range, cleared_in_range, in_hand_under_way, carrying_in_range, looked_in_range, applied_in_range, linked_in_range, waiting_linked}
+use Rattle.bump_core.proofs.worlds.LawfulStates.{one_if_same, bumps_counted, referred_in_range, tried_in_range, in_hand_in_range, cleared_in_range, in_hand_under_way, carrying_in_range, looked_in_range, applied_in_range, linked_in_range, waiting_linked}
 use Rattle.bump_core.proofs.workers.Ring.{next_in_ring}
-use Rattle.bump_core.proofs.Laws.{dying_where_unlinked}
 
 -- the next bump has a reference
 next_counted : (x : WorkerState) (b : Bump) → bump_next x ≡ Some b → 0 < bumps_of b.life x

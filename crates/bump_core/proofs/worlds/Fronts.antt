@@ -1,10 +1,10 @@
 -- Where the chunks of a lawful World stand in the lists of their classes.
-use Rattle.std.proofs.Common.{Option, None, ◌≡◌, ℕ, ◌<◌, ◌≤◌, ◌≢◌, ◌&&◌, cond, eqb, true, false, List, ◌∷◌, length, slice_index_or, Some, refl, sym, ap, ap₂, ◌∙◌, subst, arith, eq-eqb, ◌⊎◌, inl, inr}
+use Rattle.std.proofs.Common.{Option, None, ◌≡◌, ℕ, ◌<◌, ◌≤◌, ◌≢◌, ◌&&◌, true, false, List, length, slice_index_or, Some, refl, sym, ap, ap₂, ◌∙◌, subst, arith, ◌⊎◌, inl, inr}
 use Rattle.std.proofs.lemmas.Bool.{cases_lt, and_parts, and_right}
 use Rattle.std.specs.Prelude.{IfSome}
 use Rattle.bump_core.specs.declared.places.Segment.{Segment}
 use Rattle.bump_core.specs.declared.places.Place.{Place}
-use Rattle.bump_core.specs.declared.places.Place.TheVariants.{Hot, Warm, Cold, Dying, Unused, Retired}
+use Rattle.bump_core.specs.declared.places.Place.TheVariants.{Unused}
 use Rattle.bump_core.specs.Lawful.{bit, Shows}
 use Rattle.bump_core.specs.History.{place_of, is_place}
 use Rattle.bump_links.specs.Lists.{times, last_of}
@@ -12,7 +12,7 @@ use Rattle.bump_core.specs.Lists.{list_at, IsListed}
 use Rattle.bump_core.specs.Events.{next_chunk}
 use Rattle.bump_core.specs.State.{State, head, class, class_of}
 use Rattle.bump_core.specs.Worlds.{owns, place, place_in, IsLawful}
-use Rattle.bump_core.proofs.worlds.LawfulStates.{linked_in_range, unused_shown}
+use Rattle.bump_core.proofs.worlds.LawfulStates.{unused_shown}
 use Rattle.bump_core.proofs.Laws.{bit_some, placed_where_linked, in_segment}
 use Rattle.bump_core.proofs.classes.PlainLists.{times_at, first_there, last_there}
 use Rattle.bump_core.proofs.Replay.{in_lists}

@@ -8,7 +8,7 @@ use Rattle.bump_core.specs.History.{is_place}
 use Rattle.bump_core.specs.Lawful.{bit, IsUsed, Shows}
 use Rattle.bump_links.specs.Lists.{times}
 use Rattle.bump_core.specs.Lists.{list_at}
-use Rattle.bump_core.specs.Rings.{in_ring, aboard, bump_applied, numbered_from, IsWorker}
+use Rattle.bump_core.specs.Rings.{in_ring, numbered_from, IsWorker}
 use Rattle.bump_core.specs.State.{State, WorkerState, class, head, worker}
 use Rattle.bump_core.specs.Worlds.{owns, place, place_in, stands_in, IsLawful}
 use Rattle.bump_core.proofs.worlds.LawfulStates.{referred_in_range, referred_used}

@@ -41,11 +41,7 @@ fn new_class(
 }
 
 /// All classes: the first has the first chunks, the next the next.
-fn new_classes(
-    alloc: Global,
-    fresh: u32,
-    configs: &[ClassConfig],
-) -> Result<Vec<Class>, AllocError>
+fn new_classes(alloc: Global, fresh: u32, configs: &[ClassConfig]) -> Result<Vec<Class>, AllocError>
     requires some { HaveChunks configs.now }
     requires few { chunks_of configs.now ≤ MAX_CHUNKS }
     ensures { IfOk result (λ ks. map class_view ks.items ≡ classes_from fresh 0 configs.now) }

@@ -1,8 +1,8 @@
 -- The node that follows is the chunk that follows.
-use Rattle.std.proofs.Common.{◌≡◌, ℕ, ◌<◌, sym, subst}
+use Rattle.std.proofs.Common.{◌≡◌, ◌<◌, sym, subst}
 use Rattle.bump_links.specs.Lists.{times, next_of}
 use Rattle.bump_core.specs.Lists.{Lists, list_at}
-use Rattle.bump_core.proofs.class_lists.Numbering.{HasNode, node_at, once_at, next_is}
+use Rattle.bump_core.proofs.class_lists.Numbering.{node_at, once_at, next_is}
 use Rattle.bump_core.proofs.class_lists.ClassLists.after.Goals as goal
 
 pub overflow_sub-chunk : goal.overflow_sub-chunk

@@ -2,7 +2,7 @@
 use Rattle.std.proofs.Common.{◌≡◌, sym, ◌∙◌, ap, subst}
 use Rattle.bump_core.specs.Lists.{Lists, to_front, IsListed}
 use Rattle.bump_core.specs.ClassLists.{lists_from}
-use Rattle.bump_core.proofs.class_lists.Numbering.{HasNode, node_of, moved_is}
+use Rattle.bump_core.proofs.class_lists.Numbering.{node_of, moved_is}
 use Rattle.bump_core.proofs.class_lists.ClassLists.to_front.Goals as goal
 
 pub overflow_sub-chunk : goal.overflow_sub-chunk
