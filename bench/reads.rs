@@ -1,7 +1,7 @@
 //! Writes a trace of reads all over COLD: as many items as chunks are stored and pulled to COLD, and then read at random,
 //! each as likely as another, with a drain behind each 64 reads. Build it by hand, and give it the count of chunks and that
 //! of lines:
-//! rustc --edition 2024 -C opt-level=2 bench/reads.rs -o /tmp/reads && /tmp/reads 100000 700000 > /tmp/reads.trace
+//! rustc --edition 2024 -C opt-level=2 bench/reads.rs -o reads && ./reads 100000 700000 > reads.trace
 
 use std::io::{BufWriter, Write};
 
