@@ -4,7 +4,6 @@ pub mod Fronts
 pub mod Headline
 pub mod Labels
 pub mod LawfulStates
-pub mod NothingUnlinked
 pub mod Opening
 pub mod Sizes
 pub mod StaysLawful

@@ -1,6 +1,7 @@
 -- Commands: what each answers and leaves, by the tables and in one go, and the events that it is made of.
-use Rattle.std.specs.Prelude.{◌≡◌, ℕ, ◌+◌, Bool, true, false, not, ◌==◌, ◌&&◌, ◌||◌, nat_lt, List, [], ◌∷◌, ◌++◌, length, Option, None, Some, Result, Ok, Err, if◌then◌else◌}
+use Rattle.std.specs.Prelude.{◌≡◌, ℕ, ◌+◌, Bool, true, false, not, ◌==◌, ◌&&◌, ◌||◌, nat_lt, List, [], ◌∷◌, ◌++◌, length, map, filter, Option, None, Some, Result, Ok, Err, if◌then◌else◌}
 use Rattle.std.specs.Option.{option_map_or}
+use Rattle.std.specs.List.{list_any}
 use Rattle.bump_core.specs.declared.places.Segment.{Segment}
 use Rattle.bump_core.specs.declared.places.Segment.TheVariants as segment
 use Rattle.bump_core.specs.declared.places.Tail.{Tail}
@@ -37,14 +38,59 @@ use Rattle.bump_core.specs.declared.events.Event.TheVariants as event
 use Rattle.bump_core.specs.declared.events.Refused.{Refused}
 use Rattle.bump_core.specs.declared.events.Refused.TheVariants.{NotEnabled, OutOfMemory}
 use Rattle.bump_core.specs.Lives.{life}
-use Rattle.bump_core.specs.History.{place_of}
+use Rattle.bump_core.specs.History.{place_of, freed_change}
 use Rattle.bump_core.specs.Lists.{list_at}
-use Rattle.bump_core.specs.Tables.{Get, IsStale, IsRefsFull, IsHeld, Hit, IsFirst, IsAlready, IsMarked, Attempts, is_cold, is_over, get_of, ended_of, hit_of, dropped_of, outcome_of, pulled_of, pulled_to, segment_of}
+use Rattle.bump_core.specs.Tables.{Get, IsStale, IsRefsFull, IsHeld, Hit, IsFirst, IsAlready, IsMarked, Attempts, is_cold, is_over, get_of, ended_of, is_unheld, hit_of, dropped_of, outcome_of, pulled_of, pulled_to, segment_of}
 use Rattle.bump_links.specs.Lists.{last_of}
-use Rattle.bump_core.specs.State.{State, WorkerState, chunk, head, class, worker, is_chunk, is_class, is_worker, with_chunk, with_head, with_worker, with_change, class_of, is_held, has_free_hold, is_open, is_idle, some_and, is_under_application}
+use Rattle.bump_core.specs.State.{State, WorkerState, chunk, head, class, worker, is_chunk, is_class, is_worker, with_chunk, with_head, with_worker, with_change, with_changes, class_of, is_linked, is_held, has_free_hold, is_open, is_idle, some_and, is_under_application}
 use Rattle.bump_core.specs.Rings.{most_attempts}
-use Rattle.bump_core.specs.Heads.{newborn, one_more, one_fewer, fetched_head, active_head}
-use Rattle.bump_core.specs.Events.{is_under_limit, next_chunk, next_life, waiting, next_bump, bump_of, applied_bump, with_hold, without_hold}
+use Rattle.bump_core.specs.Heads.{newborn, one_more, one_fewer, fetched_head, active_head, severed_head}
+use Rattle.bump_core.specs.Events.{is_under_limit, next_chunk, next_life, waiting, next_bump, bump_of, applied_bump, with_hold, without_hold, unlink, close}
+
+-- Ends.
+
+-- what the end of a life comes to that is linked: its link's reference is given back first
+abbrev pub end_of : State → ItemId → Ended
+end_of s l = ended_of (severed_head (head s l.chunk))
+
+-- an unlinked life's chunk is free where its end came to that
+abbrev pub freed_by : State → ItemId → Ended → State
+freed_by s l Freed = with_change s (class_of s l.chunk) (freed_change l)
+freed_by s l Deferred = s
+
+-- a linked life ends
+abbrev pub end_life : State → ItemId → State
+end_life s l = freed_by (unlink s l) l (end_of s l)
+
+-- the look behind an end: a load, which is a sweep where it finds no reference
+abbrev pub look_of : ℕ → Ended → Event
+look_of c Freed = event.Sweep c
+look_of c Deferred = event.Load c
+
+abbrev pub end_events : State → ItemId → List Event
+end_events s l = event.Unlink l ∷ look_of l.chunk (end_of s l) ∷ []
+
+-- Sweeps.
+
+-- the chunks of a list that nobody holds, by the heads of all chunks
+abbrev pub unheld : (ℕ → Head) → List ℕ → List ℕ
+unheld heads cs = filter (λ c. is_unheld (heads c)) cs
+
+-- what the sweep of these chunks enters into the history
+abbrev pub swept_changes : (ℕ → Head) → List ℕ → List Change
+swept_changes heads cs = map (λ c. freed_change (life c (heads c).generation)) cs
+
+-- each of these chunks is looked at once
+abbrev pub looks_at : (ℕ → Head) → List ℕ → List Event
+looks_at heads cs = map (λ c. look_of c (ended_of (heads c))) cs
+
+-- what a sweep of this list enters: those that nobody holds, front to back as the list stands
+abbrev pub swept_of : (ℕ → Head) → List ℕ → List Change
+swept_of heads cs = swept_changes heads (unheld heads cs)
+
+-- what a sweep of a class enters, by its DYING
+abbrev pub sweep_of : State → ℕ → List Change
+sweep_of s k = swept_of (head s) (class s k).lists.dying
 
 -- Pulls.
 
@@ -52,15 +98,16 @@ use Rattle.bump_core.specs.Events.{is_under_limit, next_chunk, next_life, waitin
 abbrev pub tail_of : State → ℕ → Tail → Option ℕ
 tail_of s k t = last_of (list_at (class s k).lists (place_of (segment_of t)))
 
--- that list has more items than its limit; COLD has none
+-- that list has more items than its limit; COLD has none, and an evict looks at none
 abbrev pub is_list_over : State → ℕ → Tail → Bool
 is_list_over s k tail.Hot = is_over (length (class s k).lists.hot) (class s k).hot_limit
 is_list_over s k tail.Warm = is_over (length (class s k).lists.warm) (class s k).warm_limit
 is_list_over s k tail.Cold = false
+is_list_over s k tail.Evict = false
 
 -- what a pull does with its item, by the tail table
 abbrev pub pulled_at : State → ℕ → Tail → ℕ → Pulled
-pulled_at s k t c = pulled_of t (head s c).active (is_list_over s k t) (life c (head s c).generation)
+pulled_at s k t c = let l = life c (head s c).generation in pulled_of t (head s c).active (is_list_over s k t) (end_of s l) l
 
 -- the item goes to the front of a segment without ACTIVE, or nothing happens
 abbrev pub pull_to : State → ℕ → Tail → ℕ → Option Segment → State
@@ -69,8 +116,12 @@ pull_to s k t c (Some to) =
     let h = head s c in
     with_change (with_head s c (record h { active = false; segment = to })) k (change.Moved (life c h.generation) (segment_of t) to Pull)
 
+-- a pull moves its item by the tail table, and an evict ends it
 abbrev pub pull : State → ℕ → Tail → ℕ → State
-pull s k t c = pull_to s k t c (pulled_to (pulled_at s k t c))
+pull s k tail.Hot c = pull_to s k tail.Hot c (pulled_to (pulled_at s k tail.Hot c))
+pull s k tail.Warm c = pull_to s k tail.Warm c (pulled_to (pulled_at s k tail.Warm c))
+pull s k tail.Cold c = pull_to s k tail.Cold c (pulled_to (pulled_at s k tail.Cold c))
+pull s k tail.Evict c = end_life s (life c (head s c).generation)
 
 -- Holds.
 
@@ -189,17 +240,12 @@ bumped_worker x b o = record x { received = by x.lane; lane = lane.Empty; applie
     by lane.Empty = x.received ++ b.life ∷ []
     by _ = x.received
 
--- the entry of a chunk that is found without holders: it is UNUSED again, or RETIRED after the last generation
-abbrev pub freed_change : ItemId → Change
-freed_change l = if l.generation == 4294967295 then change.Retired l else change.Swept l
-
 -- The lists of its class: a bump that moves its item enters the history, and so does the end of an item that was gone and
 -- has no other holder.
 abbrev pub bumped_lists : State → ℕ → Bump → Outcome → Ended → State
 bumped_lists s w b outcome.Moved ended = with_change s (class_of s b.life.chunk) (change.Moved b.life segment.Cold segment.Warm (BumpOf w b.number))
 bumped_lists s w b outcome.TimeOnly ended = s
-bumped_lists s w b outcome.Gone Freed = with_change s (class_of s b.life.chunk) (freed_change b.life)
-bumped_lists s w b outcome.Gone Deferred = s
+bumped_lists s w b outcome.Gone ended = freed_by s b.life ended
 
 abbrev pub apply_bump : State → ℕ → ℕ → Bump → State
 apply_bump s w now b =
@@ -213,6 +259,8 @@ apply_bump s w now b =
 -- or none (a label), or another command is half made in its way.
 abbrev pub is_allowed : State → Command → Bool
 is_allowed s (command.Link k x now) = is_class s k && (not (some_and (λ c. true) (next_chunk s k)) || not (is_under_application s k))
+is_allowed s (command.Unlink l) = not (is_linked s l) || not (is_under_application s (class_of s l.chunk))
+is_allowed s (command.Sweep k) = is_class s k && (not (list_any (λ c. is_unheld (head s c)) (class s k).lists.dying) || not (is_under_application s k))
 is_allowed s (command.Pull k t) = is_class s k && (not (some_and (λ c. true) (tail_of s k t)) || not (is_under_application s k))
 is_allowed s (command.Take w l) = is_open s w
 is_allowed s (command.Touch w l now) = is_open s w && (has_free_hold s l && (is_exhausted s w || is_idle (worker s w).hand))
@@ -220,15 +268,24 @@ is_allowed s (command.Label l) = is_held s l
 is_allowed s (command.Release l) = has_free_hold s l
 is_allowed s (command.Next w now) = is_worker s w && (not (is_half_made (worker s w).lane) && not (some_and (λ b. is_under_application s (class_of s b.life.chunk)) (bump_next (worker s w))))
 
+is_allowed s (command.Close w) = is_open s w && is_idle (worker s w).hand
+
+-- what an unlink answers
+abbrev pub unlink_answer : State → ItemId → Answer
+unlink_answer s l = if not (is_chunk s l.chunk) then answer.NoSuchChunk else (if is_linked s l then answer.Ended (end_of s l) else answer.NotLinked)
+
 -- What a command answers.
 abbrev pub answer_of : State → Command → Answer
 answer_of s (command.Link k x now) = option_map_or (λ c. answer.Linked (next_life s c)) (next_chunk s k) answer.NoFreeChunk
+answer_of s (command.Unlink l) = unlink_answer s l
+answer_of s (command.Sweep k) = answer.Swept (length (sweep_of s k))
 answer_of s (command.Pull k t) = answer.Pulled (option_map_or (pulled_at s k t) (tail_of s k t) pulled.Empty)
 answer_of s (command.Take w l) = if is_chunk s l.chunk then get_answer (get_at s l) else answer.NoSuchChunk
 answer_of s (command.Touch w l now) = answer.Touched (if is_exhausted s w then touch.Exhausted else hit_answer s w l (hit_at s l))
 answer_of s (command.Label l) = answer.Label (chunk s l.chunk).label
 answer_of s (command.Release l) = answer.Done
 answer_of s (command.Next w now) = option_map_or (λ b. answer.Bumped (entry_of s b)) (bump_next (worker s w)) answer.Nothing
+answer_of s (command.Close w) = answer.Done
 
 -- a link stores the label, the time and the head, and the chunk enters HOT
 abbrev pub link_labelled : State → ℕ → ℕ → ℕ → ℕ → State
@@ -237,18 +294,28 @@ link_labelled s k x now c = with_change (with_chunk s c (record (chunk s c) { he
 -- The state that a command leaves.
 abbrev pub command_after : State → Command → State
 command_after s (command.Link k x now) = option_map_or (link_labelled s k x now) (next_chunk s k) s
+command_after s (command.Unlink l) = if is_linked s l then end_life s l else s
+command_after s (command.Sweep k) = with_changes s k (sweep_of s k)
 command_after s (command.Pull k t) = option_map_or (pull s k t) (tail_of s k t) s
 command_after s (command.Take w l) = if is_chunk s l.chunk then held_by_get s l (get_at s l) else s
 command_after s (command.Touch w l now) = if is_exhausted s w then s else hit s w l now (hit_at s l)
 command_after s (command.Label l) = s
 command_after s (command.Release l) = without_hold s l.chunk
 command_after s (command.Next w now) = option_map_or (apply_bump s w now) (bump_next (worker s w)) s
+command_after s (command.Close w) = close s w
 
 -- The events of each command.
 
 abbrev pub move_events : ℕ → Option Segment → List Event
 move_events c None = []
 move_events c (Some to) = event.Move c to ∷ []
+
+-- a pull clears ACTIVE and moves its item by the tail table; an evict's events are those of an end
+abbrev pub pull_events : State → ℕ → Tail → ℕ → List Event
+pull_events s k tail.Hot c = event.ClearActive c ∷ move_events c (pulled_to (pulled_at s k tail.Hot c))
+pull_events s k tail.Warm c = event.ClearActive c ∷ move_events c (pulled_to (pulled_at s k tail.Warm c))
+pull_events s k tail.Cold c = event.ClearActive c ∷ move_events c (pulled_to (pulled_at s k tail.Cold c))
+pull_events s k tail.Evict c = end_events s (life c (head s c).generation)
 
 abbrev pub attempt_events : ℕ → Option Dropped → List Event
 attempt_events w None = event.Reserve w ∷ event.Push w ∷ []
@@ -268,22 +335,25 @@ take_events w lane.Empty = event.TakeBump w ∷ []
 take_events w _ = []
 
 -- The steps of the update table: a cold item's ACTIVE is cleared, and where it was set the item is moved. After an item
--- that was gone its head is looked at once more.
+-- that was gone its head is looked at once more, which is a sweep where nobody holds it any more.
 abbrev pub apply_events : Head → ℕ → ℕ → ℕ → List Event
 apply_events h w now c =
-    if not h.linked then event.Try w ∷ event.Alight w ∷ event.Load c ∷ []
+    if not h.linked then event.Try w ∷ event.Alight w ∷ look_of c (ended_of (one_fewer h)) ∷ []
     else (if not (is_cold h.segment) then event.Try w ∷ event.BumpTime w now ∷ event.Alight w ∷ []
     else (if h.active then event.Try w ∷ event.BumpTime w now ∷ event.ClearFor w ∷ event.MoveFor w ∷ event.Alight w ∷ []
     else event.Try w ∷ event.BumpTime w now ∷ event.ClearFor w ∷ event.Alight w ∷ []))
 
 abbrev pub events_of : State → Command → List Event
 events_of s (command.Link k x now) = option_map_or (λ c. event.PutLabel k x ∷ event.PutTime k now ∷ event.Link k ∷ []) (next_chunk s k) []
-events_of s (command.Pull k t) = option_map_or (λ c. event.ClearActive c ∷ move_events c (pulled_to (pulled_at s k t c))) (tail_of s k t) []
+events_of s (command.Unlink l) = if is_linked s l then end_events s l else []
+events_of s (command.Sweep k) = looks_at (head s) (class s k).lists.dying
+events_of s (command.Pull k t) = option_map_or (pull_events s k t) (tail_of s k t) []
 events_of s (command.Take w l) = if is_chunk s l.chunk then event.Load l.chunk ∷ get_events w l (get_at s l) else []
 events_of s (command.Touch w l now) = if is_exhausted s w then [] else hit_events s w l now (hit_at s l)
 events_of s (command.Label l) = event.Load l.chunk ∷ []
 events_of s (command.Release l) = event.Release l ∷ []
 events_of s (command.Next w now) = option_map_or (λ b. take_events w (worker s w).lane ++ apply_events (head s b.life.chunk) w now b.life.chunk) (bump_next (worker s w)) []
+events_of s (command.Close w) = event.Close w ∷ []
 
 -- What a command does: where it is allowed it answers and leaves what the tables say, else it refuses. Want of memory is the
 -- last refusal: only a command that is allowed meets it. A refusal changes nothing.

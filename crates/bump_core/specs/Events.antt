@@ -1,7 +1,7 @@
 -- Events: when each is enabled, the state after it, and its reply.
 use Rattle.std.specs.Prelude.{ℕ, ◌+◌, ◌-◌, Bool, true, false, not, ◌&&◌, nat_lt, [], ◌∷◌, ◌++◌, length, slice_get, Option, None, Some, option_map, if◌then◌else◌}
 use Rattle.std.specs.Option.{option_map_or}
-use Rattle.bump_core.specs.Heads.{newborn, one_more, one_fewer, fetched_head, active_head, cleared_head, moved_head}
+use Rattle.bump_core.specs.Heads.{newborn, one_more, one_fewer, fetched_head, active_head, cleared_head, moved_head, severed_head}
 use Rattle.bump_core.specs.declared.places.Segment.{Segment}
 use Rattle.bump_core.specs.declared.places.Segment.TheVariants as segment
 use Rattle.bump_core.specs.declared.items.ItemId.{ItemId}
@@ -20,9 +20,10 @@ use Rattle.bump_core.specs.declared.events.Event.TheVariants as event
 use Rattle.bump_core.specs.declared.events.Reply.{Reply}
 use Rattle.bump_core.specs.declared.events.Reply.TheVariants as reply
 use Rattle.bump_core.specs.Lives.{life}
-use Rattle.bump_core.specs.Tables.{is_cold}
+use Rattle.bump_core.specs.Tables.{is_cold, is_unheld}
 use Rattle.bump_core.specs.Rings.{most_attempts}
-use Rattle.bump_links.specs.Lists.{first_of}
+use Rattle.bump_links.specs.Lists.{first_of, times}
+use Rattle.bump_core.specs.History.{freed_change}
 use Rattle.bump_core.specs.State.{State, WorkerState, chunk, head, class, worker, is_chunk, is_class, is_worker, with_chunk, with_head, with_worker, with_change, class_of, is_linked, is_held, has_free_hold, is_open, tried_life, life_in_hand, cleared_life, is_idle, some_and, is_under_application}
 
 -- the count is under the limit
@@ -40,6 +41,10 @@ is_class_at_rest s k = is_class s k && not (is_under_application s k)
 -- the chunk that the next link of a class takes: the front of UNUSED
 abbrev pub next_chunk : State → ℕ → Option ℕ
 next_chunk s k = first_of (class s k).lists.unused
+
+-- the chunk stands in its class's DYING
+abbrev pub is_dying : State → ℕ → Bool
+is_dying s c = nat_lt 0 (times c (class s (class_of s c)).lists.dying)
 
 -- a pull may move an item so
 abbrev pub may_move : Segment → Segment → Bool
@@ -115,11 +120,14 @@ is_enabled s (event.DropBusy w) = is_worker s w && some_and (λ l. true) (tried_
 is_enabled s (event.Push w) = is_open s w && some_and (λ l. nat_lt (waiting (worker s w)) s.capacity) (life_in_hand (worker s w).hand)
 is_enabled s (event.DropFull w) = is_worker s w && some_and (λ l. not (nat_lt (length (worker s w).sent) s.capacity)) (life_in_hand (worker s w).hand)
 is_enabled s (event.Unmark w) = is_worker s w && some_and (λ l. true) (cleared_life (worker s w).hand)
+is_enabled s (event.Close w) = is_open s w && is_idle (worker s w).hand
 is_enabled s (event.StoreTime l t) = is_held s l
 is_enabled s (event.Release l) = has_free_hold s l
 is_enabled s (event.PutLabel k x) = is_class_at_rest s k && some_and (λ c. true) (next_chunk s k)
 is_enabled s (event.PutTime k t) = is_class_at_rest s k && some_and (λ c. true) (next_chunk s k)
 is_enabled s (event.Link k) = is_class_at_rest s k && some_and (λ c. true) (next_chunk s k)
+is_enabled s (event.Unlink l) = is_linked s l && not (is_under_application s (class_of s l.chunk))
+is_enabled s (event.Sweep c) = is_chunk s c && (is_dying s c && (is_unheld (head s c) && not (is_under_application s (class_of s c))))
 is_enabled s (event.ClearActive c) = is_chunk s c && ((head s c).linked && not (is_under_application s (class_of s c)))
 is_enabled s (event.Move c to) = is_chunk s c && ((head s c).linked && (may_move (head s c).segment to && not (is_under_application s (class_of s c))))
 is_enabled s (event.TakeBump w) = is_worker s w && (is_empty (worker s w).lane && nat_lt (length (worker s w).received) (length (worker s w).sent))
@@ -179,12 +187,23 @@ drop_full s w l =
 abbrev pub unmark : State → ℕ → ItemId → State
 unmark s w l = with_worker (with_head s l.chunk (cleared_head (head s l.chunk))) w (record (worker s w) { hand = hand.Idle })
 
+abbrev pub close : State → ℕ → State
+close s w = with_worker s w (record (worker s w) { is_open = false })
+
 -- the life that a link begins
 abbrev pub next_life : State → ℕ → ItemId
 next_life s c = life c ((head s c).generation + 1)
 
 abbrev pub link : State → ℕ → ℕ → State
 link s k c = with_change (with_head s c (newborn ((head s c).generation + 1))) k (change.Linked (next_life s c))
+
+-- the life ends, and its chunk is DYING
+abbrev pub unlink : State → ItemId → State
+unlink s l = with_change (with_head s l.chunk (severed_head (head s l.chunk))) (class_of s l.chunk) (change.Unlinked l)
+
+-- the chunk is free
+abbrev pub sweep : State → ℕ → State
+sweep s c = with_change s (class_of s c) (freed_change (life c (head s c).generation))
 
 abbrev pub move_chunk : State → ℕ → Segment → State
 move_chunk s c to =
@@ -225,11 +244,14 @@ after s (event.DropBusy w) = option_map_or (drop_busy s w) (tried_life (worker s
 after s (event.Push w) = option_map_or (push s w) (life_in_hand (worker s w).hand) s
 after s (event.DropFull w) = option_map_or (drop_full s w) (life_in_hand (worker s w).hand) s
 after s (event.Unmark w) = option_map_or (unmark s w) (cleared_life (worker s w).hand) s
+after s (event.Close w) = close s w
 after s (event.StoreTime l t) = with_time s l.chunk t
 after s (event.Release l) = without_hold s l.chunk
 after s (event.PutLabel k x) = option_map_or (λ c. with_label s c x) (next_chunk s k) s
 after s (event.PutTime k t) = option_map_or (λ c. with_time s c t) (next_chunk s k) s
 after s (event.Link k) = option_map_or (link s k) (next_chunk s k) s
+after s (event.Unlink l) = unlink s l
+after s (event.Sweep c) = sweep s c
 after s (event.ClearActive c) = with_head s c (cleared_head (head s c))
 after s (event.Move c to) = move_chunk s c to
 after s (event.TakeBump w) = option_map_or (take_bump s w) (next_bump (worker s w)) s
@@ -255,11 +277,14 @@ reply_of s (event.DropBusy w) = option_map_or (λ l. word_at s l.chunk) (tried_l
 reply_of s (event.Push w) = reply.Number (length (worker s w).sent)
 reply_of s (event.DropFull w) = option_map_or (λ l. word_at s l.chunk) (life_in_hand (worker s w).hand) reply.Done
 reply_of s (event.Unmark w) = option_map_or (λ l. word_at s l.chunk) (cleared_life (worker s w).hand) reply.Done
+reply_of s (event.Close w) = reply.Done
 reply_of s (event.StoreTime l t) = reply.Done
 reply_of s (event.Release l) = word_at s l.chunk
 reply_of s (event.PutLabel k x) = reply.Done
 reply_of s (event.PutTime k t) = reply.Done
 reply_of s (event.Link k) = option_map_or (λ c. reply.Life (next_life s c)) (next_chunk s k) reply.Done
+reply_of s (event.Unlink l) = word_at s l.chunk
+reply_of s (event.Sweep c) = word_at s c
 reply_of s (event.ClearActive c) = word_at s c
 reply_of s (event.Move c to) = reply.Done
 reply_of s (event.TakeBump w) = reply.Number (length (worker s w).received)

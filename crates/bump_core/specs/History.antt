@@ -1,5 +1,5 @@
 -- The history of a class, whose chunks are from first on and below end: where it leaves a chunk, and which lists it leaves.
-use Rattle.std.specs.Prelude.{◌≡◌, ℕ, ◌-◌, Bool, true, cond, ◌==◌, ◌&&◌, nat_le, nat_lt, List, [], ◌∷◌}
+use Rattle.std.specs.Prelude.{◌≡◌, ℕ, ◌-◌, Bool, true, cond, ◌==◌, ◌&&◌, nat_le, nat_lt, List, [], ◌∷◌, if◌then◌else◌}
 use Rattle.bump_core.specs.declared.places.Segment.{Segment}
 use Rattle.bump_core.specs.declared.places.Segment.TheVariants as segment
 use Rattle.bump_core.specs.declared.places.Place.{Place}
@@ -7,7 +7,7 @@ use Rattle.bump_core.specs.declared.places.Place.TheVariants.{Hot, Warm, Cold, D
 use Rattle.bump_core.specs.declared.items.ItemId.{ItemId}
 use Rattle.bump_core.specs.declared.history.Change.{Change}
 use Rattle.bump_core.specs.declared.history.Change.TheVariants as change
-use Rattle.bump_core.specs.Lists.{Lists, to_front, opening}
+use Rattle.bump_core.specs.Lists.{Lists, to_front, opening, IsListed}
 
 -- the list of a segment
 abbrev pub place_of : Segment → Place
@@ -30,6 +30,10 @@ target (change.Moved life from to cause) = place_of to
 target (change.Unlinked life) = Dying
 target (change.Swept life) = Unused
 target (change.Retired life) = Retired
+
+-- the entry of a chunk that is found without holders: it is UNUSED again, or RETIRED after the last generation
+abbrev pub freed_change : ItemId → Change
+freed_change l = if l.generation == 4294967295 then change.Retired l else change.Swept l
 
 -- the places, told apart by a number each
 abbrev pub place_number : Place → ℕ
@@ -73,6 +77,11 @@ is_between first end c = nat_le first c && nat_lt c end
 abbrev pub AreBetween : ℕ → ℕ → List Change → Type 0
 AreBetween first end [] = Unit {0}
 AreBetween first end (e ∷ es) = (is_between first end (subject e).chunk ≡ true) × AreBetween first end es
+
+-- each entry is of a chunk that stands in one of the lists
+abbrev pub AreListed : Lists → List Change → Type 0
+AreListed l [] = Unit {0}
+AreListed l (e ∷ es) = IsListed (subject e).chunk l × AreListed l es
 
 -- the lists that a history leaves: one move to the front per entry
 abbrev pub replay : Lists → List Change → Lists

@@ -4,12 +4,17 @@ use Rattle.bump_core.specs.declared.places.Place.{Place}
 use Rattle.bump_core.specs.declared.items.ItemId.{ItemId}
 use Rattle.bump_core.specs.declared.bumps.Accounts.{Accounts}
 use Rattle.bump_core.specs.declared.bumps.AppliedBump.{AppliedBump}
+use Rattle.bump_core.specs.declared.history.Change.{Change}
 use Rattle.bump_core.specs.Lists.{list_at}
 use Rattle.bump_core.specs.State.{State, chunk, class, worker}
 
 -- a list of a class
 abbrev pub list_of : State → ℕ → Place → List ℕ
 list_of s k p = list_at (class s k).lists p
+
+-- the history of a class
+abbrev pub history_of : State → ℕ → List Change
+history_of s k = (class s k).history
 
 -- a chunk's time, label and number of holds
 abbrev pub time_of : State → ℕ → ℕ

@@ -12,7 +12,7 @@ use Rattle.bump_core.specs.declared.lanes.Lane.TheVariants as lane
 use Rattle.bump_core.specs.declared.hands.Hand.{Hand}
 use Rattle.bump_core.specs.declared.hands.Hand.TheVariants as hand
 use Rattle.bump_core.specs.Heads.{fresh_head}
-use Rattle.bump_core.specs.History.{subject, target}
+use Rattle.bump_core.specs.History.{subject, target, replay}
 use Rattle.bump_core.specs.Lists.{Lists, to_front}
 use Rattle.bump_core.specs.Lives.{is_same}
 use Rattle.bump_core.specs.Totals.{total}
@@ -67,6 +67,10 @@ chunk s c = slice_index_or s.chunks c no_chunk
 abbrev pub head : State → ℕ → Head
 head s c = (chunk s c).head
 
+-- the head of each of these chunks, by number
+abbrev pub heads_of : List Chunk → ℕ → Head
+heads_of cs c = (slice_index_or cs c no_chunk).head
+
 abbrev pub class : State → ℕ → ClassState
 class s k = slice_index_or s.classes k no_class
 
@@ -110,6 +114,13 @@ class_with_change k e = record k { lists = to_front (subject e).chunk (target e)
 
 abbrev pub with_change : State → ℕ → Change → State
 with_change s k e = with_class s k (class_with_change (class s k) e)
+
+-- entries join the history of a class, and its lists are their replay
+abbrev pub class_with_changes : ClassState → List Change → ClassState
+class_with_changes k es = record k { lists = replay k.lists es; history = k.history ++ es }
+
+abbrev pub with_changes : State → ℕ → List Change → State
+with_changes s k es = with_class s k (class_with_changes (class s k) es)
 
 -- the life is its chunk's
 abbrev pub is_current : State → ItemId → Bool

@@ -13,6 +13,7 @@ use Rattle.bump_core.specs.declared.bumps.Outcome.TheVariants as outcome
 use Rattle.bump_core.specs.declared.commands.Dropped.{Dropped}
 use Rattle.bump_core.specs.declared.commands.Dropped.TheVariants.{Full, Busy, RefsFull}
 use Rattle.bump_core.specs.declared.commands.Pulled.{Pulled}
+use Rattle.bump_core.specs.declared.commands.Pulled.TheVariants as pulled
 use Rattle.bump_core.specs.declared.commands.Pulled.TheVariants.{Empty, Stay, Warm, Again, Cold}
 
 -- what a get comes to
@@ -29,10 +30,14 @@ is_of generation found = found.linked && (found.generation == generation)
 abbrev pub get_of : ℕ → ℕ → Head → Get
 get_of limit generation found = if not (is_of generation found) then IsStale else (if nat_lt found.refs limit then IsHeld else IsRefsFull)
 
+-- nobody holds the chunk
+abbrev pub is_unheld : Head → Bool
+is_unheld found = found.refs == 0
+
 -- What the end of an unlinked life comes to, by the word that the load behind it found: its chunk is free where that shows
 -- no reference.
 abbrev pub ended_of : Head → Ended
-ended_of found = if found.refs == 0 then Freed else Deferred
+ended_of found = if is_unheld found then Freed else Deferred
 
 -- a list of this size is over its limit
 abbrev pub is_over : ℕ → ℕ → Bool
@@ -77,11 +82,18 @@ dropped_of at_limit all_failed has_room = if at_limit then Some RefsFull else (i
 abbrev pub outcome_of : Head → Bool → Outcome
 outcome_of found cleared = if not found.linked then outcome.Gone else (if is_cold found.segment && cleared then outcome.Moved else outcome.TimeOnly)
 
--- The tail table: what a pull does with the last item of its list, by ACTIVE and by whether the list is over its limit.
-abbrev pub pulled_of : Tail → Bool → Bool → ItemId → Pulled
-pulled_of tail.Hot active over id = if active then Warm id else (if over then Cold id else Stay id)
-pulled_of tail.Warm active over id = if active then Again id else (if over then Cold id else Stay id)
-pulled_of tail.Cold active over id = if active then Warm id else Stay id
+-- what an evict tells of an item that it ended
+abbrev pub evicted_as : Ended → ItemId → Pulled
+evicted_as Freed id = pulled.Freed id
+evicted_as Deferred id = pulled.Deferred id
+
+-- The tail table: what a pull does with the last item of its list, by ACTIVE, by whether the list is over its limit, and by what
+-- the item's end comes to. An evict ends it whatever its marks.
+abbrev pub pulled_of : Tail → Bool → Bool → Ended → ItemId → Pulled
+pulled_of tail.Hot active over ended id = if active then Warm id else (if over then Cold id else Stay id)
+pulled_of tail.Warm active over ended id = if active then Again id else (if over then Cold id else Stay id)
+pulled_of tail.Cold active over ended id = if active then Warm id else Stay id
+pulled_of tail.Evict active over ended id = evicted_as ended id
 
 -- the segment to whose front a pull moves the item, if it moves it
 abbrev pub pulled_to : Pulled → Option Segment
@@ -90,9 +102,12 @@ pulled_to (Stay id) = None
 pulled_to (Warm id) = Some segment.Warm
 pulled_to (Again id) = Some segment.Warm
 pulled_to (Cold id) = Some segment.Cold
+pulled_to (pulled.Freed id) = None
+pulled_to (pulled.Deferred id) = None
 
 -- the segment of the list that a pull looks at
 abbrev pub segment_of : Tail → Segment
 segment_of tail.Hot = segment.Hot
 segment_of tail.Warm = segment.Warm
 segment_of tail.Cold = segment.Cold
+segment_of tail.Evict = segment.Cold

@@ -99,14 +99,3 @@ pub record IsSized (s : State) : Type 0 where
   pub classes : length s.classes ≤ 16
   pub chunks : length s.chunks ≤ 1000000
   pub workers : length s.workers ≤ 64
-
--- A history in which nothing was unlinked: it has links and moves alone.
-abbrev pub NoneUnlinked : List Change → Type 0
-NoneUnlinked [] = Unit {0}
-NoneUnlinked (change.Linked l ∷ es) = NoneUnlinked es
-NoneUnlinked (change.Moved l from to cause ∷ es) = NoneUnlinked es
-NoneUnlinked (_ ∷ es) = ⊥
-
--- nothing was unlinked in any class
-abbrev pub NothingUnlinked : State → Type 0
-NothingUnlinked s = (k : ℕ) → k < length s.classes → NoneUnlinked (class s k).history

@@ -1,5 +1,5 @@
 //! The six lists of a class, over links: a move to the front takes a few stores, and no memory.
-ghost use Rattle.std.specs.Prelude.{◌≡◌, ◌<◌, ◌≤◌, ◌+◌, ◌^◌, IfOk, IfSome, length, option_map};
+ghost use Rattle.std.specs.Prelude.{◌≡◌, ◌<◌, ◌≤◌, ◌+◌, ◌^◌, nat_lt, IfOk, IfSome, length, option_map};
 ghost use Rattle.bump_links.specs.Lists.{times, first_of, last_of, next_of};
 ghost use Rattle.bump_core.specs.Lists.{list_at, to_front, opening, IsListed};
 
@@ -87,6 +87,14 @@ impl ClassLists {
         ensures { result ≡ length (list_at self.now place) }
     {
         self.links.len(place.number())
+    }
+
+    /// Whether a chunk stands in the list at a place. The chunk is one of the class.
+    pub fn has(&self, chunk: u32, place: Place) -> bool
+        requires { IsListed chunk self.now }
+        ensures { result ≡ nat_lt 0 (times chunk (list_at self.now place)) }
+    {
+        self.links.list_of(chunk - self.first) == place.number()
     }
 
     /// The chunk that follows a chunk of the list at a place, or `None` behind the last.

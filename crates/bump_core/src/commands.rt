@@ -1,12 +1,14 @@
 //! Commands: each is a call of the running store as its events, with nothing between them.
 mod attempts;
+mod ends;
 mod hits;
 mod holds;
 mod lanes;
 mod links;
 mod pulls;
+mod rings;
 
-use crate::bumps::Entry;
+use crate::bumps::{Ended, Entry};
 use crate::items::ItemId;
 use crate::places::Tail;
 
@@ -15,6 +17,13 @@ use crate::places::Tail;
 pub enum Command {
     /// Stores an item with its label in a class (memcached's `do_item_link`).
     Link { class: u32, label: u64, now: u64 },
+
+    /// Ends an item, and frees its chunk where nobody holds it (memcached's `do_item_unlink` and `do_item_remove`).
+    Unlink { id: ItemId },
+
+    /// Looks at each chunk of a class's DYING, front to back as the list stands, and frees those that nobody holds
+    /// (memcached's `item_free`).
+    Sweep { class: u32 },
 
     /// Looks at the last item of a list, and moves it by the tail table (memcached's `lru_pull_tail`).
     Pull { class: u32, tail: Tail },
@@ -33,6 +42,9 @@ pub enum Command {
 
     /// Applies the next bump of a worker (memcached's `lru_maintainer_bumps` and `do_item_update`).
     Next { worker: u32, now: u64 },
+
+    /// Closes a worker's ring: it takes no bump any more. What it accepted is still to be applied.
+    Close { worker: u32 },
 }
 
 /// Why a bump was dropped.
@@ -87,6 +99,12 @@ pub enum Pulled {
 
     /// It went to the front of COLD.
     Cold(ItemId),
+
+    /// It was evicted, and its chunk is free.
+    Freed(ItemId),
+
+    /// It was evicted; others still hold its chunk, which is DYING.
+    Deferred(ItemId),
 }
 
 /// What a command answers.
@@ -98,13 +116,22 @@ pub enum Answer {
     /// No chunk of the class is UNUSED: nothing was stored.
     NoFreeChunk,
 
+    /// An item was ended: whether its chunk is free, or still held.
+    Ended(Ended),
+
+    /// Nothing was ended: the item is of another generation than the chunk, or not linked.
+    NotLinked,
+
+    /// So many chunks of DYING were freed.
+    Swept(u32),
+
     /// A pull did this.
     Pulled(Pulled),
 
     /// A hold was taken.
     Held,
 
-    /// No hold was taken: there is no chunk of this number.
+    /// Nothing was held or ended: there is no chunk of this number.
     NoSuchChunk,
 
     /// No hold was taken: the item is of another generation than the chunk, or not linked.
@@ -119,7 +146,7 @@ pub enum Answer {
     /// The label of the item.
     Label(u64),
 
-    /// A hold was given back.
+    /// A hold was given back, or a ring was closed.
     Done,
 
     /// This bump was applied.

@@ -1,10 +1,12 @@
 //! Events: each is one atomic step of one thread.
 mod attempts;
+mod ends;
 mod hits;
 mod holds;
 mod lanes;
 mod links;
 mod pulls;
+mod rings;
 
 use crate::bumps::Outcome;
 use crate::items::{Head, ItemId};
@@ -12,8 +14,9 @@ use crate::places::Segment;
 use std::alloc::AllocError;
 use thiserror::Error;
 
-/// One load, store, exchange or fetch on one word of one chunk, or one push into a ring, or one take from a ring.
-/// Where such a step is made under the class lock and stands for a change of the lists, that change belongs to it.
+/// One load, store, exchange or fetch on one word of one chunk, or one push into a ring, or one take from a
+/// ring, or the closing of a ring. Where such a step is made under the class lock and stands for a change of the lists, that
+/// change belongs to it.
 #[derive(Clone, Copy, Debug, PartialEq, Eq)]
 pub enum Event {
     /// A load of a chunk's head. Answers the head.
@@ -47,6 +50,9 @@ pub enum Event {
     /// After a drop a worker clears ACTIVE. Answers the head that it found.
     Unmark { worker: u32 },
 
+    /// A worker's ring closes, and takes no bump any more.
+    Close { worker: u32 },
+
     /// A hit stores the time of an item, in the caller's ticks.
     StoreTime { life: ItemId, time: u64 },
 
@@ -61,6 +67,14 @@ pub enum Event {
 
     /// The next item of a class begins its life, at the front of HOT (memcached's `do_item_link`). Answers the item.
     Link { class: u32 },
+
+    /// An item's life ends: LINKED is cleared, the link's reference is given back, and the chunk goes to the front of DYING
+    /// (memcached's `do_item_unlink`). Answers the head that it found.
+    Unlink { life: ItemId },
+
+    /// A chunk of DYING is found without holders, and is free: it goes to the front of UNUSED, or to RETIRED after its last
+    /// generation (memcached's `item_free`). Answers the head.
+    Sweep { chunk: u32 },
 
     /// A pull clears ACTIVE of a chunk. Answers the head that it found.
     ClearActive { chunk: u32 },

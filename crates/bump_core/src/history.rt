@@ -1,6 +1,6 @@
 //! What happened to the lists of a class.
 ghost use Rattle.std.specs.Prelude.{◌≡◌};
-ghost use Rattle.bump_core.specs.History.{subject, target};
+ghost use Rattle.bump_core.specs.History.{subject, target, freed_change};
 
 use crate::items::ItemId;
 use crate::places::{Place, Segment};
@@ -35,6 +35,16 @@ pub enum Change {
 }
 
 impl Change {
+    /// The entry of a chunk that is found without holders: it is UNUSED again, or RETIRED after its last generation.
+    pub(crate) fn freed(life: ItemId) -> Change
+        ensures { result ≡ freed_change life }
+    {
+        if life.generation == u32::MAX {
+            return Change::Retired(life);
+        }
+        Change::Swept(life)
+    }
+
     /// The chunk that it puts at a front.
     pub(crate) fn chunk(self) -> u32
         ensures { result ≡ (subject self).chunk }

@@ -1,6 +1,6 @@
 //! Names of items, and what a chunk's head word says.
 ghost use Rattle.std.specs.Prelude.{◌≡◌};
-ghost use Rattle.bump_core.specs.Heads.{newborn};
+ghost use Rattle.bump_core.specs.Heads.{newborn, one_fewer, severed_head};
 ghost use Rattle.bump_core.specs.Lives.{is_same};
 
 use crate::places::Segment;
@@ -60,6 +60,27 @@ impl Head {
             active: false,
             segment: Segment::Hot,
             generation,
+        }
+    }
+
+    /// The head with a reference fewer.
+    pub(crate) fn one_fewer(self) -> Head
+        ensures { result ≡ one_fewer self }
+    {
+        Head {
+            refs: self.refs.saturating_sub(1),
+            ..self
+        }
+    }
+
+    /// The head of a life that is unlinked: LINKED is clear, and the link's reference is given back.
+    pub(crate) fn severed(self) -> Head
+        ensures { result ≡ severed_head self }
+    {
+        Head {
+            refs: self.refs.saturating_sub(1),
+            linked: false,
+            ..self
         }
     }
 }

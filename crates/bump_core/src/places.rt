@@ -26,6 +26,9 @@ pub enum Tail {
 
     /// COLD, which has no limit: a pull only rescues an item that is ACTIVE.
     Cold,
+
+    /// COLD again: its last item is ended, whatever its marks.
+    Evict,
 }
 
 /// One of the six lists of a class. A chunk stands in exactly one of them at every moment.

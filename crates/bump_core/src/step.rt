@@ -25,11 +25,14 @@ impl Parts {
             Event::Push { worker } => self.push(worker),
             Event::DropFull { worker } => self.drop_full(worker),
             Event::Unmark { worker } => self.unmark(worker),
+            Event::Close { worker } => self.close(worker),
             Event::StoreTime { life, time } => self.store_time(life, time),
             Event::Release { life } => self.release(life),
             Event::PutLabel { class, label } => self.put_label(class, label),
             Event::PutTime { class, time } => self.put_time(class, time),
             Event::Link { class } => self.link(class),
+            Event::Unlink { life } => self.unlink(life),
+            Event::Sweep { chunk } => self.sweep(chunk),
             Event::ClearActive { chunk } => self.clear_active(chunk),
             Event::Move { chunk, to } => self.move_chunk(chunk, to),
             Event::TakeBump { worker } => self.take_bump(worker),
@@ -48,12 +51,15 @@ impl Parts {
     {
         match command {
             Command::Link { class, label, now } => self.call_link(class, label, now),
+            Command::Unlink { id } => self.call_unlink(id),
+            Command::Sweep { class } => self.call_sweep(class),
             Command::Pull { class, tail } => self.call_pull(class, tail),
             Command::Take { worker, id } => self.call_take(worker, id),
             Command::Touch { worker, id, now } => self.call_touch(worker, id, now),
             Command::Label { id } => self.call_label(id),
             Command::Release { id } => self.call_release(id),
             Command::Next { worker, now } => self.call_next(worker, now),
+            Command::Close { worker } => self.call_close(worker),
         }
     }
 }

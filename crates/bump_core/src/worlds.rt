@@ -20,13 +20,13 @@ pub struct World {
 impl Model for World {
     ghost use Rattle.bump_core.specs.State.{State};
     ghost use Rattle.bump_core.specs.Views.{state_of};
-    ghost use Rattle.bump_core.specs.Worlds.{IsLawful, NothingUnlinked, IsSized};
+    ghost use Rattle.bump_core.specs.Worlds.{IsLawful, IsSized};
 
     ghost Value = { State };
 
     ghost view = { λ a. state_of a.parts };
 
-    ghost invariant = { λ a. IsLawful (state_of a.parts) × NothingUnlinked (state_of a.parts) × IsSized (state_of a.parts) };
+    ghost invariant = { λ a. IsLawful (state_of a.parts) × IsSized (state_of a.parts) };
 }
 
 impl World {

@@ -1,8 +1,7 @@
 //! The command of a lane: the next bump is applied at once, by the update table.
 ghost use Rattle.std.specs.Prelude.{◌≡◌, ◌<◌, [], ◌∷◌, ◌++◌, IfSome, IfOk, OnOk, OnErr, Some, true, false, length};
 ghost use Rattle.bump_core.specs.State.{class, class_of, head, worker, with_worker};
-ghost use Rattle.bump_core.specs.Heads.{one_fewer};
-ghost use Rattle.bump_core.specs.Tables.{outcome_of, ended_of};
+ghost use Rattle.bump_core.specs.Tables.{outcome_of};
 ghost use Rattle.bump_core.specs.Events.{applied_bump, next_bump};
 ghost use Rattle.bump_core.specs.Commands.{Commands, bump_next, is_half_made, bumped_chunk, bumped_worker, bumped_lists, apply_bump, entry_of, ended_at, outcome_next};
 ghost use Rattle.bump_core.specs.Views.{state_of, HasRoom};
@@ -47,32 +46,19 @@ impl Head {
     }
 }
 
-impl Head {
-    /// What the end of an unlinked life comes to when one reference is given back.
-    fn ended(self) -> Ended
-        ensures { result ≡ ended_of (one_fewer self) }
-    {
-        if self.refs.saturating_sub(1) == 0 {
-            return Ended::Freed;
-        }
-        Ended::Deferred
-    }
-}
-
 impl Chunk {
     /// The chunk of a bump that was applied: the bump's reference is given back.
     fn bumped(self, now: u64, outcome: Outcome) -> Chunk
         ensures { result ≡ bumped_chunk self now outcome }
     {
-        let refs = self.head.refs.saturating_sub(1);
+        let left = self.head.one_fewer();
         let head = match outcome {
             Outcome::Moved => Head {
-                refs,
                 active: false,
                 segment: Segment::Warm,
-                ..self.head
+                ..left
             },
-            Outcome::TimeOnly | Outcome::Gone => Head { refs, ..self.head },
+            Outcome::TimeOnly | Outcome::Gone => left,
         };
         let time = match outcome {
             Outcome::Moved | Outcome::TimeOnly => now,
@@ -200,10 +186,7 @@ impl Parts {
                     Cause::Bump(w, bump.number),
                 ),
             ),
-            (Outcome::Gone, Ended::Freed) if bump.life.generation == u32::MAX => {
-                self.change_class(class, Change::Retired(bump.life))
-            }
-            (Outcome::Gone, Ended::Freed) => self.change_class(class, Change::Swept(bump.life)),
+            (Outcome::Gone, Ended::Freed) => self.change_class(class, Change::freed(bump.life)),
             _ => Ok(()),
         }
     }
@@ -220,7 +203,7 @@ impl Parts {
     {
         let chunk = self.chunk(bump.life.chunk);
         let outcome = chunk.head.outcome(chunk.head.active);
-        let ended = chunk.head.ended();
+        let ended = chunk.head.one_fewer().ended();
         self.reserve_applied(w)?;
         self.change_for(w, bump, outcome, ended)?;
         self.finish(w, bump, outcome);

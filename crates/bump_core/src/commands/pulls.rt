@@ -1,6 +1,6 @@
 //! The command of a pull: its change at once, by the tail table.
 ghost use Rattle.std.specs.Prelude.{◌≡◌, ◌<◌, IfSome, OnOk, OnErr, Some, true, length};
-ghost use Rattle.bump_core.specs.Commands.{Commands, tail_of, is_list_over, pull_to};
+ghost use Rattle.bump_core.specs.Commands.{Commands, tail_of, is_list_over, pulled_at, pull_to, pull};
 ghost use Rattle.bump_core.specs.Lists.{IsListed};
 ghost use Rattle.bump_core.specs.State.{head, class, class_of};
 ghost use Rattle.bump_core.specs.Tables.{pulled_of, pulled_to, segment_of};
@@ -8,6 +8,7 @@ ghost use Rattle.bump_core.specs.Views.{state_of};
 ghost use Rattle.bump_core.specs.Worlds.{IsLawful};
 ghost use Rattle.bump_core.specs.declared.commands.Command.TheVariants as command;
 
+use crate::bumps::Ended;
 use crate::commands::{Answer, Pulled};
 use crate::events::Refused;
 use crate::history::{Cause, Change};
@@ -24,16 +25,18 @@ impl Tail {
         match self {
             Tail::Hot => Segment::Hot,
             Tail::Warm => Segment::Warm,
-            Tail::Cold => Segment::Cold,
+            Tail::Cold | Tail::Evict => Segment::Cold,
         }
     }
 
-    /// The tail table: what a pull does with the last item of the list, by ACTIVE and by whether the list has more items
-    /// than its limit.
-    fn pulled(self, active: bool, over: bool, id: ItemId) -> Pulled
-        ensures { result ≡ pulled_of self active over id }
+    /// The tail table: what a pull does with the last item of the list, by ACTIVE, by whether the list has more items than its
+    /// limit, and by what the item's end comes to.
+    fn pulled(self, active: bool, over: bool, ended: Ended, id: ItemId) -> Pulled
+        ensures { result ≡ pulled_of self active over ended id }
     {
         match self {
+            Tail::Evict if matches!(ended, Ended::Freed) => Pulled::Freed(id),
+            Tail::Evict => Pulled::Deferred(id),
             Tail::Hot if active => Pulled::Warm(id),
             Tail::Warm if active => Pulled::Again(id),
             Tail::Cold if active => Pulled::Warm(id),
@@ -51,7 +54,7 @@ impl Pulled {
         match self {
             Pulled::Warm(_) | Pulled::Again(_) => Some(Segment::Warm),
             Pulled::Cold(_) => Some(Segment::Cold),
-            Pulled::Empty | Pulled::Stay(_) => None,
+            Pulled::Empty | Pulled::Stay(_) | Pulled::Freed(_) | Pulled::Deferred(_) => None,
         }
     }
 }
@@ -74,7 +77,7 @@ impl Parts {
         match tail {
             Tail::Hot => class.lists.len(Place::Hot) > class.hot_limit,
             Tail::Warm => class.lists.len(Place::Warm) > class.warm_limit,
-            Tail::Cold => false,
+            Tail::Cold | Tail::Evict => false,
         }
     }
 
@@ -117,7 +120,48 @@ impl Parts {
         Ok(())
     }
 
-    /// Looks at the last item of a list, and moves it by the tail table.
+    /// What a pull does with the last item of a list.
+    fn pulled_at(&self, k: u32, tail: Tail, last: u32) -> Pulled
+        requires class { k < length (state_of self.now).classes }
+        requires chunk { last < length (state_of self.now).chunks }
+        ensures { result ≡ pulled_at (state_of self.now) k tail last }
+    {
+        let head = self.head(last);
+        let id = ItemId {
+            chunk: last,
+            generation: head.generation,
+        };
+        tail.pulled(
+            head.active,
+            self.is_list_over(k, tail),
+            head.severed().ended(),
+            id,
+        )
+    }
+
+    /// The last item of a list is moved by the tail table, or ended.
+    fn pull(&mut self, k: u32, tail: Tail, last: u32) -> Result<(), AllocError>
+        requires class { k < length (state_of self.old).classes }
+        requires chunk { last < length (state_of self.old).chunks }
+        requires lawful { IsLawful (state_of self.old) }
+        requires owner { class_of (state_of self.old) last ≡ k }
+        requires linked { (head (state_of self.old) last).linked ≡ true }
+        ensures ok { OnOk result (state_of self.new ≡ pull (state_of self.old) k tail last) }
+        ensures err { OnErr result (state_of self.new ≡ state_of self.old) }
+    {
+        if matches!(tail, Tail::Evict) {
+            let generation = self.head(last).generation;
+            self.end_life(ItemId {
+                chunk: last,
+                generation,
+            })?;
+        } else if let Some(to) = self.pulled_at(k, tail, last).to() {
+            self.pull_to(k, tail, last, to)?;
+        }
+        Ok(())
+    }
+
+    /// Looks at the last item of a list, and moves it by the tail table, or ends it.
     pub fn call_pull(&mut self, k: u32, tail: Tail) -> Result<Answer, Refused>
         requires { IsLawful (state_of self.old) }
         ensures { Commands (state_of self.old) (command.Pull k tail) (state_of self.new) result }
@@ -131,15 +175,8 @@ impl Parts {
         if self.is_under_application(k as usize) {
             return Err(Refused::NotEnabled);
         }
-        let head = self.head(last);
-        let id = ItemId {
-            chunk: last,
-            generation: head.generation,
-        };
-        let pulled = tail.pulled(head.active, self.is_list_over(k, tail), id);
-        if let Some(to) = pulled.to() {
-            self.pull_to(k, tail, last, to)?;
-        }
+        let pulled = self.pulled_at(k, tail, last);
+        self.pull(k, tail, last)?;
         Ok(Answer::Pulled(pulled))
     }
 }

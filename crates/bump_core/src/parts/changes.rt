@@ -1,9 +1,9 @@
 //! How the parts of a World are changed.
 ghost use Rattle.std.specs.Prelude.{◌≡◌, ◌<◌, ◌+◌, ◌≤◌, ◌^◌, [], ◌∷◌, ◌++◌, OnOk, OnErr, length, Some};
 ghost use Rattle.bump_core.specs.Lists.{IsListed};
-ghost use Rattle.bump_core.specs.History.{subject};
-ghost use Rattle.bump_core.specs.State.{chunk, class, worker, with_chunk, with_head, with_worker, with_change};
-ghost use Rattle.bump_core.specs.Events.{with_lane, next_bump, take_bump, push};
+ghost use Rattle.bump_core.specs.History.{subject, AreListed};
+ghost use Rattle.bump_core.specs.State.{chunk, class, worker, with_chunk, with_head, with_worker, with_change, with_changes};
+ghost use Rattle.bump_core.specs.Events.{with_lane, next_bump, take_bump, push, close};
 ghost use Rattle.bump_core.specs.Views.{state_of};
 ghost use Rattle.bump_core.specs.declared.hands.Hand.TheVariants as hand;
 ghost use Rattle.bump_core.specs.declared.lanes.Lane.TheVariants as lane;
@@ -43,6 +43,14 @@ impl Parts {
         let worker = &mut self.workers[w as usize];
         worker.hand = hand;
         worker.accounts = accounts;
+    }
+
+    /// A worker's ring closes.
+    pub fn close_ring(&mut self, w: u32)
+        requires { w < length (state_of self.old).workers }
+        ensures { state_of self.new ≡ close (state_of self.old) w }
+    {
+        self.workers[w as usize].is_open = false;
     }
 
     /// Writes how far a lane is.
@@ -116,6 +124,18 @@ impl Parts {
     {
         let class = &mut self.classes[k];
         class.change(entry)?;
+        Ok(())
+    }
+
+    /// Entries join the history of a class, and their chunks, of the class, come to the fronts of their lists, in order.
+    pub fn change_class_by(&mut self, k: usize, entries: &[Change]) -> Result<(), AllocError>
+        requires class { k < length (state_of self.old).classes }
+        requires listed { AreListed (class (state_of self.old) k).lists entries.now }
+        ensures ok { OnOk result (state_of self.new ≡ with_changes (state_of self.old) k entries.now) }
+        ensures err { OnErr result (state_of self.new ≡ state_of self.old) }
+    {
+        let class = &mut self.classes[k];
+        class.change_by(entries)?;
         Ok(())
     }
 }

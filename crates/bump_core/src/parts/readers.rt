@@ -11,6 +11,7 @@ use crate::bumps::{Accounts, AppliedBump};
 use crate::chunks::Chunk;
 use crate::class_lists::ListedChunks;
 use crate::hands::Hand;
+use crate::history::Change;
 use crate::items::{Head, ItemId};
 use crate::lanes::Lane;
 use crate::parts::Parts;
@@ -219,6 +220,14 @@ impl Parts {
         ensures { result ≡ length (list_at (class (state_of self.now) k).lists place) }
     {
         self.classes[k as usize].lists.len(place)
+    }
+
+    /// What happened to the lists of a class.
+    pub fn history(&self, k: u32) -> &[Change]
+        requires { k < length (state_of self.now).classes }
+        ensures { result.now ≡ (class (state_of self.now) k).history }
+    {
+        self.classes[k as usize].history.as_slice()
     }
 
     /// The bumps that a worker's ring accepted.

@@ -4,10 +4,11 @@ ghost use Rattle.bump_links.specs.Lists.{last_of};
 ghost use Rattle.bump_core.specs.State.{head};
 ghost use Rattle.bump_core.specs.Headline.{Headline};
 ghost use Rattle.bump_core.specs.Worlds.{IsLawful};
-ghost use Rattle.bump_core.specs.Readers.{list_of, time_of, label_of, holds_at, accounts_of, sent_of, received_of, applied_of};
+ghost use Rattle.bump_core.specs.Readers.{list_of, history_of, time_of, label_of, holds_at, accounts_of, sent_of, received_of, applied_of};
 
 use crate::bumps::{Accounts, AppliedBump};
 use crate::class_lists::ListedChunks;
+use crate::history::Change;
 use crate::items::{Head, ItemId};
 use crate::places::Place;
 use crate::worlds::World;
@@ -67,6 +68,15 @@ impl World {
         ensures { result ≡ length (list_of self.now class place) }
     {
         self.parts.list_len(class, place)
+    }
+
+    /// What happened to the lists of a class, in order: they are its replay. The class is one of the configuration's. The World
+    /// keeps all of it.
+    pub fn history(&self, class: u32) -> &[Change]
+        requires { class < length self.now.classes }
+        ensures { result.now ≡ history_of self.now class }
+    {
+        self.parts.history(class)
     }
 
     /// A chunk's head. The chunk is one of the configuration's.

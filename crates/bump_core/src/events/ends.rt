@@ -1,0 +1,64 @@
+//! Events of ends: an item is unlinked, and its chunk is free when it is found without holders.
+ghost use Rattle.std.specs.Prelude.{◌≡◌, ◌<◌, length};
+ghost use Rattle.bump_core.specs.Events.{is_dying};
+ghost use Rattle.bump_core.specs.Runs.{Steps};
+ghost use Rattle.bump_core.specs.Views.{state_of};
+ghost use Rattle.bump_core.specs.Worlds.{IsLawful};
+ghost use Rattle.bump_core.specs.declared.events.Event.TheVariants as event;
+
+use crate::events::{Refused, Reply};
+use crate::history::Change;
+use crate::items::{Head, ItemId};
+use crate::parts::Parts;
+use crate::places::Place;
+
+impl Parts {
+    /// Whether a chunk stands in its class's DYING.
+    fn is_dying(&self, c: u32) -> bool
+        requires chunk { c < length (state_of self.now).chunks }
+        requires lawful { IsLawful (state_of self.now) }
+        ensures { result ≡ is_dying (state_of self.now) c }
+    {
+        let class = self.class_of(c);
+        self.classes[class].lists.has(c, Place::Dying)
+    }
+
+    /// An item's life ends, and its chunk goes to DYING.
+    pub fn unlink(&mut self, life: ItemId) -> Result<Reply, Refused>
+        requires { IsLawful (state_of self.old) }
+        ensures { Steps (state_of self.old) (event.Unlink life) (state_of self.new) result }
+    {
+        if !self.is_linked(life) {
+            return Err(Refused::NotEnabled);
+        }
+        let class = self.class_of(life.chunk);
+        if self.is_under_application(class) {
+            return Err(Refused::NotEnabled);
+        }
+        let head = self.head(life.chunk);
+        self.change_class(class, Change::Unlinked(life))?;
+        self.set_head(life.chunk, head.severed());
+        Ok(Reply::Word(head))
+    }
+
+    /// A chunk of DYING without holders is free.
+    pub fn sweep(&mut self, chunk: u32) -> Result<Reply, Refused>
+        requires { IsLawful (state_of self.old) }
+        ensures { Steps (state_of self.old) (event.Sweep chunk) (state_of self.new) result }
+    {
+        if !self.has_chunk(chunk) || !self.is_dying(chunk) {
+            return Err(Refused::NotEnabled);
+        }
+        let head = self.head(chunk);
+        let class = self.class_of(chunk);
+        if head.refs != 0 || self.is_under_application(class) {
+            return Err(Refused::NotEnabled);
+        }
+        let life = ItemId {
+            chunk,
+            generation: head.generation,
+        };
+        self.change_class(class, Change::freed(life))?;
+        Ok(Reply::Word(head))
+    }
+}
