@@ -1,3 +1,4 @@
 pub mod PlainLists
 pub mod SixLists
+pub mod Sweeps
 pub mod Tiles

@@ -1,6 +1,6 @@
 //! What a World keeps of a class.
 ghost use Rattle.std.specs.Prelude.{◌≡◌, ◌<◌, ◌≤◌, ◌+◌, ◌++◌, All, OnOk, OnErr, drop, length};
-ghost use Rattle.std.specs.Vec.{vec_capacity};
+ghost use Rattle.std.specs.Vec.{vec_capacity, vec_len};
 ghost use Rattle.bump_core.specs.Commands.{unheld, swept_of};
 ghost use Rattle.bump_core.specs.History.{subject, replay, AreListed};
 ghost use Rattle.bump_core.specs.Lists.{IsListed};
@@ -32,6 +32,33 @@ pub struct Class {
     pub history: Vec<Change>,
 }
 
+/// The lists follow entries: each puts its chunk at the front of its list, in order.
+fn follow(lists: &mut ClassLists, entries: &[Change])
+    requires { AreListed lists.old entries.now }
+    ensures { lists.new ≡ replay lists.old entries.now }
+{
+    for entry in entries {
+        lists.to_front(entry.chunk(), entry.place());
+    }
+}
+
+/// The entries of a sweep join the history of these lists: of the chunks of DYING that nobody holds, front to back.
+fn enter_unheld(history: &mut Vec<Change>, lists: &ClassLists, chunks: &[Chunk])
+    requires chunks { All (λ c. c < length chunks.now) lists.now.dying }
+    requires room { vec_len history.old + length (unheld (heads_of chunks.now) lists.now.dying) ≤ vec_capacity history.old }
+    ensures { history.new.items ≡ history.old.items ++ swept_of (heads_of chunks.now) lists.now.dying }
+{
+    for chunk in lists.chunks(Place::Dying) {
+        let head = chunks[chunk as usize].head;
+        if head.refs == 0 {
+            history.push_reserved(Change::freed(ItemId {
+                chunk,
+                generation: head.generation,
+            }));
+        }
+    }
+}
+
 impl Class {
     /// An entry joins the history, and its chunk comes to the front of its list. Only the history may want memory.
     pub fn change(&mut self, entry: Change) -> Result<(), AllocError>
@@ -44,26 +71,14 @@ impl Class {
         Ok(())
     }
 
-    /// The lists follow the entries of the history from the n-th on: each puts its chunk at the front of its list.
-    fn follow(&mut self, n: usize)
-        requires { AreListed self.old.lists (drop n self.old.history.items) }
-        ensures { class_view self.new ≡ record (class_view self.old) { lists = replay self.old.lists (drop n self.old.history.items) } }
-    {
-        for place in n..self.history.len() {
-            let entry = self.history[place];
-            self.lists.to_front(entry.chunk(), entry.place());
-        }
-    }
-
     /// Entries join the history, and their chunks come to the fronts of their lists, in order.
     pub fn change_by(&mut self, entries: &[Change]) -> Result<(), AllocError>
         requires { AreListed self.old.lists entries.now }
         ensures ok { OnOk result (class_view self.new ≡ class_with_changes (class_view self.old) entries.now) }
         ensures err { OnErr result (class_view self.new ≡ class_view self.old) }
     {
-        let n = self.history.len();
         self.history.extend_from_slice(entries)?;
-        self.follow(n);
+        follow(&mut self.lists, entries);
         Ok(())
     }
 
@@ -72,30 +87,13 @@ impl Class {
         requires { All (λ c. c < length chunks.now) self.now.lists.dying }
         ensures { result ≡ length (unheld (heads_of chunks.now) self.now.lists.dying) }
     {
-        let mut count = 0;
+        let mut count = self.lists.len(Place::Dying);
         for chunk in self.lists.chunks(Place::Dying) {
-            if chunks[chunk as usize].head.refs == 0 {
-                count += 1;
+            if chunks[chunk as usize].head.refs > 0 {
+                count -= 1;
             }
         }
         count
-    }
-
-    /// The entries of their sweep join the history, front to back as the list stands; the lists don't follow yet.
-    fn enter_unheld(&mut self, chunks: &[Chunk])
-        requires chunks { All (λ c. c < length chunks.now) self.old.lists.dying }
-        requires room { length self.old.history.items + length (unheld (heads_of chunks.now) self.old.lists.dying) ≤ vec_capacity self.old.history }
-        ensures { class_view self.new ≡ record (class_view self.old) { history = self.old.history.items ++ swept_of (heads_of chunks.now) self.old.lists.dying } }
-    {
-        for chunk in self.lists.chunks(Place::Dying) {
-            let head = chunks[chunk as usize].head;
-            if head.refs == 0 {
-                self.history.push_reserved(Change::freed(ItemId {
-                    chunk,
-                    generation: head.generation,
-                }));
-            }
-        }
     }
 
     /// The chunks of DYING that nobody holds are freed: so many, as were counted.
@@ -107,8 +105,8 @@ impl Class {
     {
         let n = self.history.len();
         self.history.reserve(count as usize)?;
-        self.enter_unheld(chunks);
-        self.follow(n);
+        enter_unheld(&mut self.history, &self.lists, chunks);
+        follow(&mut self.lists, &self.history[n..]);
         Ok(())
     }
 }

@@ -16,7 +16,7 @@ pub times_other : (c x : ℕ) (xs : List ℕ) → x ≢ c → times c (x ∷ xs)
 times_other c x xs ne = rw (ne_eqb x c ne) refl
 
 -- with one more in front a list has each chunk as often at least
-times_rest : (c x : ℕ) (xs : List ℕ) → times c xs ≤ times c (x ∷ xs)
+pub times_rest : (c x : ℕ) (xs : List ℕ) → times c xs ≤ times c (x ∷ xs)
 times_rest c x xs = dite (ℕ_discrete x c) (λ e. omega (arith, times_same c x xs e)) (λ ne. omega (arith, times_other c x xs ne))
 
 -- a chunk that is read in a list is in it

@@ -5,9 +5,10 @@ use Rattle.bump_core.specs.declared.places.Place.{Place}
 use Rattle.bump_core.specs.declared.places.Place.TheVariants.{Hot, Warm, Cold, Dying, Unused, Retired}
 use Rattle.bump_core.specs.History.{is_place}
 use Rattle.bump_core.specs.Lawful.{bit}
-use Rattle.bump_core.specs.Lists.{Lists, list_at, all_without, to_front}
+use Rattle.bump_core.specs.Lists.{Lists, list_at, all_without, to_front, IsListed}
 use Rattle.bump_links.specs.Lists.{times, without}
 use Rattle.bump_links.proofs.ListsLemmas.{times-without_same, times-without_other}
+use Rattle.bump_core.proofs.Standings.{place_same}
 use Rattle.bump_core.proofs.classes.PlainLists.{times_same, times_other}
 
 -- The list at a place.
@@ -79,3 +80,11 @@ times_front c d p q l = ap (times c) (list_at_front d p q l) ∙ by (ℕ_discret
     by : Dec (d ≡ c) → times c (cond (is_place p q) (d ∷ without d (list_at l q)) (without d (list_at l q))) ≡ cond (eqb d c) (bit (is_place p q)) (times c (list_at l q))
     by (yes s) = here s (is_place p q) ∙ ap (λ b. cond b (bit (is_place p q)) (times c (list_at l q))) (sym (eq-eqb d c s))
     by (no n) = there n (is_place p q) ∙ ap (λ b. cond b (bit (is_place p q)) (times c (list_at l q))) (sym (ne_eqb d c n))
+
+-- a chunk that stands in one of the lists stands in one after a move of some chunk to the front
+pub listed_front : (c d : ℕ) (p : Place) (l : Lists) → IsListed c l → IsListed c (to_front d p l)
+listed_front c d p l at = by (ℕ_discrete d c)
+  where
+    by : Dec (d ≡ c) → IsListed c (to_front d p l)
+    by (yes s) = (p, omega (arith, times_front c d p p l, ap (λ b. cond b (bit (is_place p p)) (times c (list_at l p))) (eq-eqb d c s), ap bit (place_same p p refl)))
+    by (no n) = (at.0, omega (arith, at.1, times_front c d p at.0 l, ap (λ b. cond b (bit (is_place p at.0)) (times c (list_at l at.0))) (ne_eqb d c n)))
