@@ -44,13 +44,14 @@ abbrev pub tail_word : Tail → List ℕ
 tail_word tail.Hot = codes "hot"
 tail_word tail.Warm = codes "warm"
 tail_word tail.Cold = codes "cold"
+tail_word tail.Evict = codes "evict"
 
 -- what a word says as a field of a kind, if it is one
 abbrev pub value_of : (kind : Kind) → List ℕ → Option (Value kind)
 value_of U32 word = number_of (2 ^ 32) word
 value_of U64 word = number_of (2 ^ 64) word
 value_of Name word = if is_name word then Some word else None
-value_of Segment word = find (λ t. bytes_eq word (tail_word t)) (tail.Hot ∷ tail.Warm ∷ tail.Cold ∷ [])
+value_of Segment word = find (λ t. bytes_eq word (tail_word t)) (tail.Hot ∷ tail.Warm ∷ tail.Cold ∷ tail.Evict ∷ [])
 
 -- the fault of a word that is no field of a kind
 abbrev pub fault_of_kind : Kind → Fault

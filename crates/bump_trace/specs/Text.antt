@@ -111,6 +111,8 @@ pulled_text (pulled.Stay id) = codes "stay " ++ id_text id
 pulled_text (pulled.Warm id) = codes "warm " ++ id_text id
 pulled_text (pulled.Again id) = codes "again " ++ id_text id
 pulled_text (pulled.Cold id) = codes "cold " ++ id_text id
+pulled_text (pulled.Freed id) = codes "freed " ++ id_text id
+pulled_text (pulled.Deferred id) = codes "deferred " ++ id_text id
 
 -- what applying a bump did
 abbrev pub applied_text : Applied → List ℕ
@@ -123,10 +125,14 @@ applied_text (Gone Deferred) = codes "gone deferred"
 abbrev pub entry_text : Entry → List ℕ
 entry_text e = decimal e.number ++ codes " " ++ id_text e.life ++ codes " " ++ applied_text e.applied
 
--- How each answer is told. A hold that was given back, and a bump that isn't there, are told by no words.
+-- How each answer is told. A hold that was given back, a ring that was closed, and a bump that isn't there, are told by no words.
 abbrev pub answer_text : Answer → List ℕ
 answer_text (answer.Linked id) = id_text id
 answer_text answer.NoFreeChunk = codes "full"
+answer_text (answer.Ended Freed) = codes "freed"
+answer_text (answer.Ended Deferred) = codes "deferred"
+answer_text answer.NotLinked = codes "gone"
+answer_text (answer.Swept n) = decimal n
 answer_text (answer.Pulled p) = pulled_text p
 answer_text answer.Held = codes "held"
 answer_text answer.NoSuchChunk = codes "miss"

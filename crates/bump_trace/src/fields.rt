@@ -77,7 +77,7 @@ pub fn name_field(word: &[u8]) -> Result<&[u8], Fault>
     }
 }
 
-/// A field that is a segment: `hot`, `warm` or `cold`.
+/// A field that is a list to be pulled from: `hot`, `warm`, `cold` or `evict`.
 #[tactic(auto, unfolding(crate::specs::Fields::field))]
 pub fn segment_field(word: &[u8]) -> Result<Tail, Fault>
     ensures { Gives (λ t. t) result (field Segment word.now) }
@@ -88,6 +88,8 @@ pub fn segment_field(word: &[u8]) -> Result<Tail, Fault>
         Ok(Tail::Warm)
     } else if word == b"cold".as_slice() {
         Ok(Tail::Cold)
+    } else if word == b"evict".as_slice() {
+        Ok(Tail::Evict)
     } else {
         Err(Fault::Segment)
     }

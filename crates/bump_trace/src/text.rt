@@ -168,6 +168,14 @@ fn put_pulled(out: &mut Vec<u8>, pulled: Pulled) -> Result<(), AllocError>
             out.extend_from_slice(b"cold ")?;
             put_id(out, id)
         }
+        Pulled::Freed(id) => {
+            out.extend_from_slice(b"freed ")?;
+            put_id(out, id)
+        }
+        Pulled::Deferred(id) => {
+            out.extend_from_slice(b"deferred ")?;
+            put_id(out, id)
+        }
     }
 }
 
@@ -178,6 +186,7 @@ fn word_of_tail(tail: Tail) -> &'static str
         Tail::Hot => "hot",
         Tail::Warm => "warm",
         Tail::Cold => "cold",
+        Tail::Evict => "evict",
     }
 }
 
@@ -208,6 +217,10 @@ fn put_answer(out: &mut Vec<u8>, answer: Answer) -> Result<(), AllocError>
     match answer {
         Answer::Linked(id) => put_id(out, id),
         Answer::NoFreeChunk => out.extend_from_slice(b"full"),
+        Answer::Ended(Ended::Freed) => out.extend_from_slice(b"freed"),
+        Answer::Ended(Ended::Deferred) => out.extend_from_slice(b"deferred"),
+        Answer::NotLinked => out.extend_from_slice(b"gone"),
+        Answer::Swept(count) => put_number(out, u64::from(count)),
         Answer::Pulled(pulled) => put_pulled(out, pulled),
         Answer::Held => out.extend_from_slice(b"held"),
         Answer::NoSuchChunk | Answer::Stale => out.extend_from_slice(b"miss"),
