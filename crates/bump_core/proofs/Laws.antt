@@ -83,6 +83,7 @@ module _ (limit : ℕ) (h : Head) (at : Place) (r x : ℕ → ℕ) (o : Lawful l
   relawful q y same_references same_first_hits = record {
     counted = omega (arith, o.counted, same_references h.generation);
     within = o.within;
+    generation = o.generation;
     shown = o.shown;
     used = λ g some. o.used g (omega (arith, same_references g));
     active = o.active;
@@ -109,6 +110,7 @@ module _ (limit : ℕ) (h : Head) (at : Place) (r x : ℕ → ℕ) (o : Lawful l
   referred q used few here there = record {
     counted = omega (arith, o.counted);
     within = omega arith;
+    generation = o.generation;
     shown = shows_same h (record h { refs = h.refs + 1 }) at refl refl refl o.shown;
     used = λ g some. dite (ℕ_discrete g h.generation) (λ e. (e, used)) (λ ne. o.used g (omega (arith, there g ne)));
     active = o.active;
@@ -122,6 +124,7 @@ module _ (limit : ℕ) (h : Head) (at : Place) (r x : ℕ → ℕ) (o : Lawful l
   unreferred q here there = record {
     counted = omega (arith, o.counted);
     within = omega (arith, o.within);
+    generation = o.generation;
     shown = shows_same h (record h { refs = h.refs - 1 }) at refl refl refl o.shown;
     used = λ g some. dite (ℕ_discrete g h.generation) (λ e. o.used g (omega (arith, ap r e, ap q e))) (λ ne. o.used g (omega (arith, there g ne)));
     active = o.active;
@@ -135,6 +138,7 @@ module _ (limit : ℕ) (h : Head) (at : Place) (r x : ℕ → ℕ) (o : Lawful l
   named_first y clear here there = let none : bit h.fetched ≡ 0 = ap bit clear in record {
     counted = o.counted;
     within = o.within;
+    generation = o.generation;
     shown = shows_same h (record h { fetched = true }) at refl refl refl o.shown;
     used = o.used;
     active = bit_at_most h.active;
@@ -148,6 +152,7 @@ module _ (limit : ℕ) (h : Head) (at : Place) (r x : ℕ → ℕ) (o : Lawful l
   fetched_again on = record {
     counted = o.counted;
     within = o.within;
+    generation = o.generation;
     shown = shows_same h (record h { fetched = true }) at refl refl refl o.shown;
     used = o.used;
     active = bit_at_most h.active;
@@ -161,6 +166,7 @@ module _ (limit : ℕ) (h : Head) (at : Place) (r x : ℕ → ℕ) (o : Lawful l
   born free room = let none = none_where_free (ap IsUsed free) in record {
     counted = omega (arith, none (h.generation + 1));
     within = omega arith;
+    generation = let last = (subst (Shows h) free o.shown).1 in omega (arith, last);
     shown = (refl, refl);
     used = λ g some. absurd (omega (arith, none g));
     active = omega arith;
@@ -174,6 +180,7 @@ module _ (limit : ℕ) (h : Head) (at : Place) (r x : ℕ → ℕ) (o : Lawful l
   severed on = record {
     counted = omega (arith, o.counted, ap bit on);
     within = omega (arith, o.within);
+    generation = o.generation;
     shown = refl;
     used = λ g some. ((o.used g some).0, tt);
     active = o.active;
@@ -187,6 +194,7 @@ module _ (limit : ℕ) (h : Head) (at : Place) (r x : ℕ → ℕ) (o : Lawful l
   ended to dying zero_refs shows = record {
     counted = o.counted;
     within = o.within;
+    generation = o.generation;
     shown = shows;
     used = λ g some. absurd (let e = (o.used g some).0 in omega (arith, o.counted, ap r e));
     active = o.active;
@@ -200,6 +208,7 @@ module _ (limit : ℕ) (h : Head) (at : Place) (r x : ℕ → ℕ) (o : Lawful l
   marked b below = record {
     counted = o.counted;
     within = o.within;
+    generation = o.generation;
     shown = shows_same h (record h { active = b }) at refl refl refl o.shown;
     used = o.used;
     active = below;
@@ -213,6 +222,7 @@ module _ (limit : ℕ) (h : Head) (at : Place) (r x : ℕ → ℕ) (o : Lawful l
   moved to on = record {
     counted = o.counted;
     within = o.within;
+    generation = o.generation;
     shown = shows_segment h to on;
     used = λ g some. ((o.used g some).0, used_in_segment to);
     active = o.active;

@@ -1,9 +1,11 @@
 pub mod Enabled
 pub mod LawfulAttempts
+pub mod LawfulEnds
 pub mod LawfulHits
 pub mod LawfulHolds
 pub mod LawfulLanes
 pub mod LawfulLinks
 pub mod LawfulPulls
+pub mod LawfulRings
 pub mod Moves
 pub mod Runs

@@ -32,6 +32,8 @@ pub record Lawful (limit : ℕ) (h : Head) (at : Place) (references first_hits :
   pub counted : h.refs ≡ bit h.linked + references h.generation
   -- and is at most the limit
   pub within : h.refs ≤ limit
+  -- the generation is at most the last one
+  pub generation : h.generation ≤ 4294967295
   -- LINKED and the segment bits agree with the list
   pub shown : Shows h at
   -- a chunk with a reference has its generation, and is not free: so a free chunk has count 0

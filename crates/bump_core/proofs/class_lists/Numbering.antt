@@ -1,5 +1,5 @@
 -- Nodes as chunks: the lists of a class that links stand for, what a move of a node does to them, and what is read of them.
-use Rattle.std.proofs.Common.{◌≡◌, ◌≢◌, ℕ, zero, suc, ◌+◌, ◌-◌, ◌<◌, ◌≤◌, cond, eqb, List, [], ◌∷◌, length, get_or, set, map, Option, Some, None, IfSome, refl, sym, ◌∙◌, ap, subst, arith, inl, inr}
+use Rattle.std.proofs.Common.{◌≡◌, ◌≢◌, ℕ, zero, suc, ◌+◌, ◌-◌, ◌<◌, ◌≤◌, cond, eqb, ltb, List, [], ◌∷◌, length, get_or, set, map, Option, Some, None, IfSome, refl, sym, ◌∙◌, ap, subst, arith, inl, inr}
 use Rattle.std.specs.Prelude.{option_map}
 use Rattle.std.specs.List.{AllByRecursion, range_with_len}
 use Rattle.std.proofs.lemmas.Bool.{ne_eqb, eq-eqb}
@@ -170,28 +170,37 @@ module _ (first c : ℕ) (s : links.Lists) (six : AreSixLists first s) where
   pub node_of : IsListed c (lists_from first s) → HasNode first c s
   node_of listed = node_at listed.0 listed.1
 
+  -- a chunk stands in the list at a place as often as its node in that list
+  counted_at : (p : Place) → HasNode first c s → times c (list_at (lists_from first s) p) ≡ times (c - first) (links.list_at s (place_number p))
+  counted_at p has = ap (times c) (list_at_from first s p) ∙ ap (λ k. times k (listed_from first s p)) (sym has.is) ∙ chunks_times first (c - first) (links.list_at s (place_number p))
+
   -- the list at a place that has the chunk is the one that holds its node
   pub held_at : (p : Place) → 0 < times c (list_at (lists_from first s) p) → IsHeldBy s (c - first) (place_number p)
   held_at p some =
       let has = node_at p some in
       let n = c - first in
       let l = place_number p in
-      let counted : times c (list_at (lists_from first s) p) ≡ times n (links.list_at s l) =
-      ap (times c) (list_at_from first s p) ∙ ap (λ k. times k (listed_from first s p)) (sym has.is) ∙ chunks_times first n (links.list_at s l) in
       let holder = six.each_once.holder n has.node in
       elim (eqb_tells l holder.0) [
         | inl t ↦ subst (λ k. IsHeldBy s n k) (sym t.1) holder.1
         | inr f ↦
             let never : times n (links.list_at s l) ≡ 0 = holder.1.elsewhere l f.1 in
-            absurd (omega (arith, some, counted, never))
+            absurd (omega (arith, some, counted_at p has, never))
+      ]
+
+  -- the list that holds the chunk's node is the one of a place exactly where the chunk stands there
+  pub tells_at : (p : Place) (l n : ℕ) → HasNode first c s → IsHeldBy s (c - first) l → n ≡ place_number p → eqb l n ≡ ltb 0 (times c (list_at (lists_from first s) p))
+  tells_at p l n has held is =
+      elim (eqb_tells l n) [
+        | inl t ↦
+            let once : times (c - first) (links.list_at s (place_number p)) ≡ 1 = ap (λ k. times (c - first) (links.list_at s k)) (sym is ∙ sym t.1) ∙ held.once in
+            t.0 ∙ sym (ap (ltb 0) (counted_at p has ∙ once))
+        | inr f ↦ f.0 ∙ sym (ap (ltb 0) (counted_at p has ∙ held.elsewhere (place_number p) (λ e. f.1 (sym (is ∙ e)))))
       ]
 
   -- a chunk that stands in the list at a place stands there once
   pub once_at : (p : Place) → 0 < times c (list_at (lists_from first s) p) → times c (list_at (lists_from first s) p) ≡ 1
-  once_at p some =
-      let has = node_at p some in
-      ap (times c) (list_at_from first s p) ∙ ap (λ k. times k (listed_from first s p)) (sym has.is)
-      ∙ chunks_times first (c - first) (links.list_at s (place_number p)) ∙ (held_at p some).once
+  once_at p some = counted_at p (node_at p some) ∙ (held_at p some).once
 
 -- the chunk of a node has a number
 pub node_numbered : (first : ℕ) (s : links.Lists) (o : Option ℕ) → AreSixLists first s → IfSome o (λ n. n < s.nodes) → IfSome o (λ n. first + n < 4294967296)

@@ -18,10 +18,11 @@ use Rattle.bump_core.specs.declared.hands.Hand.TheVariants as hand
 use Rattle.bump_core.specs.declared.places.Segment.{Segment}
 use Rattle.bump_core.specs.declared.places.Segment.TheVariants as segment
 use Rattle.bump_core.specs.Rings.{bump_applied}
-use Rattle.bump_core.specs.Tables.{is_cold}
-use Rattle.bump_core.specs.Events.{is_enabled, is_class_at_rest, may_move, next_chunk, may_hit, applied_bump, outcome_tried, ending_at, carried, tried, applied_now, cleared_active, is_empty}
-use Rattle.bump_core.specs.State.{is_class, State, chunk, head, worker, is_chunk, is_current, has_free_hold, is_open, is_worker, workers_on, some_and, tried_life, life_in_hand, cleared_life, is_idle, applied_life, applies_in, class_of, is_under_application, new_worker}
+use Rattle.bump_core.specs.Tables.{is_cold, is_unheld}
+use Rattle.bump_core.specs.Events.{is_enabled, is_class_at_rest, is_dying, may_move, next_chunk, may_hit, applied_bump, outcome_tried, ending_at, carried, tried, applied_now, cleared_active, is_empty}
+use Rattle.bump_core.specs.State.{is_class, State, chunk, head, class, worker, is_chunk, is_current, is_linked, has_free_hold, is_open, is_worker, workers_on, some_and, tried_life, life_in_hand, cleared_life, is_idle, applied_life, applies_in, class_of, is_under_application, new_worker}
 use Rattle.bump_core.specs.Worlds.{IsLawful}
+use Rattle.bump_links.specs.Lists.{times}
 
 -- a test of a value that there may be says that there is one, which passes
 pub some_and_parts : {A : Type 0} (test : A → Bool) (o : Option A) → some_and test o ≡ true → (x : A) × (o ≡ Some x) × (test x ≡ true)
@@ -177,3 +178,25 @@ pub move_for_from : (s : State) (w : ℕ) → is_enabled s (event.MoveFor w) ≡
 move_for_from s w enabled = let both = and_parts (is_worker s w) (some_and (λ b. true) (cleared_active (worker s w).lane)) enabled in
     let found = some_and_parts (λ (b : Bump). true) (cleared_active (worker s w).lane) both.1 in
     (found.0, worker_from s w both.0, found.1)
+
+-- a life that may be unlinked: its chunk is in range, has its generation and is linked, and no lane applies a bump of its class
+pub unlink_from : (s : State) (l : ItemId) → is_enabled s (event.Unlink l) ≡ true
+    → (l.chunk < length s.chunks) × ((head s l.chunk).generation ≡ l.generation) × ((head s l.chunk).linked ≡ true) × (is_under_application s (class_of s l.chunk) ≡ false)
+unlink_from s l enabled = let both = and_parts (is_linked s l) (not (is_under_application s (class_of s l.chunk))) enabled in
+    let linked = and_parts (is_current s l) (head s l.chunk).linked both.0 in
+    let current = current_from s l linked.0 in
+    (current.0, current.1, linked.1, not-true (is_under_application s (class_of s l.chunk)) both.1)
+
+-- a chunk that may be swept: it is in range, stands in its class's DYING without holders, and no lane applies a bump of its class
+pub sweep_from : (s : State) (c : ℕ) → is_enabled s (event.Sweep c) ≡ true
+    → (c < length s.chunks) × (0 < times c (class s (class_of s c)).lists.dying) × ((head s c).refs ≡ 0) × (is_under_application s (class_of s c) ≡ false)
+sweep_from s c enabled = let both = and_parts (is_chunk s c) (is_dying s c && (is_unheld (head s c) && not (is_under_application s (class_of s c)))) enabled in
+    let more = and_parts (is_dying s c) (is_unheld (head s c) && not (is_under_application s (class_of s c))) both.1 in
+    let last = and_parts (is_unheld (head s c)) (not (is_under_application s (class_of s c))) more.1 in
+    (chunk_from s c both.0, ltb-true 0 (times c (class s (class_of s c)).lists.dying) more.0, eqb-true (head s c).refs 0 last.0, not-true (is_under_application s (class_of s c)) last.1)
+
+-- a ring that may be closed: there is such a worker, whose ring is open, and it is Idle
+pub close_from : (s : State) (w : ℕ) → is_enabled s (event.Close w) ≡ true → (w < length s.workers) × ((worker s w).is_open ≡ true) × ((worker s w).hand ≡ hand.Idle)
+close_from s w enabled = let both = and_parts (is_open s w) (is_idle (worker s w).hand) enabled in
+    let opened = and_parts (is_worker s w) (worker s w).is_open both.0 in
+    (worker_from s w opened.0, opened.1, idle_from (worker s w).hand both.1)

@@ -10,7 +10,7 @@ use Rattle.bump_core.specs.Headline.{ClosedStay}
 use Rattle.bump_core.specs.Runs.{run_of}
 use Rattle.bump_core.specs.State.{State, WorkerState, head, worker, new_worker, with_worker, is_worker, is_open, some_and, tried_life, life_in_hand, cleared_life}
 use Rattle.bump_core.specs.Tables.{is_cold}
-use Rattle.bump_core.proofs.events.Enabled.{by_test, by_value}
+use Rattle.bump_core.proofs.events.Enabled.{close_from, by_test, by_value}
 use Rattle.bump_core.proofs.events.Runs.{by_run}
 use Rattle.bump_core.proofs.Updates.{same_read}
 
@@ -50,11 +50,14 @@ closed_after s (event.Push w) enabled = by_value (ClosedStay s) (push s w) (life
     (λ l is. closed_else s w _ (and_parts (is_worker s w) (worker s w).is_open (and_parts (is_open s w) (some_and (λ l. nat_lt (waiting (worker s w)) s.capacity) (life_in_hand (worker s w).hand)) enabled).0).1) (closed_here s)
 closed_after s (event.DropFull w) enabled = by_value (ClosedStay s) (drop_full s w) (life_in_hand (worker s w).hand) s (λ l is. closed_worked s w _ refl refl) (closed_here s)
 closed_after s (event.Unmark w) enabled = by_value (ClosedStay s) (unmark s w) (cleared_life (worker s w).hand) s (λ l is. closed_worked s w _ refl refl) (closed_here s)
+closed_after s (event.Close w) enabled = closed_else s w _ (close_from s w enabled).1
 closed_after s (event.StoreTime l t) enabled = closed_here s
 closed_after s (event.Release l) enabled = closed_here s
 closed_after s (event.PutLabel k x) enabled = by_value (ClosedStay s) (λ c. with_label s c x) (next_chunk s k) s (λ c is. closed_here s) (closed_here s)
 closed_after s (event.PutTime k t) enabled = by_value (ClosedStay s) (λ c. with_time s c t) (next_chunk s k) s (λ c is. closed_here s) (closed_here s)
 closed_after s (event.Link k) enabled = by_value (ClosedStay s) (link s k) (next_chunk s k) s (λ c is. closed_here s) (closed_here s)
+closed_after s (event.Unlink l) enabled = closed_here s
+closed_after s (event.Sweep c) enabled = closed_here s
 closed_after s (event.ClearActive c) enabled = closed_here s
 closed_after s (event.Move c to) enabled = closed_here s
 closed_after s (event.TakeBump w) enabled = by_value (ClosedStay s) (take_bump s w) (next_bump (worker s w)) s (λ l is. closed_worked s w _ refl refl) (closed_here s)

@@ -1,6 +1,6 @@
 -- What an event leaves as it was: a state in which one chunk and one worker changed is lawful where these are.
 use Rattle.std.proofs.Common.{◌≡◌, ℕ, ◌+◌, ◌<◌, ◌≤◌, ◌≢◌, true, false, cond, eqb, List, length, slice_index_or, slice_set, refl, sym, ap, ◌∙◌, subst, Some, arith, Bool, inl, inr}
-use Rattle.std.proofs.lemmas.List.{get_or-set_same, get_or-set_other, length-set, set_past}
+use Rattle.std.proofs.lemmas.List.{get_or-set_same, get_or-set_other, set-get_or, length-set, set_past}
 use Rattle.std.proofs.lemmas.Bool.{cases_lt}
 use mathlib.Core.Logic.{dite}
 use native.Mathlib.Decide.{ℕ_discrete}
@@ -64,6 +64,10 @@ waits_framed s t linked segments (lane.Moved b) waits = tt
 -- One chunk changed: where it changed the new chunk is read.
 pub chunk_here : (s : State) (c : ℕ) (x : Chunk) → c < length s.chunks → chunk (with_chunk s c x) c ≡ x
 chunk_here s c x within = get_or-set_same s.chunks c x no_chunk within
+
+-- A head written where it stands changes nothing.
+pub same_head : (s : State) (c : ℕ) → with_head s c (head s c) ≡ s
+same_head s c = ap (λ (cs : List Chunk). record s { chunks = cs }) (set-get_or s.chunks c no_chunk)
 
 -- What is as before for the chunk is as before for all.
 pub each_chunk : (s : State) (c : ℕ) (x : Chunk) → {A : Type 0} (f : Chunk → A) → f x ≡ f (chunk s c) → (d : ℕ) → f (chunk (with_chunk s c x) d) ≡ f (chunk s d)

@@ -16,9 +16,9 @@ use Rattle.bump_core.specs.declared.bumps.Bump.{Bump}
 use Rattle.bump_core.specs.declared.places.Place.TheVariants.{Unused}
 use Rattle.bump_core.specs.declared.places.Segment.{Segment}
 use Rattle.bump_core.specs.declared.places.Segment.TheVariants as segment
-use Rattle.bump_core.specs.Heads.{newborn, moved_head, one_more, one_fewer, fetched_head, active_head, cleared_head}
-use Rattle.bump_core.specs.Events.{is_enabled, after, next_chunk, next_life, next_bump, carried, tried, applied_now, cleared_active, ending, reserve, drop_refs, drop_busy, push, drop_full, unmark, with_label, with_time, link, take_bump, clear_for, move_for, alight}
-use Rattle.bump_core.specs.History.{subject}
+use Rattle.bump_core.specs.Heads.{newborn, moved_head, one_more, one_fewer, fetched_head, active_head, cleared_head, severed_head}
+use Rattle.bump_core.specs.Events.{is_enabled, after, next_chunk, next_life, next_bump, carried, tried, applied_now, cleared_active, ending, reserve, drop_refs, drop_busy, push, drop_full, unmark, with_label, with_time, link, take_bump, clear_for, move_for, alight, unlink, sweep}
+use Rattle.bump_core.specs.History.{subject, freed_change}
 use Rattle.bump_core.specs.Labels.{LabelStep, Stored, Begun, label_of_life, label_steps, IsLabel, KeepsLabels}
 use Rattle.bump_core.specs.Lawful.{IsUsed}
 use Rattle.bump_core.specs.Lives.{life, is_same}
@@ -26,9 +26,11 @@ use Rattle.bump_core.specs.Runs.{run_of}
 use Rattle.bump_core.specs.State.{State, WorkerState, chunk, head, class, worker, no_chunk, with_chunk, with_head, with_change, class_of, tried_life, life_in_hand, cleared_life}
 use Rattle.bump_core.specs.Tables.{is_cold}
 use Rattle.bump_core.specs.Worlds.{IsLawful, owns, place}
-use Rattle.bump_core.proofs.events.Enabled.{next_from, move_from, move_for_from, by_test, by_value, cleared_from}
+use Rattle.bump_core.proofs.events.Enabled.{next_from, unlink_from, sweep_from, move_from, move_for_from, by_test, by_value, cleared_from}
+use Rattle.bump_core.proofs.events.LawfulEnds.{swept_dying, freed}
 use Rattle.bump_core.proofs.events.Runs.{run_parts}
 use Rattle.bump_core.proofs.Updates.{same_read}
+use Rattle.bump_core.proofs.worlds.Frames.{same_head}
 use Rattle.bump_core.proofs.worlds.Fronts.{next_front}
 use Rattle.bump_core.proofs.worlds.LawfulStates.{linked_in_range, waiting_linked}
 use Rattle.bump_core.proofs.Laws.{used_where_linked}
@@ -103,6 +105,21 @@ moved_for_stays s o w b within is c =
     let moved = moved_stays s o b.life.chunk segment.Warm e refl (linked_in_range s o b.life.chunk on) on c in
     record { generation = moved.generation; label = moved.label; used = moved.used }
 
+-- an unlink is of a linked chunk
+unlinked_stays : (s : State) → IsLawful s → (l : ItemId) → is_enabled s (event.Unlink l) ≡ true → AllStay s (unlink s l)
+unlinked_stays s o l enabled = let may = unlink_from s l enabled in
+    stays_changed s o l.chunk (severed_head (head s l.chunk)) (class_of s l.chunk) (change.Unlinked l) (class_within s o.tiles l.chunk may.0) (class_owns s o.tiles l.chunk may.0) refl refl
+    (used_where_linked (head s l.chunk) (place s l.chunk) (o.chunks l.chunk).shown may.2)
+
+-- and a sweep of one that is DYING
+swept_stays : (s : State) → IsLawful s → (c : ℕ) → is_enabled s (event.Sweep c) ≡ true → AllStay s (sweep s c)
+swept_stays s o c enabled =
+    let may = sweep_from s c enabled in
+    let e = freed_change (life c (head s c).generation) in
+    subst (λ t. AllStay s (with_change t (class_of s c) e)) (same_head s c)
+    (stays_changed s o c (head s c) (class_of s c) e (class_within s o.tiles c may.0) (class_owns s o.tiles c may.0) (ap (λ (l : ItemId). l.chunk) (freed (life c (head s c).generation)).is) refl
+    (subst IsUsed (sym (swept_dying s o c enabled)) tt))
+
 -- the event stores no label and begins no life
 abbrev IsOther : Event → Type 0
 IsOther (event.PutLabel k x) = ⊥
@@ -121,11 +138,14 @@ stays_after s o (event.DropBusy w) enabled other = by_value (AllStay s) (drop_bu
 stays_after s o (event.Push w) enabled other = by_value (AllStay s) (push s w) (life_in_hand (worker s w).hand) s (λ l is. stays_worked s _) (stays_here s)
 stays_after s o (event.DropFull w) enabled other = by_value (AllStay s) (drop_full s w) (life_in_hand (worker s w).hand) s (λ l is. stays_headed s l.chunk (one_fewer (head s l.chunk)) _ refl) (stays_here s)
 stays_after s o (event.Unmark w) enabled other = by_value (AllStay s) (unmark s w) (cleared_life (worker s w).hand) s (λ l is. stays_headed s l.chunk (cleared_head (head s l.chunk)) _ refl) (stays_here s)
+stays_after s o (event.Close w) enabled other = stays_worked s _
 stays_after s o (event.StoreTime l t) enabled other = stays_written s l.chunk _ s.workers refl refl
 stays_after s o (event.Release l) enabled other = stays_written s l.chunk _ s.workers refl refl
 stays_after s o (event.PutLabel k x) enabled other = absurd other
 stays_after s o (event.PutTime k t) enabled other = by_value (AllStay s) (λ c. with_time s c t) (next_chunk s k) s (λ c is. stays_written s c _ s.workers refl refl) (stays_here s)
 stays_after s o (event.Link k) enabled other = absurd other
+stays_after s o (event.Unlink l) enabled other = unlinked_stays s o l enabled
+stays_after s o (event.Sweep c) enabled other = swept_stays s o c enabled
 stays_after s o (event.ClearActive c) enabled other = stays_headed s c (cleared_head (head s c)) s.workers refl
 stays_after s o (event.Move c to) enabled other = let may = move_from s c to enabled in
     moved_stays s o c to (change.Moved (life c (head s c).generation) (head s c).segment to Pull) refl may.0 may.1

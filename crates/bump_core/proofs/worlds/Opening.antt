@@ -19,7 +19,7 @@ use Rattle.bump_core.specs.Lives.{life, count_of}
 use Rattle.bump_core.specs.Rings.{IsWorker}
 use Rattle.bump_core.specs.State.{State, ClassState, WorkerState, head, class, no_chunk, no_class, new_worker, class_of, applied_life, is_on}
 use Rattle.bump_core.specs.Opening.{fresh_chunk, classes_from, new_state}
-use Rattle.bump_core.specs.Worlds.{IsLawful, NoneUnlinked, IsClass, Tiles, references, first_hits_of, holds_of, bumps_of, standing, place, WaitsToMove}
+use Rattle.bump_core.specs.Worlds.{IsLawful, IsClass, Tiles, references, first_hits_of, holds_of, bumps_of, standing, place, WaitsToMove}
 use Rattle.bump_core.proofs.classes.Tiles.{class_within, class_out}
 use Rattle.bump_core.proofs.worlds.StaysLawful.{Keeps}
 
@@ -73,6 +73,7 @@ pub fresh_lawful : (limit h : ℕ) (r x : ℕ → ℕ) → h < 4294967295 → ((
 fresh_lawful limit h r x few no_r no_x = record {
   counted = omega (arith, no_r h);
   within = omega arith;
+  generation = omega (arith, few);
   shown = (refl, few);
   used = λ g some. absurd (omega (arith, no_r g));
   active = omega arith;
@@ -140,7 +141,6 @@ module _ (config : Config) (early : config.first_generation < 4294967296) (two :
   pub keeps_new : Keeps s
   keeps_new = (
     lawful,
-    (λ k within. subst NoneUnlinked (sym (class_new (config.first_generation - 1) 0 config.classes k).1) tt),
     record {
       classes = omega (arith, few_classes, classes_long (config.first_generation - 1) 0 config.classes);
       chunks = omega (arith, few_chunks, length-replicate (chunks_of config.classes) (fresh_chunk (config.first_generation - 1)));

@@ -11,7 +11,7 @@ use Rattle.bump_core.specs.declared.events.Event.TheVariants as event
 use Rattle.bump_core.specs.declared.events.Reply.{Reply}
 use Rattle.bump_core.specs.declared.events.Refused.{Refused}
 use Rattle.bump_core.specs.Lives.{life}
-use Rattle.bump_core.specs.State.{State, WorkerState, SameSizes, class, head, worker, with_chunk, with_worker, with_change, class_with_change, tried_life, life_in_hand, cleared_life}
+use Rattle.bump_core.specs.State.{State, ClassState, WorkerState, SameSizes, class, head, worker, with_chunk, with_class, with_worker, with_change, class_with_change, tried_life, life_in_hand, cleared_life}
 use Rattle.bump_core.specs.Events.{after, reserve, drop_refs, drop_busy, push, drop_full, unmark, with_label, with_time, link, take_bump, clear_for, move_for, alight, next_chunk, next_life, next_bump, carried, applied_now, tried, cleared_active, ending}
 use Rattle.bump_core.specs.Runs.{Steps, run_of}
 use Rattle.bump_core.proofs.events.Enabled.{by_test, by_value}
@@ -24,6 +24,10 @@ chunk_sizes s c x = (length-set s.chunks c x, refl, refl)
 -- a changed worker
 worker_sizes : (s : State) (w : ℕ) (x : WorkerState) → SameSizes s (with_worker s w x)
 worker_sizes s w x = (refl, refl, length-set s.workers w x)
+
+-- a changed class
+class_sizes : (s : State) (k : ℕ) (x : ClassState) → SameSizes s (with_class s k x)
+class_sizes s k x = (refl, length-set s.classes k x, refl)
 
 -- a changed chunk and a changed worker
 both_sizes : (s : State) (c w : ℕ) (x : Chunk) (y : WorkerState) → SameSizes s (with_worker (with_chunk s c x) w y)
@@ -49,11 +53,14 @@ after_sizes s (event.DropBusy w) = by_value (SameSizes s) (drop_busy s w) (tried
 after_sizes s (event.Push w) = by_value (SameSizes s) (push s w) (life_in_hand (worker s w).hand) s (λ l is. worker_sizes s w _) (refl, refl, refl)
 after_sizes s (event.DropFull w) = by_value (SameSizes s) (drop_full s w) (life_in_hand (worker s w).hand) s (λ l is. both_sizes s _ w _ _) (refl, refl, refl)
 after_sizes s (event.Unmark w) = by_value (SameSizes s) (unmark s w) (cleared_life (worker s w).hand) s (λ l is. both_sizes s _ w _ _) (refl, refl, refl)
+after_sizes s (event.Close w) = worker_sizes s w _
 after_sizes s (event.StoreTime l t) = chunk_sizes s _ _
 after_sizes s (event.Release l) = chunk_sizes s _ _
 after_sizes s (event.PutLabel k x) = by_value (SameSizes s) (λ c. with_label s c x) (next_chunk s k) s (λ c is. chunk_sizes s c _) (refl, refl, refl)
 after_sizes s (event.PutTime k t) = by_value (SameSizes s) (λ c. with_time s c t) (next_chunk s k) s (λ c is. chunk_sizes s c _) (refl, refl, refl)
 after_sizes s (event.Link k) = by_value (SameSizes s) (link s k) (next_chunk s k) s (λ c is. change_sizes s c k _ (change.Linked (next_life s c))) (refl, refl, refl)
+after_sizes s (event.Unlink l) = change_sizes s l.chunk _ _ (change.Unlinked l)
+after_sizes s (event.Sweep c) = class_sizes s _ _
 after_sizes s (event.ClearActive c) = chunk_sizes s _ _
 after_sizes s (event.Move c to) = change_sizes s c _ _ (change.Moved (life c (head s c).generation) (head s c).segment to Pull)
 after_sizes s (event.TakeBump w) = by_value (SameSizes s) (take_bump s w) (next_bump (worker s w)) s (λ l is. worker_sizes s w _) (refl, refl, refl)

@@ -7,13 +7,14 @@ use Rattle.bump_core.specs.declared.events.Refused.{Refused}
 use Rattle.bump_core.specs.Runs.{Steps, run_of}
 use Rattle.bump_core.specs.State.{State, SameSizes}
 use Rattle.bump_core.specs.Events.{is_enabled, after}
-use Rattle.bump_core.specs.Worlds.{IsLawful, NothingUnlinked, IsSized}
+use Rattle.bump_core.specs.Worlds.{IsLawful, IsSized}
 use Rattle.bump_core.proofs.worlds.Sizes.{after_sizes}
 use Rattle.bump_core.proofs.events.Runs.{by_step, by_run}
-use Rattle.bump_core.proofs.worlds.NothingUnlinked.{nothing_unlinked}
 use Rattle.bump_core.proofs.events.LawfulHolds.{after_load, after_take, after_release}
 use Rattle.bump_core.proofs.events.LawfulHits.{after_fetch, after_mark, after_store_time}
 use Rattle.bump_core.proofs.events.LawfulLinks.{after_put_label, after_put_time, after_link}
+use Rattle.bump_core.proofs.events.LawfulEnds.{after_unlink, after_sweep}
+use Rattle.bump_core.proofs.events.LawfulRings.{after_close}
 use Rattle.bump_core.proofs.events.LawfulPulls.{after_clear_active, after_move}
 use Rattle.bump_core.proofs.events.LawfulLanes.{after_take_bump, after_try, after_bump_time, after_clear_for, after_move_for, after_alight}
 use Rattle.bump_core.proofs.events.LawfulAttempts.{after_reserve, after_drop_refs, after_drop_busy, after_push, after_drop_full, after_unmark}
@@ -34,11 +35,14 @@ lawful_after s o (event.DropBusy w) = after_drop_busy s w o
 lawful_after s o (event.Push w) = after_push s w o
 lawful_after s o (event.DropFull w) = after_drop_full s w o
 lawful_after s o (event.Unmark w) = after_unmark s w o
+lawful_after s o (event.Close w) = after_close s w o
 lawful_after s o (event.StoreTime l t) = after_store_time s l t o
 lawful_after s o (event.Release l) = after_release s l o
 lawful_after s o (event.PutLabel k x) = after_put_label s k x o
 lawful_after s o (event.PutTime k t) = after_put_time s k t o
 lawful_after s o (event.Link k) = after_link s o k
+lawful_after s o (event.Unlink l) = after_unlink s o l
+lawful_after s o (event.Sweep c) = after_sweep s o c
 lawful_after s o (event.ClearActive c) = after_clear_active s c o
 lawful_after s o (event.Move c to) = after_move s o c to
 lawful_after s o (event.TakeBump w) = after_take_bump s w o
@@ -52,9 +56,9 @@ lawful_after s o (event.Alight w) = after_alight s w o
 pub run_lawful : (s : State) (es : List Event) (t : State) → IsLawful s → run_of s es ≡ Some t → IsLawful t
 run_lawful s es t o ends = by_run IsLawful lawful_after s es t o ends
 
--- what a World keeps: it is lawful, nothing was unlinked, and there are no more classes, chunks and workers than may be
+-- what a World keeps: it is lawful, and there are no more classes, chunks and workers than may be
 abbrev pub Keeps : State → Type 0
-Keeps s = IsLawful s × NothingUnlinked s × IsSized s
+Keeps s = IsLawful s × IsSized s
 
 -- as many classes, chunks and workers as before are no more than may be
 sized_after : (s t : State) → SameSizes s t → IsSized s → IsSized t
@@ -62,7 +66,7 @@ sized_after s t same sized = record { classes = omega (arith, same.1, sized.clas
 
 -- each event that is enabled keeps all
 pub keeps_after : (s : State) → Keeps s → (e : Event) → is_enabled s e ≡ true → Keeps (after s e)
-keeps_after s k e enabled = (lawful_after s k.0 e enabled, nothing_unlinked s e k.1, sized_after s (after s e) (after_sizes s e) k.2)
+keeps_after s k e enabled = (lawful_after s k.0 e enabled, sized_after s (after s e) (after_sizes s e) k.1)
 
 -- so does a step
 pub step_keeps : (old : State) (e : Event) (new : State) (r : Result Reply Refused) → Keeps old → Steps old e new r → Keeps new

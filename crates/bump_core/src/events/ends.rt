@@ -20,7 +20,7 @@ impl Parts {
         ensures { result ≡ is_dying (state_of self.now) c }
     {
         let class = self.class_of(c);
-        self.classes[class].lists.has(c, Place::Dying)
+        self.list_has(class, c, Place::Dying)
     }
 
     /// An item's life ends, and its chunk goes to DYING.

@@ -1,10 +1,10 @@
 //! How the parts of a World are read.
-ghost use Rattle.std.specs.Prelude.{◌≡◌, ◌<◌, IfSome, length};
+ghost use Rattle.std.specs.Prelude.{◌≡◌, ◌<◌, nat_lt, IfSome, length};
 ghost use Rattle.bump_core.specs.State.{chunk, head, worker, is_chunk, is_class, is_worker, is_current, is_linked, is_held, workers_on, has_free_hold, class_of, is_under_application, is_open, class};
 ghost use Rattle.bump_core.specs.Events.{next_bump, waiting, next_chunk};
-ghost use Rattle.bump_core.specs.Lists.{list_at};
+ghost use Rattle.bump_core.specs.Lists.{list_at, IsListed};
 ghost use Rattle.bump_core.specs.Worlds.{IsLawful};
-ghost use Rattle.bump_links.specs.Lists.{last_of};
+ghost use Rattle.bump_links.specs.Lists.{times, last_of};
 ghost use Rattle.bump_core.specs.Views.{state_of};
 
 use crate::bumps::{Accounts, AppliedBump};
@@ -220,6 +220,15 @@ impl Parts {
         ensures { result ≡ length (list_at (class (state_of self.now) k).lists place) }
     {
         self.classes[k as usize].lists.len(place)
+    }
+
+    /// Whether a chunk stands in a list of a class. The chunk is one of the class.
+    pub fn list_has(&self, k: usize, c: u32, place: Place) -> bool
+        requires class { k < length (state_of self.now).classes }
+        requires listed { IsListed c (class (state_of self.now) k).lists }
+        ensures { result ≡ nat_lt 0 (times c (list_at (class (state_of self.now) k).lists place)) }
+    {
+        self.classes[k].lists.has(c, place)
     }
 
     /// What happened to the lists of a class.

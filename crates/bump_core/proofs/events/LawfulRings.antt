@@ -1,0 +1,22 @@
+-- The event of a ring that closes leaves a lawful state lawful.
+use Rattle.std.proofs.Common.{◌≡◌, ℕ, true, false, refl, arith}
+use Rattle.bump_core.specs.declared.events.Event.TheVariants as event
+use Rattle.bump_core.specs.State.{State, WorkerState, worker}
+use Rattle.bump_core.specs.Events.{is_enabled, after}
+use Rattle.bump_core.specs.Rings.{IsWorker}
+use Rattle.bump_core.specs.Worlds.{IsLawful}
+use Rattle.bump_core.proofs.worlds.Frames.{worker_lawful, alone_kept}
+use Rattle.bump_core.proofs.events.Enabled.{close_from}
+
+-- a worker's ring closes
+pub after_close : (s : State) (w : ℕ) → IsLawful s → is_enabled s (event.Close w) ≡ true → IsLawful (after s (event.Close w))
+after_close s w o enabled = let inside = (close_from s w enabled).0 in
+    let y : WorkerState = record (worker s w) { is_open = false } in
+    let was : IsWorker s.capacity (worker s w) = o.workers w inside in
+    worker_lawful s w y o inside
+    (λ m. refl)
+    (λ m. refl)
+    (λ m. omega arith)
+    (record { ring = was.ring; applied = was.applied; accounts = was.accounts })
+    (alone_kept s w y inside o refl)
+    (o.waits w inside)
