@@ -7,7 +7,7 @@ use Rattle.bump_core.specs.declared.events.Refused.TheVariants.{NotEnabled, OutO
 use Rattle.bump_core.specs.State.{State}
 use Rattle.bump_core.specs.Events.{is_enabled, after, reply_of}
 
--- What an answer tells of whether the event is enabled: it is made only where it is enabled, and refused as NotEnabled exactly where it
+-- What an answer tells of whether the event is enabled: it is made only where it is, and refused as NotEnabled exactly where it
 -- isn't. Want of memory is the last refusal: only an event that is enabled meets it.
 abbrev pub IsEnabledBy : Bool → Result Reply Refused → Type 0
 IsEnabledBy enabled (Ok reply) = enabled ≡ true
