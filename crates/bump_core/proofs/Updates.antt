@@ -1,8 +1,10 @@
--- Lists that are written at one place, sums over lists, and how often a list names a life.
-use Rattle.std.proofs.Common.{◌≡◌, ℕ, zero, suc, ◌+◌, ◌<◌, ◌≤◌, Bool, false, List, [], ◌∷◌, ◌++◌, length, drop, slice_index_or, slice_set, refl, ap, arith}
+-- Lists that are written at one place, and as they are seen; sums over lists, and how often a list names a life.
+use Rattle.std.proofs.Common.{◌≡◌, ℕ, zero, suc, ◌+◌, ◌<◌, ◌≤◌, Bool, false, List, [], ◌∷◌, ◌++◌, length, drop, slice_index_or, slice_set, get_or, set, map, refl, sym, ap, ◌∙◌, arith}
+use Rattle.std.specs.Prelude.{Result, Ok, Err, OnErr}
+use Rattle.std.proofs.lemmas.List.{get_or-map, map-set}
 use Rattle.std.specs.List.{list_any}
 use Rattle.std.proofs.lemmas.Bool.{or_from, or_parts}
-use Rattle.std.proofs.Math.Seq.{drop-cons}
+use Rattle.std.proofs.Math.Seq.{drop-cons, map-set_same}
 use Rattle.bump_core.specs.declared.items.ItemId.{ItemId}
 use Rattle.bump_core.specs.Totals.{total}
 use Rattle.bump_core.specs.Lives.{one_if, count_of}
@@ -14,6 +16,20 @@ same_read f (x ∷ xs) zero v d same zero = same
 same_read f (x ∷ xs) zero v d same (suc j) = refl
 same_read f (x ∷ xs) (suc i) v d same zero = refl
 same_read f (x ∷ xs) (suc i) v d same (suc j) = same_read f xs i v d same j
+
+-- an element changed behind a reference: the seen list has it changed alike
+pub rewritten : {A B : Type 0} (f : A → B) (h : B → B) (xs : List A) (i : ℕ) (a x : A) (d : B) → i < length xs → a ≡ get_or xs i a → f x ≡ h (f a)
+    → map f (set xs i x) ≡ set (map f xs) i (h (get_or (map f xs) i d))
+rewritten {B = B} f h xs i a x d lt is alike = map-set f xs i x ∙ ap (λ (v : B). set (map f xs) i v) (alike ∙ ap (λ v. h (f v)) is ∙ ap h (sym (get_or-map f xs i a d lt)))
+
+-- an element changed behind a reference, and seen as before, leaves the seen list
+pub unchanged : {A B : Type 0} (f : A → B) (xs : List A) (i : ℕ) (a x : A) → i < length xs → a ≡ get_or xs i a → f x ≡ f a → map f (set xs i x) ≡ map f xs
+unchanged f xs i a x lt is alike = map-set_same f xs i x a (alike ∙ ap f is)
+
+-- what holds anyway holds of an error
+pub on_err : {T E P : Type 0} (r : Result T E) → P → OnErr r P
+on_err (Ok x) p = tt
+on_err (Err e) p = p
 
 -- where no element passes the test, and another one doesn't, none does when that one is written
 pub none_written : {A : Type 0} (test : A → Bool) (xs : List A) (i : ℕ) (a : A) → list_any test xs ≡ false → test a ≡ false → list_any test (slice_set xs i a) ≡ false

@@ -1,2 +1,1 @@
 pub mod LookUps
-pub mod Views

@@ -18,4 +18,5 @@ pub mod State
 pub mod Tables
 pub mod Totals
 pub mod Views
+pub mod Workers
 pub mod Worlds

@@ -1,5 +1,5 @@
 -- Steps, and runs of many.
-use Rattle.std.specs.Prelude.{◌≡◌, ℕ, true, false, List, [], ◌∷◌, take, slice_get, Option, None, Some, Result, Ok, Err, if◌then◌else◌}
+use Rattle.std.specs.Prelude.{◌≡◌, ℕ, Bool, true, false, List, [], ◌∷◌, take, slice_get, Option, None, Some, Result, Ok, Err, OnOk, IfOk, OnErr, if◌then◌else◌}
 use Rattle.bump_core.specs.declared.events.Event.{Event}
 use Rattle.bump_core.specs.declared.events.Reply.{Reply}
 use Rattle.bump_core.specs.declared.events.Refused.{Refused}
@@ -7,12 +7,19 @@ use Rattle.bump_core.specs.declared.events.Refused.TheVariants.{NotEnabled, OutO
 use Rattle.bump_core.specs.State.{State}
 use Rattle.bump_core.specs.Events.{is_enabled, after, reply_of}
 
--- What a step does: where the event is enabled it makes it and answers its reply, else it refuses. Want of memory is the last
--- refusal: only an event that is enabled meets it. A refusal changes nothing.
-abbrev pub Steps : State → Event → State → Result Reply Refused → Type 0
-Steps old e new (Ok reply) = (is_enabled old e ≡ true) × (new ≡ after old e) × (reply ≡ reply_of old e)
-Steps old e new (Err NotEnabled) = (is_enabled old e ≡ false) × (new ≡ old)
-Steps old e new (Err OutOfMemory) = (is_enabled old e ≡ true) × (new ≡ old)
+-- What an answer tells of whether the event is enabled: it is made only where it is, and refused as NotEnabled exactly where it
+-- isn't. Want of memory is the last refusal: only an event that is enabled meets it.
+abbrev pub IsEnabledBy : Bool → Result Reply Refused → Type 0
+IsEnabledBy enabled (Ok reply) = enabled ≡ true
+IsEnabledBy enabled (Err NotEnabled) = enabled ≡ false
+IsEnabledBy enabled (Err OutOfMemory) = enabled ≡ true
+
+-- What a step does: where the event is enabled it makes it and answers its reply, else it refuses. A refusal changes nothing.
+pub record Steps (old : State) (e : Event) (new : State) (result : Result Reply Refused) : Type 0 where
+  pub enabled : IsEnabledBy (is_enabled old e) result
+  pub state : OnOk result (new ≡ after old e)
+  pub reply : IfOk result (λ r. r ≡ reply_of old e)
+  pub unchanged : OnErr result (new ≡ old)
 
 -- the state after all events in order, where each is enabled in its turn
 abbrev pub run_of : State → List Event → Option State

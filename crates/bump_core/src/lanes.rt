@@ -1,5 +1,5 @@
 //! Draining lanes: each takes the bumps of one worker's ring, and applies them in order.
-ghost use Rattle.std.specs.Prelude.{◌≡◌};
+ghost use Rattle.std.specs.Prelude.{◌≡◌, is_some};
 ghost use Rattle.bump_core.specs.State.{applied_life};
 ghost use Rattle.bump_core.specs.Events.{carried, tried, applied_now, cleared_active, is_empty, ending_at};
 
@@ -72,6 +72,13 @@ impl Lane {
             Some(bump) => Some(bump.life),
             None => None,
         }
+    }
+
+    /// Whether a bump is being applied.
+    pub fn is_applying(self) -> bool
+        ensures { result ≡ is_some (applied_life self) }
+    {
+        matches!(self, Lane::Tried(_) | Lane::Cleared(_, _) | Lane::Moved(_))
     }
 
     /// The bump whose item had ACTIVE, and is to be moved.

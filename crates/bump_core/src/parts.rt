@@ -5,7 +5,7 @@ mod readers;
 
 use crate::chunks::Chunk;
 use crate::classes::Class;
-use crate::workers::Worker;
+use crate::workers::Workers;
 
 /// The state of a World.
 #[derive(Drop)]
@@ -14,5 +14,5 @@ pub struct Parts {
     pub capacity: u32,
     pub chunks: Vec<Chunk>,
     pub classes: Vec<Class>,
-    pub workers: Vec<Worker>,
+    pub workers: Workers,
 }

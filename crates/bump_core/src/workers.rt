@@ -1,10 +1,14 @@
-//! What a World keeps of a worker, of its ring and of its lane.
+//! What a World keeps of its workers, of their rings and of their lanes.
 ghost use Rattle.std.specs.Prelude.{◌≤◌, length};
+
+mod changes;
 
 use crate::bumps::{Accounts, AppliedBump};
 use crate::hands::Hand;
 use crate::items::ItemId;
 use crate::lanes::Lane;
+use std::alloc::{AllocError, Global};
+use std::marker::Model;
 
 /// A worker with its ring and its lane.
 #[derive(Drop)]
@@ -28,4 +32,116 @@ pub struct Worker {
     /// The bumps that its lane applied, in order.
     pub applied: Vec<AppliedBump>,
     ghost received_sent: { received ≤ length sent.items },
+}
+
+/// All workers, each by its number. How many of them are under way is kept beside, so that where none is, none need be
+/// looked at.
+#[derive(Drop)]
+pub struct Workers {
+    all: Vec<Worker>,
+
+    // How many workers aren't Idle.
+    busy: u32,
+
+    // How many lanes apply a bump.
+    applying: u32,
+}
+
+impl Model for Workers {
+    ghost use Rattle.std.specs.Prelude.{List};
+    ghost use Rattle.bump_core.specs.declared.workers.Worker.{Worker};
+
+    ghost Value = { List Worker };
+
+    ghost use Rattle.bump_core.specs.Workers.{AreCounted};
+
+    ghost view = { λ a. a.all.items };
+
+    ghost invariant = { λ a. AreCounted a.busy a.applying a.all.items };
+}
+
+impl Worker {
+    ghost use Rattle.std.specs.Prelude.{◌≡◌};
+    ghost use Rattle.bump_core.specs.State.{new_worker};
+    ghost use Rattle.bump_core.specs.Workers.{worker_view};
+
+    /// A worker that has done nothing.
+    fn new(alloc: Global) -> Worker
+        ensures { worker_view result ≡ new_worker }
+    {
+        Worker {
+            hand: Hand::Idle,
+            is_open: true,
+            accounts: Accounts {
+                attempted: 0,
+                accepted: 0,
+                full: 0,
+                busy: 0,
+                refs: 0,
+            },
+            first_hits: Vec::new(alloc),
+            sent: Vec::new(alloc),
+            received: 0,
+            lane: Lane::Empty,
+            applied: Vec::new(alloc),
+        }
+    }
+}
+
+impl Workers {
+    ghost use Rattle.std.specs.Prelude.{◌≡◌, ◌<◌, IfOk, slice_index_or, replicate};
+    ghost use Rattle.bump_core.specs.State.{new_worker};
+    ghost use Rattle.bump_core.specs.Totals.{how_many};
+    ghost use Rattle.bump_core.specs.Workers.{seen, is_busy, is_applying};
+
+    /// So many workers that have done nothing.
+    pub fn new(alloc: Global, count: u32) -> Result<Workers, AllocError>
+        ensures { IfOk result (λ xs. seen xs ≡ replicate count new_worker) }
+    {
+        let mut all = Vec::new(alloc);
+        for _ in 0..count {
+            all.push(Worker::new(alloc))?;
+        }
+        Ok(Workers {
+            all,
+            busy: 0,
+            applying: 0,
+        })
+    }
+
+    /// How many workers there are.
+    pub fn len(&self) -> u32
+        ensures { result ≡ length self.now }
+    {
+        self.all.len() as u32
+    }
+
+    /// All workers.
+    pub fn as_slice(&self) -> &[Worker]
+        ensures { result.now ≡ self.now }
+    {
+        self.all.as_slice()
+    }
+
+    /// A worker.
+    pub fn at(&self, w: u32) -> &Worker
+        requires { w < length self.now }
+        ensures { result.now ≡ slice_index_or self.now w result.now }
+    {
+        &self.all[w as usize]
+    }
+
+    /// How many workers aren't Idle.
+    pub fn busy(&self) -> u32
+        ensures { result ≡ how_many is_busy self.now }
+    {
+        self.busy
+    }
+
+    /// How many lanes apply a bump.
+    pub fn applying(&self) -> u32
+        ensures { result ≡ how_many is_applying self.now }
+    {
+        self.applying
+    }
 }

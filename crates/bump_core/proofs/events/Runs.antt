@@ -34,13 +34,12 @@ run_more s es n d t new within ends enabled made = ap (run_of s) (take_more es n
 
 -- a step that is refused changes nothing
 pub refused_same : (t : State) (e : Event) (new : State) (r : Refused) → Steps t e new (Err r) → new ≡ t
-refused_same t e new NotEnabled refused = refused.1
-refused_same t e new OutOfMemory refused = refused.1
+refused_same t e new r refused = refused.unchanged
 
 -- a run up to its first refusal
 pub run_refused : (old : State) (es : List Event) (n : ℕ) (t new : State) (e : Event) (r : Refused) → run_of old (take n es) ≡ Some t → slice_get es n ≡ Some e → Steps t e new (Err r) → Runs old es new (Err (n, r))
-run_refused old es n t new e NotEnabled ends at refused = (ends ∙ ap (λ x. Some x) (sym refused.1), e, at, ap (λ x. is_enabled x e) refused.1 ∙ refused.0)
-run_refused old es n t new e OutOfMemory ends at refused = (ends ∙ ap (λ x. Some x) (sym refused.1), e, at, ap (λ x. is_enabled x e) refused.1 ∙ refused.0)
+run_refused old es n t new e NotEnabled ends at refused = (ends ∙ ap (λ x. Some x) (sym refused.unchanged), e, at, ap (λ x. is_enabled x e) refused.unchanged ∙ refused.enabled)
+run_refused old es n t new e OutOfMemory ends at refused = (ends ∙ ap (λ x. Some x) (sym refused.unchanged), e, at, ap (λ x. is_enabled x e) refused.unchanged ∙ refused.enabled)
 
 -- a step that is refused behind a run: the state is still the one that the run left
 pub refused_stays : (s : State) (es : List Event) (t : State) (e : Event) (new : State) (r : Refused) → run_of s es ≡ Some t → Steps t e new (Err r) → run_of s es ≡ Some new
@@ -48,7 +47,7 @@ refused_stays s es t e new r ends refused = ends ∙ ap (λ x. Some x) (sym (ref
 
 -- what holds before a step, and after its event where that is enabled, holds after the step
 pub by_step : (P : State → Type 0) (old : State) (e : Event) (new : State) (r : Result Reply Refused) → P old → (is_enabled old e ≡ true → P (after old e)) → Steps old e new r → P new
-by_step P old e new (Ok reply) before behind made = subst P (sym made.1) (behind made.0)
+by_step P old e new (Ok reply) before behind made = subst P (sym made.state) (behind made.enabled)
 by_step P old e new (Err r) before behind refused = subst P (sym (refused_same old e new r refused)) before
 
 -- what each event that is enabled keeps, a run keeps

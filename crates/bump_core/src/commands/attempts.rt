@@ -22,10 +22,8 @@ impl Parts {
         })) }
         ensures err { OnErr result (state_of self.new ≡ state_of self.old) }
     {
-        let worker = &mut self.workers[w as usize];
-        worker.sent.push(life)?;
-        worker.accounts = accounts;
-        Ok(())
+        let hand = self.hand(w);
+        self.workers.queue(w, life, hand, accounts)
     }
 
     /// The worker's attempt ends with a drop, which leaves the item as it was.

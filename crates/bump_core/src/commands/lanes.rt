@@ -4,7 +4,8 @@ ghost use Rattle.bump_core.specs.State.{class, class_of, head, worker, with_work
 ghost use Rattle.bump_core.specs.Tables.{outcome_of};
 ghost use Rattle.bump_core.specs.Events.{applied_bump, next_bump};
 ghost use Rattle.bump_core.specs.Commands.{Commands, bump_next, is_half_made, bumped_chunk, bumped_worker, bumped_lists, apply_bump, entry_of, ended_at, outcome_next};
-ghost use Rattle.bump_core.specs.Views.{state_of, HasRoom};
+ghost use Rattle.bump_core.specs.Views.{state_of};
+ghost use Rattle.bump_core.specs.Workers.{HasRoom};
 ghost use Rattle.bump_core.specs.Worlds.{IsLawful};
 ghost use Rattle.bump_core.specs.declared.commands.Command.TheVariants as command;
 ghost use Rattle.bump_core.specs.declared.lanes.Lane.TheVariants as lane;
@@ -101,16 +102,15 @@ impl Parts {
     fn reserve_applied(&mut self, w: u32) -> Result<(), AllocError>
         requires { w < length (state_of self.old).workers }
         ensures state { state_of self.new ≡ state_of self.old }
-        ensures room { OnOk result (HasRoom self.new w) }
+        ensures room { OnOk result (HasRoom self.new.workers w) }
     {
-        self.workers[w as usize].applied.reserve(1)?;
-        Ok(())
+        self.workers.reserve_applied(w)
     }
 
     /// A lane is done with a bump that it took just now.
     fn finish_taken(&mut self, w: u32, bump: Bump, outcome: Outcome)
         requires worker { w < length (state_of self.old).workers }
-        requires room { HasRoom self.old w }
+        requires room { HasRoom self.old.workers w }
         requires next { next_bump (worker (state_of self.old) w) ≡ Some bump.life }
         ensures { state_of self.new ≡ with_worker (state_of self.old) w (record (worker (state_of self.old) w) {
           received = (worker (state_of self.old) w).received ++ bump.life ∷ [];
@@ -118,38 +118,35 @@ impl Parts {
           applied = (worker (state_of self.old) w).applied ++ applied_bump bump outcome ∷ [];
         }) }
     {
-        let worker = &mut self.workers[w as usize];
-        worker.received += 1;
-        worker.lane = Lane::Empty;
-        worker.applied.push_reserved(AppliedBump {
+        let applied = AppliedBump {
             number: bump.number,
             life: bump.life,
             outcome,
-        });
+        };
+        self.workers.finish_taken(w, applied);
     }
 
     /// A lane is done with the bump aboard.
     fn finish_aboard(&mut self, w: u32, bump: Bump, outcome: Outcome)
         requires worker { w < length (state_of self.old).workers }
-        requires room { HasRoom self.old w }
+        requires room { HasRoom self.old.workers w }
         ensures { state_of self.new ≡ with_worker (state_of self.old) w (record (worker (state_of self.old) w) {
           lane = lane.Empty;
           applied = (worker (state_of self.old) w).applied ++ applied_bump bump outcome ∷ [];
         }) }
     {
-        let worker = &mut self.workers[w as usize];
-        worker.lane = Lane::Empty;
-        worker.applied.push_reserved(AppliedBump {
+        let applied = AppliedBump {
             number: bump.number,
             life: bump.life,
             outcome,
-        });
+        };
+        self.workers.finish_aboard(w, applied);
     }
 
     /// A lane is done with a bump.
     fn finish(&mut self, w: u32, bump: Bump, outcome: Outcome)
         requires worker { w < length (state_of self.old).workers }
-        requires room { HasRoom self.old w }
+        requires room { HasRoom self.old.workers w }
         requires next { bump_next (worker (state_of self.old) w) ≡ Some bump }
         ensures { state_of self.new ≡ with_worker (state_of self.old) w (bumped_worker (worker (state_of self.old) w) bump outcome) }
     {

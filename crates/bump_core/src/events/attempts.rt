@@ -1,7 +1,8 @@
 //! Events of an attempted bump, from its reference to the worker's ring, or to its drop.
-ghost use Rattle.std.specs.Prelude.{◌≡◌, ◌<◌, IsSome, IfSome, length};
+ghost use Rattle.std.specs.Prelude.{◌≡◌, ◌<◌, IsSome, IfSome, length, IfOk, OnOk, OnErr};
 ghost use Rattle.bump_core.specs.State.{worker, tried_life, life_in_hand, cleared_life};
-ghost use Rattle.bump_core.specs.Runs.{Steps};
+ghost use Rattle.bump_core.specs.Events.{is_enabled, after, reply_of};
+ghost use Rattle.bump_core.specs.Runs.{IsEnabledBy};
 ghost use Rattle.bump_core.specs.Views.{state_of};
 ghost use Rattle.bump_core.specs.Worlds.{IsLawful};
 ghost use Rattle.bump_core.specs.declared.events.Event.TheVariants as event;
@@ -55,7 +56,10 @@ impl Parts {
     /// The attempted bump gets its reference.
     pub fn reserve(&mut self, worker: u32) -> Result<Reply, Refused>
         requires { IsLawful (state_of self.old) }
-        ensures { Steps (state_of self.old) (event.Reserve worker) (state_of self.new) result }
+        ensures enabled { IsEnabledBy (is_enabled (state_of self.old) (event.Reserve worker)) result }
+        ensures state { OnOk result (state_of self.new ≡ after (state_of self.old) (event.Reserve worker)) }
+        ensures reply { IfOk result (λ r. r ≡ reply_of (state_of self.old) (event.Reserve worker)) }
+        ensures unchanged { OnErr result (state_of self.new ≡ state_of self.old) }
     {
         let Some(life) = self.tried_by(worker) else {
             return Err(Refused::NotEnabled);
@@ -79,7 +83,10 @@ impl Parts {
     /// The attempted bump is dropped: the count is at its limit.
     pub fn drop_refs(&mut self, worker: u32) -> Result<Reply, Refused>
         requires { IsLawful (state_of self.old) }
-        ensures { Steps (state_of self.old) (event.DropRefs worker) (state_of self.new) result }
+        ensures enabled { IsEnabledBy (is_enabled (state_of self.old) (event.DropRefs worker)) result }
+        ensures state { OnOk result (state_of self.new ≡ after (state_of self.old) (event.DropRefs worker)) }
+        ensures reply { IfOk result (λ r. r ≡ reply_of (state_of self.old) (event.DropRefs worker)) }
+        ensures unchanged { OnErr result (state_of self.new ≡ state_of self.old) }
     {
         let Some(life) = self.tried_by(worker) else {
             return Err(Refused::NotEnabled);
@@ -103,7 +110,10 @@ impl Parts {
     /// The attempted bump is dropped: other threads were faster too often.
     pub fn drop_busy(&mut self, worker: u32) -> Result<Reply, Refused>
         requires { IsLawful (state_of self.old) }
-        ensures { Steps (state_of self.old) (event.DropBusy worker) (state_of self.new) result }
+        ensures enabled { IsEnabledBy (is_enabled (state_of self.old) (event.DropBusy worker)) result }
+        ensures state { OnOk result (state_of self.new ≡ after (state_of self.old) (event.DropBusy worker)) }
+        ensures reply { IfOk result (λ r. r ≡ reply_of (state_of self.old) (event.DropBusy worker)) }
+        ensures unchanged { OnErr result (state_of self.new ≡ state_of self.old) }
     {
         let Some(life) = self.tried_by(worker) else {
             return Err(Refused::NotEnabled);
@@ -124,7 +134,10 @@ impl Parts {
     /// The worker's ring takes the bump.
     pub fn push(&mut self, worker: u32) -> Result<Reply, Refused>
         requires { IsLawful (state_of self.old) }
-        ensures { Steps (state_of self.old) (event.Push worker) (state_of self.new) result }
+        ensures enabled { IsEnabledBy (is_enabled (state_of self.old) (event.Push worker)) result }
+        ensures state { OnOk result (state_of self.new ≡ after (state_of self.old) (event.Push worker)) }
+        ensures reply { IfOk result (λ r. r ≡ reply_of (state_of self.old) (event.Push worker)) }
+        ensures unchanged { OnErr result (state_of self.new ≡ state_of self.old) }
     {
         let Some(life) = self.in_hand_by(worker) else {
             return Err(Refused::NotEnabled);
@@ -140,7 +153,10 @@ impl Parts {
     /// The bump is dropped for want of room in the ring, and its reference is given back.
     pub fn drop_full(&mut self, worker: u32) -> Result<Reply, Refused>
         requires { IsLawful (state_of self.old) }
-        ensures { Steps (state_of self.old) (event.DropFull worker) (state_of self.new) result }
+        ensures enabled { IsEnabledBy (is_enabled (state_of self.old) (event.DropFull worker)) result }
+        ensures state { OnOk result (state_of self.new ≡ after (state_of self.old) (event.DropFull worker)) }
+        ensures reply { IfOk result (λ r. r ≡ reply_of (state_of self.old) (event.DropFull worker)) }
+        ensures unchanged { OnErr result (state_of self.new ≡ state_of self.old) }
     {
         let Some(life) = self.in_hand_by(worker) else {
             return Err(Refused::NotEnabled);
@@ -171,7 +187,10 @@ impl Parts {
     /// After a drop ACTIVE is cleared.
     pub fn unmark(&mut self, worker: u32) -> Result<Reply, Refused>
         requires { IsLawful (state_of self.old) }
-        ensures { Steps (state_of self.old) (event.Unmark worker) (state_of self.new) result }
+        ensures enabled { IsEnabledBy (is_enabled (state_of self.old) (event.Unmark worker)) result }
+        ensures state { OnOk result (state_of self.new ≡ after (state_of self.old) (event.Unmark worker)) }
+        ensures reply { IfOk result (λ r. r ≡ reply_of (state_of self.old) (event.Unmark worker)) }
+        ensures unchanged { OnErr result (state_of self.new ≡ state_of self.old) }
     {
         let Some(life) = self.cleared_by(worker) else {
             return Err(Refused::NotEnabled);

@@ -1,7 +1,7 @@
 //! Events of hits: the marks that a hit leaves, and its time.
-ghost use Rattle.std.specs.Prelude.{◌≡◌};
-ghost use Rattle.bump_core.specs.Events.{may_hit};
-ghost use Rattle.bump_core.specs.Runs.{Steps};
+ghost use Rattle.std.specs.Prelude.{◌≡◌, IfOk, OnOk, OnErr};
+ghost use Rattle.bump_core.specs.Events.{may_hit, is_enabled, after, reply_of};
+ghost use Rattle.bump_core.specs.Runs.{IsEnabledBy};
 ghost use Rattle.bump_core.specs.Views.{state_of};
 ghost use Rattle.bump_core.specs.declared.events.Event.TheVariants as event;
 
@@ -16,7 +16,10 @@ use crate::places::Segment;
 impl Parts {
     /// A hit stores the time.
     pub fn store_time(&mut self, life: ItemId, time: u64) -> Result<Reply, Refused>
-        ensures { Steps (state_of self.old) (event.StoreTime life time) (state_of self.new) result }
+        ensures enabled { IsEnabledBy (is_enabled (state_of self.old) (event.StoreTime life time)) result }
+        ensures state { OnOk result (state_of self.new ≡ after (state_of self.old) (event.StoreTime life time)) }
+        ensures reply { IfOk result (λ r. r ≡ reply_of (state_of self.old) (event.StoreTime life time)) }
+        ensures unchanged { OnErr result (state_of self.new ≡ state_of self.old) }
     {
         if !self.is_held(life) {
             return Err(Refused::NotEnabled);
@@ -35,7 +38,10 @@ impl Parts {
 
     /// A hit sets FETCHED.
     pub fn fetch(&mut self, worker: u32, life: ItemId) -> Result<Reply, Refused>
-        ensures { Steps (state_of self.old) (event.Fetch worker life) (state_of self.new) result }
+        ensures enabled { IsEnabledBy (is_enabled (state_of self.old) (event.Fetch worker life)) result }
+        ensures state { OnOk result (state_of self.new ≡ after (state_of self.old) (event.Fetch worker life)) }
+        ensures reply { IfOk result (λ r. r ≡ reply_of (state_of self.old) (event.Fetch worker life)) }
+        ensures unchanged { OnErr result (state_of self.new ≡ state_of self.old) }
     {
         if !self.may_hit(worker, life) {
             return Err(Refused::NotEnabled);
@@ -56,7 +62,10 @@ impl Parts {
 
     /// A hit sets ACTIVE, and where it was clear in COLD, a bump is attempted.
     pub fn mark(&mut self, worker: u32, life: ItemId) -> Result<Reply, Refused>
-        ensures { Steps (state_of self.old) (event.Mark worker life) (state_of self.new) result }
+        ensures enabled { IsEnabledBy (is_enabled (state_of self.old) (event.Mark worker life)) result }
+        ensures state { OnOk result (state_of self.new ≡ after (state_of self.old) (event.Mark worker life)) }
+        ensures reply { IfOk result (λ r. r ≡ reply_of (state_of self.old) (event.Mark worker life)) }
+        ensures unchanged { OnErr result (state_of self.new ≡ state_of self.old) }
     {
         if !self.may_hit(worker, life) {
             return Err(Refused::NotEnabled);

@@ -1,6 +1,7 @@
 //! Events of holds: loads, and holds that are taken and given back.
-ghost use Rattle.std.specs.Prelude.{◌≡◌};
-ghost use Rattle.bump_core.specs.Runs.{Steps};
+ghost use Rattle.std.specs.Prelude.{◌≡◌, IfOk, OnOk, OnErr};
+ghost use Rattle.bump_core.specs.Events.{is_enabled, after, reply_of};
+ghost use Rattle.bump_core.specs.Runs.{IsEnabledBy};
 ghost use Rattle.bump_core.specs.Views.{state_of};
 ghost use Rattle.bump_core.specs.Worlds.{IsLawful};
 ghost use Rattle.bump_core.specs.declared.events.Event.TheVariants as event;
@@ -13,7 +14,8 @@ use crate::parts::Parts;
 impl Parts {
     /// A load of the head.
     pub fn load(&self, chunk: u32) -> Result<Reply, Refused>
-        ensures { Steps (state_of self.now) (event.Load chunk) (state_of self.now) result }
+        ensures enabled { IsEnabledBy (is_enabled (state_of self.now) (event.Load chunk)) result }
+        ensures reply { IfOk result (λ r. r ≡ reply_of (state_of self.now) (event.Load chunk)) }
     {
         if !self.has_chunk(chunk) {
             return Err(Refused::NotEnabled);
@@ -24,7 +26,10 @@ impl Parts {
     /// A reader's hold is taken.
     pub fn take(&mut self, worker: u32, life: ItemId) -> Result<Reply, Refused>
         requires { IsLawful (state_of self.old) }
-        ensures { Steps (state_of self.old) (event.Take worker life) (state_of self.new) result }
+        ensures enabled { IsEnabledBy (is_enabled (state_of self.old) (event.Take worker life)) result }
+        ensures state { OnOk result (state_of self.new ≡ after (state_of self.old) (event.Take worker life)) }
+        ensures reply { IfOk result (λ r. r ≡ reply_of (state_of self.old) (event.Take worker life)) }
+        ensures unchanged { OnErr result (state_of self.new ≡ state_of self.old) }
     {
         if !self.is_open(worker) || !self.is_linked(life) {
             return Err(Refused::NotEnabled);
@@ -50,7 +55,10 @@ impl Parts {
     /// A hold is given back.
     pub fn release(&mut self, life: ItemId) -> Result<Reply, Refused>
         requires { IsLawful (state_of self.old) }
-        ensures { Steps (state_of self.old) (event.Release life) (state_of self.new) result }
+        ensures enabled { IsEnabledBy (is_enabled (state_of self.old) (event.Release life)) result }
+        ensures state { OnOk result (state_of self.new ≡ after (state_of self.old) (event.Release life)) }
+        ensures reply { IfOk result (λ r. r ≡ reply_of (state_of self.old) (event.Release life)) }
+        ensures unchanged { OnErr result (state_of self.new ≡ state_of self.old) }
     {
         if !self.has_free_hold(life) {
             return Err(Refused::NotEnabled);

@@ -1,9 +1,9 @@
 //! Events of a lane: the bumps of its worker's ring are taken and applied, in order.
-ghost use Rattle.std.specs.Prelude.{◌≡◌, ◌<◌, IsSome, IfSome, length, true};
+ghost use Rattle.std.specs.Prelude.{◌≡◌, ◌<◌, IsSome, IfSome, length, true, IfOk, OnOk, OnErr};
 ghost use Rattle.bump_core.specs.State.{worker, head};
-ghost use Rattle.bump_core.specs.Events.{carried, tried, applied_now, cleared_active};
+ghost use Rattle.bump_core.specs.Events.{carried, tried, applied_now, cleared_active, is_enabled, after, reply_of};
 ghost use Rattle.bump_core.specs.declared.places.Segment.TheVariants.{Cold};
-ghost use Rattle.bump_core.specs.Runs.{Steps};
+ghost use Rattle.bump_core.specs.Runs.{IsEnabledBy};
 ghost use Rattle.bump_core.specs.Views.{state_of};
 ghost use Rattle.bump_core.specs.Worlds.{IsLawful};
 ghost use Rattle.bump_core.specs.declared.events.Event.TheVariants as event;
@@ -73,7 +73,10 @@ impl Parts {
 
     /// A lane takes the next bump from its worker's ring.
     pub fn take_bump(&mut self, worker: u32) -> Result<Reply, Refused>
-        ensures { Steps (state_of self.old) (event.TakeBump worker) (state_of self.new) result }
+        ensures enabled { IsEnabledBy (is_enabled (state_of self.old) (event.TakeBump worker)) result }
+        ensures state { OnOk result (state_of self.new ≡ after (state_of self.old) (event.TakeBump worker)) }
+        ensures reply { IfOk result (λ r. r ≡ reply_of (state_of self.old) (event.TakeBump worker)) }
+        ensures unchanged { OnErr result (state_of self.new ≡ state_of self.old) }
     {
         if !self.has_worker(worker) || !self.lane(worker).is_empty() {
             return Err(Refused::NotEnabled);
@@ -87,7 +90,10 @@ impl Parts {
     /// The lane looks at the head of its bump's item.
     pub fn try_bump(&mut self, worker: u32) -> Result<Reply, Refused>
         requires { IsLawful (state_of self.old) }
-        ensures { Steps (state_of self.old) (event.Try worker) (state_of self.new) result }
+        ensures enabled { IsEnabledBy (is_enabled (state_of self.old) (event.Try worker)) result }
+        ensures state { OnOk result (state_of self.new ≡ after (state_of self.old) (event.Try worker)) }
+        ensures reply { IfOk result (λ r. r ≡ reply_of (state_of self.old) (event.Try worker)) }
+        ensures unchanged { OnErr result (state_of self.new ≡ state_of self.old) }
     {
         let Some(bump) = self.carried_by(worker) else {
             return Err(Refused::NotEnabled);
@@ -103,7 +109,10 @@ impl Parts {
     /// The lane stores the time.
     pub fn bump_time(&mut self, worker: u32, time: u64) -> Result<Reply, Refused>
         requires { IsLawful (state_of self.old) }
-        ensures { Steps (state_of self.old) (event.BumpTime worker time) (state_of self.new) result }
+        ensures enabled { IsEnabledBy (is_enabled (state_of self.old) (event.BumpTime worker time)) result }
+        ensures state { OnOk result (state_of self.new ≡ after (state_of self.old) (event.BumpTime worker time)) }
+        ensures reply { IfOk result (λ r. r ≡ reply_of (state_of self.old) (event.BumpTime worker time)) }
+        ensures unchanged { OnErr result (state_of self.new ≡ state_of self.old) }
     {
         let Some(bump) = self.applied_by(worker) else {
             return Err(Refused::NotEnabled);
@@ -119,7 +128,10 @@ impl Parts {
     /// The lane clears ACTIVE.
     pub fn clear_for(&mut self, worker: u32) -> Result<Reply, Refused>
         requires { IsLawful (state_of self.old) }
-        ensures { Steps (state_of self.old) (event.ClearFor worker) (state_of self.new) result }
+        ensures enabled { IsEnabledBy (is_enabled (state_of self.old) (event.ClearFor worker)) result }
+        ensures state { OnOk result (state_of self.new ≡ after (state_of self.old) (event.ClearFor worker)) }
+        ensures reply { IfOk result (λ r. r ≡ reply_of (state_of self.old) (event.ClearFor worker)) }
+        ensures unchanged { OnErr result (state_of self.new ≡ state_of self.old) }
     {
         let Some(bump) = self.looked_at_by(worker) else {
             return Err(Refused::NotEnabled);
@@ -142,7 +154,10 @@ impl Parts {
     /// The lane moves the item to the front of WARM.
     pub fn move_for(&mut self, worker: u32) -> Result<Reply, Refused>
         requires { IsLawful (state_of self.old) }
-        ensures { Steps (state_of self.old) (event.MoveFor worker) (state_of self.new) result }
+        ensures enabled { IsEnabledBy (is_enabled (state_of self.old) (event.MoveFor worker)) result }
+        ensures state { OnOk result (state_of self.new ≡ after (state_of self.old) (event.MoveFor worker)) }
+        ensures reply { IfOk result (λ r. r ≡ reply_of (state_of self.old) (event.MoveFor worker)) }
+        ensures unchanged { OnErr result (state_of self.new ≡ state_of self.old) }
     {
         let Some(bump) = self.moving_by(worker) else {
             return Err(Refused::NotEnabled);
@@ -172,7 +187,10 @@ impl Parts {
     /// The lane gives the bump's reference back.
     pub fn alight(&mut self, worker: u32) -> Result<Reply, Refused>
         requires { IsLawful (state_of self.old) }
-        ensures { Steps (state_of self.old) (event.Alight worker) (state_of self.new) result }
+        ensures enabled { IsEnabledBy (is_enabled (state_of self.old) (event.Alight worker)) result }
+        ensures state { OnOk result (state_of self.new ≡ after (state_of self.old) (event.Alight worker)) }
+        ensures reply { IfOk result (λ r. r ≡ reply_of (state_of self.old) (event.Alight worker)) }
+        ensures unchanged { OnErr result (state_of self.new ≡ state_of self.old) }
     {
         let Some(bump) = self.applied_by(worker) else {
             return Err(Refused::NotEnabled);

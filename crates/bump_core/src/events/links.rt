@@ -1,7 +1,7 @@
 //! Events of links: the next item of a class gets its label and its time, and begins its life.
-ghost use Rattle.std.specs.Prelude.{◌≡◌};
-ghost use Rattle.bump_core.specs.Events.{is_class_at_rest};
-ghost use Rattle.bump_core.specs.Runs.{Steps};
+ghost use Rattle.std.specs.Prelude.{◌≡◌, IfOk, OnOk, OnErr};
+ghost use Rattle.bump_core.specs.Events.{is_class_at_rest, is_enabled, after, reply_of};
+ghost use Rattle.bump_core.specs.Runs.{IsEnabledBy};
 ghost use Rattle.bump_core.specs.Views.{state_of};
 ghost use Rattle.bump_core.specs.Worlds.{IsLawful};
 ghost use Rattle.bump_core.specs.declared.events.Event.TheVariants as event;
@@ -23,7 +23,10 @@ impl Parts {
     /// The label of the next item of a class is stored.
     pub fn put_label(&mut self, k: u32, label: u64) -> Result<Reply, Refused>
         requires { IsLawful (state_of self.old) }
-        ensures { Steps (state_of self.old) (event.PutLabel k label) (state_of self.new) result }
+        ensures enabled { IsEnabledBy (is_enabled (state_of self.old) (event.PutLabel k label)) result }
+        ensures state { OnOk result (state_of self.new ≡ after (state_of self.old) (event.PutLabel k label)) }
+        ensures reply { IfOk result (λ r. r ≡ reply_of (state_of self.old) (event.PutLabel k label)) }
+        ensures unchanged { OnErr result (state_of self.new ≡ state_of self.old) }
     {
         if !self.is_class_at_rest(k) {
             return Err(Refused::NotEnabled);
@@ -39,7 +42,10 @@ impl Parts {
     /// The time of the next item of a class is stored.
     pub fn put_time(&mut self, k: u32, time: u64) -> Result<Reply, Refused>
         requires { IsLawful (state_of self.old) }
-        ensures { Steps (state_of self.old) (event.PutTime k time) (state_of self.new) result }
+        ensures enabled { IsEnabledBy (is_enabled (state_of self.old) (event.PutTime k time)) result }
+        ensures state { OnOk result (state_of self.new ≡ after (state_of self.old) (event.PutTime k time)) }
+        ensures reply { IfOk result (λ r. r ≡ reply_of (state_of self.old) (event.PutTime k time)) }
+        ensures unchanged { OnErr result (state_of self.new ≡ state_of self.old) }
     {
         if !self.is_class_at_rest(k) {
             return Err(Refused::NotEnabled);
@@ -55,7 +61,10 @@ impl Parts {
     /// The next item of a class begins its life, at the front of HOT.
     pub fn link(&mut self, k: u32) -> Result<Reply, Refused>
         requires { IsLawful (state_of self.old) }
-        ensures { Steps (state_of self.old) (event.Link k) (state_of self.new) result }
+        ensures enabled { IsEnabledBy (is_enabled (state_of self.old) (event.Link k)) result }
+        ensures state { OnOk result (state_of self.new ≡ after (state_of self.old) (event.Link k)) }
+        ensures reply { IfOk result (λ r. r ≡ reply_of (state_of self.old) (event.Link k)) }
+        ensures unchanged { OnErr result (state_of self.new ≡ state_of self.old) }
     {
         if !self.is_class_at_rest(k) {
             return Err(Refused::NotEnabled);

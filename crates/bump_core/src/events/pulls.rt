@@ -1,7 +1,7 @@
 //! Events of pulls: ACTIVE is cleared, and items move to the front of a segment.
-ghost use Rattle.std.specs.Prelude.{◌≡◌};
-ghost use Rattle.bump_core.specs.Events.{may_move};
-ghost use Rattle.bump_core.specs.Runs.{Steps};
+ghost use Rattle.std.specs.Prelude.{◌≡◌, IfOk, OnOk, OnErr};
+ghost use Rattle.bump_core.specs.Events.{may_move, is_enabled, after, reply_of};
+ghost use Rattle.bump_core.specs.Runs.{IsEnabledBy};
 ghost use Rattle.bump_core.specs.Views.{state_of};
 ghost use Rattle.bump_core.specs.Worlds.{IsLawful};
 ghost use Rattle.bump_core.specs.declared.events.Event.TheVariants as event;
@@ -28,7 +28,10 @@ impl Segment {
 impl Parts {
     /// A pull clears ACTIVE.
     pub fn clear_active(&mut self, chunk: u32) -> Result<Reply, Refused>
-        ensures { Steps (state_of self.old) (event.ClearActive chunk) (state_of self.new) result }
+        ensures enabled { IsEnabledBy (is_enabled (state_of self.old) (event.ClearActive chunk)) result }
+        ensures state { OnOk result (state_of self.new ≡ after (state_of self.old) (event.ClearActive chunk)) }
+        ensures reply { IfOk result (λ r. r ≡ reply_of (state_of self.old) (event.ClearActive chunk)) }
+        ensures unchanged { OnErr result (state_of self.new ≡ state_of self.old) }
     {
         if !self.has_chunk(chunk) {
             return Err(Refused::NotEnabled);
@@ -50,7 +53,10 @@ impl Parts {
     /// A pull moves an item to the front of a segment.
     pub fn move_chunk(&mut self, chunk: u32, to: Segment) -> Result<Reply, Refused>
         requires { IsLawful (state_of self.old) }
-        ensures { Steps (state_of self.old) (event.Move chunk to) (state_of self.new) result }
+        ensures enabled { IsEnabledBy (is_enabled (state_of self.old) (event.Move chunk to)) result }
+        ensures state { OnOk result (state_of self.new ≡ after (state_of self.old) (event.Move chunk to)) }
+        ensures reply { IfOk result (λ r. r ≡ reply_of (state_of self.old) (event.Move chunk to)) }
+        ensures unchanged { OnErr result (state_of self.new ≡ state_of self.old) }
     {
         if !self.has_chunk(chunk) {
             return Err(Refused::NotEnabled);

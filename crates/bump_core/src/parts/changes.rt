@@ -8,7 +8,7 @@ ghost use Rattle.bump_core.specs.Views.{state_of};
 ghost use Rattle.bump_core.specs.declared.hands.Hand.TheVariants as hand;
 ghost use Rattle.bump_core.specs.declared.lanes.Lane.TheVariants as lane;
 
-use crate::bumps::{Accounts, AppliedBump, Bump};
+use crate::bumps::{Accounts, AppliedBump};
 use crate::chunks::Chunk;
 use crate::hands::Hand;
 use crate::history::Change;
@@ -40,9 +40,7 @@ impl Parts {
         requires { w < length (state_of self.old).workers }
         ensures { state_of self.new ≡ with_worker (state_of self.old) w (record (worker (state_of self.old) w) { hand = hand; accounts = accounts }) }
     {
-        let worker = &mut self.workers[w as usize];
-        worker.hand = hand;
-        worker.accounts = accounts;
+        self.workers.set_hand(w, hand, accounts);
     }
 
     /// A worker's ring closes.
@@ -58,7 +56,7 @@ impl Parts {
         requires { w < length (state_of self.old).workers }
         ensures { state_of self.new ≡ with_lane (state_of self.old) w lane }
     {
-        self.workers[w as usize].lane = lane;
+        self.workers.set_lane(w, lane);
     }
 
     /// Names an item among those that a worker was the first to hit.
@@ -67,8 +65,7 @@ impl Parts {
         ensures ok { OnOk result (state_of self.new ≡ with_worker (state_of self.old) w (record (worker (state_of self.old) w) { first_hits = (worker (state_of self.old) w).first_hits ++ life ∷ [] })) }
         ensures err { OnErr result (state_of self.new ≡ state_of self.old) }
     {
-        self.workers[w as usize].first_hits.push(life)?;
-        Ok(())
+        self.workers.push_first_hit(w, life)
     }
 
     /// A worker's ring takes a bump.
@@ -78,11 +75,16 @@ impl Parts {
         ensures ok { OnOk result (state_of self.new ≡ push (state_of self.old) w life) }
         ensures err { OnErr result (state_of self.new ≡ state_of self.old) }
     {
-        let worker = &mut self.workers[w as usize];
-        worker.sent.push(life)?;
-        worker.accounts.accepted += 1;
-        worker.hand = Hand::Idle;
-        Ok(())
+        let accounts = self.accounts(w);
+        self.workers.queue(
+            w,
+            life,
+            Hand::Idle,
+            Accounts {
+                accepted: accounts.accepted + 1,
+                ..accounts
+            },
+        )
     }
 
     /// A lane takes the next bump from its ring, where one waits. Answers its number.
@@ -92,11 +94,7 @@ impl Parts {
         ensures after { state_of self.new ≡ take_bump (state_of self.old) w life }
         ensures number { result ≡ length (worker (state_of self.old) w).received }
     {
-        let worker = &mut self.workers[w as usize];
-        let number = worker.received as u64;
-        worker.received += 1;
-        worker.lane = Lane::Carrying(Bump { number, life });
-        number
+        self.workers.take_next(w, life)
     }
 
     /// A lane is done with its bump.
@@ -108,10 +106,7 @@ impl Parts {
         })) }
         ensures err { OnErr result (state_of self.new ≡ state_of self.old) }
     {
-        let worker = &mut self.workers[w as usize];
-        worker.applied.push(applied)?;
-        worker.lane = Lane::Empty;
-        Ok(())
+        self.workers.push_applied(w, applied)
     }
 
     /// An entry joins the history of a class, and its chunk, one of the class, comes to the front of its list.

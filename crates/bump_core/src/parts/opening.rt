@@ -1,21 +1,17 @@
 //! The parts of a new World.
-ghost use Rattle.std.specs.Prelude.{◌≡◌, ℕ, ◌+◌, ◌-◌, ◌≤◌, ◌<◌, ◌^◌, IfOk, map, replicate};
+ghost use Rattle.std.specs.Prelude.{◌≡◌, ℕ, ◌+◌, ◌-◌, ◌≤◌, ◌<◌, ◌^◌, IfOk, map};
 ghost use Rattle.bump_core.specs.Configs.{chunks_of, HaveChunks};
 ghost use Rattle.bump_core.specs.Opening.{fresh_chunk, new_class, classes_from, new_state};
-ghost use Rattle.bump_core.specs.State.{new_worker};
-ghost use Rattle.bump_core.specs.Views.{class_view, worker_view, state_of};
+ghost use Rattle.bump_core.specs.Views.{class_view, state_of};
 
-use crate::bumps::Accounts;
 use crate::chunks::Chunk;
 use crate::class_lists::ClassLists;
 use crate::classes::Class;
 use crate::configs::{ClassConfig, Config, MAX_CHUNKS};
-use crate::hands::Hand;
 use crate::items::Head;
-use crate::lanes::Lane;
 use crate::parts::Parts;
 use crate::places::Segment;
-use crate::workers::Worker;
+use crate::workers::Workers;
 use std::alloc::{AllocError, Global};
 
 /// A class whose chunks, from `first` on, are all UNUSED, and fresh with this generation.
@@ -54,39 +50,6 @@ fn new_classes(alloc: Global, fresh: u32, configs: &[ClassConfig]) -> Result<Vec
         classes.push(class)?;
     }
     Ok(classes)
-}
-
-/// A worker that has done nothing.
-fn new_worker(alloc: Global) -> Worker
-    ensures { worker_view result ≡ new_worker }
-{
-    Worker {
-        hand: Hand::Idle,
-        is_open: true,
-        accounts: Accounts {
-            attempted: 0,
-            accepted: 0,
-            full: 0,
-            busy: 0,
-            refs: 0,
-        },
-        first_hits: Vec::new(alloc),
-        sent: Vec::new(alloc),
-        received: 0,
-        lane: Lane::Empty,
-        applied: Vec::new(alloc),
-    }
-}
-
-/// So many workers that have done nothing.
-fn new_workers(alloc: Global, count: u32) -> Result<Vec<Worker>, AllocError>
-    ensures { IfOk result (λ ws. map worker_view ws.items ≡ replicate count new_worker) }
-{
-    let mut workers = Vec::new(alloc);
-    for _ in 0..count {
-        workers.push(new_worker(alloc))?;
-    }
-    Ok(workers)
 }
 
 /// How many chunks the classes have together.
@@ -136,7 +99,7 @@ impl Parts {
             capacity: config.capacity,
             chunks: vec![in alloc; chunk; count_chunks(classes) as usize]?,
             classes: new_classes(alloc, fresh, classes)?,
-            workers: new_workers(alloc, config.workers)?,
+            workers: Workers::new(alloc, config.workers)?,
         })
     }
 }

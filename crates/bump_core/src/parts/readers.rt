@@ -36,7 +36,7 @@ impl Parts {
     pub fn has_worker(&self, w: u32) -> bool
         ensures { result ≡ is_worker (state_of self.now) w }
     {
-        (w as usize) < self.workers.len()
+        w < self.workers.len()
     }
 
     /// A chunk.
@@ -60,7 +60,7 @@ impl Parts {
         requires { w < length (state_of self.now).workers }
         ensures { result ≡ (worker (state_of self.now) w).hand }
     {
-        self.workers[w as usize].hand
+        self.workers.at(w).hand
     }
 
     /// Whether a life is its chunk's.
@@ -88,15 +88,19 @@ impl Parts {
     pub fn is_open(&self, w: u32) -> bool
         ensures { result ≡ is_open (state_of self.now) w }
     {
-        self.has_worker(w) && self.workers[w as usize].is_open
+        self.has_worker(w) && self.workers.at(w).is_open
     }
 
     /// How many workers that aren't idle are on a life.
     pub fn workers_on(&self, life: ItemId) -> usize
         ensures { result ≡ workers_on (state_of self.now) life }
     {
+        // mostly none, and then there is no need to look at each
+        if self.workers.busy() == 0 {
+            return 0;
+        }
         let mut count = 0;
-        for worker in &self.workers {
+        for worker in self.workers.as_slice() {
             if worker.hand.is_on(life) {
                 count += 1;
             }
@@ -127,7 +131,11 @@ impl Parts {
     pub fn is_under_application(&self, k: usize) -> bool
         ensures { result ≡ is_under_application (state_of self.now) k }
     {
-        for worker in &self.workers {
+        // mostly none does, and then there is no need to look at each
+        if self.workers.applying() == 0 {
+            return false;
+        }
+        for worker in self.workers.as_slice() {
             if let Some(life) = worker.lane.applied_life() {
                 if self.class_of(life.chunk) == k {
                     return true;
@@ -142,7 +150,7 @@ impl Parts {
         requires { w < length (state_of self.now).workers }
         ensures { result ≡ (worker (state_of self.now) w).accounts }
     {
-        self.workers[w as usize].accounts
+        self.workers.at(w).accounts
     }
 
     /// How far a lane is.
@@ -150,7 +158,7 @@ impl Parts {
         requires { w < length (state_of self.now).workers }
         ensures { result ≡ (worker (state_of self.now) w).lane }
     {
-        self.workers[w as usize].lane
+        self.workers.at(w).lane
     }
 
     /// How many bumps a worker's ring accepted.
@@ -158,7 +166,7 @@ impl Parts {
         requires { w < length (state_of self.now).workers }
         ensures { result ≡ length (worker (state_of self.now) w).sent }
     {
-        self.workers[w as usize].sent.len()
+        self.workers.at(w).sent.len()
     }
 
     /// The front of a class's UNUSED.
@@ -185,7 +193,7 @@ impl Parts {
         requires { w < length (state_of self.now).workers }
         ensures { result ≡ waiting (worker (state_of self.now) w) }
     {
-        let worker = &self.workers[w as usize];
+        let worker = self.workers.at(w);
         worker.sent.len() - worker.received
     }
 
@@ -194,7 +202,7 @@ impl Parts {
         requires { w < length (state_of self.now).workers }
         ensures { result ≡ next_bump (worker (state_of self.now) w) }
     {
-        let worker = &self.workers[w as usize];
+        let worker = self.workers.at(w);
         worker.sent.get(worker.received).copied()
     }
 
@@ -244,7 +252,7 @@ impl Parts {
         requires { w < length (state_of self.now).workers }
         ensures { result.now ≡ (worker (state_of self.now) w).sent }
     {
-        self.workers[w as usize].sent.as_slice()
+        self.workers.at(w).sent.as_slice()
     }
 
     /// The bumps that a worker's lane took.
@@ -252,7 +260,7 @@ impl Parts {
         requires { w < length (state_of self.now).workers }
         ensures { result.now ≡ (worker (state_of self.now) w).received }
     {
-        let worker = &self.workers[w as usize];
+        let worker = self.workers.at(w);
         let sent = worker.sent.as_slice();
         &sent[..worker.received]
     }
@@ -262,7 +270,7 @@ impl Parts {
         requires { w < length (state_of self.now).workers }
         ensures { result.now ≡ (worker (state_of self.now) w).applied }
     {
-        self.workers[w as usize].applied.as_slice()
+        self.workers.at(w).applied.as_slice()
     }
 
     /// How many bumps a worker's lane took.

@@ -32,7 +32,7 @@ impl World {
     pub fn workers(&self) -> u32
         ensures { result ≡ length self.now.workers }
     {
-        self.parts.workers.len() as u32
+        self.parts.workers.len()
     }
 
     /// The promise, for whoever holds a World: it is lawful at every moment. Does nothing.
