@@ -1,7 +1,7 @@
 //! Events of ends: an item is unlinked, and its chunk is free when it is found without holders.
-ghost use Rattle.std.specs.Prelude.{◌≡◌, ◌<◌, length};
-ghost use Rattle.bump_core.specs.Events.{is_dying};
-ghost use Rattle.bump_core.specs.Runs.{Steps};
+ghost use Rattle.std.specs.Prelude.{◌≡◌, ◌<◌, IfOk, OnOk, OnErr, length};
+ghost use Rattle.bump_core.specs.Events.{is_dying, is_enabled, after, reply_of};
+ghost use Rattle.bump_core.specs.Runs.{IsEnabledBy};
 ghost use Rattle.bump_core.specs.Views.{state_of};
 ghost use Rattle.bump_core.specs.Worlds.{IsLawful};
 ghost use Rattle.bump_core.specs.declared.events.Event.TheVariants as event;
@@ -26,7 +26,10 @@ impl Parts {
     /// An item's life ends, and its chunk goes to DYING.
     pub fn unlink(&mut self, life: ItemId) -> Result<Reply, Refused>
         requires { IsLawful (state_of self.old) }
-        ensures { Steps (state_of self.old) (event.Unlink life) (state_of self.new) result }
+        ensures enabled { IsEnabledBy (is_enabled (state_of self.old) (event.Unlink life)) result }
+        ensures state { OnOk result (state_of self.new ≡ after (state_of self.old) (event.Unlink life)) }
+        ensures reply { IfOk result (λ r. r ≡ reply_of (state_of self.old) (event.Unlink life)) }
+        ensures unchanged { OnErr result (state_of self.new ≡ state_of self.old) }
     {
         if !self.is_linked(life) {
             return Err(Refused::NotEnabled);
@@ -44,7 +47,10 @@ impl Parts {
     /// A chunk of DYING without holders is free.
     pub fn sweep(&mut self, chunk: u32) -> Result<Reply, Refused>
         requires { IsLawful (state_of self.old) }
-        ensures { Steps (state_of self.old) (event.Sweep chunk) (state_of self.new) result }
+        ensures enabled { IsEnabledBy (is_enabled (state_of self.old) (event.Sweep chunk)) result }
+        ensures state { OnOk result (state_of self.new ≡ after (state_of self.old) (event.Sweep chunk)) }
+        ensures reply { IfOk result (λ r. r ≡ reply_of (state_of self.old) (event.Sweep chunk)) }
+        ensures unchanged { OnErr result (state_of self.new ≡ state_of self.old) }
     {
         if !self.has_chunk(chunk) || !self.is_dying(chunk) {
             return Err(Refused::NotEnabled);

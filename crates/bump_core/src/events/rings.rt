@@ -1,5 +1,7 @@
 //! The event of a ring that closes.
-ghost use Rattle.bump_core.specs.Runs.{Steps};
+ghost use Rattle.std.specs.Prelude.{◌≡◌, IfOk, OnOk, OnErr};
+ghost use Rattle.bump_core.specs.Events.{is_enabled, after, reply_of};
+ghost use Rattle.bump_core.specs.Runs.{IsEnabledBy};
 ghost use Rattle.bump_core.specs.Views.{state_of};
 ghost use Rattle.bump_core.specs.declared.events.Event.TheVariants as event;
 
@@ -9,7 +11,10 @@ use crate::parts::Parts;
 impl Parts {
     /// A worker's ring closes.
     pub fn close(&mut self, worker: u32) -> Result<Reply, Refused>
-        ensures { Steps (state_of self.old) (event.Close worker) (state_of self.new) result }
+        ensures enabled { IsEnabledBy (is_enabled (state_of self.old) (event.Close worker)) result }
+        ensures state { OnOk result (state_of self.new ≡ after (state_of self.old) (event.Close worker)) }
+        ensures reply { IfOk result (λ r. r ≡ reply_of (state_of self.old) (event.Close worker)) }
+        ensures unchanged { OnErr result (state_of self.new ≡ state_of self.old) }
     {
         if !self.is_open(worker) || !self.hand(worker).is_idle() {
             return Err(Refused::NotEnabled);

@@ -48,7 +48,7 @@ impl Parts {
         requires { w < length (state_of self.old).workers }
         ensures { state_of self.new ≡ close (state_of self.old) w }
     {
-        self.workers[w as usize].is_open = false;
+        self.workers.close(w);
     }
 
     /// Writes how far a lane is.

@@ -1,5 +1,5 @@
 //! How workers are changed. What changes a hand or a lane counts anew.
-ghost use Rattle.std.specs.Prelude.{◌≡◌, ◌<◌, ◌+◌, ◌≤◌, ◌^◌, [], ◌∷◌, ◌++◌, OnOk, OnErr, Some, length, slice_set};
+ghost use Rattle.std.specs.Prelude.{◌≡◌, ◌<◌, ◌+◌, ◌≤◌, ◌^◌, [], ◌∷◌, ◌++◌, OnOk, OnErr, Some, false, length, slice_set};
 ghost use Rattle.bump_core.specs.Events.{bump_of, next_bump};
 ghost use Rattle.bump_core.specs.Lawful.{bit};
 ghost use Rattle.bump_core.specs.Workers.{seen, seen_at, HasRoom};
@@ -32,6 +32,15 @@ impl Workers {
         worker.hand = hand;
         worker.accounts = accounts;
         self.busy = recounted(self.busy, !was.is_idle(), !hand.is_idle());
+    }
+
+    /// A worker's ring closes.
+    pub fn close(&mut self, w: u32)
+        requires { w < length self.old }
+        ensures { seen self.new ≡ slice_set (seen self.old) w (record (seen_at self.old w) { is_open = false }) }
+    {
+        let worker = &mut self.all[w as usize];
+        worker.is_open = false;
     }
 
     /// Writes how far a lane is.
