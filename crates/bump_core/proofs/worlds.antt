@@ -8,3 +8,5 @@ pub mod NothingUnlinked
 pub mod Opening
 pub mod Sizes
 pub mod StaysLawful
+pub mod TrueEntries
+pub mod Unlinked
