@@ -7,3 +7,5 @@ pub mod LawfulStates
 pub mod Opening
 pub mod Sizes
 pub mod StaysLawful
+pub mod TrueEntries
+pub mod Unlinked

@@ -1,13 +1,18 @@
--- What a World promises of its rings, its accounts, its free chunks and its lists, in the words of the headline.
-use Rattle.std.specs.Prelude.{◌≡◌, ℕ, ◌+◌, ◌<◌, true, false, ◌&&◌, ◌++◌, length, map}
+-- What a World promises of its rings, its accounts, its free chunks, its lists and its lanes' entries, in the words of the headline.
+use Rattle.std.specs.Prelude.{◌≡◌, ℕ, ◌+◌, ◌<◌, ◌≤◌, Bool, true, false, ◌&&◌, ◌++◌, length, map}
+use Rattle.std.specs.List.{Contains}
 use Rattle.bump_core.specs.declared.places.Place.{Place}
+use Rattle.bump_core.specs.declared.items.ItemId.{ItemId}
+use Rattle.bump_core.specs.declared.bumps.AppliedBump.{AppliedBump}
+use Rattle.bump_core.specs.Totals.{total, how_many}
+use Rattle.bump_core.specs.Entries.{is_stray, is_move_for, IsTrueEntry}
 use Rattle.bump_core.specs.History.{is_place}
 use Rattle.bump_core.specs.Lawful.{bit, Shows}
 use Rattle.bump_links.specs.Lists.{times}
 use Rattle.bump_core.specs.Lists.{Lists, list_at}
 use Rattle.bump_core.specs.Rings.{in_ring, aboard, bump_applied, numbered_from, IsRing, IsAccounts}
 use Rattle.bump_core.specs.State.{State, WorkerState, head, class, class_of, worker}
-use Rattle.bump_core.specs.Worlds.{references, owns, stands_in}
+use Rattle.bump_core.specs.Worlds.{references, owns, stands_in, CountsMoves}
 
 -- What a lane applied, then the bump aboard, and then the bumps in the ring are what the ring accepted, numbered from 0: so every
 -- bump is applied once at most, and in that worker's order, and what is not applied yet is still on its way.
@@ -17,6 +22,10 @@ AppliesInOrder x = map bump_applied x.applied ++ aboard x.lane ++ numbered_from 
 -- how often a chunk stands in the lists of a class
 abbrev pub times_in_all : ℕ → Lists → ℕ
 times_in_all c l = times c l.hot + times c l.warm + times c l.cold + times c l.dying + times c l.unused + times c l.retired
+
+-- how many moves for bump n of worker w the histories of all classes have together
+abbrev pub moves_for : State → ℕ → ℕ → ℕ
+moves_for s w n = total (λ k. how_many (is_move_for (λ l. true) w n) k.history) s.classes
 
 -- How a chunk stands to the list of class k at a place.
 pub record Stands (s : State) (k c : ℕ) (q : Place) : Type 0 where
@@ -40,6 +49,16 @@ pub record Headline (s : State) : Type 0 where
   pub stands : (k c : ℕ) (q : Place) → k < length s.classes → Stands s k c q
   -- each chunk of a class stands once in its six lists
   pub once : (k c : ℕ) → k < length s.classes → owns (class s k) c ≡ true → times_in_all c (class s k).lists ≡ 1
+  -- each entry of a history that names a bump as its cause is a move from COLD to WARM
+  pub causes : (k : ℕ) → k < length s.classes → how_many is_stray (class s k).history ≡ 0
+  -- Histories and lanes agree on moves: for each class, each bump and each set of items, there are as many moves for that bump of such
+  -- items as the lane's entries that tell of one, and the one that the lane has made and not told yet.
+  pub moves : (k w n : ℕ) (test : ItemId → Bool) → CountsMoves s k w n test
+  -- no two moves are for one bump
+  pub named_once : (w n : ℕ) → moves_for s w n ≤ 1
+  -- Each entry of a lane is true. Moved: its class's history has the move of that item for this very bump. Gone: it has the item's
+  -- unlinking. TimeOnly: no history has a move for this bump.
+  pub entries : (w : ℕ) (a : AppliedBump) → w < length s.workers → Contains (worker s w).applied a → IsTrueEntry (class s (class_of s a.life.chunk)).history w (moves_for s w a.number ≡ 0) a
 
 -- A ring that was closed stays closed, and has accepted nothing since.
 abbrev pub ClosedStay : State → State → Type 0

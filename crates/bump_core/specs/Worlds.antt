@@ -1,5 +1,5 @@
 -- What a lawful World is.
-use Rattle.std.specs.Prelude.{◌≡◌, ℕ, ◌+◌, ◌<◌, ◌≤◌, Bool, true, cond, ◌==◌, List, [], ◌∷◌, length, Some}
+use Rattle.std.specs.Prelude.{◌≡◌, ℕ, ◌+◌, ◌<◌, ◌≤◌, Bool, true, cond, ◌==◌, ◌&&◌, List, [], ◌∷◌, length, Some}
 use Rattle.bump_core.specs.declared.places.Place.{Place}
 use Rattle.bump_core.specs.declared.places.Segment.TheVariants as segment
 use Rattle.bump_core.specs.declared.items.ItemId.{ItemId}
@@ -7,12 +7,13 @@ use Rattle.bump_core.specs.declared.lanes.Lane.{Lane}
 use Rattle.bump_core.specs.declared.lanes.Lane.TheVariants as lane
 use Rattle.bump_core.specs.declared.hands.Hand.{Hand}
 use Rattle.bump_core.specs.declared.hands.Hand.TheVariants as hand
-use Rattle.bump_core.specs.Totals.{total}
+use Rattle.bump_core.specs.Totals.{total, how_many}
 use Rattle.bump_core.specs.Lives.{life, one_if, count_of}
 use Rattle.bump_core.specs.Lawful.{Lawful}
 use Rattle.bump_core.specs.History.{Standing, standing_in, is_between, AreBetween, replayed}
 use Rattle.bump_core.specs.State.{State, ClassState, WorkerState, chunk, head, class, worker, class_of, workers_on, applied_life}
 use Rattle.bump_core.specs.Rings.{in_ring, IsWorker}
+use Rattle.bump_core.specs.Entries.{is_stray, is_move_for, is_unlink_of, is_told_gone, moves_told}
 
 -- the holds of a life
 abbrev pub holds_of : State → ItemId → ℕ
@@ -70,11 +71,25 @@ Tiles from (k ∷ ks) end = (k.first ≡ from) × (k.first < k.end) × Tiles k.e
 pub record IsClass (k : ClassState) : Type 0 where
   pub lists : k.lists ≡ replayed k.first k.end k.history
   pub entries : AreBetween k.first k.end k.history
+  -- each entry that names a bump as its cause is a move from COLD to WARM
+  pub causes : how_many is_stray k.history ≡ 0
 
 -- where a lane found ACTIVE and has not moved the item yet, the item is linked and in COLD
 abbrev pub WaitsToMove : State → Lane → Type 0
 WaitsToMove s (lane.Cleared b true) = ((head s b.life.chunk).linked ≡ true) × ((head s b.life.chunk).segment ≡ segment.Cold)
 WaitsToMove s _ = Unit {0}
+
+-- the life is of class k and passes the test
+abbrev pub is_of_class : State → ℕ → (ItemId → Bool) → ItemId → Bool
+is_of_class s k test l = (class_of s l.chunk == k) && test l
+
+-- the moves for bump n of worker w in the history of class k, of items that pass the test, are as many as the lane of w tells of
+abbrev pub CountsMoves : State → ℕ → ℕ → ℕ → (ItemId → Bool) → Type 0
+CountsMoves s k w n test = how_many (is_move_for test w n) (class s k).history ≡ moves_told (is_of_class s k test) n (worker s w).applied (worker s w).lane
+
+-- where a lane tells that an item was gone, its class's history has its unlinking
+abbrev pub WasUnlinked : State → WorkerState → Type 0
+WasUnlinked s x = (l : ItemId) → 0 < how_many (is_told_gone l) x.applied → 0 < how_many (is_unlink_of l) (class s (class_of s l.chunk)).history
 
 pub record IsLawful (s : State) : Type 0 where
   pub limit : 0 < s.refs_limit
@@ -91,6 +106,10 @@ pub record IsLawful (s : State) : Type 0 where
   pub alone : (v w : ℕ) (l m : ItemId) → v < length s.workers → w < length s.workers
       → applied_life (worker s v).lane ≡ Some l → applied_life (worker s w).lane ≡ Some m → class_of s l.chunk ≡ class_of s m.chunk → v ≡ w
   pub waits : (w : ℕ) → w < length s.workers → WaitsToMove s (worker s w).lane
+  -- the histories have the moves that the lanes tell of: so each is for one bump of one lane, and of a worker that isn't there there is none
+  pub moves : (k w n : ℕ) (test : ItemId → Bool) → CountsMoves s k w n test
+  -- each item that a lane tells of as gone was unlinked
+  pub gone : (w : ℕ) → w < length s.workers → WasUnlinked s (worker s w)
 
 -- no more classes, chunks and workers than a configuration may have
 pub record IsSized (s : State) : Type 0 where

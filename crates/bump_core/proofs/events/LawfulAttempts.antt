@@ -16,12 +16,12 @@ use Rattle.bump_core.proofs.Laws.{relawful, referred}
 use Rattle.bump_core.proofs.workers.Ring.{in_ring_push}
 use Rattle.bump_core.proofs.Updates.{count_push}
 use Rattle.bump_core.proofs.worlds.LawfulStates.{one_if_elsewhere, one_if_at, one_if_not_at, referred_used, tried_referred, tried_in_range, tried_current, in_hand_in_range, in_hand_current, cleared_in_range, received_within}
-use Rattle.bump_core.proofs.worlds.Frames.{worker_lawful, waits_kept, both_marked, both_unreferred, both_lawful_off_lane, references_after, first_hits_after, alone_kept}
+use Rattle.bump_core.proofs.worlds.Frames.{worker_lawful, waits_kept, both_marked, both_unreferred, both_lawful_off_lane, references_after, first_hits_after, alone_kept, tells_kept}
 use Rattle.bump_core.proofs.events.Enabled.{some_and_parts, lawful_by_some, trying_from, in_hand_from, clearing_from, worker_from}
 
 -- under the limit the attempted bump gets its reference
 pub reserve_lawful : (s : State) (w : ℕ) (l : ItemId) → IsLawful s → w < length s.workers → (worker s w).hand ≡ hand.Trying l → (head s l.chunk).refs < s.refs_limit → IsLawful (reserve s w l)
-reserve_lawful s w l o inside is few = both_lawful_off_lane s l.chunk h w y within inside refl o refl refl refl
+reserve_lawful s w l o inside is few = both_lawful_off_lane s l.chunk h w y within inside refl o refl refl refl refl
     (λ m ne. omega (arith, bumps m, one_if_elsewhere m l ne))
     (λ m ne. refl)
     (relawful s.refs_limit h (place s l.chunk) (references t l.chunk) (first_hits_of s l.chunk)
@@ -73,6 +73,7 @@ dropped_lawful s w l a o inside is accepted attempted one_more = let was = o.wor
     (record { ring = was.ring; applied = was.applied; accounts = record { accepted = accepted ∙ was.accounts.accepted; attempted = omega (arith, was.accounts.attempted, ap attempts_of is); most = omega (arith, was.accounts.most) } })
     (alone_kept s w y inside o refl)
     (o.waits w inside)
+    (tells_kept s w o inside)
 
 -- so it is where the count is at its limit
 pub drop_refs_lawful : (s : State) (w : ℕ) (l : ItemId) → IsLawful s → w < length s.workers → (worker s w).hand ≡ hand.Trying l → IsLawful (drop_refs s w l)
@@ -102,6 +103,7 @@ push_lawful s w l o inside is room = worker_lawful s w y o inside
     })
     (alone_kept s w y inside o refl)
     (o.waits w inside)
+    (tells_kept s w o inside)
   where
     y : WorkerState
     y = record (worker s w) { hand = hand.Idle; accounts = record (worker s w).accounts { accepted = (worker s w).accounts.accepted + 1 }; sent = (worker s w).sent ++ l ∷ [] }
@@ -121,6 +123,7 @@ drop_full_lawful s w l o inside is = both_unreferred s l w y o (in_hand_in_range
     (record { ring = was.ring; applied = was.applied; accounts = record { accepted = was.accounts.accepted; attempted = omega (arith, was.accounts.attempted, ap attempts_of is); most = was.accounts.most } })
     (alone_kept s w y inside o refl)
     (waits_kept s l.chunk (one_fewer (head s l.chunk)) w o inside refl refl)
+    (tells_kept s w o inside)
   where
     y : WorkerState
     y = record (worker s w) { hand = hand.Clearing l; accounts = record (worker s w).accounts { full = (worker s w).accounts.full + 1 } }
@@ -137,6 +140,7 @@ unmark_lawful s w l o inside is = both_marked s l.chunk false w y o (cleared_in_
     (record { ring = was.ring; applied = was.applied; accounts = record { accepted = was.accounts.accepted; attempted = omega (arith, was.accounts.attempted, ap attempts_of is); most = was.accounts.most } })
     (alone_kept s w y inside o refl)
     (waits_kept s l.chunk (cleared_head (head s l.chunk)) w o inside refl refl)
+    (tells_kept s w o inside)
   where
     y : WorkerState
     y = record (worker s w) { hand = hand.Idle }

@@ -16,14 +16,14 @@ use Rattle.bump_core.specs.Worlds.{holds_of, in_hand_of, references, first_hits_
 use Rattle.bump_core.proofs.Laws.{relawful, named_first, fetched_again, marked}
 use Rattle.bump_core.proofs.Updates.{count_push}
 use Rattle.bump_core.proofs.worlds.LawfulStates.{held_at, one_if_same, one_if_elsewhere, one_if_at, one_if_not_at, one_if_cases}
-use Rattle.bump_core.proofs.worlds.Frames.{alone_kept, waits_kept, both_marked, head_lawful, time_lawful, both_lawful_off_lane, references_after, first_hits_after}
+use Rattle.bump_core.proofs.worlds.Frames.{alone_kept, tells_kept, waits_kept, both_marked, head_lawful, time_lawful, both_lawful_off_lane, references_after, first_hits_after}
 use Rattle.bump_core.proofs.events.Enabled.{by_test, may_hit_from}
 
 -- a hit of a current life sets FETCHED, and the first one joins the worker's first hits
 pub fetch_lawful : (s : State) (w : ℕ) (l : ItemId) → IsLawful s → w < length s.workers → l.chunk < length s.chunks → (head s l.chunk).generation ≡ l.generation → IsLawful (fetch s w l)
 fetch_lawful s w l o inside within current = by_test IsLawful (head s l.chunk).fetched (with_head s l.chunk h) (with_worker (with_head s l.chunk h) w y)
     (λ on. head_lawful s l.chunk h o within refl refl refl (fetched_again s.refs_limit (head s l.chunk) (place s l.chunk) (references s l.chunk) (first_hits_of s l.chunk) (o.chunks l.chunk) on))
-    (λ clear. both_lawful_off_lane s l.chunk h w y within inside refl o refl refl refl
+    (λ clear. both_lawful_off_lane s l.chunk h w y within inside refl o refl refl refl refl
     (λ m ne. refl)
     (λ m ne. omega (arith, count_push m l (worker s w).first_hits, one_if_elsewhere m l ne))
     (relawful s.refs_limit h (place s l.chunk) (references s l.chunk) (first_hits_of t l.chunk)
@@ -64,7 +64,8 @@ mark_lawful s w l o inside idle within current free fetched few = by_test IsLawf
     ])
     (record { ring = was.ring; applied = was.applied; accounts = record { accepted = was.accounts.accepted; attempted = omega (arith, was.accounts.attempted, ap attempts_of idle); most = omega (arith, few) } })
     (alone_kept s w y inside o refl)
-    (waits_kept s l.chunk h w o inside refl refl))
+    (waits_kept s l.chunk h w o inside refl refl)
+    (tells_kept s w o inside))
     (λ no. head_lawful s l.chunk h o within refl refl refl (marked s.refs_limit (head s l.chunk) (place s l.chunk) (references s l.chunk) (first_hits_of s l.chunk) (o.chunks l.chunk) true set))
   where
     h : Head

@@ -1,7 +1,8 @@
 -- What a lane does leaves a lawful state lawful.
-use Rattle.std.proofs.Common.{◌≡◌, ℕ, suc, ◌<◌, Bool, true, false, not, ◌&&◌, nat_lt, List, [], ◌∷◌, ◌++◌, map, length, drop, slice_index_or, Some, refl, sym, ap, ◌∙◌, arith, append_assoc, length-append, subst}
-use Rattle.std.proofs.lemmas.List.{append-nil, map-append, get_or-set_same, length-set}
-use Rattle.std.proofs.lemmas.Bool.{and_parts, ltb-true, not-true}
+use Rattle.std.proofs.Common.{◌≡◌, ℕ, suc, ◌<◌, Bool, true, false, not, ◌&&◌, ◌==◌, ◌+◌, nat_lt, eq-eqb, ne_eqb, inl, inr, List, [], ◌∷◌, ◌++◌, map, length, drop, slice_index_or, Some, refl, sym, ap, ◌∙◌, arith, append_assoc, length-append, subst}
+use Rattle.std.proofs.lemmas.List.{append-nil, map-append, get_or-set_other, length-set}
+use Rattle.std.proofs.lemmas.Bool.{and_parts, ltb-true, not-true, cases_lt}
+use native.Mathlib.Decide.{ℕ_discrete}
 use Rattle.std.proofs.lemmas.Option.{slice_get-get_or}
 use Rattle.bump_core.specs.declared.places.Segment.TheVariants as segment
 use Rattle.bump_core.specs.declared.items.ItemId.{ItemId}
@@ -11,22 +12,31 @@ use Rattle.bump_core.specs.declared.lanes.Lane.{Lane}
 use Rattle.bump_core.specs.declared.lanes.Lane.TheVariants as lane
 use Rattle.bump_core.specs.declared.bumps.AppliedBump.{AppliedBump}
 use Rattle.bump_core.specs.declared.events.Event.TheVariants as event
-use Rattle.bump_core.specs.Lives.{life, one_if, count_of}
+use Rattle.bump_core.specs.Lives.{life, is_same, one_if, count_of}
+use Rattle.bump_core.specs.Totals.{how_many}
+use Rattle.bump_core.specs.Entries.{is_move_for, is_unlink_of, is_gone, is_told_moved, is_told_gone, moving, moves_told}
 use Rattle.bump_core.specs.Tables.{is_cold}
 use Rattle.bump_core.specs.Rings.{in_ring, aboard, bump_applied, IsWorker}
-use Rattle.bump_core.specs.State.{State, WorkerState, chunk, head, worker, class_of, with_head, is_worker, some_and, applied_life, is_under_application, new_worker}
+use Rattle.bump_core.specs.State.{State, WorkerState, chunk, head, class, worker, class_of, with_head, is_worker, is_on, some_and, applied_life, is_under_application, new_worker}
 use Rattle.bump_core.specs.Heads.{cleared_head, moved_head}
 use Rattle.bump_core.specs.Events.{with_time, next_bump, bump_of, carried, tried, applied_now, is_empty, ending, is_enabled, after, take_bump, with_lane, clear_for, alight, move_for, cleared_active}
-use Rattle.bump_core.specs.Worlds.{aboard_of, WaitsToMove, IsLawful, place, references, first_hits_of}
+use Rattle.bump_core.specs.Worlds.{aboard_of, bumps_of, WaitsToMove, is_of_class, WasUnlinked, IsLawful, place, references, first_hits_of}
 use Rattle.bump_core.proofs.workers.Ring.{lane_further, next_in_ring, numbered_append}
-use Rattle.bump_core.proofs.worlds.LawfulStates.{linked_in_range, aboard_in_range, aboard_current, applied_aboard, waiting_linked}
-use Rattle.bump_core.proofs.worlds.Frames.{worker_lawful, both_marked, both_unreferred, alone_kept, chunk_here, time_lawful}
+use Rattle.bump_core.proofs.worlds.LawfulStates.{linked_in_range, same_lives, aboard_in_range, aboard_current, aboard_referred, applied_aboard, waiting_linked}
+use Rattle.bump_core.proofs.worlds.Frames.{hits_in, worker_here, each_worker, worker_lawful, both_marked, both_unreferred, alone_after, alone_kept, tells_further, chunk_here, time_lawful}
+use Rattle.bump_core.proofs.worlds.Unlinked.{referred_unlinked}
+use Rattle.bump_core.proofs.Updates.{total_kept}
+use Rattle.bump_core.proofs.Counted.{how_many_push}
+use Rattle.bump_core.proofs.Endings.{told_by_ending, gone_by_ending}
+use Rattle.bump_core.proofs.ToldMoves.{tests_turned}
 use Rattle.bump_core.proofs.events.Enabled.{some_and_parts, lawful_by_some, empty_from, carrying_from, tried_from, cold_from, applied_from, worker_from, none_applies, applied_by_ending, move_for_from, cleared_from}
+use Rattle.bump_core.specs.declared.history.Change.{Change}
 use Rattle.bump_core.specs.declared.history.Change.TheVariants as change
 use Rattle.bump_core.specs.declared.history.Cause.TheVariants.{Bump as BumpOf}
 use Rattle.bump_core.proofs.classes.Tiles.{class_within, class_owns}
-use Rattle.bump_core.proofs.Laws.{moved}
-use Rattle.bump_core.proofs.events.Moves.{change_lawful}
+use Rattle.bump_core.proofs.Laws.{bit_some, moved}
+use Rattle.bump_core.proofs.events.Moves.{WorkersFit, counted_changed, change_among}
+use Rattle.bump_core.specs.Lawful.{bit}
 
 -- a lane with no bump aboard takes the next one from the ring
 pub take_bump_lawful : (s : State) (w : ℕ) (l : ItemId) → IsLawful s → w < length s.workers → (worker s w).lane ≡ lane.Empty → next_bump (worker s w) ≡ Some l → IsLawful (take_bump s w l)
@@ -45,6 +55,7 @@ take_bump_lawful s w l o inside empty next = worker_lawful s w y o inside
     })
     (λ v a b inside_too ne of_v of_y same. let u : ⊥ = cc in u)
     tt
+    (tells_further s w lane.Empty (lane.Carrying (bump_of (length (worker s w).received) l)) o inside empty (λ test n. refl))
   where
     y : WorkerState
     y = record (worker s w) { received = (worker s w).received ++ l ∷ []; lane = lane.Carrying (bump_of (length (worker s w).received) l) }
@@ -70,6 +81,7 @@ try_lawful s w b o inside is rest = worker_lawful s w (record (worker s w) { lan
     (lane_further s.capacity (worker s w) (lane.Tried b) (o.workers w inside) (sym (ap aboard is)))
     (λ v l m inside_too ne of_v of_y same. none_applies s (class_of s b.life.chunk) v l rest inside_too of_v (same ∙ ap (λ z. class_of s z.chunk) (let back : m ≡ b.life = cc in back)))
     tt
+    (tells_further s w (lane.Carrying b) (lane.Tried b) o inside is (λ test n. refl))
 
 -- an item of COLD waits to be moved or not
 waits_cleared : (s : State) (b : Bump) (found : Bool) → (head s b.life.chunk).linked ≡ true → (head s b.life.chunk).segment ≡ segment.Cold → WaitsToMove s (lane.Cleared b found)
@@ -85,6 +97,7 @@ clear_for_lawful s w b o inside is on cold = both_marked s b.life.chunk false w 
     (lane_further s.capacity (worker s w) (lane.Cleared b (head s b.life.chunk).active) (o.workers w inside) (sym (ap aboard is)))
     (alone_kept s w y inside o (sym (ap applied_life is)))
     (waits_cleared (with_head s b.life.chunk h) b (head s b.life.chunk).active (ap (λ z. z.head.linked) here ∙ on) (ap (λ z. z.head.segment) here ∙ cold))
+    (tells_further s w (lane.Tried b) (lane.Cleared b (head s b.life.chunk).active) o inside is (λ test n. refl))
   where
     within : b.life.chunk < length s.chunks
     within = linked_in_range s o b.life.chunk on
@@ -115,8 +128,8 @@ applied_counts_for (lane.Cleared a found) b is m = ap (λ (z : Bump). one_if m z
 applied_counts_for (lane.Moved a) b is m = ap (λ (z : Bump). one_if m z.life) (let same : a ≡ b = cc in same)
 
 -- the lane gives the reference of the bump that it applied back
-pub alight_lawful : (s : State) (w : ℕ) (a : AppliedBump) → IsLawful s → w < length s.workers → applied_now (worker s w).lane ≡ Some (bump_applied a) → IsLawful (alight s w a)
-alight_lawful s w a o inside is = both_unreferred s a.life w (record (worker s w) { lane = lane.Empty; applied = (worker s w).applied ++ a ∷ [] }) o
+pub alight_lawful : (s : State) (w : ℕ) (a : AppliedBump) → IsLawful s → w < length s.workers → ending s w ≡ Some a → IsLawful (alight s w a)
+alight_lawful s w a o inside ends = both_unreferred s a.life w (record (worker s w) { lane = lane.Empty; applied = (worker s w).applied ++ a ∷ [] }) o
     (aboard_in_range s o w a.life inside counts) inside (aboard_current s o w a.life inside counts)
     (λ m. omega (arith, applied_counts_for (worker s w).lane (bump_applied a) is m))
     (λ m. refl)
@@ -129,12 +142,24 @@ alight_lawful s w a o inside is = both_unreferred s a.life w (record (worker s w
     })
     (λ v l m inside_too ne of_v of_y same. let u : ⊥ = cc in u)
     tt
+    ((λ test n. omega (arith, how_many_push (is_told_moved test n) (worker s w).applied a, told_by_ending (head s) (worker s w).lane a ends test n)), unlinked)
   where
+    is : applied_now (worker s w).lane ≡ Some (bump_applied a)
+    is = applied_by_ending (head s) (worker s w).lane a ends
+
     counts : 0 < aboard_of a.life (worker s w).lane
     counts = applied_aboard s o w a.life (applied_from (worker s w).lane (bump_applied a) is)
 
     was : IsWorker s.capacity (worker s w)
     was = o.workers w inside
+
+    unlinked : (l : ItemId) → 0 < how_many (is_told_gone l) ((worker s w).applied ++ a ∷ []) → 0 < how_many (is_unlink_of l) (class s (class_of s l.chunk)).history
+    unlinked l some = elim (cases_lt 0 (how_many (is_told_gone l) (worker s w).applied)) [
+      | inl before ↦ o.gone w inside l before
+      | inr none ↦ let both = and_parts (is_gone a.outcome) (is_same l a.life) (bit_some (is_told_gone l a) (omega (arith, some, how_many_push (is_told_gone l) (worker s w).applied a))) in
+          subst (λ (m : ItemId). 0 < how_many (is_unlink_of m) (class s (class_of s m.chunk)).history) (sym (same_lives l a.life both.1))
+          (referred_unlinked s o a.life.chunk a.life.generation (aboard_referred s o w a.life inside counts) (gone_by_ending (head s) (worker s w).lane a ends both.0))
+    ]
 
 -- The events.
 
@@ -173,37 +198,78 @@ pub after_alight : (s : State) (w : ℕ) → IsLawful s → is_enabled s (event.
 after_alight s w o enabled = let parts = and_parts (is_worker s w) (some_and (λ a. true) (ending s w)) enabled in
     let found = some_and_parts (λ (a : AppliedBump). true) (ending s w) parts.1 in
     lawful_by_some (alight s w) s (ending s w) found.0 found.1
-    (alight_lawful s w found.0 o (worker_from s w parts.0) (applied_by_ending (head s) (worker s w).lane found.0 found.1))
+    (alight_lawful s w found.0 o (worker_from s w parts.0) found.1)
 
 -- a lane that moved its item does not wait to move it
 two_lanes : (s : State) (v w : ℕ) (a b : Bump) → v ≡ w → (worker s v).lane ≡ lane.Cleared a true → (worker s w).lane ≡ lane.Moved b → ⊥
 two_lanes s v w a b same cleared moved = let both : lane.Cleared a true ≡ lane.Moved b = sym cleared ∙ (ap (λ (u : ℕ). (worker s u).lane) same ∙ moved) in cc
+
+-- what the lanes tell of once more: the move that a lane made
+moved_told : (s : State) (w : ℕ) (b : Bump) → w < length s.workers → (worker s w).lane ≡ lane.Cleared b true → (test : ItemId → Bool) (v n : ℕ)
+    → moves_told test n (worker (with_lane s w (lane.Moved b)) v).applied (worker (with_lane s w (lane.Moved b)) v).lane
+    ≡ moves_told test n (worker s v).applied (worker s v).lane + bit ((w == v) && ((b.number == n) && test b.life))
+moved_told s w b within is test v n = by (ℕ_discrete v w)
+  where
+    y : WorkerState
+    y = record (worker s w) { lane = lane.Moved b }
+
+    told : WorkerState → ℕ
+    told x = moves_told test n x.applied x.lane
+
+    by : Dec (v ≡ w) → told (worker (with_lane s w (lane.Moved b)) v) ≡ told (worker s v) + bit ((w == v) && ((b.number == n) && test b.life))
+    by (yes same) = omega (
+      arith,
+      ap (λ (u : ℕ). told (worker (with_lane s w (lane.Moved b)) u)) same,
+      ap told (worker_here s w y within),
+      ap (λ (u : ℕ). told (worker s u)) same,
+      ap (moving test n) is,
+      ap (λ p. bit (p && ((b.number == n) && test b.life))) (eq-eqb w v (sym same)),
+    )
+    by (no differs) = omega (
+      arith,
+      ap told (get_or-set_other s.workers w v y new_worker differs),
+      ap (λ p. bit (p && ((b.number == n) && test b.life))) (ne_eqb w v (λ e. differs (sym e))),
+    )
 
 -- a move for a bump keeps a World lawful
 pub after_move_for : (s : State) → IsLawful s → (w : ℕ) → is_enabled s (event.MoveFor w) ≡ true → IsLawful (after s (event.MoveFor w))
 after_move_for s o w enabled = let may = move_for_from s w enabled in
     lawful_by_some (move_for s w) s (cleared_active (worker s w).lane) may.0 may.2 (goes may.0 may.1 (cleared_from (worker s w).lane may.0 may.2))
   where
-    stays : (b : Bump) → w < length s.workers → (worker s w).lane ≡ lane.Cleared b true → IsLawful (with_lane s w (lane.Moved b))
-    stays b within is = worker_lawful s w (record (worker s w) { lane = lane.Moved b }) o within
-        (λ l. omega (arith, ap (aboard_of l) is))
-        (λ l. refl)
-        (λ l. omega arith)
-        (lane_further s.capacity (worker s w) (lane.Moved b) (o.workers w within) (sym (ap aboard is)))
-        (alone_kept s w (record (worker s w) { lane = lane.Moved b }) within o (sym (ap applied_life is)))
-        tt
+    fits : (b : Bump) → w < length s.workers → (worker s w).lane ≡ lane.Cleared b true → WorkersFit s b.life.chunk (with_lane s w (lane.Moved b)).workers
+    fits b within is = let y : WorkerState = record (worker s w) { lane = lane.Moved b } in
+        let t = with_lane s w (lane.Moved b) in
+        let here : (worker t w).lane ≡ lane.Moved b = ap (λ x. x.lane) (worker_here s w y within) in
+        let w_in : w < length t.workers = omega (arith, within, length-set s.workers w y) in
+        let alone = alone_after s w y within o (alone_kept s w y within o (sym (ap applied_life is))) in
+        record {
+          bumps = λ l. total_kept (bumps_of l) s.workers w y new_worker within (omega (arith, ap (aboard_of l) is));
+          hits = λ l. total_kept (hits_in l) s.workers w y new_worker within refl;
+          hands = λ l. omega (arith, total_kept (λ x. is_on l x.hand) s.workers w y new_worker within refl);
+          workers = each_worker s w y within (IsWorker s.capacity) (lane_further s.capacity (worker s w) (lane.Moved b) (o.workers w within) (sym (ap aboard is))) o.workers;
+          alone = alone;
+          waits = each_worker s w y within (λ x. WaitsToMove s x.lane) tt o.waits;
+          free = λ v v_in a cleared same. two_lanes t v w a b (alone v w a.life b.life v_in w_in (ap applied_life cleared) (ap applied_life here) (ap (class_of s) same)) cleared here;
+          gone = each_worker s w y within (WasUnlinked s) (o.gone w within) o.gone;
+        }
 
     goes : (b : Bump) → w < length s.workers → (worker s w).lane ≡ lane.Cleared b true → IsLawful (move_for s w b)
     goes b within is =
         let on = (waiting_linked s o w b within is).0 in
         let c = b.life.chunk in
         let in_range = linked_in_range s o c on in
-        let t = with_lane s w (lane.Moved b) in
-        let p : IsLawful t = stays b within is in
-        let here : (worker t w).lane ≡ lane.Moved b = ap (λ y. y.lane) (get_or-set_same s.workers w (record (worker s w) { lane = lane.Moved b }) new_worker within) in
-        let w_in : w < length t.workers = subst (λ (n : ℕ). w < n) (sym (length-set s.workers w (record (worker s w) { lane = lane.Moved b }))) within in
-        change_lawful t p c (moved_head segment.Warm (head s c)) (class_of s c) (change.Moved b.life segment.Cold segment.Warm (BumpOf w b.number)) (class_within s o.tiles c in_range) (class_owns s o.tiles c in_range) refl
+        let e : Change = change.Moved b.life segment.Cold segment.Warm (BumpOf w b.number) in
+        let k = class_of s c in
+        change_among s o c (moved_head segment.Warm (head s c)) k e (class_within s o.tiles c in_range) (class_owns s o.tiles c in_range) refl
         (λ g. refl)
-        (moved s.refs_limit (head s c) (place s c) (references t c) (first_hits_of t c) (p.chunks c) segment.Warm on)
+        (with_lane s w (lane.Moved b)).workers (fits b within is)
+        (moved s.refs_limit (head s c) (place s c) (references s c) (first_hits_of s c) (o.chunks c) segment.Warm on)
         (aboard_current s o w b.life within (applied_aboard s o w b.life (ap applied_life is)))
-        (λ v v_in a cleared same. two_lanes t v w a b (p.alone v w a.life b.life v_in w_in (ap applied_life cleared) (ap applied_life here) (ap (class_of t) same)) cleared here)
+        refl
+        (λ j v n test. omega (
+          arith,
+          o.moves j v n test,
+          counted_changed s o c (moved_head segment.Warm (head s c)) k e (class_within s o.tiles c in_range) (class_owns s o.tiles c in_range) refl (is_move_for test v n) j,
+          moved_told s w b within is (is_of_class s j test) v n,
+          ap bit (tests_turned (k == j) (test b.life) (w == v) (b.number == n)),
+        ))

@@ -54,4 +54,5 @@ after_link s o k enabled = let next = next_from s k enabled in lawful_by_some (l
         (λ g. held_none (chunk s c) (newborn ((head s c).generation + 1)) (λ n. omega (arith, none n)) g)
         (born s.refs_limit (head s c) (place s c) (references s c) (first_hits_of s c) (o.chunks c) at.2 o.limit)
         refl
+        refl
         (λ w w_in b is same. both_ways (head s c).linked off (subst (λ (d : ℕ). (head s d).linked ≡ true) same (waiting_linked s o w b w_in is).0))

@@ -34,4 +34,5 @@ after_move s o c to enabled = let may = move_from s c to enabled in
     (λ g. refl)
     (moved s.refs_limit (head s c) (place s c) (references s c) (first_hits_of s c) (o.chunks c) to may.1)
     refl
+    refl
     (λ w w_in b is same. none_applies s (class_of s c) w b.life may.2 w_in (ap applied_life is) (ap (class_of s) same))

@@ -1,5 +1,5 @@
 -- What an event leaves as it was: a state in which one chunk and one worker changed is lawful where these are.
-use Rattle.std.proofs.Common.{◌≡◌, ℕ, ◌+◌, ◌<◌, ◌≤◌, ◌≢◌, true, false, cond, eqb, List, length, slice_index_or, slice_set, refl, sym, ap, ◌∙◌, subst, Some, arith, Bool, inl, inr}
+use Rattle.std.proofs.Common.{◌≡◌, ℕ, ◌+◌, ◌<◌, ◌≤◌, ◌≢◌, true, false, cond, eqb, List, length, slice_index_or, slice_set, refl, sym, ap, ◌∙◌, subst, Some, arith, Bool, inl, inr, ap₂}
 use Rattle.std.proofs.lemmas.List.{get_or-set_same, get_or-set_other, set-get_or, length-set, set_past}
 use Rattle.std.proofs.lemmas.Bool.{cases_lt}
 use mathlib.Core.Logic.{dite}
@@ -11,12 +11,13 @@ use Rattle.bump_core.specs.declared.lanes.Lane.{Lane}
 use Rattle.bump_core.specs.declared.lanes.Lane.TheVariants as lane
 use Rattle.bump_core.specs.Lawful.{bit, Lawful}
 use Rattle.bump_core.specs.Lives.{life, one_if, count_of}
-use Rattle.bump_core.specs.Totals.{total}
+use Rattle.bump_core.specs.Totals.{total, how_many}
+use Rattle.bump_core.specs.Entries.{is_told_gone, moving, moves_told}
 use Rattle.bump_core.specs.Rings.{IsWorker}
 use Rattle.bump_core.specs.State.{State, WorkerState, chunk, head, worker, no_chunk, new_worker, with_chunk, with_head, with_worker, class_of, is_on, workers_on, applied_life}
 use Rattle.bump_core.specs.Heads.{one_fewer}
 use Rattle.bump_core.specs.Events.{with_time, with_label}
-use Rattle.bump_core.specs.Worlds.{holds_of, bumps_of, references, first_hits_of, place, Tiles, WaitsToMove, IsLawful}
+use Rattle.bump_core.specs.Worlds.{holds_of, bumps_of, references, first_hits_of, place, Tiles, WaitsToMove, is_of_class, CountsMoves, WasUnlinked, IsLawful}
 use Rattle.bump_core.proofs.Laws.{relawful, marked, unreferred}
 use Rattle.bump_core.proofs.worlds.LawfulStates.{held_by, one_if_elsewhere, one_if_at, one_if_not_at}
 use Rattle.bump_core.proofs.Updates.{same_read, total_written}
@@ -36,6 +37,23 @@ AppliesAlone s w y = (v : ℕ) (l m : ItemId) → v < length s.workers → v ≢
 -- with the new worker too, each worker that is on a life has a hold for it
 abbrev pub HandsHeld : State → ℕ → WorkerState → Type 0
 HandsHeld s w y = (l : ItemId) → workers_on s l + is_on l y.hand ≤ holds_of s l + is_on l (worker s w).hand
+
+-- what a lane tells of moves is as before
+abbrev pub TellsAlike : WorkerState → WorkerState → Type 0
+TellsAlike x y = (test : ItemId → Bool) (n : ℕ) → moves_told test n y.applied y.lane ≡ moves_told test n x.applied x.lane
+
+-- the new worker's lane tells of the moves of which it told, and each item that it tells of as gone was unlinked
+abbrev pub TellsTrue : State → ℕ → WorkerState → Type 0
+TellsTrue s w y = TellsAlike (worker s w) y × WasUnlinked s y
+
+-- a lane that tells what it told
+pub tells_kept : (s : State) (w : ℕ) → IsLawful s → w < length s.workers → TellsTrue s w (worker s w)
+tells_kept s w o within = ((λ test n. refl), o.gone w within)
+
+-- a lane that is further on with its bump, and did not move its item
+pub tells_further : (s : State) (w : ℕ) (x z : Lane) → IsLawful s → w < length s.workers → (worker s w).lane ≡ x
+    → ((test : ItemId → Bool) (n : ℕ) → moving test n z ≡ moving test n x) → TellsTrue s w (record (worker s w) { lane = z })
+tells_further s w x z o within is same = ((λ test n. omega (arith, same test n, ap (moving test n) is)), o.gone w within)
 
 -- All chunks but c and the counts of their lives are as before: where c is lawful all are.
 pub chunks_framed : (s : State) (cs : List Chunk) (ws : List WorkerState) → IsLawful s → (c : ℕ)
@@ -114,6 +132,10 @@ module _ (s : State) (w : ℕ) (y : WorkerState) (within : w < length s.workers)
   pub alone_kept : IsLawful s → applied_life y.lane ≡ applied_life (worker s w).lane → AppliesAlone s w y
   alone_kept o same v l m inside ne of_v of_y classes = ne (o.alone v w l m inside within of_v (sym same ∙ of_y) classes)
 
+-- What the histories and the lanes say of moves agrees as before where a worker's lane tells of the moves of which it told.
+pub moves_kept : (s : State) (w : ℕ) (y : WorkerState) → IsLawful s → TellsAlike (worker s w) y → (k v n : ℕ) (test : ItemId → Bool) → CountsMoves (with_worker s w y) k v n test
+moves_kept s w y o same k v n test = o.moves k v n test ∙ sym (same_read (λ x. moves_told (is_of_class s k test) n x.applied x.lane) s.workers w y new_worker (same (is_of_class s k test) n) v)
+
 -- One worker changed, and no chunk: the state is lawful where the worker's bumps and first hits are as before.
 pub worker_lawful : (s : State) (w : ℕ) (y : WorkerState) → IsLawful s → w < length s.workers
     → ((l : ItemId) → bumps_of l y ≡ bumps_of l (worker s w))
@@ -122,8 +144,9 @@ pub worker_lawful : (s : State) (w : ℕ) (y : WorkerState) → IsLawful s → w
     → IsWorker s.capacity y
     → AppliesAlone s w y
     → WaitsToMove s y.lane
+    → TellsTrue s w y
     → IsLawful (with_worker s w y)
-worker_lawful s w y o within bumps hits hands lawful alone waits = record {
+worker_lawful s w y o within bumps hits hands lawful alone waits tells = record {
   limit = o.limit;
   tiles = o.tiles;
   chunks = λ c. relawful s.refs_limit (head s c) (place s c) (references s c) (first_hits_of s c) (o.chunks c) (references (with_worker s w y) c) (first_hits_of (with_worker s w y) c)
@@ -135,6 +158,8 @@ worker_lawful s w y o within bumps hits hands lawful alone waits = record {
   workers = each_worker s w y within (IsWorker s.capacity) lawful o.workers;
   alone = alone_after s w y within o alone;
   waits = each_worker s w y within (λ x. WaitsToMove s x.lane) waits o.waits;
+  moves = moves_kept s w y o tells.0;
+  gone = each_worker s w y within (WasUnlinked s) tells.1 o.gone;
 }
 
 -- One chunk changed, which stays in its life, and no worker.
@@ -157,6 +182,8 @@ chunk_lawful s c x o within generations linked segments lawful hands = record {
   workers = o.workers;
   alone = o.alone;
   waits = λ v inside. waits_framed s (with_chunk s c x) (each_chunk s c x (λ z. z.head.linked) linked) (each_chunk s c x (λ z. z.head.segment) segments) (worker s v).lane (o.waits v inside);
+  moves = o.moves;
+  gone = o.gone;
 }
 
 -- One chunk changed, and neither its holds nor its generation.
@@ -216,8 +243,9 @@ module _ (s : State) (c : ℕ) (h : Head) (w : ℕ) (y : WorkerState) (within_ch
       → IsWorker s.capacity y
       → AppliesAlone s w y
       → WaitsToMove (with_head s c h) y.lane
+      → TellsTrue s w y
       → IsLawful (with_worker (with_head s c h) w y)
-  both_lawful o linked segments bumps hits lawful hands new alone waits = record {
+  both_lawful o linked segments bumps hits lawful hands new alone waits tells = record {
     limit = o.limit;
     tiles = subst (Tiles 0 s.classes) (sym (length-set s.chunks c (record (chunk s c) { head = h }))) o.tiles;
     chunks = chunks_framed s (slice_set s.chunks c (record (chunk s c) { head = h })) (slice_set s.workers w y) o c (λ d ne. get_or-set_other s.chunks c d (record (chunk s c) { head = h }) no_chunk ne)
@@ -230,10 +258,12 @@ module _ (s : State) (c : ℕ) (h : Head) (w : ℕ) (y : WorkerState) (within_ch
     workers = each_worker s w y within (IsWorker s.capacity) new o.workers;
     alone = alone_after s w y within o alone;
     waits = each_worker s w y within (λ x. WaitsToMove (with_head s c h) x.lane) waits (λ v inside. waits_kept s c h v o inside linked segments);
+    moves = moves_kept s w y o tells.0;
+    gone = each_worker s w y within (WasUnlinked s) tells.1 o.gone;
   }
 
   -- the same where the worker's lane is as before
-  pub both_lawful_off_lane : IsLawful s → y.lane ≡ (worker s w).lane
+  pub both_lawful_off_lane : IsLawful s → y.lane ≡ (worker s w).lane → y.applied ≡ (worker s w).applied
       → h.linked ≡ (head s c).linked → h.segment ≡ (head s c).segment
       → ((l : ItemId) → l.chunk ≢ c → bumps_of l y ≡ bumps_of l (worker s w))
       → ((l : ItemId) → l.chunk ≢ c → hits_in l y ≡ hits_in l (worker s w))
@@ -241,9 +271,10 @@ module _ (s : State) (c : ℕ) (h : Head) (w : ℕ) (y : WorkerState) (within_ch
       → HandsHeld s w y
       → IsWorker s.capacity y
       → IsLawful (with_worker (with_head s c h) w y)
-  both_lawful_off_lane o lanes linked segments bumps hits lawful hands new = both_lawful o linked segments bumps hits lawful hands new
+  both_lawful_off_lane o lanes entries linked segments bumps hits lawful hands new = both_lawful o linked segments bumps hits lawful hands new
       (alone_kept s w y within o (ap applied_life lanes))
       (subst (WaitsToMove (with_head s c h)) (sym lanes) (waits_kept s c h w o within linked segments))
+      ((λ test n. ap₂ (moves_told test n) entries lanes), (λ l some. o.gone w within l (omega (arith, some, ap (how_many (is_told_gone l)) entries))))
 
 -- One head's ACTIVE changed, and one worker that has the bumps and the first hits that it had.
 pub both_marked : (s : State) (c : ℕ) (b : Bool) (w : ℕ) (y : WorkerState) → IsLawful s → c < length s.chunks → w < length s.workers
@@ -254,14 +285,15 @@ pub both_marked : (s : State) (c : ℕ) (b : Bool) (w : ℕ) (y : WorkerState) �
     → IsWorker s.capacity y
     → AppliesAlone s w y
     → WaitsToMove (with_head s c (record (head s c) { active = b })) y.lane
+    → TellsTrue s w y
     → IsLawful (with_worker (with_head s c (record (head s c) { active = b })) w y)
-both_marked s c b w y o within inside below bumps hits hands new alone waits = both_lawful s c h w y within inside refl o refl refl (λ l ne. bumps l) (λ l ne. hits l)
+both_marked s c b w y o within inside below bumps hits hands new alone waits tells = both_lawful s c h w y within inside refl o refl refl (λ l ne. bumps l) (λ l ne. hits l)
     (relawful s.refs_limit h (place s c) (references s c) (first_hits_of s c)
     (marked s.refs_limit (head s c) (place s c) (references s c) (first_hits_of s c) (o.chunks c) b below)
     (references t c) (first_hits_of t c)
     (λ g. omega (arith, references_after s c h w y within inside refl c g, bumps (life c g)))
     (λ g. omega (arith, first_hits_after s c h w y within inside refl c g, hits (life c g))))
-    hands new alone waits
+    hands new alone waits tells
   where
     h : Head
     h = record (head s c) { active = b }
@@ -277,8 +309,9 @@ pub both_unreferred : (s : State) (l : ItemId) (w : ℕ) (y : WorkerState) → I
     → IsWorker s.capacity y
     → AppliesAlone s w y
     → WaitsToMove (with_head s l.chunk (one_fewer (head s l.chunk))) y.lane
+    → TellsTrue s w y
     → IsLawful (with_worker (with_head s l.chunk (one_fewer (head s l.chunk))) w y)
-both_unreferred s l w y o within inside current bumps hits hands new alone waits = both_lawful s l.chunk h w y within inside refl o refl refl
+both_unreferred s l w y o within inside current bumps hits hands new alone waits tells = both_lawful s l.chunk h w y within inside refl o refl refl
     (λ m ne. omega (arith, bumps m, one_if_elsewhere m l ne))
     (λ m ne. hits m)
     (relawful s.refs_limit h (place s l.chunk) (references t l.chunk) (first_hits_of s l.chunk)
@@ -288,7 +321,7 @@ both_unreferred s l w y o within inside current bumps hits hands new alone waits
     (references t l.chunk) (first_hits_of t l.chunk)
     (λ g. refl)
     (λ g. omega (arith, first_hits_after s l.chunk h w y within inside refl l.chunk g, hits (life l.chunk g))))
-    hands new alone waits
+    hands new alone waits tells
   where
     h : Head
     h = one_fewer (head s l.chunk)

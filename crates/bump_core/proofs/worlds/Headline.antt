@@ -13,6 +13,7 @@ use Rattle.bump_core.specs.State.{State, WorkerState, class, head, worker}
 use Rattle.bump_core.specs.Worlds.{owns, place, place_in, stands_in, IsLawful}
 use Rattle.bump_core.proofs.worlds.LawfulStates.{referred_in_range, referred_used}
 use Rattle.bump_core.proofs.worlds.Fronts.{times_in, listed, never_at}
+use Rattle.bump_core.proofs.worlds.TrueEntries.{named_once, true_entry}
 use Rattle.bump_core.proofs.workers.Ring.{numbered_append}
 use Rattle.bump_core.proofs.Standings.{other_place, one_place}
 
@@ -50,4 +51,8 @@ headline s o = record {
       (never_at s o c (place s c) Unused within refl (other_place (place s c) Unused (λ e. subst IsUsed e used)), never_at s o c (place s c) Retired within refl (other_place (place s c) Retired (λ e. subst IsUsed e used)));
   stands = stands_to s o;
   once = once_in_all s o;
+  causes = λ k within. (o.classes k within).causes;
+  moves = o.moves;
+  named_once = named_once s o;
+  entries = true_entry s o;
 }

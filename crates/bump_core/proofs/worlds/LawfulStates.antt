@@ -1,6 +1,6 @@
 -- What follows for a lawful state: which numbers are in range, which lives are current, and what the counts are below.
 use Rattle.std.proofs.Common.{Bool, false, ◌⊎◌, inl, inr, length-append, ◌≡◌, ℕ, ◌+◌, ◌<◌, ◌≤◌, ◌≢◌, true, cond, eqb, length, refl, sym, ap, ◌∙◌, subst, Some, arith, eq-eqb, ne_eqb}
-use Rattle.std.proofs.lemmas.Bool.{and_from, and_left, and_right, cases_lt}
+use Rattle.std.proofs.lemmas.Bool.{and_parts, and_from, and_left, and_right, cases_lt, eqb-true}
 use Rattle.std.proofs.lemmas.List.{get_or_past}
 use mathlib.Core.Logic.{dite}
 use native.Mathlib.Decide.{ℕ_discrete}
@@ -52,6 +52,13 @@ pub one_if_cases : (l m : ItemId) → (l ≡ m) ⊎ (one_if l m ≡ 0)
 one_if_cases l m = dite (ℕ_discrete l.chunk m.chunk)
     (λ e. dite (ℕ_discrete l.generation m.generation) (λ f. inl (λ i. life (e i) (f i))) (λ ne. inr (one_if_other_life l m ne)))
     (λ ne. inr (one_if_elsewhere l m ne))
+
+-- lives that test as one are one
+pub same_lives : (l m : ItemId) → is_same l m ≡ true → l ≡ m
+same_lives l m e = let both = and_parts (eqb l.chunk m.chunk) (eqb l.generation m.generation) e in
+    let chunks = eqb-true l.chunk m.chunk both.0 in
+    let generations = eqb-true l.generation m.generation both.1 in
+    λ i. life (chunks i) (generations i)
 
 -- a lane that applies a bump has it aboard
 applied_counts : (x : Lane) (l : ItemId) → applied_life x ≡ Some l → 0 < aboard_of l x

@@ -7,7 +7,8 @@ use Rattle.bump_core.specs.declared.configs.ClassConfig.{ClassConfig}
 use Rattle.bump_core.specs.declared.configs.Config.{Config}
 use Rattle.bump_core.specs.declared.chunks.Chunk.{Chunk}
 use Rattle.bump_core.specs.declared.places.Place.TheVariants.{Unused}
-use Rattle.bump_core.specs.Totals.{total}
+use Rattle.bump_core.specs.Totals.{total, how_many}
+use Rattle.bump_core.specs.Entries.{is_move_for, is_told_gone, moves_told}
 use Rattle.bump_core.specs.Configs.{chunks_of, first_fault, HaveChunks}
 use Rattle.bump_core.proofs.Bounds.{bounds}
 use Rattle.bump_core.proofs.NewClasses.{classes_long}
@@ -19,7 +20,7 @@ use Rattle.bump_core.specs.Lives.{life, count_of}
 use Rattle.bump_core.specs.Rings.{IsWorker}
 use Rattle.bump_core.specs.State.{State, ClassState, WorkerState, head, class, no_chunk, no_class, new_worker, class_of, applied_life, is_on}
 use Rattle.bump_core.specs.Opening.{fresh_chunk, classes_from, new_state}
-use Rattle.bump_core.specs.Worlds.{IsLawful, IsClass, Tiles, references, first_hits_of, holds_of, bumps_of, standing, place, WaitsToMove}
+use Rattle.bump_core.specs.Worlds.{IsLawful, IsClass, Tiles, references, first_hits_of, holds_of, bumps_of, standing, place, WaitsToMove, is_of_class}
 use Rattle.bump_core.proofs.classes.Tiles.{class_within, class_out}
 use Rattle.bump_core.proofs.worlds.StaysLawful.{Keeps}
 
@@ -30,8 +31,8 @@ tiles_new fresh from (k ∷ ks) all = (refl, omega (arith, all.0), subst (λ (n 
 
 -- each class of a new World has no history, and its lists are those at the start
 class_new : (fresh from : ℕ) (ks : List ClassConfig) (k : ℕ) → IsClass (get_or (classes_from fresh from ks) k no_class) × ((get_or (classes_from fresh from ks) k no_class).history ≡ [])
-class_new fresh from [] k = (record { lists = refl; entries = tt }, refl)
-class_new fresh from (c ∷ cs) zero = (record { lists = ap (opening from) (omega arith); entries = tt }, refl)
+class_new fresh from [] k = (record { lists = refl; entries = tt; causes = refl }, refl)
+class_new fresh from (c ∷ cs) zero = (record { lists = ap (opening from) (omega arith); entries = tt; causes = refl }, refl)
 class_new fresh from (c ∷ cs) (suc k) = class_new fresh (from + c.chunks) cs k
 
 -- each class of a new World has fresh chunks of this generation
@@ -135,6 +136,9 @@ module _ (config : Config) (early : config.first_generation < 4294967296) (two :
     workers = λ w within. subst (IsWorker s.capacity) (sym (worker_new config.workers w)) (new_is_worker s.capacity);
     alone = λ v w l m v_in w_in of_v of_w same. absurd (let u : ⊥ = cc (ap (λ x. applied_life x.lane) (worker_new config.workers v)) in u);
     waits = λ w within. subst (λ x. WaitsToMove s x.lane) (sym (worker_new config.workers w)) tt;
+    moves = λ k w n test. ap (how_many (is_move_for test w n)) (class_new (config.first_generation - 1) 0 config.classes k).1
+        ∙ sym (ap (λ x. moves_told (is_of_class s k test) n x.applied x.lane) (worker_new config.workers w));
+    gone = λ w within l some. absurd (omega (arith, some, ap (λ x. how_many (is_told_gone l) x.applied) (worker_new config.workers w)));
   }
 
   -- a new World keeps what a World keeps
