@@ -8,6 +8,7 @@ use Rattle.bump_core.specs.declared.history.Change.TheVariants as change
 use Rattle.bump_core.specs.declared.places.Place.TheVariants.{Dying}
 use Rattle.bump_core.specs.declared.events.Event.TheVariants as event
 use Rattle.bump_core.specs.Heads.{severed_head}
+use Rattle.bump_core.specs.Entries.{names_bump}
 use Rattle.bump_core.specs.History.{subject, target, freed_change}
 use Rattle.bump_core.specs.Lawful.{Shows}
 use Rattle.bump_core.specs.Lives.{life}
@@ -27,9 +28,10 @@ use Rattle.bump_core.proofs.worlds.Fronts.{listed}
 pub swept_dying : (s : State) → IsLawful s → (c : ℕ) → is_enabled s (event.Sweep c) ≡ true → place s c ≡ Dying
 swept_dying s o c enabled = let may = sweep_from s c enabled in (listed s o (class_of s c) c Dying (class_within s o.tiles c may.0) may.1).2
 
--- the entry speaks of the life, and the place to which it puts the chunk is one for an unlinked head of that life's generation
+-- the entry speaks of the life and names no bump, and the place to which it puts the chunk is one for an unlinked head of that life's generation
 pub record IsFreed (l : ItemId) (e : Change) : Type 0 where
   pub is : subject e ≡ l
+  pub plain : names_bump e ≡ false
   pub shows : (h : Head) → h.linked ≡ false → h.generation ≡ l.generation → h.generation ≤ 4294967295 → Shows h (target e)
 
 -- so it is with the entry of a chunk that is found without holders
@@ -37,8 +39,8 @@ pub freed : (l : ItemId) → IsFreed l (freed_change l)
 freed l = by (l.generation == 4294967295) refl
   where
     by : (b : Bool) → (l.generation == 4294967295) ≡ b → IsFreed l (if b then change.Retired l else change.Swept l)
-    by true last = record { is = refl; shows = λ h off same most. (off, same ∙ eqb-true l.generation 4294967295 last) }
-    by false others = let left = eqb-false l.generation 4294967295 others in record { is = refl; shows = λ h off same most. (off, omega (arith, same, most, left)) }
+    by true last = record { is = refl; plain = refl; shows = λ h off same most. (off, same ∙ eqb-true l.generation 4294967295 last) }
+    by false others = let left = eqb-false l.generation 4294967295 others in record { is = refl; plain = refl; shows = λ h off same most. (off, omega (arith, same, most, left)) }
 
 -- The events.
 
@@ -49,6 +51,7 @@ after_unlink s o l enabled = let may = unlink_from s l enabled in
     (λ g. refl)
     (severed s.refs_limit (head s l.chunk) (place s l.chunk) (references s l.chunk) (first_hits_of s l.chunk) (o.chunks l.chunk) may.2)
     (sym may.1)
+    refl
     (λ w w_in b is same. none_applies s (class_of s l.chunk) w b.life may.3 w_in (ap applied_life is) (ap (class_of s) same))
 
 -- a chunk without holders is free
@@ -64,4 +67,5 @@ after_sweep s o c enabled =
     (ended s.refs_limit (head s c) (place s c) (references s c) (first_hits_of s c) (o.chunks c) (target e) dying may.2
     (entry.shows (head s c) (subst (Shows (head s c)) dying (o.chunks c).shown) refl (o.chunks c).generation))
     (ap (λ (l : ItemId). l.generation) entry.is)
+    entry.plain
     (λ w w_in b is same. none_applies s (class_of s c) w b.life may.3 w_in (ap applied_life is) (ap (class_of s) same)))

@@ -5,7 +5,7 @@ use Rattle.bump_core.specs.State.{State, WorkerState, worker}
 use Rattle.bump_core.specs.Events.{is_enabled, after}
 use Rattle.bump_core.specs.Rings.{IsWorker}
 use Rattle.bump_core.specs.Worlds.{IsLawful}
-use Rattle.bump_core.proofs.worlds.Frames.{worker_lawful, alone_kept}
+use Rattle.bump_core.proofs.worlds.Frames.{worker_lawful, alone_kept, tells_kept}
 use Rattle.bump_core.proofs.events.Enabled.{close_from}
 
 -- a worker's ring closes
@@ -20,3 +20,4 @@ after_close s w o enabled = let inside = (close_from s w enabled).0 in
     (record { ring = was.ring; applied = was.applied; accounts = was.accounts })
     (alone_kept s w y inside o refl)
     (o.waits w inside)
+    (tells_kept s w o inside)
