@@ -4,11 +4,12 @@ use Rattle.std.specs.Prelude.{Result, Ok, Err, OnErr, Some, slice_get}
 use Rattle.std.proofs.lemmas.List.{length-map, get_or-map, map-set}
 use Rattle.std.proofs.Math.Seq.{map-set_same}
 use Rattle.bump_core.specs.declared.items.ItemId.{ItemId}
+use Rattle.bump_core.specs.declared.classes.Class.{Class}
 use Rattle.bump_core.specs.declared.parts.Parts.{Parts}
 use Rattle.bump_core.specs.declared.workers.Worker.{Worker}
 use Rattle.bump_core.specs.Events.{next_bump}
-use Rattle.bump_core.specs.State.{worker, new_worker}
-use Rattle.bump_core.specs.Views.{state_of, worker_view}
+use Rattle.bump_core.specs.State.{class, worker, no_class, new_worker}
+use Rattle.bump_core.specs.Views.{state_of, class_view, worker_view}
 
 -- an element changed behind a reference: the seen list has it changed alike
 pub rewritten : {A B : Type 0} (f : A → B) (h : B → B) (xs : List A) (i : ℕ) (a x : A) (d : B) → i < length (map f xs) → a ≡ get_or xs i a → f x ≡ h (f a)
@@ -37,3 +38,7 @@ next_received p w a l within is next =
     let seen : worker (state_of p) w ≡ worker_view a = get_or-map worker_view p.workers.items w a new_worker (omega (arith, within, length-map p.workers.items worker_view)) ∙ ap worker_view (sym is) in
     let taken = next_taken a.sent.items a.received l (ap next_bump (sym seen) ∙ next) in
     (ap (λ v. length v.received) seen ∙ taken.1, seen, ap (λ (n : ℕ). take n a.sent.items) (add-one a.received) ∙ taken.2)
+
+-- a class as it is read
+pub class_seen : (p : Parts) (k : ℕ) (a : Class) → k < length (map class_view p.classes.items) → a ≡ get_or p.classes.items k a → class (state_of p) k ≡ class_view a
+class_seen p k a within is = get_or-map class_view p.classes.items k a no_class (omega (arith, within, length-map p.classes.items class_view)) ∙ ap class_view (sym is)
