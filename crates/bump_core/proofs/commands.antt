@@ -1,7 +1,11 @@
 pub mod AreEvents
+pub mod ChangedLists
 pub mod ChangedState
+pub mod EndsAsEvents
+pub mod FreedChunks
 pub mod HitsAsEvents
 pub mod HoldsAsEvents
 pub mod LanesAsEvents
 pub mod LinksAsEvents
 pub mod PullsAsEvents
+pub mod UnheldChunks

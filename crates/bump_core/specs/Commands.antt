@@ -267,7 +267,6 @@ is_allowed s (command.Touch w l now) = is_open s w && (has_free_hold s l && (is_
 is_allowed s (command.Label l) = is_held s l
 is_allowed s (command.Release l) = has_free_hold s l
 is_allowed s (command.Next w now) = is_worker s w && (not (is_half_made (worker s w).lane) && not (some_and (λ b. is_under_application s (class_of s b.life.chunk)) (bump_next (worker s w))))
-
 is_allowed s (command.Close w) = is_open s w && is_idle (worker s w).hand
 
 -- what an unlink answers

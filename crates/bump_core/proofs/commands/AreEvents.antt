@@ -7,11 +7,12 @@ use Rattle.bump_core.specs.declared.events.Refused.TheVariants.{NotEnabled, OutO
 use Rattle.bump_core.specs.declared.commands.Command.{Command}
 use Rattle.bump_core.specs.declared.commands.Command.TheVariants as command
 use Rattle.bump_core.specs.State.{State, SameSizes}
-use Rattle.bump_core.specs.Worlds.{IsLawful, NothingUnlinked}
+use Rattle.bump_core.specs.Worlds.{IsLawful}
 use Rattle.bump_core.specs.Runs.{run_of}
 use Rattle.bump_core.specs.Commands.{is_allowed, events_of, command_after, Commands}
 use Rattle.bump_core.proofs.worlds.Sizes.{run_sizes}
 use Rattle.bump_core.proofs.worlds.StaysLawful.{Keeps, run_keeps}
+use Rattle.bump_core.proofs.commands.EndsAsEvents.{unlink_made, sweep_made, close_made}
 use Rattle.bump_core.proofs.commands.HoldsAsEvents.{label_made, release_made, take_made}
 use Rattle.bump_core.proofs.commands.LinksAsEvents.{link_made}
 use Rattle.bump_core.proofs.commands.PullsAsEvents.{pull_made}
@@ -19,14 +20,17 @@ use Rattle.bump_core.proofs.commands.HitsAsEvents.{touch_made}
 use Rattle.bump_core.proofs.commands.LanesAsEvents.{next_made}
 
 -- a command leaves the state that its events leave
-pub commands_are_events : (s : State) → IsLawful s → NothingUnlinked s → (c : Command) → is_allowed s c ≡ true → run_of s (events_of s c) ≡ Some (command_after s c)
-commands_are_events s o none (command.Link k x now) allowed = link_made s o k x now allowed
-commands_are_events s o none (command.Pull k t) allowed = pull_made s o k t allowed
-commands_are_events s o none (command.Take w l) allowed = take_made s w l allowed
-commands_are_events s o none (command.Touch w l now) allowed = touch_made s o w l now allowed
-commands_are_events s o none (command.Label l) allowed = label_made s l allowed
-commands_are_events s o none (command.Release l) allowed = release_made s l allowed
-commands_are_events s o none (command.Next w now) allowed = next_made s o none w now allowed
+pub commands_are_events : (s : State) → IsLawful s → (c : Command) → is_allowed s c ≡ true → run_of s (events_of s c) ≡ Some (command_after s c)
+commands_are_events s o (command.Link k x now) allowed = link_made s o k x now allowed
+commands_are_events s o (command.Unlink l) allowed = unlink_made s o l allowed
+commands_are_events s o (command.Sweep k) allowed = sweep_made s o k allowed
+commands_are_events s o (command.Pull k t) allowed = pull_made s o k t allowed
+commands_are_events s o (command.Take w l) allowed = take_made s w l allowed
+commands_are_events s o (command.Touch w l now) allowed = touch_made s o w l now allowed
+commands_are_events s o (command.Label l) allowed = label_made s l allowed
+commands_are_events s o (command.Release l) allowed = release_made s l allowed
+commands_are_events s o (command.Next w now) allowed = next_made s o w now allowed
+commands_are_events s o (command.Close w) allowed = close_made s w allowed
 
 -- a command that is refused changes nothing
 refused_same : (old : State) (c : Command) (new : State) (r : Refused) → Commands old c new (Err r) → new ≡ old
@@ -35,7 +39,7 @@ refused_same old c new OutOfMemory refused = refused.1
 
 -- the events of a command that was made
 pub command_events : (old : State) (c : Command) (new : State) (r : Result Answer Refused) → Keeps old → Commands old c new r → OnOk r (run_of old (events_of old c) ≡ Some new)
-command_events old c new (Ok answer) k made = commands_are_events old k.0 k.1 c made.0 ∙ ap (λ (s : State). Some s) (sym made.1)
+command_events old c new (Ok answer) k made = commands_are_events old k.0 c made.0 ∙ ap (λ (s : State). Some s) (sym made.1)
 command_events old c new (Err r) k refused = tt
 
 -- a command keeps what a World keeps, as the run of its events does

@@ -4,7 +4,7 @@ use Rattle.std.proofs.lemmas.Bool.{and_parts, and_from, ltb-true, lt-ltb, both_w
 use Rattle.std.proofs.lemmas.Option.{slice_get_within}
 use Rattle.std.specs.Option.{option_map_or}
 use Rattle.std.specs.Prelude.{option_map}
-use Rattle.std.proofs.lemmas.List.{set-get_or}
+use Rattle.std.proofs.lemmas.List.{length-set, set-get_or}
 use Rattle.bump_core.specs.declared.places.Segment.TheVariants as segment
 use Rattle.bump_core.specs.declared.items.ItemId.{ItemId}
 use Rattle.bump_core.specs.declared.items.Head.{Head}
@@ -22,18 +22,20 @@ use Rattle.bump_core.specs.declared.events.Event.{Event}
 use Rattle.bump_core.specs.declared.events.Event.TheVariants as event
 use Rattle.bump_core.specs.declared.commands.Command.TheVariants as command
 use Rattle.bump_core.specs.Lives.{count_of}
-use Rattle.bump_core.specs.Tables.{is_cold}
+use Rattle.bump_core.specs.Tables.{is_cold, ended_of}
 use Rattle.bump_core.specs.State.{State, ClassState, WorkerState, chunk, head, class, worker, no_chunk, class_with_change, is_worker, with_worker, with_change, class_from, class_of, some_and, applies_in, is_under_application}
-use Rattle.bump_core.specs.Worlds.{references, aboard_of, IsLawful, NothingUnlinked}
+use Rattle.bump_core.specs.Worlds.{references, aboard_of, place, IsLawful}
 use Rattle.bump_core.specs.Heads.{one_fewer, cleared_head, moved_head}
-use Rattle.bump_core.specs.Events.{next_bump, carried, tried, applied_now, cleared_active, is_empty, outcome_tried, ending_at, ending, with_time, bump_of, take_bump, with_lane, clear_for, move_for, applied_bump, alight}
+use Rattle.bump_core.specs.Events.{is_enabled, after, next_bump, carried, tried, applied_now, cleared_active, is_empty, outcome_tried, ending_at, ending, with_time, bump_of, take_bump, with_lane, clear_for, move_for, applied_bump, alight}
 use Rattle.bump_core.specs.Runs.{run_of}
-use Rattle.bump_core.specs.Commands.{is_allowed, events_of, command_after, bump_next, is_half_made, outcome_next, ended_at, bumped_chunk, bumped_worker, bumped_lists, apply_bump, take_events, apply_events}
-use Rattle.bump_core.proofs.worlds.NothingUnlinked.{referred_linked}
+use Rattle.bump_core.specs.Commands.{is_allowed, events_of, command_after, bump_next, is_half_made, outcome_next, ended_at, bumped_chunk, bumped_worker, bumped_lists, freed_by, look_of, apply_bump, take_events, apply_events}
+use Rattle.bump_core.proofs.Laws.{dying_where_unlinked}
 use Rattle.bump_core.proofs.workers.Ring.{next_in_ring}
-use Rattle.bump_core.proofs.worlds.LawfulStates.{one_if_same, referred_in_range, in_ring_referred, aboard_referred}
+use Rattle.bump_core.proofs.worlds.LawfulStates.{one_if_same, referred_in_range, referred_used, referred_current, in_ring_referred, aboard_referred}
+use Rattle.bump_core.proofs.worlds.StaysLawful.{lawful_after, run_lawful}
 use Rattle.bump_core.proofs.events.Runs.{run_step}
 use Rattle.bump_core.proofs.Updates.{none_written}
+use Rattle.bump_core.proofs.commands.EndsAsEvents.{look_made}
 use Rattle.bump_core.proofs.commands.ChangedState.{at, at_start, chunk_at, worker_at, is_worker_at, on_chunk, on_worker, on_both}
 
 -- The steps of a bump, on its chunk, its worker and the classes.
@@ -103,8 +105,8 @@ module _ (s : State) (b : Bump) (w : ℕ) (c_in : b.life.chunk < length s.chunks
       (ap (λ m. option_map_or (alight t w) m t) comes
       ∙ on_both s b.life.chunk w c_in w_in ks x y (λ z. record z { head = one_fewer z.head }) (λ a z. record z { lane = lane.Empty; applied = z.applied ++ applied_bump b out ∷ [] }))
 
--- A bump that a lane carries, of a linked chunk, while no lane applies one of its class.
-module _ (s : State) (b : Bump) (w now : ℕ) (c_in : b.life.chunk < length s.chunks) (w_in : w < length s.workers) (on : (head s b.life.chunk).linked ≡ true)
+-- A bump that a lane carries, while no lane applies one of its class.
+module _ (s : State) (b : Bump) (w now : ℕ) (c_in : b.life.chunk < length s.chunks) (w_in : w < length s.workers)
     (rest : is_under_application s (class_of s b.life.chunk) ≡ false) (received : List ItemId) where
   -- the chunk's number
   abbrev c : ℕ
@@ -126,32 +128,65 @@ module _ (s : State) (b : Bump) (w now : ℕ) (c_in : b.life.chunk < length s.ch
   abbrev z : Outcome → WorkerState
   z o = record (y lane.Empty) { applied = (worker s w).applied ++ applied_bump b o ∷ [] }
 
-  -- the lane looks at the head and stores the time
-  begun : (es : List Event) → run_of (at s c w s.classes x (y (lane.Carrying b))) (event.Try w ∷ event.BumpTime w now ∷ es) ≡ run_of (at s c w s.classes (record x { time = now }) (y (lane.Tried b))) es
-  begun es = try_step s b w c_in w_in s.classes x (y (lane.Carrying b)) (event.BumpTime w now ∷ es) refl
+  -- the state when the lane took the bump
+  abbrev taken : State
+  taken = at s c w s.classes x (y (lane.Carrying b))
+
+  -- the lane looks at the head
+  looked : (es : List Event) → run_of taken (event.Try w ∷ es) ≡ run_of (at s c w s.classes x (y (lane.Tried b))) es
+  looked es = try_step s b w c_in w_in s.classes x (y (lane.Carrying b)) es refl
       (none_written (λ (v : WorkerState). applies_in s (class_of s c) v.lane) s.workers w (y (lane.Carrying b)) rest refl)
+
+  -- the state when a bump of an item that was gone is applied
+  abbrev left : State
+  left = at s c w s.classes (bumped_chunk x now outcome.Gone) (z outcome.Gone)
+
+  -- of an item that was gone the reference is given back
+  let_go : h.linked ≡ false → (es : List Event) → run_of taken (event.Try w ∷ event.Alight w ∷ es) ≡ run_of left es
+  let_go off es = looked (event.Alight w ∷ es)
+      ∙ alight_step s b w c_in w_in s.classes x (y (lane.Tried b)) es outcome.Gone
+      (λ heads same. ap (λ (f : Head). option_map (applied_bump b) (outcome_tried f)) same
+      ∙ ap (option_map (applied_bump b)) (ap (λ i. if not i then Some outcome.Gone else (if is_cold h.segment then None else Some outcome.TimeOnly)) off))
+
+  -- and its head is looked at: it was DYING, since its bump had a reference
+  gone : IsLawful s → IsLawful taken → 0 < references s c b.life.generation → h.linked ≡ false
+      → run_of taken (event.Try w ∷ event.Alight w ∷ look_of c (ended_of (one_fewer h)) ∷ []) ≡ Some (freed_by left b.life (ended_at s c))
+  gone o lawful some off =
+      let read = chunk_at s c w c_in w_in s.classes (bumped_chunk x now outcome.Gone) (z outcome.Gone) in
+      let_go off (look_of c (ended_of (one_fewer h)) ∷ [])
+      ∙ look_made left (run_lawful taken (event.Try w ∷ event.Alight w ∷ []) left lawful (let_go off [])) c
+      (omega (arith, c_in, length-set s.chunks c (bumped_chunk x now outcome.Gone)))
+      (dying_where_unlinked h (place s c) (o.chunks c).shown (referred_used s o c b.life.generation some) off)
+      (none_written (λ (v : WorkerState). applies_in s (class_of s c) v.lane) s.workers w (z outcome.Gone) rest refl)
+      b.life (ended_of (one_fewer h)) refl
+      (ap (λ (a : Chunk). a.head.generation) read ∙ sym (referred_current s o c b.life.generation some))
+      (ap (λ (a : Chunk). ended_of a.head) read)
+
+  -- of a linked item the lane stores the time
+  begun : h.linked ≡ true → (es : List Event) → run_of taken (event.Try w ∷ event.BumpTime w now ∷ es) ≡ run_of (at s c w s.classes (record x { time = now }) (y (lane.Tried b))) es
+  begun on es = looked (event.BumpTime w now ∷ es)
       ∙ time_step s b w c_in w_in s.classes x (y (lane.Tried b)) es now refl on
 
   -- an item in HOT or WARM gets the time alone
-  timed : is_cold h.segment ≡ false → run_of (at s c w s.classes x (y (lane.Carrying b))) (event.Try w ∷ event.BumpTime w now ∷ event.Alight w ∷ [])
+  timed : h.linked ≡ true → is_cold h.segment ≡ false → run_of taken (event.Try w ∷ event.BumpTime w now ∷ event.Alight w ∷ [])
       ≡ Some (at s c w s.classes (bumped_chunk x now outcome.TimeOnly) (z outcome.TimeOnly))
-  timed warm = begun (event.Alight w ∷ [])
+  timed on warm = begun on (event.Alight w ∷ [])
       ∙ alight_step s b w c_in w_in s.classes (record x { time = now }) (y (lane.Tried b)) [] outcome.TimeOnly
       (λ heads same. ap (λ (f : Head). option_map (applied_bump b) (outcome_tried f)) same
       ∙ ap (option_map (applied_bump b)) (ap (λ i. if not i then Some outcome.Gone else (if is_cold h.segment then None else Some outcome.TimeOnly)) on ∙ ap (λ d. if d then None else Some outcome.TimeOnly) warm))
 
   -- so does one in COLD whose ACTIVE is clear
-  unmarked : is_cold h.segment ≡ true → h.active ≡ false → run_of (at s c w s.classes x (y (lane.Carrying b))) (event.Try w ∷ event.BumpTime w now ∷ event.ClearFor w ∷ event.Alight w ∷ [])
+  unmarked : h.linked ≡ true → is_cold h.segment ≡ true → h.active ≡ false → run_of taken (event.Try w ∷ event.BumpTime w now ∷ event.ClearFor w ∷ event.Alight w ∷ [])
       ≡ Some (at s c w s.classes (bumped_chunk x now outcome.TimeOnly) (z outcome.TimeOnly))
-  unmarked cold clear = begun (event.ClearFor w ∷ event.Alight w ∷ [])
+  unmarked on cold clear = begun on (event.ClearFor w ∷ event.Alight w ∷ [])
       ∙ (clear_step s b w c_in w_in s.classes (record x { time = now }) (y (lane.Tried b)) (event.Alight w ∷ []) refl on cold
       ∙ (alight_step s b w c_in w_in s.classes (record x { head = cleared_head h; time = now }) (y (lane.Cleared b h.active)) [] outcome.TimeOnly (λ heads same. ap (λ d. ending_at heads (lane.Cleared b d)) clear)
       ∙ ap (λ (a : Bool). Some (at s c w s.classes (record x { head = record (one_fewer h) { active = a }; time = now }) (z outcome.TimeOnly))) (sym clear)))
 
   -- one whose ACTIVE is set is moved
-  moved : is_cold h.segment ≡ true → h.active ≡ true → run_of (at s c w s.classes x (y (lane.Carrying b))) (event.Try w ∷ event.BumpTime w now ∷ event.ClearFor w ∷ event.MoveFor w ∷ event.Alight w ∷ [])
+  moved : h.linked ≡ true → is_cold h.segment ≡ true → h.active ≡ true → run_of taken (event.Try w ∷ event.BumpTime w now ∷ event.ClearFor w ∷ event.MoveFor w ∷ event.Alight w ∷ [])
       ≡ Some (with_change (at s c w s.classes (bumped_chunk x now outcome.Moved) (z outcome.Moved)) (class_of s c) (change.Moved b.life segment.Cold segment.Warm (BumpOf w b.number)))
-  moved cold set = begun (event.ClearFor w ∷ event.MoveFor w ∷ event.Alight w ∷ [])
+  moved on cold set = begun on (event.ClearFor w ∷ event.MoveFor w ∷ event.Alight w ∷ [])
       ∙ (clear_step s b w c_in w_in s.classes (record x { time = now }) (y (lane.Tried b)) (event.MoveFor w ∷ event.Alight w ∷ []) refl on cold
       ∙ (move_step s b w c_in w_in s.classes (record x { head = cleared_head h; time = now }) (y (lane.Cleared b h.active)) (event.Alight w ∷ []) (ap (lane.Cleared b) set)
       ∙ alight_step s b w c_in w_in (slice_set s.classes (class_of s c) (class_with_change (class s (class_of s c)) (change.Moved b.life segment.Cold segment.Warm (BumpOf w b.number))))
@@ -162,21 +197,21 @@ module _ (s : State) (b : Bump) (w now : ℕ) (c_in : b.life.chunk < length s.ch
   out i d a = if not i then outcome.Gone else (if d && a then outcome.Moved else outcome.TimeOnly)
 
   -- applying the bump is what the update table says
-  applied_made : run_of (at s c w s.classes x (y (lane.Carrying b))) (apply_events h w now c)
+  applied_made : IsLawful s → IsLawful taken → 0 < references s c b.life.generation → run_of taken (apply_events h w now c)
       ≡ Some (bumped_lists (at s c w s.classes (bumped_chunk x now (outcome_next s b)) (z (outcome_next s b))) w b (outcome_next s b) (ended_at s c))
-  applied_made = by h.linked (is_cold h.segment) h.active on refl refl
+  applied_made o lawful some = by h.linked (is_cold h.segment) h.active refl refl refl
     where
-      by : (i d a : Bool) → i ≡ true → is_cold h.segment ≡ d → h.active ≡ a
-          → run_of (at s c w s.classes x (y (lane.Carrying b)))
-          (if not i then event.Try w ∷ event.Alight w ∷ event.Load c ∷ []
+      by : (i d a : Bool) → h.linked ≡ i → is_cold h.segment ≡ d → h.active ≡ a
+          → run_of taken
+          (if not i then event.Try w ∷ event.Alight w ∷ look_of c (ended_of (one_fewer h)) ∷ []
           else (if not d then event.Try w ∷ event.BumpTime w now ∷ event.Alight w ∷ []
           else (if a then event.Try w ∷ event.BumpTime w now ∷ event.ClearFor w ∷ event.MoveFor w ∷ event.Alight w ∷ []
           else event.Try w ∷ event.BumpTime w now ∷ event.ClearFor w ∷ event.Alight w ∷ [])))
           ≡ Some (bumped_lists (at s c w s.classes (bumped_chunk x now (out i d a)) (z (out i d a))) w b (out i d a) (ended_at s c))
-      by false d a is cold mark = absurd (both_ways false refl is)
-      by true false a is warm mark = timed warm
-      by true true true is cold set = moved cold set
-      by true true false is cold clear = unmarked cold clear
+      by false d a is cold mark = gone o lawful some is
+      by true false a is warm mark = timed is warm
+      by true true true is cold set = moved is cold set
+      by true true false is cold clear = unmarked is cold clear
 
 -- what is to be shown, by the next bump
 abbrev Made : State → ℕ → ℕ → Option Bump → Type 0
@@ -187,8 +222,8 @@ abbrev laned : State → ℕ → List ItemId → Lane → WorkerState
 laned s w r l = record (worker s w) { received = r; lane = l }
 
 -- applying the next bump of a worker is its events
-pub next_made : (s : State) → IsLawful s → NothingUnlinked s → (w now : ℕ) → is_allowed s (command.Next w now) ≡ true → run_of s (events_of s (command.Next w now)) ≡ Some (command_after s (command.Next w now))
-next_made s o none w now allowed = by (worker s w).lane refl
+pub next_made : (s : State) → IsLawful s → (w now : ℕ) → is_allowed s (command.Next w now) ≡ true → run_of s (events_of s (command.Next w now)) ≡ Some (command_after s (command.Next w now))
+next_made s o w now allowed = by (worker s w).lane refl
   where
     both : (is_worker s w ≡ true) × ((not (is_half_made (worker s w).lane) && not (some_and (λ b. is_under_application s (class_of s b.life.chunk)) (bump_next (worker s w)))) ≡ true)
     both = and_parts _ _ allowed
@@ -205,9 +240,10 @@ next_made s o none w now allowed = by (worker s w).lane refl
 
     -- the bump that the lane carries is applied
     ends : (b : Bump) (r : List ItemId) → bump_next (worker s w) ≡ Some b → 0 < references s b.life.chunk b.life.generation
+        → IsLawful (at s b.life.chunk w s.classes (chunk s b.life.chunk) (laned s w r (lane.Carrying b)))
         → r ≡ (bumped_worker (worker s w) b (outcome_next s b)).received
         → run_of (at s b.life.chunk w s.classes (chunk s b.life.chunk) (laned s w r (lane.Carrying b))) (apply_events (head s b.life.chunk) w now b.life.chunk) ≡ Some (apply_bump s w now b)
-    ends b r is some same = applied_made s b w now (referred_in_range s o b.life.chunk b.life.generation some) w_in (referred_linked s o none b.life.chunk b.life.generation some) (rests b is) r
+    ends b r is some lawful same = applied_made s b w now (referred_in_range s o b.life.chunk b.life.generation some) w_in (rests b is) r o lawful some
         ∙ ap (λ (q : List ItemId). Some (bumped_lists (at s b.life.chunk w s.classes (bumped_chunk (chunk s b.life.chunk) now (outcome_next s b))
         (record (worker s w) { received = q; lane = lane.Empty; applied = (worker s w).applied ++ applied_bump b (outcome_next s b) ∷ [] })) w b (outcome_next s b) (ended_at s b.life.chunk))) same
 
@@ -216,9 +252,10 @@ next_made s o none w now allowed = by (worker s w).lane refl
     aboard_made b is =
         let bump : bump_next (worker s w) ≡ Some b = ap (λ l. bump_next (record (worker s w) { lane = l })) is in
         let some = aboard_referred s o w b.life w_in (omega (arith, ap (aboard_of b.life) is, one_if_same b.life)) in
+        let start = at_start s b.life.chunk w ∙ ap (λ l. at s b.life.chunk w s.classes (chunk s b.life.chunk) (laned s w (worker s w).received l)) is in
         ap (λ l. run_of s (take_events w l ++ apply_events (head s b.life.chunk) w now b.life.chunk)) is
-        ∙ (ap (λ u. run_of u (apply_events (head s b.life.chunk) w now b.life.chunk)) (at_start s b.life.chunk w ∙ ap (λ l. at s b.life.chunk w s.classes (chunk s b.life.chunk) (laned s w (worker s w).received l)) is)
-        ∙ ends b (worker s w).received bump some (ap (λ l. (bumped_worker (record (worker s w) { lane = l }) b (outcome_next s b)).received) (sym is)))
+        ∙ (ap (λ u. run_of u (apply_events (head s b.life.chunk) w now b.life.chunk)) start
+        ∙ ends b (worker s w).received bump some (subst IsLawful start o) (ap (λ l. (bumped_worker (record (worker s w) { lane = l }) b (outcome_next s b)).received) (sym is)))
 
     -- a bump that waits in the ring
     waiting_made : (l : ItemId) → (worker s w).lane ≡ lane.Empty → next_bump (worker s w) ≡ Some l → bump_next (worker s w) ≡ Some (bump_of (length (worker s w).received) l)
@@ -227,11 +264,12 @@ next_made s o none w now allowed = by (worker s w).lane refl
         let b = bump_of (length (worker s w).received) l in
         let some = in_ring_referred s o w l w_in (omega (arith, ap (count_of l) (next_in_ring (worker s w) l next), one_if_same l)) in
         let r = (worker s w).received ++ l ∷ [] in
+        let enabled : is_enabled s (event.TakeBump w) ≡ true = and_from _ _ both.0 (and_from _ _ (ap is_empty is) (lt-ltb _ _ (slice_get_within (worker s w).sent (length (worker s w).received) l next))) in
+        let takes : after s (event.TakeBump w) ≡ at s l.chunk w s.classes (chunk s l.chunk) (laned s w r (lane.Carrying b)) =
+        ap (λ m. option_map_or (take_bump s w) m s) next ∙ ap (λ cs. with_worker (record s { chunks = cs }) w (laned s w r (lane.Carrying b))) (sym (set-get_or s.chunks l.chunk no_chunk)) in
         ap (λ m. run_of s (take_events w m ++ apply_events (head s l.chunk) w now l.chunk)) is
-        ∙ (run_step s (at s l.chunk w s.classes (chunk s l.chunk) (laned s w r (lane.Carrying b))) (event.TakeBump w) (apply_events (head s l.chunk) w now l.chunk)
-        (and_from _ _ both.0 (and_from _ _ (ap is_empty is) (lt-ltb _ _ (slice_get_within (worker s w).sent (length (worker s w).received) l next))))
-        (ap (λ m. option_map_or (take_bump s w) m s) next ∙ ap (λ cs. with_worker (record s { chunks = cs }) w (laned s w r (lane.Carrying b))) (sym (set-get_or s.chunks l.chunk no_chunk)))
-        ∙ ends b r bump some (ap (λ m. (bumped_worker (record (worker s w) { lane = m }) b (outcome_next s b)).received) (sym is)))
+        ∙ (run_step s (at s l.chunk w s.classes (chunk s l.chunk) (laned s w r (lane.Carrying b))) (event.TakeBump w) (apply_events (head s l.chunk) w now l.chunk) enabled takes
+        ∙ ends b r bump some (subst IsLawful takes (lawful_after s o (event.TakeBump w) enabled)) (ap (λ m. (bumped_worker (record (worker s w) { lane = m }) b (outcome_next s b)).received) (sym is)))
 
     -- the lane is empty
     empty_made : (worker s w).lane ≡ lane.Empty → (m : Option ItemId) → next_bump (worker s w) ≡ m → Made s w now (bump_next (worker s w))

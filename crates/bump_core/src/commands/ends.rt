@@ -1,6 +1,6 @@
 //! The commands of ends: an item is ended, and the chunks of DYING that nobody holds are freed.
 ghost use Rattle.std.specs.Prelude.{◌≡◌, ◌<◌, IfOk, OnOk, OnErr, true, length};
-ghost use Rattle.bump_core.specs.Commands.{Commands, end_life, end_of, sweep_of};
+ghost use Rattle.bump_core.specs.Commands.{Commands, is_allowed, end_life, end_of, sweep_of};
 ghost use Rattle.bump_core.specs.State.{is_linked, with_changes};
 ghost use Rattle.bump_core.specs.Tables.{ended_of};
 ghost use Rattle.bump_core.specs.Views.{state_of};
@@ -90,6 +90,15 @@ impl Parts {
         Ok(())
     }
 
+    /// Whether a sweep may be made, by how many chunks it frees: only one that frees some has to wait for a lane.
+    fn may_sweep(&self, k: u32, count: u32) -> bool
+        requires class { k < length (state_of self.now).classes }
+        requires count { count ≡ length (sweep_of (state_of self.now) k) }
+        ensures { result ≡ is_allowed (state_of self.now) (command.Sweep k) }
+    {
+        count == 0 || !self.is_under_application(k as usize)
+    }
+
     /// Frees the chunks of a class's DYING that nobody holds.
     pub fn call_sweep(&mut self, k: u32) -> Result<Answer, Refused>
         requires { IsLawful (state_of self.old) }
@@ -99,7 +108,7 @@ impl Parts {
             return Err(Refused::NotEnabled);
         }
         let count = self.count_unheld(k);
-        if count > 0 && self.is_under_application(k as usize) {
+        if !self.may_sweep(k, count) {
             return Err(Refused::NotEnabled);
         }
         self.sweep_class(k, count)?;

@@ -1,0 +1,56 @@
+-- Where the chunks of ends and sweeps stand: each entry that they make is of a chunk of the class's lists.
+use Rattle.std.proofs.Common.{◌≡◌, ℕ, ◌<◌, ◌==◌, Bool, true, false, [], ◌∷◌, length, if◌then◌else◌, refl, sym, ap, ◌∙◌, subst}
+use Rattle.std.proofs.lemmas.Bool.{and_parts}
+use Rattle.bump_core.specs.declared.items.Head.{Head}
+use Rattle.bump_core.specs.declared.items.ItemId.{ItemId}
+use Rattle.bump_core.specs.declared.bumps.Ended.TheVariants.{Freed, Deferred}
+use Rattle.bump_core.specs.declared.history.Change.{Change}
+use Rattle.bump_core.specs.declared.history.Change.TheVariants as change
+use Rattle.bump_core.specs.History.{subject, freed_change}
+use Rattle.bump_core.specs.Lists.{IsListed}
+use Rattle.bump_core.specs.Heads.{severed_head}
+use Rattle.bump_core.specs.State.{State, head, class, class_of, with_head, with_change, with_changes, is_current, is_linked}
+use Rattle.bump_core.specs.Events.{unlink}
+use Rattle.bump_core.specs.Commands.{end_of, end_life, freed_by}
+use Rattle.bump_core.specs.Worlds.{IsLawful}
+use Rattle.bump_core.proofs.events.Enabled.{current_from}
+use Rattle.bump_core.proofs.worlds.Fronts.{listed_at}
+use Rattle.bump_core.proofs.commands.ChangedLists.{two_changes}
+
+-- the entry of a chunk that is free speaks of its life
+pub freed_subject : (l : ItemId) → subject (freed_change l) ≡ l
+freed_subject l = by (l.generation == 4294967295)
+  where
+    by : (b : Bool) → subject (if b then change.Retired l else change.Swept l) ≡ l
+    by true = refl
+    by false = refl
+
+-- a linked life is its chunk's, which is in range and linked
+pub linked_from : (s : State) (l : ItemId) → is_linked s l ≡ true → (l.chunk < length s.chunks) × ((head s l.chunk).generation ≡ l.generation) × ((head s l.chunk).linked ≡ true)
+linked_from s l is = let both = and_parts (is_current s l) (head s l.chunk).linked is in
+    let current = current_from s l both.0 in (current.0, current.1, both.1)
+
+module _ (s : State) (o : IsLawful s) (l : ItemId) (k : ℕ) (in_range : l.chunk < length s.chunks) (of : k ≡ class_of s l.chunk) where
+  -- the chunk of a life that ends stands in a list of its class
+  pub ending_listed : IsListed l.chunk (class s k).lists
+  ending_listed = listed_at s o l.chunk k in_range of
+
+  -- and so does the chunk of the entry by which it is free
+  pub freed_listed : (e : Change) → e ≡ freed_change l → IsListed (subject e).chunk (class s k).lists
+  freed_listed e is = subst (λ (m : ItemId). IsListed m.chunk (class s k).lists) (sym (ap subject is ∙ freed_subject l)) ending_listed
+
+module _ (s : State) (l : ItemId) (k : ℕ) (h : Head) (of : k ≡ class_of s l.chunk) (is : h ≡ severed_head (head s l.chunk)) where
+  -- a life ends at once whose chunk is free
+  pub freed_at_once : (e : Change) → e ≡ freed_change l → class_of s l.chunk < length s.classes → end_of s l ≡ Freed
+      → with_head (with_changes s k (change.Unlinked l ∷ e ∷ [])) l.chunk h ≡ end_life s l
+  freed_at_once e entry within comes = ap (λ (j : ℕ). with_head (with_changes s j (change.Unlinked l ∷ e ∷ [])) l.chunk h) of
+      ∙ (ap (λ (g : Head). with_head (with_changes s (class_of s l.chunk) (change.Unlinked l ∷ e ∷ [])) l.chunk g) is
+      ∙ (ap (λ (d : Change). with_changes (with_head s l.chunk (severed_head (head s l.chunk))) (class_of s l.chunk) (change.Unlinked l ∷ d ∷ [])) entry
+      ∙ (sym (two_changes (with_head s l.chunk (severed_head (head s l.chunk))) l.chunk (change.Unlinked l) (freed_change l) within)
+      ∙ ap (freed_by (unlink s l) l) (sym comes))))
+
+  -- so does one whose chunk others hold
+  pub deferred_at_once : end_of s l ≡ Deferred → with_head (with_change s k (change.Unlinked l)) l.chunk h ≡ end_life s l
+  deferred_at_once comes = ap (λ (j : ℕ). with_head (with_change s j (change.Unlinked l)) l.chunk h) of
+      ∙ (ap (λ (g : Head). with_head (with_change s (class_of s l.chunk) (change.Unlinked l)) l.chunk g) is
+      ∙ ap (freed_by (unlink s l) l) (sym comes))
