@@ -1,10 +1,1 @@
-pub mod Bounds
-pub mod Counted
-pub mod Endings
-pub mod Laws
 pub mod NewClasses
-pub mod Replay
-pub mod Standings
-pub mod ToldMoves
-pub mod Unlinks
-pub mod Updates

@@ -1,6 +1,6 @@
 -- The classes of a new World.
 use Rattle.std.proofs.Common.{◌≡◌, ℕ, ◌+◌, List, [], ◌∷◌, length, refl, arith}
-use Rattle.bump_core.specs.declared.configs.ClassConfig.{ClassConfig}
+use Rattle.bump_rules.specs.declared.configs.ClassConfig.{ClassConfig}
 use Rattle.bump_core.specs.Opening.{classes_from}
 
 -- there are as many classes as are configured

@@ -1,4 +1,2 @@
-pub mod PlainLists
-pub mod SixLists
 pub mod Sweeps
 pub mod Tiles

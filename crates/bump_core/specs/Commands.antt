@@ -2,50 +2,52 @@
 use Rattle.std.specs.Prelude.{◌≡◌, ℕ, ◌+◌, Bool, true, false, not, ◌==◌, ◌&&◌, ◌||◌, nat_lt, List, [], ◌∷◌, ◌++◌, length, map, filter, Option, None, Some, Result, Ok, Err, if◌then◌else◌}
 use Rattle.std.specs.Option.{option_map_or}
 use Rattle.std.specs.List.{list_any}
-use Rattle.bump_core.specs.declared.places.Segment.{Segment}
-use Rattle.bump_core.specs.declared.places.Segment.TheVariants as segment
-use Rattle.bump_core.specs.declared.places.Tail.{Tail}
-use Rattle.bump_core.specs.declared.places.Tail.TheVariants as tail
-use Rattle.bump_core.specs.declared.items.ItemId.{ItemId}
-use Rattle.bump_core.specs.declared.items.Head.{Head}
+use Rattle.bump_rules.specs.declared.places.Segment.{Segment}
+use Rattle.bump_rules.specs.declared.places.Segment.TheVariants as segment
+use Rattle.bump_rules.specs.declared.places.Tail.{Tail}
+use Rattle.bump_rules.specs.declared.places.Tail.TheVariants as tail
+use Rattle.bump_rules.specs.declared.items.ItemId.{ItemId}
+use Rattle.bump_rules.specs.declared.items.Head.{Head}
 use Rattle.bump_core.specs.declared.chunks.Chunk.{Chunk}
-use Rattle.bump_core.specs.declared.bumps.Accounts.{Accounts}
-use Rattle.bump_core.specs.declared.bumps.Applied.{Applied}
-use Rattle.bump_core.specs.declared.bumps.Applied.TheVariants as applied
-use Rattle.bump_core.specs.declared.bumps.Ended.{Ended}
-use Rattle.bump_core.specs.declared.bumps.Ended.TheVariants.{Freed, Deferred}
-use Rattle.bump_core.specs.declared.bumps.Entry.{Entry}
-use Rattle.bump_core.specs.declared.history.Cause.TheVariants.{Pull, Bump as BumpOf}
-use Rattle.bump_core.specs.declared.history.Change.{Change}
-use Rattle.bump_core.specs.declared.history.Change.TheVariants as change
-use Rattle.bump_core.specs.declared.bumps.Bump.{Bump}
-use Rattle.bump_core.specs.declared.lanes.Lane.{Lane}
-use Rattle.bump_core.specs.declared.lanes.Lane.TheVariants as lane
-use Rattle.bump_core.specs.declared.bumps.Outcome.{Outcome}
-use Rattle.bump_core.specs.declared.bumps.Outcome.TheVariants as outcome
-use Rattle.bump_core.specs.declared.commands.Command.{Command}
-use Rattle.bump_core.specs.declared.commands.Command.TheVariants as command
-use Rattle.bump_core.specs.declared.commands.Answer.{Answer}
-use Rattle.bump_core.specs.declared.commands.Answer.TheVariants as answer
-use Rattle.bump_core.specs.declared.commands.Touch.{Touch}
-use Rattle.bump_core.specs.declared.commands.Touch.TheVariants as touch
-use Rattle.bump_core.specs.declared.commands.Dropped.{Dropped}
-use Rattle.bump_core.specs.declared.commands.Dropped.TheVariants.{Full, Busy, RefsFull}
-use Rattle.bump_core.specs.declared.commands.Pulled.{Pulled}
-use Rattle.bump_core.specs.declared.commands.Pulled.TheVariants as pulled
-use Rattle.bump_core.specs.declared.events.Event.{Event}
-use Rattle.bump_core.specs.declared.events.Event.TheVariants as event
-use Rattle.bump_core.specs.declared.events.Refused.{Refused}
-use Rattle.bump_core.specs.declared.events.Refused.TheVariants.{NotEnabled, OutOfMemory}
-use Rattle.bump_core.specs.Lives.{life}
-use Rattle.bump_core.specs.History.{place_of, freed_change}
-use Rattle.bump_core.specs.Lists.{list_at}
-use Rattle.bump_core.specs.Tables.{Get, IsStale, IsRefsFull, IsHeld, Hit, IsFirst, IsAlready, IsMarked, Attempts, is_cold, is_over, get_of, ended_of, is_unheld, hit_of, dropped_of, outcome_of, pulled_of, pulled_to, segment_of}
+use Rattle.bump_rules.specs.declared.bumps.Accounts.{Accounts}
+use Rattle.bump_rules.specs.declared.bumps.Applied.{Applied}
+use Rattle.bump_rules.specs.declared.bumps.Applied.TheVariants as applied
+use Rattle.bump_rules.specs.declared.bumps.Ended.{Ended}
+use Rattle.bump_rules.specs.declared.bumps.Ended.TheVariants.{Freed, Deferred}
+use Rattle.bump_rules.specs.declared.bumps.Entry.{Entry}
+use Rattle.bump_rules.specs.declared.history.Cause.TheVariants.{Pull, Bump as BumpOf}
+use Rattle.bump_rules.specs.declared.history.Change.{Change}
+use Rattle.bump_rules.specs.declared.history.Change.TheVariants as change
+use Rattle.bump_rules.specs.declared.bumps.Bump.{Bump}
+use Rattle.bump_rules.specs.declared.lanes.Lane.{Lane}
+use Rattle.bump_rules.specs.declared.lanes.Lane.TheVariants as lane
+use Rattle.bump_rules.specs.declared.bumps.Outcome.{Outcome}
+use Rattle.bump_rules.specs.declared.bumps.Outcome.TheVariants as outcome
+use Rattle.bump_rules.specs.declared.commands.Command.{Command}
+use Rattle.bump_rules.specs.declared.commands.Command.TheVariants as command
+use Rattle.bump_rules.specs.declared.commands.Answer.{Answer}
+use Rattle.bump_rules.specs.declared.commands.Answer.TheVariants as answer
+use Rattle.bump_rules.specs.declared.commands.Touch.{Touch}
+use Rattle.bump_rules.specs.declared.commands.Touch.TheVariants as touch
+use Rattle.bump_rules.specs.declared.commands.Dropped.{Dropped}
+use Rattle.bump_rules.specs.declared.commands.Dropped.TheVariants.{Full, Busy, RefsFull}
+use Rattle.bump_rules.specs.declared.commands.Pulled.{Pulled}
+use Rattle.bump_rules.specs.declared.commands.Pulled.TheVariants as pulled
+use Rattle.bump_rules.specs.declared.events.Event.{Event}
+use Rattle.bump_rules.specs.declared.events.Event.TheVariants as event
+use Rattle.bump_rules.specs.declared.events.Refused.{Refused}
+use Rattle.bump_rules.specs.declared.events.Refused.TheVariants.{NotEnabled, OutOfMemory}
+use Rattle.bump_rules.specs.Lives.{life}
+use Rattle.bump_rules.specs.History.{place_of, freed_change}
+use Rattle.bump_rules.specs.Lists.{list_at}
+use Rattle.bump_rules.specs.Tables.{Get, IsStale, IsRefsFull, IsHeld, Hit, IsFirst, IsAlready, IsMarked, Attempts, is_cold, is_over, get_of, ended_of, is_unheld, hit_of, dropped_of, outcome_of, pulled_of, pulled_to, segment_of}
 use Rattle.bump_links.specs.Lists.{last_of}
-use Rattle.bump_core.specs.State.{State, WorkerState, chunk, head, class, worker, is_chunk, is_class, is_worker, with_chunk, with_head, with_worker, with_change, with_changes, class_of, is_linked, is_held, has_free_hold, is_open, is_idle, some_and, is_under_application}
-use Rattle.bump_core.specs.Rings.{most_attempts}
-use Rattle.bump_core.specs.Heads.{newborn, one_more, one_fewer, fetched_head, active_head, severed_head}
-use Rattle.bump_core.specs.Events.{is_under_limit, next_chunk, next_life, waiting, next_bump, bump_of, applied_bump, with_hold, without_hold, unlink, close}
+use Rattle.bump_core.specs.State.{State, WorkerState, chunk, head, class, worker, is_chunk, is_class, is_worker, with_chunk, with_head, with_worker, with_change, with_changes, class_of, is_linked, is_held, has_free_hold, is_open, some_and, is_under_application}
+use Rattle.bump_rules.specs.Hands.{is_idle}
+use Rattle.bump_rules.specs.Rings.{most_attempts}
+use Rattle.bump_rules.specs.Heads.{newborn, one_more, one_fewer, fetched_head, active_head, severed_head}
+use Rattle.bump_core.specs.Events.{is_under_limit, next_chunk, next_life, waiting, next_bump, with_hold, without_hold, unlink, close}
+use Rattle.bump_rules.specs.Lanes.{bump_of, applied_bump, is_half_made}
 
 -- Ends.
 
@@ -202,12 +204,6 @@ bump_next x = by x.lane
     by lane.Empty = option_map_or (λ l. Some (bump_of (length x.received) l)) (next_bump x) None
     by (lane.Carrying b) = Some b
     by _ = None
-
--- a lane with a bump that is half applied
-abbrev pub is_half_made : Lane → Bool
-is_half_made lane.Empty = false
-is_half_made (lane.Carrying b) = false
-is_half_made _ = true
 
 -- what applying a bump comes to, by the update table: the clearing step finds ACTIVE as it stands
 abbrev pub outcome_next : State → Bump → Outcome

@@ -1,30 +1,29 @@
 -- Events: when each is enabled, the state after it, and its reply.
-use Rattle.std.specs.Prelude.{ℕ, ◌+◌, ◌-◌, Bool, true, false, not, ◌&&◌, nat_lt, [], ◌∷◌, ◌++◌, length, slice_get, Option, None, Some, option_map, if◌then◌else◌}
+use Rattle.std.specs.Prelude.{ℕ, ◌+◌, ◌-◌, Bool, true, false, not, ◌&&◌, nat_lt, [], ◌∷◌, ◌++◌, length, slice_get, Option, if◌then◌else◌}
 use Rattle.std.specs.Option.{option_map_or}
-use Rattle.bump_core.specs.Heads.{newborn, one_more, one_fewer, fetched_head, active_head, cleared_head, moved_head, severed_head}
-use Rattle.bump_core.specs.declared.places.Segment.{Segment}
-use Rattle.bump_core.specs.declared.places.Segment.TheVariants as segment
-use Rattle.bump_core.specs.declared.items.ItemId.{ItemId}
-use Rattle.bump_core.specs.declared.items.Head.{Head}
-use Rattle.bump_core.specs.declared.history.Cause.TheVariants.{Pull, Bump as BumpOf}
-use Rattle.bump_core.specs.declared.history.Change.TheVariants as change
-use Rattle.bump_core.specs.declared.bumps.AppliedBump.{AppliedBump}
-use Rattle.bump_core.specs.declared.bumps.Bump.{Bump}
-use Rattle.bump_core.specs.declared.lanes.Lane.{Lane}
-use Rattle.bump_core.specs.declared.lanes.Lane.TheVariants as lane
-use Rattle.bump_core.specs.declared.bumps.Outcome.{Outcome}
-use Rattle.bump_core.specs.declared.bumps.Outcome.TheVariants as outcome
-use Rattle.bump_core.specs.declared.hands.Hand.TheVariants as hand
-use Rattle.bump_core.specs.declared.events.Event.{Event}
-use Rattle.bump_core.specs.declared.events.Event.TheVariants as event
-use Rattle.bump_core.specs.declared.events.Reply.{Reply}
-use Rattle.bump_core.specs.declared.events.Reply.TheVariants as reply
-use Rattle.bump_core.specs.Lives.{life}
-use Rattle.bump_core.specs.Tables.{is_cold, is_unheld}
-use Rattle.bump_core.specs.Rings.{most_attempts}
+use Rattle.bump_rules.specs.Heads.{newborn, one_more, one_fewer, fetched_head, active_head, cleared_head, moved_head, severed_head}
+use Rattle.bump_rules.specs.declared.places.Segment.{Segment}
+use Rattle.bump_rules.specs.declared.places.Segment.TheVariants as segment
+use Rattle.bump_rules.specs.declared.items.ItemId.{ItemId}
+use Rattle.bump_rules.specs.declared.history.Cause.TheVariants.{Pull, Bump as BumpOf}
+use Rattle.bump_rules.specs.declared.history.Change.TheVariants as change
+use Rattle.bump_rules.specs.declared.bumps.AppliedBump.{AppliedBump}
+use Rattle.bump_rules.specs.declared.bumps.Bump.{Bump}
+use Rattle.bump_rules.specs.declared.lanes.Lane.{Lane}
+use Rattle.bump_rules.specs.declared.lanes.Lane.TheVariants as lane
+use Rattle.bump_rules.specs.declared.hands.Hand.TheVariants as hand
+use Rattle.bump_rules.specs.declared.events.Event.{Event}
+use Rattle.bump_rules.specs.declared.events.Event.TheVariants as event
+use Rattle.bump_rules.specs.declared.events.Reply.{Reply}
+use Rattle.bump_rules.specs.declared.events.Reply.TheVariants as reply
+use Rattle.bump_rules.specs.Lives.{life}
+use Rattle.bump_rules.specs.Tables.{is_cold, is_unheld, may_move}
+use Rattle.bump_rules.specs.Rings.{most_attempts}
 use Rattle.bump_links.specs.Lists.{first_of, times}
-use Rattle.bump_core.specs.History.{freed_change}
-use Rattle.bump_core.specs.State.{State, WorkerState, chunk, head, class, worker, is_chunk, is_class, is_worker, with_chunk, with_head, with_worker, with_change, class_of, is_linked, is_held, has_free_hold, is_open, tried_life, life_in_hand, cleared_life, is_idle, some_and, is_under_application}
+use Rattle.bump_rules.specs.History.{freed_change}
+use Rattle.bump_core.specs.State.{State, WorkerState, chunk, head, class, worker, is_chunk, is_class, is_worker, with_chunk, with_head, with_worker, with_change, class_of, is_linked, is_held, has_free_hold, is_open, some_and, is_under_application}
+use Rattle.bump_rules.specs.Hands.{tried_life, life_in_hand, cleared_life, is_idle}
+use Rattle.bump_rules.specs.Lanes.{carried, tried, applied_now, cleared_active, is_empty, bump_of, ending_at}
 
 -- the count is under the limit
 abbrev pub is_under_limit : State → ℕ → Bool
@@ -46,15 +45,6 @@ next_chunk s k = first_of (class s k).lists.unused
 abbrev pub is_dying : State → ℕ → Bool
 is_dying s c = nat_lt 0 (times c (class s (class_of s c)).lists.dying)
 
--- a pull may move an item so
-abbrev pub may_move : Segment → Segment → Bool
-may_move segment.Hot segment.Warm = true
-may_move segment.Hot segment.Cold = true
-may_move segment.Warm segment.Warm = true
-may_move segment.Warm segment.Cold = true
-may_move segment.Cold segment.Warm = true
-may_move _ _ = false
-
 -- bumps that the lane has not taken yet
 abbrev pub waiting : WorkerState → ℕ
 waiting x = length x.sent - length x.received
@@ -62,47 +52,6 @@ waiting x = length x.sent - length x.received
 -- the next bump that the lane takes
 abbrev pub next_bump : WorkerState → Option ItemId
 next_bump x = slice_get x.sent (length x.received)
-
--- the bump aboard a lane, by how far the lane is
-abbrev pub carried : Lane → Option Bump
-carried (lane.Carrying b) = Some b
-carried _ = None
-
-abbrev pub tried : Lane → Option Bump
-tried (lane.Tried b) = Some b
-tried _ = None
-
-abbrev pub applied_now : Lane → Option Bump
-applied_now (lane.Tried b) = Some b
-applied_now (lane.Cleared b found) = Some b
-applied_now (lane.Moved b) = Some b
-applied_now _ = None
-
-abbrev pub cleared_active : Lane → Option Bump
-cleared_active (lane.Cleared b true) = Some b
-cleared_active _ = None
-
-abbrev pub is_empty : Lane → Bool
-is_empty lane.Empty = true
-is_empty _ = false
-
--- a bump, and what became of it
-abbrev pub applied_bump : Bump → Outcome → AppliedBump
-applied_bump b o = record { number = b.number; life = b.life; outcome = o }
-
--- what a lane may end its bump with when it looked at the head of the bump's item
-abbrev pub outcome_tried : Head → Option Outcome
-outcome_tried found = if not found.linked then Some outcome.Gone else (if is_cold found.segment then None else Some outcome.TimeOnly)
-
--- The bump that a lane may end, and what with, by how far the lane is and the heads of all chunks: it looked at an item that it
--- has nothing to move of, or found ACTIVE clear, or moved the item.
-abbrev pub ending_at : (ℕ → Head) → Lane → Option AppliedBump
-ending_at heads lane.Empty = None
-ending_at heads (lane.Carrying b) = None
-ending_at heads (lane.Tried b) = option_map (applied_bump b) (outcome_tried (heads b.life.chunk))
-ending_at heads (lane.Cleared b true) = None
-ending_at heads (lane.Cleared b false) = Some (applied_bump b outcome.TimeOnly)
-ending_at heads (lane.Moved b) = Some (applied_bump b outcome.Moved)
 
 -- the same of a worker's lane
 abbrev pub ending : State → ℕ → Option AppliedBump
@@ -209,9 +158,6 @@ abbrev pub move_chunk : State → ℕ → Segment → State
 move_chunk s c to =
     let h = head s c in
     with_change (with_head s c (moved_head to h)) (class_of s c) (change.Moved (life c h.generation) h.segment to Pull)
-
-abbrev pub bump_of : ℕ → ItemId → Bump
-bump_of n l = record { number = n; life = l }
 
 abbrev pub take_bump : State → ℕ → ItemId → State
 take_bump s w l = let x = worker s w in with_worker s w (record x { received = x.received ++ l ∷ []; lane = lane.Carrying (bump_of (length x.received) l) })

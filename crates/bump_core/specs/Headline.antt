@@ -1,16 +1,17 @@
 -- What a World promises of its rings, its accounts, its free chunks, its lists and its lanes' entries, in the words of the headline.
 use Rattle.std.specs.Prelude.{◌≡◌, ℕ, ◌+◌, ◌<◌, ◌≤◌, Bool, true, false, ◌&&◌, ◌++◌, length, map}
 use Rattle.std.specs.List.{Contains}
-use Rattle.bump_core.specs.declared.places.Place.{Place}
-use Rattle.bump_core.specs.declared.items.ItemId.{ItemId}
-use Rattle.bump_core.specs.declared.bumps.AppliedBump.{AppliedBump}
-use Rattle.bump_core.specs.Totals.{total, how_many}
-use Rattle.bump_core.specs.Entries.{is_stray, is_move_for, IsTrueEntry}
-use Rattle.bump_core.specs.History.{is_place}
-use Rattle.bump_core.specs.Lawful.{bit, Shows}
+use Rattle.bump_rules.specs.declared.places.Place.{Place}
+use Rattle.bump_rules.specs.declared.items.ItemId.{ItemId}
+use Rattle.bump_rules.specs.declared.bumps.AppliedBump.{AppliedBump}
+use Rattle.bump_rules.specs.Totals.{total, how_many}
+use Rattle.bump_rules.specs.Entries.{is_stray, is_move_for, IsTrueEntry}
+use Rattle.bump_rules.specs.History.{is_place}
+use Rattle.bump_rules.specs.Lawful.{bit, Shows}
 use Rattle.bump_links.specs.Lists.{times}
-use Rattle.bump_core.specs.Lists.{Lists, list_at}
-use Rattle.bump_core.specs.Rings.{in_ring, aboard, bump_applied, numbered_from, IsRing, IsAccounts}
+use Rattle.bump_rules.specs.Lists.{Lists, list_at}
+use Rattle.bump_core.specs.Rings.{in_ring}
+use Rattle.bump_rules.specs.Rings.{aboard, bump_applied, numbered_from, IsRing, IsAccounts}
 use Rattle.bump_core.specs.State.{State, WorkerState, head, class, class_of, worker}
 use Rattle.bump_core.specs.Worlds.{references, owns, stands_in, CountsMoves}
 

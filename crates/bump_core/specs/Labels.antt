@@ -1,25 +1,14 @@
--- The label of a life: the last one that was stored for its chunk before the life began.
-use Rattle.std.specs.Prelude.{◌≡◌, ℕ, ◌==◌, List, [], ◌∷◌, ◌++◌, Option, None, Some, if◌then◌else◌}
+-- That each chunk in use has its life's label, by what the events of a run do about labels.
+use Rattle.std.specs.Prelude.{◌≡◌, ℕ, List, [], ◌∷◌, ◌++◌, Option, None, Some}
 use Rattle.std.specs.Option.{option_map_or}
-use Rattle.bump_core.specs.declared.items.ItemId.{ItemId}
-use Rattle.bump_core.specs.declared.events.Event.{Event}
-use Rattle.bump_core.specs.declared.events.Event.TheVariants as event
+use Rattle.bump_rules.specs.declared.events.Event.{Event}
+use Rattle.bump_rules.specs.declared.events.Event.TheVariants as event
 use Rattle.bump_core.specs.Events.{after, next_chunk, next_life}
-use Rattle.bump_core.specs.Lawful.{IsUsed}
-use Rattle.bump_core.specs.Lives.{life, is_same}
+use Rattle.bump_rules.specs.Lawful.{IsUsed}
+use Rattle.bump_rules.specs.Lives.{life}
 use Rattle.bump_core.specs.State.{State, chunk, head}
 use Rattle.bump_core.specs.Worlds.{place}
-
--- What is done about labels: one is stored for a chunk, or a life begins.
-pub data LabelStep : Type 0 where
-  Stored : ℕ → ℕ → LabelStep
-  Begun : ItemId → LabelStep
-
--- the life's label, if it began with these steps; before them its chunk's label word was x
-abbrev pub label_of_life : ItemId → ℕ → List LabelStep → Option ℕ
-label_of_life l x [] = None
-label_of_life l x (Stored c y ∷ steps) = label_of_life l (if c == l.chunk then y else x) steps
-label_of_life l x (Begun m ∷ steps) = if is_same l m then Some x else label_of_life l x steps
+use Rattle.bump_rules.specs.Labels.{LabelStep, Stored, Begun, label_of_life}
 
 -- what an event does about labels
 abbrev pub label_steps_of : State → Event → List LabelStep

@@ -1,11 +1,11 @@
 -- The state of a new World.
 use Rattle.std.specs.Prelude.{ℕ, ◌+◌, ◌-◌, List, [], ◌∷◌, replicate}
-use Rattle.bump_core.specs.declared.configs.ClassConfig.{ClassConfig}
-use Rattle.bump_core.specs.declared.configs.Config.{Config}
+use Rattle.bump_rules.specs.declared.configs.ClassConfig.{ClassConfig}
+use Rattle.bump_rules.specs.declared.configs.Config.{Config}
 use Rattle.bump_core.specs.declared.chunks.Chunk.{Chunk}
-use Rattle.bump_core.specs.Configs.{chunks_of}
-use Rattle.bump_core.specs.Heads.{fresh_head}
-use Rattle.bump_core.specs.Lists.{opening}
+use Rattle.bump_rules.specs.Configs.{chunks_of}
+use Rattle.bump_rules.specs.Heads.{fresh_head}
+use Rattle.bump_rules.specs.Lists.{opening}
 use Rattle.bump_core.specs.State.{State, ClassState, new_worker}
 
 -- a chunk before its first life

@@ -1,11 +1,11 @@
 -- What the readers of a World tell, by number.
 use Rattle.std.specs.Prelude.{ℕ, List}
-use Rattle.bump_core.specs.declared.places.Place.{Place}
-use Rattle.bump_core.specs.declared.items.ItemId.{ItemId}
-use Rattle.bump_core.specs.declared.bumps.Accounts.{Accounts}
-use Rattle.bump_core.specs.declared.bumps.AppliedBump.{AppliedBump}
-use Rattle.bump_core.specs.declared.history.Change.{Change}
-use Rattle.bump_core.specs.Lists.{list_at}
+use Rattle.bump_rules.specs.declared.places.Place.{Place}
+use Rattle.bump_rules.specs.declared.items.ItemId.{ItemId}
+use Rattle.bump_rules.specs.declared.bumps.Accounts.{Accounts}
+use Rattle.bump_rules.specs.declared.bumps.AppliedBump.{AppliedBump}
+use Rattle.bump_rules.specs.declared.history.Change.{Change}
+use Rattle.bump_rules.specs.Lists.{list_at}
 use Rattle.bump_core.specs.State.{State, chunk, class, worker}
 
 -- a list of a class

@@ -1,9 +1,9 @@
 -- Steps, and runs of many.
 use Rattle.std.specs.Prelude.{◌≡◌, ℕ, Bool, true, false, List, [], ◌∷◌, take, slice_get, Option, None, Some, Result, Ok, Err, OnOk, IfOk, OnErr, if◌then◌else◌}
-use Rattle.bump_core.specs.declared.events.Event.{Event}
-use Rattle.bump_core.specs.declared.events.Reply.{Reply}
-use Rattle.bump_core.specs.declared.events.Refused.{Refused}
-use Rattle.bump_core.specs.declared.events.Refused.TheVariants.{NotEnabled, OutOfMemory}
+use Rattle.bump_rules.specs.declared.events.Event.{Event}
+use Rattle.bump_rules.specs.declared.events.Reply.{Reply}
+use Rattle.bump_rules.specs.declared.events.Refused.{Refused}
+use Rattle.bump_rules.specs.declared.events.Refused.TheVariants.{NotEnabled, OutOfMemory}
 use Rattle.bump_core.specs.State.{State}
 use Rattle.bump_core.specs.Events.{is_enabled, after, reply_of}
 

@@ -1,21 +1,22 @@
 -- The state of a World: what is kept of each chunk, class and worker.
-use Rattle.std.specs.Prelude.{◌≡◌, ℕ, suc, Bool, true, false, cond, ◌==◌, ◌&&◌, nat_lt, List, [], ◌∷◌, ◌++◌, length, slice_index_or, slice_set, Option, None, Some, if◌then◌else◌}
+use Rattle.std.specs.Prelude.{◌≡◌, ℕ, suc, Bool, true, false, ◌==◌, ◌&&◌, nat_lt, List, [], ◌∷◌, ◌++◌, length, slice_index_or, slice_set, Option, None, Some, if◌then◌else◌}
 use Rattle.std.specs.List.{list_any}
-use Rattle.bump_core.specs.declared.items.ItemId.{ItemId}
-use Rattle.bump_core.specs.declared.items.Head.{Head}
-use Rattle.bump_core.specs.declared.bumps.Accounts.{Accounts}
+use Rattle.bump_rules.specs.declared.items.ItemId.{ItemId}
+use Rattle.bump_rules.specs.declared.items.Head.{Head}
+use Rattle.bump_rules.specs.declared.bumps.Accounts.{Accounts}
 use Rattle.bump_core.specs.declared.chunks.Chunk.{Chunk}
-use Rattle.bump_core.specs.declared.history.Change.{Change}
-use Rattle.bump_core.specs.declared.bumps.AppliedBump.{AppliedBump}
-use Rattle.bump_core.specs.declared.lanes.Lane.{Lane}
-use Rattle.bump_core.specs.declared.lanes.Lane.TheVariants as lane
-use Rattle.bump_core.specs.declared.hands.Hand.{Hand}
-use Rattle.bump_core.specs.declared.hands.Hand.TheVariants as hand
-use Rattle.bump_core.specs.Heads.{fresh_head}
-use Rattle.bump_core.specs.History.{subject, target, replay}
-use Rattle.bump_core.specs.Lists.{Lists, to_front}
-use Rattle.bump_core.specs.Lives.{is_same}
-use Rattle.bump_core.specs.Totals.{total}
+use Rattle.bump_rules.specs.declared.history.Change.{Change}
+use Rattle.bump_rules.specs.declared.bumps.AppliedBump.{AppliedBump}
+use Rattle.bump_rules.specs.declared.lanes.Lane.{Lane}
+use Rattle.bump_rules.specs.declared.lanes.Lane.TheVariants as lane
+use Rattle.bump_rules.specs.declared.hands.Hand.{Hand}
+use Rattle.bump_rules.specs.declared.hands.Hand.TheVariants as hand
+use Rattle.bump_rules.specs.Heads.{fresh_head}
+use Rattle.bump_rules.specs.History.{subject, target, replay}
+use Rattle.bump_rules.specs.Lists.{Lists, to_front}
+use Rattle.bump_rules.specs.Totals.{total}
+use Rattle.bump_rules.specs.Hands.{is_on}
+use Rattle.bump_rules.specs.Lanes.{applied_life}
 
 -- a class: its chunks from first on and below end, the generation with which each is fresh, the limits of HOT and WARM, its
 -- lists and its history
@@ -134,13 +135,6 @@ is_linked s l = is_current s l && (head s l.chunk).linked
 abbrev pub is_held : State → ItemId → Bool
 is_held s l = is_current s l && nat_lt 0 (chunk s l.chunk).holds
 
--- 1 where a worker that isn't Idle is on the life
-abbrev pub is_on : ItemId → Hand → ℕ
-is_on l hand.Idle = 0
-is_on l (hand.Trying m) = cond (is_same l m) 1 0
-is_on l (hand.InHand m) = cond (is_same l m) 1 0
-is_on l (hand.Clearing m) = cond (is_same l m) 1 0
-
 -- how many workers that aren't Idle are on the life
 abbrev pub workers_on : State → ItemId → ℕ
 workers_on s l = total (λ w. is_on l w.hand) s.workers
@@ -157,30 +151,6 @@ is_open s w = is_worker s w && (worker s w).is_open
 abbrev pub some_and : {A : Type 0} → (A → Bool) → Option A → Bool
 some_and test None = false
 some_and test (Some x) = test x
-
--- what a worker does with an attempted bump: the life, if it does this
-abbrev pub tried_life : Hand → Option ItemId
-tried_life (hand.Trying l) = Some l
-tried_life _ = None
-
-abbrev pub life_in_hand : Hand → Option ItemId
-life_in_hand (hand.InHand l) = Some l
-life_in_hand _ = None
-
-abbrev pub cleared_life : Hand → Option ItemId
-cleared_life (hand.Clearing l) = Some l
-cleared_life _ = None
-
-abbrev pub is_idle : Hand → Bool
-is_idle hand.Idle = true
-is_idle _ = false
-
--- the life on which a lane works under the class lock, if it does
-abbrev pub applied_life : Lane → Option ItemId
-applied_life (lane.Tried b) = Some b.life
-applied_life (lane.Cleared b found) = Some b.life
-applied_life (lane.Moved b) = Some b.life
-applied_life _ = None
 
 -- the lane applies a bump of this class
 abbrev pub applies_in : State → ℕ → Lane → Bool

@@ -2,8 +2,10 @@
 use Rattle.std.specs.Prelude.{◌≡◌, ◌<◌, ◌^◌, ℕ, Bool, not, List, length, map, take, is_some, slice_index_or, vec_len}
 use Rattle.std.specs.Vec.{vec_capacity}
 use Rattle.bump_core.specs.declared.workers.Worker.{Worker}
-use Rattle.bump_core.specs.State.{WorkerState, new_worker, is_idle, applied_life}
-use Rattle.bump_core.specs.Totals.{how_many}
+use Rattle.bump_core.specs.State.{WorkerState, new_worker}
+use Rattle.bump_rules.specs.Hands.{is_idle}
+use Rattle.bump_rules.specs.Lanes.{applied_life}
+use Rattle.bump_rules.specs.Totals.{how_many}
 
 -- what a lane took is the first part of what was sent
 abbrev pub worker_view : Worker → WorkerState

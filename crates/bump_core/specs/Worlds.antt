@@ -1,19 +1,20 @@
 -- What a lawful World is.
 use Rattle.std.specs.Prelude.{◌≡◌, ℕ, ◌+◌, ◌<◌, ◌≤◌, Bool, true, cond, ◌==◌, ◌&&◌, List, [], ◌∷◌, length, Some}
-use Rattle.bump_core.specs.declared.places.Place.{Place}
-use Rattle.bump_core.specs.declared.places.Segment.TheVariants as segment
-use Rattle.bump_core.specs.declared.items.ItemId.{ItemId}
-use Rattle.bump_core.specs.declared.lanes.Lane.{Lane}
-use Rattle.bump_core.specs.declared.lanes.Lane.TheVariants as lane
-use Rattle.bump_core.specs.declared.hands.Hand.{Hand}
-use Rattle.bump_core.specs.declared.hands.Hand.TheVariants as hand
-use Rattle.bump_core.specs.Totals.{total, how_many}
-use Rattle.bump_core.specs.Lives.{life, one_if, count_of}
-use Rattle.bump_core.specs.Lawful.{Lawful}
-use Rattle.bump_core.specs.History.{Standing, standing_in, is_between, AreBetween, replayed}
-use Rattle.bump_core.specs.State.{State, ClassState, WorkerState, chunk, head, class, worker, class_of, workers_on, applied_life}
+use Rattle.bump_rules.specs.declared.places.Place.{Place}
+use Rattle.bump_rules.specs.declared.places.Segment.TheVariants as segment
+use Rattle.bump_rules.specs.declared.items.ItemId.{ItemId}
+use Rattle.bump_rules.specs.declared.lanes.Lane.{Lane}
+use Rattle.bump_rules.specs.declared.lanes.Lane.TheVariants as lane
+use Rattle.bump_rules.specs.declared.hands.Hand.{Hand}
+use Rattle.bump_rules.specs.declared.hands.Hand.TheVariants as hand
+use Rattle.bump_rules.specs.Totals.{total, how_many}
+use Rattle.bump_rules.specs.Lives.{life, one_if, count_of}
+use Rattle.bump_rules.specs.Lawful.{Lawful}
+use Rattle.bump_rules.specs.History.{Standing, standing_in, is_between, AreBetween, replayed}
+use Rattle.bump_core.specs.State.{State, ClassState, WorkerState, chunk, head, class, worker, class_of, workers_on}
+use Rattle.bump_rules.specs.Lanes.{applied_life}
 use Rattle.bump_core.specs.Rings.{in_ring, IsWorker}
-use Rattle.bump_core.specs.Entries.{is_stray, is_move_for, is_unlink_of, is_told_gone, moves_told}
+use Rattle.bump_rules.specs.Entries.{is_stray, is_move_for, is_unlink_of, is_told_gone, moves_told}
 
 -- the holds of a life
 abbrev pub holds_of : State → ItemId → ℕ

@@ -1,5 +1,5 @@
 //! What a World keeps of a chunk.
-use crate::items::Head;
+use bump_rules::Head;
 
 /// What a World keeps of a chunk.
 #[derive(Clone, Copy)]

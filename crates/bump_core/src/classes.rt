@@ -2,16 +2,13 @@
 ghost use Rattle.std.specs.Prelude.{◌≡◌, ◌<◌, ◌≤◌, ◌+◌, ◌++◌, All, OnOk, OnErr, drop, length};
 ghost use Rattle.std.specs.Vec.{vec_capacity, vec_len};
 ghost use Rattle.bump_core.specs.Commands.{unheld, swept_of};
-ghost use Rattle.bump_core.specs.History.{subject, replay, AreListed};
-ghost use Rattle.bump_core.specs.Lists.{IsListed};
+ghost use Rattle.bump_rules.specs.History.{subject, replay, AreListed};
+ghost use Rattle.bump_rules.specs.Lists.{IsListed};
 ghost use Rattle.bump_core.specs.State.{class_with_change, class_with_changes, heads_of};
 ghost use Rattle.bump_core.specs.Views.{class_view};
 
 use crate::chunks::Chunk;
-use crate::class_lists::ClassLists;
-use crate::history::Change;
-use crate::items::ItemId;
-use crate::places::Place;
+use bump_rules::{Change, ClassLists, ItemId, Place};
 use std::alloc::AllocError;
 
 /// A class: its chunks are those from `first` on and below `end`.

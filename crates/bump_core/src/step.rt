@@ -4,9 +4,8 @@ ghost use Rattle.bump_core.specs.Runs.{Steps};
 ghost use Rattle.bump_core.specs.Views.{state_of};
 ghost use Rattle.bump_core.specs.Worlds.{IsLawful};
 
-use crate::commands::{Answer, Command};
-use crate::events::{Event, Refused, Reply};
 use crate::parts::Parts;
+use bump_rules::{Answer, Command, Event, Refused, Reply};
 
 impl Parts {
     /// Makes an event where it is enabled.

@@ -3,10 +3,7 @@ ghost use Rattle.std.specs.Prelude.{◌≤◌, length};
 
 mod changes;
 
-use crate::bumps::{Accounts, AppliedBump};
-use crate::hands::Hand;
-use crate::items::ItemId;
-use crate::lanes::Lane;
+use bump_rules::{Accounts, AppliedBump, Hand, ItemId, Lane};
 use std::alloc::{AllocError, Global};
 use std::marker::Model;
 
@@ -91,7 +88,7 @@ impl Worker {
 impl Workers {
     ghost use Rattle.std.specs.Prelude.{◌≡◌, ◌<◌, IfOk, slice_index_or, replicate};
     ghost use Rattle.bump_core.specs.State.{new_worker};
-    ghost use Rattle.bump_core.specs.Totals.{how_many};
+    ghost use Rattle.bump_rules.specs.Totals.{how_many};
     ghost use Rattle.bump_core.specs.Workers.{seen, is_busy, is_applying};
 
     /// So many workers that have done nothing.

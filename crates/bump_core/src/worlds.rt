@@ -1,10 +1,8 @@
 //! The sequential World.
 mod readers;
 
-use crate::commands::{Answer, Command};
-use crate::configs::Config;
-use crate::events::{Event, Refused, Reply};
 use crate::parts::Parts;
+use bump_rules::{Answer, Command, Config, Event, Refused, Reply};
 use std::alloc::{AllocError, Global};
 use std::marker::Model;
 

@@ -1,7 +1,7 @@
 -- Loops over lists and over numbers from 0 on, and what they print.
 use Rattle.std.proofs.Common.{◌≡◌, ℕ, suc, ◌+◌, ◌-◌, ◌<◌, ◌≤◌, sym, ap, ◌∙◌, subst, All, List, [], ◌∷◌, ◌++◌, append_assoc, arith}
 use Rattle.std.specs.List.{flat_map}
-use Rattle.bump_core.specs.Lists.{ascending}
+use Rattle.bump_rules.specs.Lists.{ascending}
 
 -- one more number is the first, and then the others
 ascending_suc : (c n m : ℕ) → m ≡ suc n → ascending c m ≡ c ∷ ascending (c + 1) n

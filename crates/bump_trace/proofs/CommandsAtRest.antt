@@ -6,23 +6,25 @@ use Rattle.std.proofs.lemmas.List.{length-set, get_or-set_same}
 use Rattle.std.proofs.lemmas.List.Elements.{All-set, All-get_or}
 use Rattle.std.proofs.lemmas.List.Folds.{list_any_none}
 use Rattle.std.proofs.Math.ListN.{get_or-eq_default}
-use Rattle.bump_core.specs.declared.bumps.Ended.TheVariants.{Freed, Deferred}
-use Rattle.bump_core.specs.declared.bumps.Ended.{Ended}
+use Rattle.bump_rules.specs.declared.bumps.Ended.TheVariants.{Freed, Deferred}
+use Rattle.bump_rules.specs.declared.bumps.Ended.{Ended}
 use Rattle.bump_core.specs.declared.chunks.Chunk.{Chunk}
-use Rattle.bump_core.specs.declared.commands.Command.{Command}
-use Rattle.bump_core.specs.declared.commands.Command.TheVariants as command
-use Rattle.bump_core.specs.declared.commands.Dropped.{Dropped}
-use Rattle.bump_core.specs.declared.items.ItemId.{ItemId}
-use Rattle.bump_core.specs.declared.bumps.Bump.{Bump}
-use Rattle.bump_core.specs.declared.bumps.Outcome.{Outcome}
-use Rattle.bump_core.specs.declared.bumps.Outcome.TheVariants as outcome
-use Rattle.bump_core.specs.declared.places.Segment.{Segment}
-use Rattle.bump_core.specs.declared.places.Tail.{Tail}
-use Rattle.bump_core.specs.Commands.{is_allowed, command_after, pull_to, pulled_at, hit, hit_at, attempt, dropped_at, is_exhausted, apply_bump, bumped_lists, outcome_next, ended_at, bump_next, is_half_made, tail_of, get_at, held_by_get}
+use Rattle.bump_rules.specs.declared.commands.Command.{Command}
+use Rattle.bump_rules.specs.declared.commands.Command.TheVariants as command
+use Rattle.bump_rules.specs.declared.commands.Dropped.{Dropped}
+use Rattle.bump_rules.specs.declared.items.ItemId.{ItemId}
+use Rattle.bump_rules.specs.declared.bumps.Bump.{Bump}
+use Rattle.bump_rules.specs.declared.bumps.Outcome.{Outcome}
+use Rattle.bump_rules.specs.declared.bumps.Outcome.TheVariants as outcome
+use Rattle.bump_rules.specs.declared.places.Segment.{Segment}
+use Rattle.bump_rules.specs.declared.places.Tail.{Tail}
+use Rattle.bump_core.specs.Commands.{is_allowed, command_after, pull_to, pulled_at, hit, hit_at, attempt, dropped_at, is_exhausted, apply_bump, bumped_lists, outcome_next, ended_at, bump_next, tail_of, get_at, held_by_get}
+use Rattle.bump_rules.specs.Lanes.{is_half_made}
 use Rattle.bump_core.specs.Events.{next_chunk}
-use Rattle.bump_core.specs.State.{State, ClassState, WorkerState, new_worker, no_chunk, chunk, head, worker, is_class, is_worker, with_chunk, with_class, with_worker, class_of, is_current, is_held, has_free_hold, is_open, is_idle, is_on, workers_on, some_and, is_under_application, applies_in}
-use Rattle.bump_core.specs.Tables.{Get, IsStale, IsRefsFull, IsHeld, Hit, IsFirst, IsAlready, IsMarked, Attempts, pulled_to}
-use Rattle.bump_core.specs.Totals.{total}
+use Rattle.bump_core.specs.State.{State, ClassState, WorkerState, new_worker, no_chunk, chunk, head, worker, is_class, is_worker, with_chunk, with_class, with_worker, class_of, is_current, is_held, has_free_hold, is_open, workers_on, some_and, is_under_application, applies_in}
+use Rattle.bump_rules.specs.Hands.{is_idle, is_on}
+use Rattle.bump_rules.specs.Tables.{Get, IsStale, IsRefsFull, IsHeld, Hit, IsFirst, IsAlready, IsMarked, Attempts, pulled_to}
+use Rattle.bump_rules.specs.Totals.{total}
 use Rattle.bump_trace.specs.Ready.{IsResting, IsAtRest}
 
 -- A state at rest stays so, with as many workers and classes and rings of the same capacity.

@@ -1,11 +1,11 @@
 -- Draining one bump after another, and one worker after another.
 use Rattle.std.proofs.Common.{◌≡◌, ℕ, suc, ◌+◌, ◌-◌, ◌<◌, ◌≤◌, refl, sym, ap, ap₂, ◌∙◌, List, ◌++◌, append_assoc, append-nil, add_assoc, add-zero, length, Ok, arith}
-use Rattle.bump_core.specs.declared.bumps.Entry.{Entry}
-use Rattle.bump_core.specs.declared.commands.Answer.{Answer}
-use Rattle.bump_core.specs.declared.commands.Answer.TheVariants as answer
-use Rattle.bump_core.specs.declared.commands.Command.TheVariants as command
+use Rattle.bump_rules.specs.declared.bumps.Entry.{Entry}
+use Rattle.bump_rules.specs.declared.commands.Answer.{Answer}
+use Rattle.bump_rules.specs.declared.commands.Answer.TheVariants as answer
+use Rattle.bump_rules.specs.declared.commands.Command.TheVariants as command
 use Rattle.bump_core.specs.Commands.{answer_of, command_after}
-use Rattle.bump_core.specs.Lists.{ascending}
+use Rattle.bump_rules.specs.Lists.{ascending}
 use Rattle.bump_core.specs.State.{State}
 use Rattle.bump_trace.specs.OpenStore.{Drained, drained_none, drained_one, drained_both, drained_by, drained_of, drained_through, drain_by, drain_said}
 use Rattle.bump_trace.specs.Stages.{StoreState, Open, say}

@@ -1,7 +1,7 @@
 -- The faults of a trace and their words, and what comes of the first one.
 use Rattle.std.specs.Prelude.{ℕ, List, codes, Option, Some, None, Result, Ok, Err}
-use Rattle.bump_core.specs.declared.configs.ConfigFault.{ConfigFault}
-use Rattle.bump_core.specs.declared.configs.ConfigFault.TheVariants as config
+use Rattle.bump_rules.specs.declared.configs.ConfigFault.{ConfigFault}
+use Rattle.bump_rules.specs.declared.configs.ConfigFault.TheVariants as config
 use Rattle.bump_trace.specs.declared.faults.Fault.{Fault}
 use Rattle.bump_trace.specs.declared.faults.Fault.TheVariants as fault
 

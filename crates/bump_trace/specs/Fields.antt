@@ -3,8 +3,8 @@ use Rattle.std.specs.Prelude.{ℕ, ◌^◌, Bool, not, ◌&&◌, ◌||◌, ◌==
 use Rattle.std.specs.List.{list_all}
 use Rattle.std.specs.Str.{all_ascii_digits, bytes_eq}
 use Rattle.std.specs.Str.Parse.{digits_value}
-use Rattle.bump_core.specs.declared.places.Tail.{Tail}
-use Rattle.bump_core.specs.declared.places.Tail.TheVariants as tail
+use Rattle.bump_rules.specs.declared.places.Tail.{Tail}
+use Rattle.bump_rules.specs.declared.places.Tail.TheVariants as tail
 use Rattle.bump_trace.specs.Faults.{or_fault}
 use Rattle.bump_trace.specs.declared.faults.Fault.{Fault}
 use Rattle.bump_trace.specs.declared.faults.Fault.TheVariants as fault

@@ -2,7 +2,7 @@
 use Rattle.std.specs.Prelude.{ℕ, ◌==◌, List, [], ◌∷◌, find, codes, Option, Some, None, Result, Ok, Err}
 use Rattle.std.specs.List.{slice_split}
 use Rattle.std.specs.Str.{bytes_eq}
-use Rattle.bump_core.specs.declared.places.Tail.{Tail}
+use Rattle.bump_rules.specs.declared.places.Tail.{Tail}
 use Rattle.bump_trace.specs.Fields.{Kind, U32, U64, Name, Segment, Value, field}
 use Rattle.bump_trace.specs.declared.faults.Fault.{Fault}
 use Rattle.bump_trace.specs.declared.faults.Fault.TheVariants as fault

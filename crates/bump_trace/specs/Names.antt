@@ -1,7 +1,7 @@
 -- What the names of items are bound to.
 use Rattle.std.specs.Prelude.{ℕ, List, Option, Some, None, if◌then◌else◌}
 use Rattle.std.specs.Str.{bytes_eq}
-use Rattle.bump_core.specs.declared.items.ItemId.{ItemId}
+use Rattle.bump_rules.specs.declared.items.ItemId.{ItemId}
 
 -- what each name is bound to
 abbrev pub Names : Type 0

@@ -1,14 +1,14 @@
 -- What is done on an open store by each line, by the tables on the whole state, and the text that each gives.
 use Rattle.std.specs.Prelude.{ℕ, zero, suc, ◌+◌, List, [], ◌∷◌, ◌++◌, length, Option, Some, None, Result, Ok, Err, if◌then◌else◌}
-use Rattle.bump_core.specs.declared.bumps.Entry.{Entry}
-use Rattle.bump_core.specs.declared.commands.Answer.{Answer}
-use Rattle.bump_core.specs.declared.commands.Answer.TheVariants as answer
-use Rattle.bump_core.specs.declared.commands.Command.{Command}
-use Rattle.bump_core.specs.declared.commands.Command.TheVariants as command
-use Rattle.bump_core.specs.declared.items.ItemId.{ItemId}
-use Rattle.bump_core.specs.declared.places.Tail.{Tail}
+use Rattle.bump_rules.specs.declared.bumps.Entry.{Entry}
+use Rattle.bump_rules.specs.declared.commands.Answer.{Answer}
+use Rattle.bump_rules.specs.declared.commands.Answer.TheVariants as answer
+use Rattle.bump_rules.specs.declared.commands.Command.{Command}
+use Rattle.bump_rules.specs.declared.commands.Command.TheVariants as command
+use Rattle.bump_rules.specs.declared.items.ItemId.{ItemId}
+use Rattle.bump_rules.specs.declared.places.Tail.{Tail}
 use Rattle.bump_core.specs.Commands.{answer_of, command_after}
-use Rattle.bump_core.specs.Lists.{ascending}
+use Rattle.bump_rules.specs.Lists.{ascending}
 use Rattle.bump_core.specs.State.{State, is_class, is_worker}
 use Rattle.bump_trace.specs.Lines.{Instruction, Set, Get, Pull, Drain, Show}
 use Rattle.bump_trace.specs.Names.{Names, bind}

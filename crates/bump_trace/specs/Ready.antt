@@ -1,7 +1,7 @@
 -- Between two lines of a trace no command is half made.
 use Rattle.std.specs.Prelude.{◌≡◌, true, All, length}
-use Rattle.bump_core.specs.declared.lanes.Lane.TheVariants as lane
-use Rattle.bump_core.specs.declared.hands.Hand.TheVariants as hand
+use Rattle.bump_rules.specs.declared.lanes.Lane.TheVariants as lane
+use Rattle.bump_rules.specs.declared.hands.Hand.TheVariants as hand
 use Rattle.bump_core.specs.State.{State, WorkerState}
 use Rattle.bump_trace.specs.declared.open_store.OpenStore.{OpenStore}
 use Rattle.bump_trace.specs.declared.stages.Stage.{Stage}

@@ -1,10 +1,10 @@
 -- How far a trace is: before `store`, among the lines that say what the store is, or with an open store; and which lines
 -- may stand there.
 use Rattle.std.specs.Prelude.{ℕ, Bool, false, ◌||◌, nat_lt, List, [], ◌∷◌, ◌++◌, length, Option, Some, None, Result, Ok, Err, find, option_map}
-use Rattle.bump_core.specs.declared.configs.ClassConfig.{ClassConfig}
-use Rattle.bump_core.specs.declared.configs.ConfigFault.{ConfigFault}
-use Rattle.bump_core.specs.declared.configs.ConfigFault.TheVariants as config
-use Rattle.bump_core.specs.Configs.{has_fault}
+use Rattle.bump_rules.specs.declared.configs.ClassConfig.{ClassConfig}
+use Rattle.bump_rules.specs.declared.configs.ConfigFault.{ConfigFault}
+use Rattle.bump_rules.specs.declared.configs.ConfigFault.TheVariants as config
+use Rattle.bump_rules.specs.Configs.{has_fault}
 use Rattle.bump_core.specs.Opening.{opening_state}
 use Rattle.bump_core.specs.State.{State}
 use Rattle.bump_trace.specs.Faults.{fault_of_config}

@@ -1,25 +1,25 @@
 -- The printed text: ids, flags, list lines, accounts, answers, and the line of each command.
 use Rattle.std.specs.Prelude.{ℕ, List, [], ◌∷◌, ◌++◌, length, codes, decimal, if◌then◌else◌}
 use Rattle.std.specs.List.{flat_map}
-use Rattle.bump_core.specs.declared.bumps.Accounts.{Accounts}
-use Rattle.bump_core.specs.declared.bumps.Applied.{Applied}
-use Rattle.bump_core.specs.declared.bumps.Applied.TheVariants.{Moved, TimeOnly, Gone}
-use Rattle.bump_core.specs.declared.bumps.Ended.TheVariants.{Freed, Deferred}
-use Rattle.bump_core.specs.declared.bumps.Entry.{Entry}
-use Rattle.bump_core.specs.declared.commands.Answer.{Answer}
-use Rattle.bump_core.specs.declared.commands.Answer.TheVariants as answer
-use Rattle.bump_core.specs.declared.commands.Dropped.TheVariants.{Full, Busy, RefsFull}
-use Rattle.bump_core.specs.declared.commands.Pulled.{Pulled}
-use Rattle.bump_core.specs.declared.commands.Pulled.TheVariants as pulled
-use Rattle.bump_core.specs.declared.commands.Touch.{Touch}
-use Rattle.bump_core.specs.declared.commands.Touch.TheVariants as touch
-use Rattle.bump_core.specs.declared.items.Head.{Head}
-use Rattle.bump_core.specs.declared.items.ItemId.{ItemId}
-use Rattle.bump_core.specs.declared.places.Place.{Place}
-use Rattle.bump_core.specs.declared.places.Place.TheVariants as place
-use Rattle.bump_core.specs.declared.places.Tail.{Tail}
-use Rattle.bump_core.specs.Lists.{list_at, ascending}
-use Rattle.bump_core.specs.Lives.{life}
+use Rattle.bump_rules.specs.declared.bumps.Accounts.{Accounts}
+use Rattle.bump_rules.specs.declared.bumps.Applied.{Applied}
+use Rattle.bump_rules.specs.declared.bumps.Applied.TheVariants.{Moved, TimeOnly, Gone}
+use Rattle.bump_rules.specs.declared.bumps.Ended.TheVariants.{Freed, Deferred}
+use Rattle.bump_rules.specs.declared.bumps.Entry.{Entry}
+use Rattle.bump_rules.specs.declared.commands.Answer.{Answer}
+use Rattle.bump_rules.specs.declared.commands.Answer.TheVariants as answer
+use Rattle.bump_rules.specs.declared.commands.Dropped.TheVariants.{Full, Busy, RefsFull}
+use Rattle.bump_rules.specs.declared.commands.Pulled.{Pulled}
+use Rattle.bump_rules.specs.declared.commands.Pulled.TheVariants as pulled
+use Rattle.bump_rules.specs.declared.commands.Touch.{Touch}
+use Rattle.bump_rules.specs.declared.commands.Touch.TheVariants as touch
+use Rattle.bump_rules.specs.declared.items.Head.{Head}
+use Rattle.bump_rules.specs.declared.items.ItemId.{ItemId}
+use Rattle.bump_rules.specs.declared.places.Place.{Place}
+use Rattle.bump_rules.specs.declared.places.Place.TheVariants as place
+use Rattle.bump_rules.specs.declared.places.Tail.{Tail}
+use Rattle.bump_rules.specs.Lists.{list_at, ascending}
+use Rattle.bump_rules.specs.Lives.{life}
 use Rattle.bump_core.specs.State.{State, chunk, head, class, worker}
 use Rattle.bump_trace.specs.Faults.{fault_word}
 use Rattle.bump_trace.specs.Fields.{tail_word}

@@ -4,7 +4,7 @@ use Rattle.std.specs.BTreeMap.{BTreeMap, get_by}
 use Rattle.std.specs.Cmp.Lexicographic.{slice_cmp}
 use Rattle.std.specs.Ordering.{nat_cmp}
 use denote.Ref.{Bor}
-use Rattle.bump_core.specs.declared.items.ItemId.{ItemId}
+use Rattle.bump_rules.specs.declared.items.ItemId.{ItemId}
 use Rattle.bump_trace.specs.Lines as lines
 use Rattle.bump_trace.specs.Names as names
 use Rattle.bump_trace.specs.OpenStore.{Drained}

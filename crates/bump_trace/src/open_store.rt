@@ -4,7 +4,7 @@ ghost use Rattle.std.specs.Prelude.{◌≡◌, ◌<◌, ◌≤◌, ◌+◌, ◌^
 ghost use Rattle.std.specs.List.{flat_map};
 ghost use Rattle.bump_core.specs.Commands.{is_allowed, answer_of, command_after};
 ghost use Rattle.bump_core.specs.State.{is_held};
-ghost use Rattle.bump_core.specs.Lists.{ascending};
+ghost use Rattle.bump_rules.specs.Lists.{ascending};
 ghost use Rattle.bump_core.specs.Readers.{list_of};
 ghost use Rattle.bump_trace.specs.Stages.{Open};
 ghost use Rattle.bump_trace.specs.OpenStore.{get_held, set_said, get_said, pull_said, drain_said, show_said, instruction_said, drained_of, drained_through};

@@ -5,13 +5,13 @@ use Rattle.std.specs.Prelude.{⊤}
 use Rattle.std.specs.Int.Bits.{or_add_and, xor_assoc, xor_self, xor_zero_l, xor_zero_r}
 use Rattle.std.proofs.lemmas.Nat.{and-not, and_comm, xor_block, xor_lt, pow_pos, and_mask}
 use Rattle.std.proofs.lemmas.Nat.Bits.{and_pow, and_high}
-use Rattle.bump_core.specs.declared.items.Head.{Head}
-use Rattle.bump_core.specs.declared.places.Segment.{Segment}
+use Rattle.bump_rules.specs.declared.items.Head.{Head}
+use Rattle.bump_rules.specs.declared.places.Segment.{Segment}
 use Rattle.bump_word.specs.Layout.{refs_width, linked_first, fetched_first, active_first, segment_first, segment_width, generation_first, generation_width}
 use Rattle.bump_word.specs.Words.{number_of, word_of, Spells, segment_bits, segment_change}
-use Rattle.bump_core.specs.Lawful.{bit}
+use Rattle.bump_rules.specs.Lawful.{bit}
 use Rattle.bump_word.specs.Steps.{Changes, Tests, Reads}
-use Rattle.bump_core.specs.Heads.{newborn}
+use Rattle.bump_rules.specs.Heads.{newborn}
 use Rattle.bump_word.proofs.Words.{fields, number_lt}
 
 -- a reference more is the next number

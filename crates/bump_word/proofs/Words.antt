@@ -1,11 +1,11 @@
 -- The fields of a head word, and that one word is one Head's.
 use Rattle.std.proofs.Common.{◌≡◌, ℕ, zero, suc, ◌+◌, ◌*◌, ◌/◌, ◌%◌, ◌^◌, ◌<◌, ◌≤◌, Bool, true, false, refl, sym, ap, ◌∙◌, arith, Option, Some}
-use Rattle.bump_core.specs.declared.items.Head.{Head}
-use Rattle.bump_core.specs.declared.places.Segment.{Segment}
-use Rattle.bump_core.specs.declared.places.Segment.TheVariants.{Hot, Warm, Cold}
+use Rattle.bump_rules.specs.declared.items.Head.{Head}
+use Rattle.bump_rules.specs.declared.places.Segment.{Segment}
+use Rattle.bump_rules.specs.declared.places.Segment.TheVariants.{Hot, Warm, Cold}
 use Rattle.bump_word.specs.Layout.{refs_width, linked_first, fetched_first, active_first, segment_first, segment_width, generation_first, generation_width}
 use Rattle.bump_word.specs.Words.{number_of, Spells, IsPacked, FindsHead, zeros_of, segment_bits}
-use Rattle.bump_core.specs.Lawful.{bit}
+use Rattle.bump_rules.specs.Lawful.{bit}
 
 -- a flag's number is at most 1
 pub bit_le : (b : Bool) → bit b ≤ 1

@@ -1,6 +1,6 @@
 -- What an atomic step on a head word does to the Head, and what a mask reads of it.
 use Rattle.std.specs.Prelude.{◌≡◌, ◌≢◌, ◌↔◌, ℕ, Bool, true, false, bit_and}
-use Rattle.bump_core.specs.declared.items.Head.{Head}
+use Rattle.bump_rules.specs.declared.items.Head.{Head}
 use Rattle.bump_word.specs.Words.{Spells}
 
 -- Where the step finds the word of a Head that is allowed, it leaves the word of the changed Head. A step answers the

@@ -5,13 +5,13 @@
 //! it found, so what it answers is the word of the Head before.
 ghost use Rattle.std.specs.Prelude.{◌≡◌, ◌≢◌, ◌==◌, ℕ, ◌+◌, ◌-◌, ◌*◌, ◌%◌, ◌/◌, ◌^◌, ◌<◌, true, false, ◌≤◌, bit_and, bit_or, bit_xor, ⊤, Option, Some};
 ghost use prog.Atomic.{either};
-ghost use Rattle.bump_core.specs.declared.items.Head.{Head as TheHead};
-ghost use Rattle.bump_core.specs.declared.places.Segment.{Segment as TheSegment};
-ghost use Rattle.bump_core.specs.declared.places.Segment.TheVariants.{Hot, Warm, Cold};
+ghost use Rattle.bump_rules.specs.declared.items.Head.{Head as TheHead};
+ghost use Rattle.bump_rules.specs.declared.places.Segment.{Segment as TheSegment};
+ghost use Rattle.bump_rules.specs.declared.places.Segment.TheVariants.{Hot, Warm, Cold};
 ghost use Rattle.bump_word.specs.Layout.{segment_first, generation_first, generation_width};
 ghost use Rattle.bump_word.specs.Words.{Spells, IsPacked, FindsHead, number_of, word_of, segment_bits, segment_change};
 ghost use Rattle.bump_word.specs.Steps.{Changes, Tests, Reads};
-ghost use Rattle.bump_core.specs.Heads.{newborn, severed_head, one_more as with_one_more, one_fewer, fetched_head, active_head, cleared_head, moved_head};
+ghost use Rattle.bump_rules.specs.Heads.{newborn, severed_head, one_more as with_one_more, one_fewer, fetched_head, active_head, cleared_head, moved_head};
 
 use crate::layout::{ACTIVE, FETCHED, GENERATION_AT, LINKED, REFS_AT, REFS_MAX, SEGMENT_AT};
 

@@ -1,6 +1,6 @@
 //! Where each field of the head word stands: the one place in the code that knows a number of bits.
 ghost use Rattle.std.specs.Prelude.{◌≡◌, ◌/◌, ◌%◌, ◌^◌, ◌<◌};
-ghost use Rattle.bump_core.specs.Lawful.{bit};
+ghost use Rattle.bump_rules.specs.Lawful.{bit};
 
 // The table of the fields. All numbers of bits in this crate's code stand here; `specs/Layout.antt` has the same table, which
 // the definition of the word is made of.

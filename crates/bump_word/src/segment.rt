@@ -1,10 +1,10 @@
 //! The numbers of the segments, and the step from one to another.
 ghost use Rattle.std.specs.Prelude.{◌≡◌, ◌↔◌, ◌<◌, IsNone};
 ghost use Rattle.bump_word.specs.Words.{number_of, segment_change};
-ghost use Rattle.bump_core.specs.declared.places.Segment.{Segment as TheSegment};
+ghost use Rattle.bump_rules.specs.declared.places.Segment.{Segment as TheSegment};
 
 use crate::layout::SEGMENT_AT;
-use bump_core::Segment;
+use bump_rules::Segment;
 
 const HOT: u64 = 0;
 

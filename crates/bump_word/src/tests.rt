@@ -3,7 +3,7 @@ ghost use Rattle.std.specs.Prelude.{◌≡◌, ◌≤◌, IfSome};
 
 use crate::laws::{ALL_BUT_ACTIVE, LINK, ONE_REFERENCE};
 use crate::{ACTIVE, FETCHED, LINKED, REFS_MAX, laws, pack, segment_xor, unpack};
-use bump_core::{Head, Segment};
+use bump_rules::{Head, Segment};
 
 const NEWBORN: Head = Head {
     refs: 1,

@@ -6,7 +6,7 @@ use crate::layout::{
     ACTIVE_AT, FETCHED_AT, GENERATION_AT, LINKED_AT, REFS_AT, REFS_MAX, SEGMENT_AT, ZERO_AT,
 };
 use crate::segment::{number, segment_of};
-use bump_core::Head;
+use bump_rules::Head;
 
 /// The word of a Head, whose reference count is at most [`REFS_MAX`].
 pub fn pack(head: Head) -> u64

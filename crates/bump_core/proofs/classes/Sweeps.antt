@@ -1,20 +1,20 @@
 -- Several entries at once: the lists follow one after another, and a sweep's are of chunks that stand in DYING.
 use Rattle.std.proofs.Common.{◌≡◌, ℕ, suc, ◌+◌, ◌<◌, ◌≤◌, Bool, true, false, List, [], ◌∷◌, length, drop, get_or, cond, eqb, ne_eqb, refl, sym, ap, subst, arith}
 use Rattle.std.proofs.lemmas.List.{drop_more}
-use Rattle.bump_core.specs.declared.items.Head.{Head}
-use Rattle.bump_core.specs.declared.items.ItemId.{ItemId}
-use Rattle.bump_core.specs.declared.history.Change.{Change}
-use Rattle.bump_core.specs.declared.history.Change.TheVariants as change
-use Rattle.bump_core.specs.declared.places.Place.{Place}
-use Rattle.bump_core.specs.declared.places.Place.TheVariants.{Dying}
+use Rattle.bump_rules.specs.declared.items.Head.{Head}
+use Rattle.bump_rules.specs.declared.items.ItemId.{ItemId}
+use Rattle.bump_rules.specs.declared.history.Change.{Change}
+use Rattle.bump_rules.specs.declared.history.Change.TheVariants as change
+use Rattle.bump_rules.specs.declared.places.Place.{Place}
+use Rattle.bump_rules.specs.declared.places.Place.TheVariants.{Dying}
 use Rattle.bump_core.specs.Commands.{unheld, swept_changes, swept_of}
-use Rattle.bump_core.specs.History.{subject, target, replay, freed_change, AreListed}
-use Rattle.bump_core.specs.Lists.{Lists, to_front, IsListed}
-use Rattle.bump_core.specs.Lives.{life}
-use Rattle.bump_core.specs.Tables.{is_unheld}
+use Rattle.bump_rules.specs.History.{subject, target, replay, freed_change, AreListed}
+use Rattle.bump_rules.specs.Lists.{Lists, to_front, IsListed}
+use Rattle.bump_rules.specs.Lives.{life}
+use Rattle.bump_rules.specs.Tables.{is_unheld}
 use Rattle.bump_links.specs.Lists.{times}
-use Rattle.bump_core.proofs.classes.PlainLists.{times_same, times_rest}
-use Rattle.bump_core.proofs.classes.SixLists.{listed_front}
+use Rattle.bump_rules.proofs.PlainLists.{times_same, times_rest}
+use Rattle.bump_rules.proofs.SixLists.{listed_front}
 
 -- a move to the front keeps every entry's chunk in the lists
 listed_all : (c : ℕ) (p : Place) (l : Lists) (es : List Change) → AreListed l es → AreListed (to_front c p l) es

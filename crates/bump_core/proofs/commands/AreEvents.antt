@@ -1,11 +1,11 @@
 -- Each command that is allowed is its events, each enabled in its turn.
 use Rattle.std.proofs.Common.{◌≡◌, true, Some, Result, Ok, Err, refl, sym, ap, ◌∙◌, subst}
 use Rattle.std.specs.Prelude.{OnOk}
-use Rattle.bump_core.specs.declared.commands.Answer.{Answer}
-use Rattle.bump_core.specs.declared.events.Refused.{Refused}
-use Rattle.bump_core.specs.declared.events.Refused.TheVariants.{NotEnabled, OutOfMemory}
-use Rattle.bump_core.specs.declared.commands.Command.{Command}
-use Rattle.bump_core.specs.declared.commands.Command.TheVariants as command
+use Rattle.bump_rules.specs.declared.commands.Answer.{Answer}
+use Rattle.bump_rules.specs.declared.events.Refused.{Refused}
+use Rattle.bump_rules.specs.declared.events.Refused.TheVariants.{NotEnabled, OutOfMemory}
+use Rattle.bump_rules.specs.declared.commands.Command.{Command}
+use Rattle.bump_rules.specs.declared.commands.Command.TheVariants as command
 use Rattle.bump_core.specs.State.{State, SameSizes}
 use Rattle.bump_core.specs.Worlds.{IsLawful}
 use Rattle.bump_core.specs.Runs.{run_of}

@@ -2,10 +2,11 @@
 use Rattle.std.proofs.Common.{◌≡◌, ℕ, ◌<◌, ◌==◌, List, [], ◌∷◌, length, slice_set, refl, ap, ◌∙◌, append_assoc}
 use Rattle.std.specs.List.{list_any}
 use Rattle.std.proofs.lemmas.List.{append-nil, get_or-set_same, set-get_or, set-set}
-use Rattle.bump_core.specs.declared.history.Change.{Change}
-use Rattle.bump_core.specs.History.{subject, target, replay}
-use Rattle.bump_core.specs.Lists.{to_front}
-use Rattle.bump_core.specs.State.{State, ClassState, class, no_class, with_class, with_change, with_changes, class_with_change, class_with_changes, class_of, applied_life, some_and, is_under_application}
+use Rattle.bump_rules.specs.declared.history.Change.{Change}
+use Rattle.bump_rules.specs.History.{subject, target, replay}
+use Rattle.bump_rules.specs.Lists.{to_front}
+use Rattle.bump_core.specs.State.{State, ClassState, class, no_class, with_class, with_change, with_changes, class_with_change, class_with_changes, class_of, some_and, is_under_application}
+use Rattle.bump_rules.specs.Lanes.{applied_life}
 use Rattle.bump_core.proofs.classes.Tiles.{class_kept}
 
 module _ (s : State) (k : ℕ) (e : Change) where

@@ -5,29 +5,29 @@ use Rattle.std.proofs.lemmas.List.{get_or-set_same, length-set}
 use Rattle.std.specs.List.{list_any}
 use mathlib.Core.Logic.{dite}
 use native.Mathlib.Decide.{ℕ_discrete}
-use Rattle.bump_core.specs.declared.places.Place.TheVariants.{Dying}
-use Rattle.bump_core.specs.declared.items.ItemId.{ItemId}
-use Rattle.bump_core.specs.declared.items.Head.{Head}
-use Rattle.bump_core.specs.declared.bumps.Ended.{Ended}
-use Rattle.bump_core.specs.declared.bumps.Ended.TheVariants.{Freed, Deferred}
-use Rattle.bump_core.specs.declared.history.Change.{Change}
-use Rattle.bump_core.specs.declared.history.Change.TheVariants as change
-use Rattle.bump_core.specs.declared.events.Event.TheVariants as event
-use Rattle.bump_core.specs.declared.commands.Command.TheVariants as command
-use Rattle.bump_core.specs.Lives.{life}
-use Rattle.bump_core.specs.Heads.{severed_head}
-use Rattle.bump_core.specs.History.{Standing, target, is_place, freed_change}
+use Rattle.bump_rules.specs.declared.places.Place.TheVariants.{Dying}
+use Rattle.bump_rules.specs.declared.items.ItemId.{ItemId}
+use Rattle.bump_rules.specs.declared.items.Head.{Head}
+use Rattle.bump_rules.specs.declared.bumps.Ended.{Ended}
+use Rattle.bump_rules.specs.declared.bumps.Ended.TheVariants.{Freed, Deferred}
+use Rattle.bump_rules.specs.declared.history.Change.{Change}
+use Rattle.bump_rules.specs.declared.history.Change.TheVariants as change
+use Rattle.bump_rules.specs.declared.events.Event.TheVariants as event
+use Rattle.bump_rules.specs.declared.commands.Command.TheVariants as command
+use Rattle.bump_rules.specs.Lives.{life}
+use Rattle.bump_rules.specs.Heads.{severed_head}
+use Rattle.bump_rules.specs.History.{Standing, target, is_place, freed_change}
 use Rattle.bump_links.specs.Lists.{times}
-use Rattle.bump_core.specs.Lists.{list_at, to_front}
-use Rattle.bump_core.proofs.Laws.{bit_at_most}
-use Rattle.bump_core.proofs.classes.PlainLists.{times_same}
-use Rattle.bump_core.specs.Tables.{is_unheld, ended_of}
+use Rattle.bump_rules.specs.Lists.{list_at, to_front}
+use Rattle.bump_rules.proofs.Laws.{bit_at_most}
+use Rattle.bump_rules.proofs.PlainLists.{times_same}
+use Rattle.bump_rules.specs.Tables.{is_unheld, ended_of}
 use Rattle.bump_core.specs.State.{State, chunk, head, class, no_chunk, no_class, is_class, with_head, with_change, with_changes, class_with_change, class_of, is_linked, is_under_application}
 use Rattle.bump_core.specs.Worlds.{IsLawful, owns, place, place_in}
 use Rattle.bump_core.specs.Events.{is_enabled, after, unlink, sweep, close}
 use Rattle.bump_core.specs.Runs.{run_of}
 use Rattle.bump_core.specs.Commands.{is_allowed, events_of, command_after, end_of, freed_by, end_life, look_of, end_events, unheld, swept_changes, looks_at, swept_of}
-use Rattle.bump_core.proofs.classes.SixLists.{times_front}
+use Rattle.bump_rules.proofs.SixLists.{times_front}
 use Rattle.bump_core.proofs.classes.Tiles.{class_within}
 use Rattle.bump_core.proofs.events.Moves.{stands_pushed}
 use Rattle.bump_core.proofs.events.Runs.{run_step}

@@ -1,14 +1,14 @@
 -- Where the chunks of ends and sweeps stand: each entry that they make is of a chunk of the class's lists.
 use Rattle.std.proofs.Common.{◌≡◌, ℕ, ◌<◌, ◌==◌, Bool, true, false, [], ◌∷◌, length, if◌then◌else◌, refl, sym, ap, ◌∙◌, subst}
 use Rattle.std.proofs.lemmas.Bool.{and_parts}
-use Rattle.bump_core.specs.declared.items.Head.{Head}
-use Rattle.bump_core.specs.declared.items.ItemId.{ItemId}
-use Rattle.bump_core.specs.declared.bumps.Ended.TheVariants.{Freed, Deferred}
-use Rattle.bump_core.specs.declared.history.Change.{Change}
-use Rattle.bump_core.specs.declared.history.Change.TheVariants as change
-use Rattle.bump_core.specs.History.{subject, freed_change}
-use Rattle.bump_core.specs.Lists.{IsListed}
-use Rattle.bump_core.specs.Heads.{severed_head}
+use Rattle.bump_rules.specs.declared.items.Head.{Head}
+use Rattle.bump_rules.specs.declared.items.ItemId.{ItemId}
+use Rattle.bump_rules.specs.declared.bumps.Ended.TheVariants.{Freed, Deferred}
+use Rattle.bump_rules.specs.declared.history.Change.{Change}
+use Rattle.bump_rules.specs.declared.history.Change.TheVariants as change
+use Rattle.bump_rules.specs.History.{subject, freed_change}
+use Rattle.bump_rules.specs.Lists.{IsListed}
+use Rattle.bump_rules.specs.Heads.{severed_head}
 use Rattle.bump_core.specs.State.{State, head, class, class_of, with_head, with_change, with_changes, is_current, is_linked}
 use Rattle.bump_core.specs.Events.{unlink}
 use Rattle.bump_core.specs.Commands.{end_of, end_life, freed_by}

@@ -3,23 +3,23 @@ use Rattle.std.proofs.Common.{◌≡◌, ℕ, ◌<◌, Bool, true, false, not, [
 use Rattle.std.proofs.lemmas.Bool.{and_from, lt-ltb, not-true}
 use Rattle.std.specs.Option.{option_map_or}
 use Rattle.std.proofs.lemmas.List.{get_or-set_same, length-set, set-get_or, set-set}
-use Rattle.bump_core.specs.declared.places.Segment.{Segment}
-use Rattle.bump_core.specs.declared.places.Segment.TheVariants as segment
-use Rattle.bump_core.specs.declared.places.Tail.{Tail}
-use Rattle.bump_core.specs.declared.places.Tail.TheVariants as tail
-use Rattle.bump_core.specs.declared.items.ItemId.{ItemId}
-use Rattle.bump_core.specs.declared.bumps.Ended.{Ended}
-use Rattle.bump_core.specs.declared.bumps.Ended.TheVariants.{Freed, Deferred}
-use Rattle.bump_core.specs.declared.history.Cause.TheVariants.{Pull}
-use Rattle.bump_core.specs.declared.history.Change.TheVariants as change
-use Rattle.bump_core.specs.declared.events.Event.TheVariants as event
-use Rattle.bump_core.specs.declared.commands.Command.TheVariants as command
-use Rattle.bump_core.specs.Heads.{cleared_head, moved_head}
-use Rattle.bump_core.specs.Lives.{life}
-use Rattle.bump_core.specs.Tables.{pulled_of, pulled_to, segment_of}
+use Rattle.bump_rules.specs.declared.places.Segment.{Segment}
+use Rattle.bump_rules.specs.declared.places.Segment.TheVariants as segment
+use Rattle.bump_rules.specs.declared.places.Tail.{Tail}
+use Rattle.bump_rules.specs.declared.places.Tail.TheVariants as tail
+use Rattle.bump_rules.specs.declared.items.ItemId.{ItemId}
+use Rattle.bump_rules.specs.declared.bumps.Ended.{Ended}
+use Rattle.bump_rules.specs.declared.bumps.Ended.TheVariants.{Freed, Deferred}
+use Rattle.bump_rules.specs.declared.history.Cause.TheVariants.{Pull}
+use Rattle.bump_rules.specs.declared.history.Change.TheVariants as change
+use Rattle.bump_rules.specs.declared.events.Event.TheVariants as event
+use Rattle.bump_rules.specs.declared.commands.Command.TheVariants as command
+use Rattle.bump_rules.specs.Heads.{cleared_head, moved_head}
+use Rattle.bump_rules.specs.Lives.{life}
+use Rattle.bump_rules.specs.Tables.{pulled_of, pulled_to, segment_of, may_move}
 use Rattle.bump_core.specs.State.{State, chunk, head, no_chunk, with_head, with_change, class_of, is_under_application}
 use Rattle.bump_core.specs.Worlds.{IsLawful}
-use Rattle.bump_core.specs.Events.{is_enabled, after, may_move}
+use Rattle.bump_core.specs.Events.{is_enabled, after}
 use Rattle.bump_core.specs.Runs.{run_of}
 use Rattle.bump_core.specs.Commands.{is_allowed, events_of, command_after, tail_of, is_list_over, pulled_at, pull_to, pull, move_events, pull_events, end_of, end_life, end_events}
 use Rattle.bump_core.proofs.worlds.Fronts.{last_linked}

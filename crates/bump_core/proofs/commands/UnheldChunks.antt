@@ -2,9 +2,9 @@
 use Rattle.std.proofs.Common.{◌≡◌, ℕ, ◌<◌, Bool, true, false, not, ◌&&◌, ◌||◌, List, [], ◌∷◌, length, if◌then◌else◌, refl, ap, ◌∙◌, arith}
 use Rattle.std.proofs.lemmas.Bool.{and_from, lt-ltb}
 use Rattle.std.specs.List.{list_any}
-use Rattle.bump_core.specs.declared.items.Head.{Head}
-use Rattle.bump_core.specs.Tables.{is_unheld}
-use Rattle.bump_core.specs.declared.commands.Command.TheVariants as command
+use Rattle.bump_rules.specs.declared.items.Head.{Head}
+use Rattle.bump_rules.specs.Tables.{is_unheld}
+use Rattle.bump_rules.specs.declared.commands.Command.TheVariants as command
 use Rattle.bump_core.specs.State.{State, head, class, is_class, is_under_application}
 use Rattle.bump_core.specs.Commands.{is_allowed, swept_of, swept_changes, sweep_of, unheld}
 

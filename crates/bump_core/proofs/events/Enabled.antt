@@ -4,23 +4,25 @@ use Rattle.std.proofs.lemmas.Bool.{and_parts, ltb-true, not-true, eqb-true, fals
 use Rattle.std.proofs.lemmas.List.Folds.{list_any_at}
 use Rattle.std.specs.Option.{option_map_or}
 use Rattle.std.specs.Prelude.{option_map}
-use Rattle.bump_core.specs.declared.items.Head.{Head}
-use Rattle.bump_core.specs.declared.bumps.AppliedBump.{AppliedBump}
-use Rattle.bump_core.specs.declared.bumps.Outcome.{Outcome}
-use Rattle.bump_core.specs.declared.bumps.Outcome.TheVariants as outcome
-use Rattle.bump_core.specs.declared.items.ItemId.{ItemId}
-use Rattle.bump_core.specs.declared.bumps.Bump.{Bump}
-use Rattle.bump_core.specs.declared.lanes.Lane.{Lane}
-use Rattle.bump_core.specs.declared.lanes.Lane.TheVariants as lane
-use Rattle.bump_core.specs.declared.events.Event.TheVariants as event
-use Rattle.bump_core.specs.declared.hands.Hand.{Hand}
-use Rattle.bump_core.specs.declared.hands.Hand.TheVariants as hand
-use Rattle.bump_core.specs.declared.places.Segment.{Segment}
-use Rattle.bump_core.specs.declared.places.Segment.TheVariants as segment
-use Rattle.bump_core.specs.Rings.{bump_applied}
-use Rattle.bump_core.specs.Tables.{is_cold, is_unheld}
-use Rattle.bump_core.specs.Events.{is_enabled, is_class_at_rest, is_dying, may_move, next_chunk, may_hit, applied_bump, outcome_tried, ending_at, carried, tried, applied_now, cleared_active, is_empty}
-use Rattle.bump_core.specs.State.{is_class, State, chunk, head, class, worker, is_chunk, is_current, is_linked, has_free_hold, is_open, is_worker, workers_on, some_and, tried_life, life_in_hand, cleared_life, is_idle, applied_life, applies_in, class_of, is_under_application, new_worker}
+use Rattle.bump_rules.specs.declared.items.Head.{Head}
+use Rattle.bump_rules.specs.declared.bumps.AppliedBump.{AppliedBump}
+use Rattle.bump_rules.specs.declared.bumps.Outcome.{Outcome}
+use Rattle.bump_rules.specs.declared.bumps.Outcome.TheVariants as outcome
+use Rattle.bump_rules.specs.declared.items.ItemId.{ItemId}
+use Rattle.bump_rules.specs.declared.bumps.Bump.{Bump}
+use Rattle.bump_rules.specs.declared.lanes.Lane.{Lane}
+use Rattle.bump_rules.specs.declared.lanes.Lane.TheVariants as lane
+use Rattle.bump_rules.specs.declared.events.Event.TheVariants as event
+use Rattle.bump_rules.specs.declared.hands.Hand.{Hand}
+use Rattle.bump_rules.specs.declared.hands.Hand.TheVariants as hand
+use Rattle.bump_rules.specs.declared.places.Segment.{Segment}
+use Rattle.bump_rules.specs.declared.places.Segment.TheVariants as segment
+use Rattle.bump_rules.specs.Rings.{bump_applied}
+use Rattle.bump_rules.specs.Tables.{is_cold, is_unheld, may_move}
+use Rattle.bump_core.specs.Events.{is_enabled, is_class_at_rest, is_dying, next_chunk, may_hit}
+use Rattle.bump_rules.specs.Lanes.{applied_bump, outcome_tried, ending_at, carried, tried, applied_now, cleared_active, is_empty, applied_life}
+use Rattle.bump_core.specs.State.{is_class, State, chunk, head, class, worker, is_chunk, is_current, is_linked, has_free_hold, is_open, is_worker, workers_on, some_and, applies_in, class_of, is_under_application, new_worker}
+use Rattle.bump_rules.specs.Hands.{tried_life, life_in_hand, cleared_life, is_idle}
 use Rattle.bump_core.specs.Worlds.{IsLawful}
 use Rattle.bump_links.specs.Lists.{times}
 

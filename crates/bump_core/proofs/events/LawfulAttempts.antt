@@ -1,20 +1,22 @@
 -- An attempted bump leaves a lawful state lawful: its reference, its push, and how it is dropped.
 use Rattle.std.proofs.Common.{◌≡◌, ℕ, ◌+◌, ◌<◌, true, false, not, nat_lt, [], ◌∷◌, ◌++◌, length, refl, sym, ap, ◌∙◌, arith, append_assoc, length-append, length-drop}
 use Rattle.std.proofs.lemmas.Bool.{and_parts, ltb-true}
-use Rattle.bump_core.specs.declared.items.ItemId.{ItemId}
-use Rattle.bump_core.specs.declared.bumps.Accounts.{Accounts}
-use Rattle.bump_core.specs.declared.items.Head.{Head}
-use Rattle.bump_core.specs.declared.hands.Hand.TheVariants as hand
-use Rattle.bump_core.specs.declared.events.Event.TheVariants as event
-use Rattle.bump_core.specs.Lives.{life, one_if, count_of}
-use Rattle.bump_core.specs.Rings.{in_ring, attempts_of, IsWorker}
-use Rattle.bump_core.specs.State.{State, WorkerState, head, worker, with_head, with_worker, is_on, is_open, is_worker, some_and, tried_life, life_in_hand, cleared_life}
-use Rattle.bump_core.specs.Heads.{one_more, one_fewer, cleared_head}
+use Rattle.bump_rules.specs.declared.items.ItemId.{ItemId}
+use Rattle.bump_rules.specs.declared.bumps.Accounts.{Accounts}
+use Rattle.bump_rules.specs.declared.items.Head.{Head}
+use Rattle.bump_rules.specs.declared.hands.Hand.TheVariants as hand
+use Rattle.bump_rules.specs.declared.events.Event.TheVariants as event
+use Rattle.bump_rules.specs.Lives.{life, one_if, count_of}
+use Rattle.bump_core.specs.Rings.{in_ring, IsWorker}
+use Rattle.bump_rules.specs.Rings.{attempts_of}
+use Rattle.bump_core.specs.State.{State, WorkerState, head, worker, with_head, with_worker, is_open, is_worker, some_and}
+use Rattle.bump_rules.specs.Hands.{is_on, tried_life, life_in_hand, cleared_life}
+use Rattle.bump_rules.specs.Heads.{one_more, one_fewer, cleared_head}
 use Rattle.bump_core.specs.Events.{is_under_limit, waiting, is_enabled, after, reserve, drop_refs, drop_busy, push, drop_full, unmark}
 use Rattle.bump_core.specs.Worlds.{in_hand_of, bumps_of, references, first_hits_of, place, IsLawful}
-use Rattle.bump_core.proofs.Laws.{relawful, referred}
+use Rattle.bump_rules.proofs.Laws.{relawful, referred}
 use Rattle.bump_core.proofs.workers.Ring.{in_ring_push}
-use Rattle.bump_core.proofs.Updates.{count_push}
+use Rattle.bump_rules.proofs.Updates.{count_push}
 use Rattle.bump_core.proofs.worlds.LawfulStates.{one_if_elsewhere, one_if_at, one_if_not_at, referred_used, tried_referred, tried_in_range, tried_current, in_hand_in_range, in_hand_current, cleared_in_range, received_within}
 use Rattle.bump_core.proofs.worlds.Frames.{worker_lawful, waits_kept, both_marked, both_unreferred, both_lawful_off_lane, references_after, first_hits_after, alone_kept, tells_kept}
 use Rattle.bump_core.proofs.events.Enabled.{some_and_parts, lawful_by_some, trying_from, in_hand_from, clearing_from, worker_from}

@@ -1,21 +1,22 @@
 -- The events of ends leave a lawful state lawful: a life ends, and a chunk without holders is free.
 use Rattle.std.proofs.Common.{◌≡◌, ℕ, ◌==◌, ◌≤◌, Bool, true, false, if◌then◌else◌, refl, sym, ap, ◌∙◌, subst, arith}
 use Rattle.std.proofs.lemmas.Bool.{eqb-true, eqb-false}
-use Rattle.bump_core.specs.declared.items.Head.{Head}
-use Rattle.bump_core.specs.declared.items.ItemId.{ItemId}
-use Rattle.bump_core.specs.declared.history.Change.{Change}
-use Rattle.bump_core.specs.declared.history.Change.TheVariants as change
-use Rattle.bump_core.specs.declared.places.Place.TheVariants.{Dying}
-use Rattle.bump_core.specs.declared.events.Event.TheVariants as event
-use Rattle.bump_core.specs.Heads.{severed_head}
-use Rattle.bump_core.specs.Entries.{names_bump}
-use Rattle.bump_core.specs.History.{subject, target, freed_change}
-use Rattle.bump_core.specs.Lawful.{Shows}
-use Rattle.bump_core.specs.Lives.{life}
-use Rattle.bump_core.specs.State.{State, head, class_of, with_change, applied_life}
+use Rattle.bump_rules.specs.declared.items.Head.{Head}
+use Rattle.bump_rules.specs.declared.items.ItemId.{ItemId}
+use Rattle.bump_rules.specs.declared.history.Change.{Change}
+use Rattle.bump_rules.specs.declared.history.Change.TheVariants as change
+use Rattle.bump_rules.specs.declared.places.Place.TheVariants.{Dying}
+use Rattle.bump_rules.specs.declared.events.Event.TheVariants as event
+use Rattle.bump_rules.specs.Heads.{severed_head}
+use Rattle.bump_rules.specs.Entries.{names_bump}
+use Rattle.bump_rules.specs.History.{subject, target, freed_change}
+use Rattle.bump_rules.specs.Lawful.{Shows}
+use Rattle.bump_rules.specs.Lives.{life}
+use Rattle.bump_core.specs.State.{State, head, class_of, with_change}
+use Rattle.bump_rules.specs.Lanes.{applied_life}
 use Rattle.bump_core.specs.Events.{is_enabled, after}
 use Rattle.bump_core.specs.Worlds.{references, first_hits_of, place, IsLawful}
-use Rattle.bump_core.proofs.Laws.{severed, ended}
+use Rattle.bump_rules.proofs.Laws.{severed, ended}
 use Rattle.bump_core.proofs.classes.Tiles.{class_within, class_owns}
 use Rattle.bump_core.proofs.events.Enabled.{unlink_from, sweep_from, none_applies}
 use Rattle.bump_core.proofs.events.Moves.{change_lawful}

@@ -1,20 +1,21 @@
 -- The events of hits leave a lawful state lawful: the marks that a hit leaves, and its time.
 use Rattle.std.proofs.Common.{inl, inr, ◌≤◌, ◌≡◌, ℕ, ◌+◌, ◌<◌, true, not, ◌&&◌, nat_lt, [], ◌∷◌, ◌++◌, length, refl, sym, ap, ◌∙◌, arith}
 use Rattle.std.proofs.lemmas.Bool.{and_parts, ltb-true}
-use Rattle.bump_core.specs.declared.items.ItemId.{ItemId}
-use Rattle.bump_core.specs.declared.items.Head.{Head}
-use Rattle.bump_core.specs.declared.hands.Hand.TheVariants as hand
-use Rattle.bump_core.specs.declared.events.Event.TheVariants as event
-use Rattle.bump_core.specs.Lawful.{bit}
-use Rattle.bump_core.specs.Lives.{life, one_if}
-use Rattle.bump_core.specs.Rings.{most_attempts, IsWorker, attempts_of}
-use Rattle.bump_core.specs.Tables.{is_cold}
+use Rattle.bump_rules.specs.declared.items.ItemId.{ItemId}
+use Rattle.bump_rules.specs.declared.items.Head.{Head}
+use Rattle.bump_rules.specs.declared.hands.Hand.TheVariants as hand
+use Rattle.bump_rules.specs.declared.events.Event.TheVariants as event
+use Rattle.bump_rules.specs.Lawful.{bit}
+use Rattle.bump_rules.specs.Lives.{life, one_if}
+use Rattle.bump_rules.specs.Rings.{most_attempts, attempts_of}
+use Rattle.bump_core.specs.Rings.{IsWorker}
+use Rattle.bump_rules.specs.Tables.{is_cold}
 use Rattle.bump_core.specs.State.{State, WorkerState, chunk, head, worker, with_head, with_worker, workers_on}
-use Rattle.bump_core.specs.Heads.{fetched_head, active_head}
+use Rattle.bump_rules.specs.Heads.{fetched_head, active_head}
 use Rattle.bump_core.specs.Events.{may_hit, is_enabled, after, fetch, mark}
 use Rattle.bump_core.specs.Worlds.{holds_of, in_hand_of, references, first_hits_of, place, IsLawful}
-use Rattle.bump_core.proofs.Laws.{relawful, named_first, fetched_again, marked}
-use Rattle.bump_core.proofs.Updates.{count_push}
+use Rattle.bump_rules.proofs.Laws.{relawful, named_first, fetched_again, marked}
+use Rattle.bump_rules.proofs.Updates.{count_push}
 use Rattle.bump_core.proofs.worlds.LawfulStates.{held_at, one_if_same, one_if_elsewhere, one_if_at, one_if_not_at, one_if_cases}
 use Rattle.bump_core.proofs.worlds.Frames.{alone_kept, tells_kept, waits_kept, both_marked, head_lawful, time_lawful, both_lawful_off_lane, references_after, first_hits_after}
 use Rattle.bump_core.proofs.events.Enabled.{by_test, may_hit_from}

@@ -4,39 +4,42 @@ use Rattle.std.proofs.lemmas.List.{append-nil, map-append, get_or-set_other, len
 use Rattle.std.proofs.lemmas.Bool.{and_parts, ltb-true, not-true, cases_lt}
 use native.Mathlib.Decide.{ℕ_discrete}
 use Rattle.std.proofs.lemmas.Option.{slice_get-get_or}
-use Rattle.bump_core.specs.declared.places.Segment.TheVariants as segment
-use Rattle.bump_core.specs.declared.items.ItemId.{ItemId}
-use Rattle.bump_core.specs.declared.items.Head.{Head}
-use Rattle.bump_core.specs.declared.bumps.Bump.{Bump}
-use Rattle.bump_core.specs.declared.lanes.Lane.{Lane}
-use Rattle.bump_core.specs.declared.lanes.Lane.TheVariants as lane
-use Rattle.bump_core.specs.declared.bumps.AppliedBump.{AppliedBump}
-use Rattle.bump_core.specs.declared.events.Event.TheVariants as event
-use Rattle.bump_core.specs.Lives.{life, is_same, one_if, count_of}
-use Rattle.bump_core.specs.Totals.{how_many}
-use Rattle.bump_core.specs.Entries.{is_move_for, is_unlink_of, is_gone, is_told_moved, is_told_gone, moving, moves_told}
-use Rattle.bump_core.specs.Tables.{is_cold}
-use Rattle.bump_core.specs.Rings.{in_ring, aboard, bump_applied, IsWorker}
-use Rattle.bump_core.specs.State.{State, WorkerState, chunk, head, class, worker, class_of, with_head, is_worker, is_on, some_and, applied_life, is_under_application, new_worker}
-use Rattle.bump_core.specs.Heads.{cleared_head, moved_head}
-use Rattle.bump_core.specs.Events.{with_time, next_bump, bump_of, carried, tried, applied_now, is_empty, ending, is_enabled, after, take_bump, with_lane, clear_for, alight, move_for, cleared_active}
+use Rattle.bump_rules.specs.declared.places.Segment.TheVariants as segment
+use Rattle.bump_rules.specs.declared.items.ItemId.{ItemId}
+use Rattle.bump_rules.specs.declared.items.Head.{Head}
+use Rattle.bump_rules.specs.declared.bumps.Bump.{Bump}
+use Rattle.bump_rules.specs.declared.lanes.Lane.{Lane}
+use Rattle.bump_rules.specs.declared.lanes.Lane.TheVariants as lane
+use Rattle.bump_rules.specs.declared.bumps.AppliedBump.{AppliedBump}
+use Rattle.bump_rules.specs.declared.events.Event.TheVariants as event
+use Rattle.bump_rules.specs.Lives.{life, is_same, one_if, count_of}
+use Rattle.bump_rules.specs.Totals.{how_many}
+use Rattle.bump_rules.specs.Entries.{is_move_for, is_unlink_of, is_gone, is_told_moved, is_told_gone, moving, moves_told}
+use Rattle.bump_rules.specs.Tables.{is_cold}
+use Rattle.bump_core.specs.Rings.{in_ring, IsWorker}
+use Rattle.bump_rules.specs.Rings.{aboard, bump_applied}
+use Rattle.bump_core.specs.State.{State, WorkerState, chunk, head, class, worker, class_of, with_head, is_worker, some_and, is_under_application, new_worker}
+use Rattle.bump_rules.specs.Hands.{is_on}
+use Rattle.bump_rules.specs.Lanes.{applied_life, bump_of, carried, tried, applied_now, is_empty, cleared_active}
+use Rattle.bump_rules.specs.Heads.{cleared_head, moved_head}
+use Rattle.bump_core.specs.Events.{with_time, next_bump, ending, is_enabled, after, take_bump, with_lane, clear_for, alight, move_for}
 use Rattle.bump_core.specs.Worlds.{aboard_of, bumps_of, WaitsToMove, is_of_class, WasUnlinked, IsLawful, place, references, first_hits_of}
 use Rattle.bump_core.proofs.workers.Ring.{lane_further, next_in_ring, numbered_append}
 use Rattle.bump_core.proofs.worlds.LawfulStates.{linked_in_range, same_lives, aboard_in_range, aboard_current, aboard_referred, applied_aboard, waiting_linked}
 use Rattle.bump_core.proofs.worlds.Frames.{hits_in, worker_here, each_worker, worker_lawful, both_marked, both_unreferred, alone_after, alone_kept, tells_further, chunk_here, time_lawful}
 use Rattle.bump_core.proofs.worlds.Unlinked.{referred_unlinked}
-use Rattle.bump_core.proofs.Updates.{total_kept}
-use Rattle.bump_core.proofs.Counted.{how_many_push}
-use Rattle.bump_core.proofs.Endings.{told_by_ending, gone_by_ending}
-use Rattle.bump_core.proofs.ToldMoves.{tests_turned}
+use Rattle.bump_rules.proofs.Updates.{total_kept}
+use Rattle.bump_rules.proofs.Counted.{how_many_push}
+use Rattle.bump_rules.proofs.Endings.{told_by_ending, gone_by_ending}
+use Rattle.bump_rules.proofs.ToldMoves.{tests_turned}
 use Rattle.bump_core.proofs.events.Enabled.{some_and_parts, lawful_by_some, empty_from, carrying_from, tried_from, cold_from, applied_from, worker_from, none_applies, applied_by_ending, move_for_from, cleared_from}
-use Rattle.bump_core.specs.declared.history.Change.{Change}
-use Rattle.bump_core.specs.declared.history.Change.TheVariants as change
-use Rattle.bump_core.specs.declared.history.Cause.TheVariants.{Bump as BumpOf}
+use Rattle.bump_rules.specs.declared.history.Change.{Change}
+use Rattle.bump_rules.specs.declared.history.Change.TheVariants as change
+use Rattle.bump_rules.specs.declared.history.Cause.TheVariants.{Bump as BumpOf}
 use Rattle.bump_core.proofs.classes.Tiles.{class_within, class_owns}
-use Rattle.bump_core.proofs.Laws.{bit_some, moved}
+use Rattle.bump_rules.proofs.Laws.{bit_some, moved}
 use Rattle.bump_core.proofs.events.Moves.{WorkersFit, counted_changed, change_among}
-use Rattle.bump_core.specs.Lawful.{bit}
+use Rattle.bump_rules.specs.Lawful.{bit}
 
 -- a lane with no bump aboard takes the next one from the ring
 pub take_bump_lawful : (s : State) (w : ℕ) (l : ItemId) → IsLawful s → w < length s.workers → (worker s w).lane ≡ lane.Empty → next_bump (worker s w) ≡ Some l → IsLawful (take_bump s w l)

@@ -1,6 +1,6 @@
 -- The event of a ring that closes leaves a lawful state lawful.
 use Rattle.std.proofs.Common.{◌≡◌, ℕ, true, false, refl, arith}
-use Rattle.bump_core.specs.declared.events.Event.TheVariants as event
+use Rattle.bump_rules.specs.declared.events.Event.TheVariants as event
 use Rattle.bump_core.specs.State.{State, WorkerState, worker}
 use Rattle.bump_core.specs.Events.{is_enabled, after}
 use Rattle.bump_core.specs.Rings.{IsWorker}

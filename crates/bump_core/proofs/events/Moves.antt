@@ -3,29 +3,31 @@ use Rattle.std.proofs.Common.{◌≡◌, ℕ, ◌+◌, ◌-◌, ◌<◌, ◌≤�
 use Rattle.std.proofs.lemmas.Bool.{cond-true, cond-false, ne_eqb, and_right}
 use Rattle.std.proofs.lemmas.List.{get_or-set_same, get_or-set_other, length-set}
 use native.Mathlib.Decide.{ℕ_discrete}
-use Rattle.bump_core.specs.declared.places.Place.TheVariants.{Unused}
-use Rattle.bump_core.specs.declared.items.Head.{Head}
-use Rattle.bump_core.specs.declared.items.ItemId.{ItemId}
-use Rattle.bump_core.specs.declared.history.Change.{Change}
-use Rattle.bump_core.specs.declared.bumps.Bump.{Bump}
-use Rattle.bump_core.specs.declared.lanes.Lane.{Lane}
-use Rattle.bump_core.specs.declared.lanes.Lane.TheVariants as lane
-use Rattle.bump_core.specs.Lawful.{bit, Lawful}
-use Rattle.bump_core.specs.Lives.{life}
-use Rattle.bump_core.specs.Totals.{total, how_many}
+use Rattle.bump_rules.specs.declared.places.Place.TheVariants.{Unused}
+use Rattle.bump_rules.specs.declared.items.Head.{Head}
+use Rattle.bump_rules.specs.declared.items.ItemId.{ItemId}
+use Rattle.bump_rules.specs.declared.history.Change.{Change}
+use Rattle.bump_rules.specs.declared.bumps.Bump.{Bump}
+use Rattle.bump_rules.specs.declared.lanes.Lane.{Lane}
+use Rattle.bump_rules.specs.declared.lanes.Lane.TheVariants as lane
+use Rattle.bump_rules.specs.Lawful.{bit, Lawful}
+use Rattle.bump_rules.specs.Lives.{life}
+use Rattle.bump_rules.specs.Totals.{total, how_many}
 use Rattle.bump_core.specs.Rings.{IsWorker}
-use Rattle.bump_core.specs.Entries.{names_bump, is_stray, is_move_for, is_unlink_of, moves_told}
-use Rattle.bump_core.specs.History.{Standing, subject, target}
-use Rattle.bump_core.specs.Lists.{to_front, opening}
-use Rattle.bump_core.specs.State.{State, ClassState, WorkerState, chunk, head, class, worker, no_chunk, no_class, new_worker, with_head, with_change, class_with_change, class_of, is_on, workers_on, applied_life}
+use Rattle.bump_rules.specs.Entries.{names_bump, is_stray, is_move_for, is_unlink_of, moves_told}
+use Rattle.bump_rules.specs.History.{Standing, subject, target}
+use Rattle.bump_rules.specs.Lists.{to_front, opening}
+use Rattle.bump_core.specs.State.{State, ClassState, WorkerState, chunk, head, class, worker, no_chunk, no_class, new_worker, with_head, with_change, class_with_change, class_of, workers_on}
+use Rattle.bump_rules.specs.Hands.{is_on}
+use Rattle.bump_rules.specs.Lanes.{applied_life}
 use Rattle.bump_core.specs.Worlds.{Tiles, IsLawful, IsClass, WaitsToMove, is_of_class, WasUnlinked, owns, stands_in, standing, place, references, first_hits_of, holds_of, bumps_of}
-use Rattle.bump_core.proofs.Replay.{replay_push, standing_push, are_between_push}
+use Rattle.bump_rules.proofs.Replay.{replay_push, standing_push, are_between_push}
 use Rattle.bump_core.proofs.classes.Tiles.{class_kept, tiles_kept, owner, owned_in_range}
 use Rattle.bump_core.proofs.worlds.LawfulStates.{held_by}
 use Rattle.bump_core.proofs.worlds.Frames.{hits_in}
-use Rattle.bump_core.proofs.Laws.{lawful_same, relawful}
-use Rattle.bump_core.proofs.Counted.{how_many_push}
-use Rattle.bump_core.proofs.ToldMoves.{no_stray, no_move, told_same}
+use Rattle.bump_rules.proofs.Laws.{lawful_same, relawful}
+use Rattle.bump_rules.proofs.Counted.{how_many_push}
+use Rattle.bump_rules.proofs.ToldMoves.{no_stray, no_move, told_same}
 
 -- One more entry in the history of a class.
 

@@ -2,15 +2,17 @@
 use Rattle.std.proofs.Common.{◌≡◌, ℕ, ◌<◌, length, Option, Some, None, true, refl, sym, ap, arith, ◌∙◌}
 use Rattle.std.specs.Prelude.{IfSome}
 use Rattle.std.specs.Option.{option_map_or}
-use Rattle.bump_core.specs.declared.items.ItemId.{ItemId}
-use Rattle.bump_core.specs.declared.places.Segment.TheVariants as segment
-use Rattle.bump_core.specs.declared.bumps.Bump.{Bump}
-use Rattle.bump_core.specs.declared.lanes.Lane.{Lane}
-use Rattle.bump_core.specs.declared.lanes.Lane.TheVariants as lane
-use Rattle.bump_core.specs.Lives.{one_if, count_of}
-use Rattle.bump_core.specs.Rings.{most_attempts}
-use Rattle.bump_core.specs.State.{State, WorkerState, head, worker, tried_life, life_in_hand, cleared_life}
-use Rattle.bump_core.specs.Events.{next_bump, bump_of, carried, tried, applied_now, cleared_active}
+use Rattle.bump_rules.specs.declared.items.ItemId.{ItemId}
+use Rattle.bump_rules.specs.declared.places.Segment.TheVariants as segment
+use Rattle.bump_rules.specs.declared.bumps.Bump.{Bump}
+use Rattle.bump_rules.specs.declared.lanes.Lane.{Lane}
+use Rattle.bump_rules.specs.declared.lanes.Lane.TheVariants as lane
+use Rattle.bump_rules.specs.Lives.{one_if, count_of}
+use Rattle.bump_rules.specs.Rings.{most_attempts}
+use Rattle.bump_core.specs.State.{State, WorkerState, head, worker}
+use Rattle.bump_rules.specs.Hands.{tried_life, life_in_hand, cleared_life}
+use Rattle.bump_core.specs.Events.{next_bump}
+use Rattle.bump_rules.specs.Lanes.{bump_of, carried, tried, applied_now, cleared_active}
 use Rattle.bump_core.specs.Commands.{bump_next}
 use Rattle.bump_core.specs.Worlds.{IsLawful, aboard_of, bumps_of, references}
 use Rattle.bump_core.proofs.events.Enabled.{trying_from, in_hand_from, clearing_from, carrying_from, tried_from, applied_from, cleared_from}

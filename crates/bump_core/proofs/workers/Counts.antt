@@ -3,17 +3,19 @@ use Rattle.std.proofs.Common.{◌≡◌, ℕ, zero, suc, ◌+◌, ◌<◌, ◌�
 use Rattle.std.specs.Prelude.{replicate, not, is_some}
 use Rattle.std.specs.List.{list_any}
 use Rattle.std.proofs.lemmas.Bool.{or_from}
-use Rattle.bump_core.specs.declared.hands.Hand.{Hand}
-use Rattle.bump_core.specs.declared.hands.Hand.TheVariants as hand
-use Rattle.bump_core.specs.declared.lanes.Lane.{Lane}
-use Rattle.bump_core.specs.declared.lanes.Lane.TheVariants as lane
-use Rattle.bump_core.specs.declared.items.ItemId.{ItemId}
+use Rattle.bump_rules.specs.declared.hands.Hand.{Hand}
+use Rattle.bump_rules.specs.declared.hands.Hand.TheVariants as hand
+use Rattle.bump_rules.specs.declared.lanes.Lane.{Lane}
+use Rattle.bump_rules.specs.declared.lanes.Lane.TheVariants as lane
+use Rattle.bump_rules.specs.declared.items.ItemId.{ItemId}
 use Rattle.bump_core.specs.declared.workers.Worker.{Worker}
-use Rattle.bump_core.specs.Lawful.{bit}
-use Rattle.bump_core.specs.State.{State, new_worker, is_idle, is_on, applied_life, applies_in}
-use Rattle.bump_core.specs.Totals.{total, how_many}
+use Rattle.bump_rules.specs.Lawful.{bit}
+use Rattle.bump_core.specs.State.{State, new_worker, applies_in}
+use Rattle.bump_rules.specs.Hands.{is_idle, is_on}
+use Rattle.bump_rules.specs.Lanes.{applied_life}
+use Rattle.bump_rules.specs.Totals.{total, how_many}
 use Rattle.bump_core.specs.Workers.{seen, worker_view, is_busy, is_applying, AreCounted}
-use Rattle.bump_core.proofs.Updates.{total_written, term_within}
+use Rattle.bump_rules.proofs.Updates.{total_written, term_within}
 
 -- a mark counts at most one
 bit_most : (b : Bool) → bit b ≤ 1

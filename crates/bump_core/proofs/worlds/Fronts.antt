@@ -2,22 +2,26 @@
 use Rattle.std.proofs.Common.{Option, None, ◌≡◌, ℕ, ◌<◌, ◌≤◌, ◌≢◌, ◌&&◌, true, false, List, length, slice_index_or, Some, refl, sym, ap, ap₂, ◌∙◌, subst, arith, ◌⊎◌, inl, inr}
 use Rattle.std.proofs.lemmas.Bool.{cases_lt, and_parts, and_right}
 use Rattle.std.specs.Prelude.{IfSome}
-use Rattle.bump_core.specs.declared.places.Segment.{Segment}
-use Rattle.bump_core.specs.declared.places.Place.{Place}
-use Rattle.bump_core.specs.declared.places.Place.TheVariants.{Unused}
-use Rattle.bump_core.specs.Lawful.{bit, Shows}
-use Rattle.bump_core.specs.History.{place_of, is_place}
+use Rattle.bump_rules.specs.declared.places.Segment.{Segment}
+use Rattle.bump_rules.specs.declared.places.Place.{Place}
+use Rattle.bump_rules.specs.declared.places.Place.TheVariants.{Unused}
+use Rattle.bump_rules.specs.Lawful.{bit, Shows}
+use Rattle.bump_rules.specs.History.{place_of, is_place}
 use Rattle.bump_links.specs.Lists.{times, last_of}
-use Rattle.bump_core.specs.Lists.{list_at, IsListed}
+use Rattle.bump_rules.specs.Lists.{list_at, IsListed}
 use Rattle.bump_core.specs.Events.{next_chunk}
-use Rattle.bump_core.specs.State.{State, head, class, class_of}
-use Rattle.bump_core.specs.Worlds.{owns, place, place_in, IsLawful}
+use Rattle.bump_core.specs.State.{State, ClassState, head, class, class_of}
+use Rattle.bump_core.specs.Worlds.{owns, place, place_in, IsClass, IsLawful}
 use Rattle.bump_core.proofs.worlds.LawfulStates.{unused_shown}
-use Rattle.bump_core.proofs.Laws.{bit_some, placed_where_linked, in_segment}
-use Rattle.bump_core.proofs.classes.PlainLists.{times_at, first_there, last_there}
-use Rattle.bump_core.proofs.Replay.{in_lists}
-use Rattle.bump_core.proofs.Standings.{same_place, place_same}
+use Rattle.bump_rules.proofs.Laws.{bit_some, placed_where_linked, in_segment}
+use Rattle.bump_rules.proofs.PlainLists.{times_at, first_there, last_there}
+use Rattle.bump_rules.proofs.Replay.{replayed_lists}
+use Rattle.bump_rules.proofs.Standings.{same_place, place_same}
 use Rattle.bump_core.proofs.classes.Tiles.{class_within, class_owns, owner, owned_in_range}
+
+-- the list of a lawful class at a place has a chunk once where its history leaves it there, and else not
+pub in_lists : (k : ClassState) (c : ℕ) (q : Place) → IsClass k → times c (list_at k.lists q) ≡ bit (owns k c && is_place (place_in k c) q)
+in_lists k c q o = ap (λ l. times c (list_at l q)) o.lists ∙ replayed_lists k.first k.end k.fresh c k.history o.entries q
 
 module _ (s : State) (o : IsLawful s) where
   -- how often a chunk is in a list of a class

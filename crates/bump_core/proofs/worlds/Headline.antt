@@ -1,21 +1,22 @@
 -- What the headline says follows from that a World is lawful.
 use Rattle.std.proofs.Common.{◌≡◌, ℕ, ◌<◌, ◌&&◌, Bool, true, List, ◌++◌, length, refl, sym, ap, ◌∙◌, subst, arith}
-use Rattle.bump_core.specs.declared.places.Place.{Place}
-use Rattle.bump_core.specs.declared.places.Place.TheVariants.{Hot, Warm, Cold, Dying, Unused, Retired}
-use Rattle.bump_core.specs.declared.bumps.Bump.{Bump}
+use Rattle.bump_rules.specs.declared.places.Place.{Place}
+use Rattle.bump_rules.specs.declared.places.Place.TheVariants.{Hot, Warm, Cold, Dying, Unused, Retired}
+use Rattle.bump_rules.specs.declared.bumps.Bump.{Bump}
 use Rattle.bump_core.specs.Headline.{Headline, AppliesInOrder, Stands, times_in_all}
-use Rattle.bump_core.specs.History.{is_place}
-use Rattle.bump_core.specs.Lawful.{bit, IsUsed, Shows}
+use Rattle.bump_rules.specs.History.{is_place}
+use Rattle.bump_rules.specs.Lawful.{bit, IsUsed, Shows}
 use Rattle.bump_links.specs.Lists.{times}
-use Rattle.bump_core.specs.Lists.{list_at}
-use Rattle.bump_core.specs.Rings.{in_ring, numbered_from, IsWorker}
+use Rattle.bump_rules.specs.Lists.{list_at}
+use Rattle.bump_core.specs.Rings.{in_ring, IsWorker}
+use Rattle.bump_rules.specs.Rings.{numbered_from}
 use Rattle.bump_core.specs.State.{State, WorkerState, class, head, worker}
 use Rattle.bump_core.specs.Worlds.{owns, place, place_in, stands_in, IsLawful}
 use Rattle.bump_core.proofs.worlds.LawfulStates.{referred_in_range, referred_used}
 use Rattle.bump_core.proofs.worlds.Fronts.{times_in, listed, never_at}
 use Rattle.bump_core.proofs.worlds.TrueEntries.{named_once, true_entry}
 use Rattle.bump_core.proofs.workers.Ring.{numbered_append}
-use Rattle.bump_core.proofs.Standings.{other_place, one_place}
+use Rattle.bump_rules.proofs.Standings.{other_place, one_place}
 
 -- a lawful worker's lane applies what its ring accepted, in order
 pub applies_in_order : (capacity : ℕ) (x : WorkerState) → IsWorker capacity x → AppliesInOrder x

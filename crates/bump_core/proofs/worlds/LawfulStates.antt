@@ -4,22 +4,25 @@ use Rattle.std.proofs.lemmas.Bool.{and_parts, and_from, and_left, and_right, cas
 use Rattle.std.proofs.lemmas.List.{get_or_past}
 use mathlib.Core.Logic.{dite}
 use native.Mathlib.Decide.{ℕ_discrete}
-use Rattle.bump_core.specs.declared.places.Place.TheVariants.{Unused}
-use Rattle.bump_core.specs.declared.items.ItemId.{ItemId}
-use Rattle.bump_core.specs.declared.bumps.Bump.{Bump}
-use Rattle.bump_core.specs.declared.lanes.Lane.{Lane}
-use Rattle.bump_core.specs.declared.lanes.Lane.TheVariants as lane
-use Rattle.bump_core.specs.declared.hands.Hand.TheVariants as hand
+use Rattle.bump_rules.specs.declared.places.Place.TheVariants.{Unused}
+use Rattle.bump_rules.specs.declared.items.ItemId.{ItemId}
+use Rattle.bump_rules.specs.declared.bumps.Bump.{Bump}
+use Rattle.bump_rules.specs.declared.lanes.Lane.{Lane}
+use Rattle.bump_rules.specs.declared.lanes.Lane.TheVariants as lane
+use Rattle.bump_rules.specs.declared.hands.Hand.TheVariants as hand
 use Rattle.bump_core.specs.declared.chunks.Chunk.{Chunk}
-use Rattle.bump_core.specs.declared.places.Segment.TheVariants as segment
-use Rattle.bump_core.specs.Lawful.{bit, Shows, IsUsed}
-use Rattle.bump_core.specs.Lives.{life, is_same, one_if, count_of}
-use Rattle.bump_core.specs.Rings.{in_ring, attempts_of}
-use Rattle.bump_core.specs.State.{State, chunk, head, worker, class_of, no_class, new_worker, is_on, applied_life}
+use Rattle.bump_rules.specs.declared.places.Segment.TheVariants as segment
+use Rattle.bump_rules.specs.Lawful.{bit, Shows, IsUsed}
+use Rattle.bump_rules.specs.Lives.{life, is_same, one_if, count_of}
+use Rattle.bump_core.specs.Rings.{in_ring}
+use Rattle.bump_rules.specs.Rings.{attempts_of}
+use Rattle.bump_core.specs.State.{State, chunk, head, worker, class_of, no_class, new_worker}
+use Rattle.bump_rules.specs.Hands.{is_on}
+use Rattle.bump_rules.specs.Lanes.{applied_life}
 use Rattle.bump_core.specs.Worlds.{holds_of, in_hand_of, aboard_of, bumps_of, references, first_hits_of, place_in, place, WaitsToMove, IsLawful}
 use Rattle.bump_core.proofs.classes.Tiles.{class_out}
-use Rattle.bump_core.proofs.Laws.{used_where_linked, none_where_free}
-use Rattle.bump_core.proofs.Updates.{term_within}
+use Rattle.bump_rules.proofs.Laws.{used_where_linked, none_where_free}
+use Rattle.bump_rules.proofs.Updates.{term_within}
 
 -- Whether two lives are one.
 

@@ -1,9 +1,9 @@
 -- Each event that is enabled leaves a lawful state lawful, and so does a run; what a World keeps, a step and a run keep.
 use Rattle.std.proofs.Common.{◌≡◌, true, List, Some, Result, arith}
-use Rattle.bump_core.specs.declared.events.Event.{Event}
-use Rattle.bump_core.specs.declared.events.Event.TheVariants as event
-use Rattle.bump_core.specs.declared.events.Reply.{Reply}
-use Rattle.bump_core.specs.declared.events.Refused.{Refused}
+use Rattle.bump_rules.specs.declared.events.Event.{Event}
+use Rattle.bump_rules.specs.declared.events.Event.TheVariants as event
+use Rattle.bump_rules.specs.declared.events.Reply.{Reply}
+use Rattle.bump_rules.specs.declared.events.Refused.{Refused}
 use Rattle.bump_core.specs.Runs.{Steps, run_of}
 use Rattle.bump_core.specs.State.{State, SameSizes}
 use Rattle.bump_core.specs.Events.{is_enabled, after}

@@ -4,20 +4,20 @@ use Rattle.std.specs.List.{Contains}
 use Rattle.std.proofs.lemmas.Bool.{and_from, cases_lt}
 use Rattle.std.proofs.lemmas.List.{get_or_past}
 use native.Mathlib.Decide.{ℕ_discrete}
-use Rattle.bump_core.specs.declared.bumps.AppliedBump.{AppliedBump}
-use Rattle.bump_core.specs.declared.bumps.Outcome.{Outcome}
-use Rattle.bump_core.specs.declared.bumps.Outcome.TheVariants as outcome
-use Rattle.bump_core.specs.Entries.{is_move_for, is_moved, is_gone, is_told_moved, is_told_gone, moves_told, Says, IsTrueEntry}
+use Rattle.bump_rules.specs.declared.bumps.AppliedBump.{AppliedBump}
+use Rattle.bump_rules.specs.declared.bumps.Outcome.{Outcome}
+use Rattle.bump_rules.specs.declared.bumps.Outcome.TheVariants as outcome
+use Rattle.bump_rules.specs.Entries.{is_move_for, is_moved, is_gone, is_told_moved, is_told_gone, moves_told, Says, IsTrueEntry}
 use Rattle.bump_core.specs.Headline.{moves_for}
-use Rattle.bump_core.specs.Lawful.{bit}
-use Rattle.bump_core.specs.Lives.{is_same}
-use Rattle.bump_core.specs.Rings.{aboard, bump_applied, numbered_from}
+use Rattle.bump_rules.specs.Lawful.{bit}
+use Rattle.bump_rules.specs.Lives.{is_same}
+use Rattle.bump_rules.specs.Rings.{aboard, bump_applied, numbered_from}
 use Rattle.bump_core.specs.State.{State, ClassState, WorkerState, class, worker, class_of, no_class, new_worker}
-use Rattle.bump_core.specs.Totals.{how_many}
+use Rattle.bump_rules.specs.Totals.{how_many}
 use Rattle.bump_core.specs.Worlds.{is_of_class, IsLawful}
-use Rattle.bump_core.proofs.Counted.{contained_counted, total_of_none, total_at_most_one}
-use Rattle.bump_core.proofs.Laws.{bit_at_most}
-use Rattle.bump_core.proofs.ToldMoves.{told_apart, told_below, told_once, told_never}
+use Rattle.bump_rules.proofs.Counted.{contained_counted, total_of_none, total_at_most_one}
+use Rattle.bump_rules.proofs.Laws.{bit_at_most}
+use Rattle.bump_rules.proofs.ToldMoves.{told_apart, told_below, told_once, told_never}
 use Rattle.bump_core.proofs.worlds.LawfulStates.{same_life}
 
 -- a number is not two numbers

@@ -1,13 +1,13 @@
 -- A life that has references and isn't linked was unlinked, and its class's history has that.
 use Rattle.std.proofs.Common.{◌≡◌, ℕ, ◌<◌, ◌≢◌, false, sym, ◌∙◌}
-use Rattle.bump_core.specs.declared.places.Place.TheVariants.{Dying, Unused}
-use Rattle.bump_core.specs.Lives.{life}
-use Rattle.bump_core.specs.Totals.{how_many}
-use Rattle.bump_core.specs.Entries.{is_unlink_of}
+use Rattle.bump_rules.specs.declared.places.Place.TheVariants.{Dying, Unused}
+use Rattle.bump_rules.specs.Lives.{life}
+use Rattle.bump_rules.specs.Totals.{how_many}
+use Rattle.bump_rules.specs.Entries.{is_unlink_of}
 use Rattle.bump_core.specs.State.{State, head, class, class_of}
 use Rattle.bump_core.specs.Worlds.{references, place, IsLawful}
-use Rattle.bump_core.proofs.Laws.{dying_where_unlinked}
-use Rattle.bump_core.proofs.Unlinks.{unlinked_where_dying}
+use Rattle.bump_rules.proofs.Laws.{dying_where_unlinked}
+use Rattle.bump_rules.proofs.Unlinks.{unlinked_where_dying}
 use Rattle.bump_core.proofs.worlds.LawfulStates.{referred_current, referred_used}
 
 -- UNUSED is not DYING

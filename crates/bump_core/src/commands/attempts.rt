@@ -1,15 +1,13 @@
 //! An attempted bump in the command of a hit: it is queued or dropped at once.
 ghost use Rattle.std.specs.Prelude.{◌≡◌, ◌<◌, [], ◌∷◌, ◌++◌, IfOk, OnOk, OnErr, Some, length};
 ghost use Rattle.bump_core.specs.Commands.{counted, attempt, attempt_answer, dropped_at};
-ghost use Rattle.bump_core.specs.Rings.{most_attempts};
+ghost use Rattle.bump_rules.specs.Rings.{most_attempts};
 ghost use Rattle.bump_core.specs.State.{worker, with_worker};
 ghost use Rattle.bump_core.specs.Views.{state_of};
 ghost use Rattle.bump_core.specs.Worlds.{IsLawful};
 
-use crate::bumps::Accounts;
-use crate::commands::{Dropped, Touch};
-use crate::items::{Head, ItemId};
 use crate::parts::Parts;
+use bump_rules::{Accounts, Dropped, Head, ItemId, Touch};
 use std::alloc::AllocError;
 
 impl Parts {

@@ -2,30 +2,13 @@
 ghost use Rattle.std.specs.Prelude.{◌≡◌, ◌<◌, IfOk, OnOk, OnErr, true, length};
 ghost use Rattle.bump_core.specs.Commands.{Commands, is_allowed, end_life, end_of, sweep_of};
 ghost use Rattle.bump_core.specs.State.{is_linked, with_changes};
-ghost use Rattle.bump_core.specs.Tables.{ended_of};
 ghost use Rattle.bump_core.specs.Views.{state_of};
 ghost use Rattle.bump_core.specs.Worlds.{IsLawful};
-ghost use Rattle.bump_core.specs.declared.commands.Command.TheVariants as command;
+ghost use Rattle.bump_rules.specs.declared.commands.Command.TheVariants as command;
 
-use crate::bumps::Ended;
-use crate::commands::Answer;
-use crate::events::Refused;
-use crate::history::Change;
-use crate::items::{Head, ItemId};
 use crate::parts::Parts;
+use bump_rules::{Answer, Change, Ended, ItemId, Refused};
 use std::alloc::AllocError;
-
-impl Head {
-    /// What the end of an unlinked life comes to, by the head that is found behind it.
-    pub fn ended(self) -> Ended
-        ensures { result ≡ ended_of self }
-    {
-        if self.refs == 0 {
-            return Ended::Freed;
-        }
-        Ended::Deferred
-    }
-}
 
 impl Parts {
     /// A linked life ends, and its chunk is free where nobody holds it. Tells what the end came to.

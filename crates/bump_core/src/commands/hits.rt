@@ -1,19 +1,15 @@
 //! The command of a hit: its change at once, by the hit table.
 ghost use Rattle.std.specs.Prelude.{◌≡◌, ◌<◌, IfOk, OnOk, OnErr, length};
 ghost use Rattle.bump_core.specs.Commands.{Commands, hit, hit_at, hit_answer};
-ghost use Rattle.bump_core.specs.Rings.{most_attempts};
+ghost use Rattle.bump_rules.specs.Rings.{most_attempts};
 ghost use Rattle.bump_core.specs.State.{worker};
 ghost use Rattle.bump_core.specs.Views.{state_of};
 ghost use Rattle.bump_core.specs.Worlds.{IsLawful};
-ghost use Rattle.bump_core.specs.declared.commands.Command.TheVariants as command;
+ghost use Rattle.bump_rules.specs.declared.commands.Command.TheVariants as command;
 
-use crate::bumps::MOST_ATTEMPTS;
 use crate::chunks::Chunk;
-use crate::commands::{Answer, Touch};
-use crate::events::Refused;
-use crate::items::{Head, ItemId};
 use crate::parts::Parts;
-use crate::places::Segment;
+use bump_rules::{Answer, Head, ItemId, MOST_ATTEMPTS, Refused, Segment, Touch};
 use std::alloc::AllocError;
 
 impl Parts {

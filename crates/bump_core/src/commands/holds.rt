@@ -3,13 +3,11 @@ ghost use Rattle.std.specs.Prelude.{◌≡◌};
 ghost use Rattle.bump_core.specs.Commands.{Commands};
 ghost use Rattle.bump_core.specs.Views.{state_of};
 ghost use Rattle.bump_core.specs.Worlds.{IsLawful};
-ghost use Rattle.bump_core.specs.declared.commands.Command.TheVariants as command;
+ghost use Rattle.bump_rules.specs.declared.commands.Command.TheVariants as command;
 
 use crate::chunks::Chunk;
-use crate::commands::Answer;
-use crate::events::Refused;
-use crate::items::{Head, ItemId};
 use crate::parts::Parts;
+use bump_rules::{Answer, Head, ItemId, Refused};
 
 impl Parts {
     /// Takes a hold of an item.

@@ -1,51 +1,24 @@
 //! The command of a lane: the next bump is applied at once, by the update table.
-ghost use Rattle.std.specs.Prelude.{◌≡◌, ◌<◌, [], ◌∷◌, ◌++◌, IfSome, IfOk, OnOk, OnErr, Some, true, false, length};
+ghost use Rattle.std.specs.Prelude.{◌≡◌, ◌<◌, [], ◌∷◌, ◌++◌, IfSome, IfOk, OnOk, OnErr, Some, false, length};
 ghost use Rattle.bump_core.specs.State.{class, class_of, head, worker, with_worker};
-ghost use Rattle.bump_core.specs.Tables.{outcome_of};
-ghost use Rattle.bump_core.specs.Events.{applied_bump, next_bump};
-ghost use Rattle.bump_core.specs.Commands.{Commands, bump_next, is_half_made, bumped_chunk, bumped_worker, bumped_lists, apply_bump, entry_of, ended_at, outcome_next};
+ghost use Rattle.bump_rules.specs.Lanes.{applied_bump, is_half_made};
+ghost use Rattle.bump_core.specs.Events.{next_bump};
+ghost use Rattle.bump_core.specs.Commands.{Commands, bump_next, bumped_chunk, bumped_worker, bumped_lists, apply_bump, entry_of};
 ghost use Rattle.bump_core.specs.Views.{state_of};
 ghost use Rattle.bump_core.specs.Workers.{HasRoom};
 ghost use Rattle.bump_core.specs.Worlds.{IsLawful};
-ghost use Rattle.bump_core.specs.declared.commands.Command.TheVariants as command;
-ghost use Rattle.bump_core.specs.declared.lanes.Lane.TheVariants as lane;
-ghost use Rattle.bump_core.specs.declared.bumps.Outcome.TheVariants.{Moved, Gone};
-ghost use Rattle.bump_core.specs.declared.bumps.Ended.TheVariants.{Freed, Deferred};
+ghost use Rattle.bump_rules.specs.declared.commands.Command.TheVariants as command;
+ghost use Rattle.bump_rules.specs.declared.lanes.Lane.TheVariants as lane;
+ghost use Rattle.bump_rules.specs.declared.bumps.Outcome.TheVariants.{Moved, Gone};
+ghost use Rattle.bump_rules.specs.declared.bumps.Ended.TheVariants.{Freed};
 
-use crate::bumps::{Applied, AppliedBump, Bump, Ended, Entry, Outcome};
 use crate::chunks::Chunk;
-use crate::commands::Answer;
-use crate::events::Refused;
-use crate::history::{Cause, Change};
-use crate::items::Head;
-use crate::lanes::Lane;
 use crate::parts::Parts;
-use crate::places::Segment;
+use bump_rules::{
+    Answer, Applied, AppliedBump, Bump, Cause, Change, Ended, Entry, Head, Lane, Outcome, Refused,
+    Segment,
+};
 use std::alloc::AllocError;
-
-impl Lane {
-    /// Whether another command is half way in applying the bump aboard.
-    fn is_half_made(self) -> bool
-        ensures { result ≡ is_half_made self }
-    {
-        !matches!(self, Lane::Empty | Lane::Carrying(_))
-    }
-}
-
-impl Head {
-    /// The update table: what applying a bump comes to, by the head found and by whether the clearing step found ACTIVE.
-    fn outcome(self, cleared: bool) -> Outcome
-        ensures { result ≡ outcome_of self cleared }
-    {
-        if !self.linked {
-            return Outcome::Gone;
-        }
-        if matches!(self.segment, Segment::Cold) && cleared {
-            return Outcome::Moved;
-        }
-        Outcome::TimeOnly
-    }
-}
 
 impl Chunk {
     /// The chunk of a bump that was applied: the bump's reference is given back.

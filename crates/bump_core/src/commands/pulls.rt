@@ -1,63 +1,16 @@
 //! The command of a pull: its change at once, by the tail table.
 ghost use Rattle.std.specs.Prelude.{◌≡◌, ◌<◌, IfSome, OnOk, OnErr, Some, true, length};
 ghost use Rattle.bump_core.specs.Commands.{Commands, tail_of, is_list_over, pulled_at, pull_to, pull};
-ghost use Rattle.bump_core.specs.Lists.{IsListed};
+ghost use Rattle.bump_rules.specs.Lists.{IsListed};
 ghost use Rattle.bump_core.specs.State.{head, class, class_of};
-ghost use Rattle.bump_core.specs.Tables.{pulled_of, pulled_to, segment_of};
+ghost use Rattle.bump_rules.specs.Tables.{segment_of};
 ghost use Rattle.bump_core.specs.Views.{state_of};
 ghost use Rattle.bump_core.specs.Worlds.{IsLawful};
-ghost use Rattle.bump_core.specs.declared.commands.Command.TheVariants as command;
+ghost use Rattle.bump_rules.specs.declared.commands.Command.TheVariants as command;
 
-use crate::bumps::Ended;
-use crate::commands::{Answer, Pulled};
-use crate::events::Refused;
-use crate::history::{Cause, Change};
-use crate::items::{Head, ItemId};
 use crate::parts::Parts;
-use crate::places::{Place, Segment, Tail};
+use bump_rules::{Answer, Cause, Change, Head, ItemId, Place, Pulled, Refused, Segment, Tail};
 use std::alloc::AllocError;
-
-impl Tail {
-    /// The segment of the list that a pull looks at.
-    fn segment(self) -> Segment
-        ensures { result ≡ segment_of self }
-    {
-        match self {
-            Tail::Hot => Segment::Hot,
-            Tail::Warm => Segment::Warm,
-            Tail::Cold | Tail::Evict => Segment::Cold,
-        }
-    }
-
-    /// The tail table: what a pull does with the last item of the list, by ACTIVE, by whether the list has more items than its
-    /// limit, and by what the item's end comes to.
-    fn pulled(self, active: bool, over: bool, ended: Ended, id: ItemId) -> Pulled
-        ensures { result ≡ pulled_of self active over ended id }
-    {
-        match self {
-            Tail::Evict if matches!(ended, Ended::Freed) => Pulled::Freed(id),
-            Tail::Evict => Pulled::Deferred(id),
-            Tail::Hot if active => Pulled::Warm(id),
-            Tail::Warm if active => Pulled::Again(id),
-            Tail::Cold if active => Pulled::Warm(id),
-            Tail::Hot | Tail::Warm if over => Pulled::Cold(id),
-            _ => Pulled::Stay(id),
-        }
-    }
-}
-
-impl Pulled {
-    /// The segment to whose front the item goes, if it is moved.
-    fn to(self) -> Option<Segment>
-        ensures { result ≡ pulled_to self }
-    {
-        match self {
-            Pulled::Warm(_) | Pulled::Again(_) => Some(Segment::Warm),
-            Pulled::Cold(_) => Some(Segment::Cold),
-            Pulled::Empty | Pulled::Stay(_) | Pulled::Freed(_) | Pulled::Deferred(_) => None,
-        }
-    }
-}
 
 impl Parts {
     /// The last chunk of a class's HOT, WARM or COLD.

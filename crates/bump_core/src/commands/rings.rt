@@ -1,11 +1,10 @@
 //! The command that closes a ring.
 ghost use Rattle.bump_core.specs.Commands.{Commands};
 ghost use Rattle.bump_core.specs.Views.{state_of};
-ghost use Rattle.bump_core.specs.declared.commands.Command.TheVariants as command;
+ghost use Rattle.bump_rules.specs.declared.commands.Command.TheVariants as command;
 
-use crate::commands::Answer;
-use crate::events::Refused;
 use crate::parts::Parts;
+use bump_rules::{Answer, Refused};
 
 impl Parts {
     /// Closes a worker's ring.

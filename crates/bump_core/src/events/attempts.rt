@@ -1,17 +1,15 @@
 //! Events of an attempted bump, from its reference to the worker's ring, or to its drop.
 ghost use Rattle.std.specs.Prelude.{◌≡◌, ◌<◌, IsSome, IfSome, length, IfOk, OnOk, OnErr};
-ghost use Rattle.bump_core.specs.State.{worker, tried_life, life_in_hand, cleared_life};
+ghost use Rattle.bump_core.specs.State.{worker};
+ghost use Rattle.bump_rules.specs.Hands.{tried_life, life_in_hand, cleared_life};
 ghost use Rattle.bump_core.specs.Events.{is_enabled, after, reply_of};
 ghost use Rattle.bump_core.specs.Runs.{IsEnabledBy};
 ghost use Rattle.bump_core.specs.Views.{state_of};
 ghost use Rattle.bump_core.specs.Worlds.{IsLawful};
-ghost use Rattle.bump_core.specs.declared.events.Event.TheVariants as event;
+ghost use Rattle.bump_rules.specs.declared.events.Event.TheVariants as event;
 
-use crate::bumps::Accounts;
-use crate::events::{Refused, Reply};
-use crate::hands::Hand;
-use crate::items::{Head, ItemId};
 use crate::parts::Parts;
+use bump_rules::{Accounts, Hand, Head, ItemId, Refused, Reply};
 
 impl Parts {
     /// The life of the bump that a worker tries to take a reference for, if it does.

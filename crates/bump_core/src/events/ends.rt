@@ -4,13 +4,10 @@ ghost use Rattle.bump_core.specs.Events.{is_dying, is_enabled, after, reply_of};
 ghost use Rattle.bump_core.specs.Runs.{IsEnabledBy};
 ghost use Rattle.bump_core.specs.Views.{state_of};
 ghost use Rattle.bump_core.specs.Worlds.{IsLawful};
-ghost use Rattle.bump_core.specs.declared.events.Event.TheVariants as event;
+ghost use Rattle.bump_rules.specs.declared.events.Event.TheVariants as event;
 
-use crate::events::{Refused, Reply};
-use crate::history::Change;
-use crate::items::{Head, ItemId};
 use crate::parts::Parts;
-use crate::places::Place;
+use bump_rules::{Change, Head, ItemId, Place, Refused, Reply};
 
 impl Parts {
     /// Whether a chunk stands in its class's DYING.

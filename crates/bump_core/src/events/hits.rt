@@ -3,15 +3,11 @@ ghost use Rattle.std.specs.Prelude.{◌≡◌, IfOk, OnOk, OnErr};
 ghost use Rattle.bump_core.specs.Events.{may_hit, is_enabled, after, reply_of};
 ghost use Rattle.bump_core.specs.Runs.{IsEnabledBy};
 ghost use Rattle.bump_core.specs.Views.{state_of};
-ghost use Rattle.bump_core.specs.declared.events.Event.TheVariants as event;
+ghost use Rattle.bump_rules.specs.declared.events.Event.TheVariants as event;
 
-use crate::bumps::{Accounts, MOST_ATTEMPTS};
 use crate::chunks::Chunk;
-use crate::events::{Refused, Reply};
-use crate::hands::Hand;
-use crate::items::{Head, ItemId};
 use crate::parts::Parts;
-use crate::places::Segment;
+use bump_rules::{Accounts, Hand, Head, ItemId, MOST_ATTEMPTS, Refused, Reply, Segment};
 
 impl Parts {
     /// A hit stores the time.

@@ -4,12 +4,11 @@ ghost use Rattle.bump_core.specs.Events.{is_enabled, after, reply_of};
 ghost use Rattle.bump_core.specs.Runs.{IsEnabledBy};
 ghost use Rattle.bump_core.specs.Views.{state_of};
 ghost use Rattle.bump_core.specs.Worlds.{IsLawful};
-ghost use Rattle.bump_core.specs.declared.events.Event.TheVariants as event;
+ghost use Rattle.bump_rules.specs.declared.events.Event.TheVariants as event;
 
 use crate::chunks::Chunk;
-use crate::events::{Refused, Reply};
-use crate::items::{Head, ItemId};
 use crate::parts::Parts;
+use bump_rules::{Head, ItemId, Refused, Reply};
 
 impl Parts {
     /// A load of the head.

@@ -1,21 +1,17 @@
 //! Events of a lane: the bumps of its worker's ring are taken and applied, in order.
 ghost use Rattle.std.specs.Prelude.{◌≡◌, ◌<◌, IsSome, IfSome, length, true, IfOk, OnOk, OnErr};
 ghost use Rattle.bump_core.specs.State.{worker, head};
-ghost use Rattle.bump_core.specs.Events.{carried, tried, applied_now, cleared_active, is_enabled, after, reply_of};
-ghost use Rattle.bump_core.specs.declared.places.Segment.TheVariants.{Cold};
+ghost use Rattle.bump_rules.specs.Lanes.{carried, tried, applied_now, cleared_active};
+ghost use Rattle.bump_core.specs.Events.{is_enabled, after, reply_of};
+ghost use Rattle.bump_rules.specs.declared.places.Segment.TheVariants.{Cold};
 ghost use Rattle.bump_core.specs.Runs.{IsEnabledBy};
 ghost use Rattle.bump_core.specs.Views.{state_of};
 ghost use Rattle.bump_core.specs.Worlds.{IsLawful};
-ghost use Rattle.bump_core.specs.declared.events.Event.TheVariants as event;
+ghost use Rattle.bump_rules.specs.declared.events.Event.TheVariants as event;
 
-use crate::bumps::Bump;
 use crate::chunks::Chunk;
-use crate::events::{Refused, Reply};
-use crate::history::{Cause, Change};
-use crate::items::Head;
-use crate::lanes::Lane;
 use crate::parts::Parts;
-use crate::places::Segment;
+use bump_rules::{Bump, Cause, Change, Head, Lane, Refused, Reply, Segment};
 
 impl Parts {
     /// The bump that a lane took and has not looked at yet, if there is one.

@@ -4,13 +4,11 @@ ghost use Rattle.bump_core.specs.Events.{is_class_at_rest, is_enabled, after, re
 ghost use Rattle.bump_core.specs.Runs.{IsEnabledBy};
 ghost use Rattle.bump_core.specs.Views.{state_of};
 ghost use Rattle.bump_core.specs.Worlds.{IsLawful};
-ghost use Rattle.bump_core.specs.declared.events.Event.TheVariants as event;
+ghost use Rattle.bump_rules.specs.declared.events.Event.TheVariants as event;
 
 use crate::chunks::Chunk;
-use crate::events::{Refused, Reply};
-use crate::history::Change;
-use crate::items::{Head, ItemId};
 use crate::parts::Parts;
+use bump_rules::{Change, Head, ItemId, Refused, Reply};
 
 impl Parts {
     /// Whether a class exists and no lane applies a bump of it.

@@ -1,29 +1,14 @@
 //! Events of pulls: ACTIVE is cleared, and items move to the front of a segment.
 ghost use Rattle.std.specs.Prelude.{◌≡◌, IfOk, OnOk, OnErr};
-ghost use Rattle.bump_core.specs.Events.{may_move, is_enabled, after, reply_of};
+ghost use Rattle.bump_rules.specs.Tables.{may_move};
+ghost use Rattle.bump_core.specs.Events.{is_enabled, after, reply_of};
 ghost use Rattle.bump_core.specs.Runs.{IsEnabledBy};
 ghost use Rattle.bump_core.specs.Views.{state_of};
 ghost use Rattle.bump_core.specs.Worlds.{IsLawful};
-ghost use Rattle.bump_core.specs.declared.events.Event.TheVariants as event;
+ghost use Rattle.bump_rules.specs.declared.events.Event.TheVariants as event;
 
-use crate::events::{Refused, Reply};
-use crate::history::{Cause, Change};
-use crate::items::{Head, ItemId};
 use crate::parts::Parts;
-use crate::places::Segment;
-
-impl Segment {
-    /// Whether a pull may move an item from this segment to another.
-    fn may_move(self, to: Segment) -> bool
-        ensures { result ≡ may_move self to }
-    {
-        match (self, to) {
-            (Segment::Hot | Segment::Warm, Segment::Warm | Segment::Cold) => true,
-            (Segment::Cold, Segment::Warm) => true,
-            _ => false,
-        }
-    }
-}
+use bump_rules::{Cause, Change, Head, ItemId, Refused, Reply, Segment};
 
 impl Parts {
     /// A pull clears ACTIVE.

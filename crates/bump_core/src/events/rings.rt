@@ -3,10 +3,10 @@ ghost use Rattle.std.specs.Prelude.{◌≡◌, IfOk, OnOk, OnErr};
 ghost use Rattle.bump_core.specs.Events.{is_enabled, after, reply_of};
 ghost use Rattle.bump_core.specs.Runs.{IsEnabledBy};
 ghost use Rattle.bump_core.specs.Views.{state_of};
-ghost use Rattle.bump_core.specs.declared.events.Event.TheVariants as event;
+ghost use Rattle.bump_rules.specs.declared.events.Event.TheVariants as event;
 
-use crate::events::{Refused, Reply};
 use crate::parts::Parts;
+use bump_rules::{Refused, Reply};
 
 impl Parts {
     /// A worker's ring closes.

@@ -1,20 +1,16 @@
 //! How the parts of a World are changed.
 ghost use Rattle.std.specs.Prelude.{◌≡◌, ◌<◌, ◌+◌, ◌≤◌, ◌^◌, [], ◌∷◌, ◌++◌, OnOk, OnErr, length, Some};
-ghost use Rattle.bump_core.specs.Lists.{IsListed};
-ghost use Rattle.bump_core.specs.History.{subject, AreListed};
+ghost use Rattle.bump_rules.specs.Lists.{IsListed};
+ghost use Rattle.bump_rules.specs.History.{subject, AreListed};
 ghost use Rattle.bump_core.specs.State.{chunk, class, worker, with_chunk, with_head, with_worker, with_change, with_changes};
 ghost use Rattle.bump_core.specs.Events.{with_lane, next_bump, take_bump, push, close};
 ghost use Rattle.bump_core.specs.Views.{state_of};
-ghost use Rattle.bump_core.specs.declared.hands.Hand.TheVariants as hand;
-ghost use Rattle.bump_core.specs.declared.lanes.Lane.TheVariants as lane;
+ghost use Rattle.bump_rules.specs.declared.hands.Hand.TheVariants as hand;
+ghost use Rattle.bump_rules.specs.declared.lanes.Lane.TheVariants as lane;
 
-use crate::bumps::{Accounts, AppliedBump};
 use crate::chunks::Chunk;
-use crate::hands::Hand;
-use crate::history::Change;
-use crate::items::{Head, ItemId};
-use crate::lanes::Lane;
 use crate::parts::Parts;
+use bump_rules::{Accounts, AppliedBump, Change, Hand, Head, ItemId, Lane};
 use std::alloc::AllocError;
 
 impl Parts {

@@ -1,17 +1,14 @@
 //! The parts of a new World.
 ghost use Rattle.std.specs.Prelude.{◌≡◌, ℕ, ◌+◌, ◌-◌, ◌≤◌, ◌<◌, ◌^◌, IfOk, map};
-ghost use Rattle.bump_core.specs.Configs.{chunks_of, HaveChunks};
+ghost use Rattle.bump_rules.specs.Configs.{chunks_of, HaveChunks};
 ghost use Rattle.bump_core.specs.Opening.{fresh_chunk, new_class, classes_from, new_state};
 ghost use Rattle.bump_core.specs.Views.{class_view, state_of};
 
 use crate::chunks::Chunk;
-use crate::class_lists::ClassLists;
 use crate::classes::Class;
-use crate::configs::{ClassConfig, Config, MAX_CHUNKS};
-use crate::items::Head;
 use crate::parts::Parts;
-use crate::places::Segment;
 use crate::workers::Workers;
+use bump_rules::{ClassConfig, ClassLists, Config, Head, MAX_CHUNKS, Segment};
 use std::alloc::{AllocError, Global};
 
 /// A class whose chunks, from `first` on, are all UNUSED, and fresh with this generation.

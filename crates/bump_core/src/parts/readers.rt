@@ -2,20 +2,14 @@
 ghost use Rattle.std.specs.Prelude.{◌≡◌, ◌<◌, nat_lt, IfSome, length};
 ghost use Rattle.bump_core.specs.State.{chunk, head, worker, is_chunk, is_class, is_worker, is_current, is_linked, is_held, workers_on, has_free_hold, class_of, is_under_application, is_open, class};
 ghost use Rattle.bump_core.specs.Events.{next_bump, waiting, next_chunk};
-ghost use Rattle.bump_core.specs.Lists.{list_at, IsListed};
+ghost use Rattle.bump_rules.specs.Lists.{list_at, IsListed};
 ghost use Rattle.bump_core.specs.Worlds.{IsLawful};
 ghost use Rattle.bump_links.specs.Lists.{times, last_of};
 ghost use Rattle.bump_core.specs.Views.{state_of};
 
-use crate::bumps::{Accounts, AppliedBump};
 use crate::chunks::Chunk;
-use crate::class_lists::ListedChunks;
-use crate::hands::Hand;
-use crate::history::Change;
-use crate::items::{Head, ItemId};
-use crate::lanes::Lane;
 use crate::parts::Parts;
-use crate::places::Place;
+use bump_rules::{Accounts, AppliedBump, Change, Hand, Head, ItemId, Lane, ListedChunks, Place};
 
 impl Parts {
     /// Whether there is a chunk of this number.

@@ -1,15 +1,13 @@
 //! How workers are changed. What changes a hand or a lane counts anew.
 ghost use Rattle.std.specs.Prelude.{◌≡◌, ◌<◌, ◌+◌, ◌≤◌, ◌^◌, [], ◌∷◌, ◌++◌, OnOk, OnErr, Some, false, length, slice_set};
-ghost use Rattle.bump_core.specs.Events.{bump_of, next_bump};
-ghost use Rattle.bump_core.specs.Lawful.{bit};
+ghost use Rattle.bump_rules.specs.Lanes.{bump_of};
+ghost use Rattle.bump_core.specs.Events.{next_bump};
+ghost use Rattle.bump_rules.specs.Lawful.{bit};
 ghost use Rattle.bump_core.specs.Workers.{seen, seen_at, HasRoom};
-ghost use Rattle.bump_core.specs.declared.lanes.Lane.TheVariants as lane;
+ghost use Rattle.bump_rules.specs.declared.lanes.Lane.TheVariants as lane;
 
-use crate::bumps::{Accounts, AppliedBump, Bump};
-use crate::hands::Hand;
-use crate::items::ItemId;
-use crate::lanes::Lane;
 use crate::workers::Workers;
+use bump_rules::{Accounts, AppliedBump, Bump, Hand, ItemId, Lane};
 use std::alloc::AllocError;
 
 /// How many are under way, where one of them was under way or not, and now is or isn't.

@@ -6,12 +6,8 @@ ghost use Rattle.bump_core.specs.Headline.{Headline};
 ghost use Rattle.bump_core.specs.Worlds.{IsLawful};
 ghost use Rattle.bump_core.specs.Readers.{list_of, history_of, time_of, label_of, holds_at, accounts_of, sent_of, received_of, applied_of};
 
-use crate::bumps::{Accounts, AppliedBump};
-use crate::class_lists::ListedChunks;
-use crate::history::Change;
-use crate::items::{Head, ItemId};
-use crate::places::Place;
 use crate::worlds::World;
+use bump_rules::{Accounts, AppliedBump, Change, Head, ItemId, ListedChunks, Place};
 
 impl World {
     /// How many classes there are: 1 to 16. They are numbered from 0.

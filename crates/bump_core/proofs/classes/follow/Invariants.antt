@@ -1,5 +1,5 @@
 use Rattle.std.proofs.Common.{◌≡◌, drop}
-use Rattle.bump_core.specs.History.{replay, AreListed}
+use Rattle.bump_rules.specs.History.{replay, AreListed}
 use Rattle.bump_core.proofs.classes.follow.Given as goal
 
 -- what is left of the entries is still to be followed

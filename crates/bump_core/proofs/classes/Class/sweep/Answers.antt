@@ -1,8 +1,8 @@
 use Rattle.std.proofs.Common.{◌≡◌, ◌++◌, ◌-◌, arith, length, List, drop, sym, ap, ◌∙◌, subst}
 use Rattle.std.proofs.lemmas.List.{drop_at, take_all, length-drop}
-use Rattle.bump_core.specs.declared.history.Change.{Change}
+use Rattle.bump_rules.specs.declared.history.Change.{Change}
 use Rattle.bump_core.specs.Commands.{swept_of}
-use Rattle.bump_core.specs.History.{AreListed}
+use Rattle.bump_rules.specs.History.{AreListed}
 use Rattle.bump_core.specs.State.{heads_of}
 use Rattle.bump_core.proofs.classes.Sweeps.{dying_listed}
 use Rattle.bump_core.proofs.classes.Class.sweep.Goals as goal

@@ -2,7 +2,7 @@ use Rattle.std.proofs.Common.{List, ap, arith}
 use Rattle.std.proofs.lemmas.List.{length-map}
 use Rattle.bump_core.specs.State.{ClassState, no_class, class_with_changes}
 use Rattle.bump_core.specs.Views.{state_of, class_view}
-use Rattle.bump_core.proofs.Updates.{rewritten, unchanged, on_err}
+use Rattle.bump_rules.proofs.Updates.{rewritten, unchanged, on_err}
 use Rattle.bump_core.proofs.parts.Parts.change_class_by.Goals as goal
 
 pub returns-clause-ok : goal.returns-clause-ok

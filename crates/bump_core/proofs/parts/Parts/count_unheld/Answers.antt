@@ -1,6 +1,6 @@
 use Rattle.std.proofs.Common.{◌<◌, List, length, slice_index_or, sym, ap, subst}
 use Rattle.bump_core.specs.declared.chunks.Chunk.{Chunk}
-use Rattle.bump_core.specs.declared.places.Place.TheVariants.{Dying}
+use Rattle.bump_rules.specs.declared.places.Place.TheVariants.{Dying}
 use Rattle.bump_core.specs.Views.{state_of}
 use Rattle.bump_core.proofs.parts.Views.{class_seen}
 use Rattle.bump_core.proofs.worlds.Fronts.{listed_in_range}

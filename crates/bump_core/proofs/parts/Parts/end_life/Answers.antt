@@ -1,7 +1,7 @@
 use Rattle.std.proofs.Common.{sym, ap, ◌∙◌}
-use Rattle.bump_core.specs.Heads.{severed_head}
+use Rattle.bump_rules.specs.Heads.{severed_head}
 use Rattle.bump_core.specs.State.{with_head}
-use Rattle.bump_core.specs.Tables.{ended_of}
+use Rattle.bump_rules.specs.Tables.{ended_of}
 use Rattle.bump_core.specs.Views.{state_of}
 use Rattle.bump_core.proofs.classes.Tiles.{class_within}
 use Rattle.bump_core.proofs.commands.FreedChunks.{linked_from, ending_listed, freed_listed, freed_at_once, deferred_at_once}

@@ -1,4 +1,4 @@
-use Rattle.bump_core.specs.Tables.{segment_of}
+use Rattle.bump_rules.specs.Tables.{segment_of}
 use Rattle.bump_core.specs.Views.{state_of}
 use Rattle.bump_core.proofs.worlds.Fronts.{some_last}
 use Rattle.bump_core.proofs.parts.Parts.last.Goals as goal

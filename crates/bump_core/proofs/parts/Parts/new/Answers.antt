@@ -1,6 +1,6 @@
 use Rattle.std.proofs.Common.{sym, subst}
-use Rattle.bump_core.specs.Configs.{HaveChunks}
-use Rattle.bump_core.proofs.Bounds.{bounds}
+use Rattle.bump_rules.specs.Configs.{HaveChunks}
+use Rattle.bump_rules.proofs.Bounds.{bounds}
 use Rattle.bump_core.proofs.parts.Parts.new.Goals as goal
 
 pub new_classes-requires-clause-some : goal.new_classes-requires-clause-some

@@ -1,11 +1,11 @@
 use Rattle.std.proofs.Common.{◌<◌, List, length, slice_index_or, sym, ap, ◌∙◌, subst, arith}
 use Rattle.std.proofs.lemmas.List.{length-map}
 use Rattle.bump_core.specs.declared.chunks.Chunk.{Chunk}
-use Rattle.bump_core.specs.declared.places.Place.TheVariants.{Dying}
+use Rattle.bump_rules.specs.declared.places.Place.TheVariants.{Dying}
 use Rattle.bump_core.specs.Commands.{swept_of}
 use Rattle.bump_core.specs.State.{ClassState, head, no_class, heads_of, class_with_changes}
 use Rattle.bump_core.specs.Views.{state_of, class_view}
-use Rattle.bump_core.proofs.Updates.{rewritten, unchanged, on_err}
+use Rattle.bump_rules.proofs.Updates.{rewritten, unchanged, on_err}
 use Rattle.bump_core.proofs.parts.Views.{class_seen}
 use Rattle.bump_core.proofs.worlds.Fronts.{listed_in_range}
 use Rattle.bump_core.proofs.parts.Parts.sweep_class.Goals as goal

@@ -1,6 +1,6 @@
 use Rattle.std.proofs.Common.{◌≡◌, ◌+◌, ◌≤◌, drop}
-use Rattle.bump_core.specs.Totals.{total}
-use Rattle.bump_core.specs.State.{is_on}
+use Rattle.bump_rules.specs.Totals.{total}
+use Rattle.bump_rules.specs.Hands.{is_on}
 use Rattle.bump_core.specs.Workers.{seen}
 use Rattle.bump_core.proofs.parts.Parts.workers_on.Given as goal
 

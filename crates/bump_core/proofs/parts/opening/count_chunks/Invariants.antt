@@ -1,5 +1,5 @@
 use Rattle.std.proofs.Common.{◌≡◌, ◌+◌, drop}
-use Rattle.bump_core.specs.Configs.{chunks_of}
+use Rattle.bump_rules.specs.Configs.{chunks_of}
 use Rattle.bump_core.proofs.parts.opening.count_chunks.Given as goal
 
 -- the count so far, and the chunks of the other classes

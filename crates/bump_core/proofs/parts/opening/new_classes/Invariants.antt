@@ -1,5 +1,5 @@
 use Rattle.std.proofs.Common.{◌≡◌, ◌+◌, ◌≤◌, ◌++◌, drop, map}
-use Rattle.bump_core.specs.Configs.{chunks_of, HaveChunks}
+use Rattle.bump_rules.specs.Configs.{chunks_of, HaveChunks}
 use Rattle.bump_core.specs.Opening.{classes_from}
 use Rattle.bump_core.specs.Views.{class_view}
 use Rattle.bump_core.proofs.parts.opening.new_classes.Given as goal

@@ -1,7 +1,7 @@
 use Rattle.std.proofs.Common.{false, ap, length, arith, refl}
 use Rattle.bump_core.specs.State.{new_worker}
 use Rattle.bump_core.specs.Workers.{worker_view}
-use Rattle.bump_core.proofs.Updates.{rewritten}
+use Rattle.bump_rules.proofs.Updates.{rewritten}
 use Rattle.bump_core.proofs.workers.Counts.{both_still}
 use Rattle.bump_core.proofs.workers.Workers.close.Goals as goal
 

@@ -1,9 +1,9 @@
 use Rattle.std.proofs.Common.{List, [], ◌∷◌, ◌++◌, ap, length, arith, refl, false}
-use Rattle.bump_core.specs.declared.bumps.AppliedBump.{AppliedBump}
-use Rattle.bump_core.specs.declared.lanes.Lane.TheVariants.{Empty}
+use Rattle.bump_rules.specs.declared.bumps.AppliedBump.{AppliedBump}
+use Rattle.bump_rules.specs.declared.lanes.Lane.TheVariants.{Empty}
 use Rattle.bump_core.specs.State.{new_worker}
 use Rattle.bump_core.specs.Workers.{worker_view, is_applying}
-use Rattle.bump_core.proofs.Updates.{rewritten, unchanged, on_err}
+use Rattle.bump_rules.proofs.Updates.{rewritten, unchanged, on_err}
 use Rattle.bump_core.proofs.workers.Counts.{counted_in, both_still, lane_anew}
 use Rattle.bump_core.proofs.workers.Workers.push_applied.Goals as goal
 

@@ -1,8 +1,8 @@
 use Rattle.std.proofs.Common.{List, [], ◌∷◌, ◌++◌, ap, length, arith, refl}
-use Rattle.bump_core.specs.declared.items.ItemId.{ItemId}
+use Rattle.bump_rules.specs.declared.items.ItemId.{ItemId}
 use Rattle.bump_core.specs.State.{new_worker}
 use Rattle.bump_core.specs.Workers.{worker_view}
-use Rattle.bump_core.proofs.Updates.{rewritten, unchanged, on_err}
+use Rattle.bump_rules.proofs.Updates.{rewritten, unchanged, on_err}
 use Rattle.bump_core.proofs.workers.Counts.{both_still}
 use Rattle.bump_core.proofs.workers.Workers.push_first_hit.Goals as goal
 

@@ -1,9 +1,9 @@
 use Rattle.std.proofs.Common.{List, [], ◌∷◌, ◌++◌, take, ap, ap₂, ◌∙◌, length, arith, refl, not}
 use Rattle.std.proofs.lemmas.List.{take-append-le}
-use Rattle.bump_core.specs.declared.items.ItemId.{ItemId}
+use Rattle.bump_rules.specs.declared.items.ItemId.{ItemId}
 use Rattle.bump_core.specs.State.{new_worker}
 use Rattle.bump_core.specs.Workers.{worker_view, is_busy}
-use Rattle.bump_core.proofs.Updates.{rewritten, unchanged, on_err}
+use Rattle.bump_rules.proofs.Updates.{rewritten, unchanged, on_err}
 use Rattle.bump_core.proofs.workers.Counts.{counted_in, counted_few, both_still, hand_anew}
 use Rattle.bump_core.proofs.workers.Workers.queue.Goals as goal
 

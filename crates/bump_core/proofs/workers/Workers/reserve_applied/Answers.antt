@@ -1,7 +1,7 @@
 use Rattle.std.proofs.Common.{List, ap, length, arith, refl}
-use Rattle.bump_core.specs.declared.bumps.AppliedBump.{AppliedBump}
+use Rattle.bump_rules.specs.declared.bumps.AppliedBump.{AppliedBump}
 use Rattle.bump_core.specs.Workers.{worker_view}
-use Rattle.bump_core.proofs.Updates.{unchanged}
+use Rattle.bump_rules.proofs.Updates.{unchanged}
 use Rattle.bump_core.proofs.workers.Counts.{both_still}
 use Rattle.bump_core.proofs.workers.Workers.reserve_applied.Goals as goal
 

@@ -1,7 +1,7 @@
 use Rattle.std.proofs.Common.{refl, ap, arith, length}
 use Rattle.bump_core.specs.State.{new_worker}
 use Rattle.bump_core.specs.Workers.{worker_view, is_applying}
-use Rattle.bump_core.proofs.Updates.{rewritten}
+use Rattle.bump_rules.proofs.Updates.{rewritten}
 use Rattle.bump_core.proofs.workers.Counts.{counted_in, counted_few, lane_anew}
 use Rattle.bump_core.proofs.workers.Workers.set_lane.Goals as goal
 

@@ -1,10 +1,11 @@
 use Rattle.std.proofs.Common.{ℕ, List, [], ◌∷◌, ◌++◌, length, sym, ap, ap₂, ◌∙◌, arith, subst, refl, false, Some, ◌≡◌}
-use Rattle.bump_core.specs.declared.items.ItemId.{ItemId}
-use Rattle.bump_core.specs.declared.lanes.Lane.TheVariants.{Carrying}
-use Rattle.bump_core.specs.Events.{bump_of, next_bump}
+use Rattle.bump_rules.specs.declared.items.ItemId.{ItemId}
+use Rattle.bump_rules.specs.declared.lanes.Lane.TheVariants.{Carrying}
+use Rattle.bump_rules.specs.Lanes.{bump_of}
+use Rattle.bump_core.specs.Events.{next_bump}
 use Rattle.bump_core.specs.State.{new_worker}
 use Rattle.bump_core.specs.Workers.{worker_view, seen_at, is_applying}
-use Rattle.bump_core.proofs.Updates.{rewritten}
+use Rattle.bump_rules.proofs.Updates.{rewritten}
 use Rattle.bump_core.proofs.workers.Received.{next_received}
 use Rattle.bump_core.proofs.workers.Counts.{counted_in, lane_anew}
 use Rattle.bump_core.proofs.workers.Workers.take_next.Goals as goal

@@ -1,5 +1,5 @@
 use Rattle.std.proofs.Common.{subst, ap, ◌∙◌}
-use Rattle.bump_core.specs.Lists.{list_at}
+use Rattle.bump_rules.specs.Lists.{list_at}
 use Rattle.bump_core.specs.State.{class}
 use Rattle.bump_core.specs.Worlds.{IsLawful}
 use Rattle.bump_core.proofs.worlds.Fronts.{listed_in_range}

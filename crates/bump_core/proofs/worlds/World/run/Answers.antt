@@ -1,6 +1,6 @@
 use Rattle.std.proofs.Common.{List, take, subst, arith}
 use Rattle.std.proofs.lemmas.List.{take_all}
-use Rattle.bump_core.specs.declared.events.Event.{Event}
+use Rattle.bump_rules.specs.declared.events.Event.{Event}
 use Rattle.bump_core.specs.Labels.{KeepsLabels}
 use Rattle.std.proofs.lemmas.Option.{slice_get-get_or}
 use Rattle.bump_core.specs.Worlds.{IsLawful}

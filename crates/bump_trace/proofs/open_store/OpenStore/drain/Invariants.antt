@@ -1,5 +1,5 @@
 use Rattle.std.proofs.Common.{◌≡◌, ◌-◌, ◌*◌, ◌≤◌}
-use Rattle.bump_core.specs.Lists.{ascending}
+use Rattle.bump_rules.specs.Lists.{ascending}
 use Rattle.bump_trace.specs.OpenStore.{drained_both, drained_through}
 use Rattle.bump_trace.specs.Ready.{IsReady}
 use Rattle.bump_trace.proofs.Draining.{so_far}

@@ -1,6 +1,6 @@
 use Rattle.std.proofs.Common.{◌≡◌, ◌-◌, ◌++◌}
 use Rattle.std.specs.List.{flat_map}
-use Rattle.bump_core.specs.Lists.{ascending}
+use Rattle.bump_rules.specs.Lists.{ascending}
 use Rattle.bump_trace.specs.Text.{class_lines}
 use Rattle.bump_trace.proofs.open_store.OpenStore.put_classes.Given as goal
 

@@ -1,0 +1,11 @@
+pub mod Bounds
+pub mod Counted
+pub mod Endings
+pub mod Laws
+pub mod PlainLists
+pub mod Replay
+pub mod SixLists
+pub mod Standings
+pub mod ToldMoves
+pub mod Unlinks
+pub mod Updates

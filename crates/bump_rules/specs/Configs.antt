@@ -1,0 +1,52 @@
+-- Which configurations are refused, and why.
+use Rattle.std.specs.Prelude.{ℕ, ◌<◌, ◌≤◌, Bool, List, [], ◌∷◌, Option, length, nat_lt, nat_le, not, ◌&&◌, ◌||◌, ◌==◌, find}
+use Rattle.std.specs.List.{list_any}
+use Rattle.bump_rules.specs.declared.configs.ClassConfig.{ClassConfig}
+use Rattle.bump_rules.specs.declared.configs.ConfigFault.{ConfigFault}
+use Rattle.bump_rules.specs.declared.configs.ConfigFault.TheVariants.{Workers, Capacity, RefsLimit, Generation, Classes, Chunks}
+use Rattle.bump_rules.specs.Totals.{total}
+
+-- the number is within these bounds
+abbrev pub is_within : ℕ → ℕ → ℕ → Bool
+is_within least most n = nat_le least n && nat_le n most
+
+-- how many chunks the classes have together
+abbrev pub chunks_of : List ClassConfig → ℕ
+chunks_of classes = total (λ k. k.chunks) classes
+
+-- a class has no chunks, or all together have too many
+abbrev pub have_wrong_chunks : List ClassConfig → Bool
+have_wrong_chunks classes = list_any (λ k. k.chunks == 0) classes || nat_lt 1000000 (chunks_of classes)
+
+-- whether a configuration has this fault
+abbrev pub has_fault : ℕ → ℕ → ℕ → ℕ → List ClassConfig → ConfigFault → Bool
+has_fault workers capacity limit generation classes Workers = not (is_within 1 64 workers)
+has_fault workers capacity limit generation classes Capacity = not (is_within 1 65536 capacity)
+has_fault workers capacity limit generation classes RefsLimit = not (is_within 2 65535 limit)
+has_fault workers capacity limit generation classes Generation = generation == 0
+has_fault workers capacity limit generation classes Classes = not (is_within 1 16 (length classes))
+has_fault workers capacity limit generation classes Chunks = have_wrong_chunks classes
+
+-- the first fault that holds, in the order in which they are looked for
+abbrev pub first_fault : ℕ → ℕ → ℕ → ℕ → List ClassConfig → Option ConfigFault
+first_fault workers capacity limit generation classes =
+    find (has_fault workers capacity limit generation classes) (Workers ∷ Capacity ∷ RefsLimit ∷ Generation ∷ Classes ∷ Chunks ∷ [])
+
+-- each class has a chunk or more
+abbrev pub HaveChunks : List ClassConfig → Type 0
+HaveChunks [] = Unit {0}
+HaveChunks (k ∷ ks) = (0 < k.chunks) × HaveChunks ks
+
+-- the bounds of a configuration without faults
+pub record Bounds (workers capacity limit generation : ℕ) (classes : List ClassConfig) : Type 0 where
+  pub workers_least : 1 ≤ workers
+  pub workers_most : workers ≤ 64
+  pub capacity_least : 1 ≤ capacity
+  pub capacity_most : capacity ≤ 65536
+  pub limit_least : 2 ≤ limit
+  pub limit_most : limit ≤ 65535
+  pub generation_least : 1 ≤ generation
+  pub classes_least : 1 ≤ length classes
+  pub classes_most : length classes ≤ 16
+  pub chunks_each : HaveChunks classes
+  pub chunks_most : chunks_of classes ≤ 1000000

@@ -1,0 +1,14 @@
+pub mod ClassLists
+pub mod Configs
+pub mod Entries
+pub mod Hands
+pub mod Heads
+pub mod History
+pub mod Labels
+pub mod Lanes
+pub mod Lawful
+pub mod Lists
+pub mod Lives
+pub mod Rings
+pub mod Tables
+pub mod Totals

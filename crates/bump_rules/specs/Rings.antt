@@ -1,0 +1,58 @@
+-- What a lawful ring is, by what was sent and received, what lawful accounts are, and bumps by their numbers.
+use Rattle.std.specs.Prelude.{◌≡◌, ℕ, suc, ◌+◌, ◌≤◌, List, [], ◌∷◌, ◌++◌, length, drop}
+use Rattle.bump_rules.specs.declared.items.ItemId.{ItemId}
+use Rattle.bump_rules.specs.declared.bumps.Accounts.{Accounts}
+use Rattle.bump_rules.specs.declared.bumps.AppliedBump.{AppliedBump}
+use Rattle.bump_rules.specs.declared.bumps.Bump.{Bump}
+use Rattle.bump_rules.specs.declared.lanes.Lane.{Lane}
+use Rattle.bump_rules.specs.declared.lanes.Lane.TheVariants as lane
+use Rattle.bump_rules.specs.declared.hands.Hand.{Hand}
+use Rattle.bump_rules.specs.declared.hands.Hand.TheVariants as hand
+
+-- what was sent, and not received
+abbrev pub left_of : List ItemId → List ItemId → List ItemId
+left_of sent received = drop (length received) sent
+
+-- the bump aboard a lane, if any
+abbrev pub aboard : Lane → List Bump
+aboard lane.Empty = []
+aboard (lane.Carrying b) = b ∷ []
+aboard (lane.Tried b) = b ∷ []
+aboard (lane.Cleared b found) = b ∷ []
+aboard (lane.Moved b) = b ∷ []
+
+-- an applied bump, without what became of it
+abbrev pub bump_applied : AppliedBump → Bump
+bump_applied a = record { number = a.number; life = a.life }
+
+-- lives as bumps, numbered from n
+abbrev pub numbered_from : ℕ → List ItemId → List Bump
+numbered_from n [] = []
+numbered_from n (l ∷ ls) = record { number = n; life = l } ∷ numbered_from (suc n) ls
+
+-- 1 while an attempt is under way that is not yet counted as accepted or dropped; after a drop only ACTIVE is still to be cleared
+abbrev pub attempts_of : Hand → ℕ
+attempts_of hand.Idle = 0
+attempts_of (hand.Trying l) = 1
+attempts_of (hand.InHand l) = 1
+attempts_of (hand.Clearing l) = 0
+
+-- No worker attempts more bumps than this.
+abbrev pub most_attempts : ℕ
+most_attempts = 4611686018427387903
+
+-- a lawful ring, by what was sent and what was received
+pub record IsRing (capacity : ℕ) (sent received : List ItemId) : Type 0 where
+  -- what was received is a prefix of what was sent
+  pub prefix : sent ≡ received ++ left_of sent received
+  -- the ring is never over its capacity
+  pub room : length (left_of sent received) ≤ capacity
+
+-- lawful accounts of a worker, by how many bumps its ring accepted and how far it is with an attempt
+pub record IsAccounts (a : Accounts) (sent : ℕ) (h : Hand) : Type 0 where
+  -- accepted bumps are those sent
+  pub accepted : a.accepted ≡ sent
+  -- accepted and dropped bumps, and the attempt under way, add up to those attempted
+  pub attempted : a.attempted ≡ a.accepted + a.full + a.busy + a.refs + attempts_of h
+  -- and no worker attempts more than may be
+  pub most : a.attempted ≤ most_attempts

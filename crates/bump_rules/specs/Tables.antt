@@ -1,0 +1,122 @@
+-- The tables: what a get, a hit, an attempt, an applied bump, an end and a pull come to, by the words found.
+use Rattle.std.specs.Prelude.{ℕ, Bool, true, false, not, ◌&&◌, ◌==◌, nat_lt, if◌then◌else◌, Option, None, Some}
+use Rattle.bump_rules.specs.declared.places.Segment.{Segment}
+use Rattle.bump_rules.specs.declared.places.Segment.TheVariants as segment
+use Rattle.bump_rules.specs.declared.places.Tail.{Tail}
+use Rattle.bump_rules.specs.declared.places.Tail.TheVariants as tail
+use Rattle.bump_rules.specs.declared.items.Head.{Head}
+use Rattle.bump_rules.specs.declared.items.ItemId.{ItemId}
+use Rattle.bump_rules.specs.declared.bumps.Ended.{Ended}
+use Rattle.bump_rules.specs.declared.bumps.Ended.TheVariants.{Freed, Deferred}
+use Rattle.bump_rules.specs.declared.bumps.Outcome.{Outcome}
+use Rattle.bump_rules.specs.declared.bumps.Outcome.TheVariants as outcome
+use Rattle.bump_rules.specs.declared.commands.Dropped.{Dropped}
+use Rattle.bump_rules.specs.declared.commands.Dropped.TheVariants.{Full, Busy, RefsFull}
+use Rattle.bump_rules.specs.declared.commands.Pulled.{Pulled}
+use Rattle.bump_rules.specs.declared.commands.Pulled.TheVariants as pulled
+use Rattle.bump_rules.specs.declared.commands.Pulled.TheVariants.{Empty, Stay, Warm, Again, Cold}
+
+-- what a get comes to
+pub data Get : Type 0 where
+  IsStale : Get
+  IsRefsFull : Get
+  IsHeld : Get
+
+-- the word is of a linked item of this generation
+abbrev pub is_of : ℕ → Head → Bool
+is_of generation found = found.linked && (found.generation == generation)
+
+-- The get table, by the limit, the generation that is asked for, and the word found: Stale comes before RefsFull.
+abbrev pub get_of : ℕ → ℕ → Head → Get
+get_of limit generation found = if not (is_of generation found) then IsStale else (if nat_lt found.refs limit then IsHeld else IsRefsFull)
+
+-- nobody holds the chunk
+abbrev pub is_unheld : Head → Bool
+is_unheld found = found.refs == 0
+
+-- What the end of an unlinked life comes to, by the word that the load behind it found: its chunk is free where that shows
+-- no reference.
+abbrev pub ended_of : Head → Ended
+ended_of found = if is_unheld found then Freed else Deferred
+
+-- a list of this size is over its limit
+abbrev pub is_over : ℕ → ℕ → Bool
+is_over size limit = nat_lt limit size
+
+-- what a hit comes to: its answer, or that it attempts a bump
+pub data Hit : Type 0 where
+  IsFirst : Hit
+  IsAlready : Hit
+  IsMarked : Hit
+  Attempts : Hit
+
+-- whether the segment bits say COLD, or WARM
+abbrev pub is_cold : Segment → Bool
+is_cold segment.Hot = false
+is_cold segment.Warm = false
+is_cold segment.Cold = true
+
+abbrev pub is_warm : Segment → Bool
+is_warm segment.Hot = false
+is_warm segment.Warm = true
+is_warm segment.Cold = false
+
+-- whether a hit that found this word by its first step makes the second one
+abbrev pub makes_second : Head → Bool
+makes_second first = first.fetched && not first.active
+
+-- by the word that the second step found
+abbrev pub hit_by_second : Head → Hit
+hit_by_second second = if second.active then IsAlready else (if is_cold second.segment then Attempts else IsMarked)
+
+-- The hit table: the first step sets FETCHED, the second ACTIVE. LINKED isn't looked at.
+abbrev pub hit_of : Head → Head → Hit
+hit_of first second = if not first.fetched then IsFirst else (if first.active then IsAlready else hit_by_second second)
+
+-- The rule of an attempt: why the bump is dropped, if it is, by whether the count was at its limit, whether all exchanges
+-- failed, and whether the ring had room.
+abbrev pub dropped_of : Bool → Bool → Bool → Option Dropped
+dropped_of at_limit all_failed has_room = if at_limit then Some RefsFull else (if all_failed then Some Busy else (if has_room then None else Some Full))
+
+-- The update table: what applying a bump comes to, by the word found and by whether the clearing step found ACTIVE.
+abbrev pub outcome_of : Head → Bool → Outcome
+outcome_of found cleared = if not found.linked then outcome.Gone else (if is_cold found.segment && cleared then outcome.Moved else outcome.TimeOnly)
+
+-- what an evict tells of an item that it ended
+abbrev pub evicted_as : Ended → ItemId → Pulled
+evicted_as Freed id = pulled.Freed id
+evicted_as Deferred id = pulled.Deferred id
+
+-- The tail table: what a pull does with the last item of its list, by ACTIVE, by whether the list is over its limit, and by what
+-- the item's end comes to. An evict ends it whatever its marks.
+abbrev pub pulled_of : Tail → Bool → Bool → Ended → ItemId → Pulled
+pulled_of tail.Hot active over ended id = if active then Warm id else (if over then Cold id else Stay id)
+pulled_of tail.Warm active over ended id = if active then Again id else (if over then Cold id else Stay id)
+pulled_of tail.Cold active over ended id = if active then Warm id else Stay id
+pulled_of tail.Evict active over ended id = evicted_as ended id
+
+-- the segment to whose front a pull moves the item, if it moves it
+abbrev pub pulled_to : Pulled → Option Segment
+pulled_to Empty = None
+pulled_to (Stay id) = None
+pulled_to (Warm id) = Some segment.Warm
+pulled_to (Again id) = Some segment.Warm
+pulled_to (Cold id) = Some segment.Cold
+pulled_to (pulled.Freed id) = None
+pulled_to (pulled.Deferred id) = None
+
+-- the segment of the list that a pull looks at
+abbrev pub segment_of : Tail → Segment
+segment_of tail.Hot = segment.Hot
+segment_of tail.Warm = segment.Warm
+segment_of tail.Cold = segment.Cold
+segment_of tail.Evict = segment.Cold
+
+-- a pull may move an item so
+abbrev pub may_move : Segment → Segment → Bool
+may_move segment.Hot segment.Warm = true
+may_move segment.Hot segment.Cold = true
+may_move segment.Warm segment.Warm = true
+may_move segment.Warm segment.Cold = true
+may_move segment.Cold segment.Warm = true
+may_move _ _ = false

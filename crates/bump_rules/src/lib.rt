@@ -1,0 +1,29 @@
+//! The rules of bump, of which the World and the crates over atomic words both speak: its plain types, the tables, and the
+//! six lists of a class.
+#![tactic(auto)]
+
+mod bumps;
+mod class_lists;
+mod commands;
+mod configs;
+mod events;
+mod hands;
+mod history;
+mod items;
+mod lanes;
+mod places;
+mod tables;
+
+pub use bumps::{Accounts, Applied, AppliedBump, Bump, Ended, Entry, MOST_ATTEMPTS, Outcome};
+pub use class_lists::{ClassLists, ListedChunks};
+pub use commands::{Answer, Command, Dropped, Pulled, Touch};
+pub use configs::{ClassConfig, Classes, Config, ConfigFault, MAX_CHUNKS};
+pub use events::{Event, Refused, Reply};
+pub use hands::Hand;
+pub use history::{Cause, Change};
+pub use items::{Head, ItemId};
+pub use lanes::Lane;
+pub use places::{Place, Segment, Tail};
+
+#[cfg(test)]
+mod tests;
