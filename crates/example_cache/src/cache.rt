@@ -88,7 +88,7 @@ impl Cache {
         &self.world
     }
 
-    /// Stores an item with its label, and gives it the name.
+    /// Stores an item with its label, and gives it the name. Refused as Full where no chunk is free.
     pub fn put(&mut self, name: String, label: u64, now: u64) -> Result<ItemId, CacheError>
         ensures refusal { RefusesOrLacks (put_refused self.old.world label now) result }
         ensures answer { IfOk result (λ id. Answer.Linked id ≡ answer_of self.old.world (Command.Link 0 label now)) }
@@ -123,7 +123,8 @@ impl Cache {
         Ok(id)
     }
 
-    /// Takes a hold of the item that has the name. Whoever has it gives it back by `release`.
+    /// Takes a hold of the item that has the name. Whoever has it gives it back by `release`. Refused as Unknown where no
+    /// item has the name, as Gone where it has ended, and as Busy at the limit of references.
     pub fn get(&mut self, worker: u32, name: &str) -> Result<ItemId, CacheError>
         ensures refusal { RefusesOrLacks (get_refused self.old worker name.now) result }
         ensures memory { IfErr result (λ e. e ≡ CacheError.Memory → may_get self.old worker name.now ≡ true) }
@@ -142,7 +143,7 @@ impl Cache {
         }
     }
 
-    /// The label of a held item.
+    /// The label of an item. Refused as NotAllowed where it has no hold.
     pub fn label(&mut self, id: ItemId) -> Result<u64, CacheError>
         ensures refusal { Refuses (command_refused self.old.world (Command.Label id)) result }
         ensures answer { IfOk result (λ label. Answer.Label label ≡ answer_of self.old.world (Command.Label id)) }
@@ -154,7 +155,7 @@ impl Cache {
         }
     }
 
-    /// A hit by a worker on a held item. It takes no lock and moves nothing: it leaves marks and, in COLD, queues a bump.
+    /// A hit by a worker on a held item. It moves nothing: it leaves marks and, in COLD, queues a bump.
     pub fn hit_held(&mut self, worker: u32, id: ItemId, now: u64) -> Result<Touch, CacheError>
         ensures refusal { Refuses (command_refused self.old.world (Command.Touch worker id now)) result }
         ensures answer { IfOk result (λ hit. Answer.Touched hit ≡ answer_of self.old.world (Command.Touch worker id now)) }
@@ -168,7 +169,7 @@ impl Cache {
         }
     }
 
-    /// Gives a hold back.
+    /// Gives a hold back. Refused as NotAllowed where there is none.
     pub fn release(&mut self, id: ItemId) -> Result<(), CacheError>
         ensures refusal { Refuses (command_refused self.old.world (Command.Release id)) result }
         ensures after { OnOk result (self.new ≡ after_command self.old (Command.Release id)) }
@@ -193,7 +194,7 @@ impl Cache {
         }
     }
 
-    /// Applies a worker's bumps until none waits, and says how many. Then all that its ring ever accepted is applied, once and
+    /// Applies a worker's bumps until none waits, and says how many. The worker is one of the configuration's. Then all that its ring ever accepted is applied, once and
     /// in order. A refusal leaves those that it applied before it, and the others where they were.
     pub fn drain(&mut self, worker: u32, now: u64) -> Result<u64, CacheError>
         requires { worker < length self.old.world.workers }

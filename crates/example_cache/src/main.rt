@@ -1,8 +1,6 @@
 //! A cache of named items over a World: an example to be copied.
 #![tactic(auto)]
 
-ghost use Rattle.bump_core.specs.State.{SameSizes};
-
 pub mod cache;
 mod report;
 
@@ -12,9 +10,7 @@ use cache::Cache;
 use report::print_world;
 
 /// Drains every worker that has bumps waiting.
-fn drain_all(rt: &impl Print, cache: &mut Cache, now: u64) -> Result<()>
-    ensures { SameSizes cache.old.world cache.new.world }
-{
+fn drain_all(rt: &impl Print, cache: &mut Cache, now: u64) -> Result<()> {
     for worker in 0..cache.world().workers() {
         if cache.waiting(worker) > 0 {
             let count = cache.drain(worker, now)?;
