@@ -1,4 +1,6 @@
 //! A walk of random events. Behind each, what the readers tell is compared with sums over what the walk saw.
+ghost use Rattle.std.specs.Prelude.{◌<◌};
+
 use super::*;
 
 /// Numbers that look random: the upper halves of a linear congruential generator's states.
