@@ -281,3 +281,43 @@ fn commands_out_of_range_are_refused(rt: HostRuntime) -> Result<(), Fail> {
     expect_rows(&rt, &mut world, &rows);
     Ok(())
 }
+
+// Where an allocation of an end, a sweep or an evict is refused, whichever it is, nothing has changed, and the call is made again.
+#[test]
+fn ends_and_refusals_change_nothing(rt: HostRuntime) -> Result<(), Fail> {
+    let Some(mut world) = world(rt.alloc(), 4, 0, 5) else {
+        return tell_refusal(&rt);
+    };
+    let rows = [
+        linked_in(0, FIRST),
+        pulled_in(0, Tail::Hot, Pulled::Cold(FIRST)),
+        took(0, FIRST, Answer::Held),
+        touched_by(0, FIRST, Touch::First),
+        touched_by(0, FIRST, Touch::Queued(0)),
+        ended(FIRST, Ended::Deferred),
+        released_once(FIRST),
+        applied_by(0, 0, FIRST, Applied::Gone(Ended::Freed)),
+        linked_in(0, item(0, 2)),
+        ended(item(0, 2), Ended::Freed),
+        linked_in(0, item(0, 3)),
+        took(0, item(0, 3), Answer::Held),
+        ended(item(0, 3), Ended::Deferred),
+        released_once(item(0, 3)),
+        swept(0, 1),
+        linked_in(0, item(0, 4)),
+        pulled_in(0, Tail::Hot, Pulled::Cold(item(0, 4))),
+        pulled_in(0, Tail::Evict, Pulled::Freed(item(0, 4))),
+        closed(0),
+    ];
+    for (command, told) in rows.iter() {
+        let before = told_by(&world);
+        let mut answer = world.command(*command);
+        if answer == Err(Refused::OutOfMemory) {
+            tell_refusal(&rt)?;
+            assert_eq!(rt; told_by(&world), before);
+            answer = world.command(*command);
+        }
+        assert_eq!(rt; answer, *told, "at {command:?}");
+    }
+    Ok(())
+}

@@ -139,3 +139,22 @@ fn a_bump_aboard_keeps_the_chunk_of_an_end(rt: HostRuntime) -> Result<(), Fail> 
     assert_eq!(rt; world.step(SWEEP), Err(Refused::NotEnabled));
     Ok(())
 }
+
+// Where an allocation of these events is refused, whichever it is, nothing has changed, and the event is made again.
+#[test]
+fn events_of_ends_and_refusals_change_nothing(rt: HostRuntime) -> Result<(), Fail> {
+    let Some(mut world) = world(rt.alloc(), 4, 0, 5) else {
+        return tell_refusal(&rt);
+    };
+    let events = [LABEL, TIME, LINK, UNLINK, SWEEP, Event::Close { worker: 0 }];
+    for event in events.iter() {
+        let before = told_by(&world);
+        if world.step(*event) == Err(Refused::OutOfMemory) {
+            tell_refusal(&rt)?;
+            assert_eq!(rt; told_by(&world), before);
+            assert!(rt; world.step(*event).is_ok());
+        }
+    }
+    assert_eq!(rt; world.head(0).linked, false);
+    Ok(())
+}
