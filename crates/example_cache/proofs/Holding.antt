@@ -10,7 +10,7 @@ use Rattle.bump_core.specs.Commands.{is_allowed, answer_of, command_after, get_a
 use Rattle.bump_core.specs.Events.{next_chunk, next_life}
 use Rattle.bump_core.specs.State.{State, is_chunk}
 use Rattle.bump_core.specs.Tables.{Get, IsStale, IsRefsFull, IsHeld}
-use Rattle.example_cache.specs.Refusals.{command_refused, hold_refused, take_refused, link_refused, put_refused}
+use Rattle.example_cache.specs.Refusals.{command_refused, hold_refused, take_refused, link_refused, store_refused}
 use Rattle.example_cache.specs.declared.cache.CacheError.TheVariants.{Full, Gone, NotAllowed}
 
 -- a command that is not refused is allowed
@@ -63,7 +63,7 @@ no_link s k x now h = record { full = found (next_chunk s k) h; left = stays (ne
     stays None h = refl
     stays (Some c) h = absurd (h (next_life s c) refl)
 
--- so a put for which no chunk is free is refused as that
-pub put_full : (s : State) (label now : ℕ) → is_allowed s (command.Link 0 label now) ≡ true → link_refused (answer_of s (command.Link 0 label now)) ≡ Some Full → put_refused s label now ≡ Some Full
-put_full s label now allowed full =
-    ap (λ b. if b then link_refused (answer_of s (command.Link 0 label now)) else Some NotAllowed) allowed ∙ full
+-- so a put under a free name for which no chunk is free is refused as that
+pub put_full : (s : State) (o : Option ItemId) (label now : ℕ) → o ≡ None → is_allowed s (command.Link 0 label now) ≡ true → link_refused (answer_of s (command.Link 0 label now)) ≡ Some Full → store_refused s o label now ≡ Some Full
+put_full s o label now is allowed full =
+    ap (λ p. store_refused s p label now) is ∙ ap (λ b. if b then link_refused (answer_of s (command.Link 0 label now)) else Some NotAllowed) allowed ∙ full

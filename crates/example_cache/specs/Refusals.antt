@@ -8,7 +8,7 @@ use Rattle.bump_core.specs.declared.items.ItemId.{ItemId}
 use Rattle.bump_core.specs.Commands.{is_allowed, answer_of}
 use Rattle.bump_core.specs.State.{State}
 use Rattle.example_cache.specs.declared.cache.CacheError.{CacheError}
-use Rattle.example_cache.specs.declared.cache.CacheError.TheVariants.{Unknown, Full, Gone, Busy, NotAllowed, Memory}
+use Rattle.example_cache.specs.declared.cache.CacheError.TheVariants.{Unknown, Taken, Full, Gone, Busy, NotAllowed, Memory}
 
 -- A call is refused exactly where there is a reason, and by that one. Want of memory comes last: only a call that nothing
 -- else refuses meets it.
@@ -32,8 +32,10 @@ abbrev pub link_refused : Answer → Option CacheError
 link_refused answer.NoFreeChunk = Some Full
 link_refused _ = None
 
-abbrev pub put_refused : State → ℕ → ℕ → Option CacheError
-put_refused s label now = let c = command.Link 0 label now in if is_allowed s c then link_refused (answer_of s c) else Some NotAllowed
+-- and none under a name that has an item
+abbrev pub store_refused : State → Option ItemId → ℕ → ℕ → Option CacheError
+store_refused s None label now = let c = command.Link 0 label now in if is_allowed s c then link_refused (answer_of s c) else Some NotAllowed
+store_refused s (Some id) label now = Some Taken
 
 -- no hold is taken where the item has as many references as it may have, or is there no more
 abbrev pub hold_refused : Answer → Option CacheError
@@ -45,3 +47,8 @@ hold_refused _ = Some Gone
 abbrev pub take_refused : State → ℕ → Option ItemId → Option CacheError
 take_refused s w None = Some Unknown
 take_refused s w (Some id) = let c = command.Take w id in if is_allowed s c then hold_refused (answer_of s c) else Some NotAllowed
+
+-- no item is ended by a name that has none
+abbrev pub end_refused : State → Option ItemId → Option CacheError
+end_refused s None = Some Unknown
+end_refused s (Some id) = command_refused s (command.Unlink id)

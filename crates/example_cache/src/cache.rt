@@ -4,14 +4,14 @@ ghost use Rattle.std.specs.Prelude.{◌≡◌, ℕ, ◌<◌, List, Some, None, t
 ghost use Rattle.std.specs.Str.{bytes_eq};
 ghost use Rattle.std.specs.Map.{update};
 ghost use Rattle.bump_core.specs.Commands.{answer_of, command_after};
-ghost use Rattle.example_cache.specs.Refusals.{Refuses, RefusesOrLacks, command_refused, put_refused};
+ghost use Rattle.example_cache.specs.Refusals.{Refuses, RefusesOrLacks, command_refused};
 ghost use Rattle.bump_core.specs.Headline.{Headline};
 ghost use Rattle.bump_core.specs.Opening.{new_state};
 ghost use Rattle.bump_core.specs.Readers.{sent_of, applied_of};
 ghost use Rattle.bump_core.specs.Rings.{in_ring, bump_applied, numbered_from};
 ghost use Rattle.bump_core.specs.State.{SameSizes, worker as worker_at};
 
-use bump_core::{Answer, Command, Config, ItemId, Pulled, Refused, Tail, Touch, World};
+use bump_core::{Answer, Command, Config, Ended, ItemId, Pulled, Refused, Tail, Touch, World};
 use std::alloc::{AllocError, Global};
 use std::collections::BTreeMap;
 use thiserror::Error;
@@ -22,6 +22,10 @@ pub enum CacheError {
     /// No item has this name.
     #[error("no item has this name")]
     Unknown,
+
+    /// The name has an item.
+    #[error("the name has an item")]
+    Taken,
 
     /// No chunk is free.
     #[error("no chunk is free")]
@@ -68,7 +72,7 @@ fn made(world: &mut World, command: Command) -> Result<Answer, CacheError>
 }
 
 impl Cache {
-    ghost use Rattle.example_cache.specs.Cache.{named, after_command, get_refused, may_get, Drains};
+    ghost use Rattle.example_cache.specs.Cache.{named, after_command, put_refused, get_refused, remove_refused, ended_by, may_get, Drains};
 
     /// A cache without items. It is refused for want of memory alone.
     pub fn new(alloc: Global, config: &Config) -> Result<Cache, AllocError>
@@ -88,9 +92,24 @@ impl Cache {
         &self.world
     }
 
-    /// Stores an item with its label, and gives it the name. Refused as Full where no chunk is free.
+    /// The item that has the name. Refused as Unknown where there is none.
+    fn item(&self, name: &str) -> Result<ItemId, CacheError>
+        ensures found { IfOk result (λ id. named self.now name.now ≡ Some id) }
+        ensures none { IfErr result (λ e. (e ≡ CacheError.Unknown) × (named self.now name.now ≡ None)) }
+    {
+        let Some(Some(id)) = self.names.get(name).copied() else {
+            return Err(CacheError::Unknown);
+        };
+        Ok(id)
+    }
+
+    /// Stores an item with its label, and gives it the name. Refused as Taken where the name has an item, and as Full where no
+    /// chunk is free.
+    ///
+    /// It doesn't end the name's old item: that would be a second command, and where memory is wanting for it the first one
+    /// would have been made. Whoever stores under the name again calls `remove`, and then this.
     pub fn put(&mut self, name: String, label: u64, now: u64) -> Result<ItemId, CacheError>
-        ensures refusal { RefusesOrLacks (put_refused self.old.world label now) result }
+        ensures refusal { RefusesOrLacks (put_refused self.old (string_bytes name) label now) result }
         ensures answer { IfOk result (λ id. Answer.Linked id ≡ answer_of self.old.world (Command.Link 0 label now)) }
         ensures world { OnOk result (self.new.world ≡ command_after self.old.world (Command.Link 0 label now)) }
         ensures name { IfOk result (λ id. (other : List ℕ) → named self.new other ≡ update bytes_eq (named self.old) (string_bytes name) (Some id) other) }
@@ -104,6 +123,9 @@ impl Cache {
             return Err(CacheError::Memory);
         };
         let place = entry.or_insert(None);
+        if let Some(_) = *place {
+            return Err(CacheError::Taken);
+        }
         let link = Command::Link {
             class: 0,
             label,
@@ -117,10 +139,30 @@ impl Cache {
         let Answer::Linked(id) = answer else {
             return Err(CacheError::Full);
         };
-        // Where the name had an item before, that one is to be ended here, once the World has a command for it. Until
-        // then it stays in its list.
         *place = Some(id);
         Ok(id)
+    }
+
+    /// Ends the item that has the name, which has none then. Says whether its chunk is free or still held, or `None` where the
+    /// item had ended before, as by an evict. Refused as Unknown where no item has the name.
+    pub fn remove(&mut self, name: &str) -> Result<Option<Ended>, CacheError>
+        ensures refusal { Refuses (remove_refused self.old name.now) result }
+        ensures answer { IfOk result (λ ended. (id : ItemId) → named self.old name.now ≡ Some id → ended ≡ ended_by (answer_of self.old.world (Command.Unlink id))) }
+        ensures world { OnOk result ((id : ItemId) → named self.old name.now ≡ Some id → self.new.world ≡ command_after self.old.world (Command.Unlink id)) }
+        ensures name { OnOk result ((other : List ℕ) → named self.new other ≡ update bytes_eq (named self.old) name.now None other) }
+        ensures kept { OnErr result (self.new ≡ self.old) }
+        ensures sizes { SameSizes self.old.world self.new.world }
+    {
+        let id = self.item(name)?;
+        let answer = match made(&mut self.world, Command::Unlink { id }) {
+            Ok(answer) => answer,
+            Err(why) => return Err(why),
+        };
+        let _ = self.names.remove(name);
+        match answer {
+            Answer::Ended(ended) => Ok(Some(ended)),
+            _ => Ok(None),
+        }
     }
 
     /// Takes a hold of the item that has the name. Whoever has it gives it back by `release`. Refused as Unknown where no
@@ -133,9 +175,7 @@ impl Cache {
         ensures kept { OnErr result (self.new ≡ self.old) }
         ensures sizes { SameSizes self.old.world self.new.world }
     {
-        let Some(Some(id)) = self.names.get(name).copied() else {
-            return Err(CacheError::Unknown);
-        };
+        let id = self.item(name)?;
         match made(&mut self.world, Command::Take { worker, id })? {
             Answer::Held => Ok(id),
             Answer::RefsFull => Err(CacheError::Busy),
@@ -180,7 +220,8 @@ impl Cache {
         Ok(())
     }
 
-    /// One step of ageing: looks at the last item of a list, and moves it by the tail table.
+    /// One step of ageing: looks at the last item of a list, and moves it by the tail table. An evict ends the last item of
+    /// COLD, which makes room where nobody holds it; its name stays with it until it is removed.
     pub fn age(&mut self, tail: Tail) -> Result<Pulled, CacheError>
         ensures refusal { Refuses (command_refused self.old.world (Command.Pull 0 tail)) result }
         ensures answer { IfOk result (λ pulled. Answer.Pulled pulled ≡ answer_of self.old.world (Command.Pull 0 tail)) }
@@ -194,8 +235,23 @@ impl Cache {
         }
     }
 
-    /// Applies a worker's bumps until none waits, and says how many. The worker is one of the configuration's. Then all that its ring ever accepted is applied, once and
-    /// in order. A refusal leaves those that it applied before it, and the others where they were.
+    /// Frees the chunks of ended items that nobody holds any more, and says how many.
+    pub fn sweep(&mut self) -> Result<u32, CacheError>
+        ensures refusal { Refuses (command_refused self.old.world (Command.Sweep 0)) result }
+        ensures answer { IfOk result (λ count. Answer.Swept count ≡ answer_of self.old.world (Command.Sweep 0)) }
+        ensures after { OnOk result (self.new ≡ after_command self.old (Command.Sweep 0)) }
+        ensures kept { OnErr result (self.new ≡ self.old) }
+        ensures sizes { SameSizes self.old.world self.new.world }
+    {
+        match made(&mut self.world, Command::Sweep { class: 0 })? {
+            Answer::Swept(count) => Ok(count),
+            _ => unreachable!(),
+        }
+    }
+
+    /// Applies a worker's bumps until none waits, and says how many. The worker is one of the configuration's. Then all that its
+    /// ring ever accepted is applied, once and in order. A refusal leaves those that it applied before it, and the others where
+    /// they were.
     pub fn drain(&mut self, worker: u32, now: u64) -> Result<u64, CacheError>
         requires { worker < length self.old.world.workers }
         ensures drained { Drains self.old worker now self.new result }

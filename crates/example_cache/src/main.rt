@@ -20,6 +20,65 @@ fn drain_all(rt: &impl Print, cache: &mut Cache, now: u64) -> Result<()> {
     Ok(())
 }
 
+/// Stores an item under a name, and says what came of it.
+fn store(
+    rt: &(impl Print + AllocGlobal),
+    cache: &mut Cache,
+    name: &str,
+    label: u64,
+    now: u64,
+) -> Result<()> {
+    match cache.put(String::from_str(rt.alloc(), name)?, label, now) {
+        Ok(id) => println!(rt; "put {name}: {id:?}")?,
+        Err(why) => println!(rt; "put {name}: {why}")?,
+    }
+    Ok(())
+}
+
+/// Takes a hold of a name's item, says what came of it, and gives the hold back.
+fn look_up(rt: &impl Print, cache: &mut Cache, name: &str) -> Result<()> {
+    match cache.get(1, name) {
+        Ok(id) => {
+            cache.release(id)?;
+            println!(rt; "get {name}: {id:?}")?
+        }
+        Err(why) => println!(rt; "get {name}: {why}")?,
+    }
+    Ok(())
+}
+
+/// Where no chunk is free, ageing makes room: the last item of HOT goes to COLD, and there it is evicted.
+fn make_room(rt: &(impl Print + AllocGlobal), cache: &mut Cache) -> Result<()> {
+    store(rt, cache, "fig", 300, 6)?;
+    store(rt, cache, "plum", 400, 7)?;
+    for tail in [Tail::Hot, Tail::Evict] {
+        let pulled = cache.age(tail)?;
+        println!(rt; "age: {pulled:?}")?;
+    }
+    store(rt, cache, "plum", 400, 8)?;
+
+    // The name still has the item that was evicted. Where it is removed, another may have it.
+    look_up(rt, cache, "pear")?;
+    store(rt, cache, "pear", 200, 9)?;
+    let removed = cache.remove("pear")?;
+    println!(rt; "remove pear: {removed:?}")?;
+    look_up(rt, cache, "pear")
+}
+
+/// An item that is ended while somebody holds it: it can be read on, and its chunk is free only after that.
+fn end_held(rt: &impl Print, cache: &mut Cache) -> Result<()> {
+    let fig = cache.get(1, "fig")?;
+    let removed = cache.remove("fig")?;
+    println!(rt; "remove fig: {removed:?}")?;
+    look_up(rt, cache, "fig")?;
+    let label = cache.label(fig)?;
+    let early = cache.sweep()?;
+    cache.release(fig)?;
+    let late = cache.sweep()?;
+    println!(rt; "fig: label {label}, swept {early} while held and {late} then")?;
+    Ok(())
+}
+
 fn run(rt: &(impl Print + AllocGlobal)) -> Result<()> {
     let class = ClassConfig {
         chunks: 3,
@@ -53,10 +112,10 @@ fn run(rt: &(impl Print + AllocGlobal)) -> Result<()> {
     print_world(rt, cache.world())?;
     cache.release(pear)?;
 
-    match cache.get(1, "fig") {
-        Ok(id) => println!(rt; "get fig: {id:?}")?,
-        Err(why) => println!(rt; "get fig: {why}")?,
-    }
+    look_up(rt, &mut cache, "fig")?;
+    make_room(rt, &mut cache)?;
+    end_held(rt, &mut cache)?;
+    print_world(rt, cache.world())?;
     Ok(())
 }
 

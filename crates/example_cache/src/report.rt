@@ -28,6 +28,7 @@ pub fn print_world(rt: &impl Print, world: &World) -> io::Result<()> {
         print_list(rt, world, class, Place::Hot)?;
         print_list(rt, world, class, Place::Warm)?;
         print_list(rt, world, class, Place::Cold)?;
+        print_list(rt, world, class, Place::Dying)?;
         print_list(rt, world, class, Place::Unused)?;
     }
     for worker in 0..world.workers() {
