@@ -1,5 +1,5 @@
 -- What a lawful worker is: its ring, its lane and its accounts.
-use Rattle.std.specs.Prelude.{◌≡◌, ℕ, ◌+◌, List, ◌++◌, length, map}
+use Rattle.std.specs.Prelude.{◌≡◌, ℕ, List, ◌++◌, length, map}
 use Rattle.bump_rules.specs.declared.items.ItemId.{ItemId}
 use Rattle.bump_core.specs.State.{WorkerState}
 use Rattle.bump_rules.specs.Rings.{left_of, aboard, bump_applied, numbered_from, IsRing, IsAccounts}

@@ -10,6 +10,10 @@ use std::alloc::{AllocError, Global};
 use std::process::Abort;
 use std::test::Fail;
 
+mod commands;
+mod endings;
+mod walks;
+
 /// A World of one worker and one class of two chunks, as a trace begins one, where memory is not refused.
 fn world(alloc: Global, capacity: u32, hot: u32, warm: u32) -> Option<World>
     ensures { IfSome result (λ w. (length w.chunks ≡ 2) × (length w.classes ≡ 1) × (length w.workers ≡ 1)) }
@@ -17,6 +21,22 @@ fn world(alloc: Global, capacity: u32, hot: u32, warm: u32) -> Option<World>
     let chunks = 2;
     let classes = vec![in alloc; ClassConfig { chunks, hot, warm }].ok()?;
     let config = Config::new(1, capacity, 4, 1, classes).ok()?;
+    World::new(alloc, &config).ok()
+}
+
+/// A World of some classes, each of so many chunks with limits of HOT and WARM. The numbers are those of a configuration.
+fn store(alloc: Global, numbers: (u32, u32, u32, u32), sizes: &[(u32, u32, u32)]) -> Option<World> {
+    let mut classes = Vec::new(alloc);
+    for (chunks, hot, warm) in sizes.iter() {
+        let class = ClassConfig {
+            chunks: *chunks,
+            hot: *hot,
+            warm: *warm,
+        };
+        classes.push(class).ok()?;
+    }
+    let (workers, capacity, refs_limit, generation) = numbers;
+    let config = Config::new(workers, capacity, refs_limit, generation, classes).ok()?;
     World::new(alloc, &config).ok()
 }
 

@@ -26,7 +26,7 @@ lists_from first s = record {
   retired = listed_from first s Retired;
 }
 
--- there are six lists, each node stands in one of them, once, and the number behind the last chunk is a chunk's number too
+-- there are six lists, each node stands in one of them, once, and the number behind the last chunk fits 32 bits too
 pub record AreSixLists (first : ℕ) (s : links.Lists) : Type 0 where
   pub six : length s.lists ≡ 6
   pub each_once : HoldsEachOnce s

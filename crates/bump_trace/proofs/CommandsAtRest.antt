@@ -18,10 +18,12 @@ use Rattle.bump_rules.specs.declared.bumps.Outcome.{Outcome}
 use Rattle.bump_rules.specs.declared.bumps.Outcome.TheVariants as outcome
 use Rattle.bump_rules.specs.declared.places.Segment.{Segment}
 use Rattle.bump_rules.specs.declared.places.Tail.{Tail}
-use Rattle.bump_core.specs.Commands.{is_allowed, command_after, pull_to, pulled_at, hit, hit_at, attempt, dropped_at, is_exhausted, apply_bump, bumped_lists, outcome_next, ended_at, bump_next, tail_of, get_at, held_by_get}
+use Rattle.bump_rules.specs.declared.places.Tail.TheVariants as tail
+use Rattle.bump_core.specs.Commands.{is_allowed, command_after, freed_by, end_life, end_of, pull, pull_to, pulled_at, hit, hit_at, attempt, dropped_at, is_exhausted, apply_bump, bumped_lists, outcome_next, ended_at, bump_next, tail_of, get_at, held_by_get}
 use Rattle.bump_rules.specs.Lanes.{is_half_made}
 use Rattle.bump_core.specs.Events.{next_chunk}
-use Rattle.bump_core.specs.State.{State, ClassState, WorkerState, new_worker, no_chunk, chunk, head, worker, is_class, is_worker, with_chunk, with_class, with_worker, class_of, is_current, is_held, has_free_hold, is_open, workers_on, some_and, is_under_application, applies_in}
+use Rattle.bump_rules.specs.Lives.{life}
+use Rattle.bump_core.specs.State.{State, ClassState, WorkerState, new_worker, no_chunk, chunk, head, worker, is_class, is_worker, with_chunk, with_class, with_worker, class_of, is_current, is_linked, is_held, has_free_hold, is_open, workers_on, some_and, is_under_application, applies_in}
 use Rattle.bump_rules.specs.Hands.{is_idle, is_on}
 use Rattle.bump_rules.specs.Tables.{Get, IsStale, IsRefsFull, IsHeld, Hit, IsFirst, IsAlready, IsMarked, Attempts, pulled_to}
 use Rattle.bump_rules.specs.Totals.{total}
@@ -54,7 +56,7 @@ keeps_class s k x = record { workers = refl; classes = length-set s.classes k x;
 pub resting_at : (s : State) (w : ℕ) → IsAtRest s → IsResting (worker s w)
 resting_at s w r = elim (cases_Bool (nat_lt w (length s.workers))) [
   | inl e ↦ All-get_or IsResting s.workers w new_worker (ltb-true _ _ e) r
-  | inr e ↦ subst IsResting (sym (get_or-eq_default s.workers new_worker (ltb-false _ _ e))) (record { open_ring = refl; idle = refl; empty = refl })
+  | inr e ↦ subst IsResting (sym (get_or-eq_default s.workers new_worker (ltb-false _ _ e))) (record { idle = refl; empty = refl })
 ]
 
 -- a worker changed that rests as before
@@ -76,14 +78,30 @@ keeps_pull_to : (s : State) (k : ℕ) (t : Tail) (c : ℕ) (to : Option Segment)
 keeps_pull_to s k t c None = keeps_same s
 keeps_pull_to s k t c (Some to) = keeps_both _ _ _ (keeps_chunk s c _) (keeps_class _ k _)
 
+-- an ended life's chunk is free, or not
+keeps_freed : (s : State) (l : ItemId) (e : Ended) → Keeps s (freed_by s l e)
+keeps_freed s l Freed = keeps_class s _ _
+keeps_freed s l Deferred = keeps_same s
+
+-- a life ends
+keeps_end : (s : State) (l : ItemId) → Keeps s (end_life s l)
+keeps_end s l = keeps_both _ _ _ (keeps_both _ _ _ (keeps_chunk s l.chunk _) (keeps_class _ _ _)) (keeps_freed _ l (end_of s l))
+
+-- a pull, or an evict
+keeps_pull : (s : State) (k : ℕ) (t : Tail) (c : ℕ) → Keeps s (pull s k t c)
+keeps_pull s k tail.Hot c = keeps_pull_to s k tail.Hot c (pulled_to (pulled_at s k tail.Hot c))
+keeps_pull s k tail.Warm c = keeps_pull_to s k tail.Warm c (pulled_to (pulled_at s k tail.Warm c))
+keeps_pull s k tail.Cold c = keeps_pull_to s k tail.Cold c (pulled_to (pulled_at s k tail.Cold c))
+keeps_pull s k tail.Evict c = keeps_end s (life c (head s c).generation)
+
 -- a bump was queued or dropped
 keeps_attempt : (s : State) (w : ℕ) (l : ItemId) (d : Option Dropped) → Keeps s (attempt s w l d)
-keeps_attempt s w l None = keeps_both _ _ _ (keeps_chunk s l.chunk _) (keeps_worker _ w _ (λ r. record { open_ring = r.open_ring; idle = r.idle; empty = r.empty }))
-keeps_attempt s w l (Some d) = keeps_worker s w _ (λ r. record { open_ring = r.open_ring; idle = r.idle; empty = r.empty })
+keeps_attempt s w l None = keeps_both _ _ _ (keeps_chunk s l.chunk _) (keeps_worker _ w _ (λ r. record { idle = r.idle; empty = r.empty }))
+keeps_attempt s w l (Some d) = keeps_worker s w _ (λ r. record { idle = r.idle; empty = r.empty })
 
 -- a hit
 keeps_hit : (s : State) (w : ℕ) (l : ItemId) (now : ℕ) (h : Hit) → Keeps s (hit s w l now h)
-keeps_hit s w l now IsFirst = keeps_both _ _ _ (keeps_chunk s l.chunk _) (keeps_worker _ w _ (λ r. record { open_ring = r.open_ring; idle = r.idle; empty = r.empty }))
+keeps_hit s w l now IsFirst = keeps_both _ _ _ (keeps_chunk s l.chunk _) (keeps_worker _ w _ (λ r. record { idle = r.idle; empty = r.empty }))
 keeps_hit s w l now IsAlready = keeps_same s
 keeps_hit s w l now IsMarked = keeps_chunk s l.chunk _
 keeps_hit s w l now Attempts = keeps_attempt s w l (dropped_at s w l)
@@ -92,13 +110,12 @@ keeps_hit s w l now Attempts = keeps_attempt s w l (dropped_at s w l)
 keeps_lists : (s : State) (w : ℕ) (b : Bump) (o : Outcome) (e : Ended) → Keeps s (bumped_lists s w b o e)
 keeps_lists s w b outcome.Moved e = keeps_class s _ _
 keeps_lists s w b outcome.TimeOnly e = keeps_same s
-keeps_lists s w b outcome.Gone Freed = keeps_class s _ _
-keeps_lists s w b outcome.Gone Deferred = keeps_same s
+keeps_lists s w b outcome.Gone e = keeps_freed s b.life e
 
 -- a bump was applied
 keeps_bump : (s : State) (w now : ℕ) (b : Bump) → Keeps s (apply_bump s w now b)
 keeps_bump s w now b =
-    keeps_both _ _ _ (keeps_both _ _ _ (keeps_chunk s b.life.chunk _) (keeps_worker _ w _ (λ r. record { open_ring = r.open_ring; idle = r.idle; empty = refl })))
+    keeps_both _ _ _ (keeps_both _ _ _ (keeps_chunk s b.life.chunk _) (keeps_worker _ w _ (λ r. record { idle = r.idle; empty = refl })))
     (keeps_lists _ w b (outcome_next s b) (ended_at s b.life.chunk))
 
 -- a hold is taken where the get comes to that
@@ -110,12 +127,15 @@ keeps_get s l IsHeld = keeps_chunk s l.chunk _
 -- each command
 pub keeps_command : (s : State) (c : Command) → Keeps s (command_after s c)
 keeps_command s (command.Link k x now) = keeps_option s _ (next_chunk s k) (λ c. keeps_both _ _ _ (keeps_chunk s c _) (keeps_class _ k _))
-keeps_command s (command.Pull k t) = keeps_option s _ (tail_of s k t) (λ c. keeps_pull_to s k t c (pulled_to (pulled_at s k t c)))
+keeps_command s (command.Unlink l) = keeps_if s _ _ _ (keeps_end s l) (keeps_same s)
+keeps_command s (command.Sweep k) = keeps_class s k _
+keeps_command s (command.Pull k t) = keeps_option s _ (tail_of s k t) (keeps_pull s k t)
 keeps_command s (command.Take w l) = keeps_if s _ _ _ (keeps_get s l (get_at s l)) (keeps_same s)
 keeps_command s (command.Touch w l now) = keeps_if s _ _ _ (keeps_same s) (keeps_hit s w l now (hit_at s l))
 keeps_command s (command.Label l) = keeps_same s
 keeps_command s (command.Release l) = keeps_chunk s l.chunk _
 keeps_command s (command.Next w now) = keeps_option s _ (bump_next (worker s w)) (keeps_bump s w now)
+keeps_command s (command.Close w) = keeps_worker s w _ (λ r. record { idle = r.idle; empty = r.empty })
 
 -- no class is under application
 pub none_applied : (s : State) (k : ℕ) → IsAtRest s → is_under_application s k ≡ false
@@ -134,10 +154,6 @@ none_on s l r = total_none _ s.workers (λ i d h. ap (is_on l) (r i d h).idle)
 pub free_hold : (s : State) (l : ItemId) → IsAtRest s → has_free_hold s l ≡ is_held s l
 free_hold s l r = ap (λ n. is_current s l && nat_lt n (chunk s l.chunk).holds) (none_on s l r)
 
--- at rest every ring is open
-pub open_at : (s : State) (w : ℕ) → IsAtRest s → is_worker s w ≡ true → is_open s w ≡ true
-open_at s w r e = rw e (resting_at s w r).open_ring
-
 -- where nothing is applied, whether there is a chunk is all the same
 no_bar : (a b c : Bool) → a ≡ true → c ≡ false → a && (not b || not c) ≡ true
 no_bar a b c p q = rw (p, q) (elim b as (λ v. true && (not v || true) ≡ true) [ true ↦ refl | false ↦ refl ])
@@ -150,13 +166,31 @@ link_allowed s k x now r e = no_bar _ _ _ e (none_applied s k r)
 pub pull_allowed : (s : State) (k : ℕ) (t : Tail) → IsAtRest s → is_class s k ≡ true → is_allowed s (command.Pull k t) ≡ true
 pull_allowed s k t r e = no_bar _ _ _ e (none_applied s k r)
 
--- a hit that has its hold and an idle worker is allowed, exhausted or not
-touch_bar : (a b c d : Bool) → a ≡ true → b ≡ true → d ≡ true → a && (b && (c || d)) ≡ true
-touch_bar a b c d p q t = rw (p, q, t) (elim c as (λ v. true && (true && (v || true)) ≡ true) [ true ↦ refl | false ↦ refl ])
+-- the end of an item is allowed, linked or not
+pub unlink_allowed : (s : State) (l : ItemId) → IsAtRest s → is_allowed s (command.Unlink l) ≡ true
+unlink_allowed s l r = no_bar true (is_linked s l) _ refl (none_applied s (class_of s l.chunk) r)
 
--- a hit of a held item is allowed
-pub touch_allowed : (s : State) (w : ℕ) (l : ItemId) (now : ℕ) → IsAtRest s → is_worker s w ≡ true → is_held s l ≡ true → is_allowed s (command.Touch w l now) ≡ true
-touch_allowed s w l now r e h = touch_bar _ _ (is_exhausted s w) _ (open_at s w r e) (free_hold s l r ∙ h) (ap is_idle (resting_at s w r).idle)
+-- a sweep of a class that is there is allowed
+pub sweep_allowed : (s : State) (k : ℕ) → IsAtRest s → is_class s k ≡ true → is_allowed s (command.Sweep k) ≡ true
+sweep_allowed s k r e = no_bar _ _ _ e (none_applied s k r)
+
+-- a hit that has its hold and an idle worker is allowed where the worker is open, exhausted or not
+touch_bar : (a b c d : Bool) → b ≡ true → d ≡ true → a && (b && (c || d)) ≡ a
+touch_bar true b c d q t = rw (q, t) (elim c as (λ v. true && (v || true) ≡ true) [ true ↦ refl | false ↦ refl ])
+touch_bar false b c d q t = refl
+
+-- a hit of a held item is allowed where the worker is open
+pub touch_allowed : (s : State) (w : ℕ) (l : ItemId) (now : ℕ) → IsAtRest s → is_held s l ≡ true → is_allowed s (command.Touch w l now) ≡ is_open s w
+touch_allowed s w l now r h = touch_bar _ _ (is_exhausted s w) _ (free_hold s l r ∙ h) (ap is_idle (resting_at s w r).idle)
+
+-- what holds may be left out
+close_bar : (a b : Bool) → b ≡ true → a && b ≡ a
+close_bar true b e = e
+close_bar false b e = refl
+
+-- the closing of a worker is allowed where it is open
+pub close_allowed : (s : State) (w : ℕ) → IsAtRest s → is_allowed s (command.Close w) ≡ is_open s w
+close_allowed s w r = close_bar _ _ (ap is_idle (resting_at s w r).idle)
 
 -- a hold of a held item may be given back
 pub release_allowed : (s : State) (l : ItemId) → IsAtRest s → is_held s l ≡ true → is_allowed s (command.Release l) ≡ true

@@ -1,5 +1,5 @@
 -- The lines of a trace: the table of their first words and fields, and how a line is read by it.
-use Rattle.std.specs.Prelude.{ℕ, ◌==◌, List, [], ◌∷◌, find, codes, Option, Some, None, Result, Ok, Err}
+use Rattle.std.specs.Prelude.{ℕ, Bool, true, false, ◌==◌, List, [], ◌∷◌, find, codes, Option, Some, None, Result, Ok, Err}
 use Rattle.std.specs.List.{slice_split}
 use Rattle.std.specs.Str.{bytes_eq}
 use Rattle.bump_rules.specs.declared.places.Tail.{Tail}
@@ -13,9 +13,22 @@ use Rattle.bump_trace.specs.declared.lines.Declaration.TheVariants.{Store, Class
 pub data Instruction : Type 0 where
   Set : List ℕ → ℕ → ℕ → Instruction
   Get : ℕ → List ℕ → Instruction
+  Del : List ℕ → Instruction
   Pull : ℕ → Tail → Instruction
+  Sweep : ℕ → Instruction
   Drain : Instruction
+  Close : ℕ → Instruction
   Show : Instruction
+  Par : Instruction
+
+-- Behind `par` stand these lines alone: a worker's thread makes gets, and the maintenance thread the others.
+abbrev pub may_follow_par : Instruction → Bool
+may_follow_par (Get worker name) = true
+may_follow_par (Del name) = true
+may_follow_par (Pull class segment) = true
+may_follow_par (Sweep class) = true
+may_follow_par Drain = true
+may_follow_par _ = false
 
 -- A line says what the store is, or what is done on it.
 pub data Line : Type 0 where
@@ -45,9 +58,13 @@ table =
     ∷ row (codes "class") (U32 ∷ U32 ∷ U32 ∷ []) (λ chunks hot warm. Declares (Class (record { chunks = chunks; hot = hot; warm = warm })))
     ∷ row (codes "set") (Name ∷ U32 ∷ U64 ∷ []) (λ name class label. Makes (Set name class label))
     ∷ row (codes "get") (U32 ∷ Name ∷ []) (λ worker name. Makes (Get worker name))
+    ∷ row (codes "del") (Name ∷ []) (λ name. Makes (Del name))
     ∷ row (codes "pull") (U32 ∷ Segment ∷ []) (λ class segment. Makes (Pull class segment))
+    ∷ row (codes "sweep") (U32 ∷ []) (λ class. Makes (Sweep class))
     ∷ row (codes "drain") [] (Makes Drain)
+    ∷ row (codes "close") (U32 ∷ []) (λ worker. Makes (Close worker))
     ∷ row (codes "show") [] (Makes Show)
+    ∷ row (codes "par") [] (Makes Par)
     ∷ []
 
 -- a line with one more of its fields, or the first fault

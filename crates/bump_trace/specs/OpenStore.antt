@@ -1,5 +1,5 @@
 -- What is done on an open store by each line, by the tables on the whole state, and the text that each gives.
-use Rattle.std.specs.Prelude.{ℕ, zero, suc, ◌+◌, List, [], ◌∷◌, ◌++◌, length, Option, Some, None, Result, Ok, Err, if◌then◌else◌}
+use Rattle.std.specs.Prelude.{ℕ, true, not, ◌&&◌, zero, suc, ◌+◌, List, [], ◌∷◌, ◌++◌, length, Option, Some, None, Result, Ok, Err, if◌then◌else◌}
 use Rattle.bump_rules.specs.declared.bumps.Entry.{Entry}
 use Rattle.bump_rules.specs.declared.commands.Answer.{Answer}
 use Rattle.bump_rules.specs.declared.commands.Answer.TheVariants as answer
@@ -9,11 +9,11 @@ use Rattle.bump_rules.specs.declared.items.ItemId.{ItemId}
 use Rattle.bump_rules.specs.declared.places.Tail.{Tail}
 use Rattle.bump_core.specs.Commands.{answer_of, command_after}
 use Rattle.bump_rules.specs.Lists.{ascending}
-use Rattle.bump_core.specs.State.{State, is_class, is_worker}
-use Rattle.bump_trace.specs.Lines.{Instruction, Set, Get, Pull, Drain, Show}
+use Rattle.bump_core.specs.State.{State, is_class, is_worker, is_open}
+use Rattle.bump_trace.specs.Lines.{Instruction, Set, Get, Del, Pull, Sweep, Drain, Close, Show, Par, may_follow_par}
 use Rattle.bump_trace.specs.Names.{Names, bind}
 use Rattle.bump_trace.specs.Stages.{StoreState, Open, Said, say}
-use Rattle.bump_trace.specs.Text.{set_line, get_line, get_held_line, pull_line, bump_line, drain_line, show_text}
+use Rattle.bump_trace.specs.Text.{set_line, get_line, get_held_line, del_line, pull_line, sweep_line, bump_line, drain_line, close_line, closed_line, show_text}
 use Rattle.bump_trace.specs.declared.faults.Fault.{Fault}
 use Rattle.bump_trace.specs.declared.faults.Fault.TheVariants as fault
 
@@ -36,6 +36,18 @@ set_said b now name k label =
     let c = command.Link k label now in
     if is_class b.state k then Ok (set_by (with_command b c) name (answer_of b.state c)) else Err fault.Class
 
+-- Closed workers take no holds, hits or bumps. What a worker's command answers, unless the worker is closed.
+abbrev pub answer_by : State → ℕ → Command → Option Answer
+answer_by s w c = if is_open s w then Some (answer_of s c) else None
+
+-- the state after it
+abbrev pub state_by : State → ℕ → Command → State
+state_by s w c = if is_open s w then command_after s c else s
+
+-- the store after it
+abbrev pub with_command_by : StoreState → ℕ → Command → StoreState
+with_command_by b w c = record b { state = state_by b.state w c }
+
 -- get W NAME: a hold is taken; by it the label is read and the item is hit; and it is given back. Where there is no hold
 -- the answer says why.
 abbrev pub get_held : StoreState → ℕ → ℕ → List ℕ → ItemId → Said
@@ -45,24 +57,38 @@ get_held b now w name id =
     (get_held_line w name (answer_of b.state (command.Label id)) (answer_of b.state hit))
 
 -- a hold is used, and any other answer told
-abbrev pub get_by : StoreState → ℕ → ℕ → List ℕ → ItemId → Answer → Said
-get_by b now w name id answer.Held = get_held b now w name id
+abbrev pub get_by : StoreState → ℕ → ℕ → List ℕ → ItemId → Option Answer → Said
+get_by b now w name id (Some answer.Held) = get_held b now w name id
 get_by b now w name id other = say (Open b) (get_line w name other)
 
 -- of the item that the name is bound to
 abbrev pub get_bound : StoreState → ℕ → ℕ → List ℕ → Option ItemId → Result Said Fault
 get_bound b now w name None = Err fault.Unbound
-get_bound b now w name (Some id) = let c = command.Take w id in Ok (get_by (with_command b c) now w name id (answer_of b.state c))
+get_bound b now w name (Some id) = let c = command.Take w id in Ok (get_by (with_command_by b w c) now w name id (answer_by b.state w c))
 
 -- where there is such a worker
 unfoldable pub get_said : StoreState → ℕ → ℕ → List ℕ → Result Said Fault
 get_said b now w name = if is_worker b.state w then get_bound b now w name (b.names name) else Err fault.Worker
+
+-- del NAME: the item that the name is bound to ends, and the name stays bound.
+abbrev pub del_bound : StoreState → List ℕ → Option ItemId → Result Said Fault
+del_bound b name None = Err fault.Unbound
+del_bound b name (Some id) = let c = command.Unlink id in Ok (say (Open (with_command b c)) (del_line name (answer_of b.state c)))
+
+unfoldable pub del_said : StoreState → List ℕ → Result Said Fault
+del_said b name = del_bound b name (b.names name)
 
 -- pull CLASS SEGMENT
 unfoldable pub pull_said : StoreState → ℕ → Tail → Result Said Fault
 pull_said b k t =
     let c = command.Pull k t in
     if is_class b.state k then Ok (say (Open (with_command b c)) (pull_line k t (answer_of b.state c))) else Err fault.Class
+
+-- sweep CLASS
+unfoldable pub sweep_said : StoreState → ℕ → Result Said Fault
+sweep_said b k =
+    let c = command.Sweep k in
+    if is_class b.state k then Ok (say (Open (with_command b c)) (sweep_line k (answer_of b.state c))) else Err fault.Class
 
 -- drain: of each worker, ascending, the bumps are applied until there is none, at most as many as its ring has room for.
 pub record Drained : Type 0 where
@@ -105,14 +131,37 @@ drain_by b d = say (Open (record b { state = d.state })) (d.text ++ drain_line d
 unfoldable pub drain_said : StoreState → ℕ → Result Said Fault
 drain_said b now = Ok (drain_by b (drained_through now (ascending 0 (length b.state.workers)) b.state))
 
+-- close W: the ring is closed, and the bumps that wait in it are applied: no more than it has room for.
+abbrev pub close_by : StoreState → ℕ → Drained → Said
+close_by b w d = say (Open (record b { state = d.state })) (d.text ++ close_line d.state w)
+
+abbrev pub close_open : StoreState → ℕ → ℕ → Said
+close_open b now w = close_by b w (drained_of now w b.state.capacity (command_after b.state (command.Close w)))
+
+-- where there is such a worker, and it isn't closed yet
+unfoldable pub close_said : StoreState → ℕ → ℕ → Result Said Fault
+close_said b now w = if is_worker b.state w then Ok (if is_open b.state w then close_open b now w else say (Open b) (closed_line w)) else Err fault.Worker
+
 -- show
 unfoldable pub show_said : StoreState → Result Said Fault
 show_said b = Ok (say (Open b) (show_text b.state))
 
+-- par: it does nothing but that it says which lines may follow
+unfoldable pub par_said : StoreState → Result Said Fault
+par_said b = Ok (say (Open (record b { is_past_par = true })) [])
+
 -- what each line does
+abbrev pub made_by : StoreState → ℕ → Instruction → Result Said Fault
+made_by b now (Set name k label) = set_said b now name k label
+made_by b now (Get w name) = get_said b now w name
+made_by b now (Del name) = del_said b name
+made_by b now (Pull k t) = pull_said b k t
+made_by b now (Sweep k) = sweep_said b k
+made_by b now Drain = drain_said b now
+made_by b now (Close w) = close_said b now w
+made_by b now Show = show_said b
+made_by b now Par = par_said b
+
+-- where it may stand
 unfoldable pub instruction_said : StoreState → ℕ → Instruction → Result Said Fault
-instruction_said b now (Set name k label) = set_said b now name k label
-instruction_said b now (Get w name) = get_said b now w name
-instruction_said b now (Pull k t) = pull_said b k t
-instruction_said b now Drain = drain_said b now
-instruction_said b now Show = show_said b
+instruction_said b now i = if b.is_past_par && not (may_follow_par i) then Err fault.Order else made_by b now i

@@ -1,5 +1,5 @@
 -- Between two lines of a trace no command is half made.
-use Rattle.std.specs.Prelude.{◌≡◌, true, All, length}
+use Rattle.std.specs.Prelude.{◌≡◌, All, length}
 use Rattle.bump_rules.specs.declared.lanes.Lane.TheVariants as lane
 use Rattle.bump_rules.specs.declared.hands.Hand.TheVariants as hand
 use Rattle.bump_core.specs.State.{State, WorkerState}
@@ -7,9 +7,8 @@ use Rattle.bump_trace.specs.declared.open_store.OpenStore.{OpenStore}
 use Rattle.bump_trace.specs.declared.stages.Stage.{Stage}
 use Rattle.bump_trace.specs.declared.stages.Stage.TheVariants as stage
 
--- the worker's ring takes bumps, and neither the worker nor its lane has anything in hand
+-- neither the worker nor its lane has anything in hand, whether its ring is open or closed
 pub record IsResting (x : WorkerState) : Type 0 where
-  pub open_ring : x.is_open ≡ true
   pub idle : x.hand ≡ hand.Idle
   pub empty : x.lane ≡ lane.Empty
 

@@ -1,10 +1,8 @@
 -- How far a trace is: before `store`, among the lines that say what the store is, or with an open store; and which lines
 -- may stand there.
-use Rattle.std.specs.Prelude.{ℕ, Bool, false, ◌||◌, nat_lt, List, [], ◌∷◌, ◌++◌, length, Option, Some, None, Result, Ok, Err, find, option_map}
+use Rattle.std.specs.Prelude.{ℕ, Bool, false, List, [], ◌∷◌, ◌++◌, Option, Some, None, Result, Ok, Err, option_map}
 use Rattle.bump_rules.specs.declared.configs.ClassConfig.{ClassConfig}
-use Rattle.bump_rules.specs.declared.configs.ConfigFault.{ConfigFault}
-use Rattle.bump_rules.specs.declared.configs.ConfigFault.TheVariants as config
-use Rattle.bump_rules.specs.Configs.{has_fault}
+use Rattle.bump_rules.specs.Configs.{first_fault}
 use Rattle.bump_core.specs.Opening.{opening_state}
 use Rattle.bump_core.specs.State.{State}
 use Rattle.bump_trace.specs.Faults.{fault_of_config}
@@ -15,10 +13,11 @@ use Rattle.bump_trace.specs.declared.lines.Declaration.{Declaration}
 use Rattle.bump_trace.specs.declared.lines.Declaration.TheVariants.{Store, Class}
 use Rattle.bump_trace.specs.declared.lines.Shape.{Shape}
 
--- a store that commands are made on, and the names of its items
+-- a store that commands are made on, the names of its items, and whether `par` was read
 pub record StoreState : Type 0 where
   pub state : State
   pub names : Names
+  pub is_past_par : Bool
 
 pub data Stage : Type 0 where
   Before : Stage
@@ -34,31 +33,16 @@ pub record Said : Type 0 where
 abbrev pub say : Stage → List ℕ → Said
 say stage text = record { stage = stage; text = text }
 
--- For now a store has one worker and one class. Nothing else says so.
-abbrev pub has_more_than_one : Shape → List ClassConfig → ConfigFault → Bool
-has_more_than_one shape classes config.Workers = nat_lt 1 shape.workers
-has_more_than_one shape classes config.Classes = nat_lt 1 (length classes)
-has_more_than_one shape classes config.Capacity = false
-has_more_than_one shape classes config.RefsLimit = false
-has_more_than_one shape classes config.Generation = false
-has_more_than_one shape classes config.Chunks = false
-
--- whether a configuration has a fault
-abbrev pub is_refused : Shape → List ClassConfig → ConfigFault → Bool
-is_refused shape classes which =
-    has_fault shape.workers shape.capacity shape.refs_limit shape.first_generation classes which || has_more_than_one shape classes which
-
 -- the first fault that the configuration has
 abbrev pub config_fault : Shape → List ClassConfig → Option Fault
-config_fault shape classes =
-    option_map fault_of_config (find (is_refused shape classes)
-    (config.Workers ∷ config.Capacity ∷ config.RefsLimit ∷ config.Generation ∷ config.Classes ∷ config.Chunks ∷ []))
+config_fault shape classes = option_map fault_of_config (first_fault shape.workers shape.capacity shape.refs_limit shape.first_generation classes)
 
 -- a store of this shape in which nothing was done
 abbrev pub new_store : Shape → List ClassConfig → StoreState
 new_store shape classes = record {
   state = opening_state shape.workers shape.capacity shape.refs_limit shape.first_generation classes;
   names = no_names;
+  is_past_par = false;
 }
 
 -- a store, unless there is a fault

@@ -1,5 +1,5 @@
 -- The printed text: ids, flags, list lines, accounts, answers, and the line of each command.
-use Rattle.std.specs.Prelude.{ℕ, List, [], ◌∷◌, ◌++◌, length, codes, decimal, if◌then◌else◌}
+use Rattle.std.specs.Prelude.{ℕ, List, [], ◌∷◌, ◌++◌, length, codes, decimal, Option, None, Some, if◌then◌else◌}
 use Rattle.std.specs.List.{flat_map}
 use Rattle.bump_rules.specs.declared.bumps.Accounts.{Accounts}
 use Rattle.bump_rules.specs.declared.bumps.Applied.{Applied}
@@ -144,6 +144,11 @@ answer_text answer.Done = []
 answer_text (answer.Bumped e) = entry_text e
 answer_text answer.Nothing = []
 
+-- how it is told what a worker's command answered, or that the worker is closed
+abbrev pub told : Option Answer → List ℕ
+told None = codes "closed"
+told (Some a) = answer_text a
+
 -- set NAME, and the answer
 abbrev pub set_line : List ℕ → Answer → List ℕ
 set_line name a = codes "set " ++ name ++ codes " " ++ answer_text a ++ codes "\n"
@@ -153,16 +158,24 @@ abbrev pub get_start : ℕ → List ℕ → List ℕ
 get_start w name = codes "get " ++ decimal w ++ codes " " ++ name ++ codes " "
 
 -- get W NAME, and the answer
-abbrev pub get_line : ℕ → List ℕ → Answer → List ℕ
-get_line w name a = get_start w name ++ answer_text a ++ codes "\n"
+abbrev pub get_line : ℕ → List ℕ → Option Answer → List ℕ
+get_line w name a = get_start w name ++ told a ++ codes "\n"
 
 -- get W NAME LABEL HIT, of an item that was held
 abbrev pub get_held_line : ℕ → List ℕ → Answer → Answer → List ℕ
 get_held_line w name label hit = get_start w name ++ answer_text label ++ codes " " ++ answer_text hit ++ codes "\n"
 
+-- del NAME, and the answer
+abbrev pub del_line : List ℕ → Answer → List ℕ
+del_line name a = codes "del " ++ name ++ codes " " ++ answer_text a ++ codes "\n"
+
 -- pull CLASS SEGMENT, and the answer
 abbrev pub pull_line : ℕ → Tail → Answer → List ℕ
 pull_line k t a = codes "pull " ++ decimal k ++ codes " " ++ tail_word t ++ codes " " ++ answer_text a ++ codes "\n"
+
+-- sweep CLASS, and the answer
+abbrev pub sweep_line : ℕ → Answer → List ℕ
+sweep_line k a = codes "sweep " ++ decimal k ++ codes " " ++ answer_text a ++ codes "\n"
 
 -- bump W N ID, and what it did
 abbrev pub bump_line : ℕ → Entry → List ℕ
@@ -171,6 +184,17 @@ bump_line w e = codes "bump " ++ decimal w ++ codes " " ++ entry_text e ++ codes
 -- drain N
 abbrev pub drain_line : ℕ → List ℕ
 drain_line n = codes "drain " ++ decimal n ++ codes "\n"
+
+-- close W ACCOUNTS
+abbrev pub close_start : ℕ → List ℕ
+close_start w = codes "close " ++ decimal w ++ codes " "
+
+unfoldable pub close_line : State → ℕ → List ℕ
+close_line s w = close_start w ++ accounts_text (worker s w).accounts (length (worker s w).applied) ++ codes "\n"
+
+-- close W, of a worker that was closed before
+abbrev pub closed_line : ℕ → List ℕ
+closed_line w = close_start w ++ told None ++ codes "\n"
 
 -- line N: WORD
 abbrev pub fault_line : ℕ → Fault → List ℕ

@@ -25,9 +25,13 @@ use Rattle.bump_trace.specs.declared.stages.Stage.TheVariants as stage
 abbrev pub seen_instruction : Instruction → lines.Instruction
 seen_instruction (instruction.Set name class label) = lines.Set name.now class label
 seen_instruction (instruction.Get worker name) = lines.Get worker name.now
+seen_instruction (instruction.Del name) = lines.Del name.now
 seen_instruction (instruction.Pull class tail) = lines.Pull class tail
+seen_instruction (instruction.Sweep class) = lines.Sweep class
 seen_instruction instruction.Drain = lines.Drain
+seen_instruction (instruction.Close worker) = lines.Close worker
 seen_instruction instruction.Show = lines.Show
+seen_instruction instruction.Par = lines.Par
 
 -- a line with its names as bytes
 abbrev pub seen_line : Line → lines.Line
@@ -49,7 +53,7 @@ names_of names = bindings_of names.ids
 
 -- an open store as the definitions see it
 abbrev pub store_of : OpenStore → stages.StoreState
-store_of b = record { state = b.world; names = names_of b.names }
+store_of b = record { state = b.world; names = names_of b.names; is_past_par = b.is_past_par }
 
 -- a stage as the definitions see it
 abbrev pub stage_of : Stage → stages.Stage

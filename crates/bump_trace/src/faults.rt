@@ -33,7 +33,7 @@ pub enum Fault {
     /// The line may not stand here.
     Order,
 
-    /// Not 1 to 64 workers, and for now not more than 1.
+    /// Not 1 to 64 workers.
     Workers,
 
     /// A ring's capacity is not 1 to 65,536.
@@ -45,7 +45,7 @@ pub enum Fault {
     /// The first generation is 0.
     Generation,
 
-    /// Not 1 to 16 classes, and for now not more than 1.
+    /// Not 1 to 16 classes.
     Classes,
 
     /// A class without chunks, or more than 1,000,000 chunks together.

@@ -59,6 +59,12 @@ pub enum Instruction<'a> {
         name: &'a [u8],
     },
 
+    /// `del`: the item of a name ends.
+    Del {
+        /// The name that is bound to the item, and stays so.
+        name: &'a [u8],
+    },
+
     /// `pull`: the last item of a list is looked at.
     Pull {
         /// The number of the class.
@@ -68,11 +74,48 @@ pub enum Instruction<'a> {
         tail: Tail,
     },
 
+    /// `sweep`: ended items that nobody holds any more are freed.
+    Sweep {
+        /// The number of the class.
+        class: u32,
+    },
+
     /// `drain`: the queued bumps are applied.
     Drain,
 
+    /// `close`: a worker's ring takes no bumps any more, and those in it are applied.
+    Close {
+        /// The number of the worker.
+        worker: u32,
+    },
+
     /// `show`: all lists and accounts are printed.
     Show,
+
+    /// `par`: only some lines may follow.
+    Par,
+}
+
+impl<'a> Instruction<'a> {
+    ghost use Rattle.bump_trace.specs.Lines.{may_follow_par};
+    ghost use Rattle.bump_trace.specs.Views.{seen_instruction};
+
+    /// Whether the line may stand behind `par`.
+    pub fn may_follow_par(&self) -> bool
+        ensures { result ≡ may_follow_par (seen_instruction self.now) }
+    {
+        match self {
+            Instruction::Get { .. }
+            | Instruction::Del { .. }
+            | Instruction::Pull { .. }
+            | Instruction::Sweep { .. }
+            | Instruction::Drain => true,
+            Instruction::Set { .. }
+            | Instruction::Close { .. }
+            | Instruction::Show
+            | Instruction::Par => false,
+        }
+    }
 }
 
 /// What a line says.
@@ -169,6 +212,19 @@ fn get<'a>(fields: &[&'a [u8]]) -> Result<Line<'a>, Fault>
 }
 
 #[tactic(auto, unfolding(crate::specs::Lines::line_of))]
+fn del<'a>(fields: &[&'a [u8]]) -> Result<Line<'a>, Fault>
+    ensures { Gives seen_line result (line_of (codes "del") (map (λ w. w.now) fields.now)) }
+{
+    match fields {
+        [name] => {
+            let name = name_field(name);
+            Ok(Line::Makes(Instruction::Del { name: name? }))
+        }
+        _ => Err(Fault::Count),
+    }
+}
+
+#[tactic(auto, unfolding(crate::specs::Lines::line_of))]
 fn pull<'a>(fields: &[&'a [u8]]) -> Result<Line<'a>, Fault>
     ensures { Gives seen_line result (line_of (codes "pull") (map (λ w. w.now) fields.now)) }
 {
@@ -186,11 +242,47 @@ fn pull<'a>(fields: &[&'a [u8]]) -> Result<Line<'a>, Fault>
 }
 
 #[tactic(auto, unfolding(crate::specs::Lines::line_of))]
+fn sweep<'a>(fields: &[&'a [u8]]) -> Result<Line<'a>, Fault>
+    ensures { Gives seen_line result (line_of (codes "sweep") (map (λ w. w.now) fields.now)) }
+{
+    match fields {
+        [class] => {
+            let class = u32_field(class);
+            Ok(Line::Makes(Instruction::Sweep { class: class? }))
+        }
+        _ => Err(Fault::Count),
+    }
+}
+
+#[tactic(auto, unfolding(crate::specs::Lines::line_of))]
 fn drain<'a>(fields: &[&'a [u8]]) -> Result<Line<'a>, Fault>
     ensures { Gives seen_line result (line_of (codes "drain") (map (λ w. w.now) fields.now)) }
 {
     match fields {
         [] => Ok(Line::Makes(Instruction::Drain)),
+        _ => Err(Fault::Count),
+    }
+}
+
+#[tactic(auto, unfolding(crate::specs::Lines::line_of))]
+fn close<'a>(fields: &[&'a [u8]]) -> Result<Line<'a>, Fault>
+    ensures { Gives seen_line result (line_of (codes "close") (map (λ w. w.now) fields.now)) }
+{
+    match fields {
+        [worker] => {
+            let worker = u32_field(worker);
+            Ok(Line::Makes(Instruction::Close { worker: worker? }))
+        }
+        _ => Err(Fault::Count),
+    }
+}
+
+#[tactic(auto, unfolding(crate::specs::Lines::line_of))]
+fn par<'a>(fields: &[&'a [u8]]) -> Result<Line<'a>, Fault>
+    ensures { Gives seen_line result (line_of (codes "par") (map (λ w. w.now) fields.now)) }
+{
+    match fields {
+        [] => Ok(Line::Makes(Instruction::Par)),
         _ => Err(Fault::Count),
     }
 }
@@ -217,12 +309,20 @@ fn by_first_word<'a>(word: &[u8], fields: &[&'a [u8]]) -> Result<Line<'a>, Fault
         set(fields)
     } else if word == b"get".as_slice() {
         get(fields)
+    } else if word == b"del".as_slice() {
+        del(fields)
     } else if word == b"pull".as_slice() {
         pull(fields)
+    } else if word == b"sweep".as_slice() {
+        sweep(fields)
     } else if word == b"drain".as_slice() {
         drain(fields)
+    } else if word == b"close".as_slice() {
+        close(fields)
     } else if word == b"show".as_slice() {
         show(fields)
+    } else if word == b"par".as_slice() {
+        par(fields)
     } else {
         Err(Fault::Command)
     }

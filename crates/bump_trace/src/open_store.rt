@@ -1,24 +1,24 @@
 //! What is done on an open store.
 
-ghost use Rattle.std.specs.Prelude.{◌≡◌, ◌<◌, ◌≤◌, ◌+◌, ◌^◌, true, List, [], ◌∷◌, ◌++◌, IfOk, IfErr, OnOk, Ok, None, All, length};
+ghost use Rattle.std.specs.Prelude.{◌≡◌, ◌<◌, ◌≤◌, ◌+◌, ◌^◌, true, false, List, [], ◌∷◌, ◌++◌, IfOk, IfErr, OnOk, Ok, None, All, length};
 ghost use Rattle.std.specs.List.{flat_map};
 ghost use Rattle.bump_core.specs.Commands.{is_allowed, answer_of, command_after};
-ghost use Rattle.bump_core.specs.State.{is_held};
+ghost use Rattle.bump_core.specs.State.{is_held, is_open};
 ghost use Rattle.bump_rules.specs.Lists.{ascending};
 ghost use Rattle.bump_core.specs.Readers.{list_of};
 ghost use Rattle.bump_trace.specs.Stages.{Open};
-ghost use Rattle.bump_trace.specs.OpenStore.{get_held, set_said, get_said, pull_said, drain_said, show_said, instruction_said, drained_of, drained_through};
+ghost use Rattle.bump_trace.specs.OpenStore.{answer_by, state_by, get_held, set_said, get_said, del_said, pull_said, sweep_said, drain_said, close_said, show_said, instruction_said, drained_of, drained_through};
 ghost use Rattle.bump_trace.specs.Names.{no_names};
 ghost use Rattle.bump_core.specs.Opening.{new_state};
 ghost use Rattle.bump_trace.specs.declared.faults.LineError.TheVariants.{Memory};
-ghost use Rattle.bump_trace.specs.Text.{list_entry, list_line, class_lines, worker_line, show_text};
+ghost use Rattle.bump_trace.specs.Text.{list_entry, list_line, class_lines, worker_line, close_line, show_text};
 
 use crate::faults::{Fault, LineError};
 use crate::lines::Instruction;
 use crate::names::Names;
 use crate::text::{
-    put_bump, put_chunk, put_drain, put_get, put_get_held, put_list_start, put_pull, put_set,
-    put_worker,
+    put_bump, put_chunk, put_close, put_closed, put_del, put_drain, put_get, put_get_held,
+    put_list_start, put_pull, put_set, put_sweep, put_worker,
 };
 use bump_core::{Answer, Command, Config, ItemId, Place, Refused, Tail, World};
 use std::alloc::{AllocError, Global};
@@ -29,6 +29,7 @@ use std::alloc::{AllocError, Global};
 pub struct OpenStore<'a> {
     world: World,
     names: Names<'a>,
+    is_past_par: bool,
     workers: u32,
     classes: u32,
     capacity: u32,
@@ -40,7 +41,7 @@ impl<'a> OpenStore<'a> {
 
     /// A new World of this configuration, without names.
     pub fn new(alloc: Global, config: &Config) -> Result<OpenStore<'a>, LineError>
-        ensures new { IfOk result (λ b. store_of b ≡ record { state = new_state config.now; names = no_names }) }
+        ensures new { IfOk result (λ b. store_of b ≡ record { state = new_state config.now; names = no_names; is_past_par = false }) }
         ensures ready { IfOk result (λ b. IsReady b) }
         ensures err { IfErr result (λ e. e ≡ Memory) }
     {
@@ -48,6 +49,7 @@ impl<'a> OpenStore<'a> {
         Ok(OpenStore {
             world,
             names: Names::new(alloc),
+            is_past_par: false,
             workers: config.workers,
             classes: config.classes.as_slice().len() as u32,
             capacity: config.capacity,
@@ -67,6 +69,22 @@ impl<'a> OpenStore<'a> {
             Ok(answer) => Ok(answer),
             Err(Refused::OutOfMemory) => Err(LineError::Memory),
             Err(Refused::NotEnabled) => unreachable!(),
+        }
+    }
+
+    /// Makes a command of a worker, which is allowed unless the worker is closed, and says what it answered.
+    fn command_by(&mut self, worker: u32, command: Command) -> Result<Option<Answer>, LineError>
+        requires ready { IsReady self.old }
+        requires allowed { is_allowed self.old.world command ≡ is_open self.old.world worker }
+        ensures answer { IfOk result (λ a. a ≡ answer_by self.old.world worker command) }
+        ensures err { IfErr result (λ e. e ≡ Memory) }
+        ensures after { OnOk result (self.new ≡ record self.old { world = state_by self.old.world worker command }) }
+        ensures ready { OnOk result (IsReady self.new) }
+    {
+        match self.world.command(command) {
+            Ok(answer) => Ok(Some(answer)),
+            Err(Refused::OutOfMemory) => Err(LineError::Memory),
+            Err(Refused::NotEnabled) => Ok(None),
         }
     }
 
@@ -106,7 +124,7 @@ impl<'a> OpenStore<'a> {
         out: &mut Vec<u8>,
     ) -> Result<(), LineError>
         requires ready { IsReady self.old }
-        requires worker { worker < self.old.workers }
+        requires worker { is_open self.old.world worker ≡ true }
         requires hold { is_held self.old.world id ≡ true }
         requires empty { out.old.items ≡ [] }
         ensures said { Does (Open (store_of self.new)) out.new.items result (Ok (get_held (store_of self.old) now worker name.now id)) }
@@ -139,13 +157,29 @@ impl<'a> OpenStore<'a> {
         let Some(id) = self.names.get(name) else {
             return Err(LineError::Fault(Fault::Unbound));
         };
-        match self.command(Command::Take { worker, id })? {
-            Answer::Held => self.hit(now, worker, name, id, out),
+        match self.command_by(worker, Command::Take { worker, id })? {
+            Some(Answer::Held) => self.hit(now, worker, name, id, out),
             other => {
                 put_get(out, worker, name, other)?;
                 Ok(())
             }
         }
+    }
+
+    /// Ends the item that the name is bound to.
+    #[tactic(auto, unfolding(crate::specs::OpenStore::del_said))]
+    fn del(&mut self, name: &'a [u8], out: &mut Vec<u8>) -> Result<(), LineError>
+        requires ready { IsReady self.old }
+        requires empty { out.old.items ≡ [] }
+        ensures said { Does (Open (store_of self.new)) out.new.items result (del_said (store_of self.old) name.entry.now) }
+        ensures ready { OnOk result (IsReady self.new) }
+    {
+        let Some(id) = self.names.get(name) else {
+            return Err(LineError::Fault(Fault::Unbound));
+        };
+        let answer = self.command(Command::Unlink { id })?;
+        put_del(out, name, answer)?;
+        Ok(())
     }
 
     /// Looks at the last item of a list, and moves it by the tail table.
@@ -161,6 +195,22 @@ impl<'a> OpenStore<'a> {
         }
         let answer = self.command(Command::Pull { class, tail })?;
         put_pull(out, class, tail, answer)?;
+        Ok(())
+    }
+
+    /// Frees the ended items of a class that nobody holds any more.
+    #[tactic(auto, unfolding(crate::specs::OpenStore::sweep_said))]
+    fn sweep(&mut self, class: u32, out: &mut Vec<u8>) -> Result<(), LineError>
+        requires ready { IsReady self.old }
+        requires empty { out.old.items ≡ [] }
+        ensures said { Does (Open (store_of self.new)) out.new.items result (sweep_said (store_of self.old) class) }
+        ensures ready { OnOk result (IsReady self.new) }
+    {
+        if class >= self.classes {
+            return Err(LineError::Fault(Fault::Class));
+        }
+        let answer = self.command(Command::Sweep { class })?;
+        put_sweep(out, class, answer)?;
         Ok(())
     }
 
@@ -196,6 +246,36 @@ impl<'a> OpenStore<'a> {
             count += self.drain_worker(now, worker, out)?;
         }
         put_drain(out, count)?;
+        Ok(())
+    }
+
+    /// The last line of a worker that is closed.
+    #[tactic(auto, unfolding(crate::specs::Text::close_line))]
+    fn put_settled(&self, out: &mut Vec<u8>, worker: u32) -> Result<(), AllocError>
+        requires { worker < length self.now.world.workers }
+        ensures { OnOk result (out.new.items ≡ out.old.items ++ close_line self.now.world worker) }
+    {
+        let applied = self.world.applied(worker).len() as u64;
+        put_close(out, worker, self.world.accounts(worker), applied)
+    }
+
+    /// Closes a worker's ring, and applies the bumps in it.
+    #[tactic(auto, unfolding(crate::specs::OpenStore::close_said))]
+    fn close(&mut self, now: u64, worker: u32, out: &mut Vec<u8>) -> Result<(), LineError>
+        requires ready { IsReady self.old }
+        requires empty { out.old.items ≡ [] }
+        ensures said { Does (Open (store_of self.new)) out.new.items result (close_said (store_of self.old) now worker) }
+        ensures ready { OnOk result (IsReady self.new) }
+    {
+        if worker >= self.workers {
+            return Err(LineError::Fault(Fault::Worker));
+        }
+        if self.command_by(worker, Command::Close { worker })?.is_none() {
+            put_closed(out, worker)?;
+            return Ok(());
+        }
+        let _ = self.drain_worker(now, worker, out)?;
+        self.put_settled(out, worker)?;
         Ok(())
     }
 
@@ -285,7 +365,7 @@ impl<'a> OpenStore<'a> {
     }
 
     /// Does what a line says.
-    #[tactic(auto, unfolding(crate::specs::OpenStore::instruction_said))]
+    #[tactic(auto, unfolding(crate::specs::OpenStore::instruction_said, crate::specs::OpenStore::par_said))]
     pub fn run(
         &mut self,
         now: u64,
@@ -297,12 +377,22 @@ impl<'a> OpenStore<'a> {
         ensures said { Does (Open (store_of self.new)) out.new.items result (instruction_said (store_of self.old) now (seen_instruction instruction.entry)) }
         ensures ready { OnOk result (IsReady self.new) }
     {
+        if self.is_past_par && !instruction.may_follow_par() {
+            return Err(LineError::Fault(Fault::Order));
+        }
         match instruction {
             Instruction::Set { name, class, label } => self.set(now, name, class, label, out),
             Instruction::Get { worker, name } => self.get(now, worker, name, out),
+            Instruction::Del { name } => self.del(name, out),
             Instruction::Pull { class, tail } => self.pull(class, tail, out),
+            Instruction::Sweep { class } => self.sweep(class, out),
             Instruction::Drain => self.drain(now, out),
+            Instruction::Close { worker } => self.close(now, worker, out),
             Instruction::Show => self.show(out),
+            Instruction::Par => {
+                self.is_past_par = true;
+                Ok(())
+            }
         }
     }
 }

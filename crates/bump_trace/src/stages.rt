@@ -46,18 +46,13 @@ fn fault_of(fault: ConfigFault) -> Fault
     }
 }
 
-/// The configuration that the lines `store` and `class` say. For now more than one worker or class is refused here, each at
-/// its place among the faults, and nowhere else.
+/// The configuration that the lines `store` and `class` say.
 fn config(shape: Shape, classes: Vec<ClassConfig>) -> Result<Config, Fault>
     ensures fault { result_err result ≡ config_fault shape classes.items }
     ensures counts { IfOk result (λ c. (c.workers ≡ shape.workers) × (c.capacity ≡ shape.capacity)) }
     ensures limits { IfOk result (λ c. (c.refs_limit ≡ shape.refs_limit) × (c.first_generation ≡ shape.first_generation)) }
     ensures classes { IfOk result (λ c. c.classes ≡ classes.items) }
 {
-    let has_more_classes = classes.len() > 1;
-    if shape.workers > 1 {
-        return Err(Fault::Workers);
-    }
     match Config::new(
         shape.workers,
         shape.capacity,
@@ -65,7 +60,6 @@ fn config(shape: Shape, classes: Vec<ClassConfig>) -> Result<Config, Fault>
         shape.first_generation,
         classes,
     ) {
-        Ok(_) | Err(ConfigFault::Chunks) if has_more_classes => Err(Fault::Classes),
         Ok(config) => Ok(config),
         Err(fault) => Err(fault_of(fault)),
     }

@@ -1,8 +1,8 @@
 //! The printed text: one function for each kind of line and for what stands in it. Each puts its text behind what is
 //! there.
 
-ghost use Rattle.std.specs.Prelude.{◌≡◌, ◌++◌, OnOk, decimal};
-ghost use Rattle.bump_trace.specs.Text.{id_text, flags_text, item_text, chunk_text, place_word, list_start, accounts_text, accounts_line, touch_text, pulled_text, applied_text, entry_text, answer_text, set_line, get_start, get_line, get_held_line, pull_line, bump_line, drain_line, fault_line};
+ghost use Rattle.std.specs.Prelude.{◌≡◌, ◌++◌, OnOk, codes, decimal};
+ghost use Rattle.bump_trace.specs.Text.{id_text, flags_text, item_text, chunk_text, place_word, list_start, accounts_text, accounts_line, touch_text, pulled_text, applied_text, entry_text, answer_text, told, set_line, get_start, get_line, get_held_line, del_line, pull_line, sweep_line, bump_line, drain_line, close_start, closed_line, fault_line};
 ghost use Rattle.bump_trace.specs.Fields.{tail_word};
 
 use crate::faults::Fault;
@@ -232,6 +232,16 @@ fn put_answer(out: &mut Vec<u8>, answer: Answer) -> Result<(), AllocError>
     }
 }
 
+/// What a worker's command answered, or that the worker is closed.
+fn put_told(out: &mut Vec<u8>, answer: Option<Answer>) -> Result<(), AllocError>
+    ensures { OnOk result (out.new.items ≡ out.old.items ++ told answer) }
+{
+    match answer {
+        Some(answer) => put_answer(out, answer),
+        None => out.extend_from_slice(b"closed"),
+    }
+}
+
 /// The line of a `set`.
 pub fn put_set(out: &mut Vec<u8>, name: &[u8], answer: Answer) -> Result<(), AllocError>
     ensures { OnOk result (out.new.items ≡ out.old.items ++ set_line name.now answer) }
@@ -259,12 +269,12 @@ pub fn put_get(
     out: &mut Vec<u8>,
     worker: u32,
     name: &[u8],
-    answer: Answer,
+    answer: Option<Answer>,
 ) -> Result<(), AllocError>
     ensures { OnOk result (out.new.items ≡ out.old.items ++ get_line worker name.now answer) }
 {
     put_get_start(out, worker, name)?;
-    put_answer(out, answer)?;
+    put_told(out, answer)?;
     out.extend_from_slice(b"\n")
 }
 
@@ -282,6 +292,28 @@ pub fn put_get_held(
     put_answer(out, label)?;
     out.extend_from_slice(b" ")?;
     put_answer(out, hit)?;
+    out.extend_from_slice(b"\n")
+}
+
+/// The line of a `del`.
+pub fn put_del(out: &mut Vec<u8>, name: &[u8], answer: Answer) -> Result<(), AllocError>
+    ensures { OnOk result (out.new.items ≡ out.old.items ++ del_line name.now answer) }
+{
+    out.extend_from_slice(b"del ")?;
+    out.extend_from_slice(name)?;
+    out.extend_from_slice(b" ")?;
+    put_answer(out, answer)?;
+    out.extend_from_slice(b"\n")
+}
+
+/// The line of a `sweep`.
+pub fn put_sweep(out: &mut Vec<u8>, class: u32, answer: Answer) -> Result<(), AllocError>
+    ensures { OnOk result (out.new.items ≡ out.old.items ++ sweep_line class answer) }
+{
+    out.extend_from_slice(b"sweep ")?;
+    put_number(out, u64::from(class))?;
+    out.extend_from_slice(b" ")?;
+    put_answer(out, answer)?;
     out.extend_from_slice(b"\n")
 }
 
@@ -315,6 +347,38 @@ pub fn put_drain(out: &mut Vec<u8>, count: u64) -> Result<(), AllocError>
 {
     out.extend_from_slice(b"drain ")?;
     put_number(out, count)?;
+    out.extend_from_slice(b"\n")
+}
+
+/// The first words of the line of a `close`.
+fn put_close_start(out: &mut Vec<u8>, worker: u32) -> Result<(), AllocError>
+    ensures { OnOk result (out.new.items ≡ out.old.items ++ close_start worker) }
+{
+    out.extend_from_slice(b"close ")?;
+    put_number(out, u64::from(worker))?;
+    out.extend_from_slice(b" ")
+}
+
+/// The last line of a `close`, with what the worker and its lane counted.
+pub fn put_close(
+    out: &mut Vec<u8>,
+    worker: u32,
+    accounts: Accounts,
+    applied: u64,
+) -> Result<(), AllocError>
+    ensures { OnOk result (out.new.items ≡ out.old.items ++ close_start worker ++ accounts_text accounts applied ++ codes "\n") }
+{
+    put_close_start(out, worker)?;
+    put_accounts(out, accounts, applied)?;
+    out.extend_from_slice(b"\n")
+}
+
+/// The line of a `close` of a worker that was closed before.
+pub fn put_closed(out: &mut Vec<u8>, worker: u32) -> Result<(), AllocError>
+    ensures { OnOk result (out.new.items ≡ out.old.items ++ closed_line worker) }
+{
+    put_close_start(out, worker)?;
+    put_told(out, None)?;
     out.extend_from_slice(b"\n")
 }
 

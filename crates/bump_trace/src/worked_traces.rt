@@ -54,6 +54,46 @@ pub fn middle_of_three()
     ensures { verdict_of (codes "store 1 4 4 1\nclass 3 0 5\nset a 0 1\nset b 0 2\nset c 0 3\npull 0 hot\npull 0 hot\npull 0 hot\nget 0 b\nget 0 b\ndrain\nshow\n") ≡ record { text = codes "set a 0.1\nset b 1.1\nset c 2.1\npull 0 hot cold 0.1\npull 0 hot cold 1.1\npull 0 hot cold 2.1\nget 0 b 2 first\nget 0 b 2 queued 0\nbump 0 0 1.1 warm\ndrain 1\nclass 0 hot 0\nclass 0 warm 1 1.1:1:f:11\nclass 0 cold 2 2.1:1:-:5 0.1:1:-:3\nclass 0 dying 0\nclass 0 unused 0\nclass 0 retired 0\nworker 0 attempted 1 accepted 1 full 0 busy 0 refs 0 applied 1\n"; is_fault = false } }
 {}
 
+/// Only the ring held the item that was ended: its bump frees the chunk.
+pub fn gone_before_the_bump()
+    ensures { verdict_of (codes "store 1 4 4 1\nclass 2 0 5\nset a 0 7\npull 0 hot\nget 0 a\nget 0 a\ndel a\ndrain\nshow\n") ≡ record { text = codes "set a 0.1\npull 0 hot cold 0.1\nget 0 a 7 first\nget 0 a 7 queued 0\ndel a deferred\nbump 0 0 0.1 gone freed\ndrain 1\nclass 0 hot 0\nclass 0 warm 0\nclass 0 cold 0\nclass 0 dying 0\nclass 0 unused 2 0 1\nclass 0 retired 0\nworker 0 attempted 1 accepted 1 full 0 busy 0 refs 0 applied 1\n"; is_fault = false } }
+{}
+
+/// Two workers queue a bump of one item: the second bump finds it in WARM.
+pub fn second_bump_of_a_life()
+    ensures { verdict_of (codes "store 2 4 8 1\nclass 2 0 0\nset a 0 7\npull 0 hot\nget 0 a\nget 0 a\npull 0 cold\npull 0 warm\nget 1 a\ndrain\nshow\n") ≡ record { text = codes "set a 0.1\npull 0 hot cold 0.1\nget 0 a 7 first\nget 0 a 7 queued 0\npull 0 cold warm 0.1\npull 0 warm cold 0.1\nget 1 a 7 queued 0\nbump 0 0 0.1 warm\nbump 1 0 0.1 time\ndrain 2\nclass 0 hot 0\nclass 0 warm 1 0.1:1:f:10\nclass 0 cold 0\nclass 0 dying 0\nclass 0 unused 1 1\nclass 0 retired 0\nworker 0 attempted 1 accepted 1 full 0 busy 0 refs 0 applied 1\nworker 1 attempted 1 accepted 1 full 0 busy 0 refs 0 applied 1\n"; is_fault = false } }
+{}
+
+/// After the last generation the chunk is retired.
+pub fn retired_chunk()
+    ensures { verdict_of (codes "store 1 4 4 4294967295\nclass 1 5 5\nset a 0 7\ndel a\nset b 0 8\nshow\n") ≡ record { text = codes "set a 0.4294967295\ndel a freed\nset b full\nclass 0 hot 0\nclass 0 warm 0\nclass 0 cold 0\nclass 0 dying 0\nclass 0 unused 0\nclass 0 retired 1 0\nworker 0 attempted 0 accepted 0 full 0 busy 0 refs 0 applied 0\n"; is_fault = false } }
+{}
+
+/// An evict ends the last item of COLD, where there is one.
+pub fn evicted()
+    ensures { verdict_of (codes "store 1 4 4 1\nclass 2 0 5\npull 0 evict\nset a 0 7\npull 0 hot\npull 0 evict\n") ≡ record { text = codes "pull 0 evict empty\nset a 0.1\npull 0 hot cold 0.1\npull 0 evict freed 0.1\n"; is_fault = false } }
+{}
+
+/// ACTIVE keeps an item in WARM once more.
+pub fn again_in_warm()
+    ensures { verdict_of (codes "store 1 4 4 1\nclass 2 0 1\nset a 0 7\nget 0 a\nget 0 a\npull 0 hot\nget 0 a\npull 0 warm\npull 0 warm\nsweep 0\nshow\n") ≡ record { text = codes "set a 0.1\nget 0 a 7 first\nget 0 a 7 marked\npull 0 hot warm 0.1\nget 0 a 7 marked\npull 0 warm again 0.1\npull 0 warm stay 0.1\nsweep 0 0\nclass 0 hot 0\nclass 0 warm 1 0.1:1:f:7\nclass 0 cold 0\nclass 0 dying 0\nclass 0 unused 1 1\nclass 0 retired 0\nworker 0 attempted 0 accepted 0 full 0 busy 0 refs 0 applied 0\n"; is_fault = false } }
+{}
+
+/// The second class has the chunks behind those of the first.
+pub fn two_classes()
+    ensures { verdict_of (codes "store 1 4 4 1\nclass 1 5 5\nclass 2 5 5\nset a 1 7\nshow\n") ≡ record { text = codes "set a 1.1\nclass 0 hot 0\nclass 0 warm 0\nclass 0 cold 0\nclass 0 dying 0\nclass 0 unused 1 0\nclass 0 retired 0\nclass 1 hot 1 1.1:1:-:4\nclass 1 warm 0\nclass 1 cold 0\nclass 1 dying 0\nclass 1 unused 1 2\nclass 1 retired 0\nworker 0 attempted 0 accepted 0 full 0 busy 0 refs 0 applied 0\n"; is_fault = false } }
+{}
+
+/// A worker that closes has its bumps applied, and takes no more.
+pub fn closed_worker()
+    ensures { verdict_of (codes "store 1 4 8 1\nclass 2 0 5\nset a 0 7\nset b 0 8\npull 0 hot\npull 0 hot\nget 0 a\nget 0 a\nget 0 b\nget 0 b\nclose 0\nget 0 a\nclose 0\n") ≡ record { text = codes "set a 0.1\nset b 1.1\npull 0 hot cold 0.1\npull 0 hot cold 1.1\nget 0 a 7 first\nget 0 a 7 queued 0\nget 0 b 8 first\nget 0 b 8 queued 1\nbump 0 0 0.1 warm\nbump 0 1 1.1 warm\nclose 0 attempted 2 accepted 2 full 0 busy 0 refs 0 applied 2\nget 0 a closed\nclose 0 closed\n"; is_fault = false } }
+{}
+
+/// Behind `par` stands no `show`.
+pub fn show_after_par()
+    ensures { verdict_of (codes "store 1 4 4 1\nclass 2 5 5\nset a 0 7\npar\nget 0 a\nshow\n") ≡ record { text = codes "set a 0.1\nget 0 a 7 first\nline 6: ORDER\n"; is_fault = true } }
+{}
+
 /// An input without lines.
 pub fn no_input()
     ensures { verdict_of (codes "") ≡ record { text = codes "line 1: ORDER\n"; is_fault = true } }

@@ -24,7 +24,7 @@ use Rattle.bump_rules.proofs.PlainLists.{times_same}
 use Rattle.bump_rules.specs.Tables.{is_unheld, ended_of}
 use Rattle.bump_core.specs.State.{State, chunk, head, class, no_chunk, no_class, is_class, with_head, with_change, with_changes, class_with_change, class_of, is_linked, is_under_application}
 use Rattle.bump_core.specs.Worlds.{IsLawful, owns, place, place_in}
-use Rattle.bump_core.specs.Events.{is_enabled, after, unlink, sweep, close}
+use Rattle.bump_core.specs.Events.{is_enabled, after, unlink, close}
 use Rattle.bump_core.specs.Runs.{run_of}
 use Rattle.bump_core.specs.Commands.{is_allowed, events_of, command_after, end_of, freed_by, end_life, look_of, end_events, unheld, swept_changes, looks_at, swept_of}
 use Rattle.bump_rules.proofs.SixLists.{times_front}

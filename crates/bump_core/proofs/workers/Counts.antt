@@ -3,6 +3,7 @@ use Rattle.std.proofs.Common.{◌≡◌, ℕ, zero, suc, ◌+◌, ◌<◌, ◌�
 use Rattle.std.specs.Prelude.{replicate, not, is_some}
 use Rattle.std.specs.List.{list_any}
 use Rattle.std.proofs.lemmas.Bool.{or_from}
+use Rattle.std.proofs.lemmas.List.{length-set}
 use Rattle.bump_rules.specs.declared.hands.Hand.{Hand}
 use Rattle.bump_rules.specs.declared.hands.Hand.TheVariants as hand
 use Rattle.bump_rules.specs.declared.lanes.Lane.{Lane}
@@ -27,23 +28,19 @@ at_most_all : {A : Type 0} (test : A → Bool) (xs : List A) → how_many test x
 at_most_all test [] = omega arith
 at_most_all test (x ∷ xs) = omega (arith, bit_most (test x), at_most_all test xs)
 
--- a write keeps the length
-length_written : {A : Type 0} (xs : List A) (i : ℕ) (x : A) → length (set xs i x) ≡ length xs
-length_written [] i x = refl
-length_written (y ∷ ys) zero x = refl
-length_written (y ∷ ys) (suc i) x = ap suc (length_written ys i x)
-
 -- where an element fails a test, fewer than all pass it
 all_but_one : {A : Type 0} (test : A → Bool) (xs : List A) (i : ℕ) (a : A) → i < length xs → how_many test xs + 1 ≤ length xs + bit (test (get_or xs i a))
 all_but_one test [] i a within = absurd (omega arith)
 all_but_one test (x ∷ xs) zero a within = omega (arith, at_most_all test xs)
 all_but_one test (x ∷ xs) (suc i) a within = omega (arith, bit_most (test x), all_but_one test xs i a (omega arith))
 
--- what a worker was is counted, and there is room to count it anew
+-- a worker in a list whose count is n: `was` says whether it passes
 module _ (test : Worker → Bool) (xs : List Worker) (i : ℕ) (a : Worker) (within : i < length xs) (is : a ≡ get_or xs i a) (n : ℕ) (counted : n ≡ how_many test xs) (few : length xs < 2 ^ 32) (was : Bool) (was_so : was ≡ test a) where
+  -- what it was is counted
   pub counted_in : bit was ≤ n
   counted_in = omega (arith, counted, ap bit was_so, term_within (λ v. bit (test v)) xs i a within, ap (λ v. bit (test v)) is)
 
+  -- there is room to count it anew
   pub counted_few : (now : Bool) → n + bit now < 2 ^ 32 + bit was
   counted_few now = omega (arith, counted, few, ap bit was_so, bit_most now, all_but_one test xs i a within, ap (λ v. bit (test v)) is)
 
@@ -55,15 +52,17 @@ module _ (test : Worker → Bool) (xs : List Worker) (i : ℕ) (a : Worker) (wit
 module _ (xs : List Worker) (i : ℕ) (a x : Worker) (within : i < length xs) (is : a ≡ get_or xs i a) (n m : ℕ) (o : AreCounted n m xs) where
   -- the length stays, and so it stays few
   still_few : length (set xs i x) < 2 ^ 32
-  still_few = omega (arith, o.few, length_written xs i x)
+  still_few = omega (arith, o.few, length-set xs i x)
 
+  -- a hand that is under way as before leaves the count
   busy_still : is_busy x ≡ is_busy a → n ≡ how_many is_busy (set xs i x)
   busy_still same = counted_anew is_busy xs i a within is n o.busy o.few (is_busy x) same x n (is_busy x) refl refl
 
+  -- and so does a lane
   applying_still : is_applying x ≡ is_applying a → m ≡ how_many is_applying (set xs i x)
   applying_still same = counted_anew is_applying xs i a within is m o.applying o.few (is_applying x) same x m (is_applying x) refl refl
 
-  -- a worker that is under way as before leaves the counts
+  -- a worker that is under way as before leaves both counts
   pub both_still : is_busy x ≡ is_busy a → is_applying x ≡ is_applying a → AreCounted n m (set xs i x)
   both_still hand lane = record { busy = busy_still hand; applying = applying_still lane; few = still_few }
 

@@ -163,7 +163,7 @@ pub(super) const WORKED: [(&str, &str, bool); 34] = [
 ];
 
 /// A trace with a fault, and its text.
-pub(super) const FAULTS: [(&str, &str); 42] = [
+pub(super) const FAULTS: [(&str, &str); 39] = [
     ("store 1 4 4\n", "line 1: COUNT\n"),
     ("store 1 4 4 1 1\n", "line 1: COUNT\n"),
     ("store 1 4 4 1\nclass 2 5\n", "line 2: COUNT\n"),
@@ -222,10 +222,6 @@ pub(super) const FAULTS: [(&str, &str); 42] = [
         "line 3: NUMBER\n",
     ),
     (
-        "store 1 4 4 1\nclass 2 5 5\npull 0 evict\n",
-        "line 3: SEGMENT\n",
-    ),
-    (
         "store 1 4 4 1\nclass 2 5 5\npull 1 hot\n",
         "line 3: CLASS\n",
     ),
@@ -237,12 +233,7 @@ pub(super) const FAULTS: [(&str, &str); 42] = [
     ("show\n", "line 1: ORDER\n"),
     ("store 1 4 4 1\nclass 2 5 5\ndrop h\n", "line 3: COMMAND\n"),
     ("\n", "line 2: ORDER\n"),
-    ("store 2 4 4 1\nclass 2 5 5\nshow\n", "line 3: WORKERS\n"),
     ("store 1 4 1 1\nclass 2 5 5\nshow\n", "line 3: REFS\n"),
     ("store 1 4 4 0\nclass 2 5 5\nshow\n", "line 3: GENERATION\n"),
-    (
-        "store 1 4 4 1\nclass 2 5 5\nclass 0 5 5\nshow\n",
-        "line 4: CLASSES\n",
-    ),
     ("store 1 4 4 1\nclass 0 5 5\nshow\n", "line 3: CHUNKS\n"),
 ];

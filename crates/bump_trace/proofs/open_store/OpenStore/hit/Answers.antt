@@ -1,6 +1,5 @@
-use Rattle.std.proofs.Common.{◌≡◌, ap, sym, subst, true, arith}
-use Rattle.std.proofs.lemmas.Bool.{lt-ltb}
-use Rattle.bump_core.specs.State.{State, is_held}
+use Rattle.std.proofs.Common.{◌≡◌, ◌∙◌, ap, sym, subst, true}
+use Rattle.bump_core.specs.State.{State, is_held, is_open}
 use Rattle.bump_trace.specs.declared.open_store.OpenStore.{OpenStore}
 use Rattle.bump_trace.proofs.CommandsAtRest.{touch_allowed, release_allowed, held_after_touch}
 use Rattle.bump_trace.proofs.open_store.OpenStore.hit.Goals as goal
@@ -10,9 +9,9 @@ command-requires-2-clause-allowed c =
     let label = c.in_ok-label.ensures in
     let s = c.command.new.self.world in
     let same = ap (λ (b : OpenStore). b.world) label.after in
-    let count = ap (λ (b : OpenStore). b.workers) label.after in
     let held : is_held s c.args.id ≡ true = subst (λ (t : State). is_held t c.args.id ≡ true) (sym same) c.requires.hold in
-    touch_allowed s c.args.worker c.args.id c.args.now label.ready.rest (lt-ltb _ _ (omega (arith, label.ready.workers, count, c.requires.worker))) held
+    let opened : is_open s c.args.worker ≡ true = subst (λ (t : State). is_open t c.args.worker ≡ true) (sym same) c.requires.worker in
+    touch_allowed s c.args.worker c.args.id c.args.now label.ready.rest held ∙ opened
 
 pub command-requires-3-clause-allowed : goal.command-requires-3-clause-allowed
 command-requires-3-clause-allowed c =

@@ -13,5 +13,5 @@ returns-clause-ready c =
       workers = length-replicate config.workers new_worker;
       classes = classes_long (config.first_generation - 1) 0 config.classes;
       capacity = refl;
-      rest = All-replicate IsResting config.workers new_worker (record { open_ring = refl; idle = refl; empty = refl });
+      rest = All-replicate IsResting config.workers new_worker (record { idle = refl; empty = refl });
     })

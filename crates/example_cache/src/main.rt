@@ -1,0 +1,124 @@
+//! A cache of named items over a World: an example to be copied.
+#![tactic(auto)]
+
+pub mod cache;
+mod report;
+
+use anyhow::Result;
+use bump_core::{ClassConfig, Config, Tail};
+use cache::Cache;
+use report::print_world;
+
+/// Drains every worker that has bumps waiting.
+fn drain_all(rt: &impl Print, cache: &mut Cache, now: u64) -> Result<()> {
+    for worker in 0..cache.world().workers() {
+        if cache.waiting(worker) > 0 {
+            let count = cache.drain(worker, now)?;
+            println!(rt; "drain: {count} of worker {worker}")?;
+        }
+    }
+    Ok(())
+}
+
+/// Stores an item under a name, and says what came of it.
+fn store(
+    rt: &(impl Print + AllocGlobal),
+    cache: &mut Cache,
+    name: &str,
+    label: u64,
+    now: u64,
+) -> Result<()> {
+    match cache.put(String::from_str(rt.alloc(), name)?, label, now) {
+        Ok(id) => println!(rt; "put {name}: {id:?}")?,
+        Err(why) => println!(rt; "put {name}: {why}")?,
+    }
+    Ok(())
+}
+
+/// Takes a hold of a name's item, says what came of it, and gives the hold back.
+fn look_up(rt: &impl Print, cache: &mut Cache, name: &str) -> Result<()> {
+    match cache.get(1, name) {
+        Ok(id) => {
+            cache.release(id)?;
+            println!(rt; "get {name}: {id:?}")?
+        }
+        Err(why) => println!(rt; "get {name}: {why}")?,
+    }
+    Ok(())
+}
+
+/// Where no chunk is free, ageing makes room: the last item of HOT goes to COLD, and there it is evicted.
+fn make_room(rt: &(impl Print + AllocGlobal), cache: &mut Cache) -> Result<()> {
+    store(rt, cache, "fig", 300, 6)?;
+    store(rt, cache, "plum", 400, 7)?;
+    for tail in [Tail::Hot, Tail::Evict] {
+        let pulled = cache.age(tail)?;
+        println!(rt; "age: {pulled:?}")?;
+    }
+    store(rt, cache, "plum", 400, 8)?;
+
+    // The name still has the item that was evicted. Where it is removed, another may have it.
+    look_up(rt, cache, "pear")?;
+    store(rt, cache, "pear", 200, 9)?;
+    let removed = cache.remove("pear")?;
+    println!(rt; "remove pear: {removed:?}")?;
+    look_up(rt, cache, "pear")
+}
+
+/// An item that is ended while somebody holds it: it can be read on, and its chunk is free only after that.
+fn end_held(rt: &impl Print, cache: &mut Cache) -> Result<()> {
+    let fig = cache.get(1, "fig")?;
+    let removed = cache.remove("fig")?;
+    println!(rt; "remove fig: {removed:?}")?;
+    look_up(rt, cache, "fig")?;
+    let label = cache.label(fig)?;
+    let early = cache.sweep()?;
+    cache.release(fig)?;
+    let late = cache.sweep()?;
+    println!(rt; "fig: label {label}, swept {early} while held and {late} then")?;
+    Ok(())
+}
+
+fn run(rt: &(impl Print + AllocGlobal)) -> Result<()> {
+    let class = ClassConfig {
+        chunks: 3,
+        hot: 1,
+        warm: 1,
+    };
+    let config = Config::new(2, 4, 8, 1, vec![in rt.alloc(); class]?)?;
+    let mut cache = Cache::new(rt.alloc(), &config)?;
+
+    // To the World an item is a label: here the place of its value, which the caller keeps.
+    let apple = cache.put(String::from_str(rt.alloc(), "apple")?, 100, 1)?;
+    let _ = cache.put(String::from_str(rt.alloc(), "pear")?, 200, 2)?;
+    println!(rt; "put apple: {apple:?}")?;
+
+    // HOT has two items and its limit is one: the oldest goes to COLD.
+    let pulled = cache.age(Tail::Hot)?;
+    println!(rt; "age: {pulled:?}")?;
+
+    // The first hit leaves a mark, the second one in COLD queues a bump.
+    for now in 3..5 {
+        let id = cache.get(0, "apple")?;
+        let label = cache.label(id)?;
+        let hit = cache.hit_held(0, id, now)?;
+        cache.release(id)?;
+        println!(rt; "get apple: label {label}, {hit:?}")?;
+    }
+    drain_all(rt, &mut cache, 5)?;
+
+    // A hold is a reference until it is given back.
+    let pear = cache.get(1, "pear")?;
+    print_world(rt, cache.world())?;
+    cache.release(pear)?;
+
+    look_up(rt, &mut cache, "fig")?;
+    make_room(rt, &mut cache)?;
+    end_held(rt, &mut cache)?;
+    print_world(rt, cache.world())?;
+    Ok(())
+}
+
+fn main(rt: HostRuntime) -> Result<()> {
+    run(&rt)
+}
