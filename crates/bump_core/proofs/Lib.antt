@@ -1,6 +1,7 @@
 pub mod Bounds
 pub mod Counted
 pub mod Endings
+pub mod Held
 pub mod Laws
 pub mod NewClasses
 pub mod Replay
