@@ -5,5 +5,7 @@ pub mod AscendingLoops
 pub mod CutLines
 pub mod Draining
 pub mod SameButWorld
+pub mod HoldsOfItems
+pub mod HeldNames
 pub mod GatheredText
 pub mod WorkedTraces

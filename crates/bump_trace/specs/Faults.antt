@@ -24,6 +24,7 @@ fault_word fault.Chunks = codes "CHUNKS"
 fault_word fault.Worker = codes "WORKER"
 fault_word fault.Class = codes "CLASS"
 fault_word fault.Unbound = codes "UNBOUND"
+fault_word fault.Held = codes "HELD"
 
 -- the fault of a trace whose configuration has a fault
 abbrev pub fault_of_config : ConfigFault → Fault

@@ -13,6 +13,10 @@ use Rattle.bump_trace.specs.declared.lines.Declaration.TheVariants.{Store, Class
 pub data Instruction : Type 0 where
   Set : List ℕ → ℕ → ℕ → Instruction
   Get : ℕ → List ℕ → Instruction
+  Hold : ℕ → List ℕ → List ℕ → Instruction
+  Hit : ℕ → List ℕ → Instruction
+  Read : List ℕ → Instruction
+  Drop : List ℕ → Instruction
   Del : List ℕ → Instruction
   Pull : ℕ → Tail → Instruction
   Sweep : ℕ → Instruction
@@ -58,6 +62,10 @@ table =
     ∷ row (codes "class") (U32 ∷ U32 ∷ U32 ∷ []) (λ chunks hot warm. Declares (Class (record { chunks = chunks; hot = hot; warm = warm })))
     ∷ row (codes "set") (Name ∷ U32 ∷ U64 ∷ []) (λ name class label. Makes (Set name class label))
     ∷ row (codes "get") (U32 ∷ Name ∷ []) (λ worker name. Makes (Get worker name))
+    ∷ row (codes "hold") (U32 ∷ Name ∷ Name ∷ []) (λ worker name hold. Makes (Hold worker name hold))
+    ∷ row (codes "hit") (U32 ∷ Name ∷ []) (λ worker hold. Makes (Hit worker hold))
+    ∷ row (codes "read") (Name ∷ []) (λ hold. Makes (Read hold))
+    ∷ row (codes "drop") (Name ∷ []) (λ hold. Makes (Drop hold))
     ∷ row (codes "del") (Name ∷ []) (λ name. Makes (Del name))
     ∷ row (codes "pull") (U32 ∷ Segment ∷ []) (λ class segment. Makes (Pull class segment))
     ∷ row (codes "sweep") (U32 ∷ []) (λ class. Makes (Sweep class))

@@ -10,10 +10,10 @@ use Rattle.bump_rules.specs.declared.places.Tail.{Tail}
 use Rattle.bump_core.specs.Commands.{answer_of, command_after}
 use Rattle.bump_rules.specs.Lists.{ascending}
 use Rattle.bump_core.specs.State.{State, is_class, is_worker, is_open}
-use Rattle.bump_trace.specs.Lines.{Instruction, Set, Get, Del, Pull, Sweep, Drain, Close, Show, Par, may_follow_par}
-use Rattle.bump_trace.specs.Names.{Names, bind}
+use Rattle.bump_trace.specs.Lines.{Instruction, Set, Get, Hold, Hit, Read, Drop, Del, Pull, Sweep, Drain, Close, Show, Par, may_follow_par}
+use Rattle.bump_trace.specs.Names.{Names, bind, unbind}
 use Rattle.bump_trace.specs.Stages.{StoreState, Open, Said, say}
-use Rattle.bump_trace.specs.Text.{set_line, get_line, get_held_line, del_line, pull_line, sweep_line, bump_line, drain_line, close_line, closed_line, show_text}
+use Rattle.bump_trace.specs.Text.{set_line, get_line, get_held_line, hold_line, hit_line, read_line, drop_line, del_line, pull_line, sweep_line, bump_line, drain_line, close_line, closed_line, show_text}
 use Rattle.bump_trace.specs.declared.faults.Fault.{Fault}
 use Rattle.bump_trace.specs.declared.faults.Fault.TheVariants as fault
 
@@ -69,6 +69,54 @@ get_bound b now w name (Some id) = let c = command.Take w id in Ok (get_by (with
 -- where there is such a worker
 unfoldable pub get_said : StoreState → ℕ → ℕ → List ℕ → Result Said Fault
 get_said b now w name = if is_worker b.state w then get_bound b now w name (b.names name) else Err fault.Worker
+
+-- hold W NAME H: a hold is taken of the item and kept, and the hold name is bound to it; after any other answer nothing is.
+abbrev pub holds_after : Option Answer → List ℕ → ItemId → Names → Names
+holds_after (Some answer.Held) hold id holds = bind hold id holds
+holds_after _ hold id holds = holds
+
+-- the text of the answer
+abbrev pub hold_by : StoreState → ℕ → List ℕ → List ℕ → ItemId → Option Answer → Said
+hold_by b w name hold id a = say (Open (record b { holds = holds_after a hold id b.holds })) (hold_line w name hold a)
+
+-- where the hold name isn't in use
+abbrev pub hold_unused : StoreState → ℕ → List ℕ → List ℕ → ItemId → Option ItemId → Result Said Fault
+hold_unused b w name hold id None = let c = command.Take w id in Ok (hold_by (with_command_by b w c) w name hold id (answer_by b.state w c))
+hold_unused b w name hold id (Some held) = Err fault.Held
+
+-- of the item that the name is bound to
+abbrev pub hold_bound : StoreState → ℕ → List ℕ → List ℕ → Option ItemId → Result Said Fault
+hold_bound b w name hold None = Err fault.Unbound
+hold_bound b w name hold (Some id) = hold_unused b w name hold id (b.holds hold)
+
+-- where there is such a worker
+unfoldable pub hold_said : StoreState → ℕ → List ℕ → List ℕ → Result Said Fault
+hold_said b w name hold = if is_worker b.state w then hold_bound b w name hold (b.names name) else Err fault.Worker
+
+-- hit W H: the item is hit by a hold that is kept.
+abbrev pub hit_bound : StoreState → ℕ → ℕ → List ℕ → Option ItemId → Result Said Fault
+hit_bound b now w hold None = Err fault.Unbound
+hit_bound b now w hold (Some id) = let c = command.Touch w id now in Ok (say (Open (with_command_by b w c)) (hit_line w hold (answer_by b.state w c)))
+
+-- where there is such a worker
+unfoldable pub hit_said : StoreState → ℕ → ℕ → List ℕ → Result Said Fault
+hit_said b now w hold = if is_worker b.state w then hit_bound b now w hold (b.holds hold) else Err fault.Worker
+
+-- read H: the label of the item is read by a hold that is kept.
+abbrev pub read_bound : StoreState → List ℕ → Option ItemId → Result Said Fault
+read_bound b hold None = Err fault.Unbound
+read_bound b hold (Some id) = Ok (say (Open b) (read_line hold (answer_of b.state (command.Label id))))
+
+unfoldable pub read_said : StoreState → List ℕ → Result Said Fault
+read_said b hold = read_bound b hold (b.holds hold)
+
+-- drop H: a hold that is kept is given back, and the hold name is free again.
+abbrev pub drop_bound : StoreState → List ℕ → Option ItemId → Result Said Fault
+drop_bound b hold None = Err fault.Unbound
+drop_bound b hold (Some id) = Ok (say (Open (record (with_command b (command.Release id)) { holds = unbind hold b.holds })) (drop_line hold))
+
+unfoldable pub drop_said : StoreState → List ℕ → Result Said Fault
+drop_said b hold = drop_bound b hold (b.holds hold)
 
 -- del NAME: the item that the name is bound to ends, and the name stays bound.
 abbrev pub del_bound : StoreState → List ℕ → Option ItemId → Result Said Fault
@@ -154,6 +202,10 @@ par_said b = Ok (say (Open (record b { is_past_par = true })) [])
 abbrev pub made_by : StoreState → ℕ → Instruction → Result Said Fault
 made_by b now (Set name k label) = set_said b now name k label
 made_by b now (Get w name) = get_said b now w name
+made_by b now (Hold w name hold) = hold_said b w name hold
+made_by b now (Hit w hold) = hit_said b now w hold
+made_by b now (Read hold) = read_said b hold
+made_by b now (Drop hold) = drop_said b hold
 made_by b now (Del name) = del_said b name
 made_by b now (Pull k t) = pull_said b k t
 made_by b now (Sweep k) = sweep_said b k

@@ -1,8 +1,16 @@
--- Between two lines of a trace no command is half made.
-use Rattle.std.specs.Prelude.{◌≡◌, All, length}
+-- Between two lines of a trace no command is half made, and each hold name that is in use has a hold of its own.
+use Rattle.std.specs.Prelude.{◌≡◌, ℕ, ◌+◌, ◌≤◌, Bool, true, false, List, [], ◌∷◌, All, length}
+use Rattle.bump_rules.specs.declared.commands.Command.{Command}
+use Rattle.bump_rules.specs.declared.commands.Command.TheVariants as command
+use Rattle.bump_rules.specs.declared.items.ItemId.{ItemId}
 use Rattle.bump_rules.specs.declared.lanes.Lane.TheVariants as lane
 use Rattle.bump_rules.specs.declared.hands.Hand.TheVariants as hand
+use Rattle.bump_rules.specs.Lives.{one_if}
 use Rattle.bump_core.specs.State.{State, WorkerState}
+use Rattle.bump_rules.specs.Totals.{total}
+use Rattle.bump_core.specs.Worlds.{IsLawful, holds_of}
+use Rattle.bump_trace.specs.Names.{Names, no_names, bind}
+use Rattle.bump_trace.specs.Views.{names_of}
 use Rattle.bump_trace.specs.declared.open_store.OpenStore.{OpenStore}
 use Rattle.bump_trace.specs.declared.stages.Stage.{Stage}
 use Rattle.bump_trace.specs.declared.stages.Stage.TheVariants as stage
@@ -16,15 +24,48 @@ pub record IsResting (x : WorkerState) : Type 0 where
 abbrev pub IsAtRest : State → Type 0
 IsAtRest s = All IsResting s.workers
 
--- the numbers kept beside the World are its own, and it is at rest
+-- the numbers kept beside the World are its own, and it is lawful and at rest
 pub record IsReady (b : OpenStore) : Type 0 where
   pub workers : length b.world.workers ≡ b.workers
   pub classes : length b.world.classes ≡ b.classes
   pub capacity : b.world.capacity ≡ b.capacity
   pub rest : IsAtRest b.world
+  pub lawful : IsLawful b.world
 
--- a store that is open is ready
+-- each item has as many holds as before, or more
+pub record HoldsStay (s t : State) : Type 0 where
+  pub each : (l : ItemId) → holds_of s l ≤ holds_of t l
+
+-- but for one hold of this item
+pub record GivesBack (id : ItemId) (s t : State) : Type 0 where
+  pub each : (l : ItemId) → holds_of s l ≤ holds_of t l + one_if l id
+
+-- whether a command gives a hold back
+abbrev pub is_release : Command → Bool
+is_release (command.Release id) = true
+is_release _ = false
+
+-- names that were bound, the last one first
+abbrev pub bindings : List (List ℕ × ItemId) → Names
+bindings [] = no_names
+bindings (b ∷ bs) = bind b.0 b.1 (bindings bs)
+
+-- how many of them are bound to an item
+abbrev pub bound_to : ItemId → List (List ℕ × ItemId) → ℕ
+bound_to l bs = total (λ b. one_if l b.1) bs
+
+-- Each of these names has a hold of its own: an item has as many holds as names are bound to it, or more.
+pub record AreHeld (s : State) (holds : Names) : Type 0 where
+  pub bound : List (List ℕ × ItemId)
+  pub names : holds ≡ bindings bound
+  pub each : (l : ItemId) → bound_to l bound ≤ holds_of s l
+
+-- so have the hold names of a store
+abbrev pub KeepsHolds : OpenStore → Type 0
+KeepsHolds b = AreHeld b.world (names_of b.holds)
+
+-- a store that is open is ready, and each of its hold names has its hold
 abbrev pub IsSettled : Stage → Type 0
 IsSettled stage.Before = Unit {0}
 IsSettled (stage.Classes shape classes) = Unit {0}
-IsSettled (stage.Open store) = IsReady store
+IsSettled (stage.Open store) = IsReady store × KeepsHolds store

@@ -13,10 +13,12 @@ use Rattle.bump_trace.specs.declared.lines.Declaration.{Declaration}
 use Rattle.bump_trace.specs.declared.lines.Declaration.TheVariants.{Store, Class}
 use Rattle.bump_trace.specs.declared.lines.Shape.{Shape}
 
--- a store that commands are made on, the names of its items, and whether `par` was read
+-- A store that commands are made on: its state, the names of its items, the names of the holds that are kept, each bound to
+-- the held item, and whether `par` was read.
 pub record StoreState : Type 0 where
   pub state : State
   pub names : Names
+  pub holds : Names
   pub is_past_par : Bool
 
 pub data Stage : Type 0 where
@@ -42,6 +44,7 @@ abbrev pub new_store : Shape → List ClassConfig → StoreState
 new_store shape classes = record {
   state = opening_state shape.workers shape.capacity shape.refs_limit shape.first_generation classes;
   names = no_names;
+  holds = no_names;
   is_past_par = false;
 }
 

@@ -165,6 +165,22 @@ get_line w name a = get_start w name ++ told a ++ codes "\n"
 abbrev pub get_held_line : ℕ → List ℕ → Answer → Answer → List ℕ
 get_held_line w name label hit = get_start w name ++ answer_text label ++ codes " " ++ answer_text hit ++ codes "\n"
 
+-- hold W NAME H, and the answer
+abbrev pub hold_line : ℕ → List ℕ → List ℕ → Option Answer → List ℕ
+hold_line w name hold a = codes "hold " ++ decimal w ++ codes " " ++ name ++ codes " " ++ hold ++ codes " " ++ told a ++ codes "\n"
+
+-- hit W H, and the answer
+abbrev pub hit_line : ℕ → List ℕ → Option Answer → List ℕ
+hit_line w hold a = codes "hit " ++ decimal w ++ codes " " ++ hold ++ codes " " ++ told a ++ codes "\n"
+
+-- read H, and the answer
+abbrev pub read_line : List ℕ → Answer → List ℕ
+read_line hold a = codes "read " ++ hold ++ codes " " ++ answer_text a ++ codes "\n"
+
+-- drop H
+abbrev pub drop_line : List ℕ → List ℕ
+drop_line hold = codes "drop " ++ hold ++ codes "\n"
+
 -- del NAME, and the answer
 abbrev pub del_line : List ℕ → Answer → List ℕ
 del_line name a = codes "del " ++ name ++ codes " " ++ answer_text a ++ codes "\n"

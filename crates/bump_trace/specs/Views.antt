@@ -25,6 +25,10 @@ use Rattle.bump_trace.specs.declared.stages.Stage.TheVariants as stage
 abbrev pub seen_instruction : Instruction → lines.Instruction
 seen_instruction (instruction.Set name class label) = lines.Set name.now class label
 seen_instruction (instruction.Get worker name) = lines.Get worker name.now
+seen_instruction (instruction.Hold worker name hold) = lines.Hold worker name.now hold.now
+seen_instruction (instruction.Hit worker hold) = lines.Hit worker hold.now
+seen_instruction (instruction.Read hold) = lines.Read hold.now
+seen_instruction (instruction.Drop hold) = lines.Drop hold.now
 seen_instruction (instruction.Del name) = lines.Del name.now
 seen_instruction (instruction.Pull class tail) = lines.Pull class tail
 seen_instruction (instruction.Sweep class) = lines.Sweep class
@@ -53,7 +57,7 @@ names_of names = bindings_of names.ids
 
 -- an open store as the definitions see it
 abbrev pub store_of : OpenStore → stages.StoreState
-store_of b = record { state = b.world; names = names_of b.names; is_past_par = b.is_past_par }
+store_of b = record { state = b.world; names = names_of b.names; holds = names_of b.holds; is_past_par = b.is_past_par }
 
 -- a stage as the definitions see it
 abbrev pub stage_of : Stage → stages.Stage

@@ -57,8 +57,11 @@ pub enum Fault {
     /// There is no class of this number.
     Class,
 
-    /// The name was never bound.
+    /// The item name was never bound, or the hold name isn't in use.
     Unbound,
+
+    /// The hold name is in use.
+    Held,
 }
 
 impl Fault {
@@ -84,6 +87,7 @@ impl Fault {
             Fault::Worker => "WORKER",
             Fault::Class => "CLASS",
             Fault::Unbound => "UNBOUND",
+            Fault::Held => "HELD",
         }
     }
 }

@@ -59,6 +59,39 @@ pub enum Instruction<'a> {
         name: &'a [u8],
     },
 
+    /// `hold`: a hold of the item of a name is taken, and kept under a hold name.
+    Hold {
+        /// The number of the worker that takes it.
+        worker: u32,
+
+        /// The name that is bound to the item.
+        name: &'a [u8],
+
+        /// The hold name.
+        hold: &'a [u8],
+    },
+
+    /// `hit`: an item is hit by a hold that is kept.
+    Hit {
+        /// The number of the worker that hits it.
+        worker: u32,
+
+        /// The hold name.
+        hold: &'a [u8],
+    },
+
+    /// `read`: the label of an item is read by a hold that is kept.
+    Read {
+        /// The hold name.
+        hold: &'a [u8],
+    },
+
+    /// `drop`: a hold that is kept is given back, and its name is free again.
+    Drop {
+        /// The hold name.
+        hold: &'a [u8],
+    },
+
     /// `del`: the item of a name ends.
     Del {
         /// The name that is bound to the item, and stays so.
@@ -111,6 +144,10 @@ impl<'a> Instruction<'a> {
             | Instruction::Sweep { .. }
             | Instruction::Drain => true,
             Instruction::Set { .. }
+            | Instruction::Hold { .. }
+            | Instruction::Hit { .. }
+            | Instruction::Read { .. }
+            | Instruction::Drop { .. }
             | Instruction::Close { .. }
             | Instruction::Show
             | Instruction::Par => false,
@@ -206,6 +243,68 @@ fn get<'a>(fields: &[&'a [u8]]) -> Result<Line<'a>, Fault>
                 worker: worker?,
                 name: name?,
             }))
+        }
+        _ => Err(Fault::Count),
+    }
+}
+
+#[tactic(auto, unfolding(crate::specs::Lines::line_of))]
+fn hold<'a>(fields: &[&'a [u8]]) -> Result<Line<'a>, Fault>
+    ensures { Gives seen_line result (line_of (codes "hold") (map (λ w. w.now) fields.now)) }
+{
+    match fields {
+        [worker, name, hold] => {
+            let worker = u32_field(worker);
+            let name = name_field(name);
+            let hold = name_field(hold);
+            Ok(Line::Makes(Instruction::Hold {
+                worker: worker?,
+                name: name?,
+                hold: hold?,
+            }))
+        }
+        _ => Err(Fault::Count),
+    }
+}
+
+#[tactic(auto, unfolding(crate::specs::Lines::line_of))]
+fn hit<'a>(fields: &[&'a [u8]]) -> Result<Line<'a>, Fault>
+    ensures { Gives seen_line result (line_of (codes "hit") (map (λ w. w.now) fields.now)) }
+{
+    match fields {
+        [worker, hold] => {
+            let worker = u32_field(worker);
+            let hold = name_field(hold);
+            Ok(Line::Makes(Instruction::Hit {
+                worker: worker?,
+                hold: hold?,
+            }))
+        }
+        _ => Err(Fault::Count),
+    }
+}
+
+#[tactic(auto, unfolding(crate::specs::Lines::line_of))]
+fn read_hold<'a>(fields: &[&'a [u8]]) -> Result<Line<'a>, Fault>
+    ensures { Gives seen_line result (line_of (codes "read") (map (λ w. w.now) fields.now)) }
+{
+    match fields {
+        [hold] => {
+            let hold = name_field(hold);
+            Ok(Line::Makes(Instruction::Read { hold: hold? }))
+        }
+        _ => Err(Fault::Count),
+    }
+}
+
+#[tactic(auto, unfolding(crate::specs::Lines::line_of))]
+fn drop_hold<'a>(fields: &[&'a [u8]]) -> Result<Line<'a>, Fault>
+    ensures { Gives seen_line result (line_of (codes "drop") (map (λ w. w.now) fields.now)) }
+{
+    match fields {
+        [hold] => {
+            let hold = name_field(hold);
+            Ok(Line::Makes(Instruction::Drop { hold: hold? }))
         }
         _ => Err(Fault::Count),
     }
@@ -309,6 +408,14 @@ fn by_first_word<'a>(word: &[u8], fields: &[&'a [u8]]) -> Result<Line<'a>, Fault
         set(fields)
     } else if word == b"get".as_slice() {
         get(fields)
+    } else if word == b"hold".as_slice() {
+        hold(fields)
+    } else if word == b"hit".as_slice() {
+        hit(fields)
+    } else if word == b"read".as_slice() {
+        read_hold(fields)
+    } else if word == b"drop".as_slice() {
+        drop_hold(fields)
     } else if word == b"del".as_slice() {
         del(fields)
     } else if word == b"pull".as_slice() {

@@ -1,7 +1,7 @@
-//! The names of items.
+//! What names are bound to.
 
 ghost use Rattle.std.specs.Prelude.{◌≡◌, OnOk};
-ghost use Rattle.bump_trace.specs.Names.{no_names, bind};
+ghost use Rattle.bump_trace.specs.Names.{no_names, bind, unbind};
 
 use bump_core::ItemId;
 use std::alloc::{AllocError, Global};
@@ -31,6 +31,13 @@ impl<'a> Names<'a> {
     {
         self.ids.insert(name, id)?;
         Ok(())
+    }
+
+    /// The name is bound no more.
+    pub fn unbind(&mut self, name: &'a [u8])
+        ensures { names_of self.new ≡ unbind name.entry.now (names_of self.old) }
+    {
+        let _ = self.ids.remove(&name);
     }
 
     /// What a name is bound to.

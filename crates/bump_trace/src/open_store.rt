@@ -3,11 +3,12 @@
 ghost use Rattle.std.specs.Prelude.{◌≡◌, ◌<◌, ◌≤◌, ◌+◌, ◌^◌, true, false, List, [], ◌∷◌, ◌++◌, IfOk, IfErr, OnOk, Ok, None, All, length};
 ghost use Rattle.std.specs.List.{flat_map};
 ghost use Rattle.bump_core.specs.Commands.{is_allowed, answer_of, command_after};
+ghost use Rattle.bump_rules.specs.declared.commands.Command.TheVariants as command;
 ghost use Rattle.bump_core.specs.State.{is_held, is_open};
 ghost use Rattle.bump_rules.specs.Lists.{ascending};
 ghost use Rattle.bump_core.specs.Readers.{list_of};
 ghost use Rattle.bump_trace.specs.Stages.{Open};
-ghost use Rattle.bump_trace.specs.OpenStore.{answer_by, state_by, get_held, set_said, get_said, del_said, pull_said, sweep_said, drain_said, close_said, show_said, instruction_said, drained_of, drained_through};
+ghost use Rattle.bump_trace.specs.OpenStore.{answer_by, state_by, get_held, set_said, get_said, hold_said, hit_said, read_said, drop_said, del_said, pull_said, sweep_said, drain_said, close_said, show_said, instruction_said, drained_of, drained_through};
 ghost use Rattle.bump_trace.specs.Names.{no_names};
 ghost use Rattle.bump_core.specs.Opening.{new_state};
 ghost use Rattle.bump_trace.specs.declared.faults.LineError.TheVariants.{Memory};
@@ -17,18 +18,19 @@ use crate::faults::{Fault, LineError};
 use crate::lines::Instruction;
 use crate::names::Names;
 use crate::text::{
-    put_bump, put_chunk, put_close, put_closed, put_del, put_drain, put_get, put_get_held,
-    put_list_start, put_pull, put_set, put_sweep, put_worker,
+    put_bump, put_chunk, put_close, put_closed, put_del, put_drain, put_drop, put_get, put_get_held,
+    put_hit, put_hold, put_list_start, put_pull, put_read, put_set, put_sweep, put_worker,
 };
 use bump_core::{Answer, Command, Config, ItemId, Place, Refused, Tail, World};
 use std::alloc::{AllocError, Global};
 
-/// An open store: a World with the names of its items, and how many workers and classes it has and bumps each ring has
-/// room for.
+/// An open store: a World with the names of its items and of the holds that are kept, whether `par` was read, and how many
+/// workers and classes it has and bumps each ring has room for.
 #[derive(Drop)]
 pub struct OpenStore<'a> {
     world: World,
     names: Names<'a>,
+    holds: Names<'a>,
     is_past_par: bool,
     workers: u32,
     classes: u32,
@@ -36,19 +38,22 @@ pub struct OpenStore<'a> {
 }
 
 impl<'a> OpenStore<'a> {
-    ghost use Rattle.bump_trace.specs.Ready.{IsReady};
+    ghost use Rattle.bump_trace.specs.Ready.{IsReady, KeepsHolds, HoldsStay, GivesBack, is_release};
     ghost use Rattle.bump_trace.specs.Views.{seen_instruction, store_of, Does, Drains};
 
     /// A new World of this configuration, without names.
     pub fn new(alloc: Global, config: &Config) -> Result<OpenStore<'a>, LineError>
-        ensures new { IfOk result (λ b. store_of b ≡ record { state = new_state config.now; names = no_names; is_past_par = false }) }
+        ensures new { IfOk result (λ b. store_of b ≡ record { state = new_state config.now; names = no_names; holds = no_names; is_past_par = false }) }
         ensures ready { IfOk result (λ b. IsReady b) }
+        ensures holds { IfOk result (λ b. KeepsHolds b) }
         ensures err { IfErr result (λ e. e ≡ Memory) }
     {
         let world = World::new(alloc, config)?;
+        world.promise();
         Ok(OpenStore {
             world,
             names: Names::new(alloc),
+            holds: Names::new(alloc),
             is_past_par: false,
             workers: config.workers,
             classes: config.classes.as_slice().len() as u32,
@@ -56,14 +61,16 @@ impl<'a> OpenStore<'a> {
         })
     }
 
-    /// Makes a command that is allowed.
+    /// Makes a command that is allowed and gives no hold back.
     fn command(&mut self, command: Command) -> Result<Answer, LineError>
         requires ready { IsReady self.old }
         requires allowed { is_allowed self.old.world command ≡ true }
+        requires kept { is_release command ≡ false }
         ensures answer { IfOk result (λ a. a ≡ answer_of self.old.world command) }
         ensures err { IfErr result (λ e. e ≡ Memory) }
         ensures after { OnOk result (self.new ≡ record self.old { world = command_after self.old.world command }) }
         ensures ready { OnOk result (IsReady self.new) }
+        ensures holds { OnOk result (HoldsStay self.old.world self.new.world) }
     {
         match self.world.command(command) {
             Ok(answer) => Ok(answer),
@@ -76,15 +83,34 @@ impl<'a> OpenStore<'a> {
     fn command_by(&mut self, worker: u32, command: Command) -> Result<Option<Answer>, LineError>
         requires ready { IsReady self.old }
         requires allowed { is_allowed self.old.world command ≡ is_open self.old.world worker }
+        requires kept { is_release command ≡ false }
         ensures answer { IfOk result (λ a. a ≡ answer_by self.old.world worker command) }
         ensures err { IfErr result (λ e. e ≡ Memory) }
         ensures after { OnOk result (self.new ≡ record self.old { world = state_by self.old.world worker command }) }
         ensures ready { OnOk result (IsReady self.new) }
+        ensures holds { OnOk result (HoldsStay self.old.world self.new.world) }
     {
         match self.world.command(command) {
             Ok(answer) => Ok(Some(answer)),
             Err(Refused::OutOfMemory) => Err(LineError::Memory),
             Err(Refused::NotEnabled) => Ok(None),
+        }
+    }
+
+    /// Gives a hold back.
+    fn release(&mut self, id: ItemId) -> Result<(), LineError>
+        requires ready { IsReady self.old }
+        requires hold { is_held self.old.world id ≡ true }
+        requires allowed { is_allowed self.old.world (command.Release id) ≡ true }
+        ensures err { IfErr result (λ e. e ≡ Memory) }
+        ensures after { OnOk result (self.new ≡ record self.old { world = command_after self.old.world (command.Release id) }) }
+        ensures ready { OnOk result (IsReady self.new) }
+        ensures holds { OnOk result (GivesBack id self.old.world self.new.world) }
+    {
+        match self.world.command(Command::Release { id }) {
+            Ok(_) => Ok(()),
+            Err(Refused::OutOfMemory) => Err(LineError::Memory),
+            Err(Refused::NotEnabled) => unreachable!(),
         }
     }
 
@@ -99,9 +125,11 @@ impl<'a> OpenStore<'a> {
         out: &mut Vec<u8>,
     ) -> Result<(), LineError>
         requires ready { IsReady self.old }
+        requires holds { KeepsHolds self.old }
         requires empty { out.old.items ≡ [] }
         ensures said { Does (Open (store_of self.new)) out.new.items result (set_said (store_of self.old) now name.entry.now class label) }
         ensures ready { OnOk result (IsReady self.new) }
+        ensures holds { OnOk result (KeepsHolds self.new) }
     {
         if class >= self.classes {
             return Err(LineError::Fault(Fault::Class));
@@ -115,7 +143,7 @@ impl<'a> OpenStore<'a> {
     }
 
     /// Reads the label of a held item, hits the item, and gives the hold back.
-    fn hit(
+    fn get_held(
         &mut self,
         now: u64,
         worker: u32,
@@ -128,11 +156,13 @@ impl<'a> OpenStore<'a> {
         requires hold { is_held self.old.world id ≡ true }
         requires empty { out.old.items ≡ [] }
         ensures said { Does (Open (store_of self.new)) out.new.items result (Ok (get_held (store_of self.old) now worker name.now id)) }
+        ensures same { OnOk result (self.new ≡ record self.old { world = self.new.world }) }
         ensures ready { OnOk result (IsReady self.new) }
+        ensures holds { OnOk result (GivesBack id self.old.world self.new.world) }
     {
         let label = self.command(Command::Label { id })?;
         let hit = self.command(Command::Touch { worker, id, now })?;
-        let _ = self.command(Command::Release { id })?;
+        self.release(id)?;
         put_get_held(out, worker, name, label, hit)?;
         Ok(())
     }
@@ -147,9 +177,11 @@ impl<'a> OpenStore<'a> {
         out: &mut Vec<u8>,
     ) -> Result<(), LineError>
         requires ready { IsReady self.old }
+        requires holds { KeepsHolds self.old }
         requires empty { out.old.items ≡ [] }
         ensures said { Does (Open (store_of self.new)) out.new.items result (get_said (store_of self.old) now worker name.entry.now) }
         ensures ready { OnOk result (IsReady self.new) }
+        ensures holds { OnOk result (KeepsHolds self.new) }
     {
         if worker >= self.workers {
             return Err(LineError::Fault(Fault::Worker));
@@ -157,8 +189,9 @@ impl<'a> OpenStore<'a> {
         let Some(id) = self.names.get(name) else {
             return Err(LineError::Fault(Fault::Unbound));
         };
-        match self.command_by(worker, Command::Take { worker, id })? {
-            Some(Answer::Held) => self.hit(now, worker, name, id, out),
+        let answer = self.command_by(worker, Command::Take { worker, id })?;
+        match answer {
+            Some(Answer::Held) => self.get_held(now, worker, name, id, out),
             other => {
                 put_get(out, worker, name, other)?;
                 Ok(())
@@ -166,13 +199,118 @@ impl<'a> OpenStore<'a> {
         }
     }
 
+    /// Takes a hold of the item that the name is bound to, and keeps it under a hold name.
+    #[tactic(auto, unfolding(crate::specs::OpenStore::hold_said))]
+    fn hold(
+        &mut self,
+        worker: u32,
+        name: &'a [u8],
+        hold: &'a [u8],
+        out: &mut Vec<u8>,
+    ) -> Result<(), LineError>
+        requires ready { IsReady self.old }
+        requires holds { KeepsHolds self.old }
+        requires empty { out.old.items ≡ [] }
+        ensures said { Does (Open (store_of self.new)) out.new.items result (hold_said (store_of self.old) worker name.entry.now hold.entry.now) }
+        ensures ready { OnOk result (IsReady self.new) }
+        ensures holds { OnOk result (KeepsHolds self.new) }
+    {
+        if worker >= self.workers {
+            return Err(LineError::Fault(Fault::Worker));
+        }
+        let Some(id) = self.names.get(name) else {
+            return Err(LineError::Fault(Fault::Unbound));
+        };
+        if self.holds.get(hold).is_some() {
+            return Err(LineError::Fault(Fault::Held));
+        }
+        let answer = self.command_by(worker, Command::Take { worker, id })?;
+        match answer {
+            Some(Answer::Held) => {
+                self.holds.bind(hold, id)?;
+                put_hold(out, worker, name, hold, Some(Answer::Held))?;
+                Ok(())
+            }
+            other => {
+                put_hold(out, worker, name, hold, other)?;
+                Ok(())
+            }
+        }
+    }
+
+    /// Hits an item by a hold that is kept.
+    #[tactic(auto, unfolding(crate::specs::OpenStore::hit_said))]
+    fn hit(
+        &mut self,
+        now: u64,
+        worker: u32,
+        hold: &'a [u8],
+        out: &mut Vec<u8>,
+    ) -> Result<(), LineError>
+        requires ready { IsReady self.old }
+        requires holds { KeepsHolds self.old }
+        requires empty { out.old.items ≡ [] }
+        ensures said { Does (Open (store_of self.new)) out.new.items result (hit_said (store_of self.old) now worker hold.entry.now) }
+        ensures ready { OnOk result (IsReady self.new) }
+        ensures holds { OnOk result (KeepsHolds self.new) }
+    {
+        if worker >= self.workers {
+            return Err(LineError::Fault(Fault::Worker));
+        }
+        let Some(id) = self.holds.get(hold) else {
+            return Err(LineError::Fault(Fault::Unbound));
+        };
+        let answer = self.command_by(worker, Command::Touch { worker, id, now })?;
+        put_hit(out, worker, hold, answer)?;
+        Ok(())
+    }
+
+    /// Reads the label of an item by a hold that is kept.
+    #[tactic(auto, unfolding(crate::specs::OpenStore::read_said))]
+    fn read(&mut self, hold: &'a [u8], out: &mut Vec<u8>) -> Result<(), LineError>
+        requires ready { IsReady self.old }
+        requires holds { KeepsHolds self.old }
+        requires empty { out.old.items ≡ [] }
+        ensures said { Does (Open (store_of self.new)) out.new.items result (read_said (store_of self.old) hold.entry.now) }
+        ensures ready { OnOk result (IsReady self.new) }
+        ensures holds { OnOk result (KeepsHolds self.new) }
+    {
+        let Some(id) = self.holds.get(hold) else {
+            return Err(LineError::Fault(Fault::Unbound));
+        };
+        let label = self.command(Command::Label { id })?;
+        put_read(out, hold, label)?;
+        Ok(())
+    }
+
+    /// Gives a hold back that is kept: its name is free again.
+    #[tactic(auto, unfolding(crate::specs::OpenStore::drop_said))]
+    fn drop_hold(&mut self, hold: &'a [u8], out: &mut Vec<u8>) -> Result<(), LineError>
+        requires ready { IsReady self.old }
+        requires holds { KeepsHolds self.old }
+        requires empty { out.old.items ≡ [] }
+        ensures said { Does (Open (store_of self.new)) out.new.items result (drop_said (store_of self.old) hold.entry.now) }
+        ensures ready { OnOk result (IsReady self.new) }
+        ensures holds { OnOk result (KeepsHolds self.new) }
+    {
+        let Some(id) = self.holds.get(hold) else {
+            return Err(LineError::Fault(Fault::Unbound));
+        };
+        self.release(id)?;
+        self.holds.unbind(hold);
+        put_drop(out, hold)?;
+        Ok(())
+    }
+
     /// Ends the item that the name is bound to.
     #[tactic(auto, unfolding(crate::specs::OpenStore::del_said))]
     fn del(&mut self, name: &'a [u8], out: &mut Vec<u8>) -> Result<(), LineError>
         requires ready { IsReady self.old }
+        requires holds { KeepsHolds self.old }
         requires empty { out.old.items ≡ [] }
         ensures said { Does (Open (store_of self.new)) out.new.items result (del_said (store_of self.old) name.entry.now) }
         ensures ready { OnOk result (IsReady self.new) }
+        ensures holds { OnOk result (KeepsHolds self.new) }
     {
         let Some(id) = self.names.get(name) else {
             return Err(LineError::Fault(Fault::Unbound));
@@ -186,9 +324,11 @@ impl<'a> OpenStore<'a> {
     #[tactic(auto, unfolding(crate::specs::OpenStore::pull_said))]
     fn pull(&mut self, class: u32, tail: Tail, out: &mut Vec<u8>) -> Result<(), LineError>
         requires ready { IsReady self.old }
+        requires holds { KeepsHolds self.old }
         requires empty { out.old.items ≡ [] }
         ensures said { Does (Open (store_of self.new)) out.new.items result (pull_said (store_of self.old) class tail) }
         ensures ready { OnOk result (IsReady self.new) }
+        ensures holds { OnOk result (KeepsHolds self.new) }
     {
         if class >= self.classes {
             return Err(LineError::Fault(Fault::Class));
@@ -202,9 +342,11 @@ impl<'a> OpenStore<'a> {
     #[tactic(auto, unfolding(crate::specs::OpenStore::sweep_said))]
     fn sweep(&mut self, class: u32, out: &mut Vec<u8>) -> Result<(), LineError>
         requires ready { IsReady self.old }
+        requires holds { KeepsHolds self.old }
         requires empty { out.old.items ≡ [] }
         ensures said { Does (Open (store_of self.new)) out.new.items result (sweep_said (store_of self.old) class) }
         ensures ready { OnOk result (IsReady self.new) }
+        ensures holds { OnOk result (KeepsHolds self.new) }
     {
         if class >= self.classes {
             return Err(LineError::Fault(Fault::Class));
@@ -237,9 +379,11 @@ impl<'a> OpenStore<'a> {
     #[tactic(auto, unfolding(crate::specs::OpenStore::drain_said))]
     fn drain(&mut self, now: u64, out: &mut Vec<u8>) -> Result<(), LineError>
         requires ready { IsReady self.old }
+        requires holds { KeepsHolds self.old }
         requires empty { out.old.items ≡ [] }
         ensures said { Does (Open (store_of self.new)) out.new.items result (drain_said (store_of self.old) now) }
         ensures ready { OnOk result (IsReady self.new) }
+        ensures holds { OnOk result (KeepsHolds self.new) }
     {
         let mut count = 0u64;
         for worker in 0..self.workers {
@@ -263,9 +407,11 @@ impl<'a> OpenStore<'a> {
     #[tactic(auto, unfolding(crate::specs::OpenStore::close_said))]
     fn close(&mut self, now: u64, worker: u32, out: &mut Vec<u8>) -> Result<(), LineError>
         requires ready { IsReady self.old }
+        requires holds { KeepsHolds self.old }
         requires empty { out.old.items ≡ [] }
         ensures said { Does (Open (store_of self.new)) out.new.items result (close_said (store_of self.old) now worker) }
         ensures ready { OnOk result (IsReady self.new) }
+        ensures holds { OnOk result (KeepsHolds self.new) }
     {
         if worker >= self.workers {
             return Err(LineError::Fault(Fault::Worker));
@@ -373,9 +519,11 @@ impl<'a> OpenStore<'a> {
         out: &mut Vec<u8>,
     ) -> Result<(), LineError>
         requires ready { IsReady self.old }
+        requires holds { KeepsHolds self.old }
         requires empty { out.old.items ≡ [] }
         ensures said { Does (Open (store_of self.new)) out.new.items result (instruction_said (store_of self.old) now (seen_instruction instruction.entry)) }
         ensures ready { OnOk result (IsReady self.new) }
+        ensures holds { OnOk result (KeepsHolds self.new) }
     {
         if self.is_past_par && !instruction.may_follow_par() {
             return Err(LineError::Fault(Fault::Order));
@@ -383,6 +531,10 @@ impl<'a> OpenStore<'a> {
         match instruction {
             Instruction::Set { name, class, label } => self.set(now, name, class, label, out),
             Instruction::Get { worker, name } => self.get(now, worker, name, out),
+            Instruction::Hold { worker, name, hold } => self.hold(worker, name, hold, out),
+            Instruction::Hit { worker, hold } => self.hit(now, worker, hold, out),
+            Instruction::Read { hold } => self.read(hold, out),
+            Instruction::Drop { hold } => self.drop_hold(hold, out),
             Instruction::Del { name } => self.del(name, out),
             Instruction::Pull { class, tail } => self.pull(class, tail, out),
             Instruction::Sweep { class } => self.sweep(class, out),

@@ -3,11 +3,15 @@ use super::*;
 use std::alloc::{AllocError, Global};
 use std::test::*;
 
+mod ends;
 mod expecting;
+mod faults;
 mod slow;
 mod worked;
 
+use ends::{ENDS, EVERY_LINE};
 use expecting::Expecting;
+use faults::{LINE_FAULTS, PAIRS};
 use slow::{Narrow, Slow};
 use worked::{FAULTS, WORKED};
 
@@ -33,6 +37,43 @@ fn worked_traces(rt: HostRuntime) {
     for (trace, text, is_fault) in WORKED {
         let (written, ended) = text_of(rt.alloc(), trace.as_bytes());
         assert!(rt; ended == ended_by(is_fault), "{trace}");
+        assert!(rt; written.as_slice() == text.as_bytes(), "{trace}");
+    }
+}
+
+#[test]
+fn worked_ends(rt: HostRuntime) {
+    for (trace, text, is_fault) in ENDS {
+        let (written, ended) = text_of(rt.alloc(), trace.as_bytes());
+        assert!(rt; ended == ended_by(is_fault), "{trace}");
+        assert!(rt; written.as_slice() == text.as_bytes(), "{trace}");
+    }
+}
+
+#[test]
+fn every_line(rt: HostRuntime) {
+    let (trace, text) = EVERY_LINE;
+    let (written, ended) = text_of(rt.alloc(), trace.as_bytes());
+    assert!(rt; ended == Ok(()));
+    assert!(rt; written.as_slice() == text.as_bytes());
+}
+
+/// A word too few or too many, each field wrong, and what may not stand behind `par`.
+#[test]
+fn faults_of_more_lines(rt: HostRuntime) {
+    for (trace, text) in LINE_FAULTS {
+        let (written, ended) = text_of(rt.alloc(), trace.as_bytes());
+        assert!(rt; ended == Err(SimFault::Trace), "{trace}");
+        assert!(rt; written.as_slice() == text.as_bytes(), "{trace}");
+    }
+}
+
+/// Of several faults of a line the first in the order is told.
+#[test]
+fn pairs_of_faults(rt: HostRuntime) {
+    for (trace, text) in PAIRS {
+        let (written, ended) = text_of(rt.alloc(), trace.as_bytes());
+        assert!(rt; ended == Err(SimFault::Trace), "{trace}");
         assert!(rt; written.as_slice() == text.as_bytes(), "{trace}");
     }
 }
@@ -106,7 +147,7 @@ fn run_expecting<'a>(
 /// turn knows when none is left.
 #[test]
 fn a_refused_allocation_leaves_a_front_of_the_text(rt: HostRuntime) -> Result<(), Fail> {
-    let (trace, text, _) = WORKED[4];
+    let (trace, text) = EVERY_LINE;
     let (mut ended, mut written) = run_expecting(rt.alloc(), trace, text);
     assert!(rt; written.is_front());
     if ended == Err(SimFault::Memory) {

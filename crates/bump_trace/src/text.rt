@@ -2,7 +2,7 @@
 //! there.
 
 ghost use Rattle.std.specs.Prelude.{◌≡◌, ◌++◌, OnOk, codes, decimal};
-ghost use Rattle.bump_trace.specs.Text.{id_text, flags_text, item_text, chunk_text, place_word, list_start, accounts_text, accounts_line, touch_text, pulled_text, applied_text, entry_text, answer_text, told, set_line, get_start, get_line, get_held_line, del_line, pull_line, sweep_line, bump_line, drain_line, close_start, closed_line, fault_line};
+ghost use Rattle.bump_trace.specs.Text.{id_text, flags_text, item_text, chunk_text, place_word, list_start, accounts_text, accounts_line, touch_text, pulled_text, applied_text, entry_text, answer_text, told, set_line, get_start, get_line, get_held_line, hold_line, hit_line, read_line, drop_line, del_line, pull_line, sweep_line, bump_line, drain_line, close_start, closed_line, fault_line};
 ghost use Rattle.bump_trace.specs.Fields.{tail_word};
 
 use crate::faults::Fault;
@@ -292,6 +292,65 @@ pub fn put_get_held(
     put_answer(out, label)?;
     out.extend_from_slice(b" ")?;
     put_answer(out, hit)?;
+    out.extend_from_slice(b"\n")
+}
+
+/// The line of a `hold`.
+pub fn put_hold(
+    out: &mut Vec<u8>,
+    worker: u32,
+    name: &[u8],
+    hold: &[u8],
+    answer: Option<Answer>,
+) -> Result<(), AllocError>
+    ensures { OnOk result (out.new.items ≡ out.old.items ++ hold_line worker name.now hold.now answer) }
+{
+    out.extend_from_slice(b"hold ")?;
+    put_number(out, u64::from(worker))?;
+    out.extend_from_slice(b" ")?;
+    out.extend_from_slice(name)?;
+    out.extend_from_slice(b" ")?;
+    out.extend_from_slice(hold)?;
+    out.extend_from_slice(b" ")?;
+    put_told(out, answer)?;
+    out.extend_from_slice(b"\n")
+}
+
+/// The line of a `hit`.
+pub fn put_hit(
+    out: &mut Vec<u8>,
+    worker: u32,
+    hold: &[u8],
+    answer: Option<Answer>,
+) -> Result<(), AllocError>
+    ensures { OnOk result (out.new.items ≡ out.old.items ++ hit_line worker hold.now answer) }
+{
+    out.extend_from_slice(b"hit ")?;
+    put_number(out, u64::from(worker))?;
+    out.extend_from_slice(b" ")?;
+    out.extend_from_slice(hold)?;
+    out.extend_from_slice(b" ")?;
+    put_told(out, answer)?;
+    out.extend_from_slice(b"\n")
+}
+
+/// The line of a `read`.
+pub fn put_read(out: &mut Vec<u8>, hold: &[u8], answer: Answer) -> Result<(), AllocError>
+    ensures { OnOk result (out.new.items ≡ out.old.items ++ read_line hold.now answer) }
+{
+    out.extend_from_slice(b"read ")?;
+    out.extend_from_slice(hold)?;
+    out.extend_from_slice(b" ")?;
+    put_answer(out, answer)?;
+    out.extend_from_slice(b"\n")
+}
+
+/// The line of a `drop`.
+pub fn put_drop(out: &mut Vec<u8>, hold: &[u8]) -> Result<(), AllocError>
+    ensures { OnOk result (out.new.items ≡ out.old.items ++ drop_line hold.now) }
+{
+    out.extend_from_slice(b"drop ")?;
+    out.extend_from_slice(hold)?;
     out.extend_from_slice(b"\n")
 }
 

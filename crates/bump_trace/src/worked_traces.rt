@@ -94,6 +94,56 @@ pub fn show_after_par()
     ensures { verdict_of (codes "store 1 4 4 1\nclass 2 5 5\nset a 0 7\npar\nget 0 a\nshow\n") ≡ record { text = codes "set a 0.1\nget 0 a 7 first\nline 6: ORDER\n"; is_fault = true } }
 {}
 
+/// A kept hold reads the label of its item, whatever is stored in the chunk's place; the old name is stale after that.
+pub fn label_of_a_kept_hold()
+    ensures { verdict_of (codes "store 1 4 4 1\nclass 1 5 5\nset a 0 7\nhold 0 a h\ndel a\nset b 0 9\nread h\ndrop h\nsweep 0\nset b 0 9\nget 0 a\nhold 0 a k\ndel a\n") ≡ record { text = codes "set a 0.1\nhold 0 a h held\ndel a deferred\nset b full\nread h 7\ndrop h\nsweep 0 1\nset b 0.2\nget 0 a miss\nhold 0 a k miss\ndel a gone\n"; is_fault = false } }
+{}
+
+/// At the limit of references no further hold is taken, and a bump is dropped.
+pub fn limit_of_references()
+    ensures { verdict_of (codes "store 1 4 2 1\nclass 2 0 5\nset a 0 7\nhold 0 a h\nhold 0 a k\nget 0 a\ndrop h\npull 0 hot\nget 0 a\nget 0 a\nshow\n") ≡ record { text = codes "set a 0.1\nhold 0 a h held\nhold 0 a k refs\nget 0 a refs\ndrop h\npull 0 hot cold 0.1\nget 0 a 7 first\nget 0 a 7 dropped refs\nclass 0 hot 0\nclass 0 warm 0\nclass 0 cold 1 0.1:1:f:3\nclass 0 dying 0\nclass 0 unused 1 1\nclass 0 retired 0\nworker 0 attempted 1 accepted 0 full 0 busy 0 refs 1 applied 0\n"; is_fault = false } }
+{}
+
+/// An evicted item that is held is freed by the sweep after its hold.
+pub fn evicted_while_held()
+    ensures { verdict_of (codes "store 1 4 4 1\nclass 2 0 5\npull 0 evict\nset a 0 7\npull 0 hot\nhold 0 a h\npull 0 evict\ndrop h\nsweep 0\n") ≡ record { text = codes "pull 0 evict empty\nset a 0.1\npull 0 hot cold 0.1\nhold 0 a h held\npull 0 evict deferred 0.1\ndrop h\nsweep 0 1\n"; is_fault = false } }
+{}
+
+/// An item that was ended while it is held may be hit on; its bump finds it gone.
+pub fn hit_after_the_end()
+    ensures { verdict_of (codes "store 1 4 4 1\nclass 1 0 5\nset a 0 7\npull 0 hot\nhold 0 a h\ndel a\nhit 0 h\nhit 0 h\ndrain\ndrop h\nsweep 0\n") ≡ record { text = codes "set a 0.1\npull 0 hot cold 0.1\nhold 0 a h held\ndel a deferred\nhit 0 h first\nhit 0 h queued 0\nbump 0 0 0.1 gone deferred\ndrain 1\ndrop h\nsweep 0 1\n"; is_fault = false } }
+{}
+
+/// Each hold name has a hold of its own: one is dropped, and the other still reads.
+pub fn two_holds_of_one_item()
+    ensures { verdict_of (codes "store 1 4 4 1\nclass 1 0 5\nset a 0 7\nhold 0 a h\nhold 0 a k\ndrop h\ndel a\nread k\nhit 0 k\nhold 0 a h\ndrop k\nsweep 0\n") ≡ record { text = codes "set a 0.1\nhold 0 a h held\nhold 0 a k held\ndrop h\ndel a deferred\nread k 7\nhit 0 k first\nhold 0 a h miss\ndrop k\nsweep 0 1\n"; is_fault = false } }
+{}
+
+/// A closed worker is looked at after all faults.
+pub fn faults_before_closed()
+    ensures { verdict_of (codes "store 1 4 4 1\nclass 1 0 5\nset a 0 7\nhold 0 a h\nclose 0\nhit 0 h\nhold 0 a k\nhold 0 a h\n") ≡ record { text = codes "set a 0.1\nhold 0 a h held\nclose 0 attempted 0 accepted 0 full 0 busy 0 refs 0 applied 0\nhit 0 h closed\nhold 0 a k closed\nline 8: HELD\n"; is_fault = true } }
+{}
+
+/// A hold name in use is told after the names of its line.
+pub fn held_before_unbound()
+    ensures { verdict_of (codes "store 1 4 4 1\nclass 2 5 5\nset a 0 7\nhold 0 a h\nhold 0 b h\n") ≡ record { text = codes "set a 0.1\nhold 0 a h held\nline 5: UNBOUND\n"; is_fault = true } }
+{}
+
+/// A hold name in use is kept.
+pub fn hold_in_use()
+    ensures { verdict_of (codes "store 1 4 4 1\nclass 2 5 5\nset a 0 7\nhold 0 a h\nhold 0 a h\n") ≡ record { text = codes "set a 0.1\nhold 0 a h held\nline 5: HELD\n"; is_fault = true } }
+{}
+
+/// Behind `par` no item is stored.
+pub fn set_after_par()
+    ensures { verdict_of (codes "store 1 4 4 1\nclass 2 5 5\npar\nset a 1 7\n") ≡ record { text = codes "line 4: ORDER\n"; is_fault = true } }
+{}
+
+/// Item names and hold names are separate.
+pub fn names_apart()
+    ensures { verdict_of (codes "store 1 4 4 1\nclass 2 5 5\nset a 0 7\nhold 0 a h\nget 0 h\n") ≡ record { text = codes "set a 0.1\nhold 0 a h held\nline 5: UNBOUND\n"; is_fault = true } }
+{}
+
 /// An input without lines.
 pub fn no_input()
     ensures { verdict_of (codes "") ≡ record { text = codes "line 1: ORDER\n"; is_fault = true } }

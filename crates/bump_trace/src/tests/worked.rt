@@ -163,7 +163,7 @@ pub(super) const WORKED: [(&str, &str, bool); 34] = [
 ];
 
 /// A trace with a fault, and its text.
-pub(super) const FAULTS: [(&str, &str); 39] = [
+pub(super) const FAULTS: [(&str, &str); 38] = [
     ("store 1 4 4\n", "line 1: COUNT\n"),
     ("store 1 4 4 1 1\n", "line 1: COUNT\n"),
     ("store 1 4 4 1\nclass 2 5\n", "line 2: COUNT\n"),
@@ -231,7 +231,6 @@ pub(super) const FAULTS: [(&str, &str); 39] = [
         "class 0 hot 0\nclass 0 warm 0\nclass 0 cold 0\nclass 0 dying 0\nclass 0 unused 2 0 1\nclass 0 retired 0\nworker 0 attempted 0 accepted 0 full 0 busy 0 refs 0 applied 0\nline 4: ORDER\n",
     ),
     ("show\n", "line 1: ORDER\n"),
-    ("store 1 4 4 1\nclass 2 5 5\ndrop h\n", "line 3: COMMAND\n"),
     ("\n", "line 2: ORDER\n"),
     ("store 1 4 1 1\nclass 2 5 5\nshow\n", "line 3: REFS\n"),
     ("store 1 4 4 0\nclass 2 5 5\nshow\n", "line 3: GENERATION\n"),

@@ -1,4 +1,9 @@
-use Rattle.std.proofs.Common.{ap, arith}
+use Rattle.std.proofs.Common.{ap, sym, subst, arith}
+use Rattle.bump_rules.specs.Lists.{ascending}
+use Rattle.bump_core.specs.State.{State}
+use Rattle.bump_trace.specs.Ready.{HoldsStay}
+use Rattle.bump_trace.proofs.HoldsOfItems.{stay_through}
+use Rattle.bump_trace.proofs.HeldNames.{store_still}
 use Rattle.bump_trace.specs.declared.open_store.OpenStore.{OpenStore}
 use Rattle.bump_trace.specs.Views.{store_of}
 use Rattle.bump_trace.proofs.SameButWorld.{same_rest}
@@ -24,4 +29,6 @@ returns c =
     record {
       said = drain_meant (store_of c.args.self.now) (store_of c.loop-worker.self) c.args.now _ c.loop-worker.count c.loop-worker.out.items c.put_drain.new.out.items c.requires.ready.workers all (ap store_of same) c.in_ok-put_drain.ensures;
       ready = ready;
+      holds = store_still c.loop-worker.self c.args.self.now _ same
+          (subst (λ (t : State). HoldsStay c.args.self.now.world t) (sym all.same_state) (stay_through c.args.now (ascending 0 c.args.self.now.workers) c.args.self.now.world)) c.requires.holds;
     }

@@ -1,24 +1,10 @@
-use Rattle.std.proofs.Common.{◌≡◌, ◌∙◌, ap, sym, subst, true}
-use Rattle.bump_core.specs.State.{State, is_held, is_open}
-use Rattle.bump_trace.specs.declared.open_store.OpenStore.{OpenStore}
-use Rattle.bump_trace.proofs.CommandsAtRest.{touch_allowed, release_allowed, held_after_touch}
+use Rattle.bump_trace.specs.Views.{names_of}
+use Rattle.bump_trace.proofs.CommandsAtRest.{touch_allowed}
+use Rattle.bump_trace.proofs.HeldNames.{held_by_name}
 use Rattle.bump_trace.proofs.open_store.OpenStore.hit.Goals as goal
 
-pub command-requires-2-clause-allowed : goal.command-requires-2-clause-allowed
-command-requires-2-clause-allowed c =
-    let label = c.in_ok-label.ensures in
-    let s = c.command.new.self.world in
-    let same = ap (λ (b : OpenStore). b.world) label.after in
-    let held : is_held s c.args.id ≡ true = subst (λ (t : State). is_held t c.args.id ≡ true) (sym same) c.requires.hold in
-    let opened : is_open s c.args.worker ≡ true = subst (λ (t : State). is_open t c.args.worker ≡ true) (sym same) c.requires.worker in
-    touch_allowed s c.args.worker c.args.id c.args.now label.ready.rest held ∙ opened
-
-pub command-requires-3-clause-allowed : goal.command-requires-3-clause-allowed
-command-requires-3-clause-allowed c =
-    let label = c.in_ok-label.ensures in
-    let touch = c.in_ok-hit.ensures in
-    let s = c.command.new.self.world in
-    let same = ap (λ (b : OpenStore). b.world) label.after in
-    let held : is_held s c.args.id ≡ true = subst (λ (t : State). is_held t c.args.id ≡ true) (sym same) c.requires.hold in
-    let still = subst (λ (t : State). is_held t c.args.id ≡ true) (sym (ap (λ (b : OpenStore). b.world) touch.after)) (held_after_touch s c.args.worker c.args.id c.args.now held) in
-    release_allowed c.command-2.new.self.world c.args.id touch.ready.rest still
+pub command_by-requires-clause-allowed : goal.command_by-requires-clause-allowed
+command_by-requires-clause-allowed c =
+    let b = c.args.self.now in
+    touch_allowed b.world c.args.worker c.in-Some.id c.args.now c.requires.ready.rest
+        (held_by_name b.world (names_of b.holds) c.args.hold.now c.in-Some.id c.requires.ready.lawful c.in-Some.ensures c.requires.holds)

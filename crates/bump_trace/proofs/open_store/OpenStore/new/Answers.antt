@@ -14,4 +14,5 @@ returns-clause-ready c =
       classes = classes_long (config.first_generation - 1) 0 config.classes;
       capacity = refl;
       rest = All-replicate IsResting config.workers new_worker (record { idle = refl; empty = refl });
+      lawful = rw c.in_ok-world.ensures at c.promise.ensures.lawful;
     })
