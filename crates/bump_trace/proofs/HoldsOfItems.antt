@@ -223,15 +223,17 @@ given_back s l held =
     let current = (and_parts (is_current s l) _ held).0 in
     let same : (head s l.chunk).generation ≡ l.generation = eqb-true _ _ (and_parts (is_chunk s l.chunk) _ current).1 in
     let x : Chunk = record (chunk s l.chunk) { head = record (head s l.chunk) { refs = (head s l.chunk).refs - 1 }; holds = (chunk s l.chunk).holds - 1 } in
-    record { each = λ m. elim (chunk_written s l.chunk x m.chunk) [
-      | inl e ↦ omega (arith, ap (λ (y : Chunk). held_by y m.generation) e)
-      | inr w ↦
-          let was : holds_of s m ≡ held_by (chunk s l.chunk) m.generation = ap (λ k. held_by (chunk s k) m.generation) w.0 in
-          let now : holds_of (without_hold s l.chunk) m ≡ held_by x m.generation = ap (λ (y : Chunk). held_by y m.generation) w.1 in
-          dite (ℕ_discrete m.generation (head s l.chunk).generation)
-              (λ e.
-                let is : m ≡ l = λ i. life (w.0 i) ((e ∙ same) i) in
-                let one : one_if m l ≡ 1 = subst (λ (k : ItemId). one_if m k ≡ 1) is (one_if_same m) in
-                omega (arith, was, now, one, held_at (chunk s l.chunk) m.generation (sym e), held_at x m.generation (sym e)))
-              (λ ne. omega (arith, was, held_else (chunk s l.chunk) m.generation ne))
-    ] }
+    record {
+      each = λ m. elim (chunk_written s l.chunk x m.chunk) [
+        | inl e ↦ omega (arith, ap (λ (y : Chunk). held_by y m.generation) e)
+        | inr w ↦
+            let was : holds_of s m ≡ held_by (chunk s l.chunk) m.generation = ap (λ k. held_by (chunk s k) m.generation) w.0 in
+            let now : holds_of (without_hold s l.chunk) m ≡ held_by x m.generation = ap (λ (y : Chunk). held_by y m.generation) w.1 in
+            dite (ℕ_discrete m.generation (head s l.chunk).generation)
+            (λ e.
+            let is : m ≡ l = λ i. life (w.0 i) ((e ∙ same) i) in
+            let one : one_if m l ≡ 1 = subst (λ (k : ItemId). one_if m k ≡ 1) is (one_if_same m) in
+            omega (arith, was, now, one, held_at (chunk s l.chunk) m.generation (sym e), held_at x m.generation (sym e)))
+            (λ ne. omega (arith, was, held_else (chunk s l.chunk) m.generation ne))
+      ];
+    }

@@ -18,8 +18,9 @@ use crate::faults::{Fault, LineError};
 use crate::lines::Instruction;
 use crate::names::Names;
 use crate::text::{
-    put_bump, put_chunk, put_close, put_closed, put_del, put_drain, put_drop, put_get, put_get_held,
-    put_hit, put_hold, put_list_start, put_pull, put_read, put_set, put_sweep, put_worker,
+    put_bump, put_chunk, put_close, put_closed, put_del, put_drain, put_drop, put_get,
+    put_get_held, put_hit, put_hold, put_list_start, put_pull, put_read, put_set, put_sweep,
+    put_worker,
 };
 use bump_core::{Answer, Command, Config, ItemId, Place, Refused, Tail, World};
 use std::alloc::{AllocError, Global};
@@ -416,7 +417,10 @@ impl<'a> OpenStore<'a> {
         if worker >= self.workers {
             return Err(LineError::Fault(Fault::Worker));
         }
-        if self.command_by(worker, Command::Close { worker })?.is_none() {
+        if self
+            .command_by(worker, Command::Close { worker })?
+            .is_none()
+        {
             put_closed(out, worker)?;
             return Ok(());
         }

@@ -23,4 +23,4 @@ returns-clause-holds c =
     let released = c.in_ok-release.ensures in
     let names = c.unbind.ensures ∙ ap (λ (x : OpenStore). unbind c.args.hold.now (names_of x.holds)) released.after in
     subst (λ (n : Names). AreHeld c.release.new.self.world n) (sym names)
-        (held_fewer b.world c.release.new.self.world (names_of b.holds) c.args.hold.now c.in-Some.id c.in-Some.ensures released.holds c.requires.holds)
+    (held_fewer b.world c.release.new.self.world (names_of b.holds) c.args.hold.now c.in-Some.id c.in-Some.ensures released.holds c.requires.holds)

@@ -23,8 +23,8 @@ returns-in-Some-Held-clause-holds c =
     let took = c.in_ok-answer.ensures in
     let is : Some answer.Held ≡ answer_by b.world c.args.worker (command.Take c.args.worker id) = search rules in
     let more = subst (λ (t : State). (l : ItemId) → holds_of b.world l + one_if l id ≤ holds_of t l) (sym (ap (λ (x : OpenStore). x.world) took.after))
-        (taken_by b.world c.args.worker id is) in
+    (taken_by b.world c.args.worker id is) in
     on_ok c.get_held.result c.get_held.ensures.same c.get_held.ensures.holds
-        (λ same back.
-          subst (λ (n : Names). AreHeld done.world n) (sym (ap (λ (x : OpenStore). names_of x.holds) same ∙ ap (λ (x : OpenStore). names_of x.holds) took.after))
-              (held_again b.world held.world done.world (names_of b.holds) id more back c.requires.holds))
+    (λ same back.
+    subst (λ (n : Names). AreHeld done.world n) (sym (ap (λ (x : OpenStore). names_of x.holds) same ∙ ap (λ (x : OpenStore). names_of x.holds) took.after))
+    (held_again b.world held.world done.world (names_of b.holds) id more back c.requires.holds))

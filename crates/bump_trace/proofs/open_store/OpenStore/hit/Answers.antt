@@ -7,4 +7,4 @@ pub command_by-requires-clause-allowed : goal.command_by-requires-clause-allowed
 command_by-requires-clause-allowed c =
     let b = c.args.self.now in
     touch_allowed b.world c.args.worker c.in-Some.id c.args.now c.requires.ready.rest
-        (held_by_name b.world (names_of b.holds) c.args.hold.now c.in-Some.id c.requires.ready.lawful c.in-Some.ensures c.requires.holds)
+    (held_by_name b.world (names_of b.holds) c.args.hold.now c.in-Some.id c.requires.ready.lawful c.in-Some.ensures c.requires.holds)

@@ -23,6 +23,6 @@ returns-in_ok-put_hold-in-Some-Held-clause-holds c =
     let took = c.in_ok-answer.ensures in
     let is : Some answer.Held ≡ answer_by b.world c.args.worker (command.Take c.args.worker id) = search rules in
     let more = subst (λ (t : State). (l : ItemId) → holds_of b.world l + one_if l id ≤ holds_of t l) (sym (ap (λ (x : OpenStore). x.world) took.after))
-        (taken_by b.world c.args.worker id is) in
+    (taken_by b.world c.args.worker id is) in
     let names = c.in_ok-bind-in-Some-Held.ensures ∙ ap (λ (x : OpenStore). bind name id (names_of x.holds)) took.after in
     subst (λ (n : Names). AreHeld held.world n) (sym names) (held_more b.world held.world (names_of b.holds) name id more c.requires.holds)
