@@ -1,5 +1,5 @@
 -- How many holds each item has: what each command leaves of them.
-use Rattle.std.proofs.Common.{◌≡◌, ℕ, zero, suc, ◌+◌, ◌-◌, ◌<◌, ◌≤◌, ◌≢◌, ◌⊎◌, inl, inr, refl, sym, ap, ap₂, subst, ◌∙◌, Bool, true, false, cond, not, nat_lt, ◌==◌, ◌&&◌, List, [], ◌∷◌, length, slice_index_or, Option, None, Some, arith, if◌then◌else◌}
+use Rattle.std.proofs.Common.{◌≡◌, ℕ, zero, suc, ◌+◌, ◌-◌, ◌<◌, ◌≤◌, ◌⊎◌, inl, inr, refl, sym, ap, ap₂, subst, ◌∙◌, Bool, true, false, cond, not, nat_lt, ◌==◌, List, [], ◌∷◌, length, slice_index_or, Option, None, Some, arith, if◌then◌else◌}
 use Rattle.std.specs.Option.{option_map_or}
 use Rattle.std.proofs.lemmas.Bool.{cases_lt, and_parts, ltb-true, eqb-true, true≢false}
 use Rattle.std.proofs.lemmas.List.{get_or-set_same, get_or-set_other, set_past}
@@ -21,12 +21,12 @@ use Rattle.bump_core.specs.declared.items.ItemId.{ItemId}
 use Rattle.bump_core.specs.declared.places.Segment.{Segment}
 use Rattle.bump_core.specs.declared.places.Tail.{Tail}
 use Rattle.bump_core.specs.declared.places.Tail.TheVariants as tail
-use Rattle.bump_core.specs.Commands.{is_allowed, answer_of, command_after, freed_by, end_life, end_of, pull, pull_to, pulled_at, get_answer, get_at, held_by_get, hit, hit_at, attempt, dropped_at, is_exhausted, apply_bump, bumped_chunk, bumped_lists, outcome_next, ended_at, bump_next, tail_of, link_labelled}
+use Rattle.bump_core.specs.Commands.{is_allowed, answer_of, command_after, freed_by, end_life, end_of, pull, pull_to, pulled_at, get_answer, get_at, held_by_get, hit, hit_at, attempt, dropped_at, apply_bump, bumped_chunk, bumped_lists, outcome_next, ended_at, bump_next, tail_of, link_labelled}
 use Rattle.bump_core.specs.Events.{next_chunk, with_hold, without_hold}
 use Rattle.bump_core.specs.Lives.{life, one_if}
 use Rattle.bump_core.specs.State.{State, ClassState, WorkerState, no_chunk, chunk, head, worker, is_chunk, is_current, is_held, is_open, with_chunk, with_class, with_worker}
 use Rattle.bump_core.specs.Tables.{Get, IsStale, IsRefsFull, IsHeld, Hit, IsFirst, IsAlready, IsMarked, Attempts, get_of, is_of, pulled_to}
-use Rattle.bump_core.specs.Worlds.{IsLawful, holds_of, place}
+use Rattle.bump_core.specs.Worlds.{IsLawful, holds_of}
 use Rattle.bump_core.proofs.Held.{held_by, held_at, held_else, one_if_same, one_if_cases, unheld_next}
 use Rattle.bump_trace.specs.OpenStore.{answer_by, state_by, Drained, drained_by, drained_of, drained_through}
 use Rattle.bump_trace.specs.Ready.{HoldsStay, GivesBack, is_release}
