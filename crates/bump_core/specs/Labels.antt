@@ -8,7 +8,9 @@ use Rattle.bump_rules.specs.Lawful.{IsUsed}
 use Rattle.bump_rules.specs.Lives.{life}
 use Rattle.bump_core.specs.State.{State, chunk, head}
 use Rattle.bump_core.specs.Worlds.{place}
-use Rattle.bump_rules.specs.Labels.{LabelStep, Stored, Begun, label_of_life}
+use Rattle.bump_rules.specs.declared.labels.LabelStep.{LabelStep}
+use Rattle.bump_rules.specs.declared.labels.LabelStep.TheVariants.{Stored, Begun}
+use Rattle.bump_rules.specs.Labels.{label_of_life}
 
 -- what an event does about labels
 abbrev pub label_steps_of : State → Event → List LabelStep

@@ -10,6 +10,7 @@ mod events;
 mod hands;
 mod history;
 mod items;
+mod labels;
 mod lanes;
 mod places;
 mod tables;
@@ -22,6 +23,7 @@ pub use events::{Event, Refused, Reply};
 pub use hands::Hand;
 pub use history::{Cause, Change};
 pub use items::{Head, ItemId};
+pub use labels::LabelStep;
 pub use lanes::Lane;
 pub use places::{Place, Segment, Tail};
 

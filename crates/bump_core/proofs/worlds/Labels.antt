@@ -20,7 +20,9 @@ use Rattle.bump_rules.specs.Heads.{newborn, moved_head, one_more, one_fewer, fet
 use Rattle.bump_core.specs.Events.{is_enabled, after, next_chunk, next_life, next_bump, ending, reserve, drop_refs, drop_busy, push, drop_full, unmark, with_label, with_time, link, take_bump, clear_for, move_for, alight, unlink, sweep}
 use Rattle.bump_rules.specs.Lanes.{carried, tried, applied_now, cleared_active}
 use Rattle.bump_rules.specs.History.{subject, freed_change}
-use Rattle.bump_rules.specs.Labels.{LabelStep, Stored, Begun, label_of_life}
+use Rattle.bump_rules.specs.declared.labels.LabelStep.{LabelStep}
+use Rattle.bump_rules.specs.declared.labels.LabelStep.TheVariants.{Stored, Begun}
+use Rattle.bump_rules.specs.Labels.{label_of_life}
 use Rattle.bump_core.specs.Labels.{label_steps, IsLabel, KeepsLabels}
 use Rattle.bump_rules.specs.Lawful.{IsUsed}
 use Rattle.bump_rules.specs.Lives.{life, is_same}

@@ -1,0 +1,13 @@
+pub mod Sums
+pub mod Once
+pub mod Frame
+pub mod StepLemmas
+pub mod Told
+pub mod Moves
+pub mod Seeing
+pub mod Meetings
+pub mod Makings
+pub mod Applications
+pub mod Starts
+pub mod Bounds
+pub mod Boardings

@@ -1,0 +1,78 @@
+-- One turn of the loops that split the seats of classes, workers and lanes off.
+use Rattle.std.proofs.Common.{◌≡◌, ℕ, zero, suc, ◌+◌, ◌<◌, List, [], ◌∷◌, ◌++◌, Option, None, Some, map, length, refl, sym, ap, ◌∙◌, subst, arith, append_assoc}
+use Rattle.atomic_table.specs.Table.{Me}
+use Rattle.bump_rules.specs.declared.bumps.Bump.{Bump}
+use Rattle.bump_heads.specs.declared.views.Empty.{Empty}
+use Rattle.bump_heads.specs.declared.views.ClassPart.{ClassPart}
+use Rattle.bump_heads.specs.declared.views.WorkerPart.{WorkerPart}
+use Rattle.bump_heads.specs.declared.views.LanePart.{LanePart}
+use Rattle.bump_heads.specs.declared.views.ClassView.{ClassView}
+use Rattle.bump_heads.specs.declared.views.WorkerView.{WorkerView}
+use Rattle.bump_heads.specs.declared.views.View.{View}
+use Rattle.bump_heads.specs.Views.{aboard_of}
+use Rattle.bump_rules.specs.declared.configs.ClassConfig.{ClassConfig}
+use Rattle.bump_heads.specs.Rule.{blank, class_parts, worker_parts, lane_parts}
+use Rattle.bump_heads.specs.Plays.{without_class, class_only, without_worker, worker_only, without_lane, lane_only, behind, first_of}
+use Rattle.bump_heads.specs.Seats.{class_me, class_in, worker_me, worker_in, lane_me, bump_aboard, first, head_or, no_lane}
+use Rattle.bump_heads.specs.Making.{class_seen, worker_seen, lane_seen, Numbered, AreEmpty}
+
+abbrev pub Turn : Me Empty View → View → ℕ → ℕ → List ClassView → List ClassView → Me Empty View → Me Empty View → Type 0
+Turn m v i count made all m' p = (p ≡ class_me (class_in p.0)) × (◌≡◌ {A = Option Bump} None (bump_aboard (first p.0.lanes))) × (i ≡ (class_in p.0).part.class) × (m' ≡ (record v { classes = m'.0.classes }, [])) × (i + 1 + length m'.0.classes ≡ count) × Numbered (i + 1) m'.0.classes × ((made ++ class_in p.0 ∷ []) ++ map class_seen m'.0.classes ≡ all)
+
+pub class_turn : (m : Me Empty View) (v : View) (i count : ℕ) (made all : List ClassView) (m' p : Me Empty View) → m ≡ (record v { classes = m.0.classes }, []) → i + length m.0.classes ≡ count → i < count → Numbered i m.0.classes → made ++ map class_seen m.0.classes ≡ all → m' ≡ (without_class m.0, m.1) → p ≡ (class_only m.0, [])
+    → Turn m v i count made all m' p
+class_turn m v i count made all m' p rest long more numbers so_far now part =
+    subst (λ (x : Me Empty View × Me Empty View). Turn m v i count made all x.0 x.1) (λ j. (sym now j, sym part j)) (by m.0.classes rest long numbers so_far)
+  where
+    by : (ks : List ClassPart) → m ≡ (record v { classes = ks }, []) → i + length ks ≡ count → Numbered i ks → made ++ map class_seen ks ≡ all → Turn m v i count made all (record m.0 { classes = behind m.0.classes }, m.1) (record blank { classes = first_of m.0.classes }, [])
+    by [] rest long numbers so_far = absurd (omega (arith, more))
+    by (k ∷ ks) rest long numbers so_far = subst (λ (x : Me Empty View). Turn m v i count made all (record x.0 { classes = behind x.0.classes }, x.1) (record blank { classes = first_of x.0.classes }, [])) (sym rest)
+        (refl, refl, sym numbers.0, refl, omega (arith, long), numbers.1, append_assoc made (class_seen k ∷ []) (map class_seen ks) ∙ so_far)
+
+abbrev pub WorkerTurn : Me Empty View → View → ℕ → ℕ → List WorkerView → List WorkerView → Me Empty View → Me Empty View → Type 0
+WorkerTurn m v i count made all m' p = (p ≡ worker_me (worker_in p.0)) × (m' ≡ (record v { workers = m'.0.workers }, [])) × (i + 1 + length m'.0.workers ≡ count) × ((made ++ worker_in p.0 ∷ []) ++ map worker_seen m'.0.workers ≡ all)
+
+pub worker_turn : (m : Me Empty View) (v : View) (i count : ℕ) (made all : List WorkerView) (m' p : Me Empty View) → m ≡ (record v { workers = m.0.workers }, []) → i + length m.0.workers ≡ count → i < count → made ++ map worker_seen m.0.workers ≡ all → m' ≡ (without_worker m.0, m.1) → p ≡ (worker_only m.0, [])
+    → WorkerTurn m v i count made all m' p
+worker_turn m v i count made all m' p rest long more so_far now part =
+    subst (λ (x : Me Empty View × Me Empty View). WorkerTurn m v i count made all x.0 x.1) (λ j. (sym now j, sym part j)) (by m.0.workers rest long so_far)
+  where
+    by : (ks : List WorkerPart) → m ≡ (record v { workers = ks }, []) → i + length ks ≡ count → made ++ map worker_seen ks ≡ all → WorkerTurn m v i count made all (record m.0 { workers = behind m.0.workers }, m.1) (record blank { workers = first_of m.0.workers }, [])
+    by [] rest long so_far = absurd (omega (arith, more))
+    by (k ∷ ks) rest long so_far = subst (λ (x : Me Empty View). WorkerTurn m v i count made all (record x.0 { workers = behind x.0.workers }, x.1) (record blank { workers = first_of x.0.workers }, [])) (sym rest)
+        (refl, refl, omega (arith, long), append_assoc made (worker_seen k ∷ []) (map worker_seen ks) ∙ so_far)
+
+abbrev pub LaneTurn : Me Empty View → View → ℕ → ℕ → List (Option LanePart) → List (Option LanePart) → Me Empty View → Me Empty View → Type 0
+LaneTurn m v i count made all m' p = (p ≡ lane_me (head_or no_lane p.0.lanes)) × (◌≡◌ {A = Option Bump} None (aboard_of (head_or no_lane p.0.lanes).stage)) × (m' ≡ (record v { lanes = m'.0.lanes }, [])) × (i + 1 + length m'.0.lanes ≡ count) × AreEmpty m'.0.lanes × ((made ++ lane_seen (head_or no_lane p.0.lanes) ∷ []) ++ map lane_seen m'.0.lanes ≡ all)
+
+pub lane_turn : (m : Me Empty View) (v : View) (i count : ℕ) (made all : List (Option LanePart)) (m' p : Me Empty View) → m ≡ (record v { lanes = m.0.lanes }, []) → i + length m.0.lanes ≡ count → i < count → AreEmpty m.0.lanes → made ++ map lane_seen m.0.lanes ≡ all → m' ≡ (without_lane m.0, m.1) → p ≡ (lane_only m.0, [])
+    → LaneTurn m v i count made all m' p
+lane_turn m v i count made all m' p rest long more empty so_far now part =
+    subst (λ (x : Me Empty View × Me Empty View). LaneTurn m v i count made all x.0 x.1) (λ j. (sym now j, sym part j)) (by m.0.lanes rest long empty so_far)
+  where
+    by : (ks : List LanePart) → m ≡ (record v { lanes = ks }, []) → i + length ks ≡ count → AreEmpty ks → made ++ map lane_seen ks ≡ all → LaneTurn m v i count made all (record m.0 { lanes = behind m.0.lanes }, m.1) (record blank { lanes = first_of m.0.lanes }, [])
+    by [] rest long empty so_far = absurd (omega (arith, more))
+    by (k ∷ ks) rest long empty so_far = subst (λ (x : Me Empty View). LaneTurn m v i count made all (record x.0 { lanes = behind x.0.lanes }, x.1) (record blank { lanes = first_of x.0.lanes }, [])) (sym rest)
+        (refl, sym empty.0, refl, omega (arith, long), empty.1, append_assoc made (lane_seen k ∷ []) (map lane_seen ks) ∙ so_far)
+
+-- ---- the parts of a first seat
+
+pub length_classes : (f i at : ℕ) (ks : List ClassConfig) → length (class_parts f i at ks) ≡ length ks
+length_classes f i at [] = refl
+length_classes f i at (k ∷ ks) = omega (arith, length_classes f (i + 1) (at + k.chunks) ks)
+
+pub numbered_classes : (f i at : ℕ) (ks : List ClassConfig) → Numbered i (class_parts f i at ks)
+numbered_classes f i at [] = tt
+numbered_classes f i at (k ∷ ks) = (refl, numbered_classes f (i + 1) (at + k.chunks) ks)
+
+pub length_workers : (w n : ℕ) → length (worker_parts w n) ≡ n
+length_workers w zero = refl
+length_workers w (suc n) = omega (arith, length_workers (w + 1) n)
+
+pub length_lanes : (w n : ℕ) → length (lane_parts w n) ≡ n
+length_lanes w zero = refl
+length_lanes w (suc n) = omega (arith, length_lanes (w + 1) n)
+
+pub empty_lanes : (w n : ℕ) → AreEmpty (lane_parts w n)
+empty_lanes w zero = tt
+empty_lanes w (suc n) = (refl, empty_lanes (w + 1) n)

@@ -1,0 +1,69 @@
+-- A hold meets its class: each label that it read is the one that the class has for the chunk.
+use Rattle.std.proofs.Common.{◌≡◌, ℕ, ◌+◌, ◌*◌, ◌/◌, ◌<◌, ◌&&◌, eqb, not, Bool, true, false, List, [], ◌∷◌, ◌++◌, Option, Some, refl, sym, ap, ap₂, ◌∙◌, subst, arith, eqb-true}
+use mathlib.Core.Option.{none}
+use native.Mathlib.Nat.{one-mul}
+use Rattle.atomic_table.specs.Table.{Me, Allows, step}
+use Rattle.atomic_table.specs.Seated.{TableId}
+use Rattle.atomic_table.specs.declared.shared.Seat.{Seat}
+use Rattle.bump_rules.specs.declared.items.ItemId.{ItemId}
+use Rattle.bump_heads.specs.declared.views.Empty.{Empty}
+use Rattle.bump_heads.specs.declared.views.ClassView.{ClassView}
+use Rattle.bump_heads.specs.declared.views.HoldView.{HoldView}
+use Rattle.bump_heads.specs.Seats.{class_me, IsHold, hold_in_seat, labels_in, head_or, no_hold}
+use Rattle.bump_rules.specs.declared.configs.Config.{Config}
+use Rattle.bump_rules.specs.Lawful.{bit}
+use Rattle.bump_rules.specs.Totals.{total}
+use Rattle.bump_heads.specs.declared.views.HoldPart.{HoldPart}
+use Rattle.bump_heads.specs.declared.views.ClassPart.{ClassPart}
+use Rattle.bump_heads.specs.declared.views.View.{View}
+use Rattle.bump_rules.specs.Lives.{life, one_if}
+use Rattle.bump_heads.specs.Views.{Measure, held, mislabels, misreads, misread, differs, owns, label_of, weight}
+use Rattle.bump_heads.specs.Rule.{Sound, chunks, Kept}
+use Rattle.bump_heads.specs.Plays.{Sat, on_chunk, met, Meets, joined}
+use Rattle.bump_heads.proofs.Frame.{Amid, on_label, same_sound}
+use Rattle.bump_heads.proofs.StepLemmas.{one_life, label_chunk_is}
+
+equal_where : (own b : Bool) → own ≡ true → bit (own && not b) ≡ 0 → b ≡ true
+equal_where true true o e = refl
+equal_where true false o e = absurd (omega arith)
+equal_where false b o e = absurd (cc o)
+
+pub met_labels : (c limit n x : ℕ) (v : View) (t : Measure → ℕ) (o : Sound limit n x t) → Amid c v t → Meets c v x
+met_labels c limit n x v t o a k h ks hs mine of =
+    let own : bit (owns c k && not (eqb (label_of k c) x)) ≡ 0 = omega (arith, a.mine (mislabels x), o.labelled, ap (total (λ (k : ClassPart). bit (owns c k && not (eqb (label_of k c) x)))) ks) in
+    let label : label_of k c ≡ x = eqb-true _ _ (equal_where (owns c k) (eqb (label_of k c) x) mine own) in
+    let g : ℕ = h.life.generation in
+    let one : one_if (life c g) h.life ≡ 1 = ap (λ (d : ℕ). one_if (life d g) h.life) (sym of) ∙ one_life h.life in
+    let gen : g ≡ o.head.generation = (o.lawful.used g (omega (arith, a.mine (held g), ap (total (λ (p : HoldPart). one_if (life c g) p.life)) hs, one))).0 in
+    let read : one_if (life c g) h.life * total (differs x) h.labels ≡ 0 = subst (λ (j : ℕ). one_if (life c j) h.life * total (differs x) h.labels ≡ 0) (sym gen) (omega (arith, a.mine (misreads o.head.generation x), o.read, ap (total (misread c o.head.generation x)) hs)) in
+    (label, sym (one-mul (total (differs x) h.labels)) ∙ ap (λ (j : ℕ). j * total (differs x) h.labels) (sym one) ∙ read)
+
+pub meets : (key : Config) (slots id : ℕ) (m : Sat) (c : ℕ) → c < chunks key → Allows (Kept key) slots id m (3 * c + 2) (λ x. x) (on_chunk met (step slots (3 * c + 2) 0 0 none) m)
+meets key slots id m c near = subst (λ (d : ℕ). Allows (Kept key) slots id m (3 * c + 2) (λ x. x) (λ x n. met d 0 m x n)) (sym (label_chunk_is c))
+    (on_label key slots id m c (λ x. x) (λ x n. met c 0 m x n) near (λ n x t limits o a. (
+      m.0,
+      (λ u moved. same_sound key.refs_limit n x t u (λ y. let e = moved y in omega arith) o),
+      (λ b ne y. refl),
+      record { backs = λ n e. (omega arith, λ more. absurd (omega arith)); even = λ q. omega arith; lanes = λ w. refl; tidy = omega arith },
+      (refl, met_labels c key.refs_limit n x m.0 t o a),
+    )))
+
+-- for the contract of `meet`
+pub met_told : (m : Me Empty View) (v w : ClassView) (o : Option (Seat Empty View)) (s : Seat Empty View) (table : TableId) (l : ItemId) (part : Option HoldPart) (x : ℕ) → m ≡ class_me v → v ≡ w → IsHold table l o → o ≡ Some s → hold_in_seat o ≡ part → Meets l.chunk (joined m.0 s.me.0) x → owns l.chunk w.part ≡ true
+    → (x ≡ label_of w.part l.chunk) × (total (differs x) (labels_in part) ≡ 0)
+met_told m v w o s table l part x is same whole some part_is meets own =
+    let held = subst (IsHold table l) some whole in
+    let h : HoldPart = head_or no_hold s.me.0.holds in
+    let t = meets v.part h
+    (ap (λ (y : Me Empty View). y.0.classes ++ s.me.0.classes) is ∙ ap (λ (y : Me Empty View). v.part ∷ [] ++ y.0.classes) held.0)
+    (ap (λ (y : Me Empty View). y.0.holds ++ s.me.0.holds) is ∙ ap (λ (y : Me Empty View). y.0.holds) held.0)
+    (ap (λ (y : ClassView). owns l.chunk y.part) same ∙ own)
+    (ap (λ (y : ItemId). y.chunk) held.2) in
+    (sym t.0 ∙ ap (λ (y : ClassView). label_of y.part l.chunk) same, subst (λ (p : Option HoldPart). total (differs x) (labels_in p) ≡ 0) (sym (ap hold_in_seat some) ∙ part_is) t.1)
+
+pub met_view : (m : Me Empty View) (v w : ClassView) (o : Option (Seat Empty View)) (s : Seat Empty View) (table : TableId) (l : ItemId) (hv : HoldView) (x : ℕ) → m ≡ class_me v → v ≡ w → IsHold table l o → o ≡ Some s → record { life = l; part = hold_in_seat o } ≡ hv → Meets l.chunk (joined m.0 s.me.0) x → owns hv.life.chunk w.part ≡ true
+    → (x ≡ label_of w.part hv.life.chunk) × (total (differs x) (labels_in hv.part) ≡ 0)
+met_view m v w o s table l hv x is same whole some view_is meets own =
+    let life_is : l ≡ hv.life = ap (λ (h : HoldView). h.life) view_is in
+    let t = met_told m v w o s table l hv.part x is same whole some (ap (λ (h : HoldView). h.part) view_is) meets (ap (λ (y : ItemId). owns y.chunk w.part) life_is ∙ own) in
+    (t.0 ∙ ap (λ (y : ItemId). label_of w.part y.chunk) life_is, t.1)

@@ -1,0 +1,176 @@
+//! A table whose chunks had no life yet, and the seats of its classes, workers and lanes.
+ghost use Rattle.std.specs.Prelude.{ℕ, ◌≡◌, ◌≤◌, ◌<◌, ◌-◌, ◌*◌, ◌+◌, [], ◌∷◌, IfOk, None, Some, length, map};
+ghost use Rattle.std.specs.Arc.{arc_value};
+ghost use Rattle.bump_heads.specs.Rule.{AreFresh, opened, chunks as all_chunks, class_parts, worker_parts, lane_parts, blank};
+ghost use Rattle.bump_rules.specs.Configs.{chunks_of};
+ghost use Rattle.bump_heads.specs.Steps.{words_id};
+ghost use Rattle.bump_heads.specs.Making.{class_seen, lane_seen, worker_seen, Numbered, AreEmpty};
+
+use crate::seats::{ClassSeat, Heads, LaneSeat, WorkerSeat};
+use crate::names::Name;
+use crate::words::{Seat, Words};
+use atomic_table::Table;
+use bump_rules::{ClassConfig, Config};
+use std::alloc::{AllocError, Global};
+use std::marker::PhantomData;
+use std::sync::Arc;
+
+/// A table before it has a name, and its one seat.
+#[derive(Drop)]
+pub struct Blank {
+    pub(crate) words: Words,
+    pub(crate) seat: Seat,
+    ghost fresh: { (seat.table_id ≡ words_id words) × (seat.me ≡ (opened words.table.shared.key, [])) × (0 < (words_id words).words) },
+}
+
+/// What a store's heads are made of: the heads, and a seat for each class, worker and lane, by number.
+#[derive(Drop)]
+pub struct HeadParts<N: Name> {
+    pub heads: Heads<N>,
+    pub classes: Vec<ClassSeat<N>>,
+    pub workers: Vec<WorkerSeat<N>>,
+    pub lanes: Vec<LaneSeat<N>>,
+}
+
+fn count_chunks(configs: &[ClassConfig]) -> u32
+    requires { chunks_of configs.now ≤ 1000000 }
+    ensures { result ≡ chunks_of configs.now }
+{
+    let mut count = 0;
+    for config in configs {
+        count += config.chunks;
+    }
+    count
+}
+
+fn fresh_words(alloc: Global, chunks: u32, first: u32) -> Result<Vec<u64>, AllocError>
+    requires { (chunks ≤ 1000000) × (0 < first) }
+    ensures words { IfOk result (λ v. AreFresh chunks (first - 1) v.items) }
+    ensures fits { first < 4294967296 }
+{
+    let mut words = Vec::with_capacity(alloc, 3 * chunks as usize)?;
+    let word = u64::from(first - 1) * 4_294_967_296;
+    for chunk in 0..chunks {
+        words.push(word)?;
+        words.push(0)?;
+        words.push(0)?;
+    }
+    Ok(words)
+}
+
+impl Blank {
+    /// A table whose chunks had no life yet.
+    pub fn new(alloc: Global, config: &Config) -> Result<Blank, AllocError>
+        ensures { IfOk result (λ b. b.words.table.shared.key ≡ config.now) }
+    {
+        let chunks = count_chunks(config.classes.as_slice());
+        let words = fresh_words(alloc, chunks, config.first_generation)?;
+        let (table, seat) = Table::of_words(alloc, &words, config)?;
+        Ok(Blank {
+            words: Words { table },
+            seat,
+        })
+    }
+}
+
+fn part_classes<N: Name>(
+    alloc: Global,
+    words: &Arc<Words, Global>,
+    seat: &mut Seat,
+    count: u32,
+) -> Result<Vec<ClassSeat<N>>, AllocError>
+    requires table { (words_id (arc_value words.now) ≡ N.table) × (0 < N.table.words) }
+    requires seat { (seat.old.table_id ≡ N.table) × (seat.old.me.1 ≡ []) }
+    requires parts { (length seat.old.me.0.classes ≡ count) × Numbered 0 seat.old.me.0.classes }
+    ensures rest { IfOk result (λ v. (seat.new.table_id ≡ N.table) × (seat.new.me ≡ (record seat.old.me.0 { classes = [] }, []))) }
+    ensures seats { IfOk result (λ v. v.items ≡ map class_seen seat.old.me.0.classes) }
+{
+    let mut seats = Vec::with_capacity(alloc, count as usize)?;
+    for class in 0..count {
+        let part = words.part_class(seat);
+        seats.push(ClassSeat {
+            seat: part,
+            aboard: None,
+            class,
+            words: Arc::try_clone(words)?,
+            of: PhantomData,
+        })?;
+    }
+    Ok(seats)
+}
+
+fn part_workers<N: Name>(
+    alloc: Global,
+    words: &Arc<Words, Global>,
+    seat: &mut Seat,
+    count: u32,
+) -> Result<Vec<WorkerSeat<N>>, AllocError>
+    requires table { (words_id (arc_value words.now) ≡ N.table) × (0 < N.table.words) }
+    requires seat { (seat.old.table_id ≡ N.table) × (seat.old.me.1 ≡ []) }
+    requires parts { length seat.old.me.0.workers ≡ count }
+    ensures rest { IfOk result (λ v. (seat.new.table_id ≡ N.table) × (seat.new.me ≡ (record seat.old.me.0 { workers = [] }, []))) }
+    ensures seats { IfOk result (λ v. v.items ≡ map worker_seen seat.old.me.0.workers) }
+{
+    let mut seats = Vec::with_capacity(alloc, count as usize)?;
+    for worker in 0..count {
+        let part = words.part_worker(seat);
+        seats.push(WorkerSeat {
+            seat: part,
+            of: PhantomData,
+        })?;
+    }
+    Ok(seats)
+}
+
+fn part_lanes<N: Name>(
+    alloc: Global,
+    words: &Arc<Words, Global>,
+    seat: &mut Seat,
+    count: u32,
+) -> Result<Vec<LaneSeat<N>>, AllocError>
+    requires table { (words_id (arc_value words.now) ≡ N.table) × (0 < N.table.words) }
+    requires seat { (seat.old.table_id ≡ N.table) × (seat.old.me.1 ≡ []) }
+    requires parts { (length seat.old.me.0.lanes ≡ count) × AreEmpty seat.old.me.0.lanes }
+    ensures rest { IfOk result (λ v. (seat.new.table_id ≡ N.table) × (seat.new.me ≡ (record seat.old.me.0 { lanes = [] }, []))) }
+    ensures seats { IfOk result (λ v. v.items ≡ map lane_seen seat.old.me.0.lanes) }
+{
+    let mut seats = Vec::with_capacity(alloc, count as usize)?;
+    for worker in 0..count {
+        let part = words.part_lane(seat);
+        seats.push(LaneSeat {
+            seat: Some(part),
+            aboard: None,
+            words: Arc::try_clone(words)?,
+            of: PhantomData,
+        })?;
+    }
+    Ok(seats)
+}
+
+impl<N: Name> Heads<N> {
+    /// The heads of the blank, under the name that its table has, and the seats of its classes, workers and lanes.
+    pub fn new(alloc: Global, blank: Blank, config: &Config) -> Result<HeadParts<N>, AllocError>
+        requires name { words_id blank.words ≡ N.table }
+        requires config { blank.words.table.shared.key ≡ config.now }
+        ensures heads { IfOk result (λ p. p.heads ≡ config.now) }
+        ensures classes { IfOk result (λ p. p.classes.items ≡ map class_seen (class_parts (config.now.first_generation - 1) 0 0 config.now.classes)) }
+        ensures workers { IfOk result (λ p. p.workers.items ≡ map worker_seen (worker_parts 0 config.now.workers)) }
+        ensures lanes { IfOk result (λ p. p.lanes.items ≡ map lane_seen (lane_parts 0 config.now.workers)) }
+    {
+        let Blank { words, mut seat } = blank;
+        let words = Arc::new(alloc, words)?;
+        let count = config.classes.as_slice().len() as u32;
+        let classes = part_classes(alloc, &words, &mut seat, count)?;
+        let workers = part_workers(alloc, &words, &mut seat, config.workers)?;
+        let lanes = part_lanes(alloc, &words, &mut seat, config.workers)?;
+        Ok(HeadParts {
+            heads: Heads {
+                words,
+                of: PhantomData,
+            },
+            classes,
+            workers,
+            lanes,
+        })
+    }
+}

@@ -1,0 +1,53 @@
+//! Bumps' references that travel, and how they board a lane.
+ghost use Rattle.std.specs.Prelude.{◌≡◌, ◌*◌, ◌<◌, ◌+◌, [], ◌∷◌, None, Some, IsSome, length};
+ghost use Rattle.bump_heads.specs.declared.views.Ride.{Ride as TheRide};
+ghost use Rattle.bump_rules.specs.declared.lanes.Lane.TheVariants.{Empty as IsEmpty};
+ghost use Rattle.bump_heads.specs.Riders.{ride_me, boarded, bump_of, applied_by};
+ghost use Rattle.bump_heads.specs.Seats.{stage_of, lane_map};
+
+use crate::seats::LaneSeat;
+use crate::names::Name;
+use crate::views::Ride;
+use crate::words::Seat;
+use bump_rules::Bump;
+use std::marker::{Model, PhantomData};
+
+/// A reference that travels as a bump. Where it is dropped its chunk stays held.
+#[derive(Drop)]
+pub struct Rider<N: Name> {
+    pub(crate) seat: Seat,
+    pub(crate) ride: Ride,
+    pub(crate) of: PhantomData<N>,
+}
+
+impl<N: Name> Model for Rider<N> {
+    ghost Value = { TheRide };
+
+    ghost view = { λ r. r.ride };
+
+    ghost invariant = { λ r. (r.seat.me ≡ ride_me r.ride) × (r.seat.table_id ≡ N.table) × (3 * r.ride.life.chunk + 2 < N.table.words) × (r.ride.number < 4611686018427387903) };
+}
+
+impl<N: Name> LaneSeat<N> {
+    /// The bump goes aboard, as the next of the lane. The caller knows that this is its number.
+    pub fn board(&mut self, rider: Rider<N>)
+        requires empty { (IsSome self.old) × (stage_of self.old ≡ IsEmpty) }
+        requires next { rider.number ≡ length (applied_by self.old) }
+        ensures { self.new ≡ lane_map (boarded (bump_of rider)) self.old }
+    {
+        let Rider {
+            seat: part,
+            ride,
+            of: _,
+        } = rider;
+        let Some(mut seat) = self.seat.take() else {
+            unreachable!()
+        };
+        self.words.board(&mut seat, part);
+        self.seat = Some(seat);
+        self.aboard = Some(Bump {
+            number: ride.number,
+            life: ride.life,
+        });
+    }
+}
