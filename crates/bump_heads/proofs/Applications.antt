@@ -34,8 +34,9 @@ use Rattle.bump_heads.specs.declared.views.LanePart.{LanePart}
 use Rattle.bump_heads.specs.declared.views.View.{View}
 use Rattle.bump_heads.specs.Views.{refers, aboard_of, Measure, held, named, saw, owners, strays, mislabels, misreads, owns, standing, label_of, weight, evidence, shown_by, claims, claimed_in, moves, settled, settled_in, is_entry, outcome_number, Query, lanes_of, in_order, is_next, untidy, untidy_in, shows_time_only, active_clear, IsBacked}
 use Rattle.bump_heads.specs.Rule.{Sound, chunks, Kept}
-use Rattle.bump_heads.specs.Plays.{Sat, Tells, on_chunk, on_first, for_bump, for_first, step_of, tried_stage, tried_lane, tried_view, tried, cleared_stage, cleared_view, cleared, noted_class, timed_view, timed, moved_view, moved_on, alighted_lane, alighted_view, alighted, entry_of, Told, Stands}
-use Rattle.bump_heads.specs.Steps.{applying, Moves, MayMove, is_past_move, Alights, MayAlight}
+use Rattle.bump_heads.specs.Plays.{Sat, Tells, on_chunk, on_first, step_of, Told, Stands}
+use Rattle.bump_heads.specs.Applications.{for_bump, for_first, tried_stage, tried_lane, tried_view, tried, cleared_stage, cleared_view, cleared, noted_class, timed_view, timed, moved_view, moved_on, alighted_lane, alighted_view, alighted, entry_of}
+use Rattle.bump_heads.specs.Applications.{applying, Moves, MayMove, is_past_move, Alights, MayAlight}
 use Rattle.bump_heads.proofs.Told.{at_standing, tells, stands_alone}
 use Rattle.bump_rules.specs.Lives.{life, one_if, is_same}
 use Rattle.bump_rules.specs.Lanes.{applied_bump}

@@ -1,5 +1,5 @@
 -- One turn of the loops that split the seats of classes, workers and lanes off.
-use Rattle.std.proofs.Common.{◌≡◌, ℕ, zero, suc, ◌+◌, ◌<◌, List, [], ◌∷◌, ◌++◌, Option, None, Some, map, length, refl, sym, ap, ◌∙◌, subst, arith, append_assoc}
+use Rattle.std.proofs.Common.{◌≡◌, ℕ, zero, suc, ◌+◌, ◌*◌, ◌<◌, List, [], ◌∷◌, ◌++◌, Option, None, Some, map, length, refl, sym, ap, ◌∙◌, subst, arith, append_assoc}
 use Rattle.atomic_table.specs.Table.{Me}
 use Rattle.bump_rules.specs.declared.bumps.Bump.{Bump}
 use Rattle.bump_heads.specs.declared.views.Empty.{Empty}
@@ -12,35 +12,40 @@ use Rattle.bump_heads.specs.declared.views.View.{View}
 use Rattle.bump_heads.specs.Views.{aboard_of}
 use Rattle.bump_rules.specs.declared.configs.ClassConfig.{ClassConfig}
 use Rattle.bump_heads.specs.Rule.{blank, class_parts, worker_parts, lane_parts}
-use Rattle.bump_heads.specs.Plays.{without_class, class_only, without_worker, worker_only, without_lane, lane_only, behind, first_of}
-use Rattle.bump_heads.specs.Seats.{class_me, class_in, worker_me, worker_in, lane_me, bump_aboard, first, head_or, no_lane}
-use Rattle.bump_heads.specs.Making.{class_seen, worker_seen, lane_seen, Numbered, AreEmpty}
+use Rattle.bump_heads.specs.Cuts.{without_class, class_only, without_worker, worker_only, without_lane, lane_only}
+use Rattle.bump_heads.specs.Plays.{behind, first_of}
+use Rattle.atomic_table.specs.Seated.{TableId}
+use Rattle.bump_rules.specs.Configs.{chunks_of}
+use Rattle.bump_heads.specs.Seats.{class_me, class_in, worker_me, worker_in, lane_me, bump_aboard, held_life, IsInRange, IsLifeInRange, IsClassPart, IsWorkerPart, head_or, no_lane}
+use Rattle.bump_heads.specs.Making.{class_seen, worker_seen, lane_seen, AreNewClasses, AreNewWorkers, AreEmpty}
 
-abbrev pub Turn : Me Empty View → View → ℕ → ℕ → List ClassView → List ClassView → Me Empty View → Me Empty View → Type 0
-Turn m v i count made all m' p = (p ≡ class_me (class_in p.0)) × (◌≡◌ {A = Option Bump} None (bump_aboard (first p.0.lanes))) × (i ≡ (class_in p.0).part.class) × (m' ≡ (record v { classes = m'.0.classes }, [])) × (i + 1 + length m'.0.classes ≡ count) × Numbered (i + 1) m'.0.classes × ((made ++ class_in p.0 ∷ []) ++ map class_seen m'.0.classes ≡ all)
+abbrev pub Turn : TableId → Me Empty View → View → ℕ → ℕ → List ClassView → List ClassView → Me Empty View → Me Empty View → Type 0
+Turn table m v i count made all m' p = (p ≡ class_me (class_in p.0)) × IsInRange table (bump_aboard (class_in p.0).lane) × (i ≡ (class_in p.0).part.class) × IsClassPart table.words (class_in p.0).part × (m' ≡ (record v { classes = m'.0.classes }, [])) × (i + 1 + length m'.0.classes ≡ count) × AreNewClasses table.words (i + 1) m'.0.classes × ((made ++ class_in p.0 ∷ []) ++ map class_seen m'.0.classes ≡ all)
 
-pub class_turn : (m : Me Empty View) (v : View) (i count : ℕ) (made all : List ClassView) (m' p : Me Empty View) → m ≡ (record v { classes = m.0.classes }, []) → i + length m.0.classes ≡ count → i < count → Numbered i m.0.classes → made ++ map class_seen m.0.classes ≡ all → m' ≡ (without_class m.0, m.1) → p ≡ (class_only m.0, [])
-    → Turn m v i count made all m' p
-class_turn m v i count made all m' p rest long more numbers so_far now part =
-    subst (λ (x : Me Empty View × Me Empty View). Turn m v i count made all x.0 x.1) (λ j. (sym now j, sym part j)) (by m.0.classes rest long numbers so_far)
+-- one turn of the loop over the classes
+pub class_turn : (table : TableId) (m : Me Empty View) (v : View) (i count : ℕ) (made all : List ClassView) (m' p : Me Empty View) → m ≡ (record v { classes = m.0.classes }, []) → i + length m.0.classes ≡ count → i < count → AreNewClasses table.words i m.0.classes → made ++ map class_seen m.0.classes ≡ all → m' ≡ (without_class m.0, m.1) → p ≡ (class_only m.0, [])
+    → Turn table m v i count made all m' p
+class_turn table m v i count made all m' p rest long more numbers so_far now part =
+    subst (λ (x : Me Empty View × Me Empty View). Turn table m v i count made all x.0 x.1) (λ j. (sym now j, sym part j)) (by m.0.classes rest long numbers so_far)
   where
-    by : (ks : List ClassPart) → m ≡ (record v { classes = ks }, []) → i + length ks ≡ count → Numbered i ks → made ++ map class_seen ks ≡ all → Turn m v i count made all (record m.0 { classes = behind m.0.classes }, m.1) (record blank { classes = first_of m.0.classes }, [])
+    by : (ks : List ClassPart) → m ≡ (record v { classes = ks }, []) → i + length ks ≡ count → AreNewClasses table.words i ks → made ++ map class_seen ks ≡ all → Turn table m v i count made all (record m.0 { classes = behind m.0.classes }, m.1) (record blank { classes = first_of m.0.classes }, [])
     by [] rest long numbers so_far = absurd (omega (arith, more))
-    by (k ∷ ks) rest long numbers so_far = subst (λ (x : Me Empty View). Turn m v i count made all (record x.0 { classes = behind x.0.classes }, x.1) (record blank { classes = first_of x.0.classes }, [])) (sym rest)
-        (refl, refl, sym numbers.0, refl, omega (arith, long), numbers.1, append_assoc made (class_seen k ∷ []) (map class_seen ks) ∙ so_far)
+    by (k ∷ ks) rest long numbers so_far = subst (λ (x : Me Empty View). Turn table m v i count made all (record x.0 { classes = behind x.0.classes }, x.1) (record blank { classes = first_of x.0.classes }, [])) (sym rest)
+        (refl, tt, sym numbers.0, numbers.1, refl, omega (arith, long), numbers.2, append_assoc made (class_seen k ∷ []) (map class_seen ks) ∙ so_far)
 
-abbrev pub WorkerTurn : Me Empty View → View → ℕ → ℕ → List WorkerView → List WorkerView → Me Empty View → Me Empty View → Type 0
-WorkerTurn m v i count made all m' p = (p ≡ worker_me (worker_in p.0)) × (m' ≡ (record v { workers = m'.0.workers }, [])) × (i + 1 + length m'.0.workers ≡ count) × ((made ++ worker_in p.0 ∷ []) ++ map worker_seen m'.0.workers ≡ all)
+abbrev pub WorkerTurn : TableId → Me Empty View → View → ℕ → ℕ → List WorkerView → List WorkerView → Me Empty View → Me Empty View → Type 0
+WorkerTurn table m v i count made all m' p = (p ≡ worker_me (worker_in p.0)) × (i ≡ (worker_in p.0).part.worker) × IsLifeInRange table (held_life (worker_in p.0).hold) × IsWorkerPart (worker_in p.0).part × (m' ≡ (record v { workers = m'.0.workers }, [])) × (i + 1 + length m'.0.workers ≡ count) × AreNewWorkers (i + 1) m'.0.workers × ((made ++ worker_in p.0 ∷ []) ++ map worker_seen m'.0.workers ≡ all)
 
-pub worker_turn : (m : Me Empty View) (v : View) (i count : ℕ) (made all : List WorkerView) (m' p : Me Empty View) → m ≡ (record v { workers = m.0.workers }, []) → i + length m.0.workers ≡ count → i < count → made ++ map worker_seen m.0.workers ≡ all → m' ≡ (without_worker m.0, m.1) → p ≡ (worker_only m.0, [])
-    → WorkerTurn m v i count made all m' p
-worker_turn m v i count made all m' p rest long more so_far now part =
-    subst (λ (x : Me Empty View × Me Empty View). WorkerTurn m v i count made all x.0 x.1) (λ j. (sym now j, sym part j)) (by m.0.workers rest long so_far)
+-- one turn of the loop over the workers
+pub worker_turn : (table : TableId) (m : Me Empty View) (v : View) (i count : ℕ) (made all : List WorkerView) (m' p : Me Empty View) → m ≡ (record v { workers = m.0.workers }, []) → i + length m.0.workers ≡ count → i < count → AreNewWorkers i m.0.workers → made ++ map worker_seen m.0.workers ≡ all → m' ≡ (without_worker m.0, m.1) → p ≡ (worker_only m.0, [])
+    → WorkerTurn table m v i count made all m' p
+worker_turn table m v i count made all m' p rest long more numbers so_far now part =
+    subst (λ (x : Me Empty View × Me Empty View). WorkerTurn table m v i count made all x.0 x.1) (λ j. (sym now j, sym part j)) (by m.0.workers rest long numbers so_far)
   where
-    by : (ks : List WorkerPart) → m ≡ (record v { workers = ks }, []) → i + length ks ≡ count → made ++ map worker_seen ks ≡ all → WorkerTurn m v i count made all (record m.0 { workers = behind m.0.workers }, m.1) (record blank { workers = first_of m.0.workers }, [])
-    by [] rest long so_far = absurd (omega (arith, more))
-    by (k ∷ ks) rest long so_far = subst (λ (x : Me Empty View). WorkerTurn m v i count made all (record x.0 { workers = behind x.0.workers }, x.1) (record blank { workers = first_of x.0.workers }, [])) (sym rest)
-        (refl, refl, omega (arith, long), append_assoc made (worker_seen k ∷ []) (map worker_seen ks) ∙ so_far)
+    by : (ks : List WorkerPart) → m ≡ (record v { workers = ks }, []) → i + length ks ≡ count → AreNewWorkers i ks → made ++ map worker_seen ks ≡ all → WorkerTurn table m v i count made all (record m.0 { workers = behind m.0.workers }, m.1) (record blank { workers = first_of m.0.workers }, [])
+    by [] rest long numbers so_far = absurd (omega (arith, more))
+    by (k ∷ ks) rest long numbers so_far = subst (λ (x : Me Empty View). WorkerTurn table m v i count made all (record x.0 { workers = behind x.0.workers }, x.1) (record blank { workers = first_of x.0.workers }, [])) (sym rest)
+        (refl, sym numbers.0, tt, numbers.1, refl, omega (arith, long), numbers.2, append_assoc made (worker_seen k ∷ []) (map worker_seen ks) ∙ so_far)
 
 abbrev pub LaneTurn : Me Empty View → View → ℕ → ℕ → List (Option LanePart) → List (Option LanePart) → Me Empty View → Me Empty View → Type 0
 LaneTurn m v i count made all m' p = (p ≡ lane_me (head_or no_lane p.0.lanes)) × (◌≡◌ {A = Option Bump} None (aboard_of (head_or no_lane p.0.lanes).stage)) × (m' ≡ (record v { lanes = m'.0.lanes }, [])) × (i + 1 + length m'.0.lanes ≡ count) × AreEmpty m'.0.lanes × ((made ++ lane_seen (head_or no_lane p.0.lanes) ∷ []) ++ map lane_seen m'.0.lanes ≡ all)
@@ -61,9 +66,23 @@ pub length_classes : (f i at : ℕ) (ks : List ClassConfig) → length (class_pa
 length_classes f i at [] = refl
 length_classes f i at (k ∷ ks) = omega (arith, length_classes f (i + 1) (at + k.chunks) ks)
 
-pub numbered_classes : (f i at : ℕ) (ks : List ClassConfig) → Numbered i (class_parts f i at ks)
-numbered_classes f i at [] = tt
-numbered_classes f i at (k ∷ ks) = (refl, numbered_classes f (i + 1) (at + k.chunks) ks)
+pub new_classes : (words f i at : ℕ) (ks : List ClassConfig) → words ≡ 3 * (at + chunks_of ks) → AreNewClasses words i (class_parts f i at ks)
+new_classes words f i at [] all = tt
+new_classes words f i at (k ∷ ks) all = (
+  refl,
+  record {
+    within = omega (arith, all);
+    between = tt;
+    causes = refl;
+    labelled = λ c own used. absurd used;
+    unbegun = λ c g later. refl;
+  },
+  new_classes words f (i + 1) (at + k.chunks) ks (omega (arith, all)),
+)
+
+pub new_workers : (w n : ℕ) → AreNewWorkers w (worker_parts w n)
+new_workers w zero = tt
+new_workers w (suc n) = (refl, record { accepted = refl; attempted = refl; most = omega arith }, new_workers (w + 1) n)
 
 pub length_workers : (w n : ℕ) → length (worker_parts w n) ≡ n
 length_workers w zero = refl

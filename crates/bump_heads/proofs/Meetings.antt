@@ -9,7 +9,8 @@ use Rattle.bump_rules.specs.declared.items.ItemId.{ItemId}
 use Rattle.bump_heads.specs.declared.views.Empty.{Empty}
 use Rattle.bump_heads.specs.declared.views.ClassView.{ClassView}
 use Rattle.bump_heads.specs.declared.views.HoldView.{HoldView}
-use Rattle.bump_heads.specs.Seats.{class_me, IsHold, hold_in_seat, labels_in, head_or, no_hold}
+use Rattle.bump_heads.specs.Seats.{class_me, IsHold, hold_in_seat, head_or, no_hold}
+use Rattle.bump_heads.specs.Applying.{labels_in}
 use Rattle.bump_rules.specs.declared.configs.Config.{Config}
 use Rattle.bump_rules.specs.Lawful.{bit}
 use Rattle.bump_rules.specs.Totals.{total}
@@ -19,7 +20,9 @@ use Rattle.bump_heads.specs.declared.views.View.{View}
 use Rattle.bump_rules.specs.Lives.{life, one_if}
 use Rattle.bump_heads.specs.Views.{Measure, held, mislabels, misreads, misread, differs, owns, label_of, weight}
 use Rattle.bump_heads.specs.Rule.{Sound, chunks, Kept}
-use Rattle.bump_heads.specs.Plays.{Sat, on_chunk, met, Meets, joined}
+use Rattle.bump_heads.specs.Plays.{Sat, on_chunk}
+use Rattle.bump_heads.specs.Meetings.{met, Meets}
+use Rattle.bump_heads.specs.Cuts.{joined}
 use Rattle.bump_heads.proofs.Frame.{Amid, on_label, same_sound}
 use Rattle.bump_heads.proofs.StepLemmas.{one_life, label_chunk_is}
 

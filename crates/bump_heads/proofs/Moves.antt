@@ -18,7 +18,8 @@ use Rattle.bump_heads.specs.declared.views.LanePart.{LanePart}
 use Rattle.bump_heads.specs.declared.views.View.{View}
 use Rattle.bump_heads.specs.Views.{Measure, held, named, saw, owners, strays, mislabels, misreads, misread, refers, in_hand, is_fetch_of, aboard_of, owns, standing, label_of, weight, claims, evidence, shown_by, claimed_in, Query, moves, settled, settled_in, lanes_of, untidy, untidy_in, shows_time_only}
 use Rattle.bump_heads.specs.Rule.{blank, Kept}
-use Rattle.bump_heads.specs.Plays.{joined, behind, first_of, without_lanes, lanes_only, without_holds, holds_only, without_class, class_only, without_worker, worker_only, without_lane, lane_only}
+use Rattle.bump_heads.specs.Cuts.{joined, without_lanes, lanes_only, without_holds, holds_only, without_class, class_only, without_worker, worker_only, without_lane, lane_only}
+use Rattle.bump_heads.specs.Plays.{behind, first_of}
 use Rattle.bump_heads.proofs.Frame.{AddsUp, splits, joins}
 use Rattle.bump_heads.proofs.Sums.{cut}
 

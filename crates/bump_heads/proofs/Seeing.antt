@@ -13,9 +13,12 @@ use Rattle.bump_heads.specs.declared.views.LanePart.{LanePart}
 use Rattle.bump_heads.specs.declared.views.ClassView.{ClassView}
 use Rattle.bump_heads.specs.declared.views.View.{View}
 use Rattle.bump_heads.specs.Views.{aboard_of, refers, standing}
-use Rattle.bump_heads.specs.Plays.{Told, joined, on_first, alighted_lane, alighted_view, lanes_only}
-use Rattle.bump_heads.specs.Steps.{applying}
-use Rattle.bump_heads.specs.Seats.{Seen, class_me, class_in, lane_me, lane_in, IsLane, bump_aboard, life_aboard, life_of, head_or, no_lane, listed, lane_map}
+use Rattle.bump_heads.specs.Plays.{Told, on_first}
+use Rattle.bump_heads.specs.Cuts.{joined, lanes_only}
+use Rattle.bump_heads.specs.Applications.{alighted_lane, alighted_view}
+use Rattle.bump_heads.specs.Applications.{applying}
+use Rattle.bump_heads.specs.Applying.{Seen, life_aboard, life_of, lane_map}
+use Rattle.bump_heads.specs.Seats.{class_me, class_in, lane_me, lane_in, IsLane, bump_aboard, head_or, no_lane, listed}
 use Rattle.bump_heads.proofs.Told.{stands_alone}
 use Rattle.bump_heads.proofs.StepLemmas.{one_life}
 

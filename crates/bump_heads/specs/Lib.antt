@@ -1,8 +1,12 @@
 pub mod Naming
 pub mod Views
 pub mod Rule
+pub mod Words
 pub mod Plays
-pub mod Steps
+pub mod Cuts
+pub mod Applications
+pub mod Meetings
 pub mod Seats
+pub mod Applying
 pub mod Making
 pub mod Riders

@@ -6,6 +6,7 @@ use Rattle.bump_heads.specs.declared.views.ClassPart.{ClassPart}
 use Rattle.bump_heads.specs.declared.views.LanePart.{LanePart}
 use Rattle.bump_heads.specs.declared.views.ClassView.{ClassView}
 use Rattle.bump_heads.specs.declared.views.WorkerView.{WorkerView}
+use Rattle.bump_heads.specs.Seats.{IsClassPart, IsWorkerPart}
 
 -- parts of which nothing else is joined
 abbrev pub class_seen : ClassPart → ClassView
@@ -17,10 +18,15 @@ worker_seen w = record { part = w; hold = None }
 abbrev pub lane_seen : LanePart → Option LanePart
 lane_seen l = Some l
 
--- the classes have the numbers from c on
-abbrev pub Numbered : ℕ → List ClassPart → Type 0
-Numbered c [] = Unit {0}
-Numbered c (k ∷ ks) = (k.class ≡ c) × Numbered (c + 1) ks
+-- new classes of a table with so many words, numbered from c on
+abbrev pub AreNewClasses : ℕ → ℕ → List ClassPart → Type 0
+AreNewClasses words c [] = Unit {0}
+AreNewClasses words c (k ∷ ks) = (k.class ≡ c) × IsClassPart words k × AreNewClasses words (c + 1) ks
+
+-- new workers, numbered from n on
+abbrev pub AreNewWorkers : ℕ → List WorkerPart → Type 0
+AreNewWorkers n [] = Unit {0}
+AreNewWorkers n (w ∷ ws) = (w.worker ≡ n) × IsWorkerPart w × AreNewWorkers (n + 1) ws
 
 -- lanes with nothing aboard
 abbrev pub AreEmpty : List LanePart → Type 0

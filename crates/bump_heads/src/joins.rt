@@ -3,10 +3,12 @@ ghost use Rattle.std.specs.Prelude.{◌≡◌, ◌+◌, ◌*◌, ◌<◌, [], �
 ghost use Rattle.bump_heads.specs.declared.views.HoldPart.{HoldPart as TheHoldPart};
 ghost use Rattle.bump_rules.specs.Totals.{total};
 ghost use Rattle.bump_heads.specs.Views.{owns, label_of, differs};
-ghost use Rattle.bump_heads.specs.Seats.{labels_in};
+ghost use Rattle.bump_heads.specs.Applying.{labels_in};
 
-use crate::seats::{ClassSeat, Heads, Hold, WorkerSeat};
+use crate::heads::Heads;
+use crate::holds::Hold;
 use crate::names::Name;
+use crate::seats::{ClassSeat, WorkerSeat};
 
 impl<N: Name> Heads<N> {
     /// Joins the hold to the worker's seat, for a touch. The hold is hollow until `hold_out`.
@@ -47,9 +49,9 @@ impl<N: Name> ClassSeat<N> {
         let Some(seat) = hold.seat.take() else {
             unreachable!()
         };
-        self.words.join(&mut self.seat, seat);
-        let label = self.words.meet(&mut self.seat, hold.life.chunk);
-        let part = self.words.part_holds(&mut self.seat);
+        self.heads.words.join(&mut self.seat, seat);
+        let label = self.heads.words.meet(&mut self.seat, hold.life.chunk);
+        let part = self.heads.words.part_holds(&mut self.seat);
         hold.seat = Some(part);
         label
     }

@@ -1,13 +1,24 @@
-//! Seats of several kinds, made, joined and split over one table of head words.
+//! The words of all chunks, under one rule for all threads: head, time and label, and the seats that may change them.
 #![tactic(auto)]
 
-pub mod applying;
-pub mod joins;
-pub mod seats;
-pub mod making;
-pub mod names;
-pub mod views;
-pub mod riders;
-pub mod rule;
+mod applying;
+mod heads;
+mod holds;
+mod joins;
+mod making;
+mod names;
+mod riders;
+mod rule;
+mod seats;
 mod steps;
-pub mod words;
+mod views;
+mod words;
+
+pub use heads::Heads;
+pub use holds::Hold;
+pub use making::{Blank, HeadParts};
+pub use names::Name;
+pub use riders::Rider;
+pub use rule::Rule;
+pub use seats::{ClassSeat, LaneSeat, WorkerSeat};
+pub use views::{ClassPart, ClassView, Empty, HoldPart, HoldView, Kind, LanePart, OwnStep, Ride, View, WorkerPart, WorkerView};

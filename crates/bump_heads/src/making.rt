@@ -3,10 +3,11 @@ ghost use Rattle.std.specs.Prelude.{ℕ, ◌≡◌, ◌≤◌, ◌<◌, ◌-◌,
 ghost use Rattle.std.specs.Arc.{arc_value};
 ghost use Rattle.bump_heads.specs.Rule.{AreFresh, opened, chunks as all_chunks, class_parts, worker_parts, lane_parts, blank};
 ghost use Rattle.bump_rules.specs.Configs.{chunks_of};
-ghost use Rattle.bump_heads.specs.Steps.{words_id};
-ghost use Rattle.bump_heads.specs.Making.{class_seen, lane_seen, worker_seen, Numbered, AreEmpty};
+ghost use Rattle.bump_heads.specs.Words.{words_id};
+ghost use Rattle.bump_heads.specs.Making.{class_seen, lane_seen, worker_seen, AreNewClasses, AreNewWorkers, AreEmpty};
 
-use crate::seats::{ClassSeat, Heads, LaneSeat, WorkerSeat};
+use crate::heads::Heads;
+use crate::seats::{ClassSeat, LaneSeat, WorkerSeat};
 use crate::names::Name;
 use crate::words::{Seat, Words};
 use atomic_table::Table;
@@ -19,14 +20,16 @@ use std::sync::Arc;
 #[derive(Drop)]
 pub struct Blank {
     pub(crate) words: Words,
+    pub(crate) chunks: u32,
     pub(crate) seat: Seat,
+    ghost counted: { chunks ≡ all_chunks words.table.shared.key },
     ghost fresh: { (seat.table_id ≡ words_id words) × (seat.me ≡ (opened words.table.shared.key, [])) × (0 < (words_id words).words) },
 }
 
 /// What a store's heads are made of: the heads, and a seat for each class, worker and lane, by number.
 #[derive(Drop)]
 pub struct HeadParts<N: Name> {
-    pub heads: Heads<N>,
+    pub heads: Arc<Heads<N>, Global>,
     pub classes: Vec<ClassSeat<N>>,
     pub workers: Vec<WorkerSeat<N>>,
     pub lanes: Vec<LaneSeat<N>>,
@@ -68,6 +71,7 @@ impl Blank {
         let (table, seat) = Table::of_words(alloc, &words, config)?;
         Ok(Blank {
             words: Words { table },
+            chunks,
             seat,
         })
     }
@@ -75,24 +79,22 @@ impl Blank {
 
 fn part_classes<N: Name>(
     alloc: Global,
-    words: &Arc<Words, Global>,
+    heads: &Arc<Heads<N>, Global>,
     seat: &mut Seat,
     count: u32,
 ) -> Result<Vec<ClassSeat<N>>, AllocError>
-    requires table { (words_id (arc_value words.now) ≡ N.table) × (0 < N.table.words) }
     requires seat { (seat.old.table_id ≡ N.table) × (seat.old.me.1 ≡ []) }
-    requires parts { (length seat.old.me.0.classes ≡ count) × Numbered 0 seat.old.me.0.classes }
+    requires parts { (length seat.old.me.0.classes ≡ count) × AreNewClasses N.table.words 0 seat.old.me.0.classes }
     ensures rest { IfOk result (λ v. (seat.new.table_id ≡ N.table) × (seat.new.me ≡ (record seat.old.me.0 { classes = [] }, []))) }
     ensures seats { IfOk result (λ v. v.items ≡ map class_seen seat.old.me.0.classes) }
 {
     let mut seats = Vec::with_capacity(alloc, count as usize)?;
     for class in 0..count {
-        let part = words.part_class(seat);
+        let part = heads.words.part_class(seat);
         seats.push(ClassSeat {
             seat: part,
-            aboard: None,
             class,
-            words: Arc::try_clone(words)?,
+            heads: Arc::try_clone(heads)?,
             of: PhantomData,
         })?;
     }
@@ -101,21 +103,21 @@ fn part_classes<N: Name>(
 
 fn part_workers<N: Name>(
     alloc: Global,
-    words: &Arc<Words, Global>,
+    heads: &Arc<Heads<N>, Global>,
     seat: &mut Seat,
     count: u32,
 ) -> Result<Vec<WorkerSeat<N>>, AllocError>
-    requires table { (words_id (arc_value words.now) ≡ N.table) × (0 < N.table.words) }
     requires seat { (seat.old.table_id ≡ N.table) × (seat.old.me.1 ≡ []) }
-    requires parts { length seat.old.me.0.workers ≡ count }
+    requires parts { (length seat.old.me.0.workers ≡ count) × AreNewWorkers 0 seat.old.me.0.workers }
     ensures rest { IfOk result (λ v. (seat.new.table_id ≡ N.table) × (seat.new.me ≡ (record seat.old.me.0 { workers = [] }, []))) }
     ensures seats { IfOk result (λ v. v.items ≡ map worker_seen seat.old.me.0.workers) }
 {
     let mut seats = Vec::with_capacity(alloc, count as usize)?;
     for worker in 0..count {
-        let part = words.part_worker(seat);
+        let part = heads.words.part_worker(seat);
         seats.push(WorkerSeat {
             seat: part,
+            worker,
             of: PhantomData,
         })?;
     }
@@ -124,11 +126,10 @@ fn part_workers<N: Name>(
 
 fn part_lanes<N: Name>(
     alloc: Global,
-    words: &Arc<Words, Global>,
+    heads: &Arc<Heads<N>, Global>,
     seat: &mut Seat,
     count: u32,
 ) -> Result<Vec<LaneSeat<N>>, AllocError>
-    requires table { (words_id (arc_value words.now) ≡ N.table) × (0 < N.table.words) }
     requires seat { (seat.old.table_id ≡ N.table) × (seat.old.me.1 ≡ []) }
     requires parts { (length seat.old.me.0.lanes ≡ count) × AreEmpty seat.old.me.0.lanes }
     ensures rest { IfOk result (λ v. (seat.new.table_id ≡ N.table) × (seat.new.me ≡ (record seat.old.me.0 { lanes = [] }, []))) }
@@ -136,11 +137,11 @@ fn part_lanes<N: Name>(
 {
     let mut seats = Vec::with_capacity(alloc, count as usize)?;
     for worker in 0..count {
-        let part = words.part_lane(seat);
+        let part = heads.words.part_lane(seat);
         seats.push(LaneSeat {
             seat: Some(part),
             aboard: None,
-            words: Arc::try_clone(words)?,
+            heads: Arc::try_clone(heads)?,
             of: PhantomData,
         })?;
     }
@@ -152,22 +153,31 @@ impl<N: Name> Heads<N> {
     pub fn new(alloc: Global, blank: Blank, config: &Config) -> Result<HeadParts<N>, AllocError>
         requires name { words_id blank.words ≡ N.table }
         requires config { blank.words.table.shared.key ≡ config.now }
-        ensures heads { IfOk result (λ p. p.heads ≡ config.now) }
+        ensures heads { IfOk result (λ p. arc_value p.heads ≡ config.now) }
         ensures classes { IfOk result (λ p. p.classes.items ≡ map class_seen (class_parts (config.now.first_generation - 1) 0 0 config.now.classes)) }
         ensures workers { IfOk result (λ p. p.workers.items ≡ map worker_seen (worker_parts 0 config.now.workers)) }
         ensures lanes { IfOk result (λ p. p.lanes.items ≡ map lane_seen (lane_parts 0 config.now.workers)) }
     {
-        let Blank { words, mut seat } = blank;
-        let words = Arc::new(alloc, words)?;
-        let count = config.classes.as_slice().len() as u32;
-        let classes = part_classes(alloc, &words, &mut seat, count)?;
-        let workers = part_workers(alloc, &words, &mut seat, config.workers)?;
-        let lanes = part_lanes(alloc, &words, &mut seat, config.workers)?;
-        Ok(HeadParts {
-            heads: Heads {
+        let Blank {
+            words,
+            chunks,
+            mut seat,
+        } = blank;
+        let heads = Arc::new(
+            alloc,
+            Heads {
                 words,
+                limit: config.refs_limit,
+                chunks,
                 of: PhantomData,
             },
+        )?;
+        let count = config.classes.as_slice().len() as u32;
+        let classes = part_classes(alloc, &heads, &mut seat, count)?;
+        let workers = part_workers(alloc, &heads, &mut seat, config.workers)?;
+        let lanes = part_lanes(alloc, &heads, &mut seat, config.workers)?;
+        Ok(HeadParts {
+            heads,
             classes,
             workers,
             lanes,

@@ -3,7 +3,7 @@ ghost use Rattle.std.specs.Prelude.{◌≡◌, ◌*◌, ◌<◌, ◌+◌, [], �
 ghost use Rattle.bump_heads.specs.declared.views.Ride.{Ride as TheRide};
 ghost use Rattle.bump_rules.specs.declared.lanes.Lane.TheVariants.{Empty as IsEmpty};
 ghost use Rattle.bump_heads.specs.Riders.{ride_me, boarded, bump_of, applied_by};
-ghost use Rattle.bump_heads.specs.Seats.{stage_of, lane_map};
+ghost use Rattle.bump_heads.specs.Applying.{stage_of, lane_map};
 
 use crate::seats::LaneSeat;
 use crate::names::Name;
@@ -43,7 +43,7 @@ impl<N: Name> LaneSeat<N> {
         let Some(mut seat) = self.seat.take() else {
             unreachable!()
         };
-        self.words.board(&mut seat, part);
+        self.heads.words.board(&mut seat, part);
         self.seat = Some(seat);
         self.aboard = Some(Bump {
             number: ride.number,

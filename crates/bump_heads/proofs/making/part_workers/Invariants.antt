@@ -1,5 +1,5 @@
 use Rattle.std.proofs.Common.{◌≡◌, ◌+◌, [], ◌++◌, map, length}
-use Rattle.bump_heads.specs.Making.{worker_seen}
+use Rattle.bump_heads.specs.Making.{worker_seen, AreNewWorkers}
 use Rattle.bump_heads.proofs.making.part_workers.Given as goal
 
 abbrev pub invariant-loop-worker : goal.invariant-loop-worker
@@ -7,5 +7,6 @@ invariant-loop-worker g l = record {
   id : l.seat.table_id ≡ g.N.Name.table;
   rest : l.seat.me ≡ (record l.fn.seat.me.0 { workers = l.seat.me.0.workers }, []);
   count : l.worker + length l.seat.me.0.workers ≡ l.fn.count;
+  numbers : AreNewWorkers l.worker l.seat.me.0.workers;
   parts : l.seats.items ++ map worker_seen l.seat.me.0.workers ≡ map worker_seen l.fn.seat.me.0.workers;
 }

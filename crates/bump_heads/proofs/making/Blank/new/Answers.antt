@@ -17,4 +17,4 @@ pub invariant_of-result-2 : goal.invariant_of-result-2
 invariant_of-result-2 c = let key = c.args.config.now in let b = bounds key key.valid in let e = c.in_ok-table.ensures in
     let fresh : AreFresh c.count_chunks-chunks.result (key.first_generation - 1) c.in_ok-words.words.items = c.in_ok-words.ensures.words in
     let count = c.count_chunks-chunks.ensures ∙ ap chunks_of c.as_slice.ensures in
-    record { fresh = (e.2, e.4 ∙ ap (λ (k : Config). (opened k, [])) (sym e.5), omega (arith, e.0, ap length c.deref.ensures.value, fresh.0, count, b.2)) }
+    record { counted = count ∙ ap (λ (k : Config). chunks_of k.classes) (sym e.5); fresh = (e.2, e.4 ∙ ap (λ (k : Config). (opened k, [])) (sym e.5), omega (arith, e.0, ap length c.deref.ensures.value, fresh.0, count, b.2)) }

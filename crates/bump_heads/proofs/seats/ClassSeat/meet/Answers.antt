@@ -1,5 +1,6 @@
 use Rattle.std.proofs.Common.{subst}
-use Rattle.bump_heads.specs.Plays.{Sat, Meets}
+use Rattle.bump_heads.specs.Plays.{Sat}
+use Rattle.bump_heads.specs.Meetings.{Meets}
 use Rattle.bump_heads.specs.Seats.{class_in}
 use Rattle.bump_heads.proofs.Meetings.{met_view}
 use Rattle.bump_heads.proofs.seats.ClassSeat.meet.Goals as goal

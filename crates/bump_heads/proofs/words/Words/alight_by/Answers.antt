@@ -3,7 +3,8 @@ use mathlib.Core.Option.{none}
 use Rattle.bump_rules.specs.declared.bumps.Outcome.{Outcome}
 use Rattle.atomic_table.specs.Table.{step, Allows}
 use Rattle.bump_heads.specs.Rule.{Kept}
-use Rattle.bump_heads.specs.Plays.{on_chunk, alighted}
+use Rattle.bump_heads.specs.Plays.{on_chunk}
+use Rattle.bump_heads.specs.Applications.{alighted}
 use Rattle.bump_heads.proofs.Applications.{may_alight}
 use Rattle.bump_heads.proofs.words.Words.alight_by.Goals as goal
 

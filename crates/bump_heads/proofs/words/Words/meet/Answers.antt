@@ -1,5 +1,5 @@
 use Rattle.std.proofs.Common.{arith, ℕ, subst}
-use Rattle.bump_heads.specs.Plays.{met}
+use Rattle.bump_heads.specs.Meetings.{met}
 use Rattle.bump_heads.proofs.StepLemmas.{label_chunk_is}
 use Rattle.bump_heads.proofs.Meetings.{meets}
 use Rattle.bump_heads.proofs.words.Words.meet.Goals as goal

@@ -2,7 +2,8 @@ use Rattle.std.proofs.Common.{arith, ◌≡◌, ℕ, ◌*◌, sym, subst, bit_xo
 use mathlib.Core.Option.{none}
 use Rattle.atomic_table.specs.Table.{step, Allows}
 use Rattle.bump_heads.specs.Rule.{Kept}
-use Rattle.bump_heads.specs.Plays.{on_chunk, moved_on}
+use Rattle.bump_heads.specs.Plays.{on_chunk}
+use Rattle.bump_heads.specs.Applications.{moved_on}
 use Rattle.bump_heads.proofs.Applications.{may_move}
 use Rattle.bump_heads.proofs.words.Words.move_for.Goals as goal
 

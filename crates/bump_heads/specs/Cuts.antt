@@ -1,0 +1,64 @@
+-- How the views of seats are cut in two, and put together.
+use Rattle.std.specs.Prelude.{◌≡◌, ◌≢◌, ℕ, ◌+◌, ◌/◌, ◌%◌, ◌<◌, ◌≤◌, Bool, true, false, cond, not, ◌==◌, List, [], ◌∷◌, ◌++◌, Option, Some, None}
+use Rattle.atomic_table.specs.Table.{Me, Step}
+use Rattle.bump_rules.specs.declared.items.Head.{Head}
+use Rattle.bump_rules.specs.declared.items.ItemId.{ItemId}
+use Rattle.bump_rules.specs.declared.places.Segment.TheVariants.{Warm, Cold}
+use Rattle.bump_rules.specs.declared.history.Cause.TheVariants as cause
+use Rattle.bump_rules.specs.declared.history.Change.{Change}
+use Rattle.bump_rules.specs.declared.history.Change.TheVariants as change
+use Rattle.bump_rules.specs.declared.bumps.Bump.{Bump}
+use Rattle.bump_rules.specs.declared.bumps.Outcome.{Outcome}
+use Rattle.bump_rules.specs.declared.lanes.Lane.{Lane}
+use Rattle.bump_rules.specs.declared.lanes.Lane.TheVariants as lane
+use Rattle.bump_rules.specs.declared.bumps.AppliedBump.{AppliedBump}
+use Rattle.bump_rules.specs.Lawful.{bit, Shows, IsUsed}
+use Rattle.bump_rules.specs.History.{Standing}
+use Rattle.bump_rules.specs.Totals.{total}
+use Rattle.bump_word.specs.Words.{Spells}
+use Rattle.bump_heads.specs.declared.views.Empty.{Empty}
+use Rattle.bump_heads.specs.declared.views.Kind.{Kind}
+use Rattle.bump_heads.specs.declared.views.Kind.TheVariants as kind
+use Rattle.bump_heads.specs.declared.views.OwnStep.{OwnStep}
+use Rattle.bump_heads.specs.declared.views.ClassPart.{ClassPart}
+use Rattle.bump_heads.specs.declared.views.LanePart.{LanePart}
+use Rattle.bump_heads.specs.declared.views.HoldPart.{HoldPart}
+use Rattle.bump_heads.specs.declared.views.View.{View}
+use Rattle.bump_heads.specs.Views.{named, saw, owners, strays, weight, aboard_of, active_clear, owns, label_of, differs, Query, moves, settled, lanes_of}
+use Rattle.bump_heads.specs.Rule.{blank}
+
+use Rattle.bump_heads.specs.Plays.{behind, first_of}
+
+abbrev pub joined : View → View → View
+joined v w = record { workers = v.workers ++ w.workers; holds = v.holds ++ w.holds; riders = v.riders ++ w.riders; classes = v.classes ++ w.classes; lanes = v.lanes ++ w.lanes }
+
+abbrev pub without_lanes : View → View
+without_lanes v = record v { lanes = [] }
+
+abbrev pub lanes_only : View → View
+lanes_only v = record blank { lanes = v.lanes }
+
+abbrev pub without_holds : View → View
+without_holds v = record v { holds = [] }
+
+abbrev pub holds_only : View → View
+holds_only v = record blank { holds = v.holds }
+
+abbrev pub without_class : View → View
+without_class v = record v { classes = behind v.classes }
+
+abbrev pub class_only : View → View
+class_only v = record blank { classes = first_of v.classes }
+
+abbrev pub without_worker : View → View
+without_worker v = record v { workers = behind v.workers }
+
+abbrev pub worker_only : View → View
+worker_only v = record blank { workers = first_of v.workers }
+
+abbrev pub without_lane : View → View
+without_lane v = record v { lanes = behind v.lanes }
+
+abbrev pub lane_only : View → View
+lane_only v = record blank { lanes = first_of v.lanes }
+
