@@ -1,15 +1,14 @@
 -- A hold meets its class: each label that it read is the one that the class has for the chunk.
-use Rattle.std.proofs.Common.{◌≡◌, ℕ, ◌+◌, ◌*◌, ◌/◌, ◌<◌, ◌&&◌, eqb, not, Bool, true, false, List, [], ◌∷◌, ◌++◌, Option, Some, refl, sym, ap, ap₂, ◌∙◌, subst, arith, eqb-true}
+use Rattle.std.proofs.Common.{◌≡◌, ℕ, ◌+◌, ◌*◌, ◌/◌, ◌<◌, ◌&&◌, eqb, not, Bool, true, false, [], ◌∷◌, ◌++◌, Option, Some, None, IsSome, refl, sym, ap, ap₂, ◌∙◌, subst, arith, eqb-true}
 use mathlib.Core.Option.{none}
 use native.Mathlib.Nat.{one-mul}
 use Rattle.atomic_table.specs.Table.{Me, Allows, step}
-use Rattle.atomic_table.specs.Seated.{TableId}
-use Rattle.atomic_table.specs.declared.shared.Seat.{Seat}
 use Rattle.bump_rules.specs.declared.items.ItemId.{ItemId}
 use Rattle.bump_heads.specs.declared.views.Empty.{Empty}
 use Rattle.bump_heads.specs.declared.views.ClassView.{ClassView}
 use Rattle.bump_heads.specs.declared.views.HoldView.{HoldView}
-use Rattle.bump_heads.specs.Seats.{class_me, IsHold, hold_in_seat, head_or, no_hold}
+use Rattle.bump_heads.specs.Seats.{class_me, IsOf, hold_in_view, hold_me}
+use Rattle.bump_heads.specs.Cuts.{holds_only}
 use Rattle.bump_heads.specs.Applying.{labels_in}
 use Rattle.bump_rules.specs.declared.configs.Config.{Config}
 use Rattle.bump_rules.specs.Lawful.{bit}
@@ -52,21 +51,21 @@ meets key slots id m c near = subst (λ (d : ℕ). Allows (Kept key) slots id m 
     )))
 
 -- for the contract of `meet`
-pub met_told : (m : Me Empty View) (v w : ClassView) (o : Option (Seat Empty View)) (s : Seat Empty View) (table : TableId) (l : ItemId) (part : Option HoldPart) (x : ℕ) → m ≡ class_me v → v ≡ w → IsHold table l o → o ≡ Some s → hold_in_seat o ≡ part → Meets l.chunk (joined m.0 s.me.0) x → owns l.chunk w.part ≡ true
+pub met_told : (m : Me Empty View) (v w : ClassView) (s : Me Empty View) (l : ItemId) (part : Option HoldPart) (x : ℕ) → m ≡ class_me v → v ≡ w → s ≡ hold_me part → IsOf l part → IsSome part → Meets l.chunk (joined m.0 (holds_only s.0)) x → owns l.chunk w.part ≡ true
     → (x ≡ label_of w.part l.chunk) × (total (differs x) (labels_in part) ≡ 0)
-met_told m v w o s table l part x is same whole some part_is meets own =
-    let held = subst (IsHold table l) some whole in
-    let h : HoldPart = head_or no_hold s.me.0.holds in
-    let t = meets v.part h
-    (ap (λ (y : Me Empty View). y.0.classes ++ s.me.0.classes) is ∙ ap (λ (y : Me Empty View). v.part ∷ [] ++ y.0.classes) held.0)
-    (ap (λ (y : Me Empty View). y.0.holds ++ s.me.0.holds) is ∙ ap (λ (y : Me Empty View). y.0.holds) held.0)
+met_told m v w s l None x is same mine of some agree own = absurd (cc some)
+met_told m v w s l (Some h) x is same mine of some agree own =
+    let t = agree v.part h
+    (ap (λ (y : Me Empty View). y.0.classes ++ []) is)
+    (ap (λ (y : Me Empty View). y.0.holds ++ s.0.holds) is ∙ ap (λ (y : Me Empty View). y.0.holds) mine)
     (ap (λ (y : ClassView). owns l.chunk y.part) same ∙ own)
-    (ap (λ (y : ItemId). y.chunk) held.2) in
-    (sym t.0 ∙ ap (λ (y : ClassView). label_of y.part l.chunk) same, subst (λ (p : Option HoldPart). total (differs x) (labels_in p) ≡ 0) (sym (ap hold_in_seat some) ∙ part_is) t.1)
+    (ap (λ (y : ItemId). y.chunk) of) in
+    (sym t.0 ∙ ap (λ (y : ClassView). label_of y.part l.chunk) same, t.1)
 
-pub met_view : (m : Me Empty View) (v w : ClassView) (o : Option (Seat Empty View)) (s : Seat Empty View) (table : TableId) (l : ItemId) (hv : HoldView) (x : ℕ) → m ≡ class_me v → v ≡ w → IsHold table l o → o ≡ Some s → record { life = l; part = hold_in_seat o } ≡ hv → Meets l.chunk (joined m.0 s.me.0) x → owns hv.life.chunk w.part ≡ true
+pub met_view : (m : Me Empty View) (v w : ClassView) (s : Me Empty View) (l : ItemId) (hv : HoldView) (x : ℕ) → m ≡ class_me v → v ≡ w → s ≡ hold_me (hold_in_view s.0) → IsOf l (hold_in_view s.0) → record { life = l; part = hold_in_view s.0 } ≡ hv → IsSome hv.part → Meets l.chunk (joined m.0 (holds_only s.0)) x → owns hv.life.chunk w.part ≡ true
     → (x ≡ label_of w.part hv.life.chunk) × (total (differs x) (labels_in hv.part) ≡ 0)
-met_view m v w o s table l hv x is same whole some view_is meets own =
+met_view m v w s l hv x is same mine of view_is some agree own =
     let life_is : l ≡ hv.life = ap (λ (h : HoldView). h.life) view_is in
-    let t = met_told m v w o s table l hv.part x is same whole some (ap (λ (h : HoldView). h.part) view_is) meets (ap (λ (y : ItemId). owns y.chunk w.part) life_is ∙ own) in
+    let part_is : hold_in_view s.0 ≡ hv.part = ap (λ (h : HoldView). h.part) view_is in
+    let t = met_told m v w s l hv.part x is same (mine ∙ ap hold_me part_is) (subst (IsOf l) part_is of) some agree (ap (λ (y : ItemId). owns y.chunk w.part) life_is ∙ own) in
     (t.0 ∙ ap (λ (y : ItemId). label_of w.part y.chunk) life_is, t.1)

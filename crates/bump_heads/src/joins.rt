@@ -18,9 +18,7 @@ impl<N: Name> Heads<N> {
         ensures worker { worker.new ≡ record worker.old { hold = hold.old.part } }
         ensures hollow { hold.new ≡ record hold.old { part = None } }
     {
-        let Some(seat) = hold.seat.take() else {
-            unreachable!()
-        };
+        let seat = self.words.part_holds(&mut hold.seat);
         self.words.join(&mut worker.seat, seat);
     }
 
@@ -31,8 +29,7 @@ impl<N: Name> Heads<N> {
         ensures worker { worker.new ≡ record worker.old { hold = None } }
         ensures whole { hold.new ≡ record hold.old { part = worker.old.hold } }
     {
-        let part = self.words.part_holds(&mut worker.seat);
-        hold.seat = Some(part);
+        hold.seat = self.words.part_holds(&mut worker.seat);
     }
 }
 
@@ -46,13 +43,10 @@ impl<N: Name> ClassSeat<N> {
         ensures label { result ≡ label_of self.old.part hold.old.life.chunk }
         ensures read { total (differs result) (labels_in hold.old.part) ≡ 0 }
     {
-        let Some(seat) = hold.seat.take() else {
-            unreachable!()
-        };
+        let seat = self.heads.words.part_holds(&mut hold.seat);
         self.heads.words.join(&mut self.seat, seat);
         let label = self.heads.words.meet(&mut self.seat, hold.life.chunk);
-        let part = self.heads.words.part_holds(&mut self.seat);
-        hold.seat = Some(part);
+        hold.seat = self.heads.words.part_holds(&mut self.seat);
         label
     }
 }
