@@ -9,5 +9,4 @@ pub mod Meetings
 pub mod Makings
 pub mod Applications
 pub mod Starts
-pub mod Bounds
 pub mod Boardings
