@@ -4,13 +4,14 @@
 mod applying;
 mod heads;
 mod holds;
-mod joins;
 mod making;
+mod meeting;
 mod names;
 mod riders;
 mod rule;
 mod seats;
 mod steps;
+mod touching;
 mod views;
 mod words;
 
