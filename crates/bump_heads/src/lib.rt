@@ -2,6 +2,7 @@
 #![tactic(auto)]
 
 mod applying;
+mod decoding;
 mod heads;
 mod holds;
 mod joins;
