@@ -8,6 +8,8 @@ pub mod Moves
 pub mod Seeing
 pub mod Meetings
 pub mod Makings
+pub mod Referring
+pub mod Tries
 pub mod Applications
 pub mod Starts
 pub mod Bounds
