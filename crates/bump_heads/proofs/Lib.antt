@@ -10,6 +10,7 @@ pub mod Meetings
 pub mod Makings
 pub mod Referring
 pub mod Tries
+pub mod HeldHeads
 pub mod Applications
 pub mod Starts
 pub mod Bounds
