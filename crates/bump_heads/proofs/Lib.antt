@@ -1,3 +1,4 @@
+pub mod Decoded
 pub mod Sums
 pub mod Once
 pub mod Frame
@@ -7,6 +8,9 @@ pub mod Moves
 pub mod Seeing
 pub mod Meetings
 pub mod Makings
+pub mod Referring
+pub mod Tries
+pub mod HeldHeads
 pub mod Applications
 pub mod Starts
 pub mod Boardings

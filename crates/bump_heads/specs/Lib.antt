@@ -4,9 +4,11 @@ pub mod Rule
 pub mod Words
 pub mod Plays
 pub mod Cuts
+pub mod References
 pub mod Applications
 pub mod Meetings
 pub mod Seats
 pub mod Applying
+pub mod Taking
 pub mod Making
 pub mod Riders

@@ -2,6 +2,7 @@
 #![tactic(auto)]
 
 mod applying;
+mod decoding;
 mod heads;
 mod holds;
 mod making;
@@ -11,6 +12,7 @@ mod riders;
 mod rule;
 mod seats;
 mod steps;
+mod taking;
 mod touching;
 mod views;
 mod words;
@@ -22,4 +24,5 @@ pub use names::Name;
 pub use riders::Rider;
 pub use rule::Rule;
 pub use seats::{ClassSeat, LaneSeat, WorkerSeat};
+pub use taking::TakeRefusal;
 pub use views::{ClassPart, ClassView, Empty, HoldPart, HoldView, Kind, LanePart, OwnStep, Ride, View, WorkerPart, WorkerView};

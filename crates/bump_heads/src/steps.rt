@@ -4,3 +4,4 @@ mod applications;
 mod boardings;
 mod cuts;
 mod meetings;
+mod references;

@@ -1,0 +1,44 @@
+-- The Head that is decoded from a head word is the one that the word spells.
+use Rattle.std.proofs.Common.{◌≡◌, ◌≢◌, ◌↔◌, ℕ, ◌*◌, ◌/◌, ◌^◌, Bool, true, false, not, eqb, refl, sym, ap, subst, arith, eq-eqb, ne_eqb, bit_and}
+use Rattle.bump_rules.specs.declared.items.Head.{Head}
+use Rattle.bump_rules.specs.declared.places.Segment.{Segment}
+use Rattle.bump_rules.specs.declared.places.Segment.TheVariants.{Hot, Warm, Cold}
+use Rattle.bump_word.specs.Words.{Spells, number_of}
+use Rattle.bump_word.proofs.Words.{number_one}
+use Rattle.bump_word.proofs.Steps.{test_linked, test_fetched, test_active, read_refs, read_segment_masked, read_generation}
+
+-- the number under the segment's mask tells the segment
+pub segment_read : (n : ℕ) (h : Head) (s : Segment) → Spells n h → bit_and n 1572864 ≡ number_of s * 524288 → s ≡ h.segment
+segment_read n h s spelled is = number_one s h.segment (omega (arith, is, read_segment_masked n h spelled))
+
+-- a segment whose bits are neither those of WARM nor those of COLD is HOT
+pub segment_left : (n : ℕ) (h : Head) → Spells n h → bit_and n 1572864 ≢ 524288 → bit_and n 1572864 ≢ 1048576 → Hot ≡ h.segment
+segment_left n h spelled not_warm not_cold = by h.segment (read_segment_masked n h spelled)
+  where
+    by : (s : Segment) → bit_and n 1572864 ≡ number_of s * 524288 → Hot ≡ s
+    by Hot is = refl
+    by Warm is = absurd (not_warm is)
+    by Cold is = absurd (not_cold is)
+
+-- a test of a mark that passes exactly where it is set answers the mark
+flag_read : (m : ℕ) (b : Bool) → ((m ≢ 0) ↔ (b ≡ true)) × ((m ≡ 0) ↔ (b ≡ false)) → not (eqb m 0) ≡ b
+flag_read m true told = ap not (ne_eqb m 0 (told.0.1 refl))
+flag_read m false told = ap not (eq-eqb m 0 (told.1.1 refl))
+
+-- what is read of a word
+abbrev pub read_of : ℕ → Segment → Head
+read_of n s = record { refs = bit_and n 65535; linked = not (eqb (bit_and n 65536) 0); fetched = not (eqb (bit_and n 131072) 0); active = not (eqb (bit_and n 262144) 0); segment = s; generation = n / 4294967296 }
+
+-- it is the Head that the word spells
+pub read_is : (n : ℕ) (h : Head) (s : Segment) → Spells n h → s ≡ h.segment → h ≡ read_of n s
+read_is n h s spelled is =
+    let refs : h.refs ≡ bit_and n 65535 = sym (read_refs n h spelled) in
+    let linked : h.linked ≡ not (eqb (bit_and n 65536) 0) = sym (flag_read (bit_and n 65536) h.linked (test_linked n h spelled)) in
+    let fetched : h.fetched ≡ not (eqb (bit_and n 131072) 0) = sym (flag_read (bit_and n 131072) h.fetched (test_fetched n h spelled)) in
+    let active : h.active ≡ not (eqb (bit_and n 262144) 0) = sym (flag_read (bit_and n 262144) h.active (test_active n h spelled)) in
+    let generation : h.generation ≡ n / 4294967296 = sym (read_generation n h spelled) in
+    λ k. record { refs = refs k; linked = linked k; fetched = fetched k; active = active k; segment = sym is k; generation = generation k }
+
+-- so it is spelled
+pub read_spells : (n : ℕ) (h : Head) (s : Segment) → Spells n h → s ≡ h.segment → Spells n (read_of n s)
+read_spells n h s spelled is = subst (Spells n) (read_is n h s spelled is) spelled
