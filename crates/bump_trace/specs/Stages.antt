@@ -3,8 +3,8 @@
 use Rattle.std.specs.Prelude.{ℕ, Bool, false, List, [], ◌∷◌, ◌++◌, Option, Some, None, Result, Ok, Err, option_map}
 use Rattle.bump_rules.specs.declared.configs.ClassConfig.{ClassConfig}
 use Rattle.bump_rules.specs.Configs.{first_fault}
-use Rattle.bump_core.specs.Opening.{opening_state}
-use Rattle.bump_core.specs.State.{State}
+use Rattle.bump_state.specs.Opening.{opening_state}
+use Rattle.bump_state.specs.State.{State}
 use Rattle.bump_trace.specs.Faults.{fault_of_config}
 use Rattle.bump_trace.specs.Names.{Names, no_names}
 use Rattle.bump_trace.specs.declared.faults.Fault.{Fault}

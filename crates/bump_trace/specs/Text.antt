@@ -20,7 +20,7 @@ use Rattle.bump_rules.specs.declared.places.Place.TheVariants as place
 use Rattle.bump_rules.specs.declared.places.Tail.{Tail}
 use Rattle.bump_rules.specs.Lists.{list_at, ascending}
 use Rattle.bump_rules.specs.Lives.{life}
-use Rattle.bump_core.specs.State.{State, chunk, head, class, worker}
+use Rattle.bump_state.specs.State.{State, chunk, head, class, worker}
 use Rattle.bump_trace.specs.Faults.{fault_word}
 use Rattle.bump_trace.specs.Fields.{tail_word}
 use Rattle.bump_trace.specs.declared.faults.Fault.{Fault}

@@ -4,13 +4,13 @@ ghost use Rattle.std.specs.Prelude.{◌≡◌, ◌<◌, ◌≤◌, ◌+◌, ◌^
 ghost use Rattle.std.specs.List.{flat_map};
 ghost use Rattle.bump_core.specs.Commands.{is_allowed, answer_of, command_after};
 ghost use Rattle.bump_rules.specs.declared.commands.Command.TheVariants as command;
-ghost use Rattle.bump_core.specs.State.{is_held, is_open};
+ghost use Rattle.bump_state.specs.State.{is_held, is_open};
 ghost use Rattle.bump_rules.specs.Lists.{ascending};
 ghost use Rattle.bump_core.specs.Readers.{list_of};
 ghost use Rattle.bump_trace.specs.Stages.{Open};
 ghost use Rattle.bump_trace.specs.OpenStore.{answer_by, state_by, get_held, set_said, get_said, hold_said, hit_said, read_said, drop_said, del_said, pull_said, sweep_said, drain_said, close_said, show_said, instruction_said, drained_of, drained_through};
 ghost use Rattle.bump_trace.specs.Names.{no_names};
-ghost use Rattle.bump_core.specs.Opening.{new_state};
+ghost use Rattle.bump_state.specs.Opening.{new_state};
 ghost use Rattle.bump_trace.specs.declared.faults.LineError.TheVariants.{Memory};
 ghost use Rattle.bump_trace.specs.Text.{list_entry, list_line, class_lines, worker_line, close_line, show_text};
 
