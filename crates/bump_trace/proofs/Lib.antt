@@ -8,4 +8,3 @@ pub mod SameButWorld
 pub mod HoldsOfItems
 pub mod HeldNames
 pub mod GatheredText
-pub mod WorkedTraces

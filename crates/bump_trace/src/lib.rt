@@ -14,10 +14,7 @@ mod reading;
 mod runs;
 mod stages;
 mod text;
-pub mod worked_traces;
 
 pub use counted::Counted;
 pub use runs::{SimFault, run_model};
 
-#[cfg(test)]
-mod tests;

@@ -1,5 +1,33 @@
 //! Traces with faults.
 
+/// A trace for each fault word, as short as can be, and its text.
+pub(super) const EVERY_FAULT: [(&str, &str); 18] = [
+    (
+        "################################################################################################################################################################################################################################################################\n",
+        "line 1: LONG\n",
+    ),
+    ("#", "line 1: TRUNCATED\n"),
+    ("x\n", "line 1: COMMAND\n"),
+    ("set\n", "line 1: COUNT\n"),
+    ("close x\n", "line 1: NUMBER\n"),
+    ("del A\n", "line 1: NAME\n"),
+    ("pull 0 x\n", "line 1: SEGMENT\n"),
+    ("", "line 1: ORDER\n"),
+    ("store 0 1 2 1\n", "line 2: WORKERS\n"),
+    ("store 1 0 2 1\n", "line 2: CAPACITY\n"),
+    ("store 1 1 1 1\n", "line 2: REFS\n"),
+    ("store 1 1 2 0\n", "line 2: GENERATION\n"),
+    ("store 1 1 2 1\n", "line 2: CLASSES\n"),
+    ("store 1 1 2 1\nclass 0 0 0\n", "line 3: CHUNKS\n"),
+    ("store 1 1 2 1\nclass 1 0 0\nclose 1\n", "line 3: WORKER\n"),
+    ("store 1 1 2 1\nclass 1 0 0\nsweep 1\n", "line 3: CLASS\n"),
+    ("store 1 1 2 1\nclass 1 0 0\ndel a\n", "line 3: UNBOUND\n"),
+    (
+        "store 1 1 3 1\nclass 1 0 0\nset a 0 0\nhold 0 a h\nhold 0 a h\n",
+        "set a 0.1\nhold 0 a h held\nline 5: HELD\n",
+    ),
+];
+
 /// A word too few or too many in each line, each field wrong, and each line that may not stand behind `par`.
 pub(super) const LINE_FAULTS: [(&str, &str); 54] = [
     ("store 1 4 4 1\nclass 2 5 5\ndel\n", "line 3: COUNT\n"),

@@ -1,5 +1,5 @@
 //! Worked traces through the whole run, and readers and writers that take little at a time.
-use super::*;
+use bump_trace::{Counted, SimFault, run_model};
 use std::alloc::{AllocError, Global};
 use std::test::*;
 
@@ -9,9 +9,9 @@ mod faults;
 mod slow;
 mod worked;
 
-use ends::{ENDS, EVERY_LINE};
+use ends::{ENDS, EVERY_LINE, MIXED_LINES};
 use expecting::Expecting;
-use faults::{LINE_FAULTS, PAIRS};
+use faults::{EVERY_FAULT, LINE_FAULTS, PAIRS};
 use slow::{Narrow, Slow};
 use worked::{FAULTS, WORKED};
 
@@ -52,10 +52,21 @@ fn worked_ends(rt: HostRuntime) {
 
 #[test]
 fn every_line(rt: HostRuntime) {
-    let (trace, text) = EVERY_LINE;
-    let (written, ended) = text_of(rt.alloc(), trace.as_bytes());
-    assert!(rt; ended == Ok(()));
-    assert!(rt; written.as_slice() == text.as_bytes());
+    for (trace, text) in [EVERY_LINE, MIXED_LINES] {
+        let (written, ended) = text_of(rt.alloc(), trace.as_bytes());
+        assert!(rt; ended == Ok(()), "{trace}");
+        assert!(rt; written.as_slice() == text.as_bytes(), "{trace}");
+    }
+}
+
+/// Each fault word, by a trace that is as short as can be.
+#[test]
+fn every_fault(rt: HostRuntime) {
+    for (trace, text) in EVERY_FAULT {
+        let (written, ended) = text_of(rt.alloc(), trace.as_bytes());
+        assert!(rt; ended == Err(SimFault::Trace), "{trace}");
+        assert!(rt; written.as_slice() == text.as_bytes(), "{trace}");
+    }
 }
 
 /// A word too few or too many, each field wrong, and what may not stand behind `par`.
@@ -143,8 +154,9 @@ fn run_expecting<'a>(
 }
 
 /// Whichever one allocation is refused: the run ends with its whole text, or as Memory with a front of it, and then the
-/// same run made again ends with its whole text. Where one was refused the test says so, so that whoever refuses each in
-/// turn knows when none is left.
+/// same run made again ends with its whole text. A refusal that a `Vec` makes up for, as it asks for less, ends no run; so
+/// the test makes one allocation more behind the run, and says so where that one was refused. Whoever refuses each in turn
+/// knows by this that no allocation of the run is left.
 #[test]
 fn a_refused_allocation_leaves_a_front_of_the_text(rt: HostRuntime) -> Result<(), Fail> {
     let (trace, text) = EVERY_LINE;
@@ -157,6 +169,10 @@ fn a_refused_allocation_leaves_a_front_of_the_text(rt: HostRuntime) -> Result<()
     assert!(rt; ended == Ok(()));
     assert!(rt; written.is_front());
     assert_eq!(rt; written.left(), 0);
+    let mut behind = Vec::new(rt.alloc());
+    if behind.push(0u8).is_err() {
+        eprintln!(rt; "no allocation was left")?;
+    }
     Ok(())
 }
 
@@ -180,30 +196,28 @@ fn a_line_over_64_kib(rt: HostRuntime) -> Result<(), Fail> {
     Ok(())
 }
 
-/// A trace of so many lines of 256 bytes, with what stands before and behind them.
-fn long_trace(alloc: Global, lines: u32, last: usize) -> Result<Vec<u8>, AllocError> {
-    let comment = [b'#'; 255];
-    let mut trace = Vec::new(alloc);
-    trace.extend_from_slice(b"store 1 4 4 1\nclass 2 5 5\nset a 0 7\n")?;
-    for _ in 0..lines {
-        trace.extend_from_slice(&comment)?;
-        trace.extend_from_slice(b"\n")?;
+/// A trace of so many bytes whose first line has a fault, so that no other line is run.
+fn long_trace(alloc: Global, bytes: usize) -> Result<Vec<u8>, AllocError> {
+    let comment = [b'#'; 256];
+    let mut trace = Vec::with_capacity(alloc, bytes)?;
+    trace.extend_from_slice(b"show\n")?;
+    while trace.len() < bytes {
+        let missing = bytes - trace.len();
+        trace.extend_from_slice(&comment[..missing.min(256)])?;
     }
-    trace.extend_from_slice(&comment[..last.min(255)])?;
-    trace.extend_from_slice(b"\n")?;
     Ok(trace)
 }
 
-/// A trace of exactly 16,777,216 bytes is run, and one of a byte more is not.
+/// A trace of exactly 16,777,216 bytes is taken, and one of a byte more is not.
 #[test]
 fn the_longest_trace(rt: HostRuntime) -> Result<(), Fail> {
-    let trace = long_trace(rt.alloc(), 65_535, 219)?;
+    let trace = long_trace(rt.alloc(), 16_777_216)?;
     assert_eq!(rt; trace.len(), 16_777_216);
     let (written, ended) = text_of(rt.alloc(), &trace);
-    assert!(rt; ended == Ok(()));
-    assert!(rt; written.as_slice() == b"set a 0.1\n".as_slice());
+    assert!(rt; ended == Err(SimFault::Trace));
+    assert!(rt; written.as_slice() == b"line 1: ORDER\n".as_slice());
 
-    let trace = long_trace(rt.alloc(), 65_535, 220)?;
+    let trace = long_trace(rt.alloc(), 16_777_217)?;
     assert_eq!(rt; trace.len(), 16_777_217);
     let mut reader = Counted::new(trace.as_slice());
     let mut writer = Counted::new(Vec::new(rt.alloc()));

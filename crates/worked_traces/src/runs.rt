@@ -1,7 +1,7 @@
-//! Worked traces: each function has the text of a trace as its clause, and nothing to do.
+//! Traces that are run to their end: each function has the text of a trace as its clause, and nothing to do.
 #![tactic(auto, unfolding(crate::proofs::WorkedTraces::on_traces))]
 
-ghost use Rattle.std.specs.Prelude.{◌≡◌, ◌++◌, true, false, codes};
+ghost use Rattle.std.specs.Prelude.{◌≡◌, false, codes};
 ghost use Rattle.bump_trace.specs.Meaning.{verdict_of};
 
 /// A new store: all chunks are free, in ascending order.
@@ -89,11 +89,6 @@ pub fn closed_worker()
     ensures { verdict_of (codes "store 1 4 8 1\nclass 2 0 5\nset a 0 7\nset b 0 8\npull 0 hot\npull 0 hot\nget 0 a\nget 0 a\nget 0 b\nget 0 b\nclose 0\nget 0 a\nclose 0\n") ≡ record { text = codes "set a 0.1\nset b 1.1\npull 0 hot cold 0.1\npull 0 hot cold 1.1\nget 0 a 7 first\nget 0 a 7 queued 0\nget 0 b 8 first\nget 0 b 8 queued 1\nbump 0 0 0.1 warm\nbump 0 1 1.1 warm\nclose 0 attempted 2 accepted 2 full 0 busy 0 refs 0 applied 2\nget 0 a closed\nclose 0 closed\n"; is_fault = false } }
 {}
 
-/// Behind `par` stands no `show`.
-pub fn show_after_par()
-    ensures { verdict_of (codes "store 1 4 4 1\nclass 2 5 5\nset a 0 7\npar\nget 0 a\nshow\n") ≡ record { text = codes "set a 0.1\nget 0 a 7 first\nline 6: ORDER\n"; is_fault = true } }
-{}
-
 /// A kept hold reads the label of its item, whatever is stored in the chunk's place; the old name is stale after that.
 pub fn label_of_a_kept_hold()
     ensures { verdict_of (codes "store 1 4 4 1\nclass 1 5 5\nset a 0 7\nhold 0 a h\ndel a\nset b 0 9\nread h\ndrop h\nsweep 0\nset b 0 9\nget 0 a\nhold 0 a k\ndel a\n") ≡ record { text = codes "set a 0.1\nhold 0 a h held\ndel a deferred\nset b full\nread h 7\ndrop h\nsweep 0 1\nset b 0.2\nget 0 a miss\nhold 0 a k miss\ndel a gone\n"; is_fault = false } }
@@ -119,147 +114,22 @@ pub fn two_holds_of_one_item()
     ensures { verdict_of (codes "store 1 4 4 1\nclass 1 0 5\nset a 0 7\nhold 0 a h\nhold 0 a k\ndrop h\ndel a\nread k\nhit 0 k\nhold 0 a h\ndrop k\nsweep 0\n") ≡ record { text = codes "set a 0.1\nhold 0 a h held\nhold 0 a k held\ndrop h\ndel a deferred\nread k 7\nhit 0 k first\nhold 0 a h miss\ndrop k\nsweep 0 1\n"; is_fault = false } }
 {}
 
-/// A closed worker is looked at after all faults.
-pub fn faults_before_closed()
-    ensures { verdict_of (codes "store 1 4 4 1\nclass 1 0 5\nset a 0 7\nhold 0 a h\nclose 0\nhit 0 h\nhold 0 a k\nhold 0 a h\n") ≡ record { text = codes "set a 0.1\nhold 0 a h held\nclose 0 attempted 0 accepted 0 full 0 busy 0 refs 0 applied 0\nhit 0 h closed\nhold 0 a k closed\nline 8: HELD\n"; is_fault = true } }
-{}
-
-/// A hold name in use is told after the names of its line.
-pub fn held_before_unbound()
-    ensures { verdict_of (codes "store 1 4 4 1\nclass 2 5 5\nset a 0 7\nhold 0 a h\nhold 0 b h\n") ≡ record { text = codes "set a 0.1\nhold 0 a h held\nline 5: UNBOUND\n"; is_fault = true } }
-{}
-
-/// A hold name in use is kept.
-pub fn hold_in_use()
-    ensures { verdict_of (codes "store 1 4 4 1\nclass 2 5 5\nset a 0 7\nhold 0 a h\nhold 0 a h\n") ≡ record { text = codes "set a 0.1\nhold 0 a h held\nline 5: HELD\n"; is_fault = true } }
-{}
-
-/// Behind `par` no item is stored.
-pub fn set_after_par()
-    ensures { verdict_of (codes "store 1 4 4 1\nclass 2 5 5\npar\nset a 1 7\n") ≡ record { text = codes "line 4: ORDER\n"; is_fault = true } }
-{}
-
-/// Item names and hold names are separate.
-pub fn names_apart()
-    ensures { verdict_of (codes "store 1 4 4 1\nclass 2 5 5\nset a 0 7\nhold 0 a h\nget 0 h\n") ≡ record { text = codes "set a 0.1\nhold 0 a h held\nline 5: UNBOUND\n"; is_fault = true } }
-{}
-
-/// An input without lines.
-pub fn no_input()
-    ensures { verdict_of (codes "") ≡ record { text = codes "line 1: ORDER\n"; is_fault = true } }
-{}
-
-/// No workers.
-pub fn no_workers()
-    ensures { verdict_of (codes "store 0 4 4 1\nclass 2 5 5\nshow\n") ≡ record { text = codes "line 3: WORKERS\n"; is_fault = true } }
-{}
-
-/// A fault of the configuration is found at the end of the input, where there is no command.
-pub fn no_capacity()
-    ensures { verdict_of (codes "store 1 0 4 1\nclass 2 5 5\n") ≡ record { text = codes "line 3: CAPACITY\n"; is_fault = true } }
-{}
-
-/// The input ends inside a line.
-pub fn truncated()
-    ensures { verdict_of (codes "store 1 4 4 1\nclass 2 5 5\nsho") ≡ record { text = codes "line 3: TRUNCATED\n"; is_fault = true } }
-{}
-
-/// The first word is no command.
-pub fn no_command()
-    ensures { verdict_of (codes "store 1 4 4 1\nclass 2 5 5\nfly 0\n") ≡ record { text = codes "line 3: COMMAND\n"; is_fault = true } }
-{}
-
-/// There is no class 1.
-pub fn no_class()
-    ensures { verdict_of (codes "store 1 4 4 1\nclass 2 5 5\nset a 1 7\n") ≡ record { text = codes "line 3: CLASS\n"; is_fault = true } }
-{}
-
-/// There is no worker 1.
-pub fn no_worker()
-    ensures { verdict_of (codes "store 1 4 4 1\nclass 2 5 5\nget 1 a\n") ≡ record { text = codes "line 3: WORKER\n"; is_fault = true } }
-{}
-
-/// The name was never bound.
-pub fn unbound()
-    ensures { verdict_of (codes "store 1 4 4 1\nclass 2 5 5\nget 0 a\n") ≡ record { text = codes "line 3: UNBOUND\n"; is_fault = true } }
-{}
-
-/// A number has no leading zero.
-pub fn leading_zero()
-    ensures { verdict_of (codes "store 1 4 4 1\nclass 2 5 5\nset a 0 07\n") ≡ record { text = codes "line 3: NUMBER\n"; is_fault = true } }
-{}
-
-/// A skipped line is too long, too.
-pub fn long_comment()
-    ensures { verdict_of (codes "store 1 4 4 1\nclass 2 5 5\n################################################################################################################################################################################################################################################################\n") ≡ record { text = codes "line 3: LONG\n"; is_fault = true } }
-{}
-
-/// So is the end of the input, before it is said to be inside a line.
-pub fn long_end()
-    ensures { verdict_of (codes "store 1 4 4 1\nclass 2 5 5\n################################################################################################################################################################################################################################################################") ≡ record { text = codes "line 3: LONG\n"; is_fault = true } }
-{}
-
 /// A line of 255 bytes is not too long.
 pub fn longest_comment()
     ensures { verdict_of (codes "store 1 4 4 1\nclass 2 5 5\n###############################################################################################################################################################################################################################################################\n") ≡ record { text = codes ""; is_fault = false } }
 {}
 
-/// Two spaces have an empty word between them.
-pub fn two_spaces()
-    ensures { verdict_of (codes "store 1 4 4 1\nclass 2 5 5\nget 0  a\n") ≡ record { text = codes "line 3: COUNT\n"; is_fault = true } }
+/// The chunk has two lives left, and is retired after the second.
+pub fn last_two_lives()
+    ensures { verdict_of (codes "store 1 4 4 4294967294\nclass 1 5 5\nset a 0 7\ndel a\nset b 0 8\ndel b\nset c 0 9\nget 0 a\nget 0 b\nsweep 0\n") ≡ record { text = codes "set a 0.4294967294\ndel a freed\nset b 0.4294967295\ndel b freed\nset c full\nget 0 a miss\nget 0 b miss\nsweep 0 0\n"; is_fault = false } }
 {}
 
-/// So has a space at the end of a line.
-pub fn space_behind()
-    ensures { verdict_of (codes "store 1 4 4 1\nclass 2 5 5\nshow \n") ≡ record { text = codes "line 3: COUNT\n"; is_fault = true } }
+/// A chunk that is held after its last life is retired by the sweep after its hold.
+pub fn retired_after_its_hold()
+    ensures { verdict_of (codes "store 1 4 4 4294967295\nclass 1 5 5\nset a 0 7\nhold 0 a h\ndel a\nsweep 0\ndrop h\nsweep 0\nshow\n") ≡ record { text = codes "set a 0.4294967295\nhold 0 a h held\ndel a deferred\nsweep 0 0\ndrop h\nsweep 0 1\nclass 0 hot 0\nclass 0 warm 0\nclass 0 cold 0\nclass 0 dying 0\nclass 0 unused 0\nclass 0 retired 1 0\nworker 0 attempted 0 accepted 0 full 0 busy 0 refs 0 applied 0\n"; is_fault = false } }
 {}
 
-/// And a space in front, whose empty word is no command.
-pub fn space_in_front()
-    ensures { verdict_of (codes "store 1 4 4 1\nclass 2 5 5\n show\n") ≡ record { text = codes "line 3: COMMAND\n"; is_fault = true } }
-{}
-
-/// A name has small letters.
-pub fn upper_case()
-    ensures { verdict_of (codes "store 1 4 4 1\nclass 2 5 5\nset A 0 7\n") ≡ record { text = codes "line 3: NAME\n"; is_fault = true } }
-{}
-
-/// A name has at most 32 bytes.
-pub fn long_name()
-    ensures { verdict_of (codes "store 1 4 4 1\nclass 2 5 5\nset aaaaaaaaaaaaaaaaaaaaaaaaaaaaaaaaa 0 7\n") ≡ record { text = codes "line 3: NAME\n"; is_fault = true } }
-{}
-
-/// The number of a worker has 32 bits.
-pub fn wide_worker()
-    ensures { verdict_of (codes "store 1 4 4 1\nclass 2 5 5\nget 4294967296 a\n") ≡ record { text = codes "line 3: NUMBER\n"; is_fault = true } }
-{}
-
-/// A label has 64 bits.
-pub fn wide_label()
-    ensures { verdict_of (codes "store 1 4 4 1\nclass 2 5 5\nset a 0 18446744073709551616\n") ≡ record { text = codes "line 3: NUMBER\n"; is_fault = true } }
-{}
-
-/// There is no such segment.
-pub fn no_segment()
-    ensures { verdict_of (codes "store 1 4 4 1\nclass 2 5 5\npull 0 temp\n") ≡ record { text = codes "line 3: SEGMENT\n"; is_fault = true } }
-{}
-
-/// A second `store`.
-pub fn second_store()
-    ensures { verdict_of (codes "store 1 4 4 1\nclass 2 5 5\nstore 1 4 4 1\n") ≡ record { text = codes "line 3: ORDER\n"; is_fault = true } }
-{}
-
-/// A word that is no command comes before the faults of the configuration.
-pub fn command_first()
-    ensures { verdict_of (codes "store 0 4 4 1\nclass 2 5 5\nfly 0\n") ≡ record { text = codes "line 3: COMMAND\n"; is_fault = true } }
-{}
-
-/// No classes.
-pub fn no_classes()
-    ensures { verdict_of (codes "store 1 4 4 1\nshow\n") ≡ record { text = codes "line 2: CLASSES\n"; is_fault = true } }
-{}
-
-/// Too many chunks.
-pub fn many_chunks()
-    ensures { verdict_of (codes "store 1 4 4 1\nclass 1000001 5 5\nshow\n") ≡ record { text = codes "line 3: CHUNKS\n"; is_fault = true } }
+/// The numbers of bumps go on, however small the ring is.
+pub fn numbers_go_on()
+    ensures { verdict_of (codes "store 1 1 4 1\nclass 1 0 0\nset a 0 7\npull 0 hot\nget 0 a\nget 0 a\ndrain\npull 0 warm\nget 0 a\ndrain\npull 0 warm\nget 0 a\ndrain\n") ≡ record { text = codes "set a 0.1\npull 0 hot cold 0.1\nget 0 a 7 first\nget 0 a 7 queued 0\nbump 0 0 0.1 warm\ndrain 1\npull 0 warm cold 0.1\nget 0 a 7 queued 1\nbump 0 1 0.1 warm\ndrain 1\npull 0 warm cold 0.1\nget 0 a 7 queued 2\nbump 0 2 0.1 warm\ndrain 1\n"; is_fault = false } }
 {}

@@ -74,8 +74,14 @@ pub(super) const ENDS: [(&str, &str, bool); 14] = [
     ),
 ];
 
-/// A trace that has each line of the language, and its text.
+/// A trace that has each line of the language, as short as can be, and its text.
 pub(super) const EVERY_LINE: (&str, &str) = (
+    "store 1 1 4 1\nclass 1 0 5\nset a 0 7\npull 0 hot\nhold 0 a h\nhit 0 h\nhit 0 h\nget 0 a\nread h\ndel a\ndrain\ndrop h\nsweep 0\nclose 0\nshow\npar\nsweep 0\n",
+    "set a 0.1\npull 0 hot cold 0.1\nhold 0 a h held\nhit 0 h first\nhit 0 h queued 0\nget 0 a 7 already\nread h 7\ndel a deferred\nbump 0 0 0.1 gone deferred\ndrain 1\ndrop h\nsweep 0 1\nclose 0 attempted 1 accepted 1 full 0 busy 0 refs 0 applied 1\nclass 0 hot 0\nclass 0 warm 0\nclass 0 cold 0\nclass 0 dying 0\nclass 0 unused 1 0\nclass 0 retired 0\nworker 0 attempted 1 accepted 1 full 0 busy 0 refs 0 applied 1\nsweep 0 0\n",
+);
+
+/// A longer trace with each line of the language, and its text.
+pub(super) const MIXED_LINES: (&str, &str) = (
     "# each line of the language\nstore 2 2 8 1\nclass 3 0 1\nclass 1 5 5\nset a 0 7\nset b 0 8\nset c 1 9\nset d 1 10\npull 0 hot\npull 0 hot\nhold 1 a h\nhold 1 a h2\nget 0 a\nget 0 a\nhit 1 h\nread h\nget 0 b\nget 0 b\nget 0 b\ndel a\ndrain\ndrop h\ndrop h2\nsweep 0\npull 0 warm\npull 0 cold\npull 0 evict\nclose 0\nget 0 c\nhold 0 c k\nclose 0\nget 1 a\ndel a\nshow\npar\nget 1 c\ndel c\npull 1 hot\nsweep 1\ndrain\n",
     "set a 0.1\nset b 1.1\nset c 3.1\nset d full\npull 0 hot cold 0.1\npull 0 hot cold 1.1\nhold 1 a h held\nhold 1 a h2 held\nget 0 a 7 first\nget 0 a 7 queued 0\nhit 1 h already\nread h 7\nget 0 b 8 first\nget 0 b 8 queued 1\nget 0 b 8 already\ndel a deferred\nbump 0 0 0.1 gone deferred\nbump 0 1 1.1 warm\ndrain 2\ndrop h\ndrop h2\nsweep 0 1\npull 0 warm stay 1.1\npull 0 cold empty\npull 0 evict empty\nclose 0 attempted 2 accepted 2 full 0 busy 0 refs 0 applied 2\nget 0 c closed\nhold 0 c k closed\nclose 0 closed\nget 1 a miss\ndel a gone\nclass 0 hot 0\nclass 0 warm 1 1.1:1:f:21\nclass 0 cold 0\nclass 0 dying 0\nclass 0 unused 2 0 2\nclass 0 retired 0\nclass 1 hot 1 3.1:1:-:7\nclass 1 warm 0\nclass 1 cold 0\nclass 1 dying 0\nclass 1 unused 0\nclass 1 retired 0\nworker 0 attempted 2 accepted 2 full 0 busy 0 refs 0 applied 2\nworker 1 attempted 0 accepted 0 full 0 busy 0 refs 0 applied 0\nget 1 c 9 first\ndel c freed\npull 1 hot empty\nsweep 1 0\ndrain 0\n",
 );
