@@ -1,4 +1,3 @@
-pub mod ParsedNumbers
 pub mod KnownBytes
 pub mod CommandsAtRest
 pub mod AscendingLoops

@@ -2,19 +2,13 @@
 //! means stands in `specs/Meaning.antt`; `run_model` is proved to write that text and nothing else.
 #![tactic(auto)]
 
-mod counted;
 mod cutting;
-mod faults;
-mod fields;
 mod gathering;
-mod lines;
 mod names;
 mod open_store;
 mod reading;
 mod runs;
 mod stages;
-mod text;
 
-pub use counted::Counted;
 pub use runs::{SimFault, run_model};
-
+pub use trace_lines::Counted;

@@ -3,11 +3,11 @@ use Rattle.std.specs.Prelude.{ℕ, Bool, true, false, ◌==◌, List, [], ◌∷
 use Rattle.std.specs.List.{slice_split}
 use Rattle.std.specs.Str.{bytes_eq}
 use Rattle.bump_rules.specs.declared.places.Tail.{Tail}
-use Rattle.bump_trace.specs.Fields.{Kind, U32, U64, Name, Segment, Value, field}
-use Rattle.bump_trace.specs.declared.faults.Fault.{Fault}
-use Rattle.bump_trace.specs.declared.faults.Fault.TheVariants as fault
-use Rattle.bump_trace.specs.declared.lines.Declaration.{Declaration}
-use Rattle.bump_trace.specs.declared.lines.Declaration.TheVariants.{Store, Class}
+use Rattle.trace_lines.specs.Fields.{Kind, U32, U64, Name, Segment, Value, field}
+use Rattle.trace_lines.specs.declared.faults.Fault.{Fault}
+use Rattle.trace_lines.specs.declared.faults.Fault.TheVariants as fault
+use Rattle.trace_lines.specs.declared.lines.Declaration.{Declaration}
+use Rattle.trace_lines.specs.declared.lines.Declaration.TheVariants.{Store, Class}
 
 -- what is done on an open store, with the fields of its line
 pub data Instruction : Type 0 where

@@ -2,11 +2,11 @@
 
 ghost use Rattle.std.specs.Prelude.{◌≡◌, ◌^◌};
 ghost use Rattle.std.specs.List.{list_all};
-ghost use Rattle.bump_trace.specs.Fields.{U32, U64, Name, Segment, number_of, is_name_byte, field};
-ghost use Rattle.bump_trace.specs.Views.{Gives};
+ghost use Rattle.trace_lines.specs.Fields.{U32, U64, Name, Segment, number_of, is_name_byte, field};
+ghost use Rattle.trace_lines.specs.Seen.{Gives};
 
 use crate::faults::Fault;
-use bump_core::Tail;
+use bump_rules::Tail;
 
 /// The number below 2^64 that these digits spell, without leading zeros.
 fn number(digits: &[u8]) -> Option<u64>

@@ -2,11 +2,11 @@
 //! there.
 
 ghost use Rattle.std.specs.Prelude.{◌≡◌, ◌++◌, OnOk, codes, decimal};
-ghost use Rattle.bump_trace.specs.Text.{id_text, flags_text, item_text, chunk_text, place_word, list_start, accounts_text, accounts_line, touch_text, pulled_text, applied_text, entry_text, answer_text, told, set_line, get_start, get_line, get_held_line, hold_line, hit_line, read_line, drop_line, del_line, pull_line, sweep_line, bump_line, drain_line, close_start, closed_line, fault_line};
-ghost use Rattle.bump_trace.specs.Fields.{tail_word};
+ghost use Rattle.trace_lines.specs.Text.{id_text, flags_text, item_text, chunk_text, place_word, list_start, accounts_text, accounts_line, touch_text, pulled_text, applied_text, entry_text, answer_text, told, set_line, get_start, get_line, get_held_line, hold_line, hit_line, read_line, drop_line, del_line, pull_line, sweep_line, bump_line, drain_line, close_start, closed_line, fault_line};
+ghost use Rattle.trace_lines.specs.Fields.{tail_word};
 
 use crate::faults::Fault;
-use bump_core::{
+use bump_rules::{
     Accounts, Answer, Applied, Dropped, Ended, Entry, Head, ItemId, Place, Pulled, Tail, Touch,
 };
 use itoa::Buffer;

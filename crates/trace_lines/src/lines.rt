@@ -1,12 +1,12 @@
 //! What a line says.
 
 ghost use Rattle.std.specs.Prelude.{◌≡◌, IfOk, map, codes};
-ghost use Rattle.bump_trace.specs.Lines.{split_at_spaces, line_of, line_of_words};
-ghost use Rattle.bump_trace.specs.Views.{seen_line, Gives};
+ghost use Rattle.trace_lines.specs.Lines.{split_at_spaces, line_of, line_of_words};
+ghost use Rattle.trace_lines.specs.Seen.{seen_line, Gives};
 
 use crate::faults::Fault;
 use crate::fields::{name_field, segment_field, u32_field, u64_field};
-use bump_core::{ClassConfig, Tail};
+use bump_rules::{ClassConfig, Tail};
 use std::alloc::{AllocError, Global};
 
 /// What a `store` line says. The ranges are looked at where the store is opened.
@@ -130,8 +130,8 @@ pub enum Instruction<'a> {
 }
 
 impl<'a> Instruction<'a> {
-    ghost use Rattle.bump_trace.specs.Lines.{may_follow_par};
-    ghost use Rattle.bump_trace.specs.Views.{seen_instruction};
+    ghost use Rattle.trace_lines.specs.Lines.{may_follow_par};
+    ghost use Rattle.trace_lines.specs.Seen.{seen_instruction};
 
     /// Whether the line may stand behind `par`.
     pub fn may_follow_par(&self) -> bool

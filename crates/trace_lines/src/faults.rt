@@ -1,8 +1,8 @@
 //! The faults of a trace, and why a line was not run.
 
 ghost use Rattle.std.specs.Prelude.{◌≡◌};
-ghost use Rattle.bump_trace.specs.declared.faults.LineError.TheVariants.{Memory};
-ghost use Rattle.bump_trace.specs.Faults.{fault_word};
+ghost use Rattle.trace_lines.specs.declared.faults.LineError.TheVariants.{Memory};
+ghost use Rattle.trace_lines.specs.Faults.{fault_word};
 
 use std::alloc::{AllocError, AllocFailed};
 

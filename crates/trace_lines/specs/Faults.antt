@@ -2,8 +2,8 @@
 use Rattle.std.specs.Prelude.{ℕ, List, codes, Option, Some, None, Result, Ok, Err}
 use Rattle.bump_rules.specs.declared.configs.ConfigFault.{ConfigFault}
 use Rattle.bump_rules.specs.declared.configs.ConfigFault.TheVariants as config
-use Rattle.bump_trace.specs.declared.faults.Fault.{Fault}
-use Rattle.bump_trace.specs.declared.faults.Fault.TheVariants as fault
+use Rattle.trace_lines.specs.declared.faults.Fault.{Fault}
+use Rattle.trace_lines.specs.declared.faults.Fault.TheVariants as fault
 
 -- the word that tells a fault
 abbrev pub fault_word : Fault → List ℕ

@@ -8,7 +8,7 @@ use Rattle.std.proofs.lemmas.Bool.Decides.{Decides-like, Decides-and, Decides-or
 use Rattle.std.proofs.lemmas.Fmt.{IsAscii-from_digits}
 use Rattle.std.proofs.lemmas.Str.{IsUtf8-from_ascii}
 use Rattle.std.proofs.lemmas.Str.Parse.{IsNumeralModel, numerals_by_value, tells_all_ascii_digits, parse_plain}
-use Rattle.bump_trace.specs.Fields.{is_numeral, number_of}
+use Rattle.trace_lines.specs.Fields.{is_numeral, number_of}
 
 -- the decimal digits, and the number that they spell
 own : IsNumeralModel (λ ds. all_ascii_digits ds ≡ true) (digits_value 10)

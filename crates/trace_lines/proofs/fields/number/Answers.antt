@@ -1,7 +1,7 @@
 use Rattle.std.proofs.Common.{◌≡◌, ◌≢◌, ◌<◌, length, get_or, arith}
-use Rattle.bump_trace.proofs.ParsedNumbers.{number_from_parse, none_from_not_text}
-use Rattle.bump_trace.proofs.fields.number.Goals as goal
-use Rattle.bump_trace.proofs.fields.number.Goals.{then-first-eq48, else-first-eq48}
+use Rattle.trace_lines.proofs.ParsedNumbers.{number_from_parse, none_from_not_text}
+use Rattle.trace_lines.proofs.fields.number.Goals as goal
+use Rattle.trace_lines.proofs.fields.number.Goals.{then-first-eq48, else-first-eq48}
 
 pub returns-in-Ok : goal.returns-in-Ok
 returns-in-Ok c =

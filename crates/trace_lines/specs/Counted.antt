@@ -4,7 +4,7 @@ use Rattle.std.specs.IoError.{error_kind}
 use Rattle.std.specs.declared.io.Error.{Error}
 use Rattle.std.specs.declared.io.ErrorKind.{ErrorKind}
 use Rattle.std.specs.declared.io.ErrorKind.TheVariants.{Interrupted}
-use Rattle.bump_trace.specs.declared.counted.Counted.{Counted}
+use Rattle.trace_lines.specs.declared.counted.Counted.{Counted}
 
 -- what is counted, how many calls of it were made, and how many of them failed
 abbrev pub inner_of : {T : Type 0} → Counted T → T

@@ -1,6 +1,5 @@
--- The printed text: ids, flags, list lines, accounts, answers, and the line of each command.
-use Rattle.std.specs.Prelude.{ℕ, List, [], ◌∷◌, ◌++◌, length, codes, decimal, Option, None, Some, if◌then◌else◌}
-use Rattle.std.specs.List.{flat_map}
+-- The printed text: ids, flags, the starts of list lines, accounts, answers, and the line of each command.
+use Rattle.std.specs.Prelude.{ℕ, List, [], ◌++◌, codes, decimal, Option, None, Some, if◌then◌else◌}
 use Rattle.bump_rules.specs.declared.bumps.Accounts.{Accounts}
 use Rattle.bump_rules.specs.declared.bumps.Applied.{Applied}
 use Rattle.bump_rules.specs.declared.bumps.Applied.TheVariants.{Moved, TimeOnly, Gone}
@@ -18,12 +17,10 @@ use Rattle.bump_rules.specs.declared.items.ItemId.{ItemId}
 use Rattle.bump_rules.specs.declared.places.Place.{Place}
 use Rattle.bump_rules.specs.declared.places.Place.TheVariants as place
 use Rattle.bump_rules.specs.declared.places.Tail.{Tail}
-use Rattle.bump_rules.specs.Lists.{list_at, ascending}
 use Rattle.bump_rules.specs.Lives.{life}
-use Rattle.bump_core.specs.State.{State, chunk, head, class, worker}
-use Rattle.bump_trace.specs.Faults.{fault_word}
-use Rattle.bump_trace.specs.Fields.{tail_word}
-use Rattle.bump_trace.specs.declared.faults.Fault.{Fault}
+use Rattle.trace_lines.specs.Faults.{fault_word}
+use Rattle.trace_lines.specs.Fields.{tail_word}
+use Rattle.trace_lines.specs.declared.faults.Fault.{Fault}
 
 -- CHUNK.GENERATION
 abbrev pub id_text : ItemId → List ℕ
@@ -55,25 +52,9 @@ place_word place.Dying = codes "dying"
 place_word place.Unused = codes "unused"
 place_word place.Retired = codes "retired"
 
--- the order in which the lists of a class are printed
-abbrev pub all_places : List Place
-all_places = place.Hot ∷ place.Warm ∷ place.Cold ∷ place.Dying ∷ place.Unused ∷ place.Retired ∷ []
-
 -- class C PLACE LEN
 abbrev pub list_start : ℕ → Place → ℕ → List ℕ
 list_start k p length = codes "class " ++ decimal k ++ codes " " ++ place_word p ++ codes " " ++ decimal length
-
--- a space, and what is told of a chunk of the list
-abbrev pub list_entry : State → Place → ℕ → List ℕ
-list_entry s p c = codes " " ++ chunk_text p c (head s c) (chunk s c).time
-
--- class C PLACE LEN, and then the entries of the list, front first
-unfoldable pub list_line : State → ℕ → Place → List ℕ
-list_line s k p = let cs = list_at (class s k).lists p in list_start k p (length cs) ++ flat_map (list_entry s p) cs ++ codes "\n"
-
--- the lines of a class
-abbrev pub class_lines : State → ℕ → List ℕ
-class_lines s k = flat_map (list_line s k) all_places
 
 -- attempted A accepted B full C busy D refs E applied F
 abbrev pub accounts_text : Accounts → ℕ → List ℕ
@@ -84,14 +65,6 @@ accounts_text a applied =
 -- worker W ACCOUNTS
 abbrev pub accounts_line : ℕ → Accounts → ℕ → List ℕ
 accounts_line w a applied = codes "worker " ++ decimal w ++ codes " " ++ accounts_text a applied ++ codes "\n"
-
--- the line of a worker
-unfoldable pub worker_line : State → ℕ → List ℕ
-worker_line s w = accounts_line w (worker s w).accounts (length (worker s w).applied)
-
--- all lists, and then the accounts of all workers
-abbrev pub show_text : State → List ℕ
-show_text s = flat_map (class_lines s) (ascending 0 (length s.classes)) ++ flat_map (worker_line s) (ascending 0 (length s.workers))
 
 -- what a hit did
 abbrev pub touch_text : Touch → List ℕ
@@ -201,12 +174,9 @@ bump_line w e = codes "bump " ++ decimal w ++ codes " " ++ entry_text e ++ codes
 abbrev pub drain_line : ℕ → List ℕ
 drain_line n = codes "drain " ++ decimal n ++ codes "\n"
 
--- close W ACCOUNTS
+-- close W
 abbrev pub close_start : ℕ → List ℕ
 close_start w = codes "close " ++ decimal w ++ codes " "
-
-unfoldable pub close_line : State → ℕ → List ℕ
-close_line s w = close_start w ++ accounts_text (worker s w).accounts (length (worker s w).applied) ++ codes "\n"
 
 -- close W, of a worker that was closed before
 abbrev pub closed_line : ℕ → List ℕ
