@@ -11,7 +11,7 @@ mod worked;
 
 use ends::{ENDS, EVERY_LINE, MIXED_LINES};
 use expecting::Expecting;
-use faults::{EVERY_FAULT, LINE_FAULTS, PAIRS};
+use faults::{EVERY_FAULT, LINE_FAULTS, PAIRS, SURPRISES};
 use slow::{Narrow, Slow};
 use worked::{FAULTS, WORKED};
 
@@ -83,6 +83,16 @@ fn faults_of_more_lines(rt: HostRuntime) {
 #[test]
 fn pairs_of_faults(rt: HostRuntime) {
     for (trace, text) in PAIRS {
+        let (written, ended) = text_of(rt.alloc(), trace.as_bytes());
+        assert!(rt; ended == Err(SimFault::Trace), "{trace}");
+        assert!(rt; written.as_slice() == text.as_bytes(), "{trace}");
+    }
+}
+
+/// Faults that surprise.
+#[test]
+fn surprises(rt: HostRuntime) {
+    for (trace, text) in SURPRISES {
         let (written, ended) = text_of(rt.alloc(), trace.as_bytes());
         assert!(rt; ended == Err(SimFault::Trace), "{trace}");
         assert!(rt; written.as_slice() == text.as_bytes(), "{trace}");

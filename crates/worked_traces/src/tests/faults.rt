@@ -242,3 +242,21 @@ pub(super) const PAIRS: [(&str, &str); 42] = [
         "close 0 attempted 0 accepted 0 full 0 busy 0 refs 0 applied 0\nline 4: WORKER\n",
     ),
 ];
+
+/// What surprises: bytes that an editor may leave in a line, a name that was never bound, and which line a fault of the
+/// configuration names.
+pub(super) const SURPRISES: [(&str, &str); 7] = [
+    ("store 1 4 4 1\r\n", "line 1: NUMBER\n"),
+    ("store 1 4 4 1\nclass 2 5 5\nshow\r\n", "line 3: COMMAND\n"),
+    ("store 1 4 4 1\n\r\n", "line 2: COMMAND\n"),
+    ("\u{feff}store 1 4 4 1\n", "line 1: COMMAND\n"),
+    (
+        "store 1 4 4 1\nclass 1 5 5\nset a 0 7\nset b 0 8\nget 0 b\n",
+        "set a 0.1\nset b full\nline 5: UNBOUND\n",
+    ),
+    (
+        "store 1 4 4 1\nclass 0 5 5\n# a comment\nshow\n",
+        "line 4: CHUNKS\n",
+    ),
+    ("store 1 4 4 1\nclass 0 5 5\n", "line 3: CHUNKS\n"),
+];
