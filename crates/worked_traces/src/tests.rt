@@ -206,28 +206,28 @@ fn a_line_over_64_kib(rt: HostRuntime) -> Result<(), Fail> {
     Ok(())
 }
 
-/// A trace of so many bytes whose first line has a fault, so that no other line is run.
-fn long_trace(alloc: Global, bytes: usize) -> Result<Vec<u8>, AllocError> {
+/// A trace of 16,776,965 bytes and so many more, at most 256, whose first line has a fault, so that no other line is run.
+fn long_trace(alloc: Global, more: usize) -> Result<Vec<u8>, AllocError> {
     let comment = [b'#'; 256];
-    let mut trace = Vec::with_capacity(alloc, bytes)?;
+    let mut trace = Vec::new(alloc);
     trace.extend_from_slice(b"show\n")?;
-    while trace.len() < bytes {
-        let missing = bytes - trace.len();
-        trace.extend_from_slice(&comment[..missing.min(256)])?;
+    for _ in 0..65_535u32 {
+        trace.extend_from_slice(&comment)?;
     }
+    trace.extend_from_slice(&comment[..more.min(256)])?;
     Ok(trace)
 }
 
 /// A trace of exactly 16,777,216 bytes is taken, and one of a byte more is not.
 #[test]
 fn the_longest_trace(rt: HostRuntime) -> Result<(), Fail> {
-    let trace = long_trace(rt.alloc(), 16_777_216)?;
+    let trace = long_trace(rt.alloc(), 251)?;
     assert_eq!(rt; trace.len(), 16_777_216);
     let (written, ended) = text_of(rt.alloc(), &trace);
     assert!(rt; ended == Err(SimFault::Trace));
     assert!(rt; written.as_slice() == b"line 1: ORDER\n".as_slice());
 
-    let trace = long_trace(rt.alloc(), 16_777_217)?;
+    let trace = long_trace(rt.alloc(), 252)?;
     assert_eq!(rt; trace.len(), 16_777_217);
     let mut reader = Counted::new(trace.as_slice());
     let mut writer = Counted::new(Vec::new(rt.alloc()));
