@@ -9,7 +9,7 @@ use Rattle.bump_rules.specs.Lists.{ascending}
 use Rattle.bump_state.specs.State.{State}
 use Rattle.bump_trace.specs.OpenStore.{Drained, drained_none, drained_one, drained_both, drained_by, drained_of, drained_through, drain_by, drain_said}
 use Rattle.bump_trace.specs.Stages.{StoreState, Open, say}
-use Rattle.bump_trace.specs.Text.{drain_line}
+use Rattle.trace_lines.specs.Text.{drain_line}
 use Rattle.bump_trace.proofs.AscendingLoops.{ascending_more, ascending_done}
 
 -- what was drained until now
