@@ -12,3 +12,4 @@ pub mod Applications
 pub mod Starts
 pub mod Bounds
 pub mod Boardings
+pub mod ClassParts
