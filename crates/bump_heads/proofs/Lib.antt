@@ -14,3 +14,4 @@ pub mod HeldHeads
 pub mod Applications
 pub mod Starts
 pub mod Boardings
+pub mod ClassParts
