@@ -15,3 +15,5 @@ pub mod Applications
 pub mod Starts
 pub mod Bounds
 pub mod Boardings
+pub mod RideSteps
+pub mod RideMoves
