@@ -15,3 +15,5 @@ pub mod Applications
 pub mod Starts
 pub mod Boardings
 pub mod ClassParts
+pub mod RideSteps
+pub mod RideMoves
