@@ -17,3 +17,5 @@ pub mod Bounds
 pub mod Boardings
 pub mod RideSteps
 pub mod RideMoves
+pub mod RideTries
+pub mod RideViews
