@@ -18,4 +18,3 @@ pub mod Boardings
 pub mod RideSteps
 pub mod RideMoves
 pub mod RideTries
-pub mod RideViews

@@ -1,5 +1,5 @@
 -- How the heads that a call of `ride` found grow, and what it comes to.
-use Rattle.std.proofs.Common.{◌≡◌, ◌≢◌, ℕ, ◌+◌, ◌<◌, ◌≤◌, ◌==◌, Bool, true, false, List, [], ◌∷◌, ◌++◌, length, Option, Some, None, refl, sym, ap, ap₂, ◌∙◌, subst, arith, eq-eqb, ne_eqb, lt-ltb, le-ltb, append_assoc, length-append}
+use Rattle.std.proofs.Common.{◌≡◌, ◌≢◌, ℕ, ◌+◌, ◌<◌, ◌≤◌, Bool, List, [], ◌∷◌, ◌++◌, length, Option, Some, None, refl, sym, ap, ap₂, ◌∙◌, subst, arith, eq-eqb, ne_eqb, lt-ltb, le-ltb, append_assoc, length-append}
 use Rattle.std.specs.Prelude.{if◌then◌else◌, nat_lt}
 use Rattle.bump_rules.specs.declared.items.Head.{Head}
 use Rattle.bump_rules.specs.declared.items.ItemId.{ItemId}
@@ -14,7 +14,7 @@ use Rattle.bump_heads.specs.declared.views.WorkerPart.{WorkerPart}
 use Rattle.bump_heads.specs.declared.views.View.{View}
 use Rattle.bump_heads.specs.Plays.{Sat, on_first, step_of}
 use Rattle.bump_heads.specs.Taking.{last_found, AreHeads, loads, with_more}
-use Rattle.bump_heads.specs.Rides.{touching, on_worker, found_by, IsHeld, refusal, judged, judged_hand, counted_drop, reserved, looked, took, IsOn, HasRoom}
+use Rattle.bump_heads.specs.Rides.{on_worker, found_by, IsHeld, refusal, judged, judged_hand, counted_drop, reserved, looked, took, IsOn, HasRoom}
 use Rattle.bump_heads.specs.Riding.{AreHeld, AreTries, why_refused, view_after, RodeView}
 use Rattle.bump_heads.proofs.Tries.{heads_push, last_push, last_fits, loads_push}
 
@@ -92,18 +92,21 @@ module _ (limit : ℕ) (l : ItemId) (before now : Sat) (word failed : ℕ) (firs
       let x : OwnStep = step_of kind.Load l.chunk (word_of k) None in
       let o : Option RideRefusal = refusal limit (failed + 1) k in
       let count : length (more ++ k ∷ []) ≡ failed + 1 = omega (arith, length-append more (k ∷ []), y.count) in
-      let why : why_refused limit first (more ++ k ∷ []) ≡ o = ap₂ (λ (n : ℕ) (j : Head). refusal limit n j) count (last_push first more k) in (k, record {
-        heads = heads_push first more k y.heads t.1.1;
-        held = held_push limit l first more k y.held t.2;
-        tries = tries_push limit first more k y.tries (subst (λ (j : Head). j.refs < limit) (sym (last_is h spelled)) room) (λ e. miss (t.1.0 ∙ ap word_of e ∙ sym y.last));
-        count = count;
-        last = t.1.0 ∙ ap word_of (sym (last_push first more k));
-        view = t.3
-            ∙ ap (λ (m : Sat). (on_worker (λ w. judged o l (found_by kind.Load l k w)) m.0, m.1)) (tries_on (why_is h spelled ∙ goes limit failed h few room))
-            ∙ ap (λ (v : View). (v, before.1)) (again (λ w. judged None l (with_more s w)) (λ w. judged o l (found_by kind.Load l k w)) before.0)
-            ∙ (λ i. (on_worker (λ w. record w { hand = judged_hand o l; accounts = counted_drop o w.accounts; steps = append_assoc w.steps s (x ∷ []) i }) before.0, before.1))
-            ∙ ap (λ (z : Option RideRefusal × List OwnStep). (on_worker (λ w. judged z.0 l (with_more z.1 w)) before.0, before.1)) (λ i. (sym why i, sym (loads_push l.chunk (first ∷ more) k) i));
-      })
+      let why : why_refused limit first (more ++ k ∷ []) ≡ o = ap₂ (λ (n : ℕ) (j : Head). refusal limit n j) count (last_push first more k) in (
+        k,
+        record {
+          heads = heads_push first more k y.heads t.1.1;
+          held = held_push limit l first more k y.held t.2;
+          tries = tries_push limit first more k y.tries (subst (λ (j : Head). j.refs < limit) (sym (last_is h spelled)) room) (λ e. miss (t.1.0 ∙ ap word_of e ∙ sym y.last));
+          count = count;
+          last = t.1.0 ∙ ap word_of (sym (last_push first more k));
+          view = t.3
+              ∙ ap (λ (m : Sat). (on_worker (λ w. judged o l (found_by kind.Load l k w)) m.0, m.1)) (tries_on (why_is h spelled ∙ goes limit failed h few room))
+              ∙ ap (λ (v : View). (v, before.1)) (again (λ w. judged None l (with_more s w)) (λ w. judged o l (found_by kind.Load l k w)) before.0)
+              ∙ (λ i. (on_worker (λ w. record w { hand = judged_hand o l; accounts = counted_drop o w.accounts; steps = append_assoc w.steps s (x ∷ []) i }) before.0, before.1))
+              ∙ ap (λ (z : Option RideRefusal × List OwnStep). (on_worker (λ w. judged z.0 l (with_more z.1 w)) before.0, before.1)) (λ i. (sym why i, sym (loads_push l.chunk (first ∷ more) k) i));
+        },
+      )
 
   -- a refusal is the last step's
   stays : (r : RideRefusal) → failed ≤ 8 → why_refused limit first more ≡ Some r → RodeView limit l before now (Some r) first more

@@ -5,8 +5,8 @@ ghost use Rattle.bump_rules.specs.declared.lanes.Lane.TheVariants.{Empty as IsEm
 ghost use Rattle.bump_heads.specs.Riders.{ride_me, boarded, bump_of, applied_by};
 ghost use Rattle.bump_heads.specs.Applying.{stage_of, lane_map};
 
-use crate::seats::LaneSeat;
 use crate::names::Name;
+use crate::seats::LaneSeat;
 use crate::views::Ride;
 use crate::words::Seat;
 use bump_rules::{Bump, ItemId};

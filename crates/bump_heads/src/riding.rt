@@ -1,11 +1,11 @@
 //! The reference of a bump: taken by a worker, and sent off, had back or dropped.
-ghost use Rattle.std.specs.Prelude.{◌≡◌, ◌<◌, ◌≤◌, Some, List};
-ghost use Rattle.bump_rules.specs.declared.hands.Hand.TheVariants.{Idle, Trying, InHand};
+ghost use Rattle.std.specs.Prelude.{◌≡◌, ◌<◌, ◌≤◌, Some, List, IfOk, OnOk, OnErr};
+ghost use Rattle.bump_rules.specs.declared.hands.Hand.TheVariants.{Idle, Trying, InHand, Clearing};
 ghost use Rattle.bump_rules.specs.declared.items.Head.{Head as TheHead};
 ghost use Rattle.bump_heads.specs.declared.views.HoldPart.{HoldPart as TheHoldPart};
 ghost use Rattle.bump_heads.specs.declared.views.Kind.TheVariants.{Release};
 ghost use Rattle.bump_heads.specs.Rides.{found_by, dropped_full, returned};
-ghost use Rattle.bump_heads.specs.Riding.{Rode};
+ghost use Rattle.bump_heads.specs.Riding.{Rode, ride_of};
 
 use crate::decoding::head_of;
 use crate::heads::Heads;
@@ -52,6 +52,10 @@ impl<N: Name> Heads<N> {
         requires trying { worker.old.part.hand ≡ Trying life }
         requires next { number ≡ worker.old.part.accounts.accepted }
         ensures rode { (first : TheHead) × (more : List TheHead) × Rode self.now.refs_limit life number worker.old worker.new result first more }
+        ensures rider { IfOk result (λ r. r ≡ ride_of worker.old number life) }
+        ensures idle { OnOk result (worker.new.part.hand ≡ Idle) }
+        ensures dropped { OnErr result (worker.new.part.hand ≡ Clearing life) }
+        ensures hold { worker.new.hold ≡ worker.old.hold }
     {
         if let Some(refusal) = self.words.ride(&mut worker.seat, self.limit, life) {
             return Err(refusal);

@@ -1,5 +1,5 @@
 use Rattle.std.proofs.Common.{arith, ◌∙◌, ◌++◌, ◌∷◌, []}
-use Rattle.bump_heads.proofs.RideTries.{ride_starts, has_head, has_room, still_on, goes_on, refuses, gives_up, takes_it}
+use Rattle.bump_heads.proofs.RideTries.{ride_starts, has_head, still_on, goes_on, refuses, gives_up, takes_it}
 use Rattle.bump_heads.proofs.words.Words.ride.Goals as goal
 
 pub loop-failed-init : goal.loop-failed-init
