@@ -17,3 +17,4 @@ pub mod Boardings
 pub mod ClassParts
 pub mod RideSteps
 pub mod RideMoves
+pub mod RideTries

@@ -19,7 +19,7 @@ use Rattle.bump_heads.specs.Taking.{last_found, AreHeads, AreTries, refused_by, 
 use Rattle.bump_heads.proofs.Referring.{held_is}
 
 -- one more head is found
-heads_push : (h : Head) (more : List Head) (k : Head) → AreHeads h more → Fits k → AreHeads h (more ++ k ∷ [])
+pub heads_push : (h : Head) (more : List Head) (k : Head) → AreHeads h more → Fits k → AreHeads h (more ++ k ∷ [])
 heads_push h [] k are fits = (are, fits)
 heads_push h (j ∷ more) k are fits = (are.0, heads_push j more k are.1 fits)
 
@@ -29,7 +29,7 @@ tries_push limit g h [] k are can other = (can, other, tt)
 tries_push limit g h (j ∷ more) k are can other = (are.0, are.1, tries_push limit g j more k are.2 can other)
 
 -- what was found last is the last
-last_push : (h : Head) (more : List Head) (k : Head) → last_found h (more ++ k ∷ []) ≡ k
+pub last_push : (h : Head) (more : List Head) (k : Head) → last_found h (more ++ k ∷ []) ≡ k
 last_push h [] k = refl
 last_push h (j ∷ more) k = last_push j more k
 
@@ -39,7 +39,7 @@ last_fits h [] are = are
 last_fits h (k ∷ more) are = last_fits k more are.1
 
 -- one load more
-loads_push : (c : ℕ) (hs : List Head) (k : Head) → loads c (hs ++ k ∷ []) ≡ loads c hs ++ step_of kind.Load c (word_of k) None ∷ []
+pub loads_push : (c : ℕ) (hs : List Head) (k : Head) → loads c (hs ++ k ∷ []) ≡ loads c hs ++ step_of kind.Load c (word_of k) None ∷ []
 loads_push c [] k = refl
 loads_push c (h ∷ hs) k = ap (λ (l : List OwnStep). step_of kind.Load c (word_of h) None ∷ l) (loads_push c hs k)
 

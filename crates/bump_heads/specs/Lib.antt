@@ -13,3 +13,4 @@ pub mod Taking
 pub mod Making
 pub mod Riders
 pub mod Rides
+pub mod Riding

@@ -9,7 +9,7 @@ use crate::names::Name;
 use crate::seats::LaneSeat;
 use crate::views::Ride;
 use crate::words::Seat;
-use bump_rules::Bump;
+use bump_rules::{Bump, ItemId};
 use std::marker::{Model, PhantomData};
 
 /// A reference that travels as a bump. Where it is dropped its chunk stays held.
@@ -26,6 +26,29 @@ impl<N: Name> Model for Rider<N> {
     ghost view = { λ r. r.ride };
 
     ghost invariant = { λ r. (r.seat.me ≡ ride_me r.ride) × (r.seat.table_id ≡ N.table) × (3 * r.ride.life.chunk + 2 < N.table.words) × (r.ride.number < 4611686018427387903) };
+}
+
+impl<N: Name> Rider<N> {
+    /// The worker whose bump it is, from 0.
+    pub fn worker(&self) -> u32
+        ensures { result ≡ self.now.worker }
+    {
+        self.ride.worker
+    }
+
+    /// Its number among that worker's accepted bumps, from 0.
+    pub fn number(&self) -> u64
+        ensures { result ≡ self.now.number }
+    {
+        self.ride.number
+    }
+
+    /// The life that was hit, to which it refers.
+    pub fn life(&self) -> ItemId
+        ensures { result ≡ self.now.life }
+    {
+        self.ride.life
+    }
 }
 
 impl<N: Name> LaneSeat<N> {

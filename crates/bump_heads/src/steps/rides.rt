@@ -1,5 +1,6 @@
 //! The steps by which a worker takes the reference of a bump, sends it off, has it back and drops it.
-ghost use Rattle.std.specs.Prelude.{ℕ, ◌≡◌, ◌≢◌, ◌+◌, ◌*◌, ◌<◌, ◌≤◌, ◌++◌, [], ◌∷◌, None};
+ghost use Rattle.std.specs.Prelude.{ℕ, ◌≡◌, ◌≢◌, ◌+◌, ◌*◌, ◌<◌, ◌≤◌, ◌++◌, [], ◌∷◌, None, List};
+ghost use Rattle.bump_rules.specs.declared.items.Head.{Head as TheHead};
 ghost use Rattle.bump_rules.specs.declared.items.ItemId.{ItemId as TheItemId};
 ghost use Rattle.bump_rules.specs.declared.hands.Hand.TheVariants.{Idle, Trying, InHand};
 ghost use Rattle.bump_rules.specs.Lives.{life as life_in};
@@ -9,8 +10,11 @@ ghost use Rattle.bump_heads.specs.declared.views.Ride.{Ride as TheRide};
 ghost use Rattle.bump_heads.specs.Words.{words_id};
 ghost use Rattle.bump_heads.specs.Rule.{blank};
 ghost use Rattle.bump_heads.specs.Riders.{ride_me};
+ghost use Rattle.bump_heads.specs.Riding.{RodeView};
 ghost use Rattle.bump_heads.specs.Rides.{looked, rode, gave_back, IsOn, HasRoom, without_ride, ride_only, return_both};
 
+use crate::decoding::head_of;
+use crate::riding::RideRefusal;
 use crate::views::{Empty, View};
 use crate::words::{Seat, Words};
 use atomic_table::{Join, Play, Split};
@@ -143,6 +147,29 @@ impl Words {
         ensures told { rode limit failed life seen seat.old.me result seat.new.me }
     {
         self.try_to_ride_by::<Brand>(seat, limit, life, seen, failed)
+    }
+
+    /// One load, and at most 8 exchanges.
+    pub(crate) fn ride(&self, seat: &mut Seat, limit: u32, life: ItemId) -> Option<RideRefusal>
+        requires seat { (seat.old.table_id ≡ words_id self.now) × (3 * life.chunk + 2 < (words_id self.now).words) }
+        requires limit { limit ≡ self.now.table.shared.key.refs_limit }
+        requires trying { IsOn (Trying life) life seat.old.me.0 }
+        ensures same { (seat.new.table_id ≡ seat.old.table_id) × (seat.new.id ≡ seat.old.id) }
+        ensures told { (first : TheHead) × (more : List TheHead) × RodeView limit life seat.old.me seat.new.me result first more }
+    {
+        let mut word = self.look_to_ride(seat, limit, life);
+        for failed in 0..8u32 {
+            let head = head_of(word);
+            if head.refs >= limit {
+                return Some(RideRefusal::RefsFull);
+            }
+            let found = self.try_to_ride(seat, limit, life, word, failed + 1);
+            if found == word {
+                return None;
+            }
+            word = found;
+        }
+        Some(RideRefusal::Busy)
     }
 
     fn drop_full_by<W: Attempt>(&self, seat: &mut Seat, life: ItemId) -> u64
