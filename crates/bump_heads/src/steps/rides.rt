@@ -93,7 +93,7 @@ impl Words {
             .load::<LookToRide<W>>(seat, 3 * life.chunk as usize)
     }
 
-    /// S1, of a worker that looks for room for its bump's reference.
+    /// A load, of a worker that looks for room for its bump's reference.
     pub(crate) fn look_to_ride(&self, seat: &mut Seat, limit: u32, life: ItemId) -> u64
         requires seat { (seat.old.table_id ≡ words_id self.now) × (3 * life.chunk + 2 < (words_id self.now).words) }
         requires limit { limit ≡ self.now.table.shared.key.refs_limit }
@@ -130,7 +130,7 @@ impl Words {
             )
     }
 
-    /// S5, or S1 where it fails: then `failed` exchanges have failed.
+    /// An exchange that takes the bump's reference. Where it fails it is a load, and `failed` exchanges have failed.
     pub(crate) fn try_to_ride(
         &self,
         seat: &mut Seat,
@@ -184,7 +184,7 @@ impl Words {
             .fetch_sub::<DropFull<W>>(seat, 3 * life.chunk as usize, ONE_REFERENCE)
     }
 
-    /// S7 of a bump that found no room.
+    /// The subtraction that gives the reference of a bump back which found no room.
     pub(crate) fn drop_full(&self, seat: &mut Seat, life: ItemId) -> u64
         requires seat { (seat.old.table_id ≡ words_id self.now) × (3 * life.chunk + 2 < (words_id self.now).words) }
         requires in_hand { IsOn (InHand life) life seat.old.me.0 }
