@@ -6,6 +6,12 @@ pub mod StepLemmas
 pub mod Told
 pub mod Moves
 pub mod Seeing
+pub mod LabelLists
+pub mod Looking
+pub mod Entering
+pub mod Labelling
+pub mod ClassParts
+pub mod ClassSeats
 pub mod Meetings
 pub mod Makings
 pub mod Applications

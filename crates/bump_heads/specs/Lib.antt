@@ -5,8 +5,10 @@ pub mod Words
 pub mod Plays
 pub mod Cuts
 pub mod Applications
+pub mod Lives
 pub mod Meetings
 pub mod Seats
 pub mod Applying
+pub mod Linking
 pub mod Making
 pub mod Riders

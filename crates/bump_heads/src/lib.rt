@@ -6,6 +6,7 @@ mod decoding;
 mod heads;
 mod holds;
 mod joins;
+mod linking;
 mod making;
 mod names;
 mod riders;

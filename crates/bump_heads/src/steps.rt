@@ -3,4 +3,5 @@
 mod applications;
 mod boardings;
 mod cuts;
+mod lives;
 mod meetings;
