@@ -140,3 +140,11 @@ module _ (words : ℕ) (k : ClassPart) (o : IsClassPart words k) where
               (life_begun_else (life c g) 0 k.labels next_life (ap₂ (λ a b. a && b) (eq-eqb c c refl) (ne_eqb g ((standing k c).1 + 1) (λ e. omega (arith, e, at, later)))) ∙ o.unbegun c g (omega (arith, at, later))))
           (λ ne. life_begun_else (life d g) 0 k.labels next_life (other_of_chunk d c g ((standing k c).1 + 1) ne) ∙ o.unbegun d g (subst (λ (n : ℕ). n < g) (ap (λ (s : Standing). s.1) (stands_there c own (change.Linked next_life) refl d ne)) later));
     }
+
+-- a look leaves the class's number
+pub class_seen : (c refs n : ℕ) (k : ClassPart) → (seen c refs n k).class ≡ k.class
+class_seen c refs n k = by (refs == 0)
+  where
+    by : (b : Bool) → (if b then freed c n k else looked c n k).class ≡ k.class
+    by true = refl
+    by false = refl

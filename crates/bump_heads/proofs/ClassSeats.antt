@@ -1,6 +1,5 @@
 -- A class's seat after a step on its part, and what it knows of the Head that it finds.
-use Rattle.std.proofs.Common.{◌≡◌, ℕ, ◌+◌, ◌*◌, ◌<◌, ◌≤◌, ◌&&◌, leb, ltb, Bool, true, List, [], ◌∷◌, Option, Some, None, refl, sym, ap, ◌∙◌, subst, arith}
-use Rattle.std.proofs.lemmas.Bool.{and_parts, ltb-lt}
+use Rattle.std.proofs.Common.{◌≡◌, ℕ, ◌+◌, ◌*◌, ◌<◌, ◌≤◌, true, List, [], ◌∷◌, Option, Some, None, refl, sym, ap, ◌∙◌, subst, arith}
 use Rattle.atomic_table.specs.Seated.{TableId}
 use Rattle.bump_rules.specs.declared.items.Head.{Head}
 use Rattle.bump_rules.specs.Lawful.{Shows}
@@ -20,21 +19,13 @@ use Rattle.bump_heads.proofs.Told.{stands_alone}
 pub class_in_me : (x : ClassView) → class_in (class_me x).0 ≡ x
 class_in_me x = by x.lane
   where
-    by : (o : Option LanePart) → record { part = x.part; lane = first (listed o) } ≡ record { part = x.part; lane = o }
+    by : (o : Option LanePart) → ◌≡◌ {A = ClassView} (record { part = x.part; lane = first (listed o) }) (record { part = x.part; lane = o })
     by None = refl
     by (Some l) = refl
-
--- a chunk of the class is of the table
-pub in_table : (words c : ℕ) (k : ClassPart) → IsClassPart words k → owns c k ≡ true → 3 * c + 2 < words
-in_table words c k o own = let below : c < k.first + k.count = ltb-lt c (k.first + k.count) (and_parts (leb k.first c) (ltb c (k.first + k.count)) own).1 in omega (arith, below, o.within)
 
 -- what is found is what the answer spells
 pub found_is : (n : ℕ) (P : Head → Type 0) (h : Head) → Spells n h → Found n P → P h
 found_is n P h spells found = subst P (one_head n found.0 h found.1 spells) found.2
-
--- the head agrees with the place and the generation of a chunk of the class
-pub agrees : (c : ℕ) (m : Sat) (v : ClassView) (h : Head) → m ≡ class_me v → owns c v.part ≡ true → Told c m.0 h → Shows h (standing v.part c).0 × (h.generation ≡ (standing v.part c).1)
-agrees c m v h is own told = told.stood (standing v.part c) (stands_alone c m.0 v.part (ap (λ (y : Sat). y.0.classes) is) own)
 
 -- a seat to which no lane is joined
 pub alone_is : (m : Sat) (v : ClassView) → m ≡ class_me v → v.lane ≡ None → m.0 ≡ alone v.part
@@ -50,3 +41,22 @@ module _ (m w : Sat) (v : ClassView) (f : ClassPart → ClassPart) (is : m ≡ c
 
   pub whole_after : w ≡ class_me (class_in w.0)
   whole_after = me_after ∙ ap class_me (sym view_after)
+
+-- what the class's seat keeps, it keeps by a step on its part that its part keeps
+pub seat_kept : (m w : Sat) (now : ClassView) (f : ClassPart → ClassPart) (table id : TableId) (class : ℕ) → class_in m.0 ≡ now → m ≡ class_me (class_in m.0) → w ≡ (on_part f m.0, m.1) → id ≡ table
+    → IsInRange table (bump_aboard (class_in m.0).lane) → class ≡ (class_in m.0).part.class → IsClassPart table.words (class_in m.0).part
+    → (f now.part).class ≡ now.part.class → (IsClassPart table.words now.part → IsClassPart table.words (f now.part))
+    → (w ≡ class_me (class_in w.0)) × (id ≡ table) × IsInRange table (bump_aboard (class_in w.0).lane) × (class ≡ (class_in w.0).part.class) × IsClassPart table.words (class_in w.0).part
+seat_kept m w now f table id class view_is is after same near mine part class_same keeps =
+    let me : m ≡ class_me now = is ∙ ap class_me view_is in
+    let view : class_in w.0 ≡ record now { part = f now.part } = view_after m w now f me after in (
+      whole_after m w now f me after,
+      same,
+      subst (λ (o : Option LanePart). IsInRange table (bump_aboard o)) (ap (λ (x : ClassView). x.lane) view_is ∙ sym (ap (λ (x : ClassView). x.lane) view)) near,
+      mine ∙ ap (λ (x : ClassView). x.part.class) view_is ∙ sym class_same ∙ sym (ap (λ (x : ClassView). x.part.class) view),
+      subst (λ (k : ClassPart). IsClassPart table.words k) (sym (ap (λ (x : ClassView). x.part) view)) (keeps (subst (λ (k : ClassPart). IsClassPart table.words k) (ap (λ (x : ClassView). x.part) view_is) part)),
+    )
+
+-- a head that the class's seat finds agrees with the place and the generation of its chunk
+pub agrees : (c : ℕ) (m : Sat) (now : ClassView) (h : Head) → class_in m.0 ≡ now → m ≡ class_me (class_in m.0) → owns c now.part ≡ true → Told c m.0 h → Shows h (standing now.part c).0 × (h.generation ≡ (standing now.part c).1)
+agrees c m now h view_is is own told = told.stood (standing now.part c) (stands_alone c m.0 now.part (ap (λ (y : Sat). y.0.classes) (is ∙ ap class_me view_is)) own)
