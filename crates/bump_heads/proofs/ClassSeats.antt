@@ -42,6 +42,10 @@ module _ (m w : Sat) (v : ClassView) (f : ClassPart → ClassPart) (is : m ≡ c
   pub whole_after : w ≡ class_me (class_in w.0)
   whole_after = me_after ∙ ap class_me (sym view_after)
 
+-- a look before the step that leaves the seat as it was
+pub after_look : (m p w : Sat) (f : ClassPart → ClassPart) → p ≡ m → w ≡ (on_part f p.0, p.1) → w ≡ (on_part f m.0, m.1)
+after_look m p w f same after = after ∙ ap (λ (y : Sat). (on_part f y.0, y.1)) same
+
 -- what the class's seat keeps, it keeps by a step on its part that its part keeps
 pub seat_kept : (m w : Sat) (now : ClassView) (f : ClassPart → ClassPart) (table id : TableId) (class : ℕ) → class_in m.0 ≡ now → m ≡ class_me (class_in m.0) → w ≡ (on_part f m.0, m.1) → id ≡ table
     → IsInRange table (bump_aboard (class_in m.0).lane) → class ≡ (class_in m.0).part.class → IsClassPart table.words (class_in m.0).part

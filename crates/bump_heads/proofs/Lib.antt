@@ -14,7 +14,9 @@ pub mod ClassParts
 pub mod ClassSeats
 pub mod Meetings
 pub mod Makings
+pub mod Referring
+pub mod Tries
+pub mod HeldHeads
 pub mod Applications
 pub mod Starts
-pub mod Bounds
 pub mod Boardings

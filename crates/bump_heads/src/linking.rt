@@ -22,7 +22,7 @@ impl<N: Name> ClassSeat<N> {
         ensures generation { result.generation ≡ generation_of_chunk self.old.part chunk }
         ensures marks { bit result.active ≤ bit result.fetched }
     {
-        head_of(self.heads.words.look(&mut self.seat, chunk))
+        head_of(self.heads.words.class_look(&mut self.seat, chunk))
     }
 
     /// Stores the label of a chunk of UNUSED, by one store: the next life of the chunk has it, and each reader that holds this life

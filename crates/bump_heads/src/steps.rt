@@ -5,3 +5,4 @@ mod boardings;
 mod cuts;
 mod lives;
 mod meetings;
+mod references;

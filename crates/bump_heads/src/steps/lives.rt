@@ -60,7 +60,7 @@ impl Words {
     }
 
     /// A load of a head by its class.
-    pub(crate) fn look(&self, seat: &mut Seat, chunk: u32) -> u64
+    pub(crate) fn class_look(&self, seat: &mut Seat, chunk: u32) -> u64
         requires { (seat.old.table_id ≡ words_id self.now) × (3 * chunk + 2 < (words_id self.now).words) }
         ensures same { (seat.new.table_id ≡ seat.old.table_id) × (seat.new.id ≡ seat.old.id) }
         ensures told { looking chunk 0 seat.old.me result seat.new.me }

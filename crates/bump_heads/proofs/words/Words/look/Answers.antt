@@ -1,5 +1,5 @@
 use Rattle.std.proofs.Common.{arith}
-use Rattle.bump_heads.proofs.Looking.{looks}
+use Rattle.bump_heads.proofs.Referring.{looks}
 use Rattle.bump_heads.proofs.words.Words.look.Goals as goal
 
 pub load-requires : goal.load-requires

@@ -1,0 +1,119 @@
+//! References that readers have: taken, given back, and what a hold and a caller without a seat may read.
+ghost use Rattle.std.specs.Prelude.{◌≡◌, ◌<◌, ◌≤◌, IfOk, IsSome, None, List};
+ghost use Rattle.bump_rules.specs.declared.items.Head.{Head as TheHead};
+ghost use Rattle.bump_rules.specs.Lawful.{bit};
+ghost use Rattle.bump_rules.specs.Tables.{get_of};
+ghost use Rattle.bump_rules.specs.Totals.{total};
+ghost use Rattle.bump_heads.specs.Applying.{labels_in};
+ghost use Rattle.bump_heads.specs.Rule.{chunks as all_chunks};
+ghost use Rattle.bump_heads.specs.Taking.{Took, refused_by, reads, whole_hold};
+ghost use Rattle.bump_heads.specs.Views.{differs};
+
+use crate::decoding::head_of;
+use crate::heads::Heads;
+use crate::holds::Hold;
+use crate::names::Name;
+use crate::seats::WorkerSeat;
+use bump_rules::{Head, ItemId};
+use std::marker::PhantomData;
+use thiserror::Error;
+
+/// Why `take` gave no hold.
+#[derive(Error, Debug, PartialEq, Eq, Clone, Copy)]
+pub enum TakeRefusal {
+    /// The chunk isn't linked, or has another generation: the life is over, or has not begun.
+    #[error("the item is not linked")]
+    Stale,
+
+    /// The chunk's reference count is at its limit.
+    #[error("the item has as many references as it may have")]
+    RefsFull,
+
+    /// Eight exchanges failed, since other threads changed the word before each of them.
+    #[error("other threads changed the item again and again")]
+    Busy,
+}
+
+// Why a get of the life is refused where this head is found, if it is: Stale comes before RefsFull.
+pub(crate) fn refusal(head: Head, life: ItemId, limit: u32) -> Option<TakeRefusal>
+    ensures { result ≡ refused_by (get_of limit life.generation head) }
+{
+    if !head.linked || head.generation != life.generation {
+        return Some(TakeRefusal::Stale);
+    }
+    if head.refs >= limit {
+        return Some(TakeRefusal::RefsFull);
+    }
+    None
+}
+
+impl<N: Name> Heads<N> {
+    /// Takes a reference to the life, as memcached's `refcount_incr` in `do_item_get`. The worker's seat has no hold joined, and the
+    /// chunk is one of the store's.
+    ///
+    /// It makes one load and at most 8 exchanges. Each exchange expects the word that the step before it found, and fails where another
+    /// thread changed it since. By the word that was found last the answer is
+    /// 1. Stale, where the chunk isn't linked or has another generation than the life;
+    /// 2. RefsFull, where its reference count is at the limit;
+    /// 3. a hold, where the exchange found that word again.
+    ///
+    /// Busy is answered where 8 exchanges failed, whatever the last of them found. A refusal changes nothing: all that is new to the
+    /// worker is the list of its steps, of which none changed a word.
+    pub fn take(
+        &self,
+        worker: &mut WorkerSeat<N>,
+        life: ItemId,
+    ) -> Result<Hold<N>, TakeRefusal>
+        requires alone { worker.old.hold ≡ None }
+        requires chunk { life.chunk < all_chunks self.now }
+        ensures took { (first : TheHead) × (more : List TheHead) × Took self.now.refs_limit life worker.old worker.new result first more }
+        ensures hold { IfOk result (λ h. h ≡ whole_hold life) }
+    {
+        if let Some(refusal) = self.words.take(&mut worker.seat, life, self.limit) {
+            return Err(refusal);
+        }
+        let part = self.words.part_holds(&mut worker.seat);
+        Ok(Hold {
+            seat: part,
+            life,
+            of: PhantomData,
+        })
+    }
+
+    /// Gives the hold's reference back by one subtraction, as memcached's `refcount_decr` in `do_item_remove`, and answers the head
+    /// before it: of the hold's life, and with a count of at least 1. The hold is whole. Its chunk may become free from then on.
+    pub fn give_back(&self, hold: Hold<N>) -> Head
+        requires whole { IsSome hold.part }
+        ensures generation { result.generation ≡ hold.life.generation }
+        ensures counted { 0 < result.refs }
+    {
+        let Hold {
+            mut seat,
+            life,
+            of: _,
+        } = hold;
+        head_of(self.words.give_back(&mut seat, life.chunk))
+    }
+
+    /// The label that was stored for the hold's life, by one load: what the caller of `link` gave, such as the number of a key or of a
+    /// value. The hold is whole. Each call with holds of one life answers the same label; this says it of one hold.
+    pub fn label_of(&self, hold: &mut Hold<N>) -> u64
+        requires whole { IsSome hold.old.part }
+        ensures read { hold.new ≡ record hold.old { part = reads result hold.old.part } }
+        ensures same { total (differs result) (labels_in hold.old.part) ≡ 0 }
+    {
+        self.words.read_label(&mut hold.seat, hold.life.chunk)
+    }
+
+    /// The head and the time of a chunk of the store, by two loads, between which other threads may change both. No seat is needed. Of
+    /// the time nothing is promised.
+    pub fn see(&self, chunk: u32) -> (Head, u64)
+        requires chunk { chunk < all_chunks self.now }
+        ensures limit { result.0.refs ≤ self.now.refs_limit }
+        ensures linked { bit result.0.linked ≤ result.0.refs }
+        ensures active { bit result.0.active ≤ bit result.0.fetched }
+    {
+        let head = head_of(self.words.see(chunk));
+        (head, self.words.see_time(chunk))
+    }
+}
