@@ -6,6 +6,13 @@ pub mod StepLemmas
 pub mod Told
 pub mod Moves
 pub mod Seeing
+pub mod LabelLists
+pub mod Looking
+pub mod Entering
+pub mod Labelling
+pub mod ClassParts
+pub mod ClassLives
+pub mod ClassSeats
 pub mod Meetings
 pub mod Makings
 pub mod Referring
@@ -15,6 +22,7 @@ pub mod Applications
 pub mod Starts
 pub mod Boardings
 pub mod ClassParts
+pub mod ClassLives
 pub mod RideSteps
 pub mod RideMoves
 pub mod RideTries

@@ -6,10 +6,12 @@ pub mod Plays
 pub mod Cuts
 pub mod References
 pub mod Applications
+pub mod Lives
 pub mod Meetings
 pub mod Seats
 pub mod Applying
 pub mod Taking
+pub mod Linking
 pub mod Making
 pub mod Riders
 pub mod Rides

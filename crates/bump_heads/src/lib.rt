@@ -5,6 +5,7 @@ mod applying;
 mod decoding;
 mod heads;
 mod holds;
+mod linking;
 mod making;
 mod meeting;
 mod names;
@@ -31,3 +32,6 @@ pub use views::{
     ClassPart, ClassView, Empty, HoldPart, HoldView, Kind, LanePart, OwnStep, Ride, View,
     WorkerPart, WorkerView,
 };
+
+#[cfg(test)]
+mod tests;

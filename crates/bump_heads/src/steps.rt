@@ -3,6 +3,7 @@
 mod applications;
 mod boardings;
 mod cuts;
+mod lives;
 mod meetings;
 mod references;
 mod rides;

@@ -1,0 +1,88 @@
+//! Lives begin and end under their class's lock: labels, links, unlinks, and the chunks that nobody holds any more.
+ghost use Rattle.std.specs.Prelude.{◌≡◌, ◌+◌, ◌*◌, ◌<◌, ◌≤◌, None, true, false};
+ghost use Rattle.bump_rules.specs.declared.places.Place.TheVariants.{Dying, Unused};
+ghost use Rattle.bump_rules.specs.Lawful.{bit, Shows};
+ghost use Rattle.bump_rules.specs.Lives.{life};
+ghost use Rattle.bump_heads.specs.Views.{owns};
+ghost use Rattle.bump_heads.specs.Lives.{labelled, IsInSegment};
+ghost use Rattle.bump_heads.specs.Linking.{place_of_chunk, generation_of_chunk, with_look, with_life, without_life, with_sight};
+
+use crate::decoding::head_of;
+use crate::names::Name;
+use crate::seats::ClassSeat;
+use bump_rules::{Head, ItemId};
+
+impl<N: Name> ClassSeat<N> {
+    /// Looks at the head of a chunk of the class, by one load. It agrees with the list in which the class has the chunk: linked and
+    /// with the segment of HOT, WARM or COLD, else not linked; the generation is the chunk's.
+    pub fn look(&mut self, chunk: u32) -> Head
+        requires own { owns chunk self.old.part ≡ true }
+        ensures looked { self.new ≡ record self.old { part = with_look chunk result self.old.part } }
+        ensures agrees { Shows result (place_of_chunk self.old.part chunk) }
+        ensures generation { result.generation ≡ generation_of_chunk self.old.part chunk }
+        ensures marks { bit result.active ≤ bit result.fetched }
+    {
+        head_of(self.heads.words.class_look(&mut self.seat, chunk))
+    }
+
+    /// Stores the label of a chunk of UNUSED, by one store: the next life of the chunk has it, and each reader that holds this life
+    /// reads it. The chunk must be in UNUSED, where nobody holds it. In memcached this is the key and the value, which
+    /// `do_item_alloc`'s caller writes before `do_item_link`.
+    pub fn put_label(&mut self, chunk: u32, label: u64)
+        requires alone { self.old.lane ≡ None }
+        requires own { owns chunk self.old.part ≡ true }
+        requires unused { place_of_chunk self.old.part chunk ≡ Unused }
+        ensures labelled { self.new ≡ record self.old { part = labelled chunk label self.old.part } }
+    {
+        self.heads
+            .words
+            .put_label(&mut self.seat, chunk, label);
+    }
+
+    /// Begins the next life of a chunk of UNUSED, in HOT, by one store of its head: one reference, which is that of the link, and
+    /// no marks. Its label is the last one that was stored for the chunk. Answers the life, of the next generation (memcached's
+    /// `do_item_link`). A chunk of UNUSED has a generation that is still to come.
+    pub fn open_life(&mut self, chunk: u32) -> ItemId
+        requires alone { self.old.lane ≡ None }
+        requires own { owns chunk self.old.part ≡ true }
+        requires unused { place_of_chunk self.old.part chunk ≡ Unused }
+        ensures next { result ≡ life chunk (generation_of_chunk self.old.part chunk + 1) }
+        ensures begun { self.new ≡ record self.old { part = with_life result self.old.part } }
+    {
+        let found = head_of(self.heads.words.peek(&mut self.seat, chunk));
+        let generation = found.generation + 1;
+        self.heads
+            .words
+            .begin(&mut self.seat, chunk, generation);
+        ItemId { chunk, generation }
+    }
+
+    /// Ends the life of a chunk of HOT, WARM or COLD, by one subtraction that clears LINKED and gives back the link's reference
+    /// (memcached's `do_item_unlink_q`, and the `refcount_decr` of the link). The chunk is DYING until nobody holds it. Answers the head before: linked, in the
+    /// segment in which the class has the chunk, of its generation, with the link's reference at least.
+    pub fn end_life(&mut self, chunk: u32) -> Head
+        requires alone { self.old.lane ≡ None }
+        requires own { owns chunk self.old.part ≡ true }
+        requires linked { IsInSegment (place_of_chunk self.old.part chunk) }
+        ensures ended { self.new ≡ record self.old { part = without_life chunk result self.old.part } }
+        ensures agrees { Shows result (place_of_chunk self.old.part chunk) }
+        ensures generation { result.generation ≡ generation_of_chunk self.old.part chunk }
+        ensures counted { 0 < result.refs }
+        ensures marks { bit result.active ≤ bit result.fetched }
+    {
+        head_of(self.heads.words.sever(&mut self.seat, chunk))
+    }
+
+    /// Looks whether a DYING chunk is still held, by one load. Where it finds no reference the chunk is free, and goes to UNUSED, or to
+    /// RETIRED after its last generation: no reader can take it any more. Else it stays DYING.
+    pub fn seen_unheld(&mut self, chunk: u32) -> Head
+        requires alone { self.old.lane ≡ None }
+        requires own { owns chunk self.old.part ≡ true }
+        requires dying { place_of_chunk self.old.part chunk ≡ Dying }
+        ensures seen { self.new ≡ record self.old { part = with_sight chunk result self.old.part } }
+        ensures unlinked { result.linked ≡ false }
+        ensures generation { result.generation ≡ generation_of_chunk self.old.part chunk }
+    {
+        head_of(self.heads.words.sweep(&mut self.seat, chunk))
+    }
+}
