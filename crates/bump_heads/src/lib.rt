@@ -25,3 +25,6 @@ pub use rule::Rule;
 pub use seats::{ClassSeat, LaneSeat, WorkerSeat};
 pub use taking::TakeRefusal;
 pub use views::{ClassPart, ClassView, Empty, HoldPart, HoldView, Kind, LanePart, OwnStep, Ride, View, WorkerPart, WorkerView};
+
+#[cfg(test)]
+mod tests;

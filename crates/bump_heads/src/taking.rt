@@ -67,6 +67,7 @@ impl<N: Name> Heads<N> {
         requires alone { worker.old.hold ≡ None }
         requires chunk { life.chunk < all_chunks self.now }
         ensures took { (first : TheHead) × (more : List TheHead) × Took self.now.refs_limit life worker.old worker.new result first more }
+        ensures alone { worker.new.hold ≡ None }
         ensures hold { IfOk result (λ h. h ≡ whole_hold life) }
     {
         if let Some(refusal) = self.words.take(&mut worker.seat, life, self.limit) {
