@@ -59,11 +59,7 @@ impl<N: Name> Heads<N> {
     ///
     /// Busy is answered where 8 exchanges failed, whatever the last of them found. A refusal changes nothing: all that is new to the
     /// worker is the list of its steps, of which none changed a word.
-    pub fn take(
-        &self,
-        worker: &mut WorkerSeat<N>,
-        life: ItemId,
-    ) -> Result<Hold<N>, TakeRefusal>
+    pub fn take(&self, worker: &mut WorkerSeat<N>, life: ItemId) -> Result<Hold<N>, TakeRefusal>
         requires alone { worker.old.hold ≡ None }
         requires chunk { life.chunk < all_chunks self.now }
         ensures took { (first : TheHead) × (more : List TheHead) × Took self.now.refs_limit life worker.old worker.new result first more }
@@ -89,14 +85,12 @@ impl<N: Name> Heads<N> {
         ensures counted { 0 < result.refs }
     {
         let Hold { seat, life, of: _ } = hold;
-        let Some(mut seat) = seat else {
-            unreachable!()
-        };
+        let Some(mut seat) = seat else { unreachable!() };
         head_of(self.words.give_back(&mut seat, life.chunk))
     }
 
-    /// The label that was stored for the hold's life, by one load: what the caller of `link` gave, such as the number of a key or of a
-    /// value. The hold is whole. Each call with holds of one life answers the same label; this says it of one hold.
+    /// The chunk's label, by one load: a number that was stored before the hold's life began, as memcached's key and value of an item
+    /// are. The hold is whole, and its view keeps the label. It is each label that this hold read before.
     pub fn label_of(&self, hold: &mut Hold<N>) -> u64
         requires whole { IsSome hold.old.part }
         ensures read { hold.new ≡ record hold.old { part = reads result hold.old.part } }

@@ -63,7 +63,14 @@ fn told_in<N: Name>(alloc: Global, blank: Blank, config: &Config) -> Option<Told
 fn config(alloc: Global) -> Option<Config>
     ensures { IfSome result (λ c. (c.workers ≡ 1) × (c.classes ≡ record { chunks = 2; hot = 1; warm = 1 } ∷ [])) }
 {
-    let classes = vec![in alloc; ClassConfig { chunks: 2, hot: 1, warm: 1 }].ok()?;
+    let classes = vec![in alloc;
+        ClassConfig {
+            chunks: 2,
+            hot: 1,
+            warm: 1
+        },
+    ]
+    .ok()?;
     Config::new(1, 4, 4, 1, classes).ok()
 }
 
@@ -86,6 +93,9 @@ fn chunks_without_a_life(rt: HostRuntime) -> Result<(), Fail> {
         generation: 0,
     };
     assert_eq!(rt; seen, (head, 0));
-    assert_eq!(rt; (before, first), (Some(TakeRefusal::Stale), Some(TakeRefusal::Stale)));
+    assert_eq!(rt;
+        (before, first),
+        (Some(TakeRefusal::Stale), Some(TakeRefusal::Stale))
+    );
     Ok(())
 }

@@ -1,4 +1,3 @@
-use Rattle.std.proofs.Common.{◌∙◌}
 use Rattle.bump_heads.proofs.HeldHeads.{held_found}
 use Rattle.bump_heads.proofs.heads.Heads.give_back.Goals as goal
 
