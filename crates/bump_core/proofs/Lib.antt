@@ -1,2 +1,3 @@
+mod events
 pub mod Held
 pub mod NewClasses

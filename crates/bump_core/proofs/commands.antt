@@ -7,5 +7,6 @@ pub mod HitsAsEvents
 pub mod HoldsAsEvents
 pub mod LanesAsEvents
 pub mod LinksAsEvents
+pub mod NextBumps
 pub mod PullsAsEvents
 pub mod UnheldChunks

@@ -1,4 +1,3 @@
-pub mod Enabled
 pub mod LawfulAttempts
 pub mod LawfulEnds
 pub mod LawfulHits

@@ -1,9 +1,7 @@
 pub mod ClosedRings
 pub mod Frames
-pub mod Fronts
 pub mod Headline
 pub mod Labels
-pub mod LawfulStates
 pub mod Opening
 pub mod Sizes
 pub mod StaysLawful

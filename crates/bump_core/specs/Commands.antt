@@ -1,5 +1,5 @@
 -- Commands: what each answers and leaves, by the tables and in one go, and the events that it is made of.
-use Rattle.std.specs.Prelude.{◌≡◌, ℕ, ◌+◌, Bool, true, false, not, ◌==◌, ◌&&◌, ◌||◌, nat_lt, List, [], ◌∷◌, ◌++◌, length, map, filter, Option, None, Some, Result, Ok, Err, if◌then◌else◌}
+use Rattle.std.specs.Prelude.{◌≡◌, ℕ, ◌+◌, Bool, true, false, not, ◌==◌, ◌&&◌, ◌||◌, nat_lt, List, [], ◌∷◌, ◌++◌, length, map, Option, None, Some, Result, Ok, Err, if◌then◌else◌}
 use Rattle.std.specs.Option.{option_map_or}
 use Rattle.std.specs.List.{list_any}
 use Rattle.bump_rules.specs.declared.places.Segment.{Segment}
@@ -8,7 +8,7 @@ use Rattle.bump_rules.specs.declared.places.Tail.{Tail}
 use Rattle.bump_rules.specs.declared.places.Tail.TheVariants as tail
 use Rattle.bump_rules.specs.declared.items.ItemId.{ItemId}
 use Rattle.bump_rules.specs.declared.items.Head.{Head}
-use Rattle.bump_core.specs.declared.chunks.Chunk.{Chunk}
+use Rattle.bump_state.specs.declared.chunks.Chunk.{Chunk}
 use Rattle.bump_rules.specs.declared.bumps.Accounts.{Accounts}
 use Rattle.bump_rules.specs.declared.bumps.Applied.{Applied}
 use Rattle.bump_rules.specs.declared.bumps.Applied.TheVariants as applied
@@ -16,7 +16,6 @@ use Rattle.bump_rules.specs.declared.bumps.Ended.{Ended}
 use Rattle.bump_rules.specs.declared.bumps.Ended.TheVariants.{Freed, Deferred}
 use Rattle.bump_rules.specs.declared.bumps.Entry.{Entry}
 use Rattle.bump_rules.specs.declared.history.Cause.TheVariants.{Pull, Bump as BumpOf}
-use Rattle.bump_rules.specs.declared.history.Change.{Change}
 use Rattle.bump_rules.specs.declared.history.Change.TheVariants as change
 use Rattle.bump_rules.specs.declared.bumps.Bump.{Bump}
 use Rattle.bump_rules.specs.declared.lanes.Lane.{Lane}
@@ -42,11 +41,12 @@ use Rattle.bump_rules.specs.History.{place_of, freed_change}
 use Rattle.bump_rules.specs.Lists.{list_at}
 use Rattle.bump_rules.specs.Tables.{Get, IsStale, IsRefsFull, IsHeld, Hit, IsFirst, IsAlready, IsMarked, Attempts, is_cold, is_over, get_of, ended_of, is_unheld, hit_of, dropped_of, outcome_of, pulled_of, pulled_to, segment_of}
 use Rattle.bump_links.specs.Lists.{last_of}
-use Rattle.bump_core.specs.State.{State, WorkerState, chunk, head, class, worker, is_chunk, is_class, is_worker, with_chunk, with_head, with_worker, with_change, with_changes, class_of, is_linked, is_held, has_free_hold, is_open, some_and, is_under_application}
+use Rattle.bump_state.specs.Sweeps.{sweep_of}
+use Rattle.bump_state.specs.State.{State, WorkerState, chunk, head, class, worker, is_chunk, is_class, is_worker, with_chunk, with_head, with_worker, with_change, with_changes, class_of, is_linked, is_held, has_free_hold, is_open, some_and, is_under_application}
 use Rattle.bump_rules.specs.Hands.{is_idle}
 use Rattle.bump_rules.specs.Rings.{most_attempts}
 use Rattle.bump_rules.specs.Heads.{newborn, one_more, one_fewer, fetched_head, active_head, severed_head}
-use Rattle.bump_core.specs.Events.{is_under_limit, next_chunk, next_life, waiting, next_bump, with_hold, without_hold, unlink, close}
+use Rattle.bump_state.specs.Events.{is_under_limit, next_chunk, next_life, waiting, next_bump, with_hold, without_hold, unlink, close}
 use Rattle.bump_rules.specs.Lanes.{bump_of, applied_bump, is_half_made}
 
 -- Ends.
@@ -74,25 +74,9 @@ end_events s l = event.Unlink l ∷ look_of l.chunk (end_of s l) ∷ []
 
 -- Sweeps.
 
--- the chunks of a list that nobody holds, by the heads of all chunks
-abbrev pub unheld : (ℕ → Head) → List ℕ → List ℕ
-unheld heads cs = filter (λ c. is_unheld (heads c)) cs
-
--- what the sweep of these chunks enters into the history
-abbrev pub swept_changes : (ℕ → Head) → List ℕ → List Change
-swept_changes heads cs = map (λ c. freed_change (life c (heads c).generation)) cs
-
 -- each of these chunks is looked at once
 abbrev pub looks_at : (ℕ → Head) → List ℕ → List Event
 looks_at heads cs = map (λ c. look_of c (ended_of (heads c))) cs
-
--- what a sweep of this list enters: those that nobody holds, front to back as the list stands
-abbrev pub swept_of : (ℕ → Head) → List ℕ → List Change
-swept_of heads cs = swept_changes heads (unheld heads cs)
-
--- what a sweep of a class enters, by its DYING
-abbrev pub sweep_of : State → ℕ → List Change
-sweep_of s k = swept_of (head s) (class s k).lists.dying
 
 -- Pulls.
 
@@ -264,6 +248,15 @@ is_allowed s (command.Label l) = is_held s l
 is_allowed s (command.Release l) = has_free_hold s l
 is_allowed s (command.Next w now) = is_worker s w && (not (is_half_made (worker s w).lane) && not (some_and (λ b. is_under_application s (class_of s b.life.chunk)) (bump_next (worker s w))))
 is_allowed s (command.Close w) = is_open s w && is_idle (worker s w).hand
+
+-- A command that only reads or writes what is there asks for no memory. All others may: for an entry of a history, a bump, or a
+-- first hit.
+abbrev pub asks_for_memory : Command → Bool
+asks_for_memory (command.Take w l) = false
+asks_for_memory (command.Label l) = false
+asks_for_memory (command.Release l) = false
+asks_for_memory (command.Close w) = false
+asks_for_memory _ = true
 
 -- what an unlink answers
 abbrev pub unlink_answer : State → ItemId → Answer

@@ -10,10 +10,10 @@ use Rattle.bump_rules.specs.History.{is_place}
 use Rattle.bump_rules.specs.Lawful.{bit, Shows}
 use Rattle.bump_links.specs.Lists.{times}
 use Rattle.bump_rules.specs.Lists.{Lists, list_at}
-use Rattle.bump_core.specs.Rings.{in_ring}
+use Rattle.bump_state.specs.Rings.{in_ring}
 use Rattle.bump_rules.specs.Rings.{aboard, bump_applied, numbered_from, IsRing, IsAccounts}
-use Rattle.bump_core.specs.State.{State, WorkerState, head, class, class_of, worker}
-use Rattle.bump_core.specs.Worlds.{references, owns, stands_in, CountsMoves}
+use Rattle.bump_state.specs.State.{State, WorkerState, head, class, class_of, worker}
+use Rattle.bump_state.specs.Worlds.{references, owns, stands_in, CountsMoves}
 
 -- What a lane applied, then the bump aboard, and then the bumps in the ring are what the ring accepted, numbered from 0: so every
 -- bump is applied once at most, and in that worker's order, and what is not applied yet is still on its way.

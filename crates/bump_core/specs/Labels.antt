@@ -3,11 +3,11 @@ use Rattle.std.specs.Prelude.{◌≡◌, ℕ, List, [], ◌∷◌, ◌++◌, Opt
 use Rattle.std.specs.Option.{option_map_or}
 use Rattle.bump_rules.specs.declared.events.Event.{Event}
 use Rattle.bump_rules.specs.declared.events.Event.TheVariants as event
-use Rattle.bump_core.specs.Events.{after, next_chunk, next_life}
+use Rattle.bump_state.specs.Events.{after, next_chunk, next_life}
 use Rattle.bump_rules.specs.Lawful.{IsUsed}
 use Rattle.bump_rules.specs.Lives.{life}
-use Rattle.bump_core.specs.State.{State, chunk, head}
-use Rattle.bump_core.specs.Worlds.{place}
+use Rattle.bump_state.specs.State.{State, chunk, head}
+use Rattle.bump_state.specs.Worlds.{place}
 use Rattle.bump_rules.specs.declared.labels.LabelStep.{LabelStep}
 use Rattle.bump_rules.specs.declared.labels.LabelStep.TheVariants.{Stored, Begun}
 use Rattle.bump_rules.specs.Labels.{label_of_life}

@@ -1,12 +1,5 @@
 pub mod Commands
-pub mod Events
 pub mod Headline
 pub mod Labels
-pub mod Opening
 pub mod Readers
-pub mod Rings
 pub mod Runs
-pub mod State
-pub mod Views
-pub mod Workers
-pub mod Worlds

@@ -6,7 +6,7 @@ use Rattle.bump_rules.specs.declared.bumps.Accounts.{Accounts}
 use Rattle.bump_rules.specs.declared.bumps.AppliedBump.{AppliedBump}
 use Rattle.bump_rules.specs.declared.history.Change.{Change}
 use Rattle.bump_rules.specs.Lists.{list_at}
-use Rattle.bump_core.specs.State.{State, chunk, class, worker}
+use Rattle.bump_state.specs.State.{State, chunk, class, worker}
 
 -- a list of a class
 abbrev pub list_of : State → ℕ → Place → List ℕ

@@ -1,18 +1,11 @@
 -- Steps, and runs of many.
-use Rattle.std.specs.Prelude.{◌≡◌, ℕ, Bool, true, false, List, [], ◌∷◌, take, slice_get, Option, None, Some, Result, Ok, Err, OnOk, IfOk, OnErr, if◌then◌else◌}
+use Rattle.std.specs.Prelude.{◌≡◌, ℕ, true, false, List, [], ◌∷◌, take, slice_get, Option, None, Some, Result, Ok, Err, OnOk, IfOk, OnErr, if◌then◌else◌}
 use Rattle.bump_rules.specs.declared.events.Event.{Event}
 use Rattle.bump_rules.specs.declared.events.Reply.{Reply}
 use Rattle.bump_rules.specs.declared.events.Refused.{Refused}
 use Rattle.bump_rules.specs.declared.events.Refused.TheVariants.{NotEnabled, OutOfMemory}
-use Rattle.bump_core.specs.State.{State}
-use Rattle.bump_core.specs.Events.{is_enabled, after, reply_of}
-
--- What an answer tells of whether the event is enabled: it is made only where it is, and refused as NotEnabled exactly where it
--- isn't. Want of memory is the last refusal: only an event that is enabled meets it.
-abbrev pub IsEnabledBy : Bool → Result Reply Refused → Type 0
-IsEnabledBy enabled (Ok reply) = enabled ≡ true
-IsEnabledBy enabled (Err NotEnabled) = enabled ≡ false
-IsEnabledBy enabled (Err OutOfMemory) = enabled ≡ true
+use Rattle.bump_state.specs.State.{State}
+use Rattle.bump_state.specs.Events.{IsEnabledBy, is_enabled, after, reply_of}
 
 -- What a step does: where the event is enabled it makes it and answers its reply, else it refuses. A refusal changes nothing.
 pub record Steps (old : State) (e : Event) (new : State) (result : Result Reply Refused) : Type 0 where

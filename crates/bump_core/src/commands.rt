@@ -1,9 +1,9 @@
 //! Commands: each is a call of the running store as its events, with nothing between them.
-mod attempts;
-mod ends;
-mod hits;
-mod holds;
-mod lanes;
-mod links;
-mod pulls;
-mod rings;
+pub mod attempts;
+pub mod ends;
+pub mod hits;
+pub mod holds;
+pub mod lanes;
+pub mod links;
+pub mod pulls;
+pub mod rings;

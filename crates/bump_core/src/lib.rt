@@ -1,13 +1,8 @@
-//! The pure core of bump: a World in which each event is one atomic step of one thread. Its types are those of bump_rules.
+//! The pure core of bump: a World in which each event is one atomic step of one thread. Its types are those of bump_rules, and its state is that of bump_state.
 #![tactic(auto)]
 
-mod chunks;
-mod classes;
 mod commands;
-mod events;
-mod parts;
 mod step;
-mod workers;
 mod worlds;
 
 pub use bump_rules::{
@@ -16,7 +11,7 @@ pub use bump_rules::{
     ListedChunks, MAX_CHUNKS, MOST_ATTEMPTS, Outcome, Place, Pulled, Refused, Reply, Segment, Tail,
     Touch,
 };
-pub use chunks::Chunk;
+pub use bump_state::Chunk;
 pub use worlds::{OutOfMemory, World};
 
 #[cfg(test)]

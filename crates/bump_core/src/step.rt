@@ -1,64 +1,66 @@
 //! Each event, and each command, by the function that makes it.
-ghost use Rattle.bump_core.specs.Commands.{Commands};
+ghost use Rattle.std.specs.Prelude.{◌≡◌, IfErr, false};
+ghost use Rattle.bump_core.specs.Commands.{Commands, asks_for_memory};
 ghost use Rattle.bump_core.specs.Runs.{Steps};
-ghost use Rattle.bump_core.specs.Views.{state_of};
-ghost use Rattle.bump_core.specs.Worlds.{IsLawful};
+ghost use Rattle.bump_state.specs.Views.{state_of};
+ghost use Rattle.bump_state.specs.Worlds.{IsLawful};
+ghost use Rattle.bump_rules.specs.declared.events.Refused.TheVariants.{NotEnabled};
 
-use crate::parts::Parts;
+use crate::commands::{ends, hits, holds, lanes, links, pulls, rings};
 use bump_rules::{Answer, Command, Event, Refused, Reply};
+use bump_state::Parts;
 
-impl Parts {
-    /// Makes an event where it is enabled.
-    pub fn step(&mut self, event: Event) -> Result<Reply, Refused>
-        requires { IsLawful (state_of self.old) }
-        ensures { Steps (state_of self.old) event (state_of self.new) result }
-    {
-        match event {
-            Event::Load { chunk } => self.load(chunk),
-            Event::Take { worker, life } => self.take(worker, life),
-            Event::Fetch { worker, life } => self.fetch(worker, life),
-            Event::Mark { worker, life } => self.mark(worker, life),
-            Event::Reserve { worker } => self.reserve(worker),
-            Event::DropRefs { worker } => self.drop_refs(worker),
-            Event::DropBusy { worker } => self.drop_busy(worker),
-            Event::Push { worker } => self.push(worker),
-            Event::DropFull { worker } => self.drop_full(worker),
-            Event::Unmark { worker } => self.unmark(worker),
-            Event::Close { worker } => self.close(worker),
-            Event::StoreTime { life, time } => self.store_time(life, time),
-            Event::Release { life } => self.release(life),
-            Event::PutLabel { class, label } => self.put_label(class, label),
-            Event::PutTime { class, time } => self.put_time(class, time),
-            Event::Link { class } => self.link(class),
-            Event::Unlink { life } => self.unlink(life),
-            Event::Sweep { chunk } => self.sweep(chunk),
-            Event::ClearActive { chunk } => self.clear_active(chunk),
-            Event::Move { chunk, to } => self.move_chunk(chunk, to),
-            Event::TakeBump { worker } => self.take_bump(worker),
-            Event::Try { worker } => self.try_bump(worker),
-            Event::BumpTime { worker, time } => self.bump_time(worker, time),
-            Event::ClearFor { worker } => self.clear_for(worker),
-            Event::MoveFor { worker } => self.move_for(worker),
-            Event::Alight { worker } => self.alight(worker),
-        }
+/// Makes an event where it is enabled.
+pub fn step(parts: &mut Parts, event: Event) -> Result<Reply, Refused>
+    requires { IsLawful (state_of parts.old) }
+    ensures { Steps (state_of parts.old) event (state_of parts.new) result }
+{
+    match event {
+        Event::Load { chunk } => parts.load(chunk),
+        Event::Take { worker, life } => parts.take(worker, life),
+        Event::Fetch { worker, life } => parts.fetch(worker, life),
+        Event::Mark { worker, life } => parts.mark(worker, life),
+        Event::Reserve { worker } => parts.reserve(worker),
+        Event::DropRefs { worker } => parts.drop_refs(worker),
+        Event::DropBusy { worker } => parts.drop_busy(worker),
+        Event::Push { worker } => parts.push(worker),
+        Event::DropFull { worker } => parts.drop_full(worker),
+        Event::Unmark { worker } => parts.unmark(worker),
+        Event::Close { worker } => parts.close(worker),
+        Event::StoreTime { life, time } => parts.store_time(life, time),
+        Event::Release { life } => parts.release(life),
+        Event::PutLabel { class, label } => parts.put_label(class, label),
+        Event::PutTime { class, time } => parts.put_time(class, time),
+        Event::Link { class } => parts.link(class),
+        Event::Unlink { life } => parts.unlink(life),
+        Event::Sweep { chunk } => parts.sweep(chunk),
+        Event::ClearActive { chunk } => parts.clear_active(chunk),
+        Event::Move { chunk, to } => parts.move_chunk(chunk, to),
+        Event::TakeBump { worker } => parts.take_bump(worker),
+        Event::Try { worker } => parts.try_bump(worker),
+        Event::BumpTime { worker, time } => parts.bump_time(worker, time),
+        Event::ClearFor { worker } => parts.clear_for(worker),
+        Event::MoveFor { worker } => parts.move_for(worker),
+        Event::Alight { worker } => parts.alight(worker),
     }
+}
 
-    /// Makes a command where it is allowed.
-    pub fn command(&mut self, command: Command) -> Result<Answer, Refused>
-        requires { IsLawful (state_of self.old) }
-        ensures { Commands (state_of self.old) command (state_of self.new) result }
-    {
-        match command {
-            Command::Link { class, label, now } => self.call_link(class, label, now),
-            Command::Unlink { id } => self.call_unlink(id),
-            Command::Sweep { class } => self.call_sweep(class),
-            Command::Pull { class, tail } => self.call_pull(class, tail),
-            Command::Take { worker, id } => self.call_take(worker, id),
-            Command::Touch { worker, id, now } => self.call_touch(worker, id, now),
-            Command::Label { id } => self.call_label(id),
-            Command::Release { id } => self.call_release(id),
-            Command::Next { worker, now } => self.call_next(worker, now),
-            Command::Close { worker } => self.call_close(worker),
-        }
+/// Makes a command where it is allowed.
+pub fn command(parts: &mut Parts, command: Command) -> Result<Answer, Refused>
+    requires { IsLawful (state_of parts.old) }
+    ensures command { Commands (state_of parts.old) command (state_of parts.new) result }
+    ensures memory { asks_for_memory command ≡ false → IfErr result (λ r. r ≡ NotEnabled) }
+{
+    match command {
+        Command::Link { class, label, now } => links::call_link(parts, class, label, now),
+        Command::Unlink { id } => ends::call_unlink(parts, id),
+        Command::Sweep { class } => ends::call_sweep(parts, class),
+        Command::Pull { class, tail } => pulls::call_pull(parts, class, tail),
+        Command::Take { worker, id } => holds::call_take(parts, worker, id),
+        Command::Touch { worker, id, now } => hits::call_touch(parts, worker, id, now),
+        Command::Label { id } => holds::call_label(parts, id),
+        Command::Release { id } => holds::call_release(parts, id),
+        Command::Next { worker, now } => lanes::call_next(parts, worker, now),
+        Command::Close { worker } => rings::call_close(parts, worker),
     }
 }

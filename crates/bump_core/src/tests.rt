@@ -2,8 +2,8 @@
 ghost use Rattle.std.specs.Prelude.{◌≡◌, ◌<◌, IfOk, IfSome, length};
 ghost use Rattle.bump_core.specs.Headline.{Headline};
 ghost use Rattle.bump_core.specs.Readers.{list_of};
-ghost use Rattle.bump_core.specs.State.{SameSizes};
-ghost use Rattle.bump_core.specs.Worlds.{IsLawful};
+ghost use Rattle.bump_state.specs.State.{SameSizes};
+ghost use Rattle.bump_state.specs.Worlds.{IsLawful};
 
 use super::*;
 use std::alloc::{AllocError, Global};

@@ -1,8 +1,9 @@
 //! The sequential World.
 mod readers;
 
-use crate::parts::Parts;
+use crate::step;
 use bump_rules::{Answer, Command, Config, Event, Refused, Reply};
+use bump_state::Parts;
 use std::alloc::{AllocError, Global};
 use std::marker::Model;
 
@@ -16,9 +17,9 @@ pub struct World {
 }
 
 impl Model for World {
-    ghost use Rattle.bump_core.specs.State.{State};
-    ghost use Rattle.bump_core.specs.Views.{state_of};
-    ghost use Rattle.bump_core.specs.Worlds.{IsLawful, IsSized};
+    ghost use Rattle.bump_state.specs.State.{State};
+    ghost use Rattle.bump_state.specs.Views.{state_of};
+    ghost use Rattle.bump_state.specs.Worlds.{IsLawful, IsSized};
 
     ghost Value = { State };
 
@@ -28,15 +29,16 @@ impl Model for World {
 }
 
 impl World {
-    ghost use Rattle.std.specs.Prelude.{◌≡◌, IfOk, OnOk, Some};
-    ghost use Rattle.bump_core.specs.Commands.{Commands, events_of};
+    ghost use Rattle.std.specs.Prelude.{◌≡◌, IfErr, IfOk, OnOk, Some, false};
+    ghost use Rattle.bump_core.specs.Commands.{Commands, asks_for_memory, events_of};
     ghost use Rattle.bump_core.specs.Headline.{Headline, ClosedStay};
+    ghost use Rattle.bump_rules.specs.declared.events.Refused.TheVariants.{NotEnabled};
     ghost use Rattle.bump_core.specs.Labels.{KeepsLabels};
-    ghost use Rattle.bump_core.specs.Opening.{new_state};
+    ghost use Rattle.bump_state.specs.Opening.{new_state};
     ghost use Rattle.bump_core.specs.Runs.{Steps, Runs, run_of, made};
-    ghost use Rattle.bump_core.specs.State.{head, SameSizes};
+    ghost use Rattle.bump_state.specs.State.{head, SameSizes};
     ghost use Rattle.bump_core.specs.Readers.{list_of, time_of, label_of, holds_at, accounts_of, sent_of, received_of, applied_of};
-    ghost use Rattle.bump_core.specs.Worlds.{IsLawful};
+    ghost use Rattle.bump_state.specs.Worlds.{IsLawful};
 
     /// A World in which nothing has happened: every chunk is UNUSED, in ascending order, and every worker is idle.
     pub fn new(alloc: Global, config: &Config) -> Result<World, OutOfMemory>
@@ -55,7 +57,7 @@ impl World {
         ensures lawful { IsLawful self.new }
         ensures headline { Headline self.new }
     {
-        self.parts.step(event)
+        step::step(&mut self.parts, event)
     }
 
     /// Makes the events in order, up to the first that is refused, whose place it tells. The events before it stay.
@@ -78,14 +80,16 @@ impl World {
 
     /// Makes a command: a call as its events, with nothing between them. All room is reserved before anything is changed.
     /// Refused as NotEnabled where a number is out of range, a worker's ring is closed, a life has no free hold (a hit, a
-    /// release) or no hold (a label), or another command is half made in its way; a refusal changes nothing.
+    /// release) or no hold (a label), or another command is half made in its way; a refusal changes nothing. Take, Label,
+    /// Release and Close ask for no memory.
     pub fn command(&mut self, command: Command) -> Result<Answer, Refused>
         ensures command { Commands self.old command self.new result }
+        ensures memory { asks_for_memory command ≡ false → IfErr result (λ r. r ≡ NotEnabled) }
         ensures events { OnOk result (run_of self.old (events_of self.old command) ≡ Some self.new) }
         ensures sizes { SameSizes self.old self.new }
         ensures lawful { IsLawful self.new }
         ensures headline { Headline self.new }
     {
-        self.parts.command(command)
+        step::command(&mut self.parts, command)
     }
 }

@@ -13,5 +13,7 @@ pub mod Tries
 pub mod HeldHeads
 pub mod Applications
 pub mod Starts
-pub mod Bounds
 pub mod Boardings
+pub mod ClassParts
+pub mod RideSteps
+pub mod RideMoves

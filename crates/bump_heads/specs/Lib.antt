@@ -12,3 +12,4 @@ pub mod Applying
 pub mod Taking
 pub mod Making
 pub mod Riders
+pub mod Rides

@@ -1,5 +1,6 @@
 -- What is made.
 use Rattle.std.specs.Prelude.{◌≡◌, ℕ, ◌+◌, List, [], ◌∷◌, Option, None, Some}
+use Rattle.atomic_table.specs.Seated.{TableId}
 use Rattle.bump_rules.specs.declared.configs.Config.{Config}
 use Rattle.bump_heads.specs.declared.views.WorkerPart.{WorkerPart}
 use Rattle.bump_heads.specs.declared.views.ClassPart.{ClassPart}
@@ -7,6 +8,11 @@ use Rattle.bump_heads.specs.declared.views.LanePart.{LanePart}
 use Rattle.bump_heads.specs.declared.views.ClassView.{ClassView}
 use Rattle.bump_heads.specs.declared.views.WorkerView.{WorkerView}
 use Rattle.bump_heads.specs.Seats.{IsClassPart, IsWorkerPart}
+
+-- what contracts see of the words of a store without a name: its configuration, and which table they are
+pub record BlankView : Type 0 where
+  pub config : Config
+  pub table : TableId
 
 -- parts of which nothing else is joined
 abbrev pub class_seen : ClassPart → ClassView

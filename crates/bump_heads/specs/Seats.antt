@@ -57,9 +57,6 @@ no_class = record { class = 0; first = 0; count = 0; fresh = 0; history = []; la
 abbrev pub no_worker : WorkerPart
 no_worker = worker_part 0
 
-abbrev pub no_hold : HoldPart
-no_hold = record { life = life 0 0; labels = [] }
-
 -- ---- lanes
 
 abbrev pub lane_me : LanePart → Me Empty View
@@ -91,16 +88,16 @@ class_me v = (record blank { classes = v.part ∷ []; lanes = listed v.lane }, [
 
 -- ---- holds
 
-abbrev pub hold_me : HoldPart → Me Empty View
-hold_me h = (record blank { holds = h ∷ [] }, [])
+abbrev pub hold_me : Option HoldPart → Me Empty View
+hold_me h = (record blank { holds = listed h }, [])
 
-abbrev pub hold_in_seat : Option (Seat Empty View) → Option HoldPart
-hold_in_seat None = None
-hold_in_seat (Some s) = Some (head_or no_hold s.me.0.holds)
+abbrev pub hold_in_view : View → Option HoldPart
+hold_in_view v = first v.holds
 
-abbrev pub IsHold : TableId → ItemId → Option (Seat Empty View) → Type 0
-IsHold table l None = Unit {0}
-IsHold table l (Some s) = (s.me ≡ hold_me (head_or no_hold s.me.0.holds)) × (s.table_id ≡ table) × ((head_or no_hold s.me.0.holds).life ≡ l)
+-- the part, where it isn't with a worker or a class, is of the life
+abbrev pub IsOf : ItemId → Option HoldPart → Type 0
+IsOf l None = Unit {0}
+IsOf l (Some h) = h.life ≡ l
 
 -- ---- workers
 

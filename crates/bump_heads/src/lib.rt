@@ -5,14 +5,16 @@ mod applying;
 mod decoding;
 mod heads;
 mod holds;
-mod joins;
 mod making;
+mod meeting;
 mod names;
 mod riders;
+mod riding;
 mod rule;
 mod seats;
 mod steps;
 mod taking;
+mod touching;
 mod views;
 mod words;
 
@@ -21,10 +23,14 @@ pub use holds::Hold;
 pub use making::{Blank, HeadParts};
 pub use names::Name;
 pub use riders::Rider;
+pub use riding::RideRefusal;
 pub use rule::Rule;
 pub use seats::{ClassSeat, LaneSeat, WorkerSeat};
 pub use taking::TakeRefusal;
-pub use views::{ClassPart, ClassView, Empty, HoldPart, HoldView, Kind, LanePart, OwnStep, Ride, View, WorkerPart, WorkerView};
+pub use views::{
+    ClassPart, ClassView, Empty, HoldPart, HoldView, Kind, LanePart, OwnStep, Ride, View,
+    WorkerPart, WorkerView,
+};
 
 #[cfg(test)]
 mod tests;

@@ -2,28 +2,33 @@
 ghost use Rattle.std.specs.Prelude.{ℕ, ◌≡◌, ◌≤◌, ◌<◌, ◌-◌, ◌*◌, ◌+◌, [], ◌∷◌, IfOk, None, Some, length, map};
 ghost use Rattle.std.specs.Arc.{arc_value};
 ghost use Rattle.bump_heads.specs.Rule.{AreFresh, opened, chunks as all_chunks, class_parts, worker_parts, lane_parts, blank};
-ghost use Rattle.bump_rules.specs.Configs.{chunks_of};
 ghost use Rattle.bump_heads.specs.Words.{words_id};
-ghost use Rattle.bump_heads.specs.Making.{class_seen, lane_seen, worker_seen, AreNewClasses, AreNewWorkers, AreEmpty};
+ghost use Rattle.bump_heads.specs.Making.{BlankView as TheBlankView, class_seen, lane_seen, worker_seen, AreNewClasses, AreNewWorkers, AreEmpty};
 
 use crate::heads::Heads;
 use crate::seats::{ClassSeat, LaneSeat, WorkerSeat};
 use crate::names::Name;
 use crate::words::{Seat, Words};
 use atomic_table::Table;
-use bump_rules::{ClassConfig, Config};
+use bump_rules::Config;
 use std::alloc::{AllocError, Global};
-use std::marker::PhantomData;
+use std::marker::{Model, PhantomData};
 use std::sync::Arc;
 
-/// A table before it has a name, and its one seat.
+/// The words of a store that has no name yet, and the one seat that has every part. Its chunks had no life.
 #[derive(Drop)]
 pub struct Blank {
-    pub(crate) words: Words,
-    pub(crate) chunks: u32,
-    pub(crate) seat: Seat,
-    ghost counted: { chunks ≡ all_chunks words.table.shared.key },
-    ghost fresh: { (seat.table_id ≡ words_id words) × (seat.me ≡ (opened words.table.shared.key, [])) × (0 < (words_id words).words) },
+    words: Words,
+    chunks: u32,
+    seat: Seat,
+}
+
+impl Model for Blank {
+    ghost Value = { TheBlankView };
+
+    ghost view = { λ b. record { config = b.words.table.shared.key; table = words_id b.words } };
+
+    ghost invariant = { λ b. (b.chunks ≡ all_chunks b.words.table.shared.key) × (b.seat.table_id ≡ words_id b.words) × (b.seat.me ≡ (opened b.words.table.shared.key, [])) × (0 < (words_id b.words).words) };
 }
 
 /// What a store's heads are made of: the heads, and a seat for each class, worker and lane, by number.
@@ -33,17 +38,6 @@ pub struct HeadParts<N: Name> {
     pub classes: Vec<ClassSeat<N>>,
     pub workers: Vec<WorkerSeat<N>>,
     pub lanes: Vec<LaneSeat<N>>,
-}
-
-fn count_chunks(configs: &[ClassConfig]) -> u32
-    requires { chunks_of configs.now ≤ 1000000 }
-    ensures { result ≡ chunks_of configs.now }
-{
-    let mut count = 0;
-    for config in configs {
-        count += config.chunks;
-    }
-    count
 }
 
 fn fresh_words(alloc: Global, chunks: u32, first: u32) -> Result<Vec<u64>, AllocError>
@@ -64,9 +58,9 @@ fn fresh_words(alloc: Global, chunks: u32, first: u32) -> Result<Vec<u64>, Alloc
 impl Blank {
     /// A table whose chunks had no life yet.
     pub fn new(alloc: Global, config: &Config) -> Result<Blank, AllocError>
-        ensures { IfOk result (λ b. b.words.table.shared.key ≡ config.now) }
+        ensures config { IfOk result (λ b. b.config ≡ config.now) }
     {
-        let chunks = count_chunks(config.classes.as_slice());
+        let chunks = config.chunks();
         let words = fresh_words(alloc, chunks, config.first_generation)?;
         let (table, seat) = Table::of_words(alloc, &words, config)?;
         Ok(Blank {
@@ -151,8 +145,8 @@ fn part_lanes<N: Name>(
 impl<N: Name> Heads<N> {
     /// The heads of the blank, under the name that its table has, and the seats of its classes, workers and lanes.
     pub fn new(alloc: Global, blank: Blank, config: &Config) -> Result<HeadParts<N>, AllocError>
-        requires name { words_id blank.words ≡ N.table }
-        requires config { blank.words.table.shared.key ≡ config.now }
+        requires name { blank.table ≡ N.table }
+        requires config { blank.config ≡ config.now }
         ensures heads { IfOk result (λ p. arc_value p.heads ≡ config.now) }
         ensures classes { IfOk result (λ p. p.classes.items ≡ map class_seen (class_parts (config.now.first_generation - 1) 0 0 config.now.classes)) }
         ensures workers { IfOk result (λ p. p.workers.items ≡ map worker_seen (worker_parts 0 config.now.workers)) }

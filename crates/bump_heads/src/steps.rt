@@ -5,3 +5,4 @@ mod boardings;
 mod cuts;
 mod meetings;
 mod references;
+mod rides;

@@ -47,6 +47,19 @@ pub(crate) fn refusal(head: Head, life: ItemId, limit: u32) -> Option<TakeRefusa
     None
 }
 
+impl<N: Name> Hold<N> {
+    // Only a hold whose reference was given back may go.
+    fn forget(self)
+        requires hollow { self.part ≡ None }
+    {
+        let Hold {
+            seat: _,
+            life: _,
+            of: _,
+        } = self;
+    }
+}
+
 impl<N: Name> Heads<N> {
     /// Takes a reference to the life, as memcached's `refcount_incr` in `do_item_get`. The worker's seat has no hold joined, and the
     /// chunk is one of the store's.
@@ -71,7 +84,7 @@ impl<N: Name> Heads<N> {
         }
         let part = self.words.part_holds(&mut worker.seat);
         Ok(Hold {
-            seat: Some(part),
+            seat: part,
             life,
             of: PhantomData,
         })
@@ -84,9 +97,20 @@ impl<N: Name> Heads<N> {
         ensures generation { result.generation ≡ hold.life.generation }
         ensures counted { 0 < result.refs }
     {
-        let Hold { seat, life, of: _ } = hold;
-        let Some(mut seat) = seat else { unreachable!() };
-        head_of(self.words.give_back(&mut seat, life.chunk))
+        let mut held = hold;
+        let head = self.release(&mut held);
+        held.forget();
+        head
+    }
+
+    // The reference is given back, so that the hold is hollow from then on.
+    fn release(&self, hold: &mut Hold<N>) -> Head
+        requires whole { IsSome hold.old.part }
+        ensures hollow { hold.new ≡ record hold.old { part = None } }
+        ensures generation { result.generation ≡ hold.old.life.generation }
+        ensures counted { 0 < result.refs }
+    {
+        head_of(self.words.give_back(&mut hold.seat, hold.life.chunk))
     }
 
     /// The chunk's label, by one load: a number that was stored before the hold's life began, as memcached's key and value of an item
@@ -96,12 +120,7 @@ impl<N: Name> Heads<N> {
         ensures read { hold.new ≡ record hold.old { part = reads result hold.old.part } }
         ensures same { total (differs result) (labels_in hold.old.part) ≡ 0 }
     {
-        let Some(mut seat) = hold.seat.take() else {
-            unreachable!()
-        };
-        let label = self.words.read_label(&mut seat, hold.life.chunk);
-        hold.seat = Some(seat);
-        label
+        self.words.read_label(&mut hold.seat, hold.life.chunk)
     }
 
     /// The head and the time of a chunk of the store, by two loads, between which other threads may change both. No seat is needed. Of

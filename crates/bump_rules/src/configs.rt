@@ -1,7 +1,7 @@
 //! What a store is made from, and which configurations are refused.
-ghost use Rattle.std.specs.Prelude.{◌≡◌, IsTrue, IfOk, is_none};
+ghost use Rattle.std.specs.Prelude.{◌≡◌, ◌≤◌, IsTrue, IfOk, is_none};
 ghost use Rattle.std.specs.Result.{result_err};
-ghost use Rattle.bump_rules.specs.Configs.{first_fault, have_wrong_chunks};
+ghost use Rattle.bump_rules.specs.Configs.{first_fault, have_wrong_chunks, chunks_of};
 
 use std::marker::Model;
 use thiserror::Error;
@@ -161,4 +161,23 @@ impl Config {
         };
         Err(fault)
     }
+
+    /// How many chunks all classes have together: 1 to 1,000,000.
+    pub fn chunks(&self) -> u32
+        ensures { result ≡ chunks_of self.now.classes }
+    {
+        count_chunks(self.classes.as_slice())
+    }
+}
+
+/// The chunks of all these classes.
+fn count_chunks(classes: &[ClassConfig]) -> u32
+    requires { chunks_of classes.now ≤ MAX_CHUNKS }
+    ensures { result ≡ chunks_of classes.now }
+{
+    let mut count = 0;
+    for class in classes {
+        count += class.chunks;
+    }
+    count
 }

@@ -78,9 +78,8 @@ impl Head {
         ensures { result ≡ severed_head self }
     {
         Head {
-            refs: self.refs.saturating_sub(1),
             linked: false,
-            ..self
+            ..self.one_fewer()
         }
     }
 }

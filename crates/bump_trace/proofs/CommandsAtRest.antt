@@ -8,7 +8,7 @@ use Rattle.std.proofs.lemmas.List.Folds.{list_any_none}
 use Rattle.std.proofs.Math.ListN.{get_or-eq_default}
 use Rattle.bump_rules.specs.declared.bumps.Ended.TheVariants.{Freed, Deferred}
 use Rattle.bump_rules.specs.declared.bumps.Ended.{Ended}
-use Rattle.bump_core.specs.declared.chunks.Chunk.{Chunk}
+use Rattle.bump_state.specs.declared.chunks.Chunk.{Chunk}
 use Rattle.bump_rules.specs.declared.commands.Command.{Command}
 use Rattle.bump_rules.specs.declared.commands.Command.TheVariants as command
 use Rattle.bump_rules.specs.declared.commands.Dropped.{Dropped}
@@ -21,9 +21,9 @@ use Rattle.bump_rules.specs.declared.places.Tail.{Tail}
 use Rattle.bump_rules.specs.declared.places.Tail.TheVariants as tail
 use Rattle.bump_core.specs.Commands.{is_allowed, command_after, freed_by, end_life, end_of, pull, pull_to, pulled_at, hit, hit_at, attempt, dropped_at, is_exhausted, apply_bump, bumped_lists, outcome_next, ended_at, bump_next, tail_of, get_at, held_by_get}
 use Rattle.bump_rules.specs.Lanes.{is_half_made}
-use Rattle.bump_core.specs.Events.{next_chunk}
+use Rattle.bump_state.specs.Events.{next_chunk}
 use Rattle.bump_rules.specs.Lives.{life}
-use Rattle.bump_core.specs.State.{State, ClassState, WorkerState, new_worker, no_chunk, chunk, head, worker, is_class, is_worker, with_chunk, with_class, with_worker, class_of, is_current, is_linked, is_held, has_free_hold, is_open, workers_on, some_and, is_under_application, applies_in}
+use Rattle.bump_state.specs.State.{State, ClassState, WorkerState, new_worker, no_chunk, chunk, head, worker, is_class, is_worker, with_chunk, with_class, with_worker, class_of, is_current, is_linked, is_held, has_free_hold, is_open, workers_on, some_and, is_under_application, applies_in}
 use Rattle.bump_rules.specs.Hands.{is_idle, is_on}
 use Rattle.bump_rules.specs.Tables.{Get, IsStale, IsRefsFull, IsHeld, Hit, IsFirst, IsAlready, IsMarked, Attempts, pulled_to}
 use Rattle.bump_rules.specs.Totals.{total}

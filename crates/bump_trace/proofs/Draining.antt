@@ -6,10 +6,10 @@ use Rattle.bump_rules.specs.declared.commands.Answer.TheVariants as answer
 use Rattle.bump_rules.specs.declared.commands.Command.TheVariants as command
 use Rattle.bump_core.specs.Commands.{answer_of, command_after}
 use Rattle.bump_rules.specs.Lists.{ascending}
-use Rattle.bump_core.specs.State.{State}
+use Rattle.bump_state.specs.State.{State}
 use Rattle.bump_trace.specs.OpenStore.{Drained, drained_none, drained_one, drained_both, drained_by, drained_of, drained_through, drain_by, drain_said}
 use Rattle.bump_trace.specs.Stages.{StoreState, Open, say}
-use Rattle.bump_trace.specs.Text.{drain_line}
+use Rattle.trace_lines.specs.Text.{drain_line}
 use Rattle.bump_trace.proofs.AscendingLoops.{ascending_more, ascending_done}
 
 -- what was drained until now

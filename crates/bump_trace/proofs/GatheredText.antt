@@ -1,14 +1,14 @@
 -- The text of a run, as it is gathered and written.
 use Rattle.std.proofs.Common.{◌≡◌, ℕ, ◌+◌, true, List, [], ◌∷◌, ◌++◌, Option, Ok, Err, sym, ap, ◌∙◌, append_assoc}
 use Rattle.std.specs.Io.KnownBytes.{Appends}
-use Rattle.bump_trace.specs.declared.faults.Fault.{Fault}
+use Rattle.trace_lines.specs.declared.faults.Fault.{Fault}
 use Rattle.bump_trace.specs.Stages.{Stage, say}
-use Rattle.bump_trace.specs.Text.{fault_line}
+use Rattle.trace_lines.specs.Text.{fault_line}
 use Rattle.bump_trace.specs.Meaning.{Verdict, prepend, failed, ended, go_on, run, step, fault_at_end, parts_of, verdict_of}
 use Rattle.bump_trace.specs.Gathering.{Gathers, GathersFault, RunsInto}
 use Rattle.bump_trace.specs.Views.{FailsBy}
-use Rattle.bump_trace.specs.declared.faults.LineError.{LineError}
-use Rattle.bump_trace.specs.declared.faults.LineError.TheVariants as errors
+use Rattle.trace_lines.specs.declared.faults.LineError.{LineError}
+use Rattle.trace_lines.specs.declared.faults.LineError.TheVariants as errors
 use Rattle.bump_trace.proofs.KnownBytes.{appends_more}
 use Rattle.bump_trace.proofs.CutLines.{run_more}
 

@@ -10,7 +10,7 @@ use Rattle.bump_rules.specs.declared.bumps.Ended.TheVariants.{Freed, Deferred}
 use Rattle.bump_rules.specs.declared.bumps.Ended.{Ended}
 use Rattle.bump_rules.specs.declared.bumps.Outcome.{Outcome}
 use Rattle.bump_rules.specs.declared.bumps.Outcome.TheVariants as outcome
-use Rattle.bump_core.specs.declared.chunks.Chunk.{Chunk}
+use Rattle.bump_state.specs.declared.chunks.Chunk.{Chunk}
 use Rattle.bump_rules.specs.declared.commands.Answer.{Answer}
 use Rattle.bump_rules.specs.declared.commands.Answer.TheVariants as answer
 use Rattle.bump_rules.specs.declared.commands.Command.{Command}
@@ -22,11 +22,11 @@ use Rattle.bump_rules.specs.declared.places.Segment.{Segment}
 use Rattle.bump_rules.specs.declared.places.Tail.{Tail}
 use Rattle.bump_rules.specs.declared.places.Tail.TheVariants as tail
 use Rattle.bump_core.specs.Commands.{is_allowed, answer_of, command_after, freed_by, end_life, end_of, pull, pull_to, pulled_at, get_answer, get_at, held_by_get, hit, hit_at, attempt, dropped_at, apply_bump, bumped_chunk, bumped_lists, outcome_next, ended_at, bump_next, tail_of, link_labelled}
-use Rattle.bump_core.specs.Events.{next_chunk, with_hold, without_hold}
+use Rattle.bump_state.specs.Events.{next_chunk, with_hold, without_hold}
 use Rattle.bump_rules.specs.Lives.{life, one_if}
-use Rattle.bump_core.specs.State.{State, ClassState, WorkerState, no_chunk, chunk, head, worker, is_chunk, is_current, is_held, is_open, with_chunk, with_class, with_worker}
+use Rattle.bump_state.specs.State.{State, ClassState, WorkerState, no_chunk, chunk, head, worker, is_chunk, is_current, is_held, is_open, with_chunk, with_class, with_worker}
 use Rattle.bump_rules.specs.Tables.{Get, IsStale, IsRefsFull, IsHeld, Hit, IsFirst, IsAlready, IsMarked, Attempts, get_of, is_of, pulled_to}
-use Rattle.bump_core.specs.Worlds.{IsLawful, holds_of}
+use Rattle.bump_state.specs.Worlds.{IsLawful, holds_of}
 use Rattle.bump_core.proofs.Held.{held_by, held_at, held_else, one_if_same, one_if_cases, unheld_next}
 use Rattle.bump_trace.specs.OpenStore.{answer_by, state_by, Drained, drained_by, drained_of, drained_through}
 use Rattle.bump_trace.specs.Ready.{HoldsStay, GivesBack, is_release}

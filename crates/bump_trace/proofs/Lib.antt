@@ -1,4 +1,3 @@
-pub mod ParsedNumbers
 pub mod KnownBytes
 pub mod CommandsAtRest
 pub mod AscendingLoops
@@ -8,4 +7,3 @@ pub mod SameButWorld
 pub mod HoldsOfItems
 pub mod HeldNames
 pub mod GatheredText
-pub mod WorkedTraces

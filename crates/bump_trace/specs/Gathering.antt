@@ -2,9 +2,9 @@
 use Rattle.std.specs.Prelude.{◌≡◌, ◌<◌, ℕ, Bool, List, ◌++◌, Option}
 use Rattle.std.specs.Io.KnownBytes.{Appends}
 use Rattle.bump_trace.specs.Meaning.{verdict_of}
-use Rattle.bump_trace.specs.Text.{fault_line}
-use Rattle.bump_trace.specs.declared.faults.LineError.{LineError}
-use Rattle.bump_trace.specs.declared.faults.LineError.TheVariants as errors
+use Rattle.trace_lines.specs.Text.{fault_line}
+use Rattle.trace_lines.specs.declared.faults.LineError.{LineError}
+use Rattle.trace_lines.specs.declared.faults.LineError.TheVariants as errors
 use Rattle.bump_trace.specs.declared.runs.SimFault.{SimFault}
 use Rattle.bump_trace.specs.declared.runs.SimFault.TheVariants as faults
 

@@ -1,9 +1,6 @@
-pub mod Faults
-pub mod Fields
-pub mod Lines
 pub mod Names
-pub mod Text
 pub mod Stages
+pub mod Shows
 pub mod OpenStore
 pub mod Meaning
 pub mod Views
@@ -11,4 +8,3 @@ pub mod Ready
 pub mod Runs
 pub mod Reading
 pub mod Gathering
-pub mod Counted

@@ -1,13 +1,13 @@
 -- What a trace means: its text, and whether it ends with a fault.
 use Rattle.std.specs.Prelude.{ℕ, ◌+◌, Bool, true, false, not, ◌==◌, nat_lt, List, [], ◌∷◌, ◌++◌, length, Option, Some, None, Result, Ok, Err, if◌then◌else◌}
 use Rattle.std.specs.List.{slice_split}
-use Rattle.bump_trace.specs.Faults.{◌>>=◌}
-use Rattle.bump_trace.specs.Lines.{Line, Declares, Makes, split_at_spaces, line_of_words}
-use Rattle.bump_trace.specs.Text.{fault_line}
+use Rattle.trace_lines.specs.Faults.{◌>>=◌}
+use Rattle.trace_lines.specs.Lines.{Line, Declares, Makes, split_at_spaces, line_of_words}
+use Rattle.trace_lines.specs.Text.{fault_line}
 use Rattle.bump_trace.specs.Stages.{Stage, Before, Said, say, opened, declared}
 use Rattle.bump_trace.specs.OpenStore.{instruction_said}
-use Rattle.bump_trace.specs.declared.faults.Fault.{Fault}
-use Rattle.bump_trace.specs.declared.faults.Fault.TheVariants as fault
+use Rattle.trace_lines.specs.declared.faults.Fault.{Fault}
+use Rattle.trace_lines.specs.declared.faults.Fault.TheVariants as fault
 
 -- what a line does at a time
 unfoldable pub effect : Stage → ℕ → Line → Result Said Fault

@@ -9,13 +9,14 @@ use Rattle.bump_rules.specs.declared.items.ItemId.{ItemId}
 use Rattle.bump_rules.specs.declared.places.Tail.{Tail}
 use Rattle.bump_core.specs.Commands.{answer_of, command_after}
 use Rattle.bump_rules.specs.Lists.{ascending}
-use Rattle.bump_core.specs.State.{State, is_class, is_worker, is_open}
-use Rattle.bump_trace.specs.Lines.{Instruction, Set, Get, Hold, Hit, Read, Drop, Del, Pull, Sweep, Drain, Close, Show, Par, may_follow_par}
+use Rattle.bump_state.specs.State.{State, is_class, is_worker, is_open}
+use Rattle.trace_lines.specs.Lines.{Instruction, Set, Get, Hold, Hit, Read, Drop, Del, Pull, Sweep, Drain, Close, Show, Par, may_follow_par}
 use Rattle.bump_trace.specs.Names.{Names, bind, unbind}
 use Rattle.bump_trace.specs.Stages.{StoreState, Open, Said, say}
-use Rattle.bump_trace.specs.Text.{set_line, get_line, get_held_line, hold_line, hit_line, read_line, drop_line, del_line, pull_line, sweep_line, bump_line, drain_line, close_line, closed_line, show_text}
-use Rattle.bump_trace.specs.declared.faults.Fault.{Fault}
-use Rattle.bump_trace.specs.declared.faults.Fault.TheVariants as fault
+use Rattle.trace_lines.specs.Text.{set_line, get_line, get_held_line, hold_line, hit_line, read_line, drop_line, del_line, pull_line, sweep_line, bump_line, drain_line, closed_line}
+use Rattle.bump_trace.specs.Shows.{close_line, show_text}
+use Rattle.trace_lines.specs.declared.faults.Fault.{Fault}
+use Rattle.trace_lines.specs.declared.faults.Fault.TheVariants as fault
 
 -- the store after a command, with the same names
 abbrev pub with_command : StoreState → Command → StoreState

@@ -3,15 +3,15 @@
 use Rattle.std.specs.Prelude.{ℕ, Bool, false, List, [], ◌∷◌, ◌++◌, Option, Some, None, Result, Ok, Err, option_map}
 use Rattle.bump_rules.specs.declared.configs.ClassConfig.{ClassConfig}
 use Rattle.bump_rules.specs.Configs.{first_fault}
-use Rattle.bump_core.specs.Opening.{opening_state}
-use Rattle.bump_core.specs.State.{State}
-use Rattle.bump_trace.specs.Faults.{fault_of_config}
+use Rattle.bump_state.specs.Opening.{opening_state}
+use Rattle.bump_state.specs.State.{State}
+use Rattle.trace_lines.specs.Faults.{fault_of_config}
 use Rattle.bump_trace.specs.Names.{Names, no_names}
-use Rattle.bump_trace.specs.declared.faults.Fault.{Fault}
-use Rattle.bump_trace.specs.declared.faults.Fault.TheVariants as fault
-use Rattle.bump_trace.specs.declared.lines.Declaration.{Declaration}
-use Rattle.bump_trace.specs.declared.lines.Declaration.TheVariants.{Store, Class}
-use Rattle.bump_trace.specs.declared.lines.Shape.{Shape}
+use Rattle.trace_lines.specs.declared.faults.Fault.{Fault}
+use Rattle.trace_lines.specs.declared.faults.Fault.TheVariants as fault
+use Rattle.trace_lines.specs.declared.lines.Declaration.{Declaration}
+use Rattle.trace_lines.specs.declared.lines.Declaration.TheVariants.{Store, Class}
+use Rattle.trace_lines.specs.declared.lines.Shape.{Shape}
 
 -- A store that commands are made on: its state, the names of its items, the names of the holds that are kept, each bound to
 -- the held item, and whether `par` was read.

@@ -5,47 +5,16 @@ use Rattle.std.specs.Cmp.Lexicographic.{slice_cmp}
 use Rattle.std.specs.Ordering.{nat_cmp}
 use denote.Ref.{Bor}
 use Rattle.bump_rules.specs.declared.items.ItemId.{ItemId}
-use Rattle.bump_trace.specs.Lines as lines
 use Rattle.bump_trace.specs.Names as names
 use Rattle.bump_trace.specs.OpenStore.{Drained}
 use Rattle.bump_trace.specs.Stages as stages
-use Rattle.bump_trace.specs.declared.faults.Fault.{Fault}
-use Rattle.bump_trace.specs.declared.faults.LineError.{LineError}
-use Rattle.bump_trace.specs.declared.faults.LineError.TheVariants as errors
-use Rattle.bump_trace.specs.declared.lines.Instruction.{Instruction}
-use Rattle.bump_trace.specs.declared.lines.Instruction.TheVariants as instruction
-use Rattle.bump_trace.specs.declared.lines.Line.{Line}
-use Rattle.bump_trace.specs.declared.lines.Line.TheVariants.{Declares, Makes}
+use Rattle.trace_lines.specs.declared.faults.Fault.{Fault}
+use Rattle.trace_lines.specs.declared.faults.LineError.{LineError}
+use Rattle.trace_lines.specs.declared.faults.LineError.TheVariants as errors
 use Rattle.bump_trace.specs.declared.names.Names.{Names}
 use Rattle.bump_trace.specs.declared.open_store.OpenStore.{OpenStore}
 use Rattle.bump_trace.specs.declared.stages.Stage.{Stage}
 use Rattle.bump_trace.specs.declared.stages.Stage.TheVariants as stage
-
--- a command with its names as bytes
-abbrev pub seen_instruction : Instruction → lines.Instruction
-seen_instruction (instruction.Set name class label) = lines.Set name.now class label
-seen_instruction (instruction.Get worker name) = lines.Get worker name.now
-seen_instruction (instruction.Hold worker name hold) = lines.Hold worker name.now hold.now
-seen_instruction (instruction.Hit worker hold) = lines.Hit worker hold.now
-seen_instruction (instruction.Read hold) = lines.Read hold.now
-seen_instruction (instruction.Drop hold) = lines.Drop hold.now
-seen_instruction (instruction.Del name) = lines.Del name.now
-seen_instruction (instruction.Pull class tail) = lines.Pull class tail
-seen_instruction (instruction.Sweep class) = lines.Sweep class
-seen_instruction instruction.Drain = lines.Drain
-seen_instruction (instruction.Close worker) = lines.Close worker
-seen_instruction instruction.Show = lines.Show
-seen_instruction instruction.Par = lines.Par
-
--- a line with its names as bytes
-abbrev pub seen_line : Line → lines.Line
-seen_line (Declares d) = lines.Declares d
-seen_line (Makes i) = lines.Makes (seen_instruction i)
-
--- What a function returned, seen by view, is what reading gives.
-abbrev pub Gives : {X Y : Type 0} → (X → Y) → Result X Fault → Result Y Fault → Type 0
-Gives view (Ok x) read = read ≡ Ok (view x)
-Gives view (Err e) read = read ≡ Err e
 
 -- what each name is bound to
 abbrev pub bindings_of : BTreeMap (Bor (List ℕ)) ItemId → names.Names

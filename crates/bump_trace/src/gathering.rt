@@ -2,15 +2,13 @@
 
 ghost use Rattle.std.specs.Prelude.{◌≡◌, [], OnOk, IfErr};
 ghost use Rattle.std.specs.Io.KnownBytes.{Appends};
-ghost use Rattle.bump_trace.specs.Counted.{inner_of, failed_of};
+ghost use Rattle.trace_lines.specs.Counted.{inner_of, failed_of};
 ghost use Rattle.bump_trace.specs.Gathering.{Gathers, GathersFault, IsOfWriting};
-ghost use Rattle.bump_trace.specs.Text.{fault_line};
+ghost use Rattle.trace_lines.specs.Text.{fault_line};
 
-use crate::counted::Counted;
-use crate::faults::{Fault, LineError};
 use crate::runs::SimFault;
-use crate::text::put_fault;
 use std::io::Write;
+use trace_lines::{Counted, Fault, LineError, put_fault};
 
 /// How many bytes of text are gathered before they are written.
 pub const ROOM: usize = 65_536;

@@ -2,22 +2,13 @@
 //! means stands in `specs/Meaning.antt`; `run_model` is proved to write that text and nothing else.
 #![tactic(auto)]
 
-mod counted;
 mod cutting;
-mod faults;
-mod fields;
 mod gathering;
-mod lines;
 mod names;
 mod open_store;
 mod reading;
 mod runs;
 mod stages;
-mod text;
-pub mod worked_traces;
 
-pub use counted::Counted;
 pub use runs::{SimFault, run_model};
-
-#[cfg(test)]
-mod tests;
+pub use trace_lines::Counted;

@@ -1,29 +1,24 @@
 //! What is done on an open store.
 
-ghost use Rattle.std.specs.Prelude.{◌≡◌, ◌<◌, ◌≤◌, ◌+◌, ◌^◌, true, false, List, [], ◌∷◌, ◌++◌, IfOk, IfErr, OnOk, Ok, None, All, length};
-ghost use Rattle.std.specs.List.{flat_map};
+ghost use Rattle.std.specs.Prelude.{◌≡◌, ◌<◌, ◌^◌, true, false, [], IfOk, IfErr, OnOk, Ok};
 ghost use Rattle.bump_core.specs.Commands.{is_allowed, answer_of, command_after};
 ghost use Rattle.bump_rules.specs.declared.commands.Command.TheVariants as command;
-ghost use Rattle.bump_core.specs.State.{is_held, is_open};
-ghost use Rattle.bump_rules.specs.Lists.{ascending};
-ghost use Rattle.bump_core.specs.Readers.{list_of};
+ghost use Rattle.bump_state.specs.State.{is_held, is_open};
 ghost use Rattle.bump_trace.specs.Stages.{Open};
-ghost use Rattle.bump_trace.specs.OpenStore.{answer_by, state_by, get_held, set_said, get_said, hold_said, hit_said, read_said, drop_said, del_said, pull_said, sweep_said, drain_said, close_said, show_said, instruction_said, drained_of, drained_through};
+ghost use Rattle.bump_trace.specs.OpenStore.{answer_by, state_by, get_held, set_said, get_said, hold_said, hit_said, read_said, drop_said, del_said, pull_said, sweep_said, drain_said, close_said, instruction_said, drained_of};
 ghost use Rattle.bump_trace.specs.Names.{no_names};
-ghost use Rattle.bump_core.specs.Opening.{new_state};
-ghost use Rattle.bump_trace.specs.declared.faults.LineError.TheVariants.{Memory};
-ghost use Rattle.bump_trace.specs.Text.{list_entry, list_line, class_lines, worker_line, close_line, show_text};
+ghost use Rattle.bump_state.specs.Opening.{new_state};
+ghost use Rattle.trace_lines.specs.declared.faults.LineError.TheVariants.{Memory};
 
-use crate::faults::{Fault, LineError};
-use crate::lines::Instruction;
+mod shows;
+
 use crate::names::Names;
-use crate::text::{
-    put_bump, put_chunk, put_close, put_closed, put_del, put_drain, put_drop, put_get,
-    put_get_held, put_hit, put_hold, put_list_start, put_pull, put_read, put_set, put_sweep,
-    put_worker,
+use bump_core::{Answer, Command, Config, ItemId, Refused, Tail, World};
+use std::alloc::Global;
+use trace_lines::{
+    Fault, Instruction, LineError, put_bump, put_closed, put_del, put_drain, put_drop, put_get,
+    put_get_held, put_hit, put_hold, put_pull, put_read, put_set, put_sweep,
 };
-use bump_core::{Answer, Command, Config, ItemId, Place, Refused, Tail, World};
-use std::alloc::{AllocError, Global};
 
 /// An open store: a World with the names of its items and of the holds that are kept, whether `par` was read, and how many
 /// workers and classes it has and bumps each ring has room for.
@@ -40,7 +35,8 @@ pub struct OpenStore<'a> {
 
 impl<'a> OpenStore<'a> {
     ghost use Rattle.bump_trace.specs.Ready.{IsReady, KeepsHolds, HoldsStay, GivesBack, is_release};
-    ghost use Rattle.bump_trace.specs.Views.{seen_instruction, store_of, Does, Drains};
+    ghost use Rattle.bump_trace.specs.Views.{store_of, Does, Drains};
+    ghost use Rattle.trace_lines.specs.Seen.{seen_instruction};
 
     /// A new World of this configuration, without names.
     pub fn new(alloc: Global, config: &Config) -> Result<OpenStore<'a>, LineError>
@@ -394,16 +390,6 @@ impl<'a> OpenStore<'a> {
         Ok(())
     }
 
-    /// The last line of a worker that is closed.
-    #[tactic(auto, unfolding(crate::specs::Text::close_line))]
-    fn put_settled(&self, out: &mut Vec<u8>, worker: u32) -> Result<(), AllocError>
-        requires { worker < length self.now.world.workers }
-        ensures { OnOk result (out.new.items ≡ out.old.items ++ close_line self.now.world worker) }
-    {
-        let applied = self.world.applied(worker).len() as u64;
-        put_close(out, worker, self.world.accounts(worker), applied)
-    }
-
     /// Closes a worker's ring, and applies the bumps in it.
     #[tactic(auto, unfolding(crate::specs::OpenStore::close_said))]
     fn close(&mut self, now: u64, worker: u32, out: &mut Vec<u8>) -> Result<(), LineError>
@@ -426,91 +412,6 @@ impl<'a> OpenStore<'a> {
         }
         let _ = self.drain_worker(now, worker, out)?;
         self.put_settled(out, worker)?;
-        Ok(())
-    }
-
-    /// What is told of all chunks of a list.
-    fn put_entries(&self, out: &mut Vec<u8>, class: u32, place: Place) -> Result<(), AllocError>
-        requires { class < length self.now.world.classes }
-        ensures { OnOk result (out.new.items ≡ out.old.items ++ flat_map (list_entry self.now.world place) (list_of self.now.world class place)) }
-    {
-        for chunk in self.world.list(class, place) {
-            out.extend_from_slice(b" ")?;
-            put_chunk(
-                out,
-                place,
-                chunk,
-                self.world.head(chunk),
-                self.world.time(chunk),
-            )?;
-        }
-        Ok(())
-    }
-
-    /// The line of a list.
-    #[tactic(auto, unfolding(crate::specs::Text::list_line))]
-    fn put_list(&self, out: &mut Vec<u8>, class: u32, place: Place) -> Result<(), AllocError>
-        requires { class < length self.now.world.classes }
-        ensures { OnOk result (out.new.items ≡ out.old.items ++ list_line self.now.world class place) }
-    {
-        put_list_start(out, class, place, self.world.list_len(class, place))?;
-        self.put_entries(out, class, place)?;
-        out.extend_from_slice(b"\n")
-    }
-
-    /// The lines of a class's lists.
-    fn put_class(&self, out: &mut Vec<u8>, class: u32) -> Result<(), AllocError>
-        requires { class < length self.now.world.classes }
-        ensures { OnOk result (out.new.items ≡ out.old.items ++ class_lines self.now.world class) }
-    {
-        self.put_list(out, class, Place::Hot)?;
-        self.put_list(out, class, Place::Warm)?;
-        self.put_list(out, class, Place::Cold)?;
-        self.put_list(out, class, Place::Dying)?;
-        self.put_list(out, class, Place::Unused)?;
-        self.put_list(out, class, Place::Retired)?;
-        Ok(())
-    }
-
-    fn put_classes(&self, out: &mut Vec<u8>) -> Result<(), AllocError>
-        requires { IsReady self.now }
-        ensures { OnOk result (out.new.items ≡ out.old.items ++ flat_map (class_lines self.now.world) (ascending 0 self.now.classes)) }
-    {
-        for class in 0..self.classes {
-            self.put_class(out, class)?;
-        }
-        Ok(())
-    }
-
-    /// The line of a worker.
-    #[tactic(auto, unfolding(crate::specs::Text::worker_line))]
-    fn put_accounts(&self, out: &mut Vec<u8>, worker: u32) -> Result<(), AllocError>
-        requires { worker < length self.now.world.workers }
-        ensures { OnOk result (out.new.items ≡ out.old.items ++ worker_line self.now.world worker) }
-    {
-        let applied = self.world.applied(worker).len() as u64;
-        put_worker(out, worker, self.world.accounts(worker), applied)
-    }
-
-    fn put_workers(&self, out: &mut Vec<u8>) -> Result<(), AllocError>
-        requires { IsReady self.now }
-        ensures { OnOk result (out.new.items ≡ out.old.items ++ flat_map (worker_line self.now.world) (ascending 0 self.now.workers)) }
-    {
-        for worker in 0..self.workers {
-            self.put_accounts(out, worker)?;
-        }
-        Ok(())
-    }
-
-    /// Prints all lists and accounts.
-    #[tactic(auto, unfolding(crate::specs::OpenStore::show_said))]
-    fn show(&self, out: &mut Vec<u8>) -> Result<(), LineError>
-        requires ready { IsReady self.now }
-        requires empty { out.old.items ≡ [] }
-        ensures { Does (Open (store_of self.now)) out.new.items result (show_said (store_of self.now)) }
-    {
-        self.put_classes(out)?;
-        self.put_workers(out)?;
         Ok(())
     }
 

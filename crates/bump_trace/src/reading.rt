@@ -2,14 +2,14 @@
 
 ghost use Rattle.std.specs.Prelude.{◌≡◌, ◌≤◌, length, IfOk, OnOk, IfErr};
 ghost use Rattle.std.specs.Io.KnownBytes.{Consumes, IsAtEnd};
-ghost use Rattle.bump_trace.specs.Counted.{inner_of, calls_of, failed_of};
+ghost use Rattle.trace_lines.specs.Counted.{inner_of, calls_of, failed_of};
 ghost use Rattle.bump_trace.specs.Reading.{IsOfReading, IsOfSize};
 ghost use Rattle.bump_trace.specs.Runs.{most_bytes, most_reads};
 
-use crate::counted::{Counted, is_interruption};
 use crate::runs::SimFault;
 use std::alloc::Global;
 use std::io::Read;
+use trace_lines::{Counted, is_interruption};
 
 /// The most bytes of a trace.
 const MAX_BYTES: usize = 16_777_216;

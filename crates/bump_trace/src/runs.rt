@@ -2,11 +2,10 @@
 
 ghost use Rattle.std.specs.Prelude.{◌≡◌, ◌≤◌, [], length, IfOk, IfErr};
 ghost use Rattle.bump_trace.specs.declared.runs.SimFault.TheVariants.{Memory};
-ghost use Rattle.bump_trace.specs.Counted.{inner_of, calls_of, failed_of};
+ghost use Rattle.trace_lines.specs.Counted.{inner_of, calls_of, failed_of};
 ghost use Rattle.bump_trace.specs.Gathering.{RunsInto, IsOfWriting};
 ghost use Rattle.bump_trace.specs.Runs.{most_bytes, most_reads, ModelRuns, FailsAsCounted, IsUncalled};
 
-use crate::counted::Counted;
 use crate::cutting::cut;
 use crate::gathering::{ROOM, flush, gather, gather_fault, stop};
 use crate::reading::read_all;
@@ -14,6 +13,7 @@ use crate::stages::Session;
 use std::alloc::{AllocError, Global};
 use std::io::{Read, Write};
 use thiserror::Error;
+use trace_lines::Counted;
 
 /// Why a run didn't go to the end of its trace.
 #[derive(Clone, Copy, Debug, PartialEq, Eq, Error)]

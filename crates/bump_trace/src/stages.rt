@@ -2,16 +2,15 @@
 
 ghost use Rattle.std.specs.Prelude.{◌≡◌, ◌∷◌, [], IfOk, OnOk, length};
 ghost use Rattle.std.specs.Result.{result_err};
-ghost use Rattle.bump_trace.specs.Faults.{fault_of_config};
+ghost use Rattle.trace_lines.specs.Faults.{fault_of_config};
 ghost use Rattle.bump_trace.specs.Stages.{Before, config_fault, declared, opened};
 ghost use Rattle.bump_trace.specs.Meaning.{effect, step, fault_at_end};
 
-use crate::faults::{Fault, LineError};
-use crate::lines::{Declaration, Line, Shape, read, words};
 use crate::open_store::OpenStore;
 use bump_core::{ClassConfig, Config, ConfigFault};
 use std::alloc::Global;
 use std::mem;
+use trace_lines::{Declaration, Fault, Line, LineError, Shape, read, words};
 
 /// How far a trace is.
 #[derive(Drop)]
@@ -67,7 +66,8 @@ fn config(shape: Shape, classes: Vec<ClassConfig>) -> Result<Config, Fault>
 
 impl<'a> Session<'a> {
     ghost use Rattle.bump_trace.specs.Ready.{IsSettled};
-    ghost use Rattle.bump_trace.specs.Views.{seen_line, stage_of, Does, Opens};
+    ghost use Rattle.bump_trace.specs.Views.{stage_of, Does, Opens};
+    ghost use Rattle.trace_lines.specs.Seen.{seen_line};
 
     /// A trace of which no line was run.
     pub fn new() -> Session<'a>

@@ -17,12 +17,12 @@ use Rattle.bump_rules.specs.declared.lanes.Lane.{Lane}
 use Rattle.bump_rules.specs.declared.lanes.Lane.TheVariants as lane
 use Rattle.bump_core.specs.Commands.{is_allowed, answer_of, command_after, apply_bump, bumped_lists, bumped_worker, outcome_next, ended_at, entry_of, bump_next}
 use Rattle.bump_rules.specs.Lanes.{is_half_made, bump_of}
-use Rattle.bump_core.specs.Events.{next_bump}
+use Rattle.bump_state.specs.Events.{next_bump}
 use Rattle.bump_core.specs.Headline.{Headline}
 use Rattle.bump_core.specs.Readers.{sent_of, applied_of}
-use Rattle.bump_core.specs.Rings.{in_ring}
+use Rattle.bump_state.specs.Rings.{in_ring}
 use Rattle.bump_rules.specs.Rings.{aboard, bump_applied, numbered_from, most_attempts}
-use Rattle.bump_core.specs.State.{State, WorkerState, new_worker, worker}
+use Rattle.bump_state.specs.State.{State, WorkerState, new_worker, worker}
 use Rattle.example_cache.specs.Cache.{bumped}
 use Rattle.example_cache.specs.declared.cache.Cache.{Cache}
 

@@ -7,8 +7,8 @@ use Rattle.bump_rules.specs.declared.commands.Command.{Command}
 use Rattle.bump_rules.specs.declared.commands.Command.TheVariants as command
 use Rattle.bump_rules.specs.declared.items.ItemId.{ItemId}
 use Rattle.bump_core.specs.Commands.{is_allowed, answer_of, command_after, get_at, get_answer, held_by_get, link_labelled}
-use Rattle.bump_core.specs.Events.{next_chunk, next_life}
-use Rattle.bump_core.specs.State.{State, is_chunk}
+use Rattle.bump_state.specs.Events.{next_chunk, next_life}
+use Rattle.bump_state.specs.State.{State, is_chunk}
 use Rattle.bump_rules.specs.Tables.{Get, IsStale, IsRefsFull, IsHeld}
 use Rattle.example_cache.specs.Refusals.{command_refused, hold_refused, take_refused, link_refused, store_refused}
 use Rattle.example_cache.specs.declared.cache.CacheError.TheVariants.{Full, Gone, NotAllowed}

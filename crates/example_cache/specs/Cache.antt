@@ -8,7 +8,7 @@ use Rattle.bump_rules.specs.declared.commands.Command.{Command}
 use Rattle.bump_rules.specs.declared.commands.Command.TheVariants as command
 use Rattle.bump_rules.specs.declared.items.ItemId.{ItemId}
 use Rattle.bump_core.specs.Commands.{is_allowed, command_after}
-use Rattle.bump_core.specs.State.{State, some_and}
+use Rattle.bump_state.specs.State.{State, some_and}
 use Rattle.example_cache.specs.declared.cache.Cache.{Cache}
 use Rattle.example_cache.specs.declared.cache.CacheError.{CacheError}
 use Rattle.example_cache.specs.Refusals.{store_refused, take_refused, end_refused}

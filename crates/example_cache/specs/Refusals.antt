@@ -6,7 +6,7 @@ use Rattle.bump_rules.specs.declared.commands.Command.{Command}
 use Rattle.bump_rules.specs.declared.commands.Command.TheVariants as command
 use Rattle.bump_rules.specs.declared.items.ItemId.{ItemId}
 use Rattle.bump_core.specs.Commands.{is_allowed, answer_of}
-use Rattle.bump_core.specs.State.{State}
+use Rattle.bump_state.specs.State.{State}
 use Rattle.example_cache.specs.declared.cache.CacheError.{CacheError}
 use Rattle.example_cache.specs.declared.cache.CacheError.TheVariants.{Unknown, Taken, Full, Gone, Busy, NotAllowed, Memory}
 

@@ -6,11 +6,11 @@ ghost use Rattle.std.specs.Map.{update};
 ghost use Rattle.bump_core.specs.Commands.{answer_of, command_after};
 ghost use Rattle.example_cache.specs.Refusals.{Refuses, RefusesOrLacks, command_refused};
 ghost use Rattle.bump_core.specs.Headline.{Headline};
-ghost use Rattle.bump_core.specs.Opening.{new_state};
+ghost use Rattle.bump_state.specs.Opening.{new_state};
 ghost use Rattle.bump_core.specs.Readers.{sent_of, applied_of};
-ghost use Rattle.bump_core.specs.Rings.{in_ring};
+ghost use Rattle.bump_state.specs.Rings.{in_ring};
 ghost use Rattle.bump_rules.specs.Rings.{bump_applied, numbered_from};
-ghost use Rattle.bump_core.specs.State.{SameSizes, worker as worker_at};
+ghost use Rattle.bump_state.specs.State.{SameSizes, worker as worker_at};
 
 use bump_core::{Answer, Command, Config, Ended, ItemId, Pulled, Refused, Tail, Touch, World};
 use std::alloc::{AllocError, Global};

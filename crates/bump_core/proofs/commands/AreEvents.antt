@@ -6,8 +6,8 @@ use Rattle.bump_rules.specs.declared.events.Refused.{Refused}
 use Rattle.bump_rules.specs.declared.events.Refused.TheVariants.{NotEnabled, OutOfMemory}
 use Rattle.bump_rules.specs.declared.commands.Command.{Command}
 use Rattle.bump_rules.specs.declared.commands.Command.TheVariants as command
-use Rattle.bump_core.specs.State.{State, SameSizes}
-use Rattle.bump_core.specs.Worlds.{IsLawful}
+use Rattle.bump_state.specs.State.{State, SameSizes}
+use Rattle.bump_state.specs.Worlds.{IsLawful}
 use Rattle.bump_core.specs.Runs.{run_of}
 use Rattle.bump_core.specs.Commands.{is_allowed, events_of, command_after, Commands}
 use Rattle.bump_core.proofs.worlds.Sizes.{run_sizes}

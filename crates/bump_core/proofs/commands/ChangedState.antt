@@ -2,8 +2,8 @@
 use Rattle.std.proofs.Common.{◌≡◌, ℕ, ◌<◌, true, List, length, slice_set, sym, ap, ap₂, ◌∙◌, arith}
 use Rattle.std.proofs.lemmas.Bool.{lt-ltb}
 use Rattle.std.proofs.lemmas.List.{get_or-set_same, length-set, set-get_or, set-set}
-use Rattle.bump_core.specs.declared.chunks.Chunk.{Chunk}
-use Rattle.bump_core.specs.State.{State, ClassState, WorkerState, chunk, worker, no_chunk, new_worker, with_chunk, with_worker, is_worker}
+use Rattle.bump_state.specs.declared.chunks.Chunk.{Chunk}
+use Rattle.bump_state.specs.State.{State, ClassState, WorkerState, chunk, worker, no_chunk, new_worker, with_chunk, with_worker, is_worker}
 
 -- a state in which a chunk, all classes and a worker are others
 abbrev pub at : State → ℕ → ℕ → List ClassState → Chunk → WorkerState → State

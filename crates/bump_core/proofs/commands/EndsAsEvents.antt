@@ -22,16 +22,17 @@ use Rattle.bump_rules.specs.Lists.{list_at, to_front}
 use Rattle.bump_rules.proofs.Laws.{bit_at_most}
 use Rattle.bump_rules.proofs.PlainLists.{times_same}
 use Rattle.bump_rules.specs.Tables.{is_unheld, ended_of}
-use Rattle.bump_core.specs.State.{State, chunk, head, class, no_chunk, no_class, is_class, with_head, with_change, with_changes, class_with_change, class_of, is_linked, is_under_application}
-use Rattle.bump_core.specs.Worlds.{IsLawful, owns, place, place_in}
-use Rattle.bump_core.specs.Events.{is_enabled, after, unlink, close}
+use Rattle.bump_state.specs.State.{State, chunk, head, class, no_chunk, no_class, is_class, with_head, with_change, with_changes, class_with_change, class_of, is_linked, is_under_application}
+use Rattle.bump_state.specs.Worlds.{IsLawful, owns, place, place_in}
+use Rattle.bump_state.specs.Events.{is_enabled, after, unlink, close}
 use Rattle.bump_core.specs.Runs.{run_of}
-use Rattle.bump_core.specs.Commands.{is_allowed, events_of, command_after, end_of, freed_by, end_life, look_of, end_events, unheld, swept_changes, looks_at, swept_of}
+use Rattle.bump_core.specs.Commands.{is_allowed, events_of, command_after, end_of, freed_by, end_life, look_of, end_events, looks_at}
+use Rattle.bump_state.specs.Sweeps.{unheld, swept_changes, swept_of}
 use Rattle.bump_rules.proofs.SixLists.{times_front}
-use Rattle.bump_core.proofs.classes.Tiles.{class_within}
+use Rattle.bump_state.proofs.Tiles.{class_within}
 use Rattle.bump_core.proofs.events.Moves.{stands_pushed}
 use Rattle.bump_core.proofs.events.Runs.{run_step}
-use Rattle.bump_core.proofs.worlds.Fronts.{once_at, listed, times_in}
+use Rattle.bump_state.proofs.Fronts.{once_at, listed, times_in}
 use Rattle.bump_core.proofs.worlds.StaysLawful.{lawful_after}
 use Rattle.bump_core.proofs.commands.ChangedLists.{class_of_kept, application_kept, no_changes, changes_more}
 use Rattle.bump_core.proofs.commands.FreedChunks.{freed_subject, linked_from}

@@ -9,12 +9,12 @@ use Rattle.bump_rules.specs.declared.history.Change.TheVariants as change
 use Rattle.bump_rules.specs.History.{subject, freed_change}
 use Rattle.bump_rules.specs.Lists.{IsListed}
 use Rattle.bump_rules.specs.Heads.{severed_head}
-use Rattle.bump_core.specs.State.{State, head, class, class_of, with_head, with_change, with_changes, is_current, is_linked}
-use Rattle.bump_core.specs.Events.{unlink}
+use Rattle.bump_state.specs.State.{State, head, class, class_of, with_head, with_change, with_changes, is_current, is_linked}
+use Rattle.bump_state.specs.Events.{unlink}
 use Rattle.bump_core.specs.Commands.{end_of, end_life, freed_by}
-use Rattle.bump_core.specs.Worlds.{IsLawful}
-use Rattle.bump_core.proofs.events.Enabled.{current_from}
-use Rattle.bump_core.proofs.worlds.Fronts.{listed_at}
+use Rattle.bump_state.specs.Worlds.{IsLawful}
+use Rattle.bump_state.proofs.Enabled.{current_from}
+use Rattle.bump_state.proofs.Fronts.{listed_at}
 use Rattle.bump_core.proofs.commands.ChangedLists.{two_changes}
 
 -- the entry of a chunk that is free speaks of its life

@@ -6,7 +6,7 @@ use Rattle.std.proofs.lemmas.List.{get_or-set_same, length-set, set-get_or, set-
 use Rattle.bump_rules.specs.declared.items.ItemId.{ItemId}
 use Rattle.bump_rules.specs.declared.items.Head.{Head}
 use Rattle.bump_rules.specs.declared.bumps.Accounts.{Accounts}
-use Rattle.bump_core.specs.declared.chunks.Chunk.{Chunk}
+use Rattle.bump_state.specs.declared.chunks.Chunk.{Chunk}
 use Rattle.bump_rules.specs.declared.hands.Hand.{Hand}
 use Rattle.bump_rules.specs.declared.hands.Hand.TheVariants as hand
 use Rattle.bump_rules.specs.declared.events.Event.{Event}
@@ -14,15 +14,15 @@ use Rattle.bump_rules.specs.declared.events.Event.TheVariants as event
 use Rattle.bump_rules.specs.declared.commands.Command.TheVariants as command
 use Rattle.bump_rules.specs.declared.commands.Dropped.TheVariants.{Full, RefsFull}
 use Rattle.bump_rules.specs.Tables.{IsFirst, IsAlready, IsMarked, Attempts, is_cold, dropped_of}
-use Rattle.bump_core.specs.State.{State, ClassState, WorkerState, chunk, head, worker, no_chunk, is_chunk, is_worker, with_chunk, with_head, with_worker, is_current, is_held, has_free_hold, is_open, workers_on, some_and}
+use Rattle.bump_state.specs.State.{State, ClassState, WorkerState, chunk, head, worker, no_chunk, is_chunk, is_worker, with_chunk, with_head, with_worker, is_current, is_held, has_free_hold, is_open, workers_on, some_and}
 use Rattle.bump_rules.specs.Hands.{tried_life, life_in_hand, cleared_life, is_idle}
-use Rattle.bump_core.specs.Worlds.{IsLawful}
+use Rattle.bump_state.specs.Worlds.{IsLawful}
 use Rattle.bump_rules.specs.Rings.{most_attempts}
 use Rattle.bump_rules.specs.Heads.{one_more, one_fewer, active_head, cleared_head}
-use Rattle.bump_core.specs.Events.{is_enabled, after, may_hit, is_under_limit, waiting, reserve, drop_refs, push, drop_full, unmark, mark}
+use Rattle.bump_state.specs.Events.{is_enabled, after, may_hit, is_under_limit, waiting, reserve, drop_refs, push, drop_full, unmark, mark}
 use Rattle.bump_core.specs.Runs.{run_of}
 use Rattle.bump_core.specs.Commands.{is_allowed, events_of, command_after, hit_at, dropped_at, attempt, hit, is_exhausted, hit_events, attempt_events}
-use Rattle.bump_core.proofs.events.Enabled.{idle_from}
+use Rattle.bump_state.proofs.Enabled.{idle_from}
 use Rattle.bump_core.proofs.events.Runs.{run_step}
 use Rattle.bump_core.proofs.commands.ChangedState.{at, chunk_at, worker_at, is_worker_at, on_worker, on_both}
 

@@ -4,8 +4,8 @@ use Rattle.std.proofs.lemmas.Bool.{and_parts, and_from}
 use Rattle.bump_rules.specs.declared.items.ItemId.{ItemId}
 use Rattle.bump_rules.specs.declared.events.Event.TheVariants as event
 use Rattle.bump_rules.specs.declared.commands.Command.TheVariants as command
-use Rattle.bump_core.specs.State.{State, chunk, head, is_chunk, is_linked}
-use Rattle.bump_core.specs.Events.{is_under_limit, with_hold}
+use Rattle.bump_state.specs.State.{State, chunk, head, is_chunk, is_linked}
+use Rattle.bump_state.specs.Events.{is_under_limit, with_hold}
 use Rattle.bump_core.specs.Runs.{run_of}
 use Rattle.bump_core.specs.Commands.{is_allowed, events_of, command_after, get_at, get_events, held_by_get}
 use Rattle.bump_rules.specs.Tables.{Get, IsStale, IsRefsFull, IsHeld}

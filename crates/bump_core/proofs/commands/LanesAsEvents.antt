@@ -8,7 +8,7 @@ use Rattle.std.proofs.lemmas.List.{length-set, set-get_or}
 use Rattle.bump_rules.specs.declared.places.Segment.TheVariants as segment
 use Rattle.bump_rules.specs.declared.items.ItemId.{ItemId}
 use Rattle.bump_rules.specs.declared.items.Head.{Head}
-use Rattle.bump_core.specs.declared.chunks.Chunk.{Chunk}
+use Rattle.bump_state.specs.declared.chunks.Chunk.{Chunk}
 use Rattle.bump_rules.specs.declared.history.Cause.TheVariants.{Bump as BumpOf}
 use Rattle.bump_rules.specs.declared.history.Change.{Change}
 use Rattle.bump_rules.specs.declared.history.Change.TheVariants as change
@@ -23,16 +23,16 @@ use Rattle.bump_rules.specs.declared.events.Event.TheVariants as event
 use Rattle.bump_rules.specs.declared.commands.Command.TheVariants as command
 use Rattle.bump_rules.specs.Lives.{count_of}
 use Rattle.bump_rules.specs.Tables.{is_cold, ended_of}
-use Rattle.bump_core.specs.State.{State, ClassState, WorkerState, chunk, head, class, worker, no_chunk, class_with_change, is_worker, with_worker, with_change, class_from, class_of, some_and, applies_in, is_under_application}
-use Rattle.bump_core.specs.Worlds.{references, aboard_of, place, IsLawful}
+use Rattle.bump_state.specs.State.{State, ClassState, WorkerState, chunk, head, class, worker, no_chunk, class_with_change, is_worker, with_worker, with_change, class_from, class_of, some_and, applies_in, is_under_application}
+use Rattle.bump_state.specs.Worlds.{references, aboard_of, place, IsLawful}
 use Rattle.bump_rules.specs.Heads.{one_fewer, cleared_head, moved_head}
-use Rattle.bump_core.specs.Events.{is_enabled, after, next_bump, ending, with_time, take_bump, with_lane, clear_for, move_for, alight}
+use Rattle.bump_state.specs.Events.{is_enabled, after, next_bump, ending, with_time, take_bump, with_lane, clear_for, move_for, alight}
 use Rattle.bump_rules.specs.Lanes.{carried, tried, applied_now, cleared_active, is_empty, outcome_tried, ending_at, bump_of, applied_bump, is_half_made}
 use Rattle.bump_core.specs.Runs.{run_of}
 use Rattle.bump_core.specs.Commands.{is_allowed, events_of, command_after, bump_next, outcome_next, ended_at, bumped_chunk, bumped_worker, bumped_lists, freed_by, look_of, apply_bump, take_events, apply_events}
 use Rattle.bump_rules.proofs.Laws.{dying_where_unlinked}
-use Rattle.bump_core.proofs.workers.Ring.{next_in_ring}
-use Rattle.bump_core.proofs.worlds.LawfulStates.{one_if_same, referred_in_range, referred_used, referred_current, in_ring_referred, aboard_referred}
+use Rattle.bump_state.proofs.Ring.{next_in_ring}
+use Rattle.bump_state.proofs.LawfulStates.{one_if_same, referred_in_range, referred_used, referred_current, in_ring_referred, aboard_referred}
 use Rattle.bump_core.proofs.worlds.StaysLawful.{lawful_after, run_lawful}
 use Rattle.bump_core.proofs.events.Runs.{run_step}
 use Rattle.bump_rules.proofs.Updates.{none_written}

@@ -3,18 +3,18 @@ use Rattle.std.proofs.Common.{◌≡◌, ℕ, ◌+◌, ◌<◌, true, not, ◌&&
 use Rattle.std.proofs.lemmas.Bool.{and_parts, and_from, ltb-true}
 use Rattle.std.specs.Option.{option_map_or}
 use Rattle.std.proofs.lemmas.List.{get_or-set_same, set-set}
-use Rattle.bump_core.specs.declared.chunks.Chunk.{Chunk}
+use Rattle.bump_state.specs.declared.chunks.Chunk.{Chunk}
 use Rattle.bump_rules.specs.declared.history.Change.TheVariants as change
 use Rattle.bump_rules.specs.declared.events.Event.TheVariants as event
 use Rattle.bump_rules.specs.declared.commands.Command.TheVariants as command
 use Rattle.bump_rules.specs.Lives.{life}
-use Rattle.bump_core.specs.State.{State, chunk, head, no_chunk, is_class, with_chunk, with_change, some_and, is_under_application}
-use Rattle.bump_core.specs.Worlds.{IsLawful}
-use Rattle.bump_core.specs.Events.{after, is_class_at_rest, next_chunk, next_life, with_label, with_time, link}
+use Rattle.bump_state.specs.State.{State, chunk, head, no_chunk, is_class, with_chunk, with_change, some_and, is_under_application}
+use Rattle.bump_state.specs.Worlds.{IsLawful}
+use Rattle.bump_state.specs.Events.{after, is_class_at_rest, next_chunk, next_life, with_label, with_time, link}
 use Rattle.bump_rules.specs.Heads.{newborn}
 use Rattle.bump_core.specs.Runs.{run_of}
 use Rattle.bump_core.specs.Commands.{is_allowed, events_of, command_after, link_labelled}
-use Rattle.bump_core.proofs.worlds.Fronts.{next_front}
+use Rattle.bump_state.proofs.Fronts.{next_front}
 use Rattle.bump_core.proofs.events.Runs.{run_step}
 
 -- a command that finds an item in its class finds the class at rest

@@ -17,12 +17,12 @@ use Rattle.bump_rules.specs.declared.commands.Command.TheVariants as command
 use Rattle.bump_rules.specs.Heads.{cleared_head, moved_head}
 use Rattle.bump_rules.specs.Lives.{life}
 use Rattle.bump_rules.specs.Tables.{pulled_of, pulled_to, segment_of, may_move}
-use Rattle.bump_core.specs.State.{State, chunk, head, no_chunk, with_head, with_change, class_of, is_under_application}
-use Rattle.bump_core.specs.Worlds.{IsLawful}
-use Rattle.bump_core.specs.Events.{is_enabled, after}
+use Rattle.bump_state.specs.State.{State, chunk, head, no_chunk, with_head, with_change, class_of, is_under_application}
+use Rattle.bump_state.specs.Worlds.{IsLawful}
+use Rattle.bump_state.specs.Events.{is_enabled, after}
 use Rattle.bump_core.specs.Runs.{run_of}
 use Rattle.bump_core.specs.Commands.{is_allowed, events_of, command_after, tail_of, is_list_over, pulled_at, pull_to, pull, move_events, pull_events, end_of, end_life, end_events}
-use Rattle.bump_core.proofs.worlds.Fronts.{last_linked}
+use Rattle.bump_state.proofs.Fronts.{last_linked}
 use Rattle.bump_core.proofs.events.Runs.{run_step}
 use Rattle.bump_core.proofs.commands.EndsAsEvents.{end_made}
 use Rattle.bump_core.proofs.commands.LinksAsEvents.{at_rest}

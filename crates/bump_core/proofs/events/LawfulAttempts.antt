@@ -7,19 +7,19 @@ use Rattle.bump_rules.specs.declared.items.Head.{Head}
 use Rattle.bump_rules.specs.declared.hands.Hand.TheVariants as hand
 use Rattle.bump_rules.specs.declared.events.Event.TheVariants as event
 use Rattle.bump_rules.specs.Lives.{life, one_if, count_of}
-use Rattle.bump_core.specs.Rings.{in_ring, IsWorker}
+use Rattle.bump_state.specs.Rings.{in_ring, IsWorker}
 use Rattle.bump_rules.specs.Rings.{attempts_of}
-use Rattle.bump_core.specs.State.{State, WorkerState, head, worker, with_head, with_worker, is_open, is_worker, some_and}
+use Rattle.bump_state.specs.State.{State, WorkerState, head, worker, with_head, with_worker, is_open, is_worker, some_and}
 use Rattle.bump_rules.specs.Hands.{is_on, tried_life, life_in_hand, cleared_life}
 use Rattle.bump_rules.specs.Heads.{one_more, one_fewer, cleared_head}
-use Rattle.bump_core.specs.Events.{is_under_limit, waiting, is_enabled, after, reserve, drop_refs, drop_busy, push, drop_full, unmark}
-use Rattle.bump_core.specs.Worlds.{in_hand_of, bumps_of, references, first_hits_of, place, IsLawful}
+use Rattle.bump_state.specs.Events.{is_under_limit, waiting, is_enabled, after, reserve, drop_refs, drop_busy, push, drop_full, unmark}
+use Rattle.bump_state.specs.Worlds.{in_hand_of, bumps_of, references, first_hits_of, place, IsLawful}
 use Rattle.bump_rules.proofs.Laws.{relawful, referred}
-use Rattle.bump_core.proofs.workers.Ring.{in_ring_push}
+use Rattle.bump_state.proofs.Ring.{in_ring_push}
 use Rattle.bump_rules.proofs.Updates.{count_push}
-use Rattle.bump_core.proofs.worlds.LawfulStates.{one_if_elsewhere, one_if_at, one_if_not_at, referred_used, tried_referred, tried_in_range, tried_current, in_hand_in_range, in_hand_current, cleared_in_range, received_within}
+use Rattle.bump_state.proofs.LawfulStates.{one_if_elsewhere, one_if_at, one_if_not_at, referred_used, tried_referred, tried_in_range, tried_current, in_hand_in_range, in_hand_current, cleared_in_range, received_within}
 use Rattle.bump_core.proofs.worlds.Frames.{worker_lawful, waits_kept, both_marked, both_unreferred, both_lawful_off_lane, references_after, first_hits_after, alone_kept, tells_kept}
-use Rattle.bump_core.proofs.events.Enabled.{some_and_parts, lawful_by_some, trying_from, in_hand_from, clearing_from, worker_from}
+use Rattle.bump_state.proofs.Enabled.{some_and_parts, lawful_by_some, trying_from, in_hand_from, clearing_from, worker_from}
 
 -- under the limit the attempted bump gets its reference
 pub reserve_lawful : (s : State) (w : ℕ) (l : ItemId) → IsLawful s → w < length s.workers → (worker s w).hand ≡ hand.Trying l → (head s l.chunk).refs < s.refs_limit → IsLawful (reserve s w l)

@@ -12,16 +12,16 @@ use Rattle.bump_rules.specs.Entries.{names_bump}
 use Rattle.bump_rules.specs.History.{subject, target, freed_change}
 use Rattle.bump_rules.specs.Lawful.{Shows}
 use Rattle.bump_rules.specs.Lives.{life}
-use Rattle.bump_core.specs.State.{State, head, class_of, with_change}
+use Rattle.bump_state.specs.State.{State, head, class_of, with_change}
 use Rattle.bump_rules.specs.Lanes.{applied_life}
-use Rattle.bump_core.specs.Events.{is_enabled, after}
-use Rattle.bump_core.specs.Worlds.{references, first_hits_of, place, IsLawful}
+use Rattle.bump_state.specs.Events.{is_enabled, after}
+use Rattle.bump_state.specs.Worlds.{references, first_hits_of, place, IsLawful}
 use Rattle.bump_rules.proofs.Laws.{severed, ended}
-use Rattle.bump_core.proofs.classes.Tiles.{class_within, class_owns}
-use Rattle.bump_core.proofs.events.Enabled.{unlink_from, sweep_from, none_applies}
+use Rattle.bump_state.proofs.Tiles.{class_within, class_owns}
+use Rattle.bump_state.proofs.Enabled.{unlink_from, sweep_from, none_applies}
 use Rattle.bump_core.proofs.events.Moves.{change_lawful}
 use Rattle.bump_core.proofs.worlds.Frames.{same_head}
-use Rattle.bump_core.proofs.worlds.Fronts.{listed}
+use Rattle.bump_state.proofs.Fronts.{listed}
 
 -- What a sweep finds and enters.
 

@@ -8,17 +8,17 @@ use Rattle.bump_rules.specs.declared.events.Event.TheVariants as event
 use Rattle.bump_rules.specs.Lawful.{bit}
 use Rattle.bump_rules.specs.Lives.{life, one_if}
 use Rattle.bump_rules.specs.Rings.{most_attempts, attempts_of}
-use Rattle.bump_core.specs.Rings.{IsWorker}
+use Rattle.bump_state.specs.Rings.{IsWorker}
 use Rattle.bump_rules.specs.Tables.{is_cold}
-use Rattle.bump_core.specs.State.{State, WorkerState, chunk, head, worker, with_head, with_worker, workers_on}
+use Rattle.bump_state.specs.State.{State, WorkerState, chunk, head, worker, with_head, with_worker, workers_on}
 use Rattle.bump_rules.specs.Heads.{fetched_head, active_head}
-use Rattle.bump_core.specs.Events.{may_hit, is_enabled, after, fetch, mark}
-use Rattle.bump_core.specs.Worlds.{holds_of, in_hand_of, references, first_hits_of, place, IsLawful}
+use Rattle.bump_state.specs.Events.{may_hit, is_enabled, after, fetch, mark}
+use Rattle.bump_state.specs.Worlds.{holds_of, in_hand_of, references, first_hits_of, place, IsLawful}
 use Rattle.bump_rules.proofs.Laws.{relawful, named_first, fetched_again, marked}
 use Rattle.bump_rules.proofs.Updates.{count_push}
-use Rattle.bump_core.proofs.worlds.LawfulStates.{held_at, one_if_same, one_if_elsewhere, one_if_at, one_if_not_at, one_if_cases}
+use Rattle.bump_state.proofs.LawfulStates.{held_at, one_if_same, one_if_elsewhere, one_if_at, one_if_not_at, one_if_cases}
 use Rattle.bump_core.proofs.worlds.Frames.{alone_kept, tells_kept, waits_kept, both_marked, head_lawful, time_lawful, both_lawful_off_lane, references_after, first_hits_after}
-use Rattle.bump_core.proofs.events.Enabled.{by_test, may_hit_from}
+use Rattle.bump_state.proofs.Enabled.{by_test, may_hit_from}
 
 -- a hit of a current life sets FETCHED, and the first one joins the worker's first hits
 pub fetch_lawful : (s : State) (w : ℕ) (l : ItemId) → IsLawful s → w < length s.workers → l.chunk < length s.chunks → (head s l.chunk).generation ≡ l.generation → IsLawful (fetch s w l)

@@ -4,17 +4,17 @@ use Rattle.std.proofs.lemmas.Bool.{and_parts, ltb-true}
 use mathlib.Core.Logic.{dite}
 use native.Mathlib.Decide.{ℕ_discrete}
 use Rattle.bump_rules.specs.declared.items.ItemId.{ItemId}
-use Rattle.bump_core.specs.declared.chunks.Chunk.{Chunk}
+use Rattle.bump_state.specs.declared.chunks.Chunk.{Chunk}
 use Rattle.bump_rules.specs.declared.events.Event.TheVariants as event
 use Rattle.bump_rules.specs.Lives.{life}
-use Rattle.bump_core.specs.State.{State, chunk, head, with_chunk, workers_on, is_current, is_linked, is_open}
+use Rattle.bump_state.specs.State.{State, chunk, head, with_chunk, workers_on, is_current, is_linked, is_open}
 use Rattle.bump_rules.specs.Heads.{one_more, one_fewer}
-use Rattle.bump_core.specs.Events.{is_under_limit, is_enabled, after, with_hold, without_hold}
-use Rattle.bump_core.specs.Worlds.{holds_of, references, first_hits_of, place, IsLawful}
+use Rattle.bump_state.specs.Events.{is_under_limit, is_enabled, after, with_hold, without_hold}
+use Rattle.bump_state.specs.Worlds.{holds_of, references, first_hits_of, place, IsLawful}
 use Rattle.bump_rules.proofs.Laws.{used_where_linked, referred, unreferred}
-use Rattle.bump_core.proofs.worlds.LawfulStates.{held_by, held_here, held_else}
+use Rattle.bump_state.proofs.LawfulStates.{held_by, held_here, held_else}
 use Rattle.bump_core.proofs.worlds.Frames.{chunk_here, chunk_lawful}
-use Rattle.bump_core.proofs.events.Enabled.{current_from, free_hold_from}
+use Rattle.bump_state.proofs.Enabled.{current_from, free_hold_from}
 
 -- a linked chunk under the limit gets one more hold
 pub hold_lawful : (s : State) (c : ℕ) → IsLawful s → (head s c).linked ≡ true → c < length s.chunks → (head s c).refs < s.refs_limit → IsLawful (with_hold s c)

@@ -1,19 +1,19 @@
 -- The events of links leave a lawful state lawful: the next item's label and time, and the link.
 use Rattle.std.proofs.Common.{◌≡◌, ℕ, true, false, refl, arith, ◌<◌, length, ◌+◌, cond, eqb, Bool, Some, sym, ◌∙◌, subst}
 use Rattle.bump_rules.specs.declared.events.Event.TheVariants as event
-use Rattle.bump_core.specs.State.{State, head, chunk, class}
-use Rattle.bump_core.specs.Events.{next_chunk, is_enabled, after, with_time, with_label, next_life, link}
-use Rattle.bump_core.specs.Worlds.{references, first_hits_of, place, IsLawful, owns}
-use Rattle.bump_core.proofs.events.Enabled.{next_from, lawful_by_some}
+use Rattle.bump_state.specs.State.{State, head, chunk, class}
+use Rattle.bump_state.specs.Events.{next_chunk, is_enabled, after, with_time, with_label, next_life, link}
+use Rattle.bump_state.specs.Worlds.{references, first_hits_of, place, IsLawful, owns}
+use Rattle.bump_state.proofs.Enabled.{next_from, lawful_by_some}
 use Rattle.bump_core.proofs.worlds.Frames.{time_lawful, label_lawful}
 use Rattle.std.proofs.lemmas.Bool.{both_ways}
 use Rattle.bump_rules.specs.declared.items.Head.{Head}
 use Rattle.bump_rules.specs.declared.history.Change.TheVariants as change
-use Rattle.bump_core.specs.declared.chunks.Chunk.{Chunk}
+use Rattle.bump_state.specs.declared.chunks.Chunk.{Chunk}
 use Rattle.bump_rules.specs.Heads.{newborn}
-use Rattle.bump_core.proofs.classes.Tiles.{class_owns}
-use Rattle.bump_core.proofs.worlds.Fronts.{next_front}
-use Rattle.bump_core.proofs.worlds.LawfulStates.{unused_shown, held_by, held_here, unused_unreferred, waiting_linked}
+use Rattle.bump_state.proofs.Tiles.{class_owns}
+use Rattle.bump_state.proofs.Fronts.{next_front}
+use Rattle.bump_state.proofs.LawfulStates.{unused_shown, held_by, held_here, unused_unreferred, waiting_linked}
 use Rattle.bump_rules.proofs.Laws.{born}
 use Rattle.bump_core.proofs.events.Moves.{change_lawful}
 

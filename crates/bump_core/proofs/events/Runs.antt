@@ -8,8 +8,8 @@ use Rattle.bump_rules.specs.declared.events.Reply.{Reply}
 use Rattle.bump_rules.specs.declared.events.Refused.{Refused}
 use Rattle.bump_rules.specs.declared.events.Refused.TheVariants.{NotEnabled, OutOfMemory}
 use Rattle.bump_core.specs.Runs.{Steps, Runs, run_of}
-use Rattle.bump_core.specs.State.{State}
-use Rattle.bump_core.specs.Events.{is_enabled, after}
+use Rattle.bump_state.specs.State.{State}
+use Rattle.bump_state.specs.Events.{is_enabled, after}
 
 -- an enabled event, and then the others
 pub run_step : (s t : State) (e : Event) (es : List Event) → is_enabled s e ≡ true → after s e ≡ t → run_of s (e ∷ es) ≡ run_of t es

@@ -8,14 +8,14 @@ use Rattle.bump_rules.specs.History.{is_place}
 use Rattle.bump_rules.specs.Lawful.{bit, IsUsed, Shows}
 use Rattle.bump_links.specs.Lists.{times}
 use Rattle.bump_rules.specs.Lists.{list_at}
-use Rattle.bump_core.specs.Rings.{in_ring, IsWorker}
+use Rattle.bump_state.specs.Rings.{in_ring, IsWorker}
 use Rattle.bump_rules.specs.Rings.{numbered_from}
-use Rattle.bump_core.specs.State.{State, WorkerState, class, head, worker}
-use Rattle.bump_core.specs.Worlds.{owns, place, place_in, stands_in, IsLawful}
-use Rattle.bump_core.proofs.worlds.LawfulStates.{referred_in_range, referred_used}
-use Rattle.bump_core.proofs.worlds.Fronts.{times_in, listed, never_at}
+use Rattle.bump_state.specs.State.{State, WorkerState, class, head, worker}
+use Rattle.bump_state.specs.Worlds.{owns, place, place_in, stands_in, IsLawful}
+use Rattle.bump_state.proofs.LawfulStates.{referred_in_range, referred_used}
+use Rattle.bump_state.proofs.Fronts.{times_in, listed, never_at}
 use Rattle.bump_core.proofs.worlds.TrueEntries.{named_once, true_entry}
-use Rattle.bump_core.proofs.workers.Ring.{numbered_append}
+use Rattle.bump_state.proofs.Ring.{numbered_append}
 use Rattle.bump_rules.proofs.Standings.{other_place, one_place}
 
 -- a lawful worker's lane applies what its ring accepted, in order

@@ -4,7 +4,7 @@ use Rattle.std.proofs.lemmas.Bool.{and_parts, and_from, both_ways}
 use Rattle.std.proofs.lemmas.List.{get_or-set_same, get_or-set_other}
 use Rattle.std.specs.Option.{option_map_or}
 use native.Mathlib.Decide.{ℕ_discrete}
-use Rattle.bump_core.specs.declared.chunks.Chunk.{Chunk}
+use Rattle.bump_state.specs.declared.chunks.Chunk.{Chunk}
 use Rattle.bump_rules.specs.declared.events.Event.{Event}
 use Rattle.bump_rules.specs.declared.events.Event.TheVariants as event
 use Rattle.bump_rules.specs.declared.history.Cause.TheVariants.{Pull, Bump as BumpOf}
@@ -17,7 +17,7 @@ use Rattle.bump_rules.specs.declared.places.Place.TheVariants.{Unused}
 use Rattle.bump_rules.specs.declared.places.Segment.{Segment}
 use Rattle.bump_rules.specs.declared.places.Segment.TheVariants as segment
 use Rattle.bump_rules.specs.Heads.{newborn, moved_head, one_more, one_fewer, fetched_head, active_head, cleared_head, severed_head}
-use Rattle.bump_core.specs.Events.{is_enabled, after, next_chunk, next_life, next_bump, ending, reserve, drop_refs, drop_busy, push, drop_full, unmark, with_label, with_time, link, take_bump, clear_for, move_for, alight, unlink, sweep}
+use Rattle.bump_state.specs.Events.{is_enabled, after, next_chunk, next_life, next_bump, ending, reserve, drop_refs, drop_busy, push, drop_full, unmark, with_label, with_time, link, take_bump, clear_for, move_for, alight, unlink, sweep}
 use Rattle.bump_rules.specs.Lanes.{carried, tried, applied_now, cleared_active}
 use Rattle.bump_rules.specs.History.{subject, freed_change}
 use Rattle.bump_rules.specs.declared.labels.LabelStep.{LabelStep}
@@ -27,21 +27,21 @@ use Rattle.bump_core.specs.Labels.{label_steps, IsLabel, KeepsLabels}
 use Rattle.bump_rules.specs.Lawful.{IsUsed}
 use Rattle.bump_rules.specs.Lives.{life, is_same}
 use Rattle.bump_core.specs.Runs.{run_of}
-use Rattle.bump_core.specs.State.{State, WorkerState, chunk, head, class, worker, no_chunk, with_chunk, with_head, with_change, class_of}
+use Rattle.bump_state.specs.State.{State, WorkerState, chunk, head, class, worker, no_chunk, with_chunk, with_head, with_change, class_of}
 use Rattle.bump_rules.specs.Hands.{tried_life, life_in_hand, cleared_life}
 use Rattle.bump_rules.specs.Tables.{is_cold}
-use Rattle.bump_core.specs.Worlds.{IsLawful, owns, place}
-use Rattle.bump_core.proofs.events.Enabled.{next_from, unlink_from, sweep_from, move_from, move_for_from, by_test, by_value, cleared_from}
+use Rattle.bump_state.specs.Worlds.{IsLawful, owns, place}
+use Rattle.bump_state.proofs.Enabled.{next_from, unlink_from, sweep_from, move_from, move_for_from, by_test, by_value, cleared_from}
 use Rattle.bump_core.proofs.events.LawfulEnds.{swept_dying, freed}
 use Rattle.bump_core.proofs.events.Runs.{run_parts}
 use Rattle.bump_rules.proofs.Updates.{same_read}
 use Rattle.bump_core.proofs.worlds.Frames.{same_head}
-use Rattle.bump_core.proofs.worlds.Fronts.{next_front}
-use Rattle.bump_core.proofs.worlds.LawfulStates.{linked_in_range, waiting_linked}
+use Rattle.bump_state.proofs.Fronts.{next_front}
+use Rattle.bump_state.proofs.LawfulStates.{linked_in_range, waiting_linked}
 use Rattle.bump_rules.proofs.Laws.{used_where_linked}
 use Rattle.bump_core.proofs.events.Moves.{chunk_changed, chunk_unchanged, place_unchanged}
 use Rattle.bump_core.proofs.worlds.StaysLawful.{lawful_after}
-use Rattle.bump_core.proofs.classes.Tiles.{class_within, class_owns}
+use Rattle.bump_state.proofs.Tiles.{class_within, class_owns}
 
 -- What an event leaves of a chunk that begins no life and gets no label.
 

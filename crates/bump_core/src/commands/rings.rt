@@ -1,17 +1,18 @@
 //! The command that closes a ring.
+ghost use Rattle.std.specs.Prelude.{◌≡◌, IfErr};
 ghost use Rattle.bump_core.specs.Commands.{Commands};
-ghost use Rattle.bump_core.specs.Views.{state_of};
+ghost use Rattle.bump_state.specs.Views.{state_of};
 ghost use Rattle.bump_rules.specs.declared.commands.Command.TheVariants as command;
+ghost use Rattle.bump_rules.specs.declared.events.Refused.TheVariants.{NotEnabled};
 
-use crate::parts::Parts;
 use bump_rules::{Answer, Refused};
+use bump_state::Parts;
 
-impl Parts {
-    /// Closes a worker's ring.
-    pub fn call_close(&mut self, worker: u32) -> Result<Answer, Refused>
-        ensures { Commands (state_of self.old) (command.Close worker) (state_of self.new) result }
-    {
-        self.close(worker)?;
-        Ok(Answer::Done)
-    }
+/// Closes a worker's ring.
+pub fn call_close(parts: &mut Parts, worker: u32) -> Result<Answer, Refused>
+    ensures command { Commands (state_of parts.old) (command.Close worker) (state_of parts.new) result }
+    ensures memory { IfErr result (λ r. r ≡ NotEnabled) }
+{
+    parts.close(worker)?;
+    Ok(Answer::Done)
 }

@@ -1,9 +1,9 @@
 //! What the World tells of itself.
 ghost use Rattle.std.specs.Prelude.{◌≡◌, ◌<◌, All, length};
 ghost use Rattle.bump_links.specs.Lists.{last_of};
-ghost use Rattle.bump_core.specs.State.{head};
+ghost use Rattle.bump_state.specs.State.{head};
 ghost use Rattle.bump_core.specs.Headline.{Headline};
-ghost use Rattle.bump_core.specs.Worlds.{IsLawful};
+ghost use Rattle.bump_state.specs.Worlds.{IsLawful};
 ghost use Rattle.bump_core.specs.Readers.{list_of, history_of, time_of, label_of, holds_at, accounts_of, sent_of, received_of, applied_of};
 
 use crate::worlds::World;
@@ -63,7 +63,7 @@ impl World {
         requires { class < length self.now.classes }
         ensures { result ≡ length (list_of self.now class place) }
     {
-        self.parts.list_len(class, place)
+        self.parts.classes[class as usize].lists.len(place)
     }
 
     /// What happened to the lists of a class, in order: they are its replay. The class is one of the configuration's. The World
@@ -72,7 +72,7 @@ impl World {
         requires { class < length self.now.classes }
         ensures { result.now ≡ history_of self.now class }
     {
-        self.parts.history(class)
+        self.parts.classes[class as usize].history.as_slice()
     }
 
     /// A chunk's head. The chunk is one of the configuration's.

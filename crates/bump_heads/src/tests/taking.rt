@@ -1,7 +1,6 @@
 //! Chunks that had no life yet: what is seen of them, and that no item is taken.
 ghost use Rattle.std.specs.Prelude.{◌≡◌, ◌<◌, None, IfSome, [], ◌∷◌};
 ghost use Rattle.bump_heads.specs.Rule.{chunks as all_chunks};
-ghost use Rattle.bump_heads.specs.Words.{words_id};
 
 use super::*;
 use bump_rules::{ClassConfig, Config, Head, ItemId, Segment};
@@ -32,8 +31,8 @@ fn refusal<N: Name>(
 }
 
 fn told_in<N: Name>(alloc: Global, blank: Blank, config: &Config) -> Option<Told>
-    requires name { words_id blank.words ≡ N.table }
-    requires config { blank.words.table.shared.key ≡ config.now }
+    requires name { blank.table ≡ N.table }
+    requires config { blank.config ≡ config.now }
     requires numbers { (config.now.workers ≡ 1) × (all_chunks config.now ≡ 2) }
 {
     let HeadParts {

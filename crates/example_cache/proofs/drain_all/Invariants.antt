@@ -1,4 +1,4 @@
-use Rattle.bump_core.specs.State.{SameSizes}
+use Rattle.bump_state.specs.State.{SameSizes}
 use Rattle.example_cache.proofs.drain_all.Given as goal
 
 -- The World keeps its sizes, so each worker that there was is there still.

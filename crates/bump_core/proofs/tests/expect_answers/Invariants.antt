@@ -1,4 +1,4 @@
-use Rattle.bump_core.specs.State.{SameSizes}
+use Rattle.bump_state.specs.State.{SameSizes}
 use Rattle.bump_core.proofs.tests.expect_answers.Given as goal
 
 -- the World keeps its sizes

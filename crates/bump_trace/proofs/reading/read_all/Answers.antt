@@ -1,6 +1,6 @@
 use Rattle.std.proofs.Common.{◌≡◌, ◌+◌, not, false, sym, refl, ap, ◌∙◌, ◌++◌, ◌≤◌, take, length, length-append, length-take, arith}
 use Rattle.std.specs.IoError.{error_kind}
-use Rattle.bump_trace.specs.Counted.{is_interrupted, count_if}
+use Rattle.trace_lines.specs.Counted.{is_interrupted, count_if}
 use Rattle.bump_trace.proofs.KnownBytes.{consumes_more, consumes_kept}
 use Rattle.bump_trace.proofs.reading.read_all.Goals as goal
 use Rattle.bump_trace.proofs.reading.read_all.Goals.{in-Ok+else-n-len+in_ok-extend_from_slice-in-Ok, in-Err+else-not-is_interruption}

@@ -1,8 +1,8 @@
 use Rattle.std.proofs.Common.{subst, ap, ◌∙◌}
 use Rattle.bump_rules.specs.Lists.{list_at}
-use Rattle.bump_core.specs.State.{class}
-use Rattle.bump_core.specs.Worlds.{IsLawful}
-use Rattle.bump_core.proofs.worlds.Fronts.{listed_in_range}
+use Rattle.bump_state.specs.State.{class}
+use Rattle.bump_state.specs.Worlds.{IsLawful}
+use Rattle.bump_state.proofs.Fronts.{listed_in_range}
 use Rattle.bump_core.proofs.worlds.World.list.Goals as goal
 
 pub returns-clause-in_range : goal.returns-clause-in_range

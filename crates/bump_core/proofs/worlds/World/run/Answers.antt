@@ -3,7 +3,7 @@ use Rattle.std.proofs.lemmas.List.{take_all}
 use Rattle.bump_rules.specs.declared.events.Event.{Event}
 use Rattle.bump_core.specs.Labels.{KeepsLabels}
 use Rattle.std.proofs.lemmas.Option.{slice_get-get_or}
-use Rattle.bump_core.specs.Worlds.{IsLawful}
+use Rattle.bump_state.specs.Worlds.{IsLawful}
 use Rattle.bump_core.proofs.worlds.Headline.{headline}
 use Rattle.bump_core.proofs.worlds.Labels.{keeps_labels}
 use Rattle.bump_core.proofs.worlds.ClosedRings.{closed_stay}

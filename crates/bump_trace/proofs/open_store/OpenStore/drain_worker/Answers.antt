@@ -1,7 +1,7 @@
 use Rattle.std.proofs.Common.{◌∙◌, ◌++◌, ap, sym, append_assoc, arith}
 use Rattle.std.proofs.lemmas.Bool.{lt-ltb}
 use Rattle.bump_trace.specs.declared.open_store.OpenStore.{OpenStore}
-use Rattle.bump_trace.specs.Text.{bump_line}
+use Rattle.trace_lines.specs.Text.{bump_line}
 use Rattle.bump_trace.proofs.SameButWorld.{same_rest, same_world}
 use Rattle.bump_trace.proofs.Draining.{bump_more, bumps_over}
 use Rattle.bump_trace.proofs.CommandsAtRest.{next_allowed}

@@ -1,4 +1,4 @@
-use Rattle.bump_trace.specs.Text.{class_lines}
+use Rattle.bump_trace.specs.Shows.{class_lines}
 use Rattle.bump_trace.proofs.AscendingLoops.{printed_more}
 use Rattle.bump_trace.proofs.open_store.OpenStore.put_classes.Goals as goal
 

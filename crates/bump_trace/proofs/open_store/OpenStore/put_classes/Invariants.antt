@@ -1,7 +1,7 @@
 use Rattle.std.proofs.Common.{◌≡◌, ◌-◌, ◌++◌}
 use Rattle.std.specs.List.{flat_map}
 use Rattle.bump_rules.specs.Lists.{ascending}
-use Rattle.bump_trace.specs.Text.{class_lines}
+use Rattle.bump_trace.specs.Shows.{class_lines}
 use Rattle.bump_trace.proofs.open_store.OpenStore.put_classes.Given as goal
 
 -- the text so far, and that of the others

@@ -1,6 +1,6 @@
 use Rattle.std.proofs.Common.{◌≡◌, ◌<◌, ◌++◌, length, arith}
 use Rattle.std.proofs.lemmas.Grind.{common_steps}
-use Rattle.bump_trace.specs.Text.{list_entry}
+use Rattle.bump_trace.specs.Shows.{list_entry}
 use Rattle.bump_trace.proofs.AscendingLoops.{printed_next, all_rest}
 use Rattle.bump_trace.proofs.open_store.OpenStore.put_entries.Goals as goal
 

@@ -1,7 +1,7 @@
 use Rattle.std.proofs.Common.{◌≡◌, ◌<◌, ◌++◌, All, length}
 use Rattle.std.specs.List.{flat_map}
 use Rattle.bump_core.specs.Readers.{list_of}
-use Rattle.bump_trace.specs.Text.{list_entry}
+use Rattle.bump_trace.specs.Shows.{list_entry}
 use Rattle.bump_trace.proofs.open_store.OpenStore.put_entries.Given as goal
 
 -- the text so far, and that of the chunks to come, which are in range

@@ -1,4 +1,4 @@
-use Rattle.bump_trace.specs.Text.{worker_line}
+use Rattle.bump_trace.specs.Shows.{worker_line}
 use Rattle.bump_trace.proofs.AscendingLoops.{printed_more}
 use Rattle.bump_trace.proofs.open_store.OpenStore.put_workers.Goals as goal
 

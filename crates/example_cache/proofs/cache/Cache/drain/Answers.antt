@@ -6,7 +6,7 @@ use Rattle.bump_core.specs.Commands.{answer_of}
 use Rattle.bump_core.specs.Headline.{Headline}
 use Rattle.bump_core.specs.Readers.{sent_of, applied_of}
 use Rattle.bump_rules.specs.Rings.{bump_applied, numbered_from}
-use Rattle.bump_core.specs.State.{State}
+use Rattle.bump_state.specs.State.{State}
 use Rattle.example_cache.specs.Refusals.{command_refused}
 use Rattle.example_cache.specs.declared.cache.Cache.{Cache}
 use Rattle.example_cache.proofs.Draining.{step, all_applied, none_changed, bumped_next}

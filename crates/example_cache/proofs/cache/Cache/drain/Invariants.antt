@@ -1,6 +1,6 @@
 use Rattle.std.proofs.Common.{◌≡◌, ◌-◌, ◌≤◌, length}
 use Rattle.bump_core.specs.Readers.{sent_of, applied_of}
-use Rattle.bump_core.specs.State.{SameSizes}
+use Rattle.bump_state.specs.State.{SameSizes}
 use Rattle.example_cache.specs.Cache.{bumped}
 use Rattle.example_cache.proofs.cache.Cache.drain.Given as goal
 

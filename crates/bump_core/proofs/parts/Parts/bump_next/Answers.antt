@@ -1,6 +1,0 @@
-use Rattle.bump_core.specs.Views.{state_of}
-use Rattle.bump_core.proofs.parts.LookUps.{some_next_in_range}
-use Rattle.bump_core.proofs.parts.Parts.bump_next.Goals as goal
-
-pub returns-clause-chunk : goal.returns-clause-chunk
-returns-clause-chunk c = some_next_in_range (state_of c.args.self.now) c.requires.lawful c.args.w c.requires.worker c.bump_of.result c.bump_of.ensures

@@ -1,6 +1,0 @@
-use Rattle.bump_core.specs.Views.{state_of}
-use Rattle.bump_core.proofs.worlds.Fronts.{some_next}
-use Rattle.bump_core.proofs.parts.Parts.next_chunk.Goals as goal
-
-pub returns-clause-free : goal.returns-clause-free
-returns-clause-free c = some_next (state_of c.args.self.now) c.requires.lawful c.args.k c.unused_front.result c.requires.class c.unused_front.ensures

@@ -1,7 +1,0 @@
-use Rattle.std.proofs.Common.{sym}
-use Rattle.bump_core.specs.Views.{state_of}
-use Rattle.bump_core.proofs.worlds.Fronts.{listed_at}
-use Rattle.bump_core.proofs.parts.Parts.pull.Goals as goal
-
-pub pull_to-requires-clause-listed : goal.pull_to-requires-clause-listed
-pull_to-requires-clause-listed c = listed_at (state_of c.args.self.now) c.requires.lawful c.args.last c.args.k c.requires.chunk (sym c.requires.owner)

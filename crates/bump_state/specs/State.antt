@@ -1,0 +1,165 @@
+-- The state of a World: what is kept of each chunk, class and worker.
+use Rattle.std.specs.Prelude.{◌≡◌, ℕ, suc, Bool, true, false, ◌==◌, ◌&&◌, nat_lt, List, [], ◌∷◌, ◌++◌, length, slice_index_or, slice_set, Option, None, Some, if◌then◌else◌}
+use Rattle.std.specs.List.{list_any}
+use Rattle.bump_rules.specs.declared.items.ItemId.{ItemId}
+use Rattle.bump_rules.specs.declared.items.Head.{Head}
+use Rattle.bump_rules.specs.declared.bumps.Accounts.{Accounts}
+use Rattle.bump_state.specs.declared.chunks.Chunk.{Chunk}
+use Rattle.bump_rules.specs.declared.history.Change.{Change}
+use Rattle.bump_rules.specs.declared.bumps.AppliedBump.{AppliedBump}
+use Rattle.bump_rules.specs.declared.lanes.Lane.{Lane}
+use Rattle.bump_rules.specs.declared.lanes.Lane.TheVariants as lane
+use Rattle.bump_rules.specs.declared.hands.Hand.{Hand}
+use Rattle.bump_rules.specs.declared.hands.Hand.TheVariants as hand
+use Rattle.bump_rules.specs.Heads.{fresh_head}
+use Rattle.bump_rules.specs.History.{subject, target, replay}
+use Rattle.bump_rules.specs.Lists.{Lists, to_front}
+use Rattle.bump_rules.specs.Totals.{total}
+use Rattle.bump_rules.specs.Hands.{is_on}
+use Rattle.bump_rules.specs.Lanes.{applied_life}
+
+-- a class: its chunks from first on and below end, the generation with which each is fresh, the limits of HOT and WARM, its
+-- lists and its history
+pub record ClassState : Type 0 where
+  pub first : ℕ
+  pub end : ℕ
+  pub fresh : ℕ
+  pub hot_limit : ℕ
+  pub warm_limit : ℕ
+  pub lists : Lists
+  pub history : List Change
+
+-- a worker with its ring (what was sent and what of it was received) and its lane (how far it is, and what it applied)
+pub record WorkerState : Type 0 where
+  pub hand : Hand
+  pub is_open : Bool
+  pub accounts : Accounts
+  pub first_hits : List ItemId
+  pub sent : List ItemId
+  pub received : List ItemId
+  pub lane : Lane
+  pub applied : List AppliedBump
+
+-- the limit of a reference count, the capacity of a ring, and all chunks, classes and workers by number
+pub record State : Type 0 where
+  pub refs_limit : ℕ
+  pub capacity : ℕ
+  pub chunks : List Chunk
+  pub classes : List ClassState
+  pub workers : List WorkerState
+
+-- The parts by number. Past the end they stand for nothing that exists.
+abbrev pub no_chunk : Chunk
+no_chunk = record { head = fresh_head 0; time = 0; label = 0; holds = 0 }
+
+abbrev pub no_class : ClassState
+no_class = record { first = 0; end = 0; fresh = 0; hot_limit = 0; warm_limit = 0; lists = record { hot = []; warm = []; cold = []; dying = []; unused = []; retired = [] }; history = [] }
+
+abbrev pub no_accounts : Accounts
+no_accounts = record { attempted = 0; accepted = 0; full = 0; busy = 0; refs = 0 }
+
+-- a worker at the start
+abbrev pub new_worker : WorkerState
+new_worker = record { hand = hand.Idle; is_open = true; accounts = no_accounts; first_hits = []; sent = []; received = []; lane = lane.Empty; applied = [] }
+
+abbrev pub chunk : State → ℕ → Chunk
+chunk s c = slice_index_or s.chunks c no_chunk
+
+abbrev pub head : State → ℕ → Head
+head s c = (chunk s c).head
+
+-- the head of each of these chunks, by number
+abbrev pub heads_of : List Chunk → ℕ → Head
+heads_of cs c = (slice_index_or cs c no_chunk).head
+
+abbrev pub class : State → ℕ → ClassState
+class s k = slice_index_or s.classes k no_class
+
+abbrev pub worker : State → ℕ → WorkerState
+worker s w = slice_index_or s.workers w new_worker
+
+-- whether there is a chunk, class or worker of this number
+abbrev pub is_chunk : State → ℕ → Bool
+is_chunk s c = nat_lt c (length s.chunks)
+
+abbrev pub is_class : State → ℕ → Bool
+is_class s k = nat_lt k (length s.classes)
+
+abbrev pub is_worker : State → ℕ → Bool
+is_worker s w = nat_lt w (length s.workers)
+
+-- the state with another chunk, head, class or worker at a number
+abbrev pub with_chunk : State → ℕ → Chunk → State
+with_chunk s c x = record s { chunks = slice_set s.chunks c x }
+
+abbrev pub with_head : State → ℕ → Head → State
+with_head s c h = with_chunk s c (record (chunk s c) { head = h })
+
+abbrev pub with_class : State → ℕ → ClassState → State
+with_class s k x = record s { classes = slice_set s.classes k x }
+
+abbrev pub with_worker : State → ℕ → WorkerState → State
+with_worker s w x = record s { workers = slice_set s.workers w x }
+
+-- the number of the class of a chunk: the first class that ends behind it
+abbrev pub class_from : List ClassState → ℕ → ℕ
+class_from [] c = 0
+class_from (k ∷ ks) c = if nat_lt c k.end then 0 else suc (class_from ks c)
+
+abbrev pub class_of : State → ℕ → ℕ
+class_of s c = class_from s.classes c
+
+-- an entry joins the history of its chunk's class, and the chunk comes to the front of the entry's list
+abbrev pub class_with_change : ClassState → Change → ClassState
+class_with_change k e = record k { lists = to_front (subject e).chunk (target e) k.lists; history = k.history ++ e ∷ [] }
+
+abbrev pub with_change : State → ℕ → Change → State
+with_change s k e = with_class s k (class_with_change (class s k) e)
+
+-- entries join the history of a class, and its lists are their replay
+abbrev pub class_with_changes : ClassState → List Change → ClassState
+class_with_changes k es = record k { lists = replay k.lists es; history = k.history ++ es }
+
+abbrev pub with_changes : State → ℕ → List Change → State
+with_changes s k es = with_class s k (class_with_changes (class s k) es)
+
+-- the life is its chunk's
+abbrev pub is_current : State → ItemId → Bool
+is_current s l = is_chunk s l.chunk && ((head s l.chunk).generation == l.generation)
+
+-- the life is its chunk's and is linked
+abbrev pub is_linked : State → ItemId → Bool
+is_linked s l = is_current s l && (head s l.chunk).linked
+
+-- the life is its chunk's and has a hold
+abbrev pub is_held : State → ItemId → Bool
+is_held s l = is_current s l && nat_lt 0 (chunk s l.chunk).holds
+
+-- how many workers that aren't Idle are on the life
+abbrev pub workers_on : State → ItemId → ℕ
+workers_on s l = total (λ w. is_on l w.hand) s.workers
+
+-- the life has more holds than workers that aren't Idle on it
+abbrev pub has_free_hold : State → ItemId → Bool
+has_free_hold s l = is_current s l && nat_lt (workers_on s l) (chunk s l.chunk).holds
+
+-- the worker's ring still takes bumps
+abbrev pub is_open : State → ℕ → Bool
+is_open s w = is_worker s w && (worker s w).is_open
+
+-- there is a value, and it passes the test
+abbrev pub some_and : {A : Type 0} → (A → Bool) → Option A → Bool
+some_and test None = false
+some_and test (Some x) = test x
+
+-- the lane applies a bump of this class
+abbrev pub applies_in : State → ℕ → Lane → Bool
+applies_in s k x = some_and (λ l. class_of s l.chunk == k) (applied_life x)
+
+-- a class is under application while a lane applies a bump of it
+abbrev pub is_under_application : State → ℕ → Bool
+is_under_application s k = list_any (λ w. applies_in s k w.lane) s.workers
+
+-- There are as many chunks, classes and workers as before.
+abbrev pub SameSizes : State → State → Type 0
+SameSizes old new = (length new.chunks ≡ length old.chunks) × (length new.classes ≡ length old.classes) × (length new.workers ≡ length old.workers)

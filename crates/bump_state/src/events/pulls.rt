@@ -1,0 +1,68 @@
+//! Events of pulls: ACTIVE is cleared, and items move to the front of a segment.
+ghost use Rattle.std.specs.Prelude.{◌≡◌, IfOk, OnOk, OnErr};
+ghost use Rattle.bump_rules.specs.Tables.{may_move};
+ghost use Rattle.bump_state.specs.Events.{IsEnabledBy, is_enabled, after, reply_of};
+ghost use Rattle.bump_state.specs.Views.{state_of};
+ghost use Rattle.bump_state.specs.Worlds.{IsLawful};
+ghost use Rattle.bump_rules.specs.declared.events.Event.TheVariants as event;
+
+use crate::parts::Parts;
+use bump_rules::{Cause, Change, Head, ItemId, Refused, Reply, Segment};
+
+impl Parts {
+    /// A pull clears ACTIVE; answers the head that it found. Refused where there is no such chunk, it isn't linked, or a lane applies a bump
+    /// of its class.
+    pub fn clear_active(&mut self, chunk: u32) -> Result<Reply, Refused>
+        ensures enabled { IsEnabledBy (is_enabled (state_of self.old) (event.ClearActive chunk)) result }
+        ensures state { OnOk result (state_of self.new ≡ after (state_of self.old) (event.ClearActive chunk)) }
+        ensures reply { IfOk result (λ r. r ≡ reply_of (state_of self.old) (event.ClearActive chunk)) }
+        ensures unchanged { OnErr result (state_of self.new ≡ state_of self.old) }
+    {
+        if !self.has_chunk(chunk) {
+            return Err(Refused::NotEnabled);
+        }
+        let head = self.head(chunk);
+        if !head.linked || self.is_under_application(self.class_of(chunk)) {
+            return Err(Refused::NotEnabled);
+        }
+        self.set_head(
+            chunk,
+            Head {
+                active: false,
+                ..head
+            },
+        );
+        Ok(Reply::Word(head))
+    }
+
+    /// A pull moves an item to the front of a segment. Refused as clearing ACTIVE is, and where no pull moves from its segment to that.
+    pub fn move_chunk(&mut self, chunk: u32, to: Segment) -> Result<Reply, Refused>
+        requires { IsLawful (state_of self.old) }
+        ensures enabled { IsEnabledBy (is_enabled (state_of self.old) (event.Move chunk to)) result }
+        ensures state { OnOk result (state_of self.new ≡ after (state_of self.old) (event.Move chunk to)) }
+        ensures reply { IfOk result (λ r. r ≡ reply_of (state_of self.old) (event.Move chunk to)) }
+        ensures unchanged { OnErr result (state_of self.new ≡ state_of self.old) }
+    {
+        if !self.has_chunk(chunk) {
+            return Err(Refused::NotEnabled);
+        }
+        let head = self.head(chunk);
+        let class = self.class_of(chunk);
+        if !head.linked || !head.segment.may_move(to) || self.is_under_application(class) {
+            return Err(Refused::NotEnabled);
+        }
+        let life = ItemId {
+            chunk,
+            generation: head.generation,
+        };
+        self.change_class(class, Change::Moved(life, head.segment, to, Cause::Pull))?;
+        self.set_head(
+            chunk,
+            Head {
+                segment: to,
+                ..head
+            },
+        );
+        Ok(Reply::Done)
+    }
+}

@@ -1,0 +1,172 @@
+//! How workers are changed. What changes a hand or a lane counts anew.
+ghost use Rattle.std.specs.Prelude.{◌≡◌, ◌<◌, ◌+◌, ◌≤◌, ◌^◌, [], ◌∷◌, ◌++◌, OnOk, OnErr, Some, false, length, slice_set};
+ghost use Rattle.bump_rules.specs.Lanes.{bump_of};
+ghost use Rattle.bump_state.specs.Events.{next_bump};
+ghost use Rattle.bump_rules.specs.Lawful.{bit};
+ghost use Rattle.bump_state.specs.Workers.{seen, seen_at, HasRoom};
+ghost use Rattle.bump_rules.specs.declared.lanes.Lane.TheVariants as lane;
+
+use crate::workers::Workers;
+use bump_rules::{Accounts, AppliedBump, Bump, Hand, ItemId, Lane};
+use std::alloc::AllocError;
+
+/// How many are under way, where one of them was under way or not, and now is or isn't.
+fn recounted(count: u32, was: bool, is: bool) -> u32
+    requires counted { bit was ≤ count }
+    requires few { count + bit is < 2 ^ 32 + bit was }
+    ensures { result + bit was ≡ count + bit is }
+{
+    count - was as u32 + is as u32
+}
+
+impl Workers {
+    /// Writes how far a worker is with an attempt, and its counts.
+    pub(crate) fn set_hand(&mut self, w: u32, hand: Hand, accounts: Accounts)
+        requires { w < length self.old }
+        ensures { seen self.new ≡ slice_set (seen self.old) w (record (seen_at self.old w) { hand = hand; accounts = accounts }) }
+    {
+        let worker = &mut self.all[w as usize];
+        let was = worker.hand;
+        worker.hand = hand;
+        worker.accounts = accounts;
+        self.busy = recounted(self.busy, !was.is_idle(), !hand.is_idle());
+    }
+
+    /// A worker's ring closes.
+    pub(crate) fn close(&mut self, w: u32)
+        requires { w < length self.old }
+        ensures { seen self.new ≡ slice_set (seen self.old) w (record (seen_at self.old w) { is_open = false }) }
+    {
+        let worker = &mut self.all[w as usize];
+        worker.is_open = false;
+    }
+
+    /// Writes how far a lane is.
+    pub(crate) fn set_lane(&mut self, w: u32, lane: Lane)
+        requires { w < length self.old }
+        ensures { seen self.new ≡ slice_set (seen self.old) w (record (seen_at self.old w) { lane = lane }) }
+    {
+        let worker = &mut self.all[w as usize];
+        let was = worker.lane;
+        worker.lane = lane;
+        self.applying = recounted(self.applying, was.is_applying(), lane.is_applying());
+    }
+
+    /// Names an item among those that a worker was the first to hit.
+    pub(crate) fn push_first_hit(&mut self, w: u32, life: ItemId) -> Result<(), AllocError>
+        requires { w < length self.old }
+        ensures ok { OnOk result (seen self.new ≡ slice_set (seen self.old) w (record (seen_at self.old w) { first_hits = (seen_at self.old w).first_hits ++ life ∷ [] })) }
+        ensures err { OnErr result (seen self.new ≡ seen self.old) }
+    {
+        let worker = &mut self.all[w as usize];
+        worker.first_hits.push(life)?;
+        Ok(())
+    }
+
+    /// A worker's ring takes a bump, and its hand and its counts are written.
+    pub(crate) fn queue(
+        &mut self,
+        w: u32,
+        life: ItemId,
+        hand: Hand,
+        accounts: Accounts,
+    ) -> Result<(), AllocError>
+        requires { w < length self.old }
+        ensures ok { OnOk result (seen self.new ≡ slice_set (seen self.old) w (record (seen_at self.old w) {
+          hand = hand;
+          accounts = accounts;
+          sent = (seen_at self.old w).sent ++ life ∷ [];
+        })) }
+        ensures err { OnErr result (seen self.new ≡ seen self.old) }
+    {
+        let worker = &mut self.all[w as usize];
+        let was_busy = !worker.hand.is_idle();
+        worker.sent.push(life)?;
+        worker.hand = hand;
+        worker.accounts = accounts;
+        self.busy = recounted(self.busy, was_busy, !hand.is_idle());
+        Ok(())
+    }
+
+    /// A lane takes the next bump from its ring, where one waits. Answers its number.
+    pub(crate) fn take_next(&mut self, w: u32, life: ItemId) -> u64
+        requires worker { w < length self.old }
+        requires next { next_bump (seen_at self.old w) ≡ Some life }
+        ensures after { seen self.new ≡ slice_set (seen self.old) w (record (seen_at self.old w) {
+          received = (seen_at self.old w).received ++ life ∷ [];
+          lane = lane.Carrying (bump_of (length (seen_at self.old w).received) life);
+        }) }
+        ensures number { result ≡ length (seen_at self.old w).received }
+    {
+        let worker = &mut self.all[w as usize];
+        let was = worker.lane;
+        let number = worker.received as u64;
+        worker.received += 1;
+        worker.lane = Lane::Carrying(Bump { number, life });
+        self.applying = recounted(self.applying, was.is_applying(), false);
+        number
+    }
+
+    /// A lane is done with its bump.
+    pub(crate) fn push_applied(&mut self, w: u32, applied: AppliedBump) -> Result<(), AllocError>
+        requires { w < length self.old }
+        ensures ok { OnOk result (seen self.new ≡ slice_set (seen self.old) w (record (seen_at self.old w) {
+          lane = lane.Empty;
+          applied = (seen_at self.old w).applied ++ applied ∷ [];
+        })) }
+        ensures err { OnErr result (seen self.new ≡ seen self.old) }
+    {
+        let worker = &mut self.all[w as usize];
+        let was = worker.lane;
+        worker.applied.push(applied)?;
+        worker.lane = Lane::Empty;
+        self.applying = recounted(self.applying, was.is_applying(), false);
+        Ok(())
+    }
+
+    /// Makes room for one more applied bump.
+    pub(crate) fn reserve_applied(&mut self, w: u32) -> Result<(), AllocError>
+        requires { w < length self.old }
+        ensures workers { seen self.new ≡ seen self.old }
+        ensures room { OnOk result (HasRoom self.new w) }
+    {
+        let worker = &mut self.all[w as usize];
+        worker.applied.reserve(1)?;
+        Ok(())
+    }
+
+    /// A lane is done with a bump that it took just now.
+    pub(crate) fn finish_taken(&mut self, w: u32, applied: AppliedBump)
+        requires worker { w < length self.old }
+        requires room { HasRoom self.old w }
+        requires next { next_bump (seen_at self.old w) ≡ Some applied.life }
+        ensures { seen self.new ≡ slice_set (seen self.old) w (record (seen_at self.old w) {
+          received = (seen_at self.old w).received ++ applied.life ∷ [];
+          lane = lane.Empty;
+          applied = (seen_at self.old w).applied ++ applied ∷ [];
+        }) }
+    {
+        let worker = &mut self.all[w as usize];
+        let was = worker.lane;
+        worker.received += 1;
+        worker.lane = Lane::Empty;
+        worker.applied.push_reserved(applied);
+        self.applying = recounted(self.applying, was.is_applying(), false);
+    }
+
+    /// A lane is done with the bump aboard.
+    pub(crate) fn finish_aboard(&mut self, w: u32, applied: AppliedBump)
+        requires worker { w < length self.old }
+        requires room { HasRoom self.old w }
+        ensures { seen self.new ≡ slice_set (seen self.old) w (record (seen_at self.old w) {
+          lane = lane.Empty;
+          applied = (seen_at self.old w).applied ++ applied ∷ [];
+        }) }
+    {
+        let worker = &mut self.all[w as usize];
+        let was = worker.lane;
+        worker.lane = Lane::Empty;
+        worker.applied.push_reserved(applied);
+        self.applying = recounted(self.applying, was.is_applying(), false);
+    }
+}

@@ -1,0 +1,114 @@
+//! What is printed of an open store: its lists, its accounts, and a worker that closes.
+
+ghost use Rattle.std.specs.Prelude.{◌≡◌, ◌<◌, [], ◌++◌, OnOk, length};
+ghost use Rattle.std.specs.List.{flat_map};
+ghost use Rattle.bump_core.specs.Readers.{list_of};
+ghost use Rattle.bump_rules.specs.Lists.{ascending};
+ghost use Rattle.bump_trace.specs.OpenStore.{show_said};
+ghost use Rattle.bump_trace.specs.Shows.{list_entry, list_line, class_lines, worker_line, close_line};
+ghost use Rattle.bump_trace.specs.Stages.{Open};
+
+use super::OpenStore;
+use bump_core::Place;
+use std::alloc::AllocError;
+use trace_lines::{LineError, put_chunk, put_close, put_list_start, put_worker};
+
+impl<'a> OpenStore<'a> {
+    ghost use Rattle.bump_trace.specs.Ready.{IsReady};
+    ghost use Rattle.bump_trace.specs.Views.{store_of, Does};
+
+    /// The last line of a worker that is closed.
+    #[tactic(auto, unfolding(crate::specs::Shows::close_line))]
+    pub(super) fn put_settled(&self, out: &mut Vec<u8>, worker: u32) -> Result<(), AllocError>
+        requires { worker < length self.now.world.workers }
+        ensures { OnOk result (out.new.items ≡ out.old.items ++ close_line self.now.world worker) }
+    {
+        let applied = self.world.applied(worker).len() as u64;
+        put_close(out, worker, self.world.accounts(worker), applied)
+    }
+
+    /// What is told of all chunks of a list.
+    fn put_entries(&self, out: &mut Vec<u8>, class: u32, place: Place) -> Result<(), AllocError>
+        requires { class < length self.now.world.classes }
+        ensures { OnOk result (out.new.items ≡ out.old.items ++ flat_map (list_entry self.now.world place) (list_of self.now.world class place)) }
+    {
+        for chunk in self.world.list(class, place) {
+            out.extend_from_slice(b" ")?;
+            put_chunk(
+                out,
+                place,
+                chunk,
+                self.world.head(chunk),
+                self.world.time(chunk),
+            )?;
+        }
+        Ok(())
+    }
+
+    /// The line of a list.
+    #[tactic(auto, unfolding(crate::specs::Shows::list_line))]
+    fn put_list(&self, out: &mut Vec<u8>, class: u32, place: Place) -> Result<(), AllocError>
+        requires { class < length self.now.world.classes }
+        ensures { OnOk result (out.new.items ≡ out.old.items ++ list_line self.now.world class place) }
+    {
+        put_list_start(out, class, place, self.world.list_len(class, place))?;
+        self.put_entries(out, class, place)?;
+        out.extend_from_slice(b"\n")
+    }
+
+    /// The lines of a class's lists.
+    fn put_class(&self, out: &mut Vec<u8>, class: u32) -> Result<(), AllocError>
+        requires { class < length self.now.world.classes }
+        ensures { OnOk result (out.new.items ≡ out.old.items ++ class_lines self.now.world class) }
+    {
+        self.put_list(out, class, Place::Hot)?;
+        self.put_list(out, class, Place::Warm)?;
+        self.put_list(out, class, Place::Cold)?;
+        self.put_list(out, class, Place::Dying)?;
+        self.put_list(out, class, Place::Unused)?;
+        self.put_list(out, class, Place::Retired)?;
+        Ok(())
+    }
+
+    fn put_classes(&self, out: &mut Vec<u8>) -> Result<(), AllocError>
+        requires { IsReady self.now }
+        ensures { OnOk result (out.new.items ≡ out.old.items ++ flat_map (class_lines self.now.world) (ascending 0 self.now.classes)) }
+    {
+        for class in 0..self.classes {
+            self.put_class(out, class)?;
+        }
+        Ok(())
+    }
+
+    /// The line of a worker.
+    #[tactic(auto, unfolding(crate::specs::Shows::worker_line))]
+    fn put_accounts(&self, out: &mut Vec<u8>, worker: u32) -> Result<(), AllocError>
+        requires { worker < length self.now.world.workers }
+        ensures { OnOk result (out.new.items ≡ out.old.items ++ worker_line self.now.world worker) }
+    {
+        let applied = self.world.applied(worker).len() as u64;
+        put_worker(out, worker, self.world.accounts(worker), applied)
+    }
+
+    fn put_workers(&self, out: &mut Vec<u8>) -> Result<(), AllocError>
+        requires { IsReady self.now }
+        ensures { OnOk result (out.new.items ≡ out.old.items ++ flat_map (worker_line self.now.world) (ascending 0 self.now.workers)) }
+    {
+        for worker in 0..self.workers {
+            self.put_accounts(out, worker)?;
+        }
+        Ok(())
+    }
+
+    /// Prints all lists and accounts.
+    #[tactic(auto, unfolding(crate::specs::OpenStore::show_said))]
+    pub(super) fn show(&self, out: &mut Vec<u8>) -> Result<(), LineError>
+        requires ready { IsReady self.now }
+        requires empty { out.old.items ≡ [] }
+        ensures { Does (Open (store_of self.now)) out.new.items result (show_said (store_of self.now)) }
+    {
+        self.put_classes(out)?;
+        self.put_workers(out)?;
+        Ok(())
+    }
+}

@@ -1,0 +1,6 @@
+pub mod Faults
+pub mod Fields
+pub mod Lines
+pub mod Text
+pub mod Seen
+pub mod Counted

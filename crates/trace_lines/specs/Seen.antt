@@ -1,0 +1,34 @@
+-- The program's lines as the definitions see them, and what its functions return.
+use Rattle.std.specs.Prelude.{◌≡◌, Result, Ok, Err}
+use Rattle.trace_lines.specs.Lines as lines
+use Rattle.trace_lines.specs.declared.faults.Fault.{Fault}
+use Rattle.trace_lines.specs.declared.lines.Instruction.{Instruction}
+use Rattle.trace_lines.specs.declared.lines.Instruction.TheVariants as instruction
+use Rattle.trace_lines.specs.declared.lines.Line.{Line}
+use Rattle.trace_lines.specs.declared.lines.Line.TheVariants.{Declares, Makes}
+
+-- a command with its names as bytes
+abbrev pub seen_instruction : Instruction → lines.Instruction
+seen_instruction (instruction.Set name class label) = lines.Set name.now class label
+seen_instruction (instruction.Get worker name) = lines.Get worker name.now
+seen_instruction (instruction.Hold worker name hold) = lines.Hold worker name.now hold.now
+seen_instruction (instruction.Hit worker hold) = lines.Hit worker hold.now
+seen_instruction (instruction.Read hold) = lines.Read hold.now
+seen_instruction (instruction.Drop hold) = lines.Drop hold.now
+seen_instruction (instruction.Del name) = lines.Del name.now
+seen_instruction (instruction.Pull class tail) = lines.Pull class tail
+seen_instruction (instruction.Sweep class) = lines.Sweep class
+seen_instruction instruction.Drain = lines.Drain
+seen_instruction (instruction.Close worker) = lines.Close worker
+seen_instruction instruction.Show = lines.Show
+seen_instruction instruction.Par = lines.Par
+
+-- a line with its names as bytes
+abbrev pub seen_line : Line → lines.Line
+seen_line (Declares d) = lines.Declares d
+seen_line (Makes i) = lines.Makes (seen_instruction i)
+
+-- What a function returned, seen by view, is what reading gives.
+abbrev pub Gives : {X Y : Type 0} → (X → Y) → Result X Fault → Result Y Fault → Type 0
+Gives view (Ok x) read = read ≡ Ok (view x)
+Gives view (Err e) read = read ≡ Err e

@@ -1,0 +1,187 @@
+-- The printed text: ids, flags, the starts of list lines, accounts, answers, and the line of each command.
+use Rattle.std.specs.Prelude.{ℕ, List, [], ◌++◌, codes, decimal, Option, None, Some, if◌then◌else◌}
+use Rattle.bump_rules.specs.declared.bumps.Accounts.{Accounts}
+use Rattle.bump_rules.specs.declared.bumps.Applied.{Applied}
+use Rattle.bump_rules.specs.declared.bumps.Applied.TheVariants.{Moved, TimeOnly, Gone}
+use Rattle.bump_rules.specs.declared.bumps.Ended.TheVariants.{Freed, Deferred}
+use Rattle.bump_rules.specs.declared.bumps.Entry.{Entry}
+use Rattle.bump_rules.specs.declared.commands.Answer.{Answer}
+use Rattle.bump_rules.specs.declared.commands.Answer.TheVariants as answer
+use Rattle.bump_rules.specs.declared.commands.Dropped.TheVariants.{Full, Busy, RefsFull}
+use Rattle.bump_rules.specs.declared.commands.Pulled.{Pulled}
+use Rattle.bump_rules.specs.declared.commands.Pulled.TheVariants as pulled
+use Rattle.bump_rules.specs.declared.commands.Touch.{Touch}
+use Rattle.bump_rules.specs.declared.commands.Touch.TheVariants as touch
+use Rattle.bump_rules.specs.declared.items.Head.{Head}
+use Rattle.bump_rules.specs.declared.items.ItemId.{ItemId}
+use Rattle.bump_rules.specs.declared.places.Place.{Place}
+use Rattle.bump_rules.specs.declared.places.Place.TheVariants as place
+use Rattle.bump_rules.specs.declared.places.Tail.{Tail}
+use Rattle.bump_rules.specs.Lives.{life}
+use Rattle.trace_lines.specs.Faults.{fault_word}
+use Rattle.trace_lines.specs.Fields.{tail_word}
+use Rattle.trace_lines.specs.declared.faults.Fault.{Fault}
+
+-- CHUNK.GENERATION
+abbrev pub id_text : ItemId → List ℕ
+id_text id = decimal id.chunk ++ codes "." ++ decimal id.generation
+
+-- neither mark, FETCHED, or both
+abbrev pub flags_text : Head → List ℕ
+flags_text h = if h.fetched then (if h.active then codes "fa" else codes "f") else codes "-"
+
+-- ID:REFS:FLAGS:TIME
+abbrev pub item_text : ℕ → Head → ℕ → List ℕ
+item_text c h time = id_text (life c h.generation) ++ codes ":" ++ decimal h.refs ++ codes ":" ++ flags_text h ++ codes ":" ++ decimal time
+
+-- An item of HOT, WARM, COLD or DYING is told whole, a chunk of UNUSED or RETIRED by its number.
+abbrev pub chunk_text : Place → ℕ → Head → ℕ → List ℕ
+chunk_text place.Hot c h time = item_text c h time
+chunk_text place.Warm c h time = item_text c h time
+chunk_text place.Cold c h time = item_text c h time
+chunk_text place.Dying c h time = item_text c h time
+chunk_text place.Unused c h time = decimal c
+chunk_text place.Retired c h time = decimal c
+
+-- the word of a list
+abbrev pub place_word : Place → List ℕ
+place_word place.Hot = codes "hot"
+place_word place.Warm = codes "warm"
+place_word place.Cold = codes "cold"
+place_word place.Dying = codes "dying"
+place_word place.Unused = codes "unused"
+place_word place.Retired = codes "retired"
+
+-- class C PLACE LEN
+abbrev pub list_start : ℕ → Place → ℕ → List ℕ
+list_start k p length = codes "class " ++ decimal k ++ codes " " ++ place_word p ++ codes " " ++ decimal length
+
+-- attempted A accepted B full C busy D refs E applied F
+abbrev pub accounts_text : Accounts → ℕ → List ℕ
+accounts_text a applied =
+    codes "attempted " ++ decimal a.attempted ++ codes " accepted " ++ decimal a.accepted ++ codes " full " ++ decimal a.full
+    ++ codes " busy " ++ decimal a.busy ++ codes " refs " ++ decimal a.refs ++ codes " applied " ++ decimal applied
+
+-- worker W ACCOUNTS
+abbrev pub accounts_line : ℕ → Accounts → ℕ → List ℕ
+accounts_line w a applied = codes "worker " ++ decimal w ++ codes " " ++ accounts_text a applied ++ codes "\n"
+
+-- what a hit did
+abbrev pub touch_text : Touch → List ℕ
+touch_text touch.First = codes "first"
+touch_text touch.Already = codes "already"
+touch_text touch.Marked = codes "marked"
+touch_text (touch.Queued n) = codes "queued " ++ decimal n
+touch_text (touch.Dropped Full) = codes "dropped full"
+touch_text (touch.Dropped Busy) = codes "dropped busy"
+touch_text (touch.Dropped RefsFull) = codes "dropped refs"
+touch_text touch.Exhausted = codes "exhausted"
+
+-- what a pull did
+abbrev pub pulled_text : Pulled → List ℕ
+pulled_text pulled.Empty = codes "empty"
+pulled_text (pulled.Stay id) = codes "stay " ++ id_text id
+pulled_text (pulled.Warm id) = codes "warm " ++ id_text id
+pulled_text (pulled.Again id) = codes "again " ++ id_text id
+pulled_text (pulled.Cold id) = codes "cold " ++ id_text id
+pulled_text (pulled.Freed id) = codes "freed " ++ id_text id
+pulled_text (pulled.Deferred id) = codes "deferred " ++ id_text id
+
+-- what applying a bump did
+abbrev pub applied_text : Applied → List ℕ
+applied_text Moved = codes "warm"
+applied_text TimeOnly = codes "time"
+applied_text (Gone Freed) = codes "gone freed"
+applied_text (Gone Deferred) = codes "gone deferred"
+
+-- N ID, and what applying the bump did
+abbrev pub entry_text : Entry → List ℕ
+entry_text e = decimal e.number ++ codes " " ++ id_text e.life ++ codes " " ++ applied_text e.applied
+
+-- How each answer is told. A hold that was given back, a ring that was closed, and a bump that isn't there, are told by no words.
+abbrev pub answer_text : Answer → List ℕ
+answer_text (answer.Linked id) = id_text id
+answer_text answer.NoFreeChunk = codes "full"
+answer_text (answer.Ended Freed) = codes "freed"
+answer_text (answer.Ended Deferred) = codes "deferred"
+answer_text answer.NotLinked = codes "gone"
+answer_text (answer.Swept n) = decimal n
+answer_text (answer.Pulled p) = pulled_text p
+answer_text answer.Held = codes "held"
+answer_text answer.NoSuchChunk = codes "miss"
+answer_text answer.Stale = codes "miss"
+answer_text answer.RefsFull = codes "refs"
+answer_text (answer.Touched t) = touch_text t
+answer_text (answer.Label x) = decimal x
+answer_text answer.Done = []
+answer_text (answer.Bumped e) = entry_text e
+answer_text answer.Nothing = []
+
+-- how it is told what a worker's command answered, or that the worker is closed
+abbrev pub told : Option Answer → List ℕ
+told None = codes "closed"
+told (Some a) = answer_text a
+
+-- set NAME, and the answer
+abbrev pub set_line : List ℕ → Answer → List ℕ
+set_line name a = codes "set " ++ name ++ codes " " ++ answer_text a ++ codes "\n"
+
+-- get W NAME
+abbrev pub get_start : ℕ → List ℕ → List ℕ
+get_start w name = codes "get " ++ decimal w ++ codes " " ++ name ++ codes " "
+
+-- get W NAME, and the answer
+abbrev pub get_line : ℕ → List ℕ → Option Answer → List ℕ
+get_line w name a = get_start w name ++ told a ++ codes "\n"
+
+-- get W NAME LABEL HIT, of an item that was held
+abbrev pub get_held_line : ℕ → List ℕ → Answer → Answer → List ℕ
+get_held_line w name label hit = get_start w name ++ answer_text label ++ codes " " ++ answer_text hit ++ codes "\n"
+
+-- hold W NAME H, and the answer
+abbrev pub hold_line : ℕ → List ℕ → List ℕ → Option Answer → List ℕ
+hold_line w name hold a = codes "hold " ++ decimal w ++ codes " " ++ name ++ codes " " ++ hold ++ codes " " ++ told a ++ codes "\n"
+
+-- hit W H, and the answer
+abbrev pub hit_line : ℕ → List ℕ → Option Answer → List ℕ
+hit_line w hold a = codes "hit " ++ decimal w ++ codes " " ++ hold ++ codes " " ++ told a ++ codes "\n"
+
+-- read H, and the answer
+abbrev pub read_line : List ℕ → Answer → List ℕ
+read_line hold a = codes "read " ++ hold ++ codes " " ++ answer_text a ++ codes "\n"
+
+-- drop H
+abbrev pub drop_line : List ℕ → List ℕ
+drop_line hold = codes "drop " ++ hold ++ codes "\n"
+
+-- del NAME, and the answer
+abbrev pub del_line : List ℕ → Answer → List ℕ
+del_line name a = codes "del " ++ name ++ codes " " ++ answer_text a ++ codes "\n"
+
+-- pull CLASS SEGMENT, and the answer
+abbrev pub pull_line : ℕ → Tail → Answer → List ℕ
+pull_line k t a = codes "pull " ++ decimal k ++ codes " " ++ tail_word t ++ codes " " ++ answer_text a ++ codes "\n"
+
+-- sweep CLASS, and the answer
+abbrev pub sweep_line : ℕ → Answer → List ℕ
+sweep_line k a = codes "sweep " ++ decimal k ++ codes " " ++ answer_text a ++ codes "\n"
+
+-- bump W N ID, and what it did
+abbrev pub bump_line : ℕ → Entry → List ℕ
+bump_line w e = codes "bump " ++ decimal w ++ codes " " ++ entry_text e ++ codes "\n"
+
+-- drain N
+abbrev pub drain_line : ℕ → List ℕ
+drain_line n = codes "drain " ++ decimal n ++ codes "\n"
+
+-- close W
+abbrev pub close_start : ℕ → List ℕ
+close_start w = codes "close " ++ decimal w ++ codes " "
+
+-- close W, of a worker that was closed before
+abbrev pub closed_line : ℕ → List ℕ
+closed_line w = close_start w ++ told None ++ codes "\n"
+
+-- line N: WORD
+abbrev pub fault_line : ℕ → Fault → List ℕ
+fault_line n fault = codes "line " ++ decimal n ++ codes ": " ++ fault_word fault ++ codes "\n"

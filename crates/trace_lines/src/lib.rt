@@ -1,0 +1,18 @@
+//! The lines of a trace and of its text, and readers and writers whose calls are counted: what the trace language needs and
+//! what stands on no World.
+#![tactic(auto)]
+
+mod counted;
+mod faults;
+mod fields;
+mod lines;
+mod text;
+
+pub use counted::{Counted, is_interruption};
+pub use faults::{Fault, LineError};
+pub use lines::{Declaration, Instruction, Line, Shape, read, words};
+pub use text::{
+    put_bump, put_chunk, put_close, put_closed, put_del, put_drain, put_drop, put_fault, put_get,
+    put_get_held, put_hit, put_hold, put_list_start, put_pull, put_read, put_set, put_sweep,
+    put_worker,
+};

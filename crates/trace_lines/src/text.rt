@@ -1,0 +1,453 @@
+//! The printed text: one function for each kind of line and for what stands in it. Each puts its text behind what is
+//! there.
+
+ghost use Rattle.std.specs.Prelude.{◌≡◌, ◌++◌, OnOk, codes, decimal};
+ghost use Rattle.trace_lines.specs.Text.{id_text, flags_text, item_text, chunk_text, place_word, list_start, accounts_text, accounts_line, touch_text, pulled_text, applied_text, entry_text, answer_text, told, set_line, get_start, get_line, get_held_line, hold_line, hit_line, read_line, drop_line, del_line, pull_line, sweep_line, bump_line, drain_line, close_start, closed_line, fault_line};
+ghost use Rattle.trace_lines.specs.Fields.{tail_word};
+
+use crate::faults::Fault;
+use bump_rules::{
+    Accounts, Answer, Applied, Dropped, Ended, Entry, Head, ItemId, Place, Pulled, Tail, Touch,
+};
+use itoa::Buffer;
+use std::alloc::AllocError;
+
+fn put_number(out: &mut Vec<u8>, n: u64) -> Result<(), AllocError>
+    ensures { OnOk result (out.new.items ≡ out.old.items ++ decimal n) }
+{
+    let mut buffer = Buffer::new();
+    out.extend_from_slice(buffer.format(n).as_bytes())
+}
+
+fn put_id(out: &mut Vec<u8>, id: ItemId) -> Result<(), AllocError>
+    ensures { OnOk result (out.new.items ≡ out.old.items ++ id_text id) }
+{
+    put_number(out, u64::from(id.chunk))?;
+    out.extend_from_slice(b".")?;
+    put_number(out, u64::from(id.generation))
+}
+
+fn flags(head: Head) -> &'static str
+    ensures { result.now ≡ flags_text head }
+{
+    if head.fetched {
+        if head.active { "fa" } else { "f" }
+    } else {
+        "-"
+    }
+}
+
+fn put_item(out: &mut Vec<u8>, chunk: u32, head: Head, time: u64) -> Result<(), AllocError>
+    ensures { OnOk result (out.new.items ≡ out.old.items ++ item_text chunk head time) }
+{
+    let generation = head.generation;
+    put_id(out, ItemId { chunk, generation })?;
+    out.extend_from_slice(b":")?;
+    put_number(out, u64::from(head.refs))?;
+    out.extend_from_slice(b":")?;
+    out.extend_from_slice(flags(head).as_bytes())?;
+    out.extend_from_slice(b":")?;
+    put_number(out, time)
+}
+
+/// What is told of a chunk in a list.
+pub fn put_chunk(
+    out: &mut Vec<u8>,
+    place: Place,
+    chunk: u32,
+    head: Head,
+    time: u64,
+) -> Result<(), AllocError>
+    ensures { OnOk result (out.new.items ≡ out.old.items ++ chunk_text place chunk head time) }
+{
+    match place {
+        Place::Unused | Place::Retired => put_number(out, u64::from(chunk)),
+        Place::Hot | Place::Warm | Place::Cold | Place::Dying => put_item(out, chunk, head, time),
+    }
+}
+
+fn word_of_place(place: Place) -> &'static str
+    ensures { result.now ≡ place_word place }
+{
+    match place {
+        Place::Hot => "hot",
+        Place::Warm => "warm",
+        Place::Cold => "cold",
+        Place::Dying => "dying",
+        Place::Unused => "unused",
+        Place::Retired => "retired",
+    }
+}
+
+/// The first words of a list's line.
+pub fn put_list_start(
+    out: &mut Vec<u8>,
+    class: u32,
+    place: Place,
+    len: u32,
+) -> Result<(), AllocError>
+    ensures { OnOk result (out.new.items ≡ out.old.items ++ list_start class place len) }
+{
+    out.extend_from_slice(b"class ")?;
+    put_number(out, u64::from(class))?;
+    out.extend_from_slice(b" ")?;
+    out.extend_from_slice(word_of_place(place).as_bytes())?;
+    out.extend_from_slice(b" ")?;
+    put_number(out, u64::from(len))
+}
+
+fn put_accounts(out: &mut Vec<u8>, accounts: Accounts, applied: u64) -> Result<(), AllocError>
+    ensures { OnOk result (out.new.items ≡ out.old.items ++ accounts_text accounts applied) }
+{
+    out.extend_from_slice(b"attempted ")?;
+    put_number(out, accounts.attempted)?;
+    out.extend_from_slice(b" accepted ")?;
+    put_number(out, accounts.accepted)?;
+    out.extend_from_slice(b" full ")?;
+    put_number(out, accounts.full)?;
+    out.extend_from_slice(b" busy ")?;
+    put_number(out, accounts.busy)?;
+    out.extend_from_slice(b" refs ")?;
+    put_number(out, accounts.refs)?;
+    out.extend_from_slice(b" applied ")?;
+    put_number(out, applied)
+}
+
+/// The line of a worker.
+pub fn put_worker(
+    out: &mut Vec<u8>,
+    worker: u32,
+    accounts: Accounts,
+    applied: u64,
+) -> Result<(), AllocError>
+    ensures { OnOk result (out.new.items ≡ out.old.items ++ accounts_line worker accounts applied) }
+{
+    out.extend_from_slice(b"worker ")?;
+    put_number(out, u64::from(worker))?;
+    out.extend_from_slice(b" ")?;
+    put_accounts(out, accounts, applied)?;
+    out.extend_from_slice(b"\n")
+}
+
+fn put_touch(out: &mut Vec<u8>, touch: Touch) -> Result<(), AllocError>
+    ensures { OnOk result (out.new.items ≡ out.old.items ++ touch_text touch) }
+{
+    match touch {
+        Touch::First => out.extend_from_slice(b"first"),
+        Touch::Already => out.extend_from_slice(b"already"),
+        Touch::Marked => out.extend_from_slice(b"marked"),
+        Touch::Queued(number) => {
+            out.extend_from_slice(b"queued ")?;
+            put_number(out, number)
+        }
+        Touch::Dropped(Dropped::Full) => out.extend_from_slice(b"dropped full"),
+        Touch::Dropped(Dropped::Busy) => out.extend_from_slice(b"dropped busy"),
+        Touch::Dropped(Dropped::RefsFull) => out.extend_from_slice(b"dropped refs"),
+        Touch::Exhausted => out.extend_from_slice(b"exhausted"),
+    }
+}
+
+fn put_pulled(out: &mut Vec<u8>, pulled: Pulled) -> Result<(), AllocError>
+    ensures { OnOk result (out.new.items ≡ out.old.items ++ pulled_text pulled) }
+{
+    match pulled {
+        Pulled::Empty => out.extend_from_slice(b"empty"),
+        Pulled::Stay(id) => {
+            out.extend_from_slice(b"stay ")?;
+            put_id(out, id)
+        }
+        Pulled::Warm(id) => {
+            out.extend_from_slice(b"warm ")?;
+            put_id(out, id)
+        }
+        Pulled::Again(id) => {
+            out.extend_from_slice(b"again ")?;
+            put_id(out, id)
+        }
+        Pulled::Cold(id) => {
+            out.extend_from_slice(b"cold ")?;
+            put_id(out, id)
+        }
+        Pulled::Freed(id) => {
+            out.extend_from_slice(b"freed ")?;
+            put_id(out, id)
+        }
+        Pulled::Deferred(id) => {
+            out.extend_from_slice(b"deferred ")?;
+            put_id(out, id)
+        }
+    }
+}
+
+fn word_of_tail(tail: Tail) -> &'static str
+    ensures { result.now ≡ tail_word tail }
+{
+    match tail {
+        Tail::Hot => "hot",
+        Tail::Warm => "warm",
+        Tail::Cold => "cold",
+        Tail::Evict => "evict",
+    }
+}
+
+fn word_of_applied(applied: Applied) -> &'static str
+    ensures { result.now ≡ applied_text applied }
+{
+    match applied {
+        Applied::Moved => "warm",
+        Applied::TimeOnly => "time",
+        Applied::Gone(Ended::Freed) => "gone freed",
+        Applied::Gone(Ended::Deferred) => "gone deferred",
+    }
+}
+
+fn put_entry(out: &mut Vec<u8>, entry: Entry) -> Result<(), AllocError>
+    ensures { OnOk result (out.new.items ≡ out.old.items ++ entry_text entry) }
+{
+    put_number(out, entry.number)?;
+    out.extend_from_slice(b" ")?;
+    put_id(out, entry.life)?;
+    out.extend_from_slice(b" ")?;
+    out.extend_from_slice(word_of_applied(entry.applied).as_bytes())
+}
+
+fn put_answer(out: &mut Vec<u8>, answer: Answer) -> Result<(), AllocError>
+    ensures { OnOk result (out.new.items ≡ out.old.items ++ answer_text answer) }
+{
+    match answer {
+        Answer::Linked(id) => put_id(out, id),
+        Answer::NoFreeChunk => out.extend_from_slice(b"full"),
+        Answer::Ended(Ended::Freed) => out.extend_from_slice(b"freed"),
+        Answer::Ended(Ended::Deferred) => out.extend_from_slice(b"deferred"),
+        Answer::NotLinked => out.extend_from_slice(b"gone"),
+        Answer::Swept(count) => put_number(out, u64::from(count)),
+        Answer::Pulled(pulled) => put_pulled(out, pulled),
+        Answer::Held => out.extend_from_slice(b"held"),
+        Answer::NoSuchChunk | Answer::Stale => out.extend_from_slice(b"miss"),
+        Answer::RefsFull => out.extend_from_slice(b"refs"),
+        Answer::Touched(touch) => put_touch(out, touch),
+        Answer::Label(label) => put_number(out, label),
+        Answer::Bumped(entry) => put_entry(out, entry),
+        Answer::Done | Answer::Nothing => Ok(()),
+    }
+}
+
+/// What a worker's command answered, or that the worker is closed.
+fn put_told(out: &mut Vec<u8>, answer: Option<Answer>) -> Result<(), AllocError>
+    ensures { OnOk result (out.new.items ≡ out.old.items ++ told answer) }
+{
+    match answer {
+        Some(answer) => put_answer(out, answer),
+        None => out.extend_from_slice(b"closed"),
+    }
+}
+
+/// The line of a `set`.
+pub fn put_set(out: &mut Vec<u8>, name: &[u8], answer: Answer) -> Result<(), AllocError>
+    ensures { OnOk result (out.new.items ≡ out.old.items ++ set_line name.now answer) }
+{
+    out.extend_from_slice(b"set ")?;
+    out.extend_from_slice(name)?;
+    out.extend_from_slice(b" ")?;
+    put_answer(out, answer)?;
+    out.extend_from_slice(b"\n")
+}
+
+/// The first words of the line of a `get`.
+fn put_get_start(out: &mut Vec<u8>, worker: u32, name: &[u8]) -> Result<(), AllocError>
+    ensures { OnOk result (out.new.items ≡ out.old.items ++ get_start worker name.now) }
+{
+    out.extend_from_slice(b"get ")?;
+    put_number(out, u64::from(worker))?;
+    out.extend_from_slice(b" ")?;
+    out.extend_from_slice(name)?;
+    out.extend_from_slice(b" ")
+}
+
+/// The line of a `get` that took no hold, with the answer that says why.
+pub fn put_get(
+    out: &mut Vec<u8>,
+    worker: u32,
+    name: &[u8],
+    answer: Option<Answer>,
+) -> Result<(), AllocError>
+    ensures { OnOk result (out.new.items ≡ out.old.items ++ get_line worker name.now answer) }
+{
+    put_get_start(out, worker, name)?;
+    put_told(out, answer)?;
+    out.extend_from_slice(b"\n")
+}
+
+/// The line of a `get` that held its item: what was read, and what the hit did.
+pub fn put_get_held(
+    out: &mut Vec<u8>,
+    worker: u32,
+    name: &[u8],
+    label: Answer,
+    hit: Answer,
+) -> Result<(), AllocError>
+    ensures { OnOk result (out.new.items ≡ out.old.items ++ get_held_line worker name.now label hit) }
+{
+    put_get_start(out, worker, name)?;
+    put_answer(out, label)?;
+    out.extend_from_slice(b" ")?;
+    put_answer(out, hit)?;
+    out.extend_from_slice(b"\n")
+}
+
+/// The line of a `hold`.
+pub fn put_hold(
+    out: &mut Vec<u8>,
+    worker: u32,
+    name: &[u8],
+    hold: &[u8],
+    answer: Option<Answer>,
+) -> Result<(), AllocError>
+    ensures { OnOk result (out.new.items ≡ out.old.items ++ hold_line worker name.now hold.now answer) }
+{
+    out.extend_from_slice(b"hold ")?;
+    put_number(out, u64::from(worker))?;
+    out.extend_from_slice(b" ")?;
+    out.extend_from_slice(name)?;
+    out.extend_from_slice(b" ")?;
+    out.extend_from_slice(hold)?;
+    out.extend_from_slice(b" ")?;
+    put_told(out, answer)?;
+    out.extend_from_slice(b"\n")
+}
+
+/// The line of a `hit`.
+pub fn put_hit(
+    out: &mut Vec<u8>,
+    worker: u32,
+    hold: &[u8],
+    answer: Option<Answer>,
+) -> Result<(), AllocError>
+    ensures { OnOk result (out.new.items ≡ out.old.items ++ hit_line worker hold.now answer) }
+{
+    out.extend_from_slice(b"hit ")?;
+    put_number(out, u64::from(worker))?;
+    out.extend_from_slice(b" ")?;
+    out.extend_from_slice(hold)?;
+    out.extend_from_slice(b" ")?;
+    put_told(out, answer)?;
+    out.extend_from_slice(b"\n")
+}
+
+/// The line of a `read`.
+pub fn put_read(out: &mut Vec<u8>, hold: &[u8], answer: Answer) -> Result<(), AllocError>
+    ensures { OnOk result (out.new.items ≡ out.old.items ++ read_line hold.now answer) }
+{
+    out.extend_from_slice(b"read ")?;
+    out.extend_from_slice(hold)?;
+    out.extend_from_slice(b" ")?;
+    put_answer(out, answer)?;
+    out.extend_from_slice(b"\n")
+}
+
+/// The line of a `drop`.
+pub fn put_drop(out: &mut Vec<u8>, hold: &[u8]) -> Result<(), AllocError>
+    ensures { OnOk result (out.new.items ≡ out.old.items ++ drop_line hold.now) }
+{
+    out.extend_from_slice(b"drop ")?;
+    out.extend_from_slice(hold)?;
+    out.extend_from_slice(b"\n")
+}
+
+/// The line of a `del`.
+pub fn put_del(out: &mut Vec<u8>, name: &[u8], answer: Answer) -> Result<(), AllocError>
+    ensures { OnOk result (out.new.items ≡ out.old.items ++ del_line name.now answer) }
+{
+    out.extend_from_slice(b"del ")?;
+    out.extend_from_slice(name)?;
+    out.extend_from_slice(b" ")?;
+    put_answer(out, answer)?;
+    out.extend_from_slice(b"\n")
+}
+
+/// The line of a `sweep`.
+pub fn put_sweep(out: &mut Vec<u8>, class: u32, answer: Answer) -> Result<(), AllocError>
+    ensures { OnOk result (out.new.items ≡ out.old.items ++ sweep_line class answer) }
+{
+    out.extend_from_slice(b"sweep ")?;
+    put_number(out, u64::from(class))?;
+    out.extend_from_slice(b" ")?;
+    put_answer(out, answer)?;
+    out.extend_from_slice(b"\n")
+}
+
+/// The line of a `pull`.
+pub fn put_pull(out: &mut Vec<u8>, class: u32, tail: Tail, answer: Answer) -> Result<(), AllocError>
+    ensures { OnOk result (out.new.items ≡ out.old.items ++ pull_line class tail answer) }
+{
+    out.extend_from_slice(b"pull ")?;
+    put_number(out, u64::from(class))?;
+    out.extend_from_slice(b" ")?;
+    out.extend_from_slice(word_of_tail(tail).as_bytes())?;
+    out.extend_from_slice(b" ")?;
+    put_answer(out, answer)?;
+    out.extend_from_slice(b"\n")
+}
+
+/// The line of a bump that was applied.
+pub fn put_bump(out: &mut Vec<u8>, worker: u32, entry: Entry) -> Result<(), AllocError>
+    ensures { OnOk result (out.new.items ≡ out.old.items ++ bump_line worker entry) }
+{
+    out.extend_from_slice(b"bump ")?;
+    put_number(out, u64::from(worker))?;
+    out.extend_from_slice(b" ")?;
+    put_entry(out, entry)?;
+    out.extend_from_slice(b"\n")
+}
+
+/// The last line of a `drain`.
+pub fn put_drain(out: &mut Vec<u8>, count: u64) -> Result<(), AllocError>
+    ensures { OnOk result (out.new.items ≡ out.old.items ++ drain_line count) }
+{
+    out.extend_from_slice(b"drain ")?;
+    put_number(out, count)?;
+    out.extend_from_slice(b"\n")
+}
+
+/// The first words of the line of a `close`.
+fn put_close_start(out: &mut Vec<u8>, worker: u32) -> Result<(), AllocError>
+    ensures { OnOk result (out.new.items ≡ out.old.items ++ close_start worker) }
+{
+    out.extend_from_slice(b"close ")?;
+    put_number(out, u64::from(worker))?;
+    out.extend_from_slice(b" ")
+}
+
+/// The last line of a `close`, with what the worker and its lane counted.
+pub fn put_close(
+    out: &mut Vec<u8>,
+    worker: u32,
+    accounts: Accounts,
+    applied: u64,
+) -> Result<(), AllocError>
+    ensures { OnOk result (out.new.items ≡ out.old.items ++ close_start worker ++ accounts_text accounts applied ++ codes "\n") }
+{
+    put_close_start(out, worker)?;
+    put_accounts(out, accounts, applied)?;
+    out.extend_from_slice(b"\n")
+}
+
+/// The line of a `close` of a worker that was closed before.
+pub fn put_closed(out: &mut Vec<u8>, worker: u32) -> Result<(), AllocError>
+    ensures { OnOk result (out.new.items ≡ out.old.items ++ closed_line worker) }
+{
+    put_close_start(out, worker)?;
+    put_told(out, None)?;
+    out.extend_from_slice(b"\n")
+}
+
+/// The line of a fault.
+pub fn put_fault(out: &mut Vec<u8>, number: u64, fault: Fault) -> Result<(), AllocError>
+    ensures { OnOk result (out.new.items ≡ out.old.items ++ fault_line number fault) }
+{
+    out.extend_from_slice(b"line ")?;
+    put_number(out, number)?;
+    out.extend_from_slice(b": ")?;
+    out.extend_from_slice(fault.word().as_bytes())?;
+    out.extend_from_slice(b"\n")
+}
