@@ -21,8 +21,6 @@ pub mod HeldHeads
 pub mod Applications
 pub mod Starts
 pub mod Boardings
-pub mod ClassParts
-pub mod ClassLives
 pub mod RideSteps
 pub mod RideMoves
 pub mod RideTries
