@@ -13,3 +13,4 @@ pub mod Starts
 pub mod Bounds
 pub mod Boardings
 pub mod ClassParts
+pub mod Endings
