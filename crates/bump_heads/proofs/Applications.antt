@@ -183,7 +183,7 @@ module _ (key : Config) (slots id : ℕ) (m : Sat) (c : ℕ) (near : c < chunks 
     })),
     (λ b ne. cleared_same c n m.0 b),
     cleared_backed c n m.0,
-    (refl, (o.head, o.spells, tells c key.refs_limit n x m.0 t o a)),
+    (refl, refl, (o.head, o.spells, tells c key.refs_limit n x m.0 t o a)),
   ))
 
   pub times : (now : ℕ) → Allows (Kept key) slots id m (3 * c + 1) (λ _. now) (λ _. timed (step slots (3 * c + 1) now 0 none) m now)

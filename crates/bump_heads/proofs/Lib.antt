@@ -24,3 +24,4 @@ pub mod Boardings
 pub mod RideSteps
 pub mod RideMoves
 pub mod RideTries
+pub mod Endings

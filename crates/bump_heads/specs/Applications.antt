@@ -1,6 +1,6 @@
 -- The steps of an application, made by a class's seat with the lane's joined to it. A step made for a bump reads the bump off the
 -- view: the lane that is joined.
-use Rattle.std.specs.Prelude.{◌≡◌, ℕ, ◌/◌, ◌<◌, ◌⊎◌, Bool, true, false, not, List, [], ◌∷◌, ◌++◌, Option, Some, None}
+use Rattle.std.specs.Prelude.{◌≡◌, ℕ, ◌-◌, ◌/◌, ◌^◌, ◌<◌, ◌⊎◌, Bool, true, false, not, List, [], ◌∷◌, ◌++◌, Option, Some, None}
 use Rattle.atomic_table.specs.Table.{Step}
 use Rattle.bump_rules.specs.declared.items.ItemId.{ItemId}
 use Rattle.bump_rules.specs.declared.places.Segment.{Segment}
@@ -24,6 +24,7 @@ use Rattle.bump_heads.specs.declared.views.ClassPart.{ClassPart}
 use Rattle.bump_heads.specs.declared.views.LanePart.{LanePart}
 use Rattle.bump_heads.specs.declared.views.View.{View}
 use Rattle.bump_heads.specs.Views.{aboard_of, active_clear, owns, standing, evidence}
+use Rattle.bump_word.specs.Layout.{active_first}
 use Rattle.bump_heads.specs.Rule.{blank}
 use Rattle.bump_heads.specs.Plays.{Sat, Tells, Found, Told, on_first, step_of}
 
@@ -95,8 +96,9 @@ moved_view from to c n v = record v { classes = on_first (moved_class from to c 
 abbrev pub tried : Tells
 tried c x m r n = (n ≡ (tried_view c r m.0, m.1)) × Found r (Told c m.0)
 
+-- an and with all bits but ACTIVE
 abbrev pub cleared : Tells
-cleared c x m r n = (n ≡ (cleared_view c r m.0, m.1)) × Found r (Told c m.0)
+cleared c x m r n = (x ≡ 2 ^ 64 - 1 - 2 ^ active_first) × (n ≡ (cleared_view c r m.0, m.1)) × Found r (Told c m.0)
 
 abbrev pub timed : Step Empty → Sat → ℕ → Sat → Type 0
 timed st m r n = n ≡ (timed_view (st.word / 3) r m.0, m.1)

@@ -4,7 +4,7 @@ ghost use Rattle.std.specs.Prelude.{ℕ, ◌≡◌, None, Some, IsSome, IfSome, 
 ghost use Rattle.bump_rules.specs.declared.bumps.Bump.{Bump as TheBump};
 ghost use Rattle.bump_rules.specs.History.{place_of};
 ghost use Rattle.bump_rules.specs.Lawful.{Shows};
-ghost use Rattle.bump_word.specs.Words.{word_of};
+ghost use Rattle.bump_word.specs.Words.{word_of, Fits};
 ghost use Rattle.bump_heads.specs.declared.views.LanePart.{LanePart as TheLanePart};
 ghost use Rattle.bump_heads.specs.Views.{aboard_of, owns, standing};
 ghost use Rattle.bump_heads.specs.Applications.{alighted_lane, tried_lane};
@@ -26,6 +26,7 @@ impl<N: Name> ClassSeat<N> {
         ensures hollow { lane.new ≡ None }
         ensures tried { self.new ≡ record self.old { lane = option_map (tried_lane (life_aboard lane.old).chunk (word_of result)) lane.old } }
         ensures found { Seen self.old.part (life_aboard lane.old) result }
+        ensures fits { Fits result }
 
         // No bump is named twice by the history of the class, and each move for a bump of this lane is told by the lane.
         ensures once { NamesNoBumpTwice self.new.part }
@@ -53,6 +54,7 @@ impl<N: Name> ClassSeat<N> {
         ensures shows { Shows result (standing self.old.part chunk).0 }
         ensures generation { result.generation ≡ (standing self.old.part chunk).1 }
         ensures life { IfSome (bump_aboard self.old.lane) (λ b. b.life.generation ≡ result.generation) }
+        ensures fits { Fits result }
     {
         let word = self.heads.words.clear_for(&mut self.seat, chunk);
         head_of(word)
@@ -80,6 +82,7 @@ impl<N: Name> ClassSeat<N> {
         ensures shows { Shows result (place_of from) }
         ensures generation { result.generation ≡ (standing self.old.part chunk).1 }
         ensures life { IfSome (bump_aboard self.old.lane) (λ b. b.life.generation ≡ result.generation) }
+        ensures fits { Fits result }
     {
         let word = self
             .heads
@@ -97,6 +100,7 @@ impl<N: Name> ClassSeat<N> {
         ensures class { self.new ≡ record self.old { lane = None } }
         ensures lane { lane.new ≡ option_map (alighted_lane outcome chunk (word_of result)) self.old.lane }
         ensures found { Seen self.old.part (life_aboard self.old.lane) result }
+        ensures fits { Fits result }
 
         // The entry that was written is true.
         ensures entry { IfSome self.old.lane (λ l. IfSome (aboard_of l.stage) (λ b. IsShown self.new.part l b outcome)) }
