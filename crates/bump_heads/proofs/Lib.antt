@@ -8,7 +8,9 @@ pub mod Moves
 pub mod Seeing
 pub mod Meetings
 pub mod Makings
+pub mod Marking
 pub mod Applications
 pub mod Starts
 pub mod Bounds
 pub mod Boardings
+pub mod Touches

@@ -9,4 +9,6 @@ pub mod Meetings
 pub mod Seats
 pub mod Applying
 pub mod Making
+pub mod Marks
 pub mod Riders
+pub mod Touching

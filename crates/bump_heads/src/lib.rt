@@ -5,13 +5,14 @@ mod applying;
 mod decoding;
 mod heads;
 mod holds;
-mod joins;
 mod making;
+mod meeting;
 mod names;
 mod riders;
 mod rule;
 mod seats;
 mod steps;
+mod touching;
 mod views;
 mod words;
 

@@ -3,4 +3,5 @@
 mod applications;
 mod boardings;
 mod cuts;
+mod marks;
 mod meetings;
