@@ -18,6 +18,7 @@ pub mod Makings
 pub mod Referring
 pub mod Tries
 pub mod HeldHeads
+pub mod Marking
 pub mod Applications
 pub mod Starts
 pub mod Boardings
@@ -25,3 +26,4 @@ pub mod RideSteps
 pub mod RideMoves
 pub mod RideTries
 pub mod Endings
+pub mod Touches
