@@ -1,6 +1,6 @@
 -- What a class's part keeps, it keeps by each step that begins or ends a life.
-use Rattle.std.proofs.Common.{◌≡◌, ◌≢◌, ℕ, ◌+◌, ◌*◌, ◌<◌, ◌≤◌, ◌==◌, ◌&&◌, eqb, ltb, leb, cond, Bool, true, false, List, [], ◌∷◌, ◌++◌, Option, Some, None, if◌then◌else◌, refl, sym, ap, ap₂, ◌∙◌, subst, arith, eq-eqb, ne_eqb}
-use Rattle.std.proofs.lemmas.Bool.{and_parts, and_from, lt-ltb}
+use Rattle.std.proofs.Common.{◌≡◌, ◌≢◌, ℕ, ◌+◌, ◌<◌, ◌==◌, ◌&&◌, eqb, cond, Bool, true, false, [], ◌∷◌, ◌++◌, Some, None, if◌then◌else◌, refl, sym, ap, ap₂, ◌∙◌, subst, arith, eq-eqb, ne_eqb}
+use Rattle.std.proofs.lemmas.Bool.{and_from}
 use mathlib.Core.Logic.{dite}
 use native.Mathlib.Decide.{ℕ_discrete}
 use Rattle.bump_rules.specs.declared.items.ItemId.{ItemId}
@@ -8,7 +8,7 @@ use Rattle.bump_rules.specs.declared.places.Place.{Place}
 use Rattle.bump_rules.specs.declared.places.Place.TheVariants.{Hot, Warm, Cold, Dying, Unused, Retired}
 use Rattle.bump_rules.specs.declared.history.Change.{Change}
 use Rattle.bump_rules.specs.declared.history.Change.TheVariants as change
-use Rattle.bump_rules.specs.declared.labels.LabelStep.TheVariants.{Stored, Begun}
+use Rattle.bump_rules.specs.declared.labels.LabelStep.TheVariants.{Begun}
 use Rattle.bump_rules.specs.Entries.{names_bump, is_stray}
 use Rattle.bump_rules.specs.History.{Standing, subject, target, freed_change}
 use Rattle.bump_rules.specs.Labels.{label_of_life, label_word}
@@ -84,13 +84,13 @@ module _ (words : ℕ) (k : ClassPart) (o : IsClassPart words k) where
       causes = entry_between quiet;
       labelled = λ d mine used. dite (ℕ_discrete d c)
           (λ is. subst (λ (j : ℕ). label_of_life (life j (standing (record k { history = k.history ++ e ∷ [] }) j).1) 0 k.labels ≡ Some (label_of k j)) (sym is)
-              (subst (λ (s : Standing). label_of_life (life c s.1) 0 k.labels ≡ Some (label_of k c)) (sym stands_here)
-              (subst (λ (g : ℕ). label_of_life (life c g) 0 k.labels ≡ Some (label_of k c)) (sym same)
-              (o.labelled c own (used_before (subst (λ (s : Standing). IsUsed s.0) stands_here (subst (λ (j : ℕ). IsUsed (standing (record k { history = k.history ++ e ∷ [] }) j).0) is used)))))))
+          (subst (λ (s : Standing). label_of_life (life c s.1) 0 k.labels ≡ Some (label_of k c)) (sym stands_here)
+          (subst (λ (g : ℕ). label_of_life (life c g) 0 k.labels ≡ Some (label_of k c)) (sym same)
+          (o.labelled c own (used_before (subst (λ (s : Standing). IsUsed s.0) stands_here (subst (λ (j : ℕ). IsUsed (standing (record k { history = k.history ++ e ∷ [] }) j).0) is used)))))))
           (λ ne. subst (λ (s : Standing). label_of_life (life d s.1) 0 k.labels ≡ Some (label_of k d)) (sym (stands_there d ne)) (o.labelled d mine (subst (λ (s : Standing). IsUsed s.0) (stands_there d ne) used)));
       unbegun = λ d g later. dite (ℕ_discrete d c)
           (λ is. subst (λ (j : ℕ). label_of_life (life j g) 0 k.labels ≡ None) (sym is)
-              (o.unbegun c g (subst (λ (n : ℕ). n < g) (ap (λ (j : ℕ). (standing (record k { history = k.history ++ e ∷ [] }) j).1) is ∙ ap (λ (s : Standing). s.1) stands_here ∙ same) later)))
+          (o.unbegun c g (subst (λ (n : ℕ). n < g) (ap (λ (j : ℕ). (standing (record k { history = k.history ++ e ∷ [] }) j).1) is ∙ ap (λ (s : Standing). s.1) stands_here ∙ same) later)))
           (λ ne. o.unbegun d g (subst (λ (n : ℕ). n < g) (ap (λ (s : Standing). s.1) (stands_there d ne)) later));
     }
 
@@ -128,16 +128,16 @@ module _ (words : ℕ) (k : ClassPart) (o : IsClassPart words k) where
       causes = entry_between c own (change.Linked next_life) refl refl;
       labelled = λ d mine used. dite (ℕ_discrete d c)
           (λ is. subst (λ (j : ℕ). label_of_life (life j (standing (record k { history = k.history ++ change.Linked next_life ∷ [] }) j).1) 0 (k.labels ++ Begun next_life ∷ []) ≡ Some (label_word j 0 (k.labels ++ Begun next_life ∷ []))) (sym is)
-              (subst (λ (s : Standing). label_of_life (life c s.1) 0 (k.labels ++ Begun next_life ∷ []) ≡ Some (label_word c 0 (k.labels ++ Begun next_life ∷ []))) (sym (stands_here c own (change.Linked next_life) refl)) label_here))
+          (subst (λ (s : Standing). label_of_life (life c s.1) 0 (k.labels ++ Begun next_life ∷ []) ≡ Some (label_word c 0 (k.labels ++ Begun next_life ∷ []))) (sym (stands_here c own (change.Linked next_life) refl)) label_here))
           (λ ne. subst (λ (s : Standing). label_of_life (life d s.1) 0 (k.labels ++ Begun next_life ∷ []) ≡ Some (label_word d 0 (k.labels ++ Begun next_life ∷ []))) (sym (stands_there c own (change.Linked next_life) refl d ne))
-              (life_begun_else (life d (standing k d).1) 0 k.labels next_life (other_of_chunk d c (standing k d).1 ((standing k c).1 + 1) ne)
-              ∙ o.labelled d mine (subst (λ (s : Standing). IsUsed s.0) (stands_there c own (change.Linked next_life) refl d ne) used)
-              ∙ ap (λ (y : ℕ). Some y) (sym (word_begun d 0 k.labels next_life))));
+          (life_begun_else (life d (standing k d).1) 0 k.labels next_life (other_of_chunk d c (standing k d).1 ((standing k c).1 + 1) ne)
+          ∙ o.labelled d mine (subst (λ (s : Standing). IsUsed s.0) (stands_there c own (change.Linked next_life) refl d ne) used)
+          ∙ ap (λ (y : ℕ). Some y) (sym (word_begun d 0 k.labels next_life))));
       unbegun = λ d g later. dite (ℕ_discrete d c)
           (λ is.
-              let at : (standing (record k { history = k.history ++ change.Linked next_life ∷ [] }) d).1 ≡ (standing k c).1 + 1 = ap (λ (j : ℕ). (standing (record k { history = k.history ++ change.Linked next_life ∷ [] }) j).1) is ∙ ap (λ (s : Standing). s.1) (stands_here c own (change.Linked next_life) refl) in
-              subst (λ (j : ℕ). label_of_life (life j g) 0 (k.labels ++ Begun next_life ∷ []) ≡ None) (sym is)
-              (life_begun_else (life c g) 0 k.labels next_life (ap₂ (λ a b. a && b) (eq-eqb c c refl) (ne_eqb g ((standing k c).1 + 1) (λ e. omega (arith, e, at, later)))) ∙ o.unbegun c g (omega (arith, at, later))))
+          let at : (standing (record k { history = k.history ++ change.Linked next_life ∷ [] }) d).1 ≡ (standing k c).1 + 1 = ap (λ (j : ℕ). (standing (record k { history = k.history ++ change.Linked next_life ∷ [] }) j).1) is ∙ ap (λ (s : Standing). s.1) (stands_here c own (change.Linked next_life) refl) in
+          subst (λ (j : ℕ). label_of_life (life j g) 0 (k.labels ++ Begun next_life ∷ []) ≡ None) (sym is)
+          (life_begun_else (life c g) 0 k.labels next_life (ap₂ (λ a b. a && b) (eq-eqb c c refl) (ne_eqb g ((standing k c).1 + 1) (λ e. omega (arith, e, at, later)))) ∙ o.unbegun c g (omega (arith, at, later))))
           (λ ne. life_begun_else (life d g) 0 k.labels next_life (other_of_chunk d c g ((standing k c).1 + 1) ne) ∙ o.unbegun d g (subst (λ (n : ℕ). n < g) (ap (λ (s : Standing). s.1) (stands_there c own (change.Linked next_life) refl d ne)) later));
     }
 

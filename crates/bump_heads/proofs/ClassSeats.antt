@@ -1,5 +1,5 @@
 -- A class's seat after a step on its part, and what it knows of the Head that it finds.
-use Rattle.std.proofs.Common.{◌≡◌, ℕ, ◌+◌, ◌*◌, ◌<◌, ◌≤◌, true, List, [], ◌∷◌, Option, Some, None, refl, sym, ap, ◌∙◌, subst, arith}
+use Rattle.std.proofs.Common.{◌≡◌, ℕ, true, Option, Some, None, refl, sym, ap, ◌∙◌, subst}
 use Rattle.atomic_table.specs.Seated.{TableId}
 use Rattle.bump_rules.specs.declared.items.Head.{Head}
 use Rattle.bump_rules.specs.Lawful.{Shows}
@@ -8,7 +8,6 @@ use Rattle.bump_word.proofs.Words.{one_head}
 use Rattle.bump_heads.specs.declared.views.ClassPart.{ClassPart}
 use Rattle.bump_heads.specs.declared.views.ClassView.{ClassView}
 use Rattle.bump_heads.specs.declared.views.LanePart.{LanePart}
-use Rattle.bump_heads.specs.declared.views.View.{View}
 use Rattle.bump_heads.specs.Views.{owns, standing}
 use Rattle.bump_heads.specs.Plays.{Sat, Found, Told}
 use Rattle.bump_heads.specs.Seats.{class_in, class_me, listed, first, bump_aboard, IsInRange, IsClassPart}
@@ -64,3 +63,7 @@ seat_kept m w now f table id class view_is is after same near mine part class_sa
 -- a head that the class's seat finds agrees with the place and the generation of its chunk
 pub agrees : (c : ℕ) (m : Sat) (now : ClassView) (h : Head) → class_in m.0 ≡ now → m ≡ class_me (class_in m.0) → owns c now.part ≡ true → Told c m.0 h → Shows h (standing now.part c).0 × (h.generation ≡ (standing now.part c).1)
 agrees c m now h view_is is own told = told.stood (standing now.part c) (stands_alone c m.0 now.part (ap (λ (y : Sat). y.0.classes) (is ∙ ap class_me view_is)) own)
+
+-- and so does the Head that is answered for it
+pub finds : (c n : ℕ) (m : Sat) (now : ClassView) (h : Head) → class_in m.0 ≡ now → m ≡ class_me (class_in m.0) → owns c now.part ≡ true → Spells n h → Found n (Told c m.0) → Shows h (standing now.part c).0 × (h.generation ≡ (standing now.part c).1)
+finds c n m now h view_is is own spells found = agrees c m now h view_is is own (found_is n (Told c m.0) h spells found)

@@ -4,7 +4,6 @@ use mathlib.Core.Bool.{false≢true}
 use mathlib.Core.Option.{none}
 use mathlib.Core.Logic.{dite}
 use native.Mathlib.Decide.{ℕ_discrete}
-use Rattle.std.specs.Prelude.{⊤}
 use Rattle.atomic_table.specs.Table.{step, Allows}
 use Rattle.bump_rules.specs.declared.items.Head.{Head}
 use Rattle.bump_rules.specs.declared.items.ItemId.{ItemId}
@@ -13,7 +12,7 @@ use Rattle.bump_rules.specs.declared.places.Place.TheVariants.{Hot, Warm, Cold, 
 use Rattle.bump_rules.specs.declared.history.Change.{Change}
 use Rattle.bump_rules.specs.declared.history.Change.TheVariants as change
 use Rattle.bump_rules.specs.declared.labels.LabelStep.{LabelStep}
-use Rattle.bump_rules.specs.declared.labels.LabelStep.TheVariants.{Stored, Begun}
+use Rattle.bump_rules.specs.declared.labels.LabelStep.TheVariants.{Begun}
 use Rattle.bump_rules.specs.declared.configs.Config.{Config}
 use Rattle.bump_rules.specs.declared.bumps.AppliedBump.{AppliedBump}
 use Rattle.bump_rules.specs.declared.bumps.Outcome.{Outcome}
@@ -24,27 +23,26 @@ use Rattle.bump_rules.specs.History.{Standing, subject, target, freed_change, is
 use Rattle.bump_rules.specs.Labels.{label_word}
 use Rattle.bump_rules.specs.Lawful.{bit, Shows, IsUsed, Lawful}
 use Rattle.bump_rules.specs.Lives.{life, is_same}
-use Rattle.bump_rules.specs.Totals.{total, how_many}
 use Rattle.bump_rules.proofs.Laws.{relawful, none_where_free, born, severed, ended}
 use Rattle.bump_rules.proofs.Replay.{standing_push}
 use Rattle.bump_rules.proofs.Standings.{standing_same}
 use Rattle.bump_rules.proofs.ToldMoves.{no_move}
 use Rattle.bump_rules.proofs.Updates.{total_push}
-use Rattle.bump_word.specs.Layout.{linked_first, refs_width, generation_first, generation_width}
+use Rattle.bump_word.specs.Layout.{refs_width, generation_first}
 use Rattle.bump_word.specs.Words.{Spells, word_of}
-use Rattle.bump_word.proofs.Steps.{unlink, new_life_stored}
+use Rattle.bump_word.proofs.Steps.{unlink}
 use Rattle.bump_word.proofs.Words.{fields}
 use Rattle.bump_heads.specs.declared.views.Empty.{Empty}
 use Rattle.bump_heads.specs.declared.views.Kind.TheVariants as kind
 use Rattle.bump_heads.specs.declared.views.OwnStep.{OwnStep}
 use Rattle.bump_heads.specs.declared.views.ClassPart.{ClassPart}
 use Rattle.bump_heads.specs.declared.views.View.{View}
-use Rattle.bump_heads.specs.Views.{Measure, held, named, saw, owners, strays, mislabels, misreads, owns, standing, label_of, weight, evidence, shown_by, shows_time_only, Query, IsBacked}
-use Rattle.bump_heads.specs.Rule.{Sound, chunks, Kept, blank}
-use Rattle.bump_heads.specs.Plays.{Sat, Tells, on_chunk, step_of, Told, Stands}
+use Rattle.bump_heads.specs.Views.{Measure, held, named, saw, owners, strays, mislabels, misreads, owns, standing, label_of, weight, shown_by, shows_time_only, IsBacked}
+use Rattle.bump_heads.specs.Rule.{Sound, chunks, Kept}
+use Rattle.bump_heads.specs.Plays.{Sat, on_chunk, step_of, Stands}
 use Rattle.bump_heads.specs.Lives.{alone, looked, begun, freed, seen, IsInSegment, Keeps, IsLinked, IsDying, MayBegin, on_part, beginning, severing, sweeping}
 use Rattle.bump_heads.specs.Lives as lives
-use Rattle.bump_heads.proofs.Frame.{Same, From, Amid, Reaches, on_head, same_sound}
+use Rattle.bump_heads.proofs.Frame.{Same, Amid, Reaches, on_head, same_sound}
 use Rattle.bump_heads.proofs.LabelLists.{word_begun}
 use Rattle.bump_heads.proofs.Looking.{looked_same, looked_backed}
 use Rattle.bump_heads.proofs.StepLemmas.{chunk_is, at_chunk, same_counts}

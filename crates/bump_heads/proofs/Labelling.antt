@@ -1,5 +1,5 @@
 -- The store of a label: whatever the other seats have, a class's seat alone can go on.
-use Rattle.std.proofs.Common.{◌≡◌, ℕ, ◌+◌, ◌*◌, ◌/◌, ◌<◌, ◌≤◌, ◌≢◌, ◌&&◌, eqb, cond, not, Bool, true, List, [], ◌∷◌, ◌++◌, None, if◌then◌else◌, refl, sym, ap, ◌∙◌, subst, arith, eq-eqb, ne_eqb}
+use Rattle.std.proofs.Common.{◌≡◌, ℕ, ◌+◌, ◌*◌, ◌<◌, ◌≤◌, ◌≢◌, ◌&&◌, eqb, not, Bool, true, List, [], ◌∷◌, ◌++◌, None, if◌then◌else◌, refl, sym, ap, ◌∙◌, subst, arith, eq-eqb, ne_eqb}
 use mathlib.Core.Option.{none}
 use Rattle.atomic_table.specs.Table.{step, Allows}
 use Rattle.bump_rules.specs.declared.places.Place.{Place}
@@ -18,8 +18,8 @@ use Rattle.bump_heads.specs.declared.views.Empty.{Empty}
 use Rattle.bump_heads.specs.declared.views.Kind.TheVariants as kind
 use Rattle.bump_heads.specs.declared.views.ClassPart.{ClassPart}
 use Rattle.bump_heads.specs.declared.views.View.{View}
-use Rattle.bump_heads.specs.Views.{Measure, held, named, saw, owners, strays, mislabels, misreads, owns, standing, label_of, weight, shown_by, shows_time_only, IsBacked}
-use Rattle.bump_heads.specs.Rule.{Sound, chunks, Kept}
+use Rattle.bump_heads.specs.Views.{held, named, saw, owners, strays, mislabels, misreads, owns, standing, label_of, weight, shown_by, shows_time_only, IsBacked}
+use Rattle.bump_heads.specs.Rule.{chunks, Kept}
 use Rattle.bump_heads.specs.Plays.{Sat, step_of, Stands}
 use Rattle.bump_heads.specs.Lives.{alone, labelled, on_part, IsUnused, storing}
 use Rattle.bump_heads.proofs.Frame.{Same, on_label}

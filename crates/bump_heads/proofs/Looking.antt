@@ -1,5 +1,5 @@
 -- Looks of a class's seat at a chunk change nothing that is counted.
-use Rattle.std.proofs.Common.{◌≡◌, ℕ, ◌+◌, ◌*◌, ◌/◌, ◌<◌, ◌≤◌, ◌&&◌, eqb, cond, not, List, [], ◌∷◌, None, refl, arith}
+use Rattle.std.proofs.Common.{ℕ, ◌*◌, ◌<◌, ◌≤◌, ◌&&◌, eqb, cond, not, None, refl, arith}
 use mathlib.Core.Option.{none}
 use Rattle.atomic_table.specs.Table.{step, Allows}
 use Rattle.bump_rules.specs.declared.bumps.AppliedBump.{AppliedBump}
@@ -9,11 +9,11 @@ use Rattle.bump_rules.specs.declared.configs.Config.{Config}
 use Rattle.bump_rules.specs.Entries.{is_move_for, is_unlink_of}
 use Rattle.bump_rules.specs.History.{is_standing}
 use Rattle.bump_rules.specs.Lives.{is_same}
-use Rattle.bump_rules.specs.Totals.{total, how_many}
+use Rattle.bump_rules.specs.Totals.{how_many}
 use Rattle.bump_rules.proofs.Updates.{total_push}
 use Rattle.bump_heads.specs.declared.views.Kind.TheVariants as kind
 use Rattle.bump_heads.specs.declared.views.View.{View}
-use Rattle.bump_heads.specs.Views.{Measure, held, named, saw, owners, strays, mislabels, misreads, owns, standing, label_of, shown_by, shows_time_only, IsBacked}
+use Rattle.bump_heads.specs.Views.{held, named, saw, owners, strays, mislabels, misreads, owns, standing, label_of, shown_by, shows_time_only, IsBacked}
 use Rattle.bump_heads.specs.Rule.{chunks, Kept}
 use Rattle.bump_heads.specs.Plays.{Sat, on_chunk, step_of}
 use Rattle.bump_heads.specs.Lives.{looked, on_part, peeking, looking}

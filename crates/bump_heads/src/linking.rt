@@ -13,8 +13,8 @@ use crate::seats::ClassSeat;
 use bump_rules::{Head, ItemId};
 
 impl<N: Name> ClassSeat<N> {
-    /// Looks at the head of a chunk of the class, by one load. It agrees with the list in which the class has the chunk: linked and
-    /// with the segment of HOT, WARM or COLD, else not linked; the generation is the chunk's.
+    /// Looks at the head of a chunk of the class, by one load. It agrees with the list in which the class has the chunk: in HOT, WARM
+    /// and COLD it is linked and has this segment, elsewhere it is not linked; and it has the chunk's generation.
     pub fn look(&mut self, chunk: u32) -> Head
         requires own { owns chunk self.old.part ≡ true }
         ensures looked { self.new ≡ record self.old { part = with_look chunk result self.old.part } }
@@ -25,23 +25,21 @@ impl<N: Name> ClassSeat<N> {
         head_of(self.heads.words.class_look(&mut self.seat, chunk))
     }
 
-    /// Stores the label of a chunk of UNUSED, by one store: the next life of the chunk has it, and each reader that holds this life
-    /// reads it. The chunk must be in UNUSED, where nobody holds it. In memcached this is the key and the value, which
-    /// `do_item_alloc`'s caller writes before `do_item_link`.
+    /// Stores the label of a chunk, by one store: a number that says what the chunk's next life is, and that each reader who holds
+    /// this life reads. The chunk must be in UNUSED, where nobody holds it. In memcached it is what `do_item_alloc` writes into the
+    /// item before `do_item_link`.
     pub fn put_label(&mut self, chunk: u32, label: u64)
         requires alone { self.old.lane ≡ None }
         requires own { owns chunk self.old.part ≡ true }
         requires unused { place_of_chunk self.old.part chunk ≡ Unused }
         ensures labelled { self.new ≡ record self.old { part = labelled chunk label self.old.part } }
     {
-        self.heads
-            .words
-            .put_label(&mut self.seat, chunk, label);
+        self.heads.words.put_label(&mut self.seat, chunk, label);
     }
 
-    /// Begins the next life of a chunk of UNUSED, in HOT, by one store of its head: one reference, which is that of the link, and
-    /// no marks. Its label is the last one that was stored for the chunk. Answers the life, of the next generation (memcached's
-    /// `do_item_link`). A chunk of UNUSED has a generation that is still to come.
+    /// Begins the next life of a chunk, in HOT, by one store of its head: linked, with the one reference of the link, and without
+    /// marks (memcached's `do_item_link`). The chunk must be in UNUSED, so it has a generation to come. Its label is the last one that
+    /// was stored for the chunk. Answers the life. A load before the store finds the generation; it is no step of the class's list.
     pub fn open_life(&mut self, chunk: u32) -> ItemId
         requires alone { self.old.lane ≡ None }
         requires own { owns chunk self.old.part ≡ true }
@@ -51,15 +49,13 @@ impl<N: Name> ClassSeat<N> {
     {
         let found = head_of(self.heads.words.peek(&mut self.seat, chunk));
         let generation = found.generation + 1;
-        self.heads
-            .words
-            .begin(&mut self.seat, chunk, generation);
+        self.heads.words.begin(&mut self.seat, chunk, generation);
         ItemId { chunk, generation }
     }
 
     /// Ends the life of a chunk of HOT, WARM or COLD, by one subtraction that clears LINKED and gives back the link's reference
-    /// (memcached's `do_item_unlink_q`, and the `refcount_decr` of the link). The chunk is DYING until nobody holds it. Answers the head before: linked, in the
-    /// segment in which the class has the chunk, of its generation, with the link's reference at least.
+    /// (memcached's `do_item_unlink`, which clears `ITEM_LINKED` and calls `do_item_remove`). The chunk is DYING from then on. Answers
+    /// the head before: linked, with the segment of the chunk's list and its generation, and with the link's reference at least.
     pub fn end_life(&mut self, chunk: u32) -> Head
         requires alone { self.old.lane ≡ None }
         requires own { owns chunk self.old.part ≡ true }
@@ -73,8 +69,9 @@ impl<N: Name> ClassSeat<N> {
         head_of(self.heads.words.sever(&mut self.seat, chunk))
     }
 
-    /// Looks whether a DYING chunk is still held, by one load. Where it finds no reference the chunk is free, and goes to UNUSED, or to
-    /// RETIRED after its last generation: no reader can take it any more. Else it stays DYING.
+    /// Looks whether a DYING chunk is still held, by one load. Where the head has no reference the chunk is free: it goes to UNUSED, or
+    /// to RETIRED after its last generation, 4,294,967,295. Else it stays DYING. Answers the head, which is not linked and has the
+    /// chunk's generation. In memcached whoever gives back the last reference frees the item (`do_item_remove`); here its class does.
     pub fn seen_unheld(&mut self, chunk: u32) -> Head
         requires alone { self.old.lane ≡ None }
         requires own { owns chunk self.old.part ≡ true }

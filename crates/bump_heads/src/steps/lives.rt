@@ -54,9 +54,7 @@ impl Words {
         ensures same { (seat.new.table_id ≡ seat.old.table_id) × (seat.new.id ≡ seat.old.id) }
         ensures told { peeking chunk 0 seat.old.me result seat.new.me }
     {
-        self.table
-            .shared
-            .load::<Peek>(seat, 3 * chunk as usize)
+        self.table.shared.load::<Peek>(seat, 3 * chunk as usize)
     }
 
     /// A load of a head by its class.
@@ -65,9 +63,7 @@ impl Words {
         ensures same { (seat.new.table_id ≡ seat.old.table_id) × (seat.new.id ≡ seat.old.id) }
         ensures told { looking chunk 0 seat.old.me result seat.new.me }
     {
-        self.table
-            .shared
-            .load::<Look>(seat, 3 * chunk as usize)
+        self.table.shared.load::<Look>(seat, 3 * chunk as usize)
     }
 
     /// The store of a label.
@@ -114,8 +110,6 @@ impl Words {
         ensures same { (seat.new.table_id ≡ seat.old.table_id) × (seat.new.id ≡ seat.old.id) }
         ensures told { sweeping chunk 0 seat.old.me result seat.new.me }
     {
-        self.table
-            .shared
-            .load::<Sweep>(seat, 3 * chunk as usize)
+        self.table.shared.load::<Sweep>(seat, 3 * chunk as usize)
     }
 }

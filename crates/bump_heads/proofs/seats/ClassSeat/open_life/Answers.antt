@@ -4,26 +4,25 @@ use Rattle.bump_rules.specs.Heads.{newborn}
 use Rattle.bump_rules.specs.Lawful.{Shows}
 use Rattle.bump_rules.specs.Lives.{life}
 use Rattle.bump_word.specs.Words.{word_of}
-use Rattle.bump_heads.specs.Plays.{Told}
 use Rattle.bump_heads.specs.Lives.{begun}
 use Rattle.bump_heads.specs.Seats.{class_me, IsClassPart}
 use Rattle.bump_heads.proofs.ClassLives.{keeps_begun}
-use Rattle.bump_heads.proofs.ClassSeats.{seat_kept, found_is, agrees, alone_is, after_look}
+use Rattle.bump_heads.proofs.ClassSeats.{seat_kept, finds, alone_is, after_look}
 use Rattle.bump_heads.proofs.seats.ClassSeat.open_life.Goals as goal
 
 pub overflow_add-generation : goal.overflow_add-generation
-overflow_add-generation g c = let shows = subst (λ (p : Place). Shows c.head_of-found.result p) c.requires.unused (let h = c.head_of-found.result in let told = found_is c.peek.result (λ x. Told c.args.chunk c.self.inside.seat.me.0 x) h c.head_of-found.ensures c.peek.ensures.told.1 in agrees c.args.chunk c.self.inside.seat.me c.args.self.now h c.self.view_is c.self.invariant.0 c.requires.own told).0 in omega (arith, shows.1)
+overflow_add-generation g c = let shows = subst (λ (p : Place). Shows c.head_of-found.result p) c.requires.unused (finds c.args.chunk c.peek.result c.self.inside.seat.me c.args.self.now c.head_of-found.result c.self.view_is c.self.invariant.0 c.requires.own c.head_of-found.ensures c.peek.ensures.told.1).0 in omega (arith, shows.1)
 
 pub begin-requires-clause-may : goal.begin-requires-clause-may
-begin-requires-clause-may g c = let gen = (let h = c.head_of-found.result in let told = found_is c.peek.result (λ x. Told c.args.chunk c.self.inside.seat.me.0 x) h c.head_of-found.ensures c.peek.ensures.told.1 in agrees c.args.chunk c.self.inside.seat.me c.args.self.now h c.self.view_is c.self.invariant.0 c.requires.own told).1 in (
+begin-requires-clause-may g c = let gen = (finds c.args.chunk c.peek.result c.self.inside.seat.me c.args.self.now c.head_of-found.result c.self.view_is c.self.invariant.0 c.requires.own c.head_of-found.ensures c.peek.ensures.told.1).1 in (
   c.args.self.now.part,
   record { view = alone_is c.peek.new.seat.me c.args.self.now (c.peek.ensures.told.0 ∙ c.self.invariant.0 ∙ ap class_me c.self.view_is) c.requires.alone; own = c.requires.own; at = c.requires.unused },
   omega (arith, gen),
 )
 
 pub invariant_of-self : goal.invariant_of-self
-invariant_of-self g c = let n : ℕ = c.head_of-found.result.generation + 1 in let word : ℕ = word_of (newborn n) in let gen = (let h = c.head_of-found.result in let told = found_is c.peek.result (λ x. Told c.args.chunk c.self.inside.seat.me.0 x) h c.head_of-found.ensures c.peek.ensures.told.1 in agrees c.args.chunk c.self.inside.seat.me c.args.self.now h c.self.view_is c.self.invariant.0 c.requires.own told).1 in
+invariant_of-self g c = let n : ℕ = c.head_of-found.result.generation + 1 in let word : ℕ = word_of (newborn n) in let gen = (finds c.args.chunk c.peek.result c.self.inside.seat.me c.args.self.now c.head_of-found.result c.self.view_is c.self.invariant.0 c.requires.own c.head_of-found.ensures c.peek.ensures.told.1).1 in
     seat_kept c.self.inside.seat.me c.begin.new.seat.me c.args.self.now (begun c.args.chunk n word) g.N.Name.table c.begin.new.seat.table_id c.self.inside.class c.self.view_is c.self.invariant.0 (after_look c.self.inside.seat.me c.peek.new.seat.me c.begin.new.seat.me (begun c.args.chunk n word) c.peek.ensures.told.0 c.begin.ensures.told) (c.begin.ensures.same.0 ∙ c.peek.ensures.same.0 ∙ c.self.invariant.1) c.self.invariant.2 c.self.invariant.3 c.self.invariant.4 refl (λ o. subst (λ (j : ℕ). IsClassPart g.N.Name.table.words (begun c.args.chunk (j + 1) word c.args.self.now.part)) (sym gen) (keeps_begun g.N.Name.table.words c.args.self.now.part o c.args.chunk word c.requires.own))
 
 pub returns-clause-next : goal.returns-clause-next
-returns-clause-next g c = ap (λ (j : ℕ). life c.args.chunk (j + 1)) (let h = c.head_of-found.result in let told = found_is c.peek.result (λ x. Told c.args.chunk c.self.inside.seat.me.0 x) h c.head_of-found.ensures c.peek.ensures.told.1 in agrees c.args.chunk c.self.inside.seat.me c.args.self.now h c.self.view_is c.self.invariant.0 c.requires.own told).1
+returns-clause-next g c = ap (λ (j : ℕ). life c.args.chunk (j + 1)) (finds c.args.chunk c.peek.result c.self.inside.seat.me c.args.self.now c.head_of-found.result c.self.view_is c.self.invariant.0 c.requires.own c.head_of-found.ensures c.peek.ensures.told.1).1

@@ -1,17 +1,16 @@
-use Rattle.std.proofs.Common.{◌%◌, refl, ◌∙◌, subst}
+use Rattle.std.proofs.Common.{◌%◌, ◌∙◌, subst}
 use Rattle.bump_rules.specs.declared.places.Place.{Place}
 use Rattle.bump_rules.specs.Lawful.{Shows}
-use Rattle.bump_heads.specs.Plays.{Told}
 use Rattle.bump_heads.specs.Lives.{seen}
 use Rattle.bump_heads.proofs.ClassLives.{keeps_seen, class_seen}
-use Rattle.bump_heads.proofs.ClassSeats.{seat_kept, found_is, agrees}
+use Rattle.bump_heads.proofs.ClassSeats.{seat_kept, finds}
 use Rattle.bump_heads.proofs.seats.ClassSeat.seen_unheld.Goals as goal
 
 pub invariant_of-self : goal.invariant_of-self
 invariant_of-self g c = seat_kept c.self.inside.seat.me c.sweep.new.seat.me c.args.self.now (seen c.args.chunk (c.sweep.result % 65536) c.sweep.result) g.N.Name.table c.sweep.new.seat.table_id c.self.inside.class c.self.view_is c.self.invariant.0 c.sweep.ensures.told.0 (c.sweep.ensures.same.0 ∙ c.self.invariant.1) c.self.invariant.2 c.self.invariant.3 c.self.invariant.4 (class_seen c.args.chunk (c.sweep.result % 65536) c.sweep.result c.args.self.now.part) (λ o. keeps_seen g.N.Name.table.words c.args.self.now.part o c.args.chunk (c.sweep.result % 65536) c.sweep.result c.requires.own)
 
 pub returns-clause-unlinked : goal.returns-clause-unlinked
-returns-clause-unlinked g c = subst (λ (p : Place). Shows c.head_of.result p) c.requires.dying (let h = c.head_of.result in let told = found_is c.sweep.result (λ x. Told c.args.chunk c.self.inside.seat.me.0 x) h c.head_of.ensures c.sweep.ensures.told.1 in agrees c.args.chunk c.self.inside.seat.me c.args.self.now h c.self.view_is c.self.invariant.0 c.requires.own told).0
+returns-clause-unlinked g c = subst (λ (p : Place). Shows c.head_of.result p) c.requires.dying (finds c.args.chunk c.sweep.result c.self.inside.seat.me c.args.self.now c.head_of.result c.self.view_is c.self.invariant.0 c.requires.own c.head_of.ensures c.sweep.ensures.told.1).0
 
 pub returns-clause-generation : goal.returns-clause-generation
-returns-clause-generation g c = (let h = c.head_of.result in let told = found_is c.sweep.result (λ x. Told c.args.chunk c.self.inside.seat.me.0 x) h c.head_of.ensures c.sweep.ensures.told.1 in agrees c.args.chunk c.self.inside.seat.me c.args.self.now h c.self.view_is c.self.invariant.0 c.requires.own told).1
+returns-clause-generation g c = (finds c.args.chunk c.sweep.result c.self.inside.seat.me c.args.self.now c.head_of.result c.self.view_is c.self.invariant.0 c.requires.own c.head_of.ensures c.sweep.ensures.told.1).1
