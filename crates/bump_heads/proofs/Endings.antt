@@ -1,8 +1,7 @@
 -- How an application goes on: what a caller that has a class's seat and a lane needs for each next step, from what the steps before told.
-use Rattle.std.proofs.Common.{◌≡◌, ℕ, ◌+◌, ◌*◌, ◌/◌, ◌%◌, ◌^◌, ◌<◌, ◌≢◌, ◌&&◌, ◌==◌, not, cond, Bool, true, false, List, [], ◌∷◌, ◌++◌, Option, None, Some, refl, sym, ap, ap₂, ◌∙◌, subst, arith, eq-eqb, ne_eqb}
+use Rattle.std.proofs.Common.{◌≡◌, ℕ, ◌/◌, ◌%◌, ◌^◌, ◌≢◌, ◌&&◌, ◌==◌, not, Bool, true, false, [], ◌∷◌, ◌++◌, Option, None, Some, refl, sym, ap, ap₂, ◌∙◌, subst, arith, eq-eqb, ne_eqb}
 use Rattle.std.specs.Prelude.{option_map}
 use Rattle.bump_rules.specs.declared.items.Head.{Head}
-use Rattle.bump_rules.specs.declared.places.Place.{Place}
 use Rattle.bump_rules.specs.declared.places.Place.TheVariants as place
 use Rattle.bump_rules.specs.declared.places.Segment.{Segment}
 use Rattle.bump_rules.specs.declared.places.Segment.TheVariants.{Hot, Warm, Cold}
@@ -20,7 +19,7 @@ use Rattle.bump_rules.specs.Lives.{is_same}
 use Rattle.bump_rules.proofs.Laws.{dying_where_unlinked, placed_where_linked}
 use Rattle.bump_rules.proofs.Unlinks.{unlinked_where_dying}
 use Rattle.bump_rules.proofs.Updates.{total_push}
-use Rattle.bump_word.specs.Words.{Fits, word_of, number_of, segment_bits}
+use Rattle.bump_word.specs.Words.{Fits, word_of, segment_bits}
 use Rattle.bump_word.proofs.Words.{fields, number_one}
 use Rattle.bump_heads.specs.declared.views.Kind.TheVariants as kind
 use Rattle.bump_heads.specs.declared.views.ClassPart.{ClassPart}
@@ -28,7 +27,7 @@ use Rattle.bump_heads.specs.declared.views.ClassView.{ClassView}
 use Rattle.bump_heads.specs.declared.views.LanePart.{LanePart}
 use Rattle.bump_heads.specs.Views.{owns, standing, is_for, linked_elsewhere, active_clear, shows_time_only}
 use Rattle.bump_heads.specs.Plays.{step_of}
-use Rattle.bump_heads.specs.Applications.{tried_lane, cleared_lane, moved_lane, noted_class, moved_class}
+use Rattle.bump_heads.specs.Applications.{tried_lane, noted_class, moved_class}
 use Rattle.bump_heads.specs.Applying.{carried_by, life_aboard, IsOf, IsLinkedIn, MayClear, MayPutTime, MayShift, IsShown, Ends, cleared_class, timed_class, shifted_class, Seen}
 
 -- a lane that carries a bump of the chunk
@@ -79,14 +78,18 @@ module _ (v v₁ : ClassView) (o : Option LanePart) (l : LanePart) (b : Bump) (c
 
   -- an item that isn't linked is gone
   pub ends_gone : h.linked ≡ false → (x : LanePart) × (y : Bump) × Ends v₁ c Gone x y
-  ends_gone off = (looked, b, record {
-    joined = ap (λ (x : ClassView). x.lane) looked_is;
-    aboard = refl;
-    chunk = of;
-    past = refl;
-    entry = subst (λ (k : ClassPart). IsShown k looked b Gone) (sym (ap (λ (x : ClassView). x.part) looked_is))
-        (unlinked_where_dying b.life.chunk b.life.generation (place.Unused, v.part.fresh) v.part.history (λ e. absurd (cc e)) (ap (λ (d : ℕ). (standing v.part d).0) of ∙ dying_where_unlinked h (standing v.part c).0 stood.0 stood.2 off) (ap (λ (d : ℕ). (standing v.part d).1) of ∙ stood.1));
-  })
+  ends_gone off = (
+    looked,
+    b,
+    record {
+      joined = ap (λ (x : ClassView). x.lane) looked_is;
+      aboard = refl;
+      chunk = of;
+      past = refl;
+      entry = subst (λ (k : ClassPart). IsShown k looked b Gone) (sym (ap (λ (x : ClassView). x.part) looked_is))
+          (unlinked_where_dying b.life.chunk b.life.generation (place.Unused, v.part.fresh) v.part.history (λ e. absurd (cc e)) (ap (λ (d : ℕ). (standing v.part d).0) of ∙ dying_where_unlinked h (standing v.part c).0 stood.0 stood.2 off) (ap (λ (d : ℕ). (standing v.part d).1) of ∙ stood.1));
+    },
+  )
 
   -- the time of one that is linked may be stored
   pub may_time : h.linked ≡ true → (owns c v₁.part ≡ true) × MayPutTime c (standing v₁.part c).0 v₁.lane
@@ -99,17 +102,21 @@ module _ (v v₁ : ClassView) (o : Option LanePart) (l : LanePart) (b : Bump) (c
 
     -- one that isn't in COLD gets its time only
     pub ends_elsewhere : Fits h → h.linked ≡ true → h.segment ≢ Cold → (x : LanePart) × (y : Bump) × Ends w₁ c TimeOnly x y
-    ends_elsewhere fits on other = (looked, b, record {
-      joined = ap (λ (x : ClassView). x.lane) timed_is;
-      aboard = refl;
-      chunk = of;
-      past = refl;
-      entry = omega (
-        arith,
-        total_push (λ x. bit (shows_time_only l.worker b.number b.life.chunk x)) l.steps (step_of kind.Try c (word_of h) (Some (l.worker, b.number))),
-        ap bit (ap₂ (λ (p q : Bool). p && q) (elsewhere h fits on other) (made_for l.worker b.number c b.life.chunk (sym of))),
-      );
-    })
+    ends_elsewhere fits on other = (
+      looked,
+      b,
+      record {
+        joined = ap (λ (x : ClassView). x.lane) timed_is;
+        aboard = refl;
+        chunk = of;
+        past = refl;
+        entry = omega (
+          arith,
+          total_push (λ x. bit (shows_time_only l.worker b.number b.life.chunk x)) l.steps (step_of kind.Try c (word_of h) (Some (l.worker, b.number))),
+          ap bit (ap₂ (λ (p q : Bool). p && q) (elsewhere h fits on other) (made_for l.worker b.number c b.life.chunk (sym of))),
+        );
+      },
+    )
 
     -- ACTIVE of one in COLD may be cleared
     pub may_clear : h.linked ≡ true → h.segment ≡ Cold → (owns c w₁.part ≡ true) × MayClear c (standing w₁.part c).0 w₁.lane
@@ -126,17 +133,21 @@ module _ (v v₁ : ClassView) (o : Option LanePart) (l : LanePart) (b : Bump) (c
 
       -- one without ACTIVE gets its time only
       pub ends_clear : Fits found → found.active ≡ false → (x : LanePart) × (y : Bump) × Ends v₂ c TimeOnly x y
-      ends_clear fits off = (record looked { stage = lane.Cleared b found.active }, b, record {
-        joined = ap (λ (x : ClassView). x.lane) cleared_is;
-        aboard = refl;
-        chunk = of;
-        past = refl;
-        entry = subst (λ (k : ClassPart). IsShown k (record looked { stage = lane.Cleared b found.active }) b TimeOnly) (sym (ap (λ (x : ClassView). x.part) cleared_is)) (omega (
-          arith,
-          total_push (λ x. bit (shows_time_only l.worker b.number b.life.chunk x)) (v.part.steps ++ step_of kind.PutTime c now (Some (l.worker, b.number)) ∷ []) (step_of kind.ClearActive c (word_of found) (Some (l.worker, b.number))),
-          ap bit (ap₂ (λ (p q : Bool). p && q) (clear_word found fits off) (made_for l.worker b.number c b.life.chunk (sym of))),
-        ));
-      })
+      ends_clear fits off = (
+        record looked { stage = lane.Cleared b found.active },
+        b,
+        record {
+          joined = ap (λ (x : ClassView). x.lane) cleared_is;
+          aboard = refl;
+          chunk = of;
+          past = refl;
+          entry = subst (λ (k : ClassPart). IsShown k (record looked { stage = lane.Cleared b found.active }) b TimeOnly) (sym (ap (λ (x : ClassView). x.part) cleared_is)) (omega (
+            arith,
+            total_push (λ x. bit (shows_time_only l.worker b.number b.life.chunk x)) (v.part.steps ++ step_of kind.PutTime c now (Some (l.worker, b.number)) ∷ []) (step_of kind.ClearActive c (word_of found) (Some (l.worker, b.number))),
+            ap bit (ap₂ (λ (p q : Bool). p && q) (clear_word found fits off) (made_for l.worker b.number c b.life.chunk (sym of))),
+          ));
+        },
+      )
 
       -- one with ACTIVE may be moved
       pub may_move_on : h.linked ≡ true → h.segment ≡ Cold → found.active ≡ true → (owns c v₂.part ≡ true) × ((standing v₂.part c).0 ≡ place_of Cold) × MayShift c Cold Warm v₂.lane
@@ -145,17 +156,21 @@ module _ (v v₁ : ClassView) (o : Option LanePart) (l : LanePart) (b : Bump) (c
 
       -- and its bump ends as moved
       pub ends_moved : (last : Head) (v₃ : ClassView) → v₃ ≡ shifted_class c Cold Warm last v₂ → found.active ≡ true → (x : LanePart) × (y : Bump) × Ends v₃ c Moved x y
-      ends_moved last v₃ moved some = (record looked { stage = lane.Moved b }, b, record {
-        joined = ap (λ (x : ClassView). x.lane) moved_is;
-        aboard = refl;
-        chunk = of;
-        past = refl;
-        entry = subst (λ (k : ClassPart). IsShown k (record looked { stage = lane.Moved b }) b Moved) (sym (ap (λ (x : ClassView). x.part) moved_is)) (omega (
-          arith,
-          total_push (λ x. bit (is_move_for (is_same b.life) l.worker b.number x)) v.part.history (change.Moved b.life Cold Warm (cause.Bump l.worker b.number)),
-          ap bit (ap₂ (λ (p q : Bool). p && q) (ap₂ (λ (p q : Bool). p && q) (eq-eqb b.life.chunk b.life.chunk refl) (eq-eqb b.life.generation b.life.generation refl)) (ap₂ (λ (p q : Bool). p && q) (eq-eqb l.worker l.worker refl) (eq-eqb b.number b.number refl))),
-        ));
-      })
+      ends_moved last v₃ moved some = (
+        record looked { stage = lane.Moved b },
+        b,
+        record {
+          joined = ap (λ (x : ClassView). x.lane) moved_is;
+          aboard = refl;
+          chunk = of;
+          past = refl;
+          entry = subst (λ (k : ClassPart). IsShown k (record looked { stage = lane.Moved b }) b Moved) (sym (ap (λ (x : ClassView). x.part) moved_is)) (omega (
+            arith,
+            total_push (λ x. bit (is_move_for (is_same b.life) l.worker b.number x)) v.part.history (change.Moved b.life Cold Warm (cause.Bump l.worker b.number)),
+            ap bit (ap₂ (λ (p q : Bool). p && q) (ap₂ (λ (p q : Bool). p && q) (eq-eqb b.life.chunk b.life.chunk refl) (eq-eqb b.life.generation b.life.generation refl)) (ap₂ (λ (p q : Bool). p && q) (eq-eqb l.worker l.worker refl) (eq-eqb b.number b.number refl))),
+          ));
+        },
+      )
         where
           moved_is : v₃ ≡ record { part = moved_class Cold Warm c (word_of last) (record looked { stage = lane.Cleared b found.active } ∷ []) cleared_part; lane = Some (record looked { stage = lane.Moved b }) }
           moved_is = moved ∙ ap (shifted_class c Cold Warm last) cleared_is

@@ -1,5 +1,5 @@
 -- A hold meets its class: each label that it read is the one that the class has for the chunk.
-use Rattle.std.proofs.Common.{◌≡◌, ℕ, ◌+◌, ◌*◌, ◌/◌, ◌<◌, ◌&&◌, eqb, not, Bool, true, false, [], ◌∷◌, ◌++◌, Option, Some, None, IsSome, refl, sym, ap, ap₂, ◌∙◌, subst, arith, eqb-true}
+use Rattle.std.proofs.Common.{◌≡◌, ℕ, ◌+◌, ◌*◌, ◌<◌, ◌&&◌, eqb, not, Bool, true, false, [], ◌∷◌, ◌++◌, Option, Some, None, IsSome, refl, sym, ap, ◌∙◌, subst, arith, eqb-true}
 use mathlib.Core.Option.{none}
 use native.Mathlib.Nat.{one-mul}
 use Rattle.atomic_table.specs.Table.{Me, Allows, step}

@@ -10,13 +10,8 @@ use Rattle.bump_rules.specs.Lives.{life, is_same, one_if, count_of}
 use Rattle.bump_rules.specs.History.{is_standing}
 use Rattle.bump_rules.specs.Entries.{is_move_for, is_unlink_of}
 use Rattle.bump_rules.proofs.Updates.{total_append}
-use Rattle.bump_heads.specs.declared.views.WorkerPart.{WorkerPart}
-use Rattle.bump_heads.specs.declared.views.HoldPart.{HoldPart}
-use Rattle.bump_heads.specs.declared.views.Ride.{Ride}
-use Rattle.bump_heads.specs.declared.views.ClassPart.{ClassPart}
-use Rattle.bump_heads.specs.declared.views.LanePart.{LanePart}
 use Rattle.bump_heads.specs.declared.views.View.{View}
-use Rattle.bump_heads.specs.Views.{Measure, held, named, saw, owners, strays, mislabels, misreads, misread, refers, in_hand, is_fetch_of, aboard_of, owns, standing, label_of, weight, claims, evidence, shown_by, claimed_in, Query, moves, settled, settled_in, lanes_of, untidy, untidy_in, shows_time_only}
+use Rattle.bump_heads.specs.Views.{Measure, held, named, saw, owners, strays, mislabels, misreads, misread, refers, in_hand, is_fetch_of, aboard_of, owns, standing, label_of, weight, shown_by, claimed_in, settled_in, untidy_in, shows_time_only}
 use Rattle.bump_heads.specs.Rule.{blank, Kept}
 use Rattle.bump_heads.specs.Cuts.{joined, without_lanes, lanes_only, without_holds, holds_only, without_class, class_only, without_worker, worker_only, without_lane, lane_only}
 use Rattle.bump_heads.specs.Plays.{behind, first_of}

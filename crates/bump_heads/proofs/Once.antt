@@ -1,5 +1,5 @@
 -- No bump is settled twice: a worker has one lane, and its bumps are numbered in order.
-use Rattle.std.proofs.Common.{◌≡◌, ℕ, ◌+◌, ◌<◌, ◌≤◌, ◌&&◌, ◌==◌, cond, Bool, true, false, List, [], ◌∷◌, set, Option, None, Some, refl, sym, ap, ◌∙◌, arith, eq-eqb, ne_eqb, eqb-true}
+use Rattle.std.proofs.Common.{◌≡◌, ℕ, ◌+◌, ◌<◌, ◌≤◌, ◌&&◌, ◌==◌, cond, Bool, true, false, List, [], ◌∷◌, set, Option, None, Some, refl, ap, arith, ne_eqb, eqb-true}
 use mathlib.Core.Bool.{false≢true}
 use mathlib.Core.Logic.{dite}
 use native.Mathlib.Decide.{ℕ_discrete}

@@ -1,13 +1,11 @@
 -- What a seat's view tells of the head that it finds.
-use Rattle.std.proofs.Common.{◌≡◌, ℕ, zero, suc, ◌+◌, ◌<◌, ◌&&◌, eqb, cond, not, Bool, true, false, List, [], ◌∷◌, refl, sym, ap, ap₂, ◌∙◌, subst, arith, eq-eqb, eqb-true}
+use Rattle.std.proofs.Common.{◌≡◌, ℕ, ◌+◌, ◌<◌, ◌&&◌, cond, not, Bool, true, false, List, [], ◌∷◌, refl, sym, ap, ap₂, ◌∙◌, subst, arith}
 use mathlib.Core.Bool.{false≢true}
-use Rattle.bump_rules.specs.declared.places.Place.{Place}
-use Rattle.bump_rules.specs.declared.places.Place.TheVariants.{Hot, Warm, Cold, Dying, Unused, Retired}
 use Rattle.bump_heads.specs.declared.views.ClassPart.{ClassPart}
 use Rattle.bump_heads.specs.declared.views.View.{View}
 use Rattle.bump_rules.specs.Totals.{total}
 use Rattle.bump_rules.specs.History.{Standing, is_standing}
-use Rattle.bump_heads.specs.Views.{Measure, held, named, saw, owners, strays, owns, standing, weight}
+use Rattle.bump_heads.specs.Views.{Measure, held, named, saw, strays, owns, standing, weight}
 use mathlib.Core.Logic.{dite}
 use native.Mathlib.Decide.{ℕ_discrete}
 use Rattle.bump_rules.proofs.Standings.{same_standing, standing_same}

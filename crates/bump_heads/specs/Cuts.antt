@@ -1,32 +1,7 @@
 -- How the views of seats are cut in two, and put together.
-use Rattle.std.specs.Prelude.{◌≡◌, ◌≢◌, ℕ, ◌+◌, ◌/◌, ◌%◌, ◌<◌, ◌≤◌, Bool, true, false, cond, not, ◌==◌, List, [], ◌∷◌, ◌++◌, Option, Some, None}
-use Rattle.atomic_table.specs.Table.{Me, Step}
-use Rattle.bump_rules.specs.declared.items.Head.{Head}
-use Rattle.bump_rules.specs.declared.items.ItemId.{ItemId}
-use Rattle.bump_rules.specs.declared.places.Segment.TheVariants.{Warm, Cold}
-use Rattle.bump_rules.specs.declared.history.Cause.TheVariants as cause
-use Rattle.bump_rules.specs.declared.history.Change.{Change}
-use Rattle.bump_rules.specs.declared.history.Change.TheVariants as change
-use Rattle.bump_rules.specs.declared.bumps.Bump.{Bump}
-use Rattle.bump_rules.specs.declared.bumps.Outcome.{Outcome}
-use Rattle.bump_rules.specs.declared.lanes.Lane.{Lane}
-use Rattle.bump_rules.specs.declared.lanes.Lane.TheVariants as lane
-use Rattle.bump_rules.specs.declared.bumps.AppliedBump.{AppliedBump}
-use Rattle.bump_rules.specs.Lawful.{bit, Shows, IsUsed}
-use Rattle.bump_rules.specs.History.{Standing}
-use Rattle.bump_rules.specs.Totals.{total}
-use Rattle.bump_word.specs.Words.{Spells}
-use Rattle.bump_heads.specs.declared.views.Empty.{Empty}
-use Rattle.bump_heads.specs.declared.views.Kind.{Kind}
-use Rattle.bump_heads.specs.declared.views.Kind.TheVariants as kind
-use Rattle.bump_heads.specs.declared.views.OwnStep.{OwnStep}
-use Rattle.bump_heads.specs.declared.views.ClassPart.{ClassPart}
-use Rattle.bump_heads.specs.declared.views.LanePart.{LanePart}
-use Rattle.bump_heads.specs.declared.views.HoldPart.{HoldPart}
+use Rattle.std.specs.Prelude.{[], ◌++◌}
 use Rattle.bump_heads.specs.declared.views.View.{View}
-use Rattle.bump_heads.specs.Views.{named, saw, owners, strays, weight, aboard_of, active_clear, owns, label_of, differs, Query, moves, settled, lanes_of}
 use Rattle.bump_heads.specs.Rule.{blank}
-
 use Rattle.bump_heads.specs.Plays.{behind, first_of}
 
 abbrev pub joined : View → View → View
@@ -61,4 +36,3 @@ without_lane v = record v { lanes = behind v.lanes }
 
 abbrev pub lane_only : View → View
 lane_only v = record blank { lanes = first_of v.lanes }
-

@@ -1,5 +1,5 @@
 -- The rule: what holds of the words and of all views between any two atomic steps of all threads.
-use Rattle.std.specs.Prelude.{◌≡◌, ℕ, zero, suc, ◌+◌, ◌-◌, ◌*◌, ◌^◌, ◌<◌, ◌≤◌, List, [], ◌∷◌, length, slice_index}
+use Rattle.std.specs.Prelude.{◌≡◌, ℕ, zero, suc, ◌+◌, ◌-◌, ◌*◌, ◌<◌, ◌≤◌, List, [], ◌∷◌, length, slice_index}
 use Rattle.atomic_table.specs.Table.{State}
 use Rattle.bump_rules.specs.declared.places.Place.{Place}
 use Rattle.bump_rules.specs.declared.items.Head.{Head}

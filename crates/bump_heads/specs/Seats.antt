@@ -1,29 +1,18 @@
 -- What contracts see of seats.
-use Rattle.std.specs.Prelude.{◌≡◌, ℕ, ◌+◌, ◌*◌, ◌<◌, ◌≤◌, ◌==◌, cond, Bool, true, false, List, [], ◌∷◌, Option, Some, None}
+use Rattle.std.specs.Prelude.{◌≡◌, ℕ, ◌+◌, ◌*◌, ◌<◌, ◌≤◌, true, List, [], ◌∷◌, Option, Some, None}
 use Rattle.atomic_table.specs.Table.{Me}
 use Rattle.atomic_table.specs.Seated.{TableId}
 use Rattle.atomic_table.specs.declared.shared.Seat.{Seat}
 use Rattle.bump_rules.specs.declared.items.ItemId.{ItemId}
 use Rattle.bump_rules.specs.declared.bumps.Bump.{Bump}
-use Rattle.bump_rules.specs.declared.lanes.Lane.{Lane}
-use Rattle.bump_rules.specs.declared.lanes.Lane.TheVariants as lane
-use Rattle.bump_rules.specs.declared.bumps.Outcome.{Outcome}
-use Rattle.bump_rules.specs.declared.items.Head.{Head}
-use Rattle.bump_rules.specs.Totals.{total}
-use Rattle.bump_rules.specs.Lawful.{Shows, IsUsed}
-use Rattle.bump_heads.specs.Applications.{tried_lane, cleared_view, timed_view, moved_view}
-use Rattle.bump_heads.specs.Plays.{every}
-use Rattle.bump_rules.specs.Lanes.{applied_bump}
-use Rattle.bump_rules.specs.Entries.{is_moved}
+use Rattle.bump_rules.specs.Lawful.{IsUsed}
 use Rattle.bump_rules.specs.Lives.{life}
-use Rattle.bump_rules.specs.Entries.{is_move_for}
 use Rattle.bump_rules.specs.Totals.{how_many}
 use Rattle.bump_rules.specs.Entries.{is_stray}
 use Rattle.bump_rules.specs.Rings.{IsAccounts}
 use Rattle.bump_rules.specs.History.{AreBetween}
 use Rattle.bump_rules.specs.Labels.{label_of_life}
 use Rattle.bump_heads.specs.Views.{label_of}
-use Rattle.bump_heads.specs.Applications.{is_past_move}
 use Rattle.bump_heads.specs.declared.views.Empty.{Empty}
 use Rattle.bump_heads.specs.declared.views.WorkerPart.{WorkerPart}
 use Rattle.bump_heads.specs.declared.views.HoldPart.{HoldPart}
@@ -32,7 +21,7 @@ use Rattle.bump_heads.specs.declared.views.LanePart.{LanePart}
 use Rattle.bump_heads.specs.declared.views.ClassView.{ClassView}
 use Rattle.bump_heads.specs.declared.views.WorkerView.{WorkerView}
 use Rattle.bump_heads.specs.declared.views.View.{View}
-use Rattle.bump_heads.specs.Views.{aboard_of, owns, standing, outcome_number, evidence}
+use Rattle.bump_heads.specs.Views.{aboard_of, owns, standing}
 use Rattle.bump_heads.specs.Rule.{blank, worker_part, lane_part}
 
 abbrev pub head_or : {A : Type 0} → A → List A → A

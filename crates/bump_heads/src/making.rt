@@ -6,8 +6,8 @@ ghost use Rattle.bump_heads.specs.Words.{words_id};
 ghost use Rattle.bump_heads.specs.Making.{BlankView as TheBlankView, class_seen, lane_seen, worker_seen, AreNewClasses, AreNewWorkers, AreEmpty};
 
 use crate::heads::Heads;
-use crate::seats::{ClassSeat, LaneSeat, WorkerSeat};
 use crate::names::Name;
+use crate::seats::{ClassSeat, LaneSeat, WorkerSeat};
 use crate::words::{Seat, Words};
 use atomic_table::Table;
 use bump_rules::Config;

@@ -1,5 +1,5 @@
 //! What seats know of the words: plain data, which contracts speak of. No value of it is ever made.
-use bump_rules::{Accounts, AppliedBump, Change, Hand, ItemId, Lane, LabelStep};
+use bump_rules::{Accounts, AppliedBump, Change, Hand, ItemId, LabelStep, Lane};
 use std::collections::LinkedList;
 
 /// A kind of atomic step.

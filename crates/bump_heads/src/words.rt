@@ -2,8 +2,8 @@
 ghost use Rattle.std.specs.Prelude.{◌≡◌, ◌*◌};
 ghost use Rattle.bump_heads.specs.Rule.{chunks as all_chunks};
 
-use crate::views::{Empty, View};
 use crate::rule::Rule;
+use crate::views::{Empty, View};
 use atomic_table::Table;
 use bump_rules::Config;
 use std::alloc::Global;

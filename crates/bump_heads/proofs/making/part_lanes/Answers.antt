@@ -1,4 +1,4 @@
-use Rattle.std.proofs.Common.{◌≡◌, ap, ◌∙◌, List, Option, ◌++◌, map}
+use Rattle.std.proofs.Common.{ap, ◌∙◌, List, Option, ◌++◌, map}
 use Rattle.bump_heads.specs.declared.views.LanePart.{LanePart}
 use Rattle.bump_heads.specs.Making.{lane_seen}
 use Rattle.bump_heads.proofs.Makings.{lane_turn}

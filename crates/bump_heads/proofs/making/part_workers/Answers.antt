@@ -1,4 +1,4 @@
-use Rattle.std.proofs.Common.{◌≡◌, ap, ◌∙◌, List, ◌++◌, map}
+use Rattle.std.proofs.Common.{ap, ◌∙◌, List, ◌++◌, map}
 use Rattle.bump_heads.specs.declared.views.WorkerView.{WorkerView}
 use Rattle.bump_heads.specs.Making.{worker_seen}
 use Rattle.bump_heads.proofs.Makings.{worker_turn}

@@ -1,4 +1,4 @@
-use Rattle.std.proofs.Common.{arith, ◌≡◌, ◌-◌, ◌*◌, ap, sym, ◌∙◌, subst, length, []}
+use Rattle.std.proofs.Common.{arith, ◌-◌, ◌*◌, ap, sym, ◌∙◌, subst, length, []}
 use Rattle.bump_heads.specs.Plays.{Sat}
 use Rattle.bump_rules.specs.declared.configs.Config.{Config}
 use Rattle.atomic_table.specs.Seated.{TableId}

@@ -1,4 +1,4 @@
-use Rattle.std.proofs.Common.{arith, ℕ, ◌≡◌, ◌-◌, List, [], subst, sym, ap, ◌∙◌, length}
+use Rattle.std.proofs.Common.{arith, ℕ, ◌-◌, List, [], subst, sym, ap, ◌∙◌, length}
 use Rattle.bump_rules.specs.Configs.{chunks_of}
 use Rattle.bump_rules.specs.declared.configs.Config.{Config}
 use Rattle.bump_heads.specs.Rule.{AreFresh, opened}

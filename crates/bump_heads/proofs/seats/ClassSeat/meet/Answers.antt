@@ -3,7 +3,7 @@ use Rattle.bump_heads.specs.Plays.{Sat}
 use Rattle.bump_heads.specs.Meetings.{Meets}
 use Rattle.bump_heads.specs.Cuts.{joined}
 use Rattle.bump_heads.specs.Seats.{class_in}
-use Rattle.bump_heads.proofs.Meetings.{MetBy, met_view}
+use Rattle.bump_heads.proofs.Meetings.{met_view}
 use Rattle.bump_heads.proofs.seats.ClassSeat.meet.Goals as goal
 
 pub returns-clause-label : goal.returns-clause-label
