@@ -1,17 +1,12 @@
 -- Steps of an application: whatever the other seats have, a class's seat with a lane joined to it can go on.
-use Rattle.std.proofs.Common.{◌≡◌, ℕ, ◌+◌, ◌-◌, ◌*◌, ◌/◌, ◌%◌, ◌^◌, ◌<◌, ◌≤◌, ◌≢◌, ◌&&◌, ◌==◌, eqb, cond, not, Bool, true, false, List, [], ◌∷◌, ◌++◌, Option, Some, None, refl, sym, ap, ap₂, ◌∙◌, subst, arith, eq-eqb, ne_eqb, eqb-true, bit_xor, bit_and}
+use Rattle.std.proofs.Common.{◌≡◌, ℕ, ◌+◌, ◌-◌, ◌*◌, ◌%◌, ◌^◌, ◌<◌, ◌≤◌, ◌≢◌, ◌&&◌, ◌==◌, eqb, cond, not, Bool, true, false, List, [], ◌∷◌, ◌++◌, Option, Some, None, refl, sym, ap, ap₂, ◌∙◌, subst, arith, eq-eqb, ne_eqb, eqb-true, bit_xor, bit_and}
 use mathlib.Core.Bool.{false≢true}
 use mathlib.Core.Option.{none}
-use Rattle.std.specs.Prelude.{⊤}
 use Rattle.atomic_table.specs.Table.{step, Allows}
 use Rattle.bump_rules.specs.declared.places.Segment.TheVariants.{Warm, Cold}
-use Rattle.bump_rules.specs.declared.items.Head.{Head}
 use Rattle.bump_rules.specs.declared.items.ItemId.{ItemId}
-use Rattle.bump_rules.specs.declared.places.Place.{Place}
 use Rattle.bump_rules.specs.declared.places.Place.TheVariants.{Unused}
-use Rattle.bump_rules.specs.declared.places.Place.TheVariants as place
 use Rattle.bump_rules.specs.declared.history.Cause.TheVariants as cause
-use Rattle.bump_rules.specs.declared.history.Change.{Change}
 use Rattle.bump_rules.specs.declared.history.Change.TheVariants as change
 use Rattle.bump_rules.specs.declared.configs.Config.{Config}
 use Rattle.bump_rules.specs.declared.bumps.Bump.{Bump}
@@ -32,11 +27,18 @@ use Rattle.bump_heads.specs.declared.views.OwnStep.{OwnStep}
 use Rattle.bump_heads.specs.declared.views.ClassPart.{ClassPart}
 use Rattle.bump_heads.specs.declared.views.LanePart.{LanePart}
 use Rattle.bump_heads.specs.declared.views.View.{View}
-use Rattle.bump_heads.specs.Views.{refers, aboard_of, Measure, held, named, saw, owners, strays, mislabels, misreads, owns, standing, label_of, weight, evidence, shown_by, claims, claimed_in, moves, settled, settled_in, is_entry, outcome_number, Query, lanes_of, in_order, is_next, untidy, untidy_in, shows_time_only, active_clear, IsBacked}
+use Rattle.bump_heads.specs.Views.{refers, aboard_of, Measure, held, named, saw, owners, strays, mislabels, misreads, owns, standing, label_of, weight, evidence, shown_by, claims, claimed_in, settled_in, is_entry, outcome_number, Query, in_order, untidy_in, shows_time_only, active_clear, IsBacked}
 use Rattle.bump_heads.specs.Rule.{Sound, chunks, Kept}
-use Rattle.bump_heads.specs.Plays.{Sat, Tells, on_chunk, on_first, step_of, Told, Stands}
-use Rattle.bump_heads.specs.Applications.{for_bump, for_first, tried_stage, tried_lane, tried_view, tried, cleared_stage, cleared_view, cleared, noted_class, timed_view, timed, moved_view, moved_on, alighted_lane, alighted_view, alighted, entry_of}
-use Rattle.bump_heads.specs.Applications.{applying, Moves, MayMove, is_past_move, Alights, MayAlight}
+use Rattle.bump_heads.specs.Plays.{Sat, Tells, on_chunk, step_of, Stands}
+use Rattle.bump_heads.specs.Applications.{for_bump, for_first, tried_stage, tried_lane, tried_view, tried, cleared_stage, cleared_view, cleared, noted_class, timed_view, timed, moved_on, alighted_view, alighted, entry_of}
+use Rattle.bump_heads.specs.Applications.{applying, pulling, StandsIn, life_in, cleared_lane, MayMove, is_past_move, Alights, MayAlight}
+use Rattle.bump_rules.specs.declared.places.Segment.{Segment}
+use Rattle.bump_rules.specs.declared.history.Cause.{Cause}
+use Rattle.bump_rules.specs.History.{place_of}
+use Rattle.bump_rules.proofs.ToldMoves.{no_move}
+use Rattle.bump_rules.specs.Tables.{is_cold as is_cold_segment, is_warm as is_warm_segment}
+use Rattle.std.proofs.Common.{inl, inr}
+use Rattle.bump_heads.specs.Rule.{blank}
 use Rattle.bump_heads.proofs.Told.{at_standing, tells, stands_alone}
 use Rattle.bump_rules.specs.Lives.{life, one_if, is_same}
 use Rattle.bump_rules.specs.Lanes.{applied_bump}
@@ -48,16 +50,16 @@ use Rattle.bump_rules.proofs.Standings.{standing_same}
 use Rattle.bump_heads.proofs.Frame.{Same, Amid, Reaches, on_time, same_sound}
 use Rattle.bump_heads.proofs.StepLemmas.{time_chunk_is, at_chunk, on_first_total, on_first_le, same_counts, level, one_life, other_life, other_chunk}
 
--- ---- S14
+-- ---- looking at the head of the bump's item
 
-tried_refers : (s : Lane) → aboard_of (tried_stage s) ≡ aboard_of s
+pub tried_refers : (s : Lane) → aboard_of (tried_stage s) ≡ aboard_of s
 tried_refers lane.Empty = refl
 tried_refers (lane.Carrying b) = refl
 tried_refers (lane.Tried b) = refl
 tried_refers (lane.Cleared b f) = refl
 tried_refers (lane.Moved b) = refl
 
-tried_going : (q : Query) (s : Lane) → moving q.test q.number (tried_stage s) ≡ moving q.test q.number s
+pub tried_going : (q : Query) (s : Lane) → moving q.test q.number (tried_stage s) ≡ moving q.test q.number s
 tried_going q lane.Empty = refl
 tried_going q (lane.Carrying b) = refl
 tried_going q (lane.Tried b) = refl
@@ -89,9 +91,9 @@ tried_backed c n v = record {
     by wk e outcome.Gone = omega arith
     by wk e outcome.TimeOnly = let more = on_first_le (λ l. how_many (shows_time_only wk e.number e.life.chunk) l.steps) (tried_lane c n) (λ l. omega (arith, total_push (λ x. cond (shows_time_only wk e.number e.life.chunk x) 1 0) l.steps (step_of kind.Try c n (for_bump l)))) v.lanes in omega arith
 
--- ---- S12
+-- ---- clearing ACTIVE
 
-cleared_refers : (f : Bool) (s : Lane) → aboard_of (cleared_stage f s) ≡ aboard_of s
+pub cleared_refers : (f : Bool) (s : Lane) → aboard_of (cleared_stage f s) ≡ aboard_of s
 cleared_refers f lane.Empty = refl
 cleared_refers f (lane.Carrying b) = refl
 cleared_refers f (lane.Tried b) = refl
@@ -106,12 +108,8 @@ cleared_going q f (lane.Cleared b g) = refl
 cleared_going q f (lane.Moved b) = refl
 
 module _ (c n : ℕ) (v : View) where
-  clear_lane : LanePart → LanePart
-  clear_lane l = record l { stage = cleared_stage (not (active_clear n)) l.stage }
-
   cleared_same : (b : ℕ) → Same b v (cleared_view c n v)
-  unfolding clear_lane
-  cleared_same b (held j) = omega (arith, on_first_total (λ l. refers b j (aboard_of l.stage)) clear_lane (λ l. ap (refers b j) (cleared_refers (not (active_clear n)) l.stage)) v.lanes)
+  cleared_same b (held j) = omega (arith, on_first_total (λ l. refers b j (aboard_of l.stage)) (cleared_lane (not (active_clear n))) (λ l. ap (refers b j) (cleared_refers (not (active_clear n)) l.stage)) v.lanes)
   cleared_same b (named j) = refl
   cleared_same b (saw j) = refl
   cleared_same b owners = on_first_total (λ k. cond (owns b k) 1 0) (noted_class kind.ClearActive c n v.lanes) (λ k. refl) v.classes
@@ -120,22 +118,21 @@ module _ (c n : ℕ) (v : View) where
   cleared_same b (misreads j x) = refl
 
   cleared_backed : IsBacked v (cleared_view c n v)
-  unfolding clear_lane
   cleared_backed = record {
-    backs = λ wk e. (by wk e e.outcome, λ more. absurd (let same = on_first_total (claimed_in wk e) clear_lane (λ l. refl) v.lanes in omega arith));
-    even = λ q. let same = on_first_total (settled_in q) clear_lane (λ l. cond_is (l.worker == q.worker) _ _ (ap (λ (g : ℕ). how_many (is_told_moved q.test q.number) l.applied + g) (cleared_going q (not (active_clear n)) l.stage))) v.lanes in
+    backs = λ wk e. (by wk e e.outcome, λ more. absurd (let same = on_first_total (claimed_in wk e) (cleared_lane (not (active_clear n))) (λ l. refl) v.lanes in omega arith));
+    even = λ q. let same = on_first_total (settled_in q) (cleared_lane (not (active_clear n))) (λ l. cond_is (l.worker == q.worker) _ _ (ap (λ (g : ℕ). how_many (is_told_moved q.test q.number) l.applied + g) (cleared_going q (not (active_clear n)) l.stage))) v.lanes in
         let same_moves = on_first_total (λ k. how_many (is_move_for q.test q.worker q.number) k.history) (noted_class kind.ClearActive c n v.lanes) (λ k. refl) v.classes in omega arith;
-    lanes = λ w. let same = on_first_total (λ l. cond (l.worker == w) 1 0) clear_lane (λ l. refl) v.lanes in omega arith;
-    tidy = let same = on_first_total untidy_in clear_lane (λ l. ap (λ (o : Option Bump). cond (in_order 0 l.applied o) 0 1) (cleared_refers (not (active_clear n)) l.stage)) v.lanes in omega arith;
+    lanes = λ w. let same = on_first_total (λ l. cond (l.worker == w) 1 0) (cleared_lane (not (active_clear n))) (λ l. refl) v.lanes in omega arith;
+    tidy = let same = on_first_total untidy_in (cleared_lane (not (active_clear n))) (λ l. ap (λ (o : Option Bump). cond (in_order 0 l.applied o) 0 1) (cleared_refers (not (active_clear n)) l.stage)) v.lanes in omega arith;
   }
     where
       by : (wk : ℕ) (e : AppliedBump) (o : Outcome) → shown_by o wk e v ≤ shown_by o wk e (cleared_view c n v)
       by wk e outcome.Moved = omega (arith, on_first_total (λ k. how_many (is_move_for (is_same e.life) wk e.number) k.history) (noted_class kind.ClearActive c n v.lanes) (λ k. refl) v.classes)
       by wk e outcome.Gone = omega (arith, on_first_total (λ k. how_many (is_unlink_of e.life) k.history) (noted_class kind.ClearActive c n v.lanes) (λ k. refl) v.classes)
       by wk e outcome.TimeOnly = let more = on_first_le (λ k. how_many (shows_time_only wk e.number e.life.chunk) k.steps) (noted_class kind.ClearActive c n v.lanes) (λ k. omega (arith, total_push (λ x. cond (shows_time_only wk e.number e.life.chunk x) 1 0) k.steps (step_of kind.ClearActive c n (for_first v.lanes)))) v.classes in
-          let same = on_first_total (λ l. how_many (shows_time_only wk e.number e.life.chunk) l.steps) clear_lane (λ l. refl) v.lanes in omega arith
+          let same = on_first_total (λ l. how_many (shows_time_only wk e.number e.life.chunk) l.steps) (cleared_lane (not (active_clear n))) (λ l. refl) v.lanes in omega arith
 
--- ---- S17
+-- ---- storing the time
 
 module _ (c n : ℕ) (v : View) where
   timed_same : (b : ℕ) → Same b v (timed_view c n v)
@@ -186,7 +183,7 @@ module _ (key : Config) (slots id : ℕ) (m : Sat) (c : ℕ) (near : c < chunks 
     })),
     (λ b ne. cleared_same c n m.0 b),
     cleared_backed c n m.0,
-    (refl, (o.head, o.spells, tells c key.refs_limit n x m.0 t o a)),
+    (refl, refl, (o.head, o.spells, tells c key.refs_limit n x m.0 t o a)),
   ))
 
   pub times : (now : ℕ) → Allows (Kept key) slots id m (3 * c + 1) (λ _. now) (λ _. timed (step slots (3 * c + 1) now 0 none) m now)
@@ -199,7 +196,7 @@ module _ (key : Config) (slots id : ℕ) (m : Sat) (c : ℕ) (near : c < chunks 
         refl,
       )))
 
--- ---- S13 and S15, of a class's seat with a lane that is at the right stage
+-- ---- moves: a class's part gets an entry, and the lanes that are joined keep their references
 
 -- one more move, and one more that is about to settle
 even_bits : (s w n : Bool) (t : ℕ) → cond (s && (w && n)) 1 0 + cond w (t + 0) 0 ≡ cond w (t + cond (n && s) 1 0) 0
@@ -210,96 +207,130 @@ even_bits false true true t = omega arith
 even_bits false true false t = omega arith
 even_bits false false n t = omega arith
 
-module _ (key : Config) (slots id c : ℕ) (near : c < chunks key) (k : ClassPart) (l : LanePart) (b : Bump) (of : b.life.chunk ≡ c) (own : owns c k ≡ true) (sl : List (ℕ × Empty)) where
-  ready : LanePart
-  ready = record l { stage = lane.Cleared b true }
+module _ (c : ℕ) (k : ClassPart) (own : owns c k ≡ true) (l : ItemId) (of : l.chunk ≡ c) (from to : Segment) (why : Cause) (made : OwnStep) where
+  -- the class's part with one more move
+  abbrev pub shifted : ClassPart
+  shifted = record k { history = k.history ++ change.Moved l from to why ∷ []; steps = k.steps ++ made ∷ [] }
 
-  change_of : Change
-  change_of = change.Moved b.life Cold Warm (cause.Bump l.worker b.number)
+  abbrev pub to_be : Standing
+  to_be = (place_of to, l.generation)
 
-  to_be : Standing
-  to_be = (place.Warm, b.life.generation)
+  -- it leaves other chunks where they are
+  shift_stands : (d : ℕ) → d ≢ c → standing shifted d ≡ standing k d
+  shift_stands d ne = standing_push d (Unused, k.fresh) k.history (change.Moved l from to why) ∙ ap (λ (o : Bool). cond o (place_of to, l.generation) (standing k d)) (ne_eqb l.chunk d (λ q. ne (sym q ∙ of)))
 
-  module _ (n : ℕ) where
-    after : View
-    unfolding ready
-    after = moved_view c n (applying k ready)
+  -- and its own chunk in the segment to which it went
+  shift_stands_here : standing shifted c ≡ (place_of to, l.generation)
+  shift_stands_here = standing_push c (Unused, k.fresh) k.history (change.Moved l from to why) ∙ ap (λ (o : Bool). cond o (place_of to, l.generation) (standing k c)) (eq-eqb l.chunk c of)
 
-    shift_apart : (d : ℕ) → d ≢ c → Same d (applying k ready) after
-    unfolding ready after
-    shift_apart d ne (held j) = refl
+  module _ (ls ms : List LanePart) (keep : (d j : ℕ) → total (λ x. refers d j (aboard_of x.stage)) ms ≡ total (λ x. refers d j (aboard_of x.stage)) ls) where
+    abbrev pub stood : View
+    stood = record blank { classes = k ∷ []; lanes = ls }
+
+    abbrev pub went : View
+    went = record blank { classes = shifted ∷ []; lanes = ms }
+
+    shift_apart : (d : ℕ) → d ≢ c → Same d stood went
+    shift_apart d ne (held j) = omega (arith, keep d j)
     shift_apart d ne (named j) = refl
     shift_apart d ne (saw j) = refl
     shift_apart d ne owners = refl
-    shift_apart d ne (strays s) = ap (λ (at : Standing). bit (owns d k && not (is_standing at s)) + 0)
-        (standing_push d (Unused, k.fresh) k.history (change.Moved b.life Cold Warm (cause.Bump l.worker b.number)) ∙ ap (λ o. cond o (place.Warm, b.life.generation) (standing k d)) (ne_eqb b.life.chunk d (λ q. ne (sym q ∙ of))))
+    shift_apart d ne (strays s) = ap (λ (at : Standing). bit (owns d k && not (is_standing at s)) + 0) (shift_stands d ne)
     shift_apart d ne (mislabels z) = refl
     shift_apart d ne (misreads j z) = refl
 
-    no_stray : weight c (strays to_be) after ≡ 0
-    unfolding ready after to_be
-    no_stray = ap₂ (λ (o same : Bool). bit (o && not same) + 0) own (standing_same _ _ (standing_push c (Unused, k.fresh) k.history (change.Moved b.life Cold Warm (cause.Bump l.worker b.number)) ∙ ap (λ o. cond o (place.Warm, b.life.generation) (standing k c)) (eq-eqb b.life.chunk c of)))
+    no_stray : weight c (strays to_be) went ≡ 0
+    no_stray = ap₂ (λ (o same : Bool). bit (o && not same) + 0) own (standing_same _ _ shift_stands_here)
 
-    shift_backed : IsBacked (applying k ready) after
-    unfolding ready after
-    shift_backed = record {
-      backs = λ wk e. (by wk e e.outcome, λ more. absurd (omega arith));
-      even = λ q. omega (
-        arith,
-        total_push (λ x. cond (is_move_for q.test q.worker q.number x) 1 0) k.history (change.Moved b.life Cold Warm (cause.Bump l.worker b.number)),
-        even_bits (q.test b.life) (l.worker == q.worker) (b.number == q.number) (how_many (is_told_moved q.test q.number) l.applied),
-      );
-      lanes = λ w. refl;
-      tidy = omega arith;
-    }
-      where
-        by : (wk : ℕ) (e : AppliedBump) (o : Outcome) → shown_by o wk e (applying k (record l { stage = lane.Cleared b true })) ≤ shown_by o wk e (moved_view c n (applying k (record l { stage = lane.Cleared b true })))
-        by wk e outcome.Moved = omega (arith, total_push (λ z. cond (is_move_for (is_same e.life) wk e.number z) 1 0) k.history (change.Moved b.life Cold Warm (cause.Bump l.worker b.number)))
-        by wk e outcome.Gone = omega (arith, total_push (λ z. cond (is_unlink_of e.life z) 1 0) k.history (change.Moved b.life Cold Warm (cause.Bump l.worker b.number)))
-        by wk e outcome.TimeOnly = omega (arith, total_push (λ z. cond (shows_time_only wk e.number e.life.chunk z) 1 0) k.steps (step_of kind.Move c n (Some (l.worker, b.number))))
-
-    shift_sound : (limit p label : ℕ) (t u : Measure → ℕ) → Amid c (applying k ready) t → ((y : Measure) → u y + weight c y (applying k ready) ≡ t y + weight c y after) → (o : Sound limit n label t) → Spells p (record o.head { segment = Warm }) → o.head.generation ≡ b.life.generation
-        → Lawful limit (record o.head { segment = Warm }) place.Warm (λ g. t (held g)) (λ g. t (named g)) → Sound limit p label u
-    unfolding ready after to_be
-    shift_sound limit p label t u a moves o spells gen lawful = record {
-      head = record o.head { segment = Warm };
-      at = place.Warm;
+    shift_sound : (limit p label : ℕ) (t u : Measure → ℕ) → Amid c stood t → ((y : Measure) → u y + weight c y stood ≡ t y + weight c y went) → (o : Sound limit p label t) → (n : ℕ) → Spells n (record o.head { segment = to }) → o.head.generation ≡ l.generation → o.head.linked ≡ true
+        → Sound limit n label u
+    shift_sound limit p label t u a adds o n spells gen on = record {
+      head = record o.head { segment = to };
+      at = place_of to;
       spells = spells;
-      lawful = subst (λ (y : (ℕ → ℕ) × (ℕ → ℕ)). Lawful limit (record o.head { segment = Warm }) place.Warm y.0 y.1) (λ i. ((λ g. level (t (held g)) (u (held g)) (weight c (held g) (applying k (record l { stage = lane.Cleared b true }))) (moves (held g)) i), (λ g. level (t (named g)) (u (named g)) 0 (moves (named g)) i))) lawful;
-      owned = omega (arith, moves owners, o.owned);
-      agreed = subst (λ (g : ℕ). u (strays (place.Warm, g)) ≡ 0) (sym gen) (omega (arith, moves (strays (place.Warm, b.life.generation)), no_stray, a.others (strays_at), a.mine owners, o.owned, ap bit own));
-      labelled = omega (arith, moves (mislabels label), o.labelled);
-      read = omega (arith, moves (misreads o.head.generation label), o.read);
-      hit = λ j some. omega (arith, moves (named j), o.hit j (omega (arith, some, moves (saw j))));
+      lawful = subst (λ (y : (ℕ → ℕ) × (ℕ → ℕ)). Lawful limit (record o.head { segment = to }) (place_of to) y.0 y.1)
+          (λ i. ((λ g. level_kept (t (held g)) (u (held g)) (weight c (held g) stood) (weight c (held g) went) (keep_held g) (adds (held g)) i), (λ g. level (t (named g)) (u (named g)) 0 (adds (named g)) i)))
+          (moved limit o.head o.at (λ g. t (held g)) (λ g. t (named g)) o.lawful to on);
+      owned = omega (arith, adds owners, o.owned);
+      agreed = subst (λ (g : ℕ). u (strays (place_of to, g)) ≡ 0) (sym gen) (omega (arith, adds (strays to_be), no_stray, a.others to_be, a.mine owners, o.owned, ap bit own));
+      labelled = omega (arith, adds (mislabels label), o.labelled);
+      read = omega (arith, adds (misreads o.head.generation label), o.read);
+      hit = λ j some. omega (arith, adds (named j), o.hit j (omega (arith, some, adds (saw j))));
     }
       where
-        strays_at : Standing
-        strays_at = (place.Warm, b.life.generation)
+        keep_held : (g : ℕ) → weight c (held g) went ≡ weight c (held g) stood
+        keep_held g = omega (arith, keep c g)
 
-  pub shifts : (x : ℕ) → standing k c ≡ (place.Cold, b.life.generation)
-      → Allows (Kept key) slots id (applying k (record l { stage = lane.Cleared b true }), sl) (3 * c) (λ n. bit_xor n (segment_change Cold Warm)) (on_chunk moved_on (step slots (3 * c) x 0 none) (applying k (record l { stage = lane.Cleared b true }), sl))
-  unfolding ready after
-  shifts x st = at_chunk moved_on key slots id (applying k (record l { stage = lane.Cleared b true }), sl) c x (λ n. bit_xor n (segment_change Cold Warm)) near (λ n label t limits o a.
-      let stands : Stands c (applying k (record l { stage = lane.Cleared b true })) (place.Cold, b.life.generation) = subst (Stands c (applying k (record l { stage = lane.Cleared b true }))) st (stands_alone c (applying k (record l { stage = lane.Cleared b true })) k refl own) in
-      let at = at_standing c key.refs_limit n label (applying k (record l { stage = lane.Cleared b true })) t o a (place.Cold, b.life.generation) stands in
-      let cold : o.at ≡ place.Cold = ap (λ (s : Standing). s.0) at in
-      let shows = in_segment o.head Cold (subst (Shows o.head) cold o.lawful.shown) in (
-        moved_view c n (applying k (record l { stage = lane.Cleared b true })),
-        (λ u moves. shift_sound n key.refs_limit (bit_xor n (segment_change Cold Warm)) label t u a moves o (change_segment Cold Warm n o.head o.spells shows.1) (ap (λ (s : Standing). s.1) at)
-            (moved key.refs_limit o.head o.at (λ g. t (held g)) (λ g. t (named g)) o.lawful Warm shows.0)),
-        (λ d ne. shift_apart n d ne),
-        shift_backed n,
-        (refl, (o.head, o.spells, tells c key.refs_limit n label (applying k (record l { stage = lane.Cleared b true })) t o a)),
-      ))
+        level_kept : (p q w x : ℕ) → x ≡ w → q + w ≡ p + x → p ≡ q
+        level_kept p q w x e m = omega (arith, e, m)
+
+    -- what the class shows of entries stays
+    shift_shows : (wk : ℕ) (e : AppliedBump) (o : Outcome) → total (λ x. how_many (shows_time_only wk e.number e.life.chunk) x.steps) ms ≡ total (λ x. how_many (shows_time_only wk e.number e.life.chunk) x.steps) ls → shown_by o wk e stood ≤ shown_by o wk e went
+    shift_shows wk e outcome.Moved same = omega (arith, total_push (λ z. cond (is_move_for (is_same e.life) wk e.number z) 1 0) k.history (change.Moved l from to why))
+    shift_shows wk e outcome.Gone same = omega (arith, total_push (λ z. cond (is_unlink_of e.life z) 1 0) k.history (change.Moved l from to why))
+    shift_shows wk e outcome.TimeOnly same = omega (arith, same, total_push (λ z. cond (shows_time_only wk e.number e.life.chunk z) 1 0) k.steps made)
+
+    module _ (key : Config) (slots id : ℕ) (near : c < chunks key) (sl : List (ℕ × Empty)) where
+      -- the seat of the class can go on so, where the move is of the life that the chunk has, and evens out
+      shift_goes : (tells : Tells) (x : ℕ) (at : Standing) → standing k c ≡ at → at.0 ≡ place_of from → ((n y : ℕ) (t : Measure → ℕ) (o : Sound key.refs_limit n y t) → Amid c stood t → o.head.generation ≡ at.1 → l.generation ≡ at.1) → IsBacked stood went
+          → (n y : ℕ) (t : Measure → ℕ) → (0 < key.refs_limit) × (key.refs_limit < 65536) → (o : Sound key.refs_limit n y t) → Amid c stood t → tells c x (stood, sl) n (went, sl)
+          → Reaches key c (stood, sl) (tells c x (stood, sl) n) (bit_xor n (segment_change from to)) y t
+      shift_goes say x at st place same_life back n y t limits o a told =
+          let stands : Stands c stood at = subst (Stands c stood) st (stands_alone c stood k refl own) in
+          let here = at_standing c key.refs_limit n y stood t o a at stands in
+          let shows = in_segment o.head from (subst (Shows o.head) (ap (λ (s : Standing). s.0) here ∙ place) o.lawful.shown) in
+          let gen : o.head.generation ≡ at.1 = ap (λ (s : Standing). s.1) here in (
+            went,
+            (λ u adds. shift_sound key.refs_limit n y t u a adds o (bit_xor n (segment_change from to)) (change_segment from to n o.head o.spells shows.1) (gen ∙ sym (same_life n y t o a gen)) shows.0),
+            (λ d ne. shift_apart d ne),
+            back,
+            told,
+          )
+
+-- ---- what is asked of a move
+
+module _ (key : Config) (slots id c : ℕ) (near : c < chunks key) (k : ClassPart) (from to : Segment) (st : StandsIn from c k) (sl : List (ℕ × Empty)) where
+  -- a pull's
+  pub pulls : (x : ℕ) → Allows (Kept key) slots id (pulling k, sl) (3 * c) (λ n. bit_xor n (segment_change from to)) (on_chunk (moved_on from to) (step slots (3 * c) x 0 none) (pulling k, sl))
+  pulls x = at_chunk (moved_on from to) key slots id (pulling k, sl) c x (λ n. bit_xor n (segment_change from to)) near (λ n y t limits o a.
+      let l : ItemId = life_in k c in let made : OwnStep = step_of kind.Move c n None in
+      shift_goes c k st.0 l refl from to cause.Pull made [] [] (λ d j. refl) key slots id near sl (moved_on from to) x (standing k c) refl st.1 (λ n y t o a gen. refl)
+      (record {
+        backs = λ wk e. (shift_shows c k st.0 l refl from to cause.Pull made [] [] (λ d j. refl) wk e e.outcome refl, λ more. absurd (omega arith));
+        even = λ q. omega (arith, total_push (λ z. cond (is_move_for q.test q.worker q.number z) 1 0) k.history (change.Moved l from to cause.Pull), ap bit (no_move q.test q.worker q.number (change.Moved l from to cause.Pull) refl));
+        lanes = λ w. refl;
+        tidy = omega arith;
+      })
+      n y t limits o a (refl, (o.head, o.spells, tells c key.refs_limit n y (pulling k) t o a)))
+
+  -- that of the bump aboard
+  pub shifts : (l : LanePart) (b : Bump) → b.life.chunk ≡ c → from ≡ Cold → to ≡ Warm → (x : ℕ)
+      → Allows (Kept key) slots id (applying k (record l { stage = lane.Cleared b true }), sl) (3 * c) (λ n. bit_xor n (segment_change from to)) (on_chunk (moved_on from to) (step slots (3 * c) x 0 none) (applying k (record l { stage = lane.Cleared b true }), sl))
+  shifts l b of is_cold is_warm x = at_chunk (moved_on from to) key slots id (applying k (record l { stage = lane.Cleared b true }), sl) c x (λ n. bit_xor n (segment_change from to)) near (λ n y t limits o a.
+      let why : Cause = cause.Bump l.worker b.number in let made : OwnStep = step_of kind.Move c n (Some (l.worker, b.number)) in
+      let ls : List LanePart = record l { stage = lane.Cleared b true } ∷ [] in let ms : List LanePart = record l { stage = lane.Moved b } ∷ [] in
+      shift_goes c k st.0 b.life of from to why made ls ms (λ d j. refl) key slots id near sl (moved_on from to) x (standing k c) refl st.1
+      (λ n y t o a gen. (o.lawful.used b.life.generation (omega (arith, a.mine (held b.life.generation), one_life b.life, ap (λ (d : ℕ). one_if (life d b.life.generation) b.life) of))).0 ∙ gen)
+      (record {
+        backs = λ wk e. (shift_shows c k st.0 b.life of from to why made ls ms (λ d j. refl) wk e e.outcome refl, λ more. absurd (omega arith));
+        even = λ q. omega (
+          arith,
+          total_push (λ z. cond (is_move_for q.test q.worker q.number z) 1 0) k.history (change.Moved b.life from to why),
+          ap₂ (λ (f g : Segment). bit (q.test b.life && (is_cold_segment f && (is_warm_segment g && ((l.worker == q.worker) && (b.number == q.number)))))) is_cold is_warm,
+          even_bits (q.test b.life) (l.worker == q.worker) (b.number == q.number) (how_many (is_told_moved q.test q.number) l.applied),
+        );
+        lanes = λ w. refl;
+        tidy = omega arith;
+      })
+      n y t limits o a (refl, (o.head, o.spells, tells c key.refs_limit n y (applying k (record l { stage = lane.Cleared b true })) t o a)))
 
 -- for the contract
-pub may_move : (key : Config) (slots id c x : ℕ) (m : Sat) → c < chunks key → MayMove c m.0 → Allows (Kept key) slots id m (3 * c) (λ n. bit_xor n (segment_change Cold Warm)) (on_chunk moved_on (step slots (3 * c) x 0 none) m)
-may_move key slots id c x m near may = let k : ClassPart = may.0 in let l : LanePart = may.1 in let b : Bump = may.2 in let g : Moves c m.0 k l b = may.3 in
-    let is : m.0 ≡ applying k (record l { stage = lane.Cleared b true }) = g.view ∙ ap (λ (s : Lane). applying k (record l { stage = s })) g.stage in
-    subst (λ (v : View). Allows (Kept key) slots id (v, m.1) (3 * c) (λ n. bit_xor n (segment_change Cold Warm)) (on_chunk moved_on (step slots (3 * c) x 0 none) (v, m.1))) (sym is)
-    (shifts key slots id c near k l b g.chunk g.own m.1 x g.stands)
+pub may_move : (key : Config) (slots id c x : ℕ) (from to : Segment) (m : Sat) → c < chunks key → MayMove from to c m.0 → Allows (Kept key) slots id m (3 * c) (λ n. bit_xor n (segment_change from to)) (on_chunk (moved_on from to) (step slots (3 * c) x 0 none) m)
+may_move key slots id c x from to m near (inl (k, p)) = subst (λ (v : View). Allows (Kept key) slots id (v, m.1) (3 * c) (λ n. bit_xor n (segment_change from to)) (on_chunk (moved_on from to) (step slots (3 * c) x 0 none) (v, m.1))) (sym p.view) (pulls key slots id c near k from to p.stands m.1 x)
+may_move key slots id c x from to m near (inr (k, l, b, g)) = let is : m.0 ≡ applying k (record l { stage = lane.Cleared b true }) = g.view ∙ ap (λ (s : Lane). applying k (record l { stage = s })) g.stage in
+    subst (λ (v : View). Allows (Kept key) slots id (v, m.1) (3 * c) (λ n. bit_xor n (segment_change from to)) (on_chunk (moved_on from to) (step slots (3 * c) x 0 none) (v, m.1))) (sym is) (shifts key slots id c near k from to g.stands m.1 l b g.chunk g.from_cold g.to_warm x)
 
--- ---- S15
+-- ---- the end of a bump
 
 bump_or : Bump → Option Bump → Bump
 bump_or d None = d
@@ -319,6 +350,15 @@ moving_of q s b e = by s e
     by (lane.Tried d) e = refl
     by (lane.Cleared d f) e = refl
     by (lane.Moved d) e = ap (λ (x : Bump). cond ((x.number == q.number) && q.test x.life) 1 0) (one_bump d b e)
+
+-- the entry tells of the move that was in progress
+pub alighted_tells : (test : ItemId → Bool) (n : ℕ) (l : LanePart) (b : Bump) (out : Outcome) → aboard_of l.stage ≡ Some b → is_past_move l.stage ≡ is_moved out → moves_told test n (l.applied ++ entry_of out (aboard_of l.stage)) lane.Empty ≡ moves_told test n l.applied l.stage
+alighted_tells test n l b out aboard past = omega (
+  arith,
+  total_append (λ a. cond (is_told_moved test n a) 1 0) l.applied (entry_of out (aboard_of l.stage)),
+  ap (λ (o : Option Bump). total (λ a. cond (is_told_moved test n a) 1 0) (entry_of out o)) aboard,
+  moving_of (record { test = test; worker = 0; number = n }) l.stage b aboard ∙ ap (λ (x : Bool). cond (x && ((b.number == n) && test b.life)) 1 0) past,
+)
 
 and_both : (a b : Bool) → (a && b) ≡ true → (a ≡ true) × (b ≡ true)
 and_both true true e = (refl, refl)

@@ -1,8 +1,7 @@
 -- A rider that boards a lane.
-use Rattle.std.proofs.Common.{◌≡◌, ℕ, ◌+◌, List, [], ◌∷◌, length, refl, sym, ap, ◌∙◌, subst, arith, Bool, cond, ◌&&◌, ◌==◌, Option, Some, None, eq-eqb}
+use Rattle.std.proofs.Common.{◌≡◌, ℕ, ◌+◌, List, [], ◌∷◌, length, refl, ap, arith, Bool, cond, ◌&&◌, ◌==◌, Some, None, eq-eqb}
 use Rattle.atomic_table.specs.Table.{Joins}
 use Rattle.bump_rules.specs.declared.configs.Config.{Config}
-use Rattle.bump_rules.specs.declared.lanes.Lane.{Lane}
 use Rattle.bump_rules.specs.declared.lanes.Lane.TheVariants as lane
 use Rattle.bump_rules.specs.declared.bumps.Bump.{Bump}
 use Rattle.bump_rules.specs.declared.bumps.AppliedBump.{AppliedBump}
@@ -12,7 +11,7 @@ use Rattle.bump_heads.specs.declared.views.Ride.{Ride}
 use Rattle.bump_rules.specs.declared.bumps.AppliedBump.{AppliedBump}
 use Rattle.bump_heads.specs.declared.views.LanePart.{LanePart}
 use Rattle.bump_heads.specs.declared.views.View.{View}
-use Rattle.bump_heads.specs.Views.{Measure, held, named, owners, saw, strays, mislabels, misreads, weight, evidence, shown_by, in_order}
+use Rattle.bump_heads.specs.Views.{Measure, held, named, owners, saw, strays, mislabels, misreads, weight, shown_by, in_order}
 use Rattle.bump_heads.specs.Rule.{blank, Kept}
 use Rattle.bump_heads.specs.Riders.{board_both}
 use Rattle.bump_heads.proofs.Frame.{joins}

@@ -1,5 +1,5 @@
 -- The Head that is decoded from a head word is the one that the word spells.
-use Rattle.std.proofs.Common.{◌≡◌, ◌≢◌, ◌↔◌, ℕ, ◌*◌, ◌/◌, ◌^◌, Bool, true, false, not, eqb, refl, sym, ap, subst, arith, eq-eqb, ne_eqb, bit_and}
+use Rattle.std.proofs.Common.{◌≡◌, ◌≢◌, ◌↔◌, ℕ, ◌*◌, ◌/◌, Bool, true, false, not, eqb, refl, sym, ap, subst, arith, eq-eqb, ne_eqb, bit_and}
 use Rattle.bump_rules.specs.declared.items.Head.{Head}
 use Rattle.bump_rules.specs.declared.places.Segment.{Segment}
 use Rattle.bump_rules.specs.declared.places.Segment.TheVariants.{Hot, Warm, Cold}

@@ -1,5 +1,5 @@
 -- A reader's steps on references and labels: whatever the other seats have, its seat can go on.
-use Rattle.std.proofs.Common.{◌≡◌, ◌≢◌, ℕ, ◌+◌, ◌-◌, ◌*◌, ◌/◌, ◌%◌, ◌^◌, ◌<◌, ◌≤◌, ◌&&◌, ◌==◌, eqb, cond, not, nat_lt, Bool, true, false, List, [], ◌∷◌, ◌++◌, None, refl, sym, ap, ◌∙◌, subst, arith, eqb-true}
+use Rattle.std.proofs.Common.{◌≡◌, ◌≢◌, ℕ, ◌+◌, ◌-◌, ◌*◌, ◌/◌, ◌%◌, ◌^◌, ◌<◌, ◌≤◌, ◌&&◌, ◌==◌, eqb, cond, not, nat_lt, Bool, true, false, List, [], ◌∷◌, ◌++◌, None, refl, sym, ap, ◌∙◌, subst, arith, eq-eqb, eqb-true}
 use Rattle.std.specs.Prelude.{if◌then◌else◌}
 use Rattle.std.proofs.lemmas.Bool.{and_parts, ltb-true}
 use mathlib.Core.Option.{none}
@@ -12,7 +12,6 @@ use Rattle.bump_rules.specs.declared.bumps.Outcome.{Outcome}
 use Rattle.bump_rules.specs.declared.bumps.Outcome.TheVariants as outcome
 use Rattle.bump_rules.specs.declared.configs.Config.{Config}
 use Rattle.bump_rules.specs.declared.items.Head.{Head}
-use Rattle.bump_rules.specs.declared.items.ItemId.{ItemId}
 use Rattle.bump_rules.specs.History.{Standing}
 use Rattle.bump_rules.specs.Lawful.{Lawful}
 use Rattle.bump_rules.specs.Lives.{life, one_if, count_of}
@@ -30,7 +29,7 @@ use Rattle.bump_heads.specs.declared.views.Kind.TheVariants as kind
 use Rattle.bump_heads.specs.declared.views.View.{View}
 use Rattle.bump_heads.specs.declared.views.WorkerPart.{WorkerPart}
 use Rattle.bump_heads.specs.Plays.{Sat, on_chunk, behind, on_first, step_of}
-use Rattle.bump_heads.specs.References.{noted_by, looked_view, looked, new_hold, taken_view, taken, HasHold, given_view, given_back, read_hold, read_view, IsLabel, label_read, IsSeen, seen}
+use Rattle.bump_heads.specs.References.{noted_by, looked_view, looked, new_hold, taken_view, taken, HasHold, given_view, given_back, read_hold, read_view, IsLabel, label_read, seen}
 use Rattle.bump_heads.specs.Rule.{Sound, chunks, Kept, blank}
 use Rattle.bump_heads.specs.Views.{Measure, held, named, saw, owners, strays, mislabels, misreads, is_fetch, is_fetch_of, in_hand, misread, differs, weight, tally, claims, evidence, shown_by, moves, settled, lanes_of, untidy, IsBacked}
 use Rattle.bump_heads.proofs.Frame.{Same, Amid, Reaches, on_label, same_sound}
@@ -233,22 +232,22 @@ module _ (key : Config) (slots id : ℕ) (m : Sat) (c : ℕ) (near : c < chunks 
 
   -- no label differs from itself
   no_difference : (x : ℕ) (p : HoldPart) → total (differs x) (read_hold x p).labels ≡ total (differs x) p.labels
-  no_difference x p = omega (arith, total_push (differs x) p.labels x, ap {B = ℕ} (λ (b : Bool). cond b 0 1) (Rattle.std.proofs.Common.eq-eqb x x refl))
+  no_difference x p = omega (arith, total_push (differs x) p.labels x, ap {B = ℕ} (λ (b : Bool). cond b 0 1) (eq-eqb x x refl))
 
   -- S1 on a label word, by a hold
   pub reads_label : HasHold c m.0 → Allows (Kept key) slots id m (3 * c + 2) (λ x. x) (on_chunk label_read (step slots (3 * c + 2) 0 0 none) m)
   reads_label has = subst (λ (d : ℕ). Allows (Kept key) slots id m (3 * c + 2) (λ x. x) (λ x n. label_read d 0 m x n)) (sym (label_chunk_is c))
       (on_label key slots id m c (λ x. x) (λ x n. label_read c 0 m x n) near (λ n x t limits o a.
-        let same : (f : HoldPart → ℕ) → ((p : HoldPart) → f (read_hold x p) ≡ f p) → total f (on_first (read_hold x) m.0.holds) ≡ total f m.0.holds = λ f e. on_first_total f (read_hold x) e m.0.holds in
-        let held_same : (j : ℕ) → weight c (held j) (read_view x m.0) ≡ weight c (held j) m.0 = λ j. omega (arith, same (λ p. one_if (life c j) p.life) (λ p. refl)) in (
-          read_view x m.0,
-          (λ u moved. refs_sound key.refs_limit n n x c o.head.refs m.0 (read_view x m.0) t u moved o o.spells
-              (subst (λ (y : ℕ → ℕ). Lawful key.refs_limit o.head o.at y (λ j. t (named j))) (λ i j. same_where (t (held j)) (u (held j)) (weight c (held j) m.0) (weight c (held j) (read_view x m.0)) (moved (held j)) (held_same j) i) o.lawful)
-              (record { first_hits = λ j. refl; fetches = λ j. refl; owning = refl; straying = λ s. refl; labels = λ y. refl; reads = λ j. omega (arith, same (misread c j x) (λ p. ap (λ (k : ℕ). one_if (life c j) p.life * k) (no_difference x p))) })),
-          read_apart has.0 has.1 has.2 x,
-          quiet m.0 m.0.workers (on_first (read_hold x) m.0.holds),
-          (refl, is_label n x t o a),
-        )))
+      let same : (f : HoldPart → ℕ) → ((p : HoldPart) → f (read_hold x p) ≡ f p) → total f (on_first (read_hold x) m.0.holds) ≡ total f m.0.holds = λ f e. on_first_total f (read_hold x) e m.0.holds in
+      let held_same : (j : ℕ) → weight c (held j) (read_view x m.0) ≡ weight c (held j) m.0 = λ j. omega (arith, same (λ p. one_if (life c j) p.life) (λ p. refl)) in (
+        read_view x m.0,
+        (λ u moved. refs_sound key.refs_limit n n x c o.head.refs m.0 (read_view x m.0) t u moved o o.spells
+            (subst (λ (y : ℕ → ℕ). Lawful key.refs_limit o.head o.at y (λ j. t (named j))) (λ i j. same_where (t (held j)) (u (held j)) (weight c (held j) m.0) (weight c (held j) (read_view x m.0)) (moved (held j)) (held_same j) i) o.lawful)
+            (record { first_hits = λ j. refl; fetches = λ j. refl; owning = refl; straying = λ s. refl; labels = λ y. refl; reads = λ j. omega (arith, same (misread c j x) (λ p. ap (λ (k : ℕ). one_if (life c j) p.life * k) (no_difference x p))) })),
+        read_apart has.0 has.1 has.2 x,
+        quiet m.0 m.0.workers (on_first (read_hold x) m.0.holds),
+        (refl, is_label n x t o a),
+      )))
 
 -- the view that has nothing counts nothing
 nothing : (c : ℕ) (y : Measure) → weight c y blank ≡ 0

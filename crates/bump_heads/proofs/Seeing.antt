@@ -1,74 +1,309 @@
--- What a class's seat with a lane joined to it knows of the head that it finds.
-use Rattle.std.proofs.Common.{◌≡◌, ℕ, ◌+◌, ◌<◌, true, List, [], ◌∷◌, Option, Some, None, refl, sym, ap, ◌∙◌, subst, arith}
-use Rattle.atomic_table.specs.Table.{Me}
+-- What a class's seat knows of the head that it finds, and what it is after a step: with a lane joined, or without one.
+use Rattle.std.proofs.Common.{◌≡◌, ℕ, ◌+◌, ◌<◌, inl, inr, ◌&&◌, ◌++◌, not, cond, eqb, Bool, true, false, [], ◌∷◌, Option, Some, None, refl, sym, ap, ap₂, ◌∙◌, subst, arith, eq-eqb}
+use Rattle.std.specs.Prelude.{option_map, IfSome}
 use Rattle.atomic_table.specs.Seated.{TableId}
 use Rattle.atomic_table.specs.declared.shared.Seat.{Seat}
 use Rattle.bump_rules.specs.declared.items.Head.{Head}
 use Rattle.bump_rules.specs.declared.items.ItemId.{ItemId}
+use Rattle.bump_rules.specs.declared.places.Segment.{Segment}
+use Rattle.bump_rules.specs.declared.places.Segment.TheVariants.{Warm, Cold}
 use Rattle.bump_rules.specs.declared.bumps.Bump.{Bump}
 use Rattle.bump_rules.specs.declared.bumps.Outcome.{Outcome}
+use Rattle.bump_rules.specs.declared.bumps.Outcome.TheVariants as outcome
+use Rattle.bump_rules.specs.declared.lanes.Lane.{Lane}
+use Rattle.bump_rules.specs.declared.lanes.Lane.TheVariants as lane
+use Rattle.bump_rules.specs.Entries.{moves_told}
+use Rattle.bump_rules.specs.Tables.{is_cold, is_warm}
+use Rattle.bump_rules.specs.declared.places.Place.{Place}
+use Rattle.bump_rules.specs.declared.history.Cause.TheVariants as cause
+use Rattle.bump_rules.specs.declared.history.Change.TheVariants as change
+use Rattle.bump_rules.specs.History.{place_of}
+use Rattle.bump_rules.specs.Lanes.{tried, applied_now, cleared_active, applied_bump}
+use Rattle.bump_rules.specs.Lawful.{Shows, IsUsed, bit}
+use Rattle.bump_rules.proofs.Laws.{used_in_segment}
+use Rattle.bump_word.specs.Words.{Spells, word_of}
+use Rattle.bump_word.proofs.Words.{one_head}
 use Rattle.bump_heads.specs.declared.views.Empty.{Empty}
+use Rattle.bump_heads.specs.declared.views.Kind.TheVariants as kind
 use Rattle.bump_heads.specs.declared.views.ClassPart.{ClassPart}
 use Rattle.bump_heads.specs.declared.views.LanePart.{LanePart}
 use Rattle.bump_heads.specs.declared.views.ClassView.{ClassView}
 use Rattle.bump_heads.specs.declared.views.View.{View}
-use Rattle.bump_heads.specs.Views.{aboard_of, refers, standing}
-use Rattle.bump_heads.specs.Plays.{Told, on_first}
-use Rattle.bump_heads.specs.Cuts.{joined, lanes_only}
-use Rattle.bump_heads.specs.Applications.{alighted_lane, alighted_view}
-use Rattle.bump_heads.specs.Applications.{applying}
-use Rattle.bump_heads.specs.Applying.{Seen, life_aboard, life_of, lane_map}
-use Rattle.bump_heads.specs.Seats.{class_me, class_in, lane_me, lane_in, IsLane, bump_aboard, head_or, no_lane, listed}
+use Rattle.bump_heads.specs.Views.{aboard_of, refers, owns, standing, evidence}
+use Rattle.bump_heads.specs.Plays.{Sat, Told, Found, on_first, step_of}
+use Rattle.bump_heads.specs.Cuts.{joined, lanes_only, without_lanes}
+use Rattle.bump_heads.specs.Applications.{applying, bump_for, tried_lane, tried_view, moved_stage, moved_lane, moved_for, moved_class, moved_view, life_in, alighted_lane, alighted_view, MayMove, MayAlight}
+use Rattle.bump_heads.specs.Applying.{life_aboard, life_of, IsOf, MayClear, MayShift, IsShown, Ends, shifted_class, Seen, NamesNoBumpTwice, TellsMoves}
+use Rattle.bump_heads.specs.Seats.{class_me, class_in, lane_in, IsLane, IsInRange, IsClassPart, bump_aboard, head_or, no_class, no_lane, listed}
+use Rattle.bump_heads.proofs.Applications.{tried_going, alighted_tells}
+use Rattle.bump_heads.proofs.ClassParts.{entered_part}
 use Rattle.bump_heads.proofs.Told.{stands_alone}
 use Rattle.bump_heads.proofs.StepLemmas.{one_life}
+
+-- what holds of the head found holds of the one that the word spells
+pub of_head : (n : ℕ) (h : Head) (P : Head → Type 0) → Spells n h → Found n P → P h
+of_head n h P spells (g, spells_g, p) = subst P (one_head n g h spells_g spells) p
+
+-- ---- a class's seat as it is seen
+
+-- a class's view is what its seat is made of
+in_me : (v : ClassView) → class_in (class_me v).0 ≡ v
+in_me v = by v.lane
+  where
+    by : (o : Option LanePart) → class_in (class_me (record { part = v.part; lane = o })).0 ≡ record { part = v.part; lane = o }
+    by None = refl
+    by (Some l) = refl
+
+-- what a seat's invariant says of the view that it is made of
+pub seen_whole : (words : ℕ) (table : TableId) (number : ℕ) (m : Sat) (v : ClassView) → m ≡ class_me v → IsInRange table (bump_aboard v.lane) → number ≡ v.part.class → IsClassPart words v.part
+    → (m ≡ class_me (class_in m.0)) × IsInRange table (bump_aboard (class_in m.0).lane) × (number ≡ (class_in m.0).part.class) × IsClassPart words (class_in m.0).part
+seen_whole words table number m v is near class part = subst (λ (x : ClassView). (m ≡ class_me x) × IsInRange table (bump_aboard x.lane) × (number ≡ x.part.class) × IsClassPart words x.part) (sym (ap (λ (x : Sat). class_in x.0) is ∙ in_me v)) (is, near, class, part)
+
+-- and the view is the one that is seen
+pub seen_as : (m : Sat) (v : ClassView) → m ≡ class_me v → class_in m.0 ≡ v
+seen_as m v is = ap (λ (x : Sat). class_in x.0) is ∙ in_me v
+
+-- the seat of a class whose lane, if one is joined, changes
+lane_changed : (k : ClassPart) (o : Option LanePart) (f : LanePart → LanePart) → ◌≡◌ {A = Sat} (record (class_me (record { part = k; lane = o })).0 { lanes = on_first f (listed o) }, []) (class_me (record { part = k; lane = option_map f o }))
+lane_changed k None f = refl
+lane_changed k (Some l) f = refl
+
+module _ (m p : Sat) (v w : ClassView) (is : m ≡ class_me v) (same : v ≡ w) (n c : ℕ) where
+  -- it is that view's
+  whole_as : m ≡ class_me w
+  whole_as = is ∙ ap class_me same
+
+  -- what was told of it
+  pub told_as : (h : Head) → Spells n h → Found n (Told c m.0) → Told c (class_me w).0 h
+  told_as h spells found = subst (λ (x : Sat). Told c x.0 h) whole_as (of_head n h (Told c m.0) spells found)
+
+  -- after a move
+  pub shifted_me : (from to : Segment) (h : Head) → Spells n h → p ≡ (moved_view from to c n m.0, m.1) → p ≡ class_me (shifted_class c from to h w)
+  shifted_me from to h spells told = told
+      ∙ ap (λ (x : Sat). (moved_view from to c n x.0, x.1)) whole_as
+      ∙ lane_changed (moved_class from to c n (listed w.lane) w.part) w.lane moved_lane
+      ∙ ap (λ (z : ℕ). class_me (record { part = moved_class from to c z (listed w.lane) w.part; lane = option_map moved_lane w.lane })) spells.0
+
+-- ---- the bump aboard
+
+module _ (c : ℕ) where
+  -- a bump at one stage is aboard
+  of_tried : (s : Lane) → IsOf c (tried s) → IsOf c (aboard_of s)
+  of_tried lane.Empty is = absurd is
+  of_tried (lane.Carrying b) is = absurd is
+  of_tried (lane.Tried b) is = is
+  of_tried (lane.Cleared b f) is = absurd is
+  of_tried (lane.Moved b) is = absurd is
+
+  of_active : (s : Lane) → IsOf c (cleared_active s) → (b : Bump) × (s ≡ lane.Cleared b true) × (b.life.chunk ≡ c)
+  of_active lane.Empty is = absurd is
+  of_active (lane.Carrying b) is = absurd is
+  of_active (lane.Tried b) is = absurd is
+  of_active (lane.Cleared b true) is = (b, refl, is)
+  of_active (lane.Cleared b false) is = absurd is
+  of_active (lane.Moved b) is = absurd is
+
+  -- the bump aboard a lane that is joined is of the chunk
+  abbrev pub IsOfChunk : Option LanePart → Type 0
+  IsOfChunk o = IfSome (bump_aboard o) (λ b. b.life.chunk ≡ c)
+
+  pub clear_chunk : (at : Place) (o : Option LanePart) → MayClear c at o → IsOfChunk o
+  clear_chunk at None may = tt
+  clear_chunk at (Some l) may = by l.stage (of_tried l.stage may.1)
+    where
+      by : (s : Lane) → IsOf c (aboard_of s) → IfSome (aboard_of s) (λ b. b.life.chunk ≡ c)
+      by lane.Empty is = tt
+      by (lane.Carrying b) is = is
+      by (lane.Tried b) is = is
+      by (lane.Cleared b f) is = is
+      by (lane.Moved b) is = is
+
+  pub shift_chunk : (from to : Segment) (o : Option LanePart) → MayShift c from to o → IsOfChunk o
+  shift_chunk from to None may = tt
+  shift_chunk from to (Some l) may = let b = of_active l.stage may.2 in subst (λ (s : Lane). IfSome (aboard_of s) (λ d. d.life.chunk ≡ c)) (sym b.1) b.2
+
+aboard_now : (s : Lane) (b : Bump) → applied_now s ≡ Some b → aboard_of s ≡ Some b
+aboard_now lane.Empty b is = absurd (cc is)
+aboard_now (lane.Carrying d) b is = absurd (cc is)
+aboard_now (lane.Tried d) b is = is
+aboard_now (lane.Cleared d f) b is = is
+aboard_now (lane.Moved d) b is = is
+
+-- ---- what is told of the head found
 
 sees : (k : ClassPart) (l : LanePart) (b : Bump) (h : Head) → aboard_of l.stage ≡ Some b → Told b.life.chunk (applying k l) h → Seen k b.life h
 sees k l b h is told =
     let some : 0 < refers b.life.chunk b.life.generation (aboard_of l.stage) + 0 = omega (arith, ap (refers b.life.chunk b.life.generation) is, one_life b.life) in
     let gen : b.life.generation ≡ h.generation = told.held b.life.generation (omega (arith, some)) in record {
       generation = sym gen;
-      once = λ w n. omega (arith, told.once w n);
+      counted = omega (arith, some, told.many b.life.generation);
       stands = λ own. let st = stands_alone b.life.chunk (applying k l) k refl own in let s = told.stood (standing k b.life.chunk) st in (s.0, sym s.1 ∙ sym gen, told.busy b.life.generation (omega (arith, some)) (standing k b.life.chunk) st);
     }
 
-seen_class : (v : ClassView) (b : Bump) (h : Head) → bump_aboard v.lane ≡ Some b → Told b.life.chunk (class_me v).0 h → Seen v.part (life_aboard v.lane) h
+-- of the bump aboard a lane that is joined
+pub seen_class : (v : ClassView) (b : Bump) (h : Head) → bump_aboard v.lane ≡ Some b → Told b.life.chunk (class_me v).0 h → Seen v.part (life_aboard v.lane) h
 seen_class v b h is told = subst (λ (x : ItemId). Seen v.part x h) (sym (ap life_of is)) (by v.lane is told)
   where
     by : (o : Option LanePart) → bump_aboard o ≡ Some b → Told b.life.chunk (class_me (record { part = v.part; lane = o })).0 h → Seen v.part b.life h
     by None is told = absurd (cc is)
     by (Some l) is told = sees v.part l b h is told
 
--- for the contracts of steps made by the joined seat
-pub told_class : (m : Me Empty View) (v w : ClassView) (b : Bump) (h : Head) → m ≡ class_me v → v ≡ w → bump_aboard v.lane ≡ Some b → Told b.life.chunk m.0 h → Seen w.part (life_aboard w.lane) h
-told_class m v w b h is same aboard told = subst (λ (x : ClassView). Seen x.part (life_aboard x.lane) h) same (seen_class v b h aboard (subst (λ (x : Me Empty View). Told b.life.chunk x.0 h) is told))
+-- of the class's own chunk
+pub own_told : (v : ClassView) (c : ℕ) (h : Head) → owns c v.part ≡ true → Told c (class_me v).0 h → Shows h (standing v.part c).0 × (h.generation ≡ (standing v.part c).1)
+own_told v c h own told = told.stood (standing v.part c) (stands_alone c (class_me v).0 v.part refl own)
 
--- and of the one with which the lane is joined
-pub told_joined : (m : Me Empty View) (v w : ClassView) (o : Option (Seat Empty View)) (s : Seat Empty View) (table : TableId) (lane : Option LanePart) (b : Bump) (h : Head) → m ≡ class_me v → v ≡ w → w.lane ≡ None → IsLane table o → o ≡ Some s → lane_in o ≡ lane → bump_aboard (lane_in o) ≡ Some b → Told b.life.chunk (joined m.0 s.me.0) h
-    → Seen w.part (life_aboard lane) h
-told_joined m v w o s table lane b h is same alone whole some lane_is aboard told = subst (λ (x : Option LanePart). Seen w.part (life_aboard x) h) lane_is
-    (subst (λ (x : ClassView). Seen x.part (life_aboard (lane_in o)) h) same
-    (subst (λ (p : Option LanePart). Seen v.part (life_aboard p) h) (sym (ap lane_in some))
-    (seen_class (record { part = v.part; lane = lane_in (Some s) }) b h (sym (ap (λ p. bump_aboard (lane_in p)) some) ∙ aboard)
-    (subst (λ (x : View). Told b.life.chunk x h) (views_join) told))))
+-- of a bump's life
+pub life_told : (v : ClassView) (c : ℕ) (h : Head) → IsOfChunk c v.lane → Told c (class_me v).0 h → IfSome (bump_aboard v.lane) (λ b. b.life.generation ≡ h.generation)
+life_told v c h of told = by v.lane of told
   where
-    whole_is : IsLane table (Some s)
-    whole_is = subst (IsLane table) some whole
+    at : (l : LanePart) (o : Option Bump) → aboard_of l.stage ≡ o → IfSome o (λ b. b.life.chunk ≡ c) → Told c (applying v.part l) h → IfSome o (λ b. b.life.generation ≡ h.generation)
+    at l None is of told = tt
+    at l (Some b) is of told = told.held b.life.generation (omega (arith, ap (refers c b.life.generation) is, one_life b.life, ap (λ (d : ℕ). refers d b.life.generation (Some b)) of))
 
-    no_lane_yet : v.lane ≡ None
-    no_lane_yet = ap (λ (x : ClassView). x.lane) same ∙ alone
+    by : (o : Option LanePart) → IsOfChunk c o → Told c (class_me (record { part = v.part; lane = o })).0 h → IfSome (bump_aboard o) (λ b. b.life.generation ≡ h.generation)
+    by None of told = tt
+    by (Some l) of told = at l (aboard_of l.stage) refl of told
 
-    views_join : joined m.0 s.me.0 ≡ (class_me (record { part = v.part; lane = Some (head_or no_lane s.me.0.lanes) })).0
-    views_join = ap (λ (x : Me Empty View). joined x.0 s.me.0) is ∙ ap (λ (p : Option LanePart). joined (class_me (record { part = v.part; lane = p })).0 s.me.0) no_lane_yet ∙ ap (λ (x : Me Empty View). joined (class_me (record { part = v.part; lane = None })).0 x.0) whole_is.0
+-- of moves
+pub once_told : (v : ClassView) (c : ℕ) (h : Head) → Told c (class_me v).0 h → NamesNoBumpTwice v.part
+once_told v c h told = λ w n. omega (arith, told.once w n)
 
--- what the lane gets back
-pub lane_back : (m m₁ p : Me Empty View) (v w : ClassView) (b : Bump) (o : Outcome) (n : ℕ) → m ≡ class_me v → v ≡ w → bump_aboard v.lane ≡ Some b → m₁ ≡ (alighted_view o b.life.chunk n m.0, m.1) → p ≡ (lanes_only m₁.0, [])
-    → Some (head_or no_lane p.0.lanes) ≡ lane_map (alighted_lane o (life_aboard w.lane).chunk n) w.lane
-lane_back m m₁ p v w b o n is same aboard alit parts =
-    ap (λ (l : List LanePart). Some (head_or no_lane l)) lanes_are ∙ by v.lane aboard ∙ ap (λ (c : ℕ). lane_map (alighted_lane o c n) v.lane) (sym (ap (λ (x : Option Bump). (life_of x).chunk) aboard)) ∙ ap (λ (x : ClassView). lane_map (alighted_lane o (life_aboard x.lane).chunk n) x.lane) same
+pub moves_told_by : (k : ClassPart) (l : LanePart) (c : ℕ) (h : Head) → Told c (applying k l) h → TellsMoves k l
+moves_told_by k l c h told = λ test n. let mine : eqb l.worker l.worker ≡ true = eq-eqb l.worker l.worker refl in
+    omega (arith, told.told (record { test = test; worker = l.worker; number = n }) (omega (arith, ap bit mine)), ap (λ (b : Bool). cond b (moves_told test n l.applied l.stage) 0) mine)
+
+-- ---- what a move keeps
+
+-- the entry of a move is of the chunk, in the life that it has, and no stray one
+pub shifted_part : (words c n : ℕ) (from to : Segment) (h : Head) (v : ClassView) → IsClassPart words v.part → owns c v.part ≡ true → (standing v.part c).0 ≡ place_of from → MayShift c from to v.lane → h.generation ≡ (standing v.part c).1 → IfSome (bump_aboard v.lane) (λ b. b.life.generation ≡ h.generation)
+    → IsClassPart words (moved_class from to c n (listed v.lane) v.part)
+shifted_part words c n from to h v part own stands may gen lives = by v.lane may lives
   where
-    lanes_are : p.0.lanes ≡ on_first (alighted_lane o b.life.chunk n) (listed v.lane)
-    lanes_are = ap (λ (x : Me Empty View). x.0.lanes) parts ∙ ap (λ (x : Me Empty View). x.0.lanes) alit ∙ ap (λ (x : Me Empty View). on_first (alighted_lane o b.life.chunk n) x.0.lanes) is
+    used : IsUsed (place_of to) → IsUsed (standing v.part c).0
+    used there = subst IsUsed (sym stands) (used_in_segment from)
 
-    by : (l : Option LanePart) → bump_aboard l ≡ Some b → Some (head_or no_lane (on_first (alighted_lane o b.life.chunk n) (listed l))) ≡ lane_map (alighted_lane o b.life.chunk n) l
-    by None aboard = absurd (cc aboard)
-    by (Some l) aboard = refl
+    for_bump : (l : LanePart) (b : Bump) → aboard_of l.stage ≡ Some b → b.life.chunk ≡ c → from ≡ Cold → to ≡ Warm → b.life.generation ≡ h.generation → IsClassPart words (moved_class from to c n (l ∷ []) v.part)
+    for_bump l b is of cold warm same_life = subst
+        (λ (o : Option Bump). IsClassPart words (record v.part { history = v.part.history ++ moved_for (life_in v.part c) from to l.worker o ∷ []; steps = v.part.steps ++ step_of kind.Move c n (bump_for l.worker o) ∷ [] }))
+        (sym is)
+        (entered_part words v.part (change.Moved b.life from to (cause.Bump l.worker b.number)) (v.part.steps ++ step_of kind.Move c n (Some (l.worker, b.number)) ∷ []) part (ap (λ (d : ℕ). owns d v.part) of ∙ own)
+        (same_life ∙ gen ∙ ap (λ (d : ℕ). (standing v.part d).1) (sym of)) (ap₂ (λ (f t : Segment). not (is_cold f && is_warm t)) cold warm) (λ there. subst (λ (d : ℕ). IsUsed (standing v.part d).0) (sym of) (used there)))
+
+    by : (o : Option LanePart) → MayShift c from to o → IfSome (bump_aboard o) (λ b. b.life.generation ≡ h.generation) → IsClassPart words (moved_class from to c n (listed o) v.part)
+    by None may lives = entered_part words v.part (change.Moved (life_in v.part c) from to cause.Pull) (v.part.steps ++ step_of kind.Move c n None ∷ []) part own refl refl used
+    by (Some l) may lives = let b = of_active c l.stage may.2 in let is : aboard_of l.stage ≡ Some b.0 = ap aboard_of b.1 in
+        for_bump l b.0 is b.2 may.0 may.1 (subst (λ (x : Option Bump). IfSome x (λ d. d.life.generation ≡ h.generation)) is lives)
+
+-- what is asked of the step of a move
+pub may_shift : (from to : Segment) (c : ℕ) (m : Sat) (v w : ClassView) → m ≡ class_me v → v ≡ w → owns c w.part ≡ true → (standing w.part c).0 ≡ place_of from → MayShift c from to w.lane → MayMove from to c m.0
+may_shift from to c m v w is same own stands may = subst (λ (x : Sat). MayMove from to c x.0) (sym (is ∙ ap class_me same)) (by w.lane may)
+  where
+    by : (o : Option LanePart) → MayShift c from to o → MayMove from to c (class_me (record { part = w.part; lane = o })).0
+    by None may = inl (w.part, record { view = refl; stands = (own, stands) })
+    by (Some l) may = let b = of_active c l.stage may.2 in inr (w.part, l, b.0, record { view = refl; stage = b.1; chunk = b.2; stands = (own, stands); from_cold = may.0; to_warm = may.1 })
+
+-- ---- the bump aboard stays in range
+
+moved_refers : (s : Lane) → aboard_of (moved_stage s) ≡ aboard_of s
+moved_refers lane.Empty = refl
+moved_refers (lane.Carrying b) = refl
+moved_refers (lane.Tried b) = refl
+moved_refers (lane.Cleared b f) = refl
+moved_refers (lane.Moved b) = refl
+
+near_as : (table : TableId) (f : LanePart → LanePart) → ((l : LanePart) → aboard_of (f l).stage ≡ aboard_of l.stage) → (o : Option LanePart) → IsInRange table (bump_aboard o) → IsInRange table (bump_aboard (option_map f o))
+near_as table f same None near = near
+near_as table f same (Some l) near = subst (IsInRange table) (sym (same l)) near
+
+pub moved_near : (table : TableId) (o : Option LanePart) → IsInRange table (bump_aboard o) → IsInRange table (bump_aboard (option_map moved_lane o))
+moved_near table o near = near_as table moved_lane (λ l. moved_refers l.stage) o near
+
+-- what the class's seat is after a move
+module _ (table : TableId) (number c n : ℕ) (m p : Sat) (v w : ClassView) (is : m ≡ class_me v) (same : v ≡ w) (near : IsInRange table (bump_aboard v.lane)) (class : number ≡ v.part.class) (part : IsClassPart table.words v.part) where
+  pub shifted_whole : (from to : Segment) (h : Head) → Spells n h → owns c w.part ≡ true → (standing w.part c).0 ≡ place_of from → MayShift c from to w.lane → p ≡ (moved_view from to c n m.0, m.1) → Found n (Told c m.0)
+      → (p ≡ class_me (class_in p.0)) × IsInRange table (bump_aboard (class_in p.0).lane) × (number ≡ (class_in p.0).part.class) × IsClassPart table.words (class_in p.0).part
+  shifted_whole from to h spells own stands may moved found = let told = told_as m p v w is same n c h spells found in
+      seen_whole table.words table number p (shifted_class c from to h w) (shifted_me m p v w is same n c from to h spells moved)
+      (moved_near table w.lane (subst (λ (x : ClassView). IsInRange table (bump_aboard x.lane)) same near))
+      (class ∙ ap (λ (x : ClassView). x.part.class) same)
+      (shifted_part table.words c (word_of h) from to h w (subst (λ (x : ClassView). IsClassPart table.words x.part) same part) own stands may (own_told w c h own told).1 (life_told w c h (shift_chunk c from to w.lane may) told))
+
+-- ---- a lane joins
+
+module _ (m : Sat) (v w : ClassView) (o : Option (Seat Empty View)) (s : Seat Empty View) (table : TableId) (lane : Option LanePart) (is : m ≡ class_me v) (same : v ≡ w) (alone : w.lane ≡ None) (whole : IsLane table o) (some : o ≡ Some s) (lane_is : lane_in o ≡ lane) where
+  -- the two seats together
+  pub joined_me : ◌≡◌ {A = Sat} (joined m.0 s.me.0, m.1) (class_me (record w { lane = lane }))
+  joined_me = ap (λ (x : Sat). (joined x.0 s.me.0, x.1)) (is ∙ ap class_me same)
+      ∙ ap (λ (p : Option LanePart). (joined (class_me (record w { lane = p })).0 s.me.0, [])) alone
+      ∙ ap (λ (x : Sat). (joined (class_me (record w { lane = None })).0 x.0, [])) (subst (IsLane table) some whole).0
+      ∙ ap (λ (p : Option LanePart). class_me (record w { lane = p })) (sym (ap lane_in some) ∙ lane_is)
+
+  module _ (b : Bump) (aboard : bump_aboard (lane_in o) ≡ Some b) (n : ℕ) (h : Head) (spells : Spells n h) (p q : Sat) (joins : q ≡ (joined m.0 s.me.0, m.1)) (told : p ≡ (tried_view b.life.chunk n q.0, q.1)) where
+    -- the life of the bump aboard
+    life_is : life_aboard lane ≡ b.life
+    life_is = ap life_of (sym (ap bump_aboard lane_is) ∙ aboard)
+
+    -- after the look at its head
+    pub tried_me : p ≡ class_me (record w { lane = option_map (tried_lane (life_aboard lane).chunk (word_of h)) lane })
+    tried_me = told
+        ∙ ap (λ (x : Sat). (tried_view b.life.chunk n x.0, x.1)) (joins ∙ joined_me)
+        ∙ lane_changed w.part lane (tried_lane b.life.chunk n)
+        ∙ ap₂ (λ (d z : ℕ). class_me (record w { lane = option_map (tried_lane d z) lane })) (sym (ap (λ (l : ItemId). l.chunk) life_is)) spells.0
+
+    -- what was told there
+    told_here : Found n (Told b.life.chunk q.0) → Told b.life.chunk (class_me (record w { lane = lane })).0 h
+    told_here found = subst (λ (x : Sat). Told b.life.chunk x.0 h) (joins ∙ joined_me) (of_head n h (Told b.life.chunk q.0) spells found)
+
+    pub tried_seen : Found n (Told b.life.chunk q.0) → Seen w.part (life_aboard lane) h
+    tried_seen found = seen_class (record w { lane = lane }) b h (sym (ap bump_aboard lane_is) ∙ aboard) (told_here found)
+
+    tried_moves : (x : Option LanePart) → Told b.life.chunk (class_me (record w { lane = x })).0 h → (d z : ℕ) → IfSome (option_map (tried_lane d z) x) (TellsMoves w.part)
+    tried_moves None t d z = tt
+    tried_moves (Some l) t d z = λ test i. omega (arith, moves_told_by w.part l b.life.chunk h t test i, tried_going (record { test = test; worker = 0; number = i }) l.stage)
+
+    -- of moves for bumps
+    pub tried_told : Found n (Told b.life.chunk q.0) → NamesNoBumpTwice (class_in p.0).part × IfSome (class_in p.0).lane (TellsMoves (class_in p.0).part)
+    tried_told found = subst (λ (x : ClassView). NamesNoBumpTwice x.part × IfSome x.lane (TellsMoves x.part)) (sym (seen_as p _ tried_me))
+        (once_told (record w { lane = lane }) b.life.chunk h (told_here found), tried_moves lane (told_here found) (life_aboard lane).chunk (word_of h))
+
+-- ---- a lane is split off
+
+-- an entry that is shown is true of what the two parts have
+shown : (k : ClassPart) (l : LanePart) (b : Bump) (out : Outcome) → IsShown k l b out → 0 < evidence l.worker (applied_bump b out) (applying k l)
+shown k l b outcome.Moved is = omega (arith, is)
+shown k l b outcome.Gone is = omega (arith, is)
+shown k l b outcome.TimeOnly is = omega (arith, is)
+
+module _ (m : Sat) (v w : ClassView) (is : m ≡ class_me v) (same : v ≡ w) (c : ℕ) (out : Outcome) (l : LanePart) (b : Bump) (ends : Ends w c out l b) where
+  -- the seat is that of the class and of this lane
+  view_is : m ≡ (applying w.part l, [])
+  view_is = is ∙ ap class_me same ∙ ap (λ (o : Option LanePart). class_me (record w { lane = o })) ends.joined
+
+  pub may_end : MayAlight c out m.0
+  may_end = (w.part, l, b, record { view = ap (λ (x : Sat). x.0) view_is; aboard = aboard_now l.stage b ends.aboard; chunk = ends.chunk; past = ends.past; proof = shown w.part l b out ends.entry })
+
+  aboard_is : bump_aboard w.lane ≡ Some b
+  aboard_is = ap bump_aboard ends.joined ∙ aboard_now l.stage b ends.aboard
+
+  module _ (n : ℕ) (h : Head) (spells : Spells n h) where
+    told_there : Found n (Told c m.0) → Told c (applying w.part l) h
+    told_there found = subst (λ (x : Sat). Told c x.0 h) view_is (of_head n h (Told c m.0) spells found)
+
+    pub alighted_seen : Found n (Told c m.0) → Seen w.part (life_aboard w.lane) h
+    alighted_seen found = seen_class w b h aboard_is (subst (λ (x : ℕ × Option LanePart). Told x.0 (class_me (record w { lane = x.1 })).0 h) (λ i. (sym ends.chunk i, sym ends.joined i)) (told_there found))
+
+    module _ (r p q : Sat) (told : q ≡ (alighted_view out c n m.0, m.1)) (rest : r ≡ (without_lanes q.0, q.1)) (parts : p ≡ (lanes_only q.0, [])) where
+      -- what the lane gets back
+      back_is : Some (head_or no_lane p.0.lanes) ≡ Some (alighted_lane out c (word_of h) l)
+      back_is = ap (λ (x : Sat). Some (head_or no_lane x.0.lanes)) (parts ∙ ap (λ (x : Sat). (lanes_only x.0, [])) (told ∙ ap (λ (x : Sat). (alighted_view out c n x.0, x.1)) view_is)) ∙ ap (λ (z : ℕ). Some (alighted_lane out c z l)) spells.0
+
+      -- the class is as before
+      part_is : head_or no_class r.0.classes ≡ w.part
+      part_is = ap (λ (x : Sat). head_or no_class x.0.classes) (rest ∙ ap (λ (x : Sat). (without_lanes x.0, x.1)) (told ∙ ap (λ (x : Sat). (alighted_view out c n x.0, x.1)) view_is))
+
+      -- of moves for bumps
+      pub alighted_told : Found n (Told c m.0) → NamesNoBumpTwice (head_or no_class r.0.classes) × TellsMoves (head_or no_class r.0.classes) (head_or no_lane p.0.lanes)
+      alighted_told found = subst (λ (k : ClassPart). NamesNoBumpTwice k × TellsMoves k (head_or no_lane p.0.lanes)) (sym part_is) (
+        once_told (record w { lane = Some l }) c h (told_there found),
+        subst (λ (x : Option LanePart). IfSome x (TellsMoves w.part)) (sym back_is) (λ test i. omega (arith, moves_told_by w.part l c h (told_there found) test i, alighted_tells test i l b out (aboard_now l.stage b ends.aboard) ends.past)),
+      )

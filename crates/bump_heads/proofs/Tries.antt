@@ -14,12 +14,12 @@ use Rattle.bump_heads.specs.declared.views.Kind.TheVariants as kind
 use Rattle.bump_heads.specs.declared.views.OwnStep.{OwnStep}
 use Rattle.bump_heads.specs.declared.views.WorkerPart.{WorkerPart}
 use Rattle.bump_heads.specs.Plays.{Sat, on_first, step_of}
-use Rattle.bump_heads.specs.References.{new_hold, looked_view, looked, taken}
-use Rattle.bump_heads.specs.Taking.{last_found, AreHeads, AreTries, refused_by, refusal_of, loads, takes, with_more, held_by, stepped_view, took_view, TookView}
+use Rattle.bump_heads.specs.References.{new_hold, looked_view, looked, taken_view, taken}
+use Rattle.bump_heads.specs.Taking.{last_found, AreHeads, AreTries, refused_by, refusal_of, loads, takes, with_more, held_by, stepped_view, TookView}
 use Rattle.bump_heads.proofs.Referring.{held_is}
 
 -- one more head is found
-heads_push : (h : Head) (more : List Head) (k : Head) → AreHeads h more → Fits k → AreHeads h (more ++ k ∷ [])
+pub heads_push : (h : Head) (more : List Head) (k : Head) → AreHeads h more → Fits k → AreHeads h (more ++ k ∷ [])
 heads_push h [] k are fits = (are, fits)
 heads_push h (j ∷ more) k are fits = (are.0, heads_push j more k are.1 fits)
 
@@ -29,7 +29,7 @@ tries_push limit g h [] k are can other = (can, other, tt)
 tries_push limit g h (j ∷ more) k are can other = (are.0, are.1, tries_push limit g j more k are.2 can other)
 
 -- what was found last is the last
-last_push : (h : Head) (more : List Head) (k : Head) → last_found h (more ++ k ∷ []) ≡ k
+pub last_push : (h : Head) (more : List Head) (k : Head) → last_found h (more ++ k ∷ []) ≡ k
 last_push h [] k = refl
 last_push h (j ∷ more) k = last_push j more k
 
@@ -39,7 +39,7 @@ last_fits h [] are = are
 last_fits h (k ∷ more) are = last_fits k more are.1
 
 -- one load more
-loads_push : (c : ℕ) (hs : List Head) (k : Head) → loads c (hs ++ k ∷ []) ≡ loads c hs ++ step_of kind.Load c (word_of k) None ∷ []
+pub loads_push : (c : ℕ) (hs : List Head) (k : Head) → loads c (hs ++ k ∷ []) ≡ loads c hs ++ step_of kind.Load c (word_of k) None ∷ []
 loads_push c [] k = refl
 loads_push c (h ∷ hs) k = ap (λ (l : List OwnStep). step_of kind.Load c (word_of h) None ∷ l) (loads_push c hs k)
 
@@ -64,13 +64,17 @@ pub record Trying (limit : ℕ) (l : ItemId) (before now : Sat) (word failed : �
 
 -- after the load
 pub tries_start : (limit : ℕ) (l : ItemId) (before now : Sat) (word x : ℕ) → looked l.chunk x before word now → (first : Head) × (more : List Head) × Trying limit l before now word 0 first more
-tries_start limit l before now word x t = let spelled = t.1.1 in (t.1.0, [], record {
-  heads = spelled.1;
-  tries = tt;
-  count = refl;
-  last = spelled.0;
-  view = t.0 ∙ ap (λ (n : ℕ). (looked_view l.chunk n before.0, before.1)) spelled.0;
-})
+tries_start limit l before now word x t = let spelled = t.1.1 in (
+  t.1.0,
+  [],
+  record {
+    heads = spelled.1;
+    tries = tt;
+    count = refl;
+    last = spelled.0;
+    view = t.0 ∙ ap (λ (n : ℕ). (looked_view l.chunk n before.0, before.1)) spelled.0;
+  },
+)
 
 module _ (limit : ℕ) (l : ItemId) (before now : Sat) (word failed : ℕ) (first : Head) (more : List Head) (y : Trying limit l before now word failed first more) where
   -- the head of the word is the last one
@@ -79,15 +83,18 @@ module _ (limit : ℕ) (l : ItemId) (before now : Sat) (word failed : ℕ) (firs
 
   -- an exchange failed
   pub goes_on : (h : Head) → Spells word h → refused_by (get_of limit l.generation h) ≡ None → (next : Sat) (found : ℕ) → found ≢ word → taken l.chunk word now found next → (k : Head) × Trying limit l before next found (failed + 1) first (more ++ k ∷ [])
-  goes_on h spelled can next found miss t = let k : Head = t.2.0 in let other = t.2.1 in (k, record {
-    heads = heads_push first more k y.heads other.1;
-    tries = tries_push limit l.generation first more k y.tries (ap (get_of limit l.generation) (last_is h spelled) ∙ unrefused (get_of limit l.generation h) can) (λ e. miss (other.0 ∙ ap word_of e ∙ sym y.last));
-    count = omega (arith, length-append more (k ∷ []), y.count);
-    last = other.0 ∙ ap word_of (sym (last_push first more k));
-    view = t.1 miss ∙ ap (λ (x : ℕ × Sat). (looked_view l.chunk x.0 x.1.0, x.1.1)) (λ i. (other.0 i, y.view i))
-        ∙ ap (λ (ws : List WorkerPart). (record before.0 { workers = ws }, before.1)) (more_again (loads l.chunk (first ∷ more)) (step_of kind.Load l.chunk (word_of k) None ∷ []) before.0.workers
-        ∙ ap (λ (s : List OwnStep). on_first (with_more s) before.0.workers) (sym (loads_push l.chunk (first ∷ more) k)));
-  })
+  goes_on h spelled can next found miss t = let k : Head = t.2.0 in let other = t.2.1 in (
+    k,
+    record {
+      heads = heads_push first more k y.heads other.1;
+      tries = tries_push limit l.generation first more k y.tries (ap (get_of limit l.generation) (last_is h spelled) ∙ unrefused (get_of limit l.generation h) can) (λ e. miss (other.0 ∙ ap word_of e ∙ sym y.last));
+      count = omega (arith, length-append more (k ∷ []), y.count);
+      last = other.0 ∙ ap word_of (sym (last_push first more k));
+      view = t.1 miss ∙ ap (λ (x : ℕ × Sat). (looked_view l.chunk x.0 x.1.0, x.1.1)) (λ i. (other.0 i, y.view i))
+          ∙ ap (λ (ws : List WorkerPart). (record before.0 { workers = ws }, before.1)) (more_again (loads l.chunk (first ∷ more)) (step_of kind.Load l.chunk (word_of k) None ∷ []) before.0.workers
+          ∙ ap (λ (s : List OwnStep). on_first (with_more s) before.0.workers) (sym (loads_push l.chunk (first ∷ more) k)));
+    },
+  )
 
   -- by fewer than 8 exchanges that failed, the last head decides
   decides : failed < 8 → (h : Head) → Spells word h → refusal_of limit l.generation first more ≡ refused_by (get_of limit l.generation h)
@@ -124,7 +131,7 @@ module _ (limit : ℕ) (l : ItemId) (before now : Sat) (word failed : ℕ) (firs
         heads = y.heads;
         tries = y.tries;
         most = omega (arith, y.count, few);
-        steps = t.0 hit ∙ ap (λ (x : ℕ × Sat). (Rattle.bump_heads.specs.References.taken_view l.chunk x.0 x.1.0, x.1.1)) (λ i. ((hit ∙ y.last) i, y.view i))
+        steps = t.0 hit ∙ ap (λ (x : ℕ × Sat). (taken_view l.chunk x.0 x.1.0, x.1.1)) (λ i. ((hit ∙ y.last) i, y.view i))
             ∙ ap (λ (x : List WorkerPart × ℕ). (record before.0 { workers = x.0; holds = new_hold (life l.chunk x.1) ∷ before.0.holds }, before.1)) (λ i. (more_again (loads l.chunk (first ∷ more)) (step_of kind.Take l.chunk (word_of k) None ∷ []) before.0.workers i, gen i))
             ∙ ap (λ (o : Option TakeRefusal). (record before.0 { workers = on_first (with_more (loads l.chunk (first ∷ more) ++ takes l.chunk o k)) before.0.workers; holds = held_by o l before.0.holds }, before.1)) (sym is);
         answer = sym is;

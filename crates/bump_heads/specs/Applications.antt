@@ -1,41 +1,31 @@
 -- The steps of an application, made by a class's seat with the lane's joined to it. A step made for a bump reads the bump off the
 -- view: the lane that is joined.
-use Rattle.std.specs.Prelude.{◌≡◌, ◌≢◌, ℕ, ◌+◌, ◌/◌, ◌%◌, ◌<◌, ◌≤◌, Bool, true, false, cond, not, ◌==◌, List, [], ◌∷◌, ◌++◌, Option, Some, None}
-use Rattle.atomic_table.specs.Table.{Me, Step}
-use Rattle.bump_rules.specs.declared.items.Head.{Head}
+use Rattle.std.specs.Prelude.{◌≡◌, ℕ, ◌-◌, ◌/◌, ◌^◌, ◌<◌, ◌⊎◌, Bool, true, false, not, List, [], ◌∷◌, ◌++◌, Option, Some, None}
+use Rattle.atomic_table.specs.Table.{Step}
 use Rattle.bump_rules.specs.declared.items.ItemId.{ItemId}
+use Rattle.bump_rules.specs.declared.places.Segment.{Segment}
 use Rattle.bump_rules.specs.declared.places.Segment.TheVariants.{Warm, Cold}
 use Rattle.bump_rules.specs.declared.history.Cause.TheVariants as cause
 use Rattle.bump_rules.specs.declared.history.Change.{Change}
 use Rattle.bump_rules.specs.declared.history.Change.TheVariants as change
 use Rattle.bump_rules.specs.declared.bumps.Bump.{Bump}
 use Rattle.bump_rules.specs.declared.bumps.Outcome.{Outcome}
+use Rattle.bump_rules.specs.declared.bumps.AppliedBump.{AppliedBump}
 use Rattle.bump_rules.specs.declared.lanes.Lane.{Lane}
 use Rattle.bump_rules.specs.declared.lanes.Lane.TheVariants as lane
-use Rattle.bump_rules.specs.declared.bumps.AppliedBump.{AppliedBump}
-use Rattle.bump_rules.specs.Lawful.{bit, Shows, IsUsed}
-use Rattle.bump_rules.specs.History.{Standing}
-use Rattle.bump_rules.specs.Totals.{total}
-use Rattle.bump_word.specs.Words.{Spells}
+use Rattle.bump_rules.specs.History.{place_of}
+use Rattle.bump_rules.specs.Lanes.{applied_bump}
+use Rattle.bump_rules.specs.Lives.{life}
+use Rattle.bump_rules.specs.Entries.{is_moved}
 use Rattle.bump_heads.specs.declared.views.Empty.{Empty}
 use Rattle.bump_heads.specs.declared.views.Kind.{Kind}
 use Rattle.bump_heads.specs.declared.views.Kind.TheVariants as kind
-use Rattle.bump_heads.specs.declared.views.OwnStep.{OwnStep}
 use Rattle.bump_heads.specs.declared.views.ClassPart.{ClassPart}
 use Rattle.bump_heads.specs.declared.views.LanePart.{LanePart}
-use Rattle.bump_heads.specs.declared.views.HoldPart.{HoldPart}
 use Rattle.bump_heads.specs.declared.views.View.{View}
-use Rattle.bump_heads.specs.Views.{named, saw, owners, strays, weight, aboard_of, active_clear, owns, label_of, differs, Query, moves, settled, lanes_of}
+use Rattle.bump_heads.specs.Views.{aboard_of, active_clear, owns, standing, evidence}
+use Rattle.bump_word.specs.Layout.{active_first}
 use Rattle.bump_heads.specs.Rule.{blank}
-
-use Rattle.std.specs.Prelude.{◌≡◌, ℕ, ◌<◌, ◌==◌, Bool, true, false, List, [], ◌∷◌, Option, Some}
-use Rattle.atomic_table.specs.Seated.{TableId}
-use Rattle.bump_rules.specs.declared.places.Place.TheVariants.{Cold}
-use Rattle.bump_rules.specs.declared.bumps.Outcome.TheVariants as outcome
-use Rattle.bump_rules.specs.Lanes.{applied_bump}
-use Rattle.bump_rules.specs.Entries.{is_moved}
-use Rattle.bump_heads.specs.declared.words.Words.{Words}
-use Rattle.bump_heads.specs.Views.{owns, standing, aboard_of, evidence}
 use Rattle.bump_heads.specs.Plays.{Sat, Tells, Found, Told, on_first, step_of}
 
 -- the bump for which a step is made, by its lane
@@ -64,48 +54,57 @@ abbrev pub cleared_stage : Bool → Lane → Lane
 cleared_stage found (lane.Tried b) = lane.Cleared b found
 cleared_stage found s = s
 
+abbrev pub cleared_lane : Bool → LanePart → LanePart
+cleared_lane found l = record l { stage = cleared_stage found l.stage }
+
 abbrev pub noted_class : Kind → ℕ → ℕ → List LanePart → ClassPart → ClassPart
 noted_class kind c n ls k = record k { steps = k.steps ++ step_of kind c n (for_first ls) ∷ [] }
 
 abbrev pub cleared_view : ℕ → ℕ → View → View
-cleared_view c n v = record v { classes = on_first (noted_class kind.ClearActive c n v.lanes) v.classes; lanes = on_first (λ l. record l { stage = cleared_stage (not (active_clear n)) l.stage }) v.lanes }
+cleared_view c n v = record v { classes = on_first (noted_class kind.ClearActive c n v.lanes) v.classes; lanes = on_first (cleared_lane (not (active_clear n))) v.lanes }
 
 abbrev pub timed_view : ℕ → ℕ → View → View
 timed_view c n v = record v { classes = on_first (noted_class kind.PutTime c n v.lanes) v.classes }
 
--- the life was moved for the bump aboard
-abbrev pub moved_entry : LanePart → Change
-moved_entry l = by l.stage
-  where
-    by : Lane → Change
-    by (lane.Cleared b found) = change.Moved b.life Cold Warm (cause.Bump l.worker b.number)
-    by s = change.Swept (record { chunk = 0; generation = 0 })
-
+-- the lane is past its move
 abbrev pub moved_stage : Lane → Lane
 moved_stage (lane.Cleared b found) = lane.Moved b
 moved_stage s = s
 
-abbrev pub moved_class : ℕ → ℕ → LanePart → ClassPart → ClassPart
-moved_class c n l k = record k { history = k.history ++ moved_entry l ∷ []; steps = k.steps ++ step_of kind.Move c n (for_bump l) ∷ [] }
+abbrev pub moved_lane : LanePart → LanePart
+moved_lane l = record l { stage = moved_stage l.stage }
 
-abbrev pub moved_first : ℕ → ℕ → List LanePart → ClassPart → ClassPart
-moved_first c n [] k = k
-moved_first c n (l ∷ ls) k = moved_class c n l k
+-- the entry of a move: of the life of the bump aboard, for this bump, or else of life x, for a pull
+abbrev pub moved_for : ItemId → Segment → Segment → ℕ → Option Bump → Change
+moved_for x from to w None = change.Moved x from to cause.Pull
+moved_for x from to w (Some b) = change.Moved b.life from to (cause.Bump w b.number)
 
-abbrev pub moved_view : ℕ → ℕ → View → View
-moved_view c n v = record v { classes = on_first (moved_first c n v.lanes) v.classes; lanes = on_first (λ l. record l { stage = moved_stage l.stage }) v.lanes }
+abbrev pub moved_entry : ItemId → Segment → Segment → List LanePart → Change
+moved_entry x from to [] = change.Moved x from to cause.Pull
+moved_entry x from to (l ∷ ls) = moved_for x from to l.worker (aboard_of l.stage)
+
+-- the life that the class has in the chunk
+abbrev pub life_in : ClassPart → ℕ → ItemId
+life_in k c = life c (standing k c).1
+
+abbrev pub moved_class : Segment → Segment → ℕ → ℕ → List LanePart → ClassPart → ClassPart
+moved_class from to c n ls k = record k { history = k.history ++ moved_entry (life_in k c) from to ls ∷ []; steps = k.steps ++ step_of kind.Move c n (for_first ls) ∷ [] }
+
+abbrev pub moved_view : Segment → Segment → ℕ → ℕ → View → View
+moved_view from to c n v = record v { classes = on_first (moved_class from to c n v.lanes) v.classes; lanes = on_first moved_lane v.lanes }
 
 abbrev pub tried : Tells
 tried c x m r n = (n ≡ (tried_view c r m.0, m.1)) × Found r (Told c m.0)
 
+-- an and with all bits but ACTIVE
 abbrev pub cleared : Tells
-cleared c x m r n = (n ≡ (cleared_view c r m.0, m.1)) × Found r (Told c m.0)
+cleared c x m r n = (x ≡ 2 ^ 64 - 1 - 2 ^ active_first) × (n ≡ (cleared_view c r m.0, m.1)) × Found r (Told c m.0)
 
 abbrev pub timed : Step Empty → Sat → ℕ → Sat → Type 0
 timed st m r n = n ≡ (timed_view (st.word / 3) r m.0, m.1)
 
-abbrev pub moved_on : Tells
-moved_on c x m r n = (n ≡ (moved_view c r m.0, m.1)) × Found r (Told c m.0)
+abbrev pub moved_on : Segment → Segment → Tells
+moved_on from to c x m r n = (n ≡ (moved_view from to c r m.0, m.1)) × Found r (Told c m.0)
 
 -- the entry of the bump aboard with this outcome
 abbrev pub entry_of : Outcome → Option Bump → List AppliedBump
@@ -121,26 +120,39 @@ alighted_view o c n v = record v { lanes = on_first (alighted_lane o c n) v.lane
 abbrev pub alighted : Outcome → Tells
 alighted o c x m r n = (n ≡ (alighted_view o c r m.0, m.1)) × Found r (Told c m.0)
 
--- a class and a lane
+-- a class, and the lane that is joined to it, if one is
 abbrev pub applying : ClassPart → LanePart → View
 applying k l = record blank { classes = k ∷ []; lanes = l ∷ [] }
 
--- ACTIVE was found and cleared for the bump aboard, which is of this chunk, and the chunk is in COLD
-pub record Moves (c : ℕ) (v : View) (k : ClassPart) (l : LanePart) (b : Bump) : Type 0 where
+abbrev pub pulling : ClassPart → View
+pulling k = record blank { classes = k ∷ [] }
+
+-- the chunk is the class's, and stands in this segment's list
+abbrev pub StandsIn : Segment → ℕ → ClassPart → Type 0
+StandsIn from c k = (owns c k ≡ true) × ((standing k c).0 ≡ place_of from)
+
+-- no lane is joined, and the chunk stands where it is moved from
+pub record Pulls (from : Segment) (c : ℕ) (v : View) (k : ClassPart) : Type 0 where
+  pub view : v ≡ pulling k
+  pub stands : StandsIn from c k
+
+-- ACTIVE was found and cleared for the bump aboard, which is of this chunk, and the chunk is moved from COLD to WARM
+pub record Moves (from to : Segment) (c : ℕ) (v : View) (k : ClassPart) (l : LanePart) (b : Bump) : Type 0 where
   pub view : v ≡ applying k l
   pub stage : l.stage ≡ lane.Cleared b true
   pub chunk : b.life.chunk ≡ c
-  pub own : owns c k ≡ true
-  pub stands : standing k c ≡ (Cold, b.life.generation)
+  pub stands : StandsIn from c k
+  pub from_cold : from ≡ Cold
+  pub to_warm : to ≡ Warm
 
-abbrev pub MayMove : ℕ → View → Type 0
-MayMove c v = (k : ClassPart) × (l : LanePart) × (b : Bump) × Moves c v k l b
+abbrev pub MayMove : Segment → Segment → ℕ → View → Type 0
+MayMove from to c v = ((k : ClassPart) × Pulls from c v k) ⊎ ((k : ClassPart) × (l : LanePart) × (b : Bump) × Moves from to c v k l b)
 
 abbrev pub is_past_move : Lane → Bool
 is_past_move (lane.Moved b) = true
 is_past_move s = false
 
--- the bump aboard, of this chunk, can end with this outcome: the lane is past S13 exactly where it is Moved, and the entry is true by the two parts alone
+-- the bump aboard, of this chunk, can end with this outcome: its item was moved exactly where the outcome is Moved, and the entry is true by the two parts alone
 pub record Alights (c : ℕ) (o : Outcome) (v : View) (k : ClassPart) (l : LanePart) (b : Bump) : Type 0 where
   pub view : v ≡ applying k l
   pub aboard : aboard_of l.stage ≡ Some b

@@ -1,61 +1,39 @@
--- An application of a bump, as the contracts of the class's seat tell it.
-use Rattle.std.specs.Prelude.{◌≡◌, ℕ, ◌+◌, ◌*◌, ◌<◌, ◌≤◌, ◌==◌, cond, Bool, true, false, List, [], ◌∷◌, Option, Some, None}
-use Rattle.atomic_table.specs.Table.{Me}
-use Rattle.atomic_table.specs.Seated.{TableId}
-use Rattle.atomic_table.specs.declared.shared.Seat.{Seat}
+-- The steps under a class's lock, as the contracts of the class's seat tell them: without a lane they are made for a link or a pull, and
+-- with a lane joined for the bump aboard it.
+use Rattle.std.specs.Prelude.{◌≡◌, ℕ, ◌+◌, ◌<◌, ◌≤◌, Bool, true, List, [], Option, Some, None, option_map}
+use Rattle.bump_rules.specs.declared.items.Head.{Head}
 use Rattle.bump_rules.specs.declared.items.ItemId.{ItemId}
+use Rattle.bump_rules.specs.declared.places.Place.{Place}
+use Rattle.bump_rules.specs.declared.places.Place.TheVariants.{Hot, Warm, Cold, Unused}
+use Rattle.bump_rules.specs.declared.places.Segment.{Segment}
+use Rattle.bump_rules.specs.declared.places.Segment.TheVariants as segment
 use Rattle.bump_rules.specs.declared.bumps.Bump.{Bump}
+use Rattle.bump_rules.specs.declared.bumps.Outcome.{Outcome}
 use Rattle.bump_rules.specs.declared.lanes.Lane.{Lane}
 use Rattle.bump_rules.specs.declared.lanes.Lane.TheVariants as lane
-use Rattle.bump_rules.specs.declared.bumps.Outcome.{Outcome}
-use Rattle.bump_rules.specs.declared.items.Head.{Head}
-use Rattle.bump_rules.specs.Totals.{total}
+use Rattle.bump_rules.specs.Entries.{is_moved, is_move_for, moves_told, IsTrueEntry}
+use Rattle.bump_rules.specs.Lanes.{carried, tried, applied_now, cleared_active, applied_bump}
 use Rattle.bump_rules.specs.Lawful.{Shows, IsUsed}
-use Rattle.bump_heads.specs.Applications.{tried_lane, cleared_view, timed_view, moved_view}
-use Rattle.bump_heads.specs.Plays.{every}
-use Rattle.bump_rules.specs.Lanes.{applied_bump}
-use Rattle.bump_rules.specs.Entries.{is_moved}
 use Rattle.bump_rules.specs.Lives.{life}
-use Rattle.bump_rules.specs.Entries.{is_move_for}
+use Rattle.bump_rules.specs.Tables.{may_move}
 use Rattle.bump_rules.specs.Totals.{how_many}
-use Rattle.bump_heads.specs.Applications.{is_past_move}
-use Rattle.bump_heads.specs.declared.views.Empty.{Empty}
-use Rattle.bump_heads.specs.declared.views.WorkerPart.{WorkerPart}
-use Rattle.bump_heads.specs.declared.views.HoldPart.{HoldPart}
+use Rattle.bump_word.specs.Words.{word_of}
+use Rattle.bump_heads.specs.declared.views.Kind.{Kind}
+use Rattle.bump_heads.specs.declared.views.Kind.TheVariants as kind
 use Rattle.bump_heads.specs.declared.views.ClassPart.{ClassPart}
-use Rattle.bump_heads.specs.declared.views.LanePart.{LanePart}
 use Rattle.bump_heads.specs.declared.views.ClassView.{ClassView}
-use Rattle.bump_heads.specs.declared.views.WorkerView.{WorkerView}
-use Rattle.bump_heads.specs.declared.views.View.{View}
-use Rattle.bump_heads.specs.Views.{aboard_of, owns, standing, outcome_number, evidence}
-use Rattle.bump_heads.specs.Rule.{blank, worker_part, lane_part}
+use Rattle.bump_heads.specs.declared.views.HoldPart.{HoldPart}
+use Rattle.bump_heads.specs.declared.views.LanePart.{LanePart}
+use Rattle.bump_heads.specs.Views.{owns, standing, shows_time_only}
+use Rattle.bump_heads.specs.Applications.{is_past_move, cleared_lane, moved_lane, noted_class, moved_class}
+use Rattle.bump_heads.specs.Seats.{bump_aboard, listed}
 
-use Rattle.bump_heads.specs.Seats.{class_in, class_me, bump_aboard}
+-- ---- the bump aboard
 
--- the bump aboard, at each stage
+-- the bump that a lane carries, at which nobody looked yet
 abbrev pub carried_by : Option LanePart → Option Bump
 carried_by None = None
-carried_by (Some l) = by l.stage
-  where
-    by : Lane → Option Bump
-    by (lane.Carrying b) = Some b
-    by s = None
-
-abbrev pub tried_by : Option LanePart → Option Bump
-tried_by None = None
-tried_by (Some l) = by l.stage
-  where
-    by : Lane → Option Bump
-    by (lane.Tried b) = Some b
-    by s = None
-
-abbrev pub active_by : Option LanePart → Option Bump
-active_by None = None
-active_by (Some l) = by l.stage
-  where
-    by : Lane → Option Bump
-    by (lane.Cleared b true) = Some b
-    by s = None
+carried_by (Some l) = carried l.stage
 
 abbrev pub life_of : Option Bump → ItemId
 life_of None = life 0 0
@@ -64,40 +42,96 @@ life_of (Some b) = b.life
 abbrev pub life_aboard : Option LanePart → ItemId
 life_aboard o = life_of (bump_aboard o)
 
-abbrev pub lane_map : (LanePart → LanePart) → Option LanePart → Option LanePart
-lane_map f None = None
-lane_map f (Some l) = Some (f l)
-
-abbrev pub tried_lane_of : ℕ → Option LanePart → Option LanePart
-tried_lane_of n o = lane_map (tried_lane (life_aboard o).chunk n) o
-
-abbrev pub cleared_class : ℕ → ClassView → ClassView
-cleared_class n v = class_in (cleared_view (life_aboard v.lane).chunk n (class_me v).0)
-
-abbrev pub timed_class : ℕ → ClassView → ClassView
-timed_class n v = class_in (timed_view (life_aboard v.lane).chunk n (class_me v).0)
-
-abbrev pub moved_class_of : ℕ → ClassView → ClassView
-moved_class_of n v = class_in (moved_view (life_aboard v.lane).chunk n (class_me v).0)
-
--- what the class knows of the head found, of the life of the bump that is aboard
-pub record Seen (part : ClassPart) (l : ItemId) (h : Head) : Type 0 where
-  pub generation : h.generation ≡ l.generation
-  -- the class's history names no bump twice
-  pub once : (w n : ℕ) → how_many (is_move_for (λ l. true) w n) part.history ≤ 1
-  pub stands : owns l.chunk part ≡ true → Shows h (standing part l.chunk).0 × ((standing part l.chunk).1 ≡ l.generation) × IsUsed (standing part l.chunk).0
+abbrev pub stage_of : Option LanePart → Lane
+stage_of None = lane.Empty
+stage_of (Some l) = l.stage
 
 abbrev pub worker_of : Option LanePart → ℕ
 worker_of None = 0
 worker_of (Some l) = l.worker
 
-abbrev pub stage_of : Option LanePart → Lane
-stage_of None = lane.Empty
-stage_of (Some l) = l.stage
+-- there is such a bump, and it is of this chunk
+abbrev pub IsOf : ℕ → Option Bump → Type 0
+IsOf c None = ⊥
+IsOf c (Some b) = b.life.chunk ≡ c
 
--- the bump aboard can end with the outcome
-abbrev pub Ends : ClassView → Bump → Outcome → Type 0
-Ends v b o = (bump_aboard v.lane ≡ Some b) × (is_past_move (stage_of v.lane) ≡ is_moved o) × (0 < evidence (worker_of v.lane) (applied_bump b o) (class_me v).0)
+-- ---- when a step may be made
+
+-- the lists of linked items
+abbrev pub IsLinkedIn : Place → Type 0
+IsLinkedIn Hot = Unit {0}
+IsLinkedIn Warm = Unit {0}
+IsLinkedIn Cold = Unit {0}
+IsLinkedIn _ = ⊥
+
+-- ACTIVE of a chunk that stands there may be cleared: for a pull where its item is linked; for the bump aboard once its head was looked
+-- at, in COLD
+abbrev pub MayClear : ℕ → Place → Option LanePart → Type 0
+MayClear c at None = IsLinkedIn at
+MayClear c at (Some l) = (at ≡ Cold) × IsOf c (tried l.stage)
+
+-- its time may be stored: for a link where the chunk is in UNUSED; for the bump aboard from the look at its head on, where its item is linked
+abbrev pub MayPutTime : ℕ → Place → Option LanePart → Type 0
+MayPutTime c at None = at ≡ Unused
+MayPutTime c at (Some l) = IsLinkedIn at × IsOf c (applied_now l.stage)
+
+-- it may be moved: by a pull as the tail table has it; for the bump aboard from COLD to WARM, once ACTIVE was found and cleared
+abbrev pub MayShift : ℕ → Segment → Segment → Option LanePart → Type 0
+MayShift c from to None = may_move from to ≡ true
+MayShift c from to (Some l) = (from ≡ segment.Cold) × (to ≡ segment.Warm) × IsOf c (cleared_active l.stage)
+
+-- a step of the class or of the lane, which was made for this very bump, shows that its item wasn't to be moved
+abbrev pub ShowsNothing : ClassPart → LanePart → Bump → Type 0
+ShowsNothing k l b = 0 < how_many (shows_time_only l.worker b.number b.life.chunk) k.steps + how_many (shows_time_only l.worker b.number b.life.chunk) l.steps
+
+-- the entry of the bump with this outcome is true, by the class's history and by the steps that were made for it
+abbrev pub IsShown : ClassPart → LanePart → Bump → Outcome → Type 0
+IsShown k l b o = IsTrueEntry k.history l.worker (ShowsNothing k l b) (applied_bump b o)
+
+-- The bump aboard, which is of this chunk, may end with the outcome.
+pub record Ends (v : ClassView) (c : ℕ) (o : Outcome) (l : LanePart) (b : Bump) : Type 0 where
+  pub joined : v.lane ≡ Some l
+  pub aboard : applied_now l.stage ≡ Some b
+  pub chunk : b.life.chunk ≡ c
+  -- its item was moved exactly where the outcome is Moved
+  pub past : is_past_move l.stage ≡ is_moved o
+  pub entry : IsShown v.part l b o
+
+-- ---- what a step leaves
+
+-- a step of the class is noted: for the bump aboard, where a lane is joined
+abbrev pub with_step : Kind → ℕ → ℕ → ClassView → ClassPart
+with_step kind c n v = noted_class kind c n (listed v.lane) v.part
+
+-- ACTIVE of the chunk was cleared, whose head was h
+abbrev pub cleared_class : ℕ → Head → ClassView → ClassView
+cleared_class c h v = record { part = with_step kind.ClearActive c (word_of h) v; lane = option_map (cleared_lane h.active) v.lane }
+
+-- its time was stored
+abbrev pub timed_class : ℕ → ℕ → ClassView → ClassView
+timed_class c now v = record v { part = with_step kind.PutTime c now v }
+
+-- it was moved
+abbrev pub shifted_class : ℕ → Segment → Segment → Head → ClassView → ClassView
+shifted_class c from to h v = record { part = moved_class from to c (word_of h) (listed v.lane) v.part; lane = option_map moved_lane v.lane }
+
+-- ---- what a caller learns
+
+-- What the class knows of the head that a bump's lane found: it is of the bump's life, of which there is a reference; and a chunk of the
+-- class stands where its history leaves it, in this life, and isn't free.
+pub record Seen (part : ClassPart) (l : ItemId) (h : Head) : Type 0 where
+  pub generation : h.generation ≡ l.generation
+  pub counted : 0 < h.refs
+  pub stands : owns l.chunk part ≡ true → Shows h (standing part l.chunk).0 × ((standing part l.chunk).1 ≡ l.generation) × IsUsed (standing part l.chunk).0
+
+-- the class's history names no bump twice
+abbrev pub NamesNoBumpTwice : ClassPart → Type 0
+NamesNoBumpTwice k = (w n : ℕ) → how_many (is_move_for (λ l. true) w n) k.history ≤ 1
+
+-- each move that the class's history has for a bump of the lane's worker is told by the lane: by its entry of this number, with the
+-- same life and outcome Moved, or as the move in progress
+abbrev pub TellsMoves : ClassPart → LanePart → Type 0
+TellsMoves k l = (test : ItemId → Bool) (n : ℕ) → how_many (is_move_for test l.worker n) k.history ≤ moves_told test n l.applied l.stage
 
 abbrev pub labels_in : Option HoldPart → List ℕ
 labels_in None = []

@@ -13,4 +13,8 @@ pub mod Applying
 pub mod Taking
 pub mod Linking
 pub mod Making
+pub mod Marks
 pub mod Riders
+pub mod Rides
+pub mod Riding
+pub mod Touching

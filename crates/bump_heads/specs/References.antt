@@ -1,6 +1,6 @@
 -- What a reader's steps on a reference tell: a worker looks at a head word and takes a reference by an exchange, and a hold gives
 -- its reference back, and reads its label. And what is told of a word that is seen without a seat.
-use Rattle.std.specs.Prelude.{◌≡◌, ◌≢◌, ℕ, ◌+◌, ◌/◌, ◌^◌, ◌≤◌, List, [], ◌∷◌, ◌++◌, None}
+use Rattle.std.specs.Prelude.{◌≡◌, ◌≢◌, ℕ, ◌+◌, ◌/◌, ◌^◌, ◌≤◌, [], ◌∷◌, ◌++◌, None}
 use Rattle.bump_rules.specs.declared.items.Head.{Head}
 use Rattle.bump_rules.specs.declared.items.ItemId.{ItemId}
 use Rattle.bump_rules.specs.Lawful.{bit}
@@ -14,7 +14,7 @@ use Rattle.bump_heads.specs.declared.views.Kind.{Kind}
 use Rattle.bump_heads.specs.declared.views.Kind.TheVariants as kind
 use Rattle.bump_heads.specs.declared.views.View.{View}
 use Rattle.bump_heads.specs.declared.views.WorkerPart.{WorkerPart}
-use Rattle.bump_heads.specs.Plays.{Sat, Tells, Found, Told, behind, on_first, step_of}
+use Rattle.bump_heads.specs.Plays.{Tells, Found, Told, behind, on_first, step_of}
 use Rattle.bump_heads.specs.Rule.{blank}
 use Rattle.bump_heads.specs.Views.{differs}
 

@@ -1,5 +1,5 @@
 -- Bumps that travel, and that board.
-use Rattle.std.specs.Prelude.{◌≡◌, ℕ, List, [], ◌∷◌, Option, None, Some, length}
+use Rattle.std.specs.Prelude.{List, [], ◌∷◌, Option, None, Some, length}
 use Rattle.atomic_table.specs.Table.{Me}
 use Rattle.bump_rules.specs.declared.bumps.Bump.{Bump}
 use Rattle.bump_rules.specs.declared.lanes.Lane.TheVariants as lane

@@ -1,25 +1,36 @@
-//! An application of a bump, under its class's lock: the lane's seat joins the class's, which makes the steps, and is split off again.
-ghost use Rattle.std.specs.Prelude.{ℕ, ◌≡◌, None, Some, IsSome, true};
+//! The steps under a class's lock that change no list but by a move: those of a link or a pull, and those of an application, for which a
+//! lane's seat joins the class's, which makes the steps, and is split off again.
+ghost use Rattle.std.specs.Prelude.{ℕ, ◌≡◌, None, Some, IsSome, IfSome, option_map, true};
 ghost use Rattle.bump_rules.specs.declared.bumps.Bump.{Bump as TheBump};
-ghost use Rattle.bump_rules.specs.declared.places.Place.TheVariants.{Cold};
-ghost use Rattle.bump_heads.specs.Views.{owns, standing};
-ghost use Rattle.bump_heads.specs.Plays.{Found};
-ghost use Rattle.bump_heads.specs.Applications.{alighted_lane};
+ghost use Rattle.bump_rules.specs.History.{place_of};
+ghost use Rattle.bump_rules.specs.Lawful.{Shows};
+ghost use Rattle.bump_word.specs.Words.{word_of, Fits};
+ghost use Rattle.bump_heads.specs.declared.views.LanePart.{LanePart as TheLanePart};
+ghost use Rattle.bump_heads.specs.Views.{aboard_of, owns, standing};
+ghost use Rattle.bump_heads.specs.Applications.{alighted_lane, tried_lane};
 ghost use Rattle.bump_heads.specs.Seats.{bump_aboard};
-ghost use Rattle.bump_heads.specs.Applying.{carried_by, tried_by, active_by, life_aboard, lane_map, tried_lane_of, cleared_class, timed_class, moved_class_of, Seen, Ends};
+ghost use Rattle.bump_heads.specs.Applying.{carried_by, life_aboard, MayClear, MayPutTime, MayShift, IsShown, Ends, cleared_class, timed_class, shifted_class, Seen, NamesNoBumpTwice, TellsMoves};
 
+use crate::decoding::head_of;
 use crate::names::Name;
 use crate::seats::{ClassSeat, LaneSeat};
-use bump_rules::Outcome;
+use bump_rules::{Head, Outcome, Segment};
 
 impl<N: Name> ClassSeat<N> {
-    /// Joins the lane's seat, and looks at the head of the bump's item. The lane is hollow from then on, until `alight`.
-    pub fn try_front(&mut self, lane: &mut LaneSeat<N>) -> u64
+    /// Joins the lane's seat, and looks at the head of the item of the bump that it carries: the first step of memcached's
+    /// `lru_bump_async` drain for a bump. No other lane may be joined. The lane is hollow from then on, until `alight`. Answers the
+    /// head that was found.
+    pub fn try_front(&mut self, lane: &mut LaneSeat<N>) -> Head
         requires alone { self.old.lane ≡ None }
         requires carries { IsSome (carried_by lane.old) }
         ensures hollow { lane.new ≡ None }
-        ensures tried { self.new ≡ record self.old { lane = tried_lane_of result lane.old } }
-        ensures told { Found result (Seen self.old.part (life_aboard lane.old)) }
+        ensures tried { self.new ≡ record self.old { lane = option_map (tried_lane (life_aboard lane.old).chunk (word_of result)) lane.old } }
+        ensures found { Seen self.old.part (life_aboard lane.old) result }
+        ensures fits { Fits result }
+
+        // No bump is named twice by the history of the class, and each move for a bump of this lane is told by the lane.
+        ensures once { NamesNoBumpTwice self.new.part }
+        ensures moves { IfSome self.new.lane (TellsMoves self.new.part) }
     {
         let Some(bump) = lane.aboard else {
             unreachable!()
@@ -29,54 +40,78 @@ impl<N: Name> ClassSeat<N> {
         };
         lane.aboard = None;
         self.heads.words.join(&mut self.seat, seat);
-        self.heads
-            .words
-            .try_front(&mut self.seat, bump.life.chunk)
+        let word = self.heads.words.try_front(&mut self.seat, bump.life.chunk);
+        head_of(word)
     }
 
-    /// Clears ACTIVE of the item of the bump aboard.
-    pub fn clear_active(&mut self, chunk: u32) -> u64
-        requires tried { IsSome (tried_by self.old.lane) }
-        requires chunk { (life_aboard self.old.lane).chunk ≡ chunk }
-        ensures cleared { self.new ≡ cleared_class result self.old }
-        ensures told { Found result (Seen self.old.part (life_aboard self.old.lane)) }
+    /// Clears ACTIVE of the chunk, which is the class's, by one and (memcached's `ITEM_ACTIVE` in `lru_pull_tail`). Without a lane it is
+    /// a pull's step, and the chunk stands in HOT, WARM or COLD; with a lane joined it is made for its bump, which is of this chunk, in
+    /// COLD, and at whose head the lane looked. Answers the head that was found.
+    pub fn clear_active(&mut self, chunk: u32) -> Head
+        requires own { owns chunk self.old.part ≡ true }
+        requires may { MayClear chunk (standing self.old.part chunk).0 self.old.lane }
+        ensures cleared { self.new ≡ cleared_class chunk result self.old }
+        ensures shows { Shows result (standing self.old.part chunk).0 }
+        ensures generation { result.generation ≡ (standing self.old.part chunk).1 }
+        ensures life { IfSome (bump_aboard self.old.lane) (λ b. b.life.generation ≡ result.generation) }
+        ensures fits { Fits result }
     {
-        self.heads.words.clear_for(&mut self.seat, chunk)
+        let word = self.heads.words.clear_for(&mut self.seat, chunk);
+        head_of(word)
     }
 
-    /// Stores the time of the item of the bump aboard.
+    /// Stores the time of the chunk, which is the class's (memcached's `it->time` under the lock). Without a lane it is a link's
+    /// step, and the chunk stands in UNUSED; with a lane joined it is made for its bump, which is of this chunk, at whose head the lane
+    /// looked, and whose item is linked.
     pub fn put_time(&mut self, chunk: u32, now: u64)
-        requires aboard { IsSome (bump_aboard self.old.lane) }
-        requires chunk { (life_aboard self.old.lane).chunk ≡ chunk }
-        ensures timed { self.new ≡ timed_class now self.old }
+        requires own { owns chunk self.old.part ≡ true }
+        requires may { MayPutTime chunk (standing self.old.part chunk).0 self.old.lane }
+        ensures timed { self.new ≡ timed_class chunk now self.old }
     {
         self.heads.words.time_for(&mut self.seat, chunk, now);
     }
 
-    /// Moves the item of the bump aboard from COLD to the front of WARM.
-    pub fn change_segment(&mut self, chunk: u32) -> u64
-        requires cleared { IsSome (active_by self.old.lane) }
-        requires chunk { (life_aboard self.old.lane).chunk ≡ chunk }
+    /// Moves the chunk, which is the class's, from the segment in whose list it stands to another one, or to the front of its own, by
+    /// one exclusive or (memcached's `it->slabs_clsid` with its LRU bits). Without a lane it is a pull's step; with a lane joined it is
+    /// made for its bump, which is of this chunk, from COLD to WARM, after ACTIVE was found and cleared. Answers the head that was found.
+    pub fn change_segment(&mut self, chunk: u32, from: Segment, to: Segment) -> Head
         requires own { owns chunk self.old.part ≡ true }
-        requires cold { standing self.old.part chunk ≡ (Cold, (life_aboard self.old.lane).generation) }
-        ensures moved { self.new ≡ moved_class_of result self.old }
-        ensures told { Found result (Seen self.old.part (life_aboard self.old.lane)) }
+        requires stands { (standing self.old.part chunk).0 ≡ place_of from }
+        requires may { MayShift chunk from to self.old.lane }
+        ensures moved { self.new ≡ shifted_class chunk from to result self.old }
+        ensures shows { Shows result (place_of from) }
+        ensures generation { result.generation ≡ (standing self.old.part chunk).1 }
+        ensures life { IfSome (bump_aboard self.old.lane) (λ b. b.life.generation ≡ result.generation) }
+        ensures fits { Fits result }
     {
-        self.heads.words.move_for(&mut self.seat, chunk)
+        let word = self
+            .heads
+            .words
+            .change_segment(&mut self.seat, chunk, from, to);
+        head_of(word)
     }
 
-    /// Drops the bump's reference, writes its entry, and gives the lane its seat back.
-    pub fn alight(&mut self, lane: &mut LaneSeat<N>, chunk: u32, outcome: Outcome) -> u64
+    /// Gives back the reference of the bump aboard, which is of this chunk, writes its entry with this outcome, and gives the lane, which
+    /// is hollow, its seat back. The lane looked at the item; the outcome is Moved exactly where the item was moved, and the entry is true
+    /// by the class's history and the steps that were made for this bump. Answers the head that was found.
+    pub fn alight(&mut self, lane: &mut LaneSeat<N>, chunk: u32, outcome: Outcome) -> Head
         requires hollow { lane.old ≡ None }
-        requires chunk { (life_aboard self.old.lane).chunk ≡ chunk }
-        requires ends { (b : TheBump) × Ends self.old b outcome }
+        requires ends { (l : TheLanePart) × (b : TheBump) × Ends self.old chunk outcome l b }
         ensures class { self.new ≡ record self.old { lane = None } }
-        ensures lane { lane.new ≡ lane_map (alighted_lane outcome chunk result) self.old.lane }
-        ensures told { Found result (Seen self.old.part (life_aboard self.old.lane)) }
+        ensures lane { lane.new ≡ option_map (alighted_lane outcome chunk (word_of result)) self.old.lane }
+        ensures found { Seen self.old.part (life_aboard self.old.lane) result }
+        ensures fits { Fits result }
+
+        // The entry that was written is true.
+        ensures entry { IfSome self.old.lane (λ l. IfSome (aboard_of l.stage) (λ b. IsShown self.new.part l b outcome)) }
+
+        // No bump is named twice by the history of the class, and each move for a bump of this lane is told by an entry of it.
+        ensures once { NamesNoBumpTwice self.new.part }
+        ensures moves { IfSome lane.new (TellsMoves self.new.part) }
     {
-        let found = self.heads.words.alight(&mut self.seat, chunk, outcome);
+        let word = self.heads.words.alight(&mut self.seat, chunk, outcome);
         let part = self.heads.words.part_lanes(&mut self.seat);
         lane.seat = Some(part);
-        found
+        head_of(word)
     }
 }

@@ -10,6 +10,7 @@ mod making;
 mod meeting;
 mod names;
 mod riders;
+mod riding;
 mod rule;
 mod seats;
 mod steps;
@@ -23,10 +24,14 @@ pub use holds::Hold;
 pub use making::{Blank, HeadParts};
 pub use names::Name;
 pub use riders::Rider;
+pub use riding::RideRefusal;
 pub use rule::Rule;
 pub use seats::{ClassSeat, LaneSeat, WorkerSeat};
 pub use taking::TakeRefusal;
-pub use views::{ClassPart, ClassView, Empty, HoldPart, HoldView, Kind, LanePart, OwnStep, Ride, View, WorkerPart, WorkerView};
+pub use views::{
+    ClassPart, ClassView, Empty, HoldPart, HoldView, Kind, LanePart, OwnStep, Ride, View,
+    WorkerPart, WorkerView,
+};
 
 #[cfg(test)]
 mod tests;

@@ -4,5 +4,7 @@ mod applications;
 mod boardings;
 mod cuts;
 mod lives;
+mod marks;
 mod meetings;
 mod references;
+mod rides;

@@ -47,6 +47,19 @@ pub(crate) fn refusal(head: Head, life: ItemId, limit: u32) -> Option<TakeRefusa
     None
 }
 
+impl<N: Name> Hold<N> {
+    // Only a hold whose reference was given back may go.
+    fn forget(self)
+        requires hollow { self.part ≡ None }
+    {
+        let Hold {
+            seat: _,
+            life: _,
+            of: _,
+        } = self;
+    }
+}
+
 impl<N: Name> Heads<N> {
     /// Takes a reference to the life, as memcached's `refcount_incr` in `do_item_get`. The worker's seat has no hold joined, and the
     /// chunk is one of the store's.
@@ -59,14 +72,11 @@ impl<N: Name> Heads<N> {
     ///
     /// Busy is answered where 8 exchanges failed, whatever the last of them found. A refusal changes nothing: all that is new to the
     /// worker is the list of its steps, of which none changed a word.
-    pub fn take(
-        &self,
-        worker: &mut WorkerSeat<N>,
-        life: ItemId,
-    ) -> Result<Hold<N>, TakeRefusal>
+    pub fn take(&self, worker: &mut WorkerSeat<N>, life: ItemId) -> Result<Hold<N>, TakeRefusal>
         requires alone { worker.old.hold ≡ None }
         requires chunk { life.chunk < all_chunks self.now }
         ensures took { (first : TheHead) × (more : List TheHead) × Took self.now.refs_limit life worker.old worker.new result first more }
+        ensures alone { worker.new.hold ≡ None }
         ensures hold { IfOk result (λ h. h ≡ whole_hold life) }
     {
         if let Some(refusal) = self.words.take(&mut worker.seat, life, self.limit) {
@@ -87,16 +97,24 @@ impl<N: Name> Heads<N> {
         ensures generation { result.generation ≡ hold.life.generation }
         ensures counted { 0 < result.refs }
     {
-        let Hold {
-            mut seat,
-            life,
-            of: _,
-        } = hold;
-        head_of(self.words.give_back(&mut seat, life.chunk))
+        let mut held = hold;
+        let head = self.release(&mut held);
+        held.forget();
+        head
     }
 
-    /// The label that was stored for the hold's life, by one load: what the caller of `link` gave, such as the number of a key or of a
-    /// value. The hold is whole. Each call with holds of one life answers the same label; this says it of one hold.
+    // The reference is given back, so that the hold is hollow from then on.
+    fn release(&self, hold: &mut Hold<N>) -> Head
+        requires whole { IsSome hold.old.part }
+        ensures hollow { hold.new ≡ record hold.old { part = None } }
+        ensures generation { result.generation ≡ hold.old.life.generation }
+        ensures counted { 0 < result.refs }
+    {
+        head_of(self.words.give_back(&mut hold.seat, hold.life.chunk))
+    }
+
+    /// The chunk's label, by one load: a number that was stored before the hold's life began, as memcached's key and value of an item
+    /// are. The hold is whole, and its view keeps the label. It is each label that this hold read before.
     pub fn label_of(&self, hold: &mut Hold<N>) -> u64
         requires whole { IsSome hold.old.part }
         ensures read { hold.new ≡ record hold.old { part = reads result hold.old.part } }

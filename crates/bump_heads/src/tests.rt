@@ -2,3 +2,4 @@
 use super::*;
 
 mod linking;
+mod taking;

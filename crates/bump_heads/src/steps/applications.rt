@@ -5,6 +5,8 @@ ghost use Rattle.bump_rules.specs.declared.bumps.Outcome.TheVariants.{Gone};
 ghost use Rattle.bump_heads.specs.Words.{words_id};
 ghost use Rattle.bump_heads.specs.Plays.{on_chunk};
 ghost use Rattle.bump_heads.specs.Applications.{tried, cleared, timed, timed_view, moved_on, alighted, MayMove, MayAlight};
+ghost use Rattle.bump_rules.specs.declared.places.Segment.{Segment as TheSegment};
+ghost use Rattle.bump_rules.specs.declared.places.Segment.TheVariants.{Hot};
 
 use crate::views::{Empty, View};
 use crate::words::{Seat, Words};
@@ -32,10 +34,25 @@ impl Play<Empty, View> for TimeFor {
     ghost then = { timed };
 }
 
-pub struct MoveFor;
+/// Tells a step the segments between which it moves the chunk.
+pub trait Shifts {
+    ghost from: { TheSegment };
 
-impl Play<Empty, View> for MoveFor {
-    ghost then = { on_chunk moved_on };
+    ghost to: { TheSegment };
+}
+
+impl Shifts for Brand {
+    ghost from = { Hot };
+
+    ghost to = { Hot };
+}
+
+pub struct Shift<W: Shifts> {
+    of: PhantomData<W>,
+}
+
+impl<W: Shifts> Play<Empty, View> for Shift<W> {
+    ghost then = { on_chunk (moved_on W.from W.to) };
 }
 
 /// Tells a step the outcome that it writes.
@@ -56,7 +73,7 @@ impl<W: Ends> Play<Empty, View> for Alight<W> {
 }
 
 impl Words {
-    /// S14.
+    /// The head of the bump's item is looked at.
     pub(crate) fn try_front(&self, seat: &mut Seat, chunk: u32) -> u64
         requires { (seat.old.table_id ≡ words_id self.now) × (3 * chunk + 2 < (words_id self.now).words) }
         ensures same { (seat.new.table_id ≡ seat.old.table_id) × (seat.new.id ≡ seat.old.id) }
@@ -65,7 +82,7 @@ impl Words {
         self.table.shared.load::<Try>(seat, 3 * chunk as usize)
     }
 
-    /// S12 for the bump aboard.
+    /// ACTIVE is cleared, for a pull or for the bump aboard.
     pub(crate) fn clear_for(&self, seat: &mut Seat, chunk: u32) -> u64
         requires { (seat.old.table_id ≡ words_id self.now) × (3 * chunk + 2 < (words_id self.now).words) }
         ensures same { (seat.new.table_id ≡ seat.old.table_id) × (seat.new.id ≡ seat.old.id) }
@@ -76,7 +93,7 @@ impl Words {
             .fetch_and::<ClearFor>(seat, 3 * chunk as usize, ALL_BUT_ACTIVE)
     }
 
-    /// S17 for the bump aboard.
+    /// The time is stored under the class's lock, for a link or for the bump aboard.
     pub(crate) fn time_for(&self, seat: &mut Seat, chunk: u32, now: u64)
         requires { (seat.old.table_id ≡ words_id self.now) × (3 * chunk + 2 < (words_id self.now).words) }
         ensures same { (seat.new.table_id ≡ seat.old.table_id) × (seat.new.id ≡ seat.old.id) }
@@ -87,18 +104,32 @@ impl Words {
             .store::<TimeFor>(seat, 3 * chunk as usize + 1, now);
     }
 
-    /// S13 for the bump aboard.
-    pub(crate) fn move_for(&self, seat: &mut Seat, chunk: u32) -> u64
+    fn shift_by<W: Shifts>(&self, seat: &mut Seat, chunk: u32, from: Segment, to: Segment) -> u64
         requires seat { (seat.old.table_id ≡ words_id self.now) × (3 * chunk + 2 < (words_id self.now).words) }
-        requires may { MayMove chunk seat.old.me.0 }
+        requires segments { (from ≡ W.from) × (to ≡ W.to) }
+        requires may { MayMove from to chunk seat.old.me.0 }
         ensures same { (seat.new.table_id ≡ seat.old.table_id) × (seat.new.id ≡ seat.old.id) }
-        ensures told { (x : ℕ) × moved_on chunk x seat.old.me result seat.new.me }
+        ensures told { (x : ℕ) × moved_on from to chunk x seat.old.me result seat.new.me }
     {
-        self.table.shared.fetch_xor::<MoveFor>(
-            seat,
-            3 * chunk as usize,
-            segment_xor(Segment::Cold, Segment::Warm),
-        )
+        self.table
+            .shared
+            .fetch_xor::<Shift<W>>(seat, 3 * chunk as usize, segment_xor(from, to))
+    }
+
+    /// The segment's bits are changed, for a pull or for the bump aboard.
+    pub(crate) fn change_segment(
+        &self,
+        seat: &mut Seat,
+        chunk: u32,
+        from: Segment,
+        to: Segment,
+    ) -> u64
+        requires seat { (seat.old.table_id ≡ words_id self.now) × (3 * chunk + 2 < (words_id self.now).words) }
+        requires may { MayMove from to chunk seat.old.me.0 }
+        ensures same { (seat.new.table_id ≡ seat.old.table_id) × (seat.new.id ≡ seat.old.id) }
+        ensures told { (x : ℕ) × moved_on from to chunk x seat.old.me result seat.new.me }
+    {
+        self.shift_by::<Brand>(seat, chunk, from, to)
     }
 
     fn alight_by<W: Ends>(&self, seat: &mut Seat, chunk: u32, outcome: Outcome) -> u64
@@ -113,7 +144,7 @@ impl Words {
             .fetch_sub::<Alight<W>>(seat, 3 * chunk as usize, ONE_REFERENCE)
     }
 
-    /// S15.
+    /// The reference of the bump aboard is given back.
     pub(crate) fn alight(&self, seat: &mut Seat, chunk: u32, outcome: Outcome) -> u64
         requires seat { (seat.old.table_id ≡ words_id self.now) × (3 * chunk + 2 < (words_id self.now).words) }
         requires may { MayAlight chunk outcome seat.old.me.0 }

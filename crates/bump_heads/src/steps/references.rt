@@ -76,12 +76,9 @@ impl Words {
         ensures same { (seat.new.table_id ≡ seat.old.table_id) × (seat.new.id ≡ seat.old.id) }
         ensures told { taken life.chunk word seat.old.me result seat.new.me }
     {
-        self.table.shared.compare_exchange::<Take>(
-            seat,
-            3 * life.chunk as usize,
-            word,
-            word + ONE_REFERENCE,
-        )
+        self.table
+            .shared
+            .compare_exchange::<Take>(seat, 3 * life.chunk as usize, word, word + ONE_REFERENCE)
     }
 
     /// One load, and at most 8 exchanges.

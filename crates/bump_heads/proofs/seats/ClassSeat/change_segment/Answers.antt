@@ -1,7 +1,19 @@
-use Rattle.std.proofs.Common.{◌≡◌, sym, ◌∙◌}
-use Rattle.bump_heads.proofs.Seeing.{told_class}
+use Rattle.std.proofs.Common.{subst}
+use Rattle.bump_rules.specs.Lawful.{Shows}
+use Rattle.bump_heads.proofs.Seeing.{told_as, own_told, life_told, shift_chunk, shifted_whole}
 use Rattle.bump_heads.specs.Seats.{class_in}
 use Rattle.bump_heads.proofs.seats.ClassSeat.change_segment.Goals as goal
 
-pub returns-clause-told : goal.returns-clause-told
-returns-clause-told g c = let f = c.move_for.ensures.told.1.1 in (f.0, f.1, told_class c.self.inside.seat.me (class_in c.self.inside.seat.me.0) c.args.self.now c.in-Some.bump f.0 c.self.invariant.0 (cc c.self.view_is) (sym c.self.invariant.2 ∙ c.in-Some.is) f.2)
+pub invariant_of-self : goal.invariant_of-self
+invariant_of-self g c = let t = shifted_whole g.N.Name.table c.self.inside.class c.args.chunk c.change_segment-word.result c.self.inside.seat.me c.change_segment-word.new.seat.me (class_in c.self.inside.seat.me.0) c.args.self.now c.self.invariant.0 (cc c.self.view_is) c.self.invariant.2 c.self.invariant.3 c.self.invariant.4
+    c.args.from c.args.to c.head_of.result c.head_of.ensures c.requires.own c.requires.stands c.requires.may c.change_segment-word.ensures.told.1.0 c.change_segment-word.ensures.told.1.1 in
+    (t.0, cc (c.change_segment-word.ensures.same.0, c.self.invariant.1), t.1, t.2, t.3)
+
+pub returns-clause-shows : goal.returns-clause-shows
+returns-clause-shows g c = subst (Shows c.head_of.result) c.requires.stands (own_told c.args.self.now c.args.chunk c.head_of.result c.requires.own (told_as c.self.inside.seat.me c.self.inside.seat.me (class_in c.self.inside.seat.me.0) c.args.self.now c.self.invariant.0 (cc c.self.view_is) c.change_segment-word.result c.args.chunk c.head_of.result c.head_of.ensures c.change_segment-word.ensures.told.1.1)).0
+
+pub returns-clause-generation : goal.returns-clause-generation
+returns-clause-generation g c = (own_told c.args.self.now c.args.chunk c.head_of.result c.requires.own (told_as c.self.inside.seat.me c.self.inside.seat.me (class_in c.self.inside.seat.me.0) c.args.self.now c.self.invariant.0 (cc c.self.view_is) c.change_segment-word.result c.args.chunk c.head_of.result c.head_of.ensures c.change_segment-word.ensures.told.1.1)).1
+
+pub returns-clause-life : goal.returns-clause-life
+returns-clause-life g c = life_told c.args.self.now c.args.chunk c.head_of.result (shift_chunk c.args.chunk c.args.from c.args.to c.args.self.now.lane c.requires.may) (told_as c.self.inside.seat.me c.self.inside.seat.me (class_in c.self.inside.seat.me.0) c.args.self.now c.self.invariant.0 (cc c.self.view_is) c.change_segment-word.result c.args.chunk c.head_of.result c.head_of.ensures c.change_segment-word.ensures.told.1.1)

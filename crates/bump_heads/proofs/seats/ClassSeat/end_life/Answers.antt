@@ -4,7 +4,7 @@ use Rattle.bump_heads.specs.Plays.{Told}
 use Rattle.bump_heads.specs.Views.{standing}
 use Rattle.bump_heads.specs.Lives.{severed}
 use Rattle.bump_heads.proofs.Entering.{linked_in_segment}
-use Rattle.bump_heads.proofs.ClassParts.{keeps_severed}
+use Rattle.bump_heads.proofs.ClassLives.{keeps_severed}
 use Rattle.bump_heads.proofs.ClassSeats.{seat_kept, found_is, agrees}
 use Rattle.bump_heads.proofs.seats.ClassSeat.end_life.Goals as goal
 

@@ -1,6 +1,6 @@
 use Rattle.std.proofs.Common.{refl, ◌∙◌}
 use Rattle.bump_heads.specs.Lives.{labelled}
-use Rattle.bump_heads.proofs.ClassParts.{keeps_labelled}
+use Rattle.bump_heads.proofs.ClassLives.{keeps_labelled}
 use Rattle.bump_heads.proofs.ClassSeats.{seat_kept}
 use Rattle.bump_heads.proofs.seats.ClassSeat.put_label.Goals as goal
 

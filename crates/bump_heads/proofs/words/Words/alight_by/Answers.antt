@@ -1,4 +1,4 @@
-use Rattle.std.proofs.Common.{arith, ◌≡◌, ℕ, ◌*◌, ◌+◌, ◌-◌, ◌%◌, ◌^◌, subst}
+use Rattle.std.proofs.Common.{arith, ◌*◌, ◌+◌, ◌-◌, ◌%◌, ◌^◌, subst}
 use mathlib.Core.Option.{none}
 use Rattle.bump_rules.specs.declared.bumps.Outcome.{Outcome}
 use Rattle.atomic_table.specs.Table.{step, Allows}

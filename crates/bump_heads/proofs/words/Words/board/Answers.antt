@@ -1,4 +1,4 @@
-use Rattle.std.proofs.Common.{◌≡◌, ap, sym, ◌∙◌, subst, []}
+use Rattle.std.proofs.Common.{ap, sym, ◌∙◌, subst}
 use Rattle.atomic_table.specs.Table.{Joins}
 use Rattle.bump_rules.specs.declared.lanes.Lane.{Lane}
 use Rattle.bump_heads.specs.declared.views.View.{View}

@@ -1,4 +1,4 @@
-use Rattle.std.proofs.Common.{arith, ◌≡◌, ℕ, ◌*◌, [], subst, sym}
+use Rattle.std.proofs.Common.{arith, ℕ, ◌*◌, [], subst, sym}
 use mathlib.Core.Option.{none}
 use Rattle.atomic_table.specs.Table.{step, Enters}
 use Rattle.bump_heads.specs.Plays.{on_chunk}

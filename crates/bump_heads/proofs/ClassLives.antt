@@ -1,0 +1,152 @@
+-- What a class's part keeps, it keeps by each step that begins or ends a life.
+use Rattle.std.proofs.Common.{◌≡◌, ◌≢◌, ℕ, ◌+◌, ◌<◌, ◌==◌, ◌&&◌, eqb, cond, Bool, true, false, [], ◌∷◌, ◌++◌, Some, None, if◌then◌else◌, refl, sym, ap, ap₂, ◌∙◌, subst, arith, eq-eqb, ne_eqb}
+use Rattle.std.proofs.lemmas.Bool.{and_from}
+use mathlib.Core.Logic.{dite}
+use native.Mathlib.Decide.{ℕ_discrete}
+use Rattle.bump_rules.specs.declared.items.ItemId.{ItemId}
+use Rattle.bump_rules.specs.declared.places.Place.{Place}
+use Rattle.bump_rules.specs.declared.places.Place.TheVariants.{Hot, Warm, Cold, Dying, Unused, Retired}
+use Rattle.bump_rules.specs.declared.history.Change.{Change}
+use Rattle.bump_rules.specs.declared.history.Change.TheVariants as change
+use Rattle.bump_rules.specs.declared.labels.LabelStep.TheVariants.{Begun}
+use Rattle.bump_rules.specs.Entries.{names_bump, is_stray}
+use Rattle.bump_rules.specs.History.{Standing, subject, target, freed_change}
+use Rattle.bump_rules.specs.Labels.{label_of_life, label_word}
+use Rattle.bump_rules.specs.Lawful.{bit, IsUsed}
+use Rattle.bump_rules.specs.Lives.{life, is_same}
+use Rattle.bump_rules.specs.Totals.{how_many}
+use Rattle.bump_rules.proofs.Replay.{standing_push, are_between_push}
+use Rattle.bump_rules.proofs.ToldMoves.{no_stray}
+use Rattle.bump_rules.proofs.Updates.{total_push}
+use Rattle.bump_heads.specs.declared.views.OwnStep.{OwnStep}
+use Rattle.bump_heads.specs.declared.views.ClassPart.{ClassPart}
+use Rattle.bump_heads.specs.Views.{owns, standing, label_of}
+use Rattle.bump_heads.specs.Seats.{IsClassPart}
+use Rattle.bump_heads.specs.Lives.{looked, labelled, begun, severed, freed, seen, IsInSegment}
+use Rattle.bump_heads.proofs.LabelLists.{word_stored, word_begun, life_stored, life_begun, life_begun_else}
+use Rattle.bump_heads.proofs.Entering.{freed_subject, freed_quiet}
+
+-- a chunk of a segment is not free
+used_in_segment : (at : Place) → IsInSegment at → IsUsed at
+used_in_segment Hot in_it = tt
+used_in_segment Warm in_it = tt
+used_in_segment Cold in_it = tt
+used_in_segment Dying in_it = tt
+used_in_segment Unused in_it = absurd in_it
+used_in_segment Retired in_it = absurd in_it
+
+-- no chunk is freed to a place of chunks in use
+freed_unused : (l : ItemId) → IsUsed (target (freed_change l)) → ⊥
+freed_unused l = by (l.generation == 4294967295)
+  where
+    by : (b : Bool) → IsUsed (target (if b then change.Retired l else change.Swept l)) → ⊥
+    by true used = used
+    by false used = used
+
+-- two lives of two chunks, or of two generations, are two
+other_of_chunk : (d c g j : ℕ) → d ≢ c → is_same (life d g) (life c j) ≡ false
+other_of_chunk d c g j ne = ap (λ (b : Bool). b && eqb g j) (ne_eqb d c ne)
+
+module _ (words : ℕ) (k : ClassPart) (o : IsClassPart words k) where
+  -- one more step of its list
+  pub keeps_step : (x : OwnStep) → IsClassPart words (record k { steps = k.steps ++ x ∷ [] })
+  keeps_step x = record { within = o.within; between = o.between; causes = o.causes; labelled = o.labelled; unbegun = o.unbegun }
+
+  -- a label that is stored for a free chunk
+  pub keeps_labelled : (c y : ℕ) → (standing k c).0 ≡ Unused → IsClassPart words (labelled c y k)
+  keeps_labelled c y unused = record {
+    within = o.within;
+    between = o.between;
+    causes = o.causes;
+    labelled = λ d own used. life_stored (life d (standing k d).1) 0 k.labels c y ∙ o.labelled d own used
+        ∙ ap (λ (n : ℕ). Some n) (sym (word_stored d 0 k.labels c y ∙ ap (λ (b : Bool). if b then y else label_of k d) (ne_eqb c d (λ e. absurd (subst IsUsed (ap (λ (j : ℕ). (standing k j).0) (sym e) ∙ unused) used)))));
+    unbegun = λ d g later. life_stored (life d g) 0 k.labels c y ∙ o.unbegun d g later;
+  }
+
+  module _ (c : ℕ) (own : owns c k ≡ true) (e : Change) (of : (subject e).chunk ≡ c) where
+    -- where the entry leaves the chunks
+    stands_here : standing (record k { history = k.history ++ e ∷ [] }) c ≡ (target e, (subject e).generation)
+    stands_here = standing_push c (Unused, k.fresh) k.history e ∙ ap (λ b. cond b (target e, (subject e).generation) (standing k c)) (eq-eqb (subject e).chunk c of)
+
+    -- the others stand where they stood
+    stands_there : (d : ℕ) → d ≢ c → standing (record k { history = k.history ++ e ∷ [] }) d ≡ standing k d
+    stands_there d ne = standing_push d (Unused, k.fresh) k.history e ∙ ap (λ b. cond b (target e, (subject e).generation) (standing k d)) (ne_eqb (subject e).chunk d (λ q. ne (sym q ∙ of)))
+
+    -- the history is of the class's chunks, and has no stray entry
+    entry_between : names_bump e ≡ false → how_many is_stray (k.history ++ e ∷ []) ≡ 0
+    entry_between quiet = omega (arith, total_push (λ z. bit (is_stray z)) k.history e, ap bit (no_stray e quiet), o.causes)
+
+    -- an entry of the same life that leaves no free chunk in use
+    pub keeps_entry : (x : OwnStep) → names_bump e ≡ false → (subject e).generation ≡ (standing k c).1 → (IsUsed (target e) → IsUsed (standing k c).0)
+        → IsClassPart words (record k { history = k.history ++ e ∷ []; steps = k.steps ++ x ∷ [] })
+    keeps_entry x quiet same used_before = record {
+      within = o.within;
+      between = are_between_push k.first (k.first + k.count) k.history e o.between (subst (λ (j : ℕ). owns j k ≡ true) (sym of) own);
+      causes = entry_between quiet;
+      labelled = λ d mine used. dite (ℕ_discrete d c)
+          (λ is. subst (λ (j : ℕ). label_of_life (life j (standing (record k { history = k.history ++ e ∷ [] }) j).1) 0 k.labels ≡ Some (label_of k j)) (sym is)
+          (subst (λ (s : Standing). label_of_life (life c s.1) 0 k.labels ≡ Some (label_of k c)) (sym stands_here)
+          (subst (λ (g : ℕ). label_of_life (life c g) 0 k.labels ≡ Some (label_of k c)) (sym same)
+          (o.labelled c own (used_before (subst (λ (s : Standing). IsUsed s.0) stands_here (subst (λ (j : ℕ). IsUsed (standing (record k { history = k.history ++ e ∷ [] }) j).0) is used)))))))
+          (λ ne. subst (λ (s : Standing). label_of_life (life d s.1) 0 k.labels ≡ Some (label_of k d)) (sym (stands_there d ne)) (o.labelled d mine (subst (λ (s : Standing). IsUsed s.0) (stands_there d ne) used)));
+      unbegun = λ d g later. dite (ℕ_discrete d c)
+          (λ is. subst (λ (j : ℕ). label_of_life (life j g) 0 k.labels ≡ None) (sym is)
+          (o.unbegun c g (subst (λ (n : ℕ). n < g) (ap (λ (j : ℕ). (standing (record k { history = k.history ++ e ∷ [] }) j).1) is ∙ ap (λ (s : Standing). s.1) stands_here ∙ same) later)))
+          (λ ne. o.unbegun d g (subst (λ (n : ℕ). n < g) (ap (λ (s : Standing). s.1) (stands_there d ne)) later));
+    }
+
+  -- the chunk's life is unlinked
+  pub keeps_severed : (c n : ℕ) → owns c k ≡ true → IsInSegment (standing k c).0 → IsClassPart words (severed c n k)
+  keeps_severed c n own in_it = keeps_entry c own (change.Unlinked (life c (standing k c).1)) refl _ refl refl (λ used. used_in_segment (standing k c).0 in_it)
+
+  -- the chunk is freed
+  pub keeps_freed : (c n : ℕ) → owns c k ≡ true → IsClassPart words (freed c n k)
+  keeps_freed c n own = let l : ItemId = life c (standing k c).1 in
+      keeps_entry c own (freed_change l) (ap (λ (j : ItemId). j.chunk) (freed_subject l)) _ (freed_quiet l) (ap (λ (j : ItemId). j.generation) (freed_subject l)) (λ used. absurd (freed_unused l used))
+
+  -- or seen
+  pub keeps_seen : (c refs n : ℕ) → owns c k ≡ true → IsClassPart words (seen c refs n k)
+  keeps_seen c refs n own = by (refs == 0)
+    where
+      by : (b : Bool) → IsClassPart words (if b then freed c n k else looked c n k)
+      by true = keeps_freed c n own
+      by false = keeps_step _
+
+  -- a new life begins
+  module _ (c n : ℕ) (own : owns c k ≡ true) where
+    abbrev pub next_life : ItemId
+    next_life = life c ((standing k c).1 + 1)
+
+    -- it has the chunk's label
+    label_here : label_of_life next_life 0 (k.labels ++ Begun next_life ∷ []) ≡ Some (label_word c 0 (k.labels ++ Begun next_life ∷ []))
+    label_here = life_begun next_life 0 k.labels (and_from (eqb c c) (eqb ((standing k c).1 + 1) ((standing k c).1 + 1)) (eq-eqb c c refl) (eq-eqb ((standing k c).1 + 1) ((standing k c).1 + 1) refl)) (o.unbegun c ((standing k c).1 + 1) (omega arith))
+        ∙ ap (λ (y : ℕ). Some y) (sym (word_begun c 0 k.labels next_life))
+
+    -- and what the class keeps, it keeps
+    pub keeps_begun : IsClassPart words (begun c ((standing k c).1 + 1) n k)
+    keeps_begun = record {
+      within = o.within;
+      between = are_between_push k.first (k.first + k.count) k.history (change.Linked next_life) o.between own;
+      causes = entry_between c own (change.Linked next_life) refl refl;
+      labelled = λ d mine used. dite (ℕ_discrete d c)
+          (λ is. subst (λ (j : ℕ). label_of_life (life j (standing (record k { history = k.history ++ change.Linked next_life ∷ [] }) j).1) 0 (k.labels ++ Begun next_life ∷ []) ≡ Some (label_word j 0 (k.labels ++ Begun next_life ∷ []))) (sym is)
+          (subst (λ (s : Standing). label_of_life (life c s.1) 0 (k.labels ++ Begun next_life ∷ []) ≡ Some (label_word c 0 (k.labels ++ Begun next_life ∷ []))) (sym (stands_here c own (change.Linked next_life) refl)) label_here))
+          (λ ne. subst (λ (s : Standing). label_of_life (life d s.1) 0 (k.labels ++ Begun next_life ∷ []) ≡ Some (label_word d 0 (k.labels ++ Begun next_life ∷ []))) (sym (stands_there c own (change.Linked next_life) refl d ne))
+          (life_begun_else (life d (standing k d).1) 0 k.labels next_life (other_of_chunk d c (standing k d).1 ((standing k c).1 + 1) ne)
+          ∙ o.labelled d mine (subst (λ (s : Standing). IsUsed s.0) (stands_there c own (change.Linked next_life) refl d ne) used)
+          ∙ ap (λ (y : ℕ). Some y) (sym (word_begun d 0 k.labels next_life))));
+      unbegun = λ d g later. dite (ℕ_discrete d c)
+          (λ is.
+          let at : (standing (record k { history = k.history ++ change.Linked next_life ∷ [] }) d).1 ≡ (standing k c).1 + 1 = ap (λ (j : ℕ). (standing (record k { history = k.history ++ change.Linked next_life ∷ [] }) j).1) is ∙ ap (λ (s : Standing). s.1) (stands_here c own (change.Linked next_life) refl) in
+          subst (λ (j : ℕ). label_of_life (life j g) 0 (k.labels ++ Begun next_life ∷ []) ≡ None) (sym is)
+          (life_begun_else (life c g) 0 k.labels next_life (ap₂ (λ a b. a && b) (eq-eqb c c refl) (ne_eqb g ((standing k c).1 + 1) (λ e. omega (arith, e, at, later)))) ∙ o.unbegun c g (omega (arith, at, later))))
+          (λ ne. life_begun_else (life d g) 0 k.labels next_life (other_of_chunk d c g ((standing k c).1 + 1) ne) ∙ o.unbegun d g (subst (λ (n : ℕ). n < g) (ap (λ (s : Standing). s.1) (stands_there c own (change.Linked next_life) refl d ne)) later));
+    }
+
+-- a look leaves the class's number
+pub class_seen : (c refs n : ℕ) (k : ClassPart) → (seen c refs n k).class ≡ k.class
+class_seen c refs n k = by (refs == 0)
+  where
+    by : (b : Bool) → (if b then freed c n k else looked c n k).class ≡ k.class
+    by true = refl
+    by false = refl

@@ -1,0 +1,10 @@
+-- A touch, as the contracts of a worker's seat tell it.
+use Rattle.std.specs.Prelude.{ℕ}
+use Rattle.bump_rules.specs.declared.items.ItemId.{ItemId}
+use Rattle.bump_rules.specs.Totals.{how_many}
+use Rattle.bump_heads.specs.declared.views.WorkerPart.{WorkerPart}
+use Rattle.bump_heads.specs.Views.{is_fetch_of}
+
+-- how often the worker set FETCHED of the life, or found it set
+abbrev pub fetches_of : ItemId → WorkerPart → ℕ
+fetches_of l p = how_many (is_fetch_of l.chunk l.generation) p.steps
