@@ -68,6 +68,7 @@ module _ (words : ℕ) (k : ClassPart) (o : IsClassPart words k) where
     stands_here : standing (record k { history = k.history ++ e ∷ [] }) c ≡ (target e, (subject e).generation)
     stands_here = standing_push c (Unused, k.fresh) k.history e ∙ ap (λ b. cond b (target e, (subject e).generation) (standing k c)) (eq-eqb (subject e).chunk c of)
 
+    -- the others stand where they stood
     stands_there : (d : ℕ) → d ≢ c → standing (record k { history = k.history ++ e ∷ [] }) d ≡ standing k d
     stands_there d ne = standing_push d (Unused, k.fresh) k.history e ∙ ap (λ b. cond b (target e, (subject e).generation) (standing k d)) (ne_eqb (subject e).chunk d (λ q. ne (sym q ∙ of)))
 
@@ -121,6 +122,7 @@ module _ (words : ℕ) (k : ClassPart) (o : IsClassPart words k) where
     label_here = life_begun next_life 0 k.labels (and_from (eqb c c) (eqb ((standing k c).1 + 1) ((standing k c).1 + 1)) (eq-eqb c c refl) (eq-eqb ((standing k c).1 + 1) ((standing k c).1 + 1) refl)) (o.unbegun c ((standing k c).1 + 1) (omega arith))
         ∙ ap (λ (y : ℕ). Some y) (sym (word_begun c 0 k.labels next_life))
 
+    -- and what the class keeps, it keeps
     pub keeps_begun : IsClassPart words (begun c ((standing k c).1 + 1) n k)
     keeps_begun = record {
       within = o.within;

@@ -35,9 +35,11 @@ module _ (m w : Sat) (v : ClassView) (f : ClassPart → ClassPart) (is : m ≡ c
   pub me_after : w ≡ class_me (record v { part = f v.part })
   me_after = after ∙ ap (λ (y : Sat). (on_part f y.0, y.1)) is
 
+  -- is seen with its new part
   pub view_after : class_in w.0 ≡ record v { part = f v.part }
   view_after = ap (λ (y : Sat). class_in y.0) me_after ∙ class_in_me (record v { part = f v.part })
 
+  -- and has nothing else
   pub whole_after : w ≡ class_me (class_in w.0)
   whole_after = me_after ∙ ap class_me (sym view_after)
 

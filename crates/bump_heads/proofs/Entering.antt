@@ -51,9 +51,11 @@ use Rattle.bump_heads.proofs.Told.{at_standing, tells, stands_alone}
 -- ---- An entry of a chunk of the class that names no bump, and labels that leave all words.
 
 module _ (c : ℕ) (k : ClassPart) (own : owns c k ≡ true) (e : Change) (ls : List LabelStep) (x : OwnStep) (of : (subject e).chunk ≡ c) (quiet : names_bump e ≡ false) (same_labels : (b : ℕ) → label_word b 0 ls ≡ label_of k b) where
+  -- the view after it
   abbrev pub entering : View
   entering = alone (record k { history = k.history ++ e ∷ []; labels = ls; steps = k.steps ++ x ∷ [] })
 
+  -- where it leaves the chunk
   abbrev pub to_be : Standing
   to_be = (target e, (subject e).generation)
 
@@ -139,6 +141,7 @@ freed_shows h l off most same = by (l.generation == 4294967295) refl
 -- ---- The steps.
 
 module _ (key : Config) (slots id c : ℕ) (near : c < chunks key) (sl : List (ℕ × Empty)) (k : ClassPart) (own : owns c k ≡ true) where
+  -- the chunk stands at its place
   stands_at : (p : Place) → (standing k c).0 ≡ p → Stands c (alone k) (p, (standing k c).1)
   stands_at p e = subst (λ (q : Place). Stands c (alone k) (q, (standing k c).1)) e (stands_alone c (alone k) k refl own)
 
@@ -213,16 +216,19 @@ module _ (key : Config) (slots id c : ℕ) (near : c < chunks key) (sl : List (�
 
 -- ---- For the contracts.
 
+-- a life may begin by the store of its head
 pub may_begin : (key : Config) (slots id c g : ℕ) (m : Sat) → c < chunks key → MayBegin c g m.0 → (new : ℕ) → new ≡ word_of (newborn g) → Allows (Kept key) slots id m (3 * c) (λ _. new) (λ _. beginning (step slots (3 * c) new 0 none) m new)
 may_begin key slots id c g m near may new is = let k : ClassPart = may.0 in let o = may.1 in
     subst (λ (v : View). Allows (Kept key) slots id (v, m.1) (3 * c) (λ _. new) (λ _. beginning (step slots (3 * c) new 0 none) (v, m.1) new)) (sym o.view)
     (begins key slots id c near m.1 k o.own new o.at (is ∙ ap (λ (j : ℕ). word_of (newborn j)) may.2))
 
+-- a linked chunk may be unlinked
 pub may_sever : (key : Config) (slots id c : ℕ) (m : Sat) → c < chunks key → IsLinked c m.0 → Allows (Kept key) slots id m (3 * c) (λ n. (n + (2 ^ 64 - 65537)) % 2 ^ 64) (on_chunk severing (step slots (3 * c) 65537 0 none) m)
 may_sever key slots id c m near may =
     subst (λ (v : View). Allows (Kept key) slots id (v, m.1) (3 * c) (λ n. (n + (2 ^ 64 - 65537)) % 2 ^ 64) (on_chunk severing (step slots (3 * c) 65537 0 none) (v, m.1))) (sym may.1.view)
     (severs key slots id c near m.1 may.0 may.1.own may.1.at)
 
+-- a DYING chunk may be seen, and freed
 pub may_sweep : (key : Config) (slots id c : ℕ) (m : Sat) → c < chunks key → IsDying c m.0 → Allows (Kept key) slots id m (3 * c) (λ n. n) (on_chunk sweeping (step slots (3 * c) 0 0 none) m)
 may_sweep key slots id c m near may =
     subst (λ (v : View). Allows (Kept key) slots id (v, m.1) (3 * c) (λ n. n) (on_chunk sweeping (step slots (3 * c) 0 0 none) (v, m.1))) (sym may.1.view)

@@ -43,6 +43,7 @@ module _ (c y : ℕ) (k : ClassPart) (own : owns c k ≡ true) where
   no_mislabel = ap (λ (o : Bool). bit (o && not (eqb (label_word c 0 (k.labels ++ Stored c y ∷ [])) y)) + 0) own
       ∙ (ap (λ (l : ℕ). bit (not (eqb l y)) + 0) (word_stored c 0 k.labels c y ∙ ap (λ (o : Bool). if o then y else label_of k c) (eq-eqb c c refl)) ∙ ap (λ (o : Bool). bit (not o) + 0) (eq-eqb y y refl))
 
+  -- what was shown is shown, and no move
   label_backed : IsBacked (alone k) (alone (labelled c y k))
   label_backed = record {
     backs = λ wk d. (by wk d d.outcome, λ more. absurd (omega arith));
@@ -81,7 +82,7 @@ module _ (key : Config) (slots id c : ℕ) (near : c < chunks key) (sl : List (�
         refl,
       )))
 
--- for the contract
+-- for the contract: the label of a chunk of UNUSED may be stored
 pub may_store : (key : Config) (slots id c y : ℕ) (m : Sat) → c < chunks key → IsUnused c m.0 → Allows (Kept key) slots id m (3 * c + 2) (λ _. y) (λ _. storing (step slots (3 * c + 2) y 0 none) m y)
 may_store key slots id c y m near may =
     subst (λ (v : View). Allows (Kept key) slots id (v, m.1) (3 * c + 2) (λ _. y) (λ _. storing (step slots (3 * c + 2) y 0 none) (v, m.1) y)) (sym may.1.view)

@@ -60,6 +60,7 @@ pub record Keeps (places : Place → Type 0) (c : ℕ) (v : View) (k : ClassPart
   pub own : owns c k ≡ true
   pub at : places (standing k c).0
 
+-- where it is UNUSED, DYING, or linked
 abbrev pub IsUnused : ℕ → View → Type 0
 IsUnused c v = (k : ClassPart) × Keeps (λ p. p ≡ Unused) c v k
 
@@ -83,18 +84,22 @@ on_part f v = record v { classes = on_first f v.classes }
 abbrev pub peeking : Tells
 peeking c x m r n = (n ≡ m) × Found r (Told c m.0)
 
+-- and one that is
 abbrev pub looking : Tells
 looking c x m r n = (n ≡ (on_part (looked c r) m.0, m.1)) × Found r (Told c m.0)
 
+-- the store of a label
 abbrev pub storing : Step Empty → Sat → ℕ → Sat → Type 0
 storing st m r n = n ≡ (on_part (labelled (st.word / 3) r) m.0, m.1)
 
+-- the store of a new life's head: the life's generation is the one in it
 abbrev pub beginning : Step Empty → Sat → ℕ → Sat → Type 0
 beginning st m r n = n ≡ (on_part (begun (st.word / 3) (r / 2 ^ generation_first) r) m.0, m.1)
 
--- a linked chunk has at least the reference of its link
+-- an unlinking: a linked chunk has at least the reference of its link
 abbrev pub severing : Tells
 severing c x m r n = (n ≡ (on_part (severed c r) m.0, m.1)) × Found r (λ h. Told c m.0 h × (bit h.linked ≤ h.refs))
 
+-- a look at a DYING chunk
 abbrev pub sweeping : Tells
 sweeping c x m r n = (n ≡ (on_part (seen c (r % 2 ^ refs_width) r) m.0, m.1)) × Found r (Told c m.0)
