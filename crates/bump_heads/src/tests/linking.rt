@@ -23,6 +23,14 @@ fn one_life<N: Name>(class: &mut ClassSeat<N>) -> Seen
     (life, linked, last, behind)
 }
 
+/// The class's seat, where there is one.
+fn only_class<N: Name>(mut classes: Vec<ClassSeat<N>>) -> Option<ClassSeat<N>>
+    requires { classes.items ≡ record { part = record { class = 0; first = 0; count = 2; fresh = 0; history = []; labels = []; steps = [] }; lane = None } ∷ [] }
+    ensures { IfSome result (λ k. k ≡ record { part = record { class = 0; first = 0; count = 2; fresh = 0; history = []; labels = []; steps = [] }; lane = None }) }
+{
+    classes.pop()
+}
+
 fn seen_in<N: Name>(alloc: Global, blank: Blank, config: &Config) -> Option<Seen>
     requires name { blank.table ≡ N.table }
     requires config { blank.config ≡ config.now }
@@ -30,11 +38,11 @@ fn seen_in<N: Name>(alloc: Global, blank: Blank, config: &Config) -> Option<Seen
 {
     let HeadParts {
         heads: _,
-        mut classes,
+        classes,
         workers: _,
         lanes: _,
     } = Heads::<N>::new(alloc, blank, config).ok()?;
-    let mut class = classes.pop()?;
+    let mut class = only_class(classes)?;
     Some(one_life(&mut class))
 }
 
@@ -42,7 +50,14 @@ fn seen_in<N: Name>(alloc: Global, blank: Blank, config: &Config) -> Option<Seen
 fn config(alloc: Global) -> Option<Config>
     ensures { IfSome result (λ c. (c.first_generation ≡ 1) × (c.classes ≡ record { chunks = 2; hot = 1; warm = 1 } ∷ [])) }
 {
-    let classes = vec![in alloc; ClassConfig { chunks: 2, hot: 1, warm: 1 }].ok()?;
+    let classes = vec![in alloc;
+        ClassConfig {
+            chunks: 2,
+            hot: 1,
+            warm: 1
+        },
+    ]
+    .ok()?;
     Config::new(1, 4, 4, 1, classes).ok()
 }
 

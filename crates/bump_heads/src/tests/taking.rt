@@ -59,7 +59,7 @@ fn told_in<N: Name>(alloc: Global, blank: Blank, config: &Config) -> Option<Told
 }
 
 /// One worker, and one class of two chunks.
-fn config(alloc: Global) -> Option<Config>
+fn config(alloc: Global, first_generation: u32) -> Option<Config>
     ensures { IfSome result (λ c. (c.workers ≡ 1) × (c.classes ≡ record { chunks = 2; hot = 1; warm = 1 } ∷ [])) }
 {
     let classes = vec![in alloc;
@@ -70,31 +70,33 @@ fn config(alloc: Global) -> Option<Config>
         },
     ]
     .ok()?;
-    Config::new(1, 4, 4, 1, classes).ok()
+    Config::new(1, 4, 4, first_generation, classes).ok()
 }
 
 /// Opens a store, and picks its name. None where memory is refused.
-fn told(alloc: Global) -> Option<Told> {
-    let config = config(alloc)?;
+fn told(alloc: Global, first_generation: u32) -> Option<Told> {
+    let config = config(alloc, first_generation)?;
     let blank = Blank::new(alloc, &config).ok()?;
     told_in::<Brand>(alloc, blank, &config)
 }
 
 #[test]
 fn chunks_without_a_life(rt: HostRuntime) -> Result<(), Fail> {
-    let (seen, before, first) = told(rt.alloc()).ok_or("no memory")?;
-    let head = Head {
-        refs: 0,
-        linked: false,
-        fetched: false,
-        active: false,
-        segment: Segment::Hot,
-        generation: 0,
-    };
-    assert_eq!(rt; seen, (head, 0));
-    assert_eq!(rt;
-        (before, first),
-        (Some(TakeRefusal::Stale), Some(TakeRefusal::Stale))
-    );
+    for (first_generation, generation) in [(1, 0), (7, 6)] {
+        let (seen, before, first) = told(rt.alloc(), first_generation).ok_or("no memory")?;
+        let head = Head {
+            refs: 0,
+            linked: false,
+            fetched: false,
+            active: false,
+            segment: Segment::Hot,
+            generation,
+        };
+        assert_eq!(rt; seen, (head, 0));
+        assert_eq!(rt;
+            (before, first),
+            (Some(TakeRefusal::Stale), Some(TakeRefusal::Stale))
+        );
+    }
     Ok(())
 }
