@@ -1,0 +1,120 @@
+//! A life of a chunk, from its label to its end, with what a reader sees of it.
+ghost use Rattle.std.specs.Prelude.{◌≡◌, ◌<◌, None, [], ◌∷◌};
+ghost use Rattle.bump_rules.specs.declared.hands.Hand.TheVariants.{Idle};
+ghost use Rattle.bump_heads.specs.Making.{worker_seen};
+ghost use Rattle.bump_heads.specs.Rule.{no_accounts, worker_part, chunks as all_chunks};
+ghost use Rattle.bump_heads.specs.Taking.{whole_hold};
+
+use super::stores::{Small, config_of, head, let_out, open, refusal};
+use super::*;
+use bump_rules::{Config, ItemId, Segment};
+use std::alloc::{AllocError, Global};
+use std::marker::Brand;
+use std::process::Abort;
+use std::test::Fail;
+
+// Marks the item twice: FETCHED, then ACTIVE.
+fn mark_in_hot<N: Name>(
+    rt: &impl Abort,
+    heads: &Heads<N>,
+    worker: &mut WorkerSeat<N>,
+    hold: &mut Hold<N>,
+)
+    requires idle { worker.old.part.hand ≡ Idle }
+    requires alone { worker.old.hold ≡ None }
+    requires fresh { worker.old.part.accounts ≡ no_accounts }
+    requires hold { hold.old ≡ whole_hold hold.old.life }
+    requires chunk { hold.old.life.chunk < all_chunks heads.now }
+    ensures idle { worker.new.part.hand ≡ Idle }
+    ensures alone { worker.new.hold ≡ None }
+    ensures hold { hold.new ≡ hold.old }
+{
+    let life = hold.life();
+    heads.hold_in(worker, hold);
+    let found = heads.mark_fetched(worker, life);
+    assert_eq!(rt; found, head(2, "l", Segment::Hot, 1));
+    let fetched = head(2, "lf", Segment::Hot, 1);
+    assert_eq!(rt; heads.see(life.chunk).0, fetched);
+    let found = heads.mark_active(worker, life);
+    assert!(rt; matches!(found.segment, Segment::Hot));
+    assert_eq!(rt; found, fetched);
+    heads.set_time(worker, life, 3);
+    assert_eq!(rt; heads.see(life.chunk), (head(2, "lfa", Segment::Hot, 1), 3));
+    let_out(heads, worker, hold);
+}
+
+// The first life of chunk 0, and the beginning of its second.
+fn live<N: Name>(
+    rt: &impl Abort,
+    heads: &Heads<N>,
+    class: &mut ClassSeat<N>,
+    worker: &mut WorkerSeat<N>,
+)
+    requires chunks { all_chunks heads.now ≡ 2 }
+    requires alone { class.old.lane ≡ None }
+    requires first { class.old.part ≡ record { class = 0; first = 0; count = 2; fresh = 0; history = []; labels = []; steps = [] } }
+    requires worker { worker.old ≡ worker_seen (worker_part 0) }
+{
+    class.put_label(0, 7);
+    class.put_time(0, 1);
+    let life = class.open_life(0);
+    assert_eq!(rt;
+        life,
+        ItemId {
+            chunk: 0,
+            generation: 1
+        }
+    );
+    assert_eq!(rt; heads.see(0), (head(1, "l", Segment::Hot, 1), 1));
+    let mut hold = heads.take(worker, life).expect(rt, "there is room");
+    assert_eq!(rt; class.look(0), head(2, "l", Segment::Hot, 1));
+    mark_in_hot(rt, heads, worker, &mut hold);
+    assert_eq!(rt; class.meet(&mut hold), 7);
+    assert_eq!(rt; class.end_life(0), head(2, "lfa", Segment::Hot, 1));
+    let held = class.seen_unheld(0);
+    assert_eq!(rt; held, head(1, "fa", Segment::Hot, 1));
+    assert!(rt; held.refs == 1);
+    assert_eq!(rt; heads.label_of(&mut hold), 7);
+    assert_eq!(rt; heads.give_back(hold), held);
+    let free = class.seen_unheld(0);
+    assert_eq!(rt; free, head(0, "fa", Segment::Hot, 1));
+    assert!(rt; free.refs == 0);
+    assert_eq!(rt; refusal(heads, worker, life), Some(TakeRefusal::Stale));
+    assert_eq!(rt;
+        class.open_life(0),
+        ItemId {
+            chunk: 0,
+            generation: 2
+        }
+    );
+    assert_eq!(rt; heads.see(0), (head(1, "l", Segment::Hot, 2), 3));
+    assert_eq!(rt; refusal(heads, worker, life), Some(TakeRefusal::Stale));
+}
+
+fn live_in<N: Name>(
+    rt: &impl Abort,
+    alloc: Global,
+    blank: Blank,
+    config: &Config,
+) -> Result<(), AllocError>
+    requires name { blank.table ≡ N.table }
+    requires config { blank.config ≡ config.now }
+    requires small { (config.now.workers ≡ 1) × (config.now.first_generation ≡ 1) × (config.now.classes ≡ record { chunks = 2; hot = 1; warm = 1 } ∷ []) }
+{
+    let Small {
+        heads,
+        mut class,
+        mut worker,
+        lane: _,
+    } = open::<N>(alloc, blank, config)?;
+    live(rt, &heads, &mut class, &mut worker);
+    Ok(())
+}
+
+#[test]
+fn a_life_is_held_marked_and_freed(rt: HostRuntime) -> Result<(), Fail> {
+    let alloc = rt.alloc();
+    let config = config_of(alloc, 4).ok_or("no memory")?;
+    let blank = Blank::new(alloc, &config)?;
+    Ok(live_in::<Brand>(&rt, alloc, blank, &config)?)
+}

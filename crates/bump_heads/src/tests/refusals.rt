@@ -1,0 +1,99 @@
+//! Why a worker gets no hold and no rider, where no other thread is at work.
+ghost use Rattle.std.specs.Prelude.{◌≡◌, None, [], ◌∷◌};
+ghost use Rattle.bump_heads.specs.Rule.{chunks as all_chunks};
+
+use super::stores::{Small, config_of, open, refusal};
+use super::*;
+use bump_rules::{Config, ItemId};
+use std::alloc::{AllocError, Global};
+use std::marker::Brand;
+use std::process::Abort;
+use std::test::Fail;
+
+fn life_of(chunk: u32, generation: u32) -> ItemId
+    ensures { result ≡ record { chunk = chunk; generation = generation } }
+{
+    ItemId { chunk, generation }
+}
+
+// The first life of chunk 0 is taken in no other generation, and nothing of another chunk.
+fn miss<N: Name>(rt: &impl Abort, heads: &Heads<N>, worker: &mut WorkerSeat<N>)
+    requires chunks { all_chunks heads.now ≡ 2 }
+    requires alone { worker.old.hold ≡ None }
+    ensures alone { worker.new.hold ≡ None }
+{
+    assert_eq!(rt;
+        refusal(heads, worker, life_of(0, 0)),
+        Some(TakeRefusal::Stale),
+        "too old"
+    );
+    assert_eq!(rt;
+        refusal(heads, worker, life_of(0, 2)),
+        Some(TakeRefusal::Stale),
+        "too new"
+    );
+    assert_eq!(rt;
+        refusal(heads, worker, life_of(1, 1)),
+        Some(TakeRefusal::Stale),
+        "elsewhere"
+    );
+}
+
+// The first life of chunk 0 is held by as many as may hold it.
+fn fill<N: Name>(
+    rt: &impl Abort,
+    heads: &Heads<N>,
+    class: &mut ClassSeat<N>,
+    worker: &mut WorkerSeat<N>,
+)
+    requires chunks { all_chunks heads.now ≡ 2 }
+    requires free { class.old.lane ≡ None }
+    requires first { class.old.part ≡ record { class = 0; first = 0; count = 2; fresh = 0; history = []; labels = []; steps = [] } }
+    requires alone { worker.old.hold ≡ None }
+{
+    let first = life_of(0, 1);
+    class.put_label(0, 7);
+    assert_eq!(rt; class.open_life(0), first);
+    miss(rt, heads, worker);
+    assert_eq!(rt; refusal(heads, worker, first), None);
+    let hold = heads.take(worker, first).expect(rt, "there is room");
+    assert_eq!(rt; refusal(heads, worker, first), Some(TakeRefusal::RefsFull));
+    class.end_life(0);
+    assert_eq!(rt;
+        refusal(heads, worker, first),
+        Some(TakeRefusal::Stale),
+        "behind it"
+    );
+    heads.give_back(hold);
+}
+
+fn refuse_in<N: Name>(
+    rt: &impl Abort,
+    alloc: Global,
+    blank: Blank,
+    config: &Config,
+) -> Result<(), AllocError>
+    requires name { blank.table ≡ N.table }
+    requires config { blank.config ≡ config.now }
+    requires small { (config.now.workers ≡ 1) × (config.now.first_generation ≡ 1) × (config.now.classes ≡ record { chunks = 2; hot = 1; warm = 1 } ∷ []) }
+{
+    let Small {
+        heads,
+        mut class,
+        mut worker,
+        lane: _,
+    } = open::<N>(alloc, blank, config)?;
+    let first = life_of(0, 1);
+    let why = refusal(&heads, &mut worker, first);
+    assert_eq!(rt; why, Some(TakeRefusal::Stale), "before it");
+    fill(rt, &heads, &mut class, &mut worker);
+    Ok(())
+}
+
+#[test]
+fn takes_are_refused(rt: HostRuntime) -> Result<(), Fail> {
+    let alloc = rt.alloc();
+    let config = config_of(alloc, 2).ok_or("no memory")?;
+    let blank = Blank::new(alloc, &config)?;
+    Ok(refuse_in::<Brand>(&rt, alloc, blank, &config)?)
+}

@@ -1,0 +1,104 @@
+//! Small stores that tests open, and heads as tests write them.
+ghost use Rattle.std.specs.Prelude.{◌≡◌, ◌<◌, None, Some, IfOk, IfSome, [], ◌∷◌};
+ghost use Rattle.std.specs.Arc.{arc_value};
+ghost use Rattle.bump_rules.specs.declared.hands.Hand.TheVariants.{Idle};
+ghost use Rattle.bump_heads.specs.References.{new_hold};
+ghost use Rattle.bump_heads.specs.Rule.{chunks as all_chunks, worker_part, lane_part};
+ghost use Rattle.bump_heads.specs.Making.{class_seen, lane_seen, worker_seen};
+ghost use Rattle.bump_heads.specs.Taking.{whole_hold};
+
+use super::*;
+use bump_rules::{ClassConfig, Config, Head, ItemId, Segment};
+use std::alloc::{AllocError, Global};
+use std::sync::Arc;
+
+/// What a store of one class with two chunks and one worker is made of.
+#[derive(Drop)]
+pub struct Small<N: Name> {
+    pub heads: Arc<Heads<N>, Global>,
+    pub class: ClassSeat<N>,
+    pub worker: WorkerSeat<N>,
+    pub lane: LaneSeat<N>,
+}
+
+/// The configuration of such a store, whose first generation is 1, with this limit of references, 2 to 65,535.
+/// None where memory is refused.
+pub fn config_of(alloc: Global, limit: u32) -> Option<Config>
+    ensures limit { IfSome result (λ c. c.refs_limit ≡ limit) }
+    ensures small { IfSome result (λ c. (c.workers ≡ 1) × (c.first_generation ≡ 1) × (c.classes ≡ record { chunks = 2; hot = 1; warm = 1 } ∷ [])) }
+{
+    let class = ClassConfig {
+        chunks: 2,
+        hot: 1,
+        warm: 1,
+    };
+    Config::new(1, 4, limit, 1, vec![in alloc; class].ok()?).ok()
+}
+
+/// Opens such a store.
+pub fn open<N: Name>(alloc: Global, blank: Blank, config: &Config) -> Result<Small<N>, AllocError>
+    requires name { blank.table ≡ N.table }
+    requires config { blank.config ≡ config.now }
+    requires small { (config.now.workers ≡ 1) × (config.now.first_generation ≡ 1) × (config.now.classes ≡ record { chunks = 2; hot = 1; warm = 1 } ∷ []) }
+    ensures chunks { IfOk result (λ s. all_chunks (arc_value s.heads) ≡ 2) }
+    ensures class { IfOk result (λ s. s.class ≡ class_seen (record { class = 0; first = 0; count = 2; fresh = 0; history = []; labels = []; steps = [] })) }
+    ensures worker { IfOk result (λ s. s.worker ≡ worker_seen (worker_part 0)) }
+    ensures lane { IfOk result (λ s. s.lane ≡ lane_seen (lane_part 0)) }
+{
+    let HeadParts {
+        heads,
+        mut classes,
+        mut workers,
+        mut lanes,
+    } = Heads::<N>::new(alloc, blank, config)?;
+    Ok(Small {
+        heads,
+        class: classes.pop().ok_or(AllocError)?,
+        worker: workers.pop().ok_or(AllocError)?,
+        lane: lanes.pop().ok_or(AllocError)?,
+    })
+}
+
+/// A head with these marks: `l` for linked, `f` for fetched, `a` for active.
+pub fn head(refs: u32, marks: &str, segment: Segment, generation: u32) -> Head {
+    Head {
+        refs,
+        linked: marks.contains('l'),
+        fetched: marks.contains('f'),
+        active: marks.contains('a'),
+        segment,
+        generation,
+    }
+}
+
+/// Why the item isn't taken. One that is taken is given back.
+pub fn refusal<N: Name>(
+    heads: &Heads<N>,
+    worker: &mut WorkerSeat<N>,
+    life: ItemId,
+) -> Option<TakeRefusal>
+    requires alone { worker.old.hold ≡ None }
+    requires chunk { life.chunk < all_chunks heads.now }
+    ensures hold { worker.new.hold ≡ None }
+    ensures hand { worker.new.part.hand ≡ worker.old.part.hand }
+    ensures accounts { worker.new.part.accounts ≡ worker.old.part.accounts }
+{
+    match heads.take(worker, life) {
+        Ok(hold) => {
+            heads.give_back(hold);
+            None
+        }
+        Err(refusal) => Some(refusal),
+    }
+}
+
+/// Splits a hold that read no label off the worker's seat, to which it was joined.
+pub fn let_out<N: Name>(heads: &Heads<N>, worker: &mut WorkerSeat<N>, hold: &mut Hold<N>)
+    requires idle { worker.old.part.hand ≡ Idle }
+    requires joined { worker.old.hold ≡ Some (new_hold hold.old.life) }
+    requires hollow { hold.old.part ≡ None }
+    ensures worker { worker.new ≡ record worker.old { hold = None } }
+    ensures hold { hold.new ≡ whole_hold hold.old.life }
+{
+    heads.hold_out(worker, hold);
+}
