@@ -113,7 +113,7 @@ module _ (key : Config) (slots id : ℕ) (m : Sat) (c : ℕ) (near : c < chunks 
     told,
   )
 
-  -- S1 by a worker
+  -- a load by a worker
   pub looks : Allows (Kept key) slots id m (3 * c) (λ n. n) (on_chunk looked (step slots (3 * c) 0 0 none) m)
   looks = at_chunk looked key slots id m c 0 (λ n. n) near (λ n x t limits o a. loaded n x t (looked c 0 m n) o (refl, (o.head, o.spells, tells c key.refs_limit n x m.0 t o a)))
 
@@ -151,7 +151,7 @@ module _ (key : Config) (slots id : ℕ) (m : Sat) (c : ℕ) (near : c < chunks 
       apart k hs same b ne (mislabels y) = same b (mislabels y)
       apart k hs same b ne (misreads j y) = omega (arith, same b (misreads j y))
 
-  -- S2
+  -- the exchange that takes a hold
   pub takes : (g old : ℕ) (h : Head) → Spells old h → get_of key.refs_limit g h ≡ IsHeld → Allows (Kept key) slots id m (3 * c) (λ n. either (eqb n old) (old + 1) n) (on_chunk taken (step slots (3 * c) old (old + 1) none) m)
   takes g old h is may = at_chunk taken key slots id m c old (λ n. either (eqb n old) (old + 1) n) near (λ n x t limits o a.
       exchanged n old (old + 1) (λ p. Reaches key c m (taken c old m n) p x t) (λ hit. won g old h is may n x t limits o a hit)
@@ -188,7 +188,7 @@ module _ (key : Config) (slots id : ℕ) (m : Sat) (c : ℕ) (near : c < chunks 
     is_life : (n x : ℕ) (t : Measure → ℕ) (o : Sound key.refs_limit n x t) → Amid c m.0 t → h.life.generation ≡ o.head.generation
     is_life n x t o a = (o.lawful.used h.life.generation (omega (arith, a.mine (held h.life.generation), first_term (λ p. one_if (life c h.life.generation) p.life), one_here))).0
 
-    -- S7 by a hold
+    -- a hold gives its reference back
     gives : Allows (Kept key) slots id m (3 * c) (λ n. (n + (2 ^ 64 - 1)) % 2 ^ 64) (on_chunk given_back (step slots (3 * c) 1 0 none) m)
     gives = at_chunk given_back key slots id m c 1 (λ n. (n + (2 ^ 64 - 1)) % 2 ^ 64) near (λ n x t limits o a.
         let g : ℕ = h.life.generation in
@@ -234,7 +234,7 @@ module _ (key : Config) (slots id : ℕ) (m : Sat) (c : ℕ) (near : c < chunks 
   no_difference : (x : ℕ) (p : HoldPart) → total (differs x) (read_hold x p).labels ≡ total (differs x) p.labels
   no_difference x p = omega (arith, total_push (differs x) p.labels x, ap {B = ℕ} (λ (b : Bool). cond b 0 1) (eq-eqb x x refl))
 
-  -- S1 on a label word, by a hold
+  -- a load of a label word, by a hold
   pub reads_label : HasHold c m.0 → Allows (Kept key) slots id m (3 * c + 2) (λ x. x) (on_chunk label_read (step slots (3 * c + 2) 0 0 none) m)
   reads_label has = subst (λ (d : ℕ). Allows (Kept key) slots id m (3 * c + 2) (λ x. x) (λ x n. label_read d 0 m x n)) (sym (label_chunk_is c))
       (on_label key slots id m c (λ x. x) (λ x n. label_read c 0 m x n) near (λ n x t limits o a.
@@ -259,7 +259,7 @@ nothing c (strays s) = refl
 nothing c (mislabels x) = refl
 nothing c (misreads g x) = refl
 
--- S1 on a head word, without a seat
+-- a load of a head word, without a seat
 pub sees : (key : Config) (slots c : ℕ) (first : View) → c < chunks key → Enters (Kept key) slots (3 * c) (λ n w. on_chunk (seen key.refs_limit) (step slots (3 * c) 0 0 none) (first, []) n (w, []))
 sees key slots c first near s o count small = let e = o.each c near in (
   blank,

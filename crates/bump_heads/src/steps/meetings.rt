@@ -15,7 +15,7 @@ impl Play<Empty, View> for Meet {
 }
 
 impl Words {
-    /// S1 on the label word, for `meet`.
+    /// A load of the label word, for `meet`.
     pub(crate) fn meet(&self, seat: &mut Seat, chunk: u32) -> u64
         requires { (seat.old.table_id ≡ words_id self.now) × (3 * chunk + 2 < (words_id self.now).words) }
         ensures same { (seat.new.table_id ≡ seat.old.table_id) × (seat.new.id ≡ seat.old.id) }

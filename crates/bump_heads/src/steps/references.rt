@@ -60,7 +60,7 @@ impl<L: Limited> Play<Empty, View> for See<L> {
 }
 
 impl Words {
-    /// S1 on a head word, by a worker.
+    /// A load of a head word, by a worker.
     pub(crate) fn look(&self, seat: &mut Seat, chunk: u32) -> u64
         requires { (seat.old.table_id ≡ words_id self.now) × (3 * chunk + 2 < (words_id self.now).words) }
         ensures same { (seat.new.table_id ≡ seat.old.table_id) × (seat.new.id ≡ seat.old.id) }
@@ -69,7 +69,7 @@ impl Words {
         self.table.shared.load::<Look>(seat, 3 * chunk as usize)
     }
 
-    /// S2.
+    /// The exchange by which a worker takes a hold.
     pub(crate) fn try_take(&self, seat: &mut Seat, life: ItemId, word: u64) -> u64
         requires seat { (seat.old.table_id ≡ words_id self.now) × (3 * life.chunk + 2 < (words_id self.now).words) }
         requires word { MayTake self.now.table.shared.key.refs_limit life word }
@@ -103,7 +103,7 @@ impl Words {
         Some(TakeRefusal::Busy)
     }
 
-    /// S7 by a hold.
+    /// The subtraction by which a hold gives its reference back.
     pub(crate) fn give_back(&self, seat: &mut Seat, chunk: u32) -> u64
         requires seat { (seat.old.table_id ≡ words_id self.now) × (3 * chunk + 2 < (words_id self.now).words) }
         requires hold { HasHold chunk seat.old.me.0 }
@@ -115,7 +115,7 @@ impl Words {
             .fetch_sub::<GiveBack>(seat, 3 * chunk as usize, ONE_REFERENCE)
     }
 
-    /// S1 on a label word, by a hold.
+    /// A load of a label word, by a hold.
     pub(crate) fn read_label(&self, seat: &mut Seat, chunk: u32) -> u64
         requires seat { (seat.old.table_id ≡ words_id self.now) × (3 * chunk + 2 < (words_id self.now).words) }
         requires hold { HasHold chunk seat.old.me.0 }
@@ -139,7 +139,7 @@ impl Words {
         found
     }
 
-    /// S1 on a head word, without a seat.
+    /// A load of a head word, without a seat.
     pub(crate) fn see(&self, chunk: u32) -> u64
         requires { 3 * chunk + 2 < (words_id self.now).words }
         ensures { Found result (IsSeen self.now.table.shared.key.refs_limit) }
@@ -147,7 +147,7 @@ impl Words {
         self.see_by::<Brand>(chunk)
     }
 
-    /// S1 on a time word, without a seat.
+    /// A load of a time word, without a seat.
     pub(crate) fn see_time(&self, chunk: u32) -> u64
         requires { 3 * chunk + 2 < (words_id self.now).words }
     {
