@@ -18,13 +18,13 @@ use Rattle.bump_rules.specs.Totals.{how_many}
 use Rattle.bump_rules.proofs.Replay.{standing_push, are_between_push}
 use Rattle.bump_rules.proofs.ToldMoves.{no_stray}
 use Rattle.bump_rules.proofs.Updates.{total_push}
-use Rattle.bump_heads.specs.declared.views.OwnStep.{OwnStep}
-use Rattle.bump_heads.specs.declared.views.ClassPart.{ClassPart}
-use Rattle.bump_heads.specs.Views.{owns, standing, label_of}
+use Rattle.bump_steps.specs.declared.views.OwnStep.{OwnStep}
+use Rattle.bump_steps.specs.declared.views.ClassPart.{ClassPart}
+use Rattle.bump_steps.specs.Views.{owns, standing, label_of}
 use Rattle.bump_heads.specs.Seats.{IsClassPart}
-use Rattle.bump_heads.specs.Lives.{looked, labelled, begun, severed, freed, seen, IsInSegment}
-use Rattle.bump_heads.proofs.LabelLists.{word_stored, word_begun, life_stored, life_begun, life_begun_else}
-use Rattle.bump_heads.proofs.Entering.{freed_subject, freed_quiet}
+use Rattle.bump_steps.specs.Lives.{looked, labelled, begun, severed, freed, seen, IsInSegment}
+use Rattle.bump_steps.proofs.LabelLists.{word_stored, word_begun, life_stored, life_begun, life_begun_else}
+use Rattle.bump_steps.proofs.Entering.{freed_subject, freed_quiet}
 
 -- a chunk of a segment is not free
 used_in_segment : (at : Place) → IsInSegment at → IsUsed at

@@ -5,12 +5,12 @@ use Rattle.bump_rules.specs.declared.items.ItemId.{ItemId}
 use Rattle.bump_rules.specs.Lives.{life, one_if}
 use Rattle.bump_word.specs.Words.{Spells}
 use Rattle.bump_word.proofs.Words.{one_head}
-use Rattle.bump_heads.specs.declared.views.HoldPart.{HoldPart}
+use Rattle.bump_steps.specs.declared.views.HoldPart.{HoldPart}
 use Rattle.bump_heads.specs.declared.views.HoldView.{HoldView}
-use Rattle.bump_heads.specs.Plays.{Sat, Found, Told}
+use Rattle.bump_steps.specs.Plays.{Sat, Found, Told}
 use Rattle.bump_heads.specs.Seats.{IsOf, hold_me, hold_in_view}
-use Rattle.bump_heads.specs.Views.{held, weight}
-use Rattle.bump_heads.proofs.StepLemmas.{one_life}
+use Rattle.bump_steps.specs.Views.{held, weight}
+use Rattle.bump_steps.proofs.StepLemmas.{one_life}
 
 -- the head that a hold finds has the hold's life, and a reference
 held_told : (l : ItemId) (part : Option HoldPart) (m : Sat) (h : Head) → m ≡ hold_me part → IsOf l part → IsSome part → Told l.chunk m.0 h → (h.generation ≡ l.generation) × (0 < h.refs)

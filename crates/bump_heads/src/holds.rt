@@ -4,8 +4,8 @@ ghost use Rattle.bump_heads.specs.declared.views.HoldView.{HoldView as TheHoldVi
 ghost use Rattle.bump_heads.specs.Seats.{IsOf, hold_in_view, hold_me};
 
 use crate::names::Name;
-use crate::words::Seat;
 use bump_rules::ItemId;
+use bump_steps::Seat;
 use std::marker::{Model, PhantomData};
 
 /// A reference to a life, which a reader has. While there is one, the chunk isn't free and keeps the life's generation. It may go to
