@@ -82,9 +82,9 @@ abbrev pub hold_in_view : View → Option HoldPart
 hold_in_view v = first v.holds
 
 -- the part, where it isn't with a worker or a class, is of the life
-abbrev pub IsOf : ItemId → Option HoldPart → Type 0
-IsOf l None = Unit {0}
-IsOf l (Some h) = h.life ≡ l
+abbrev pub IsHoldOf : ItemId → Option HoldPart → Type 0
+IsHoldOf l None = Unit {0}
+IsHoldOf l (Some h) = h.life ≡ l
 
 -- ---- workers
 
