@@ -29,6 +29,19 @@ struct Applied {
     outcome: Outcome,
 }
 
+// An application that didn't move the item.
+fn unmoved(tried: Head, cleared: Option<Head>, last: Head, outcome: Outcome) -> Applied
+    ensures { result.outcome ≡ outcome }
+{
+    Applied {
+        tried,
+        cleared,
+        moved: None,
+        last,
+        outcome,
+    }
+}
+
 // Applies the bump aboard the lane, which is of this chunk of the class, as memcached's `lru_bump_async` drain does.
 fn apply_front<N: Name>(
     class: &mut ClassSeat<N>,
@@ -45,33 +58,18 @@ fn apply_front<N: Name>(
 {
     let tried = class.try_front(lane);
     if !tried.linked {
-        return Applied {
-            tried,
-            cleared: None,
-            moved: None,
-            last: class.alight(lane, chunk, Outcome::Gone),
-            outcome: Outcome::Gone,
-        };
+        let last = class.alight(lane, chunk, Outcome::Gone);
+        return unmoved(tried, None, last, Outcome::Gone);
     }
     class.put_time(chunk, now);
     if !matches!(tried.segment, Segment::Cold) {
-        return Applied {
-            tried,
-            cleared: None,
-            moved: None,
-            last: class.alight(lane, chunk, Outcome::TimeOnly),
-            outcome: Outcome::TimeOnly,
-        };
+        let last = class.alight(lane, chunk, Outcome::TimeOnly);
+        return unmoved(tried, None, last, Outcome::TimeOnly);
     }
     let cleared = class.clear_active(chunk);
     if !cleared.active {
-        return Applied {
-            tried,
-            cleared: Some(cleared),
-            moved: None,
-            last: class.alight(lane, chunk, Outcome::TimeOnly),
-            outcome: Outcome::TimeOnly,
-        };
+        let last = class.alight(lane, chunk, Outcome::TimeOnly);
+        return unmoved(tried, Some(cleared), last, Outcome::TimeOnly);
     }
     let moved = class.change_segment(chunk, Segment::Cold, Segment::Warm);
     Applied {
@@ -165,12 +163,13 @@ fn pull_in<N: Name>(
     requires small { (config.now.workers ≡ 1) × (config.now.first_generation ≡ 1) × (config.now.classes ≡ record { chunks = 2; hot = 1; warm = 1 } ∷ []) }
 {
     let (mut store, hold) = carry::<N>(rt, alloc, blank, config)?;
-    store
-        .class
-        .change_segment(0, Segment::Cold, Segment::Warm);
+    store.class.change_segment(0, Segment::Cold, Segment::Warm);
     let applied = apply_front(&mut store.class, &mut store.lane, 0, 9);
     let found = head(3, "lfa", Segment::Warm, 1);
-    assert_eq!(rt; (applied.tried, applied.cleared, applied.moved), (found, None, None));
+    assert_eq!(rt;
+        (applied.tried, applied.cleared, applied.moved),
+        (found, None, None)
+    );
     assert_eq!(rt; (applied.last, applied.outcome), (found, Outcome::TimeOnly));
     assert_eq!(rt; store.heads.see(0), (head(2, "lfa", Segment::Warm, 1), 9));
     store.heads.give_back(hold);
@@ -201,7 +200,10 @@ fn clear_in<N: Name>(
     assert_eq!(rt; active, head(3, "lfa", Segment::Cold, 1));
     let applied = apply_front(&mut store.class, &mut store.lane, 0, 9);
     let found = head(3, "lf", Segment::Cold, 1);
-    assert_eq!(rt; (applied.tried, applied.cleared, applied.moved), (found, Some(found), None));
+    assert_eq!(rt;
+        (applied.tried, applied.cleared, applied.moved),
+        (found, Some(found), None)
+    );
     assert_eq!(rt; (applied.last, applied.outcome), (found, Outcome::TimeOnly));
     assert_eq!(rt; store.heads.see(0), (head(2, "lf", Segment::Cold, 1), 9));
     store.heads.give_back(hold);
@@ -249,7 +251,10 @@ fn unlink_in<N: Name>(
     end_in_cold(rt, &mut store.class);
     let applied = apply_front(&mut store.class, &mut store.lane, 0, 9);
     let found = head(1, "fa", Segment::Cold, 1);
-    assert_eq!(rt; (applied.tried, applied.cleared, applied.moved), (found, None, None));
+    assert_eq!(rt;
+        (applied.tried, applied.cleared, applied.moved),
+        (found, None, None)
+    );
     assert_eq!(rt; applied.last, found);
     assert!(rt; matches!(applied.outcome, Outcome::Gone));
     let free = head(0, "fa", Segment::Cold, 1);

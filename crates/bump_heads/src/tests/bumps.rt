@@ -80,7 +80,9 @@ pub fn send_off<N: Name>(
     ensures hold { hold.new ≡ hold.old }
 {
     attempt(rt, heads, worker, hold);
-    let rider = heads.ride(worker, hold.life(), 0).expect(rt, "there is room");
+    let rider = heads
+        .ride(worker, hold.life(), 0)
+        .expect(rt, "there is room");
     let_out(heads, worker, hold);
     rider
 }

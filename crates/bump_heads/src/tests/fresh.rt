@@ -11,12 +11,7 @@ use std::process::Abort;
 use std::test::Fail;
 
 // What is seen of the chunks, which have this generation, and that the first one has no item of it, nor of the next.
-fn look_at<N: Name>(
-    rt: &impl Abort,
-    heads: &Heads<N>,
-    worker: &mut WorkerSeat<N>,
-    generation: u32,
-)
+fn look_at<N: Name>(rt: &impl Abort, heads: &Heads<N>, worker: &mut WorkerSeat<N>, generation: u32)
     requires chunks { all_chunks heads.now ≡ 2 }
     requires alone { worker.old.hold ≡ None }
     requires later { generation < 4294967295 }

@@ -29,6 +29,6 @@ returns-clause-dying g c =
     let s = c.seen_unheld-held in
     let e = c.end_life in
     ap (λ (x : ClassView). (standing x.part 0).0) s.ensures.seen
-      ∙ still e.new.self.part s.result c.if-held-eq0.false
-      ∙ ap (λ (x : ClassView). (standing x.part 0).0) e.ensures.ended
-      ∙ dying c.args.class.now.part e.result
+    ∙ still e.new.self.part s.result c.if-held-eq0.false
+    ∙ ap (λ (x : ClassView). (standing x.part 0).0) e.ensures.ended
+    ∙ dying c.args.class.now.part e.result
