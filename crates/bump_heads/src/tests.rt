@@ -1,10 +1,12 @@
 //! What no clause says: that calls succeed, and known answers.
 use super::*;
 
+mod applications;
+mod bumps;
 mod fresh;
-mod linking;
+mod keeping;
 mod lives;
 mod refusals;
 mod refused_memory;
 mod stores;
-mod taking;
+mod threads;

@@ -1,33 +1,26 @@
 //! A store of which no chunk had a life.
-ghost use Rattle.std.specs.Prelude.{◌≡◌, None, [], ◌∷◌};
+ghost use Rattle.std.specs.Prelude.{◌≡◌, ◌<◌, None, IfSome, [], ◌∷◌};
 ghost use Rattle.bump_steps.specs.Rule.{chunks as all_chunks};
 
-use super::stores::{Small, config_of, head, open, refusal};
+use super::stores::{head, life_of, refusal};
 use super::*;
-use bump_rules::{Config, ItemId, Segment};
+use bump_rules::{ClassConfig, Config, Segment};
 use std::alloc::{AllocError, Global};
 use std::marker::Brand;
 use std::process::Abort;
 use std::test::Fail;
 
-// What is seen of the chunks, and that neither item of the first is taken.
-fn look_at<N: Name>(rt: &impl Abort, heads: &Heads<N>, worker: &mut WorkerSeat<N>)
+// What is seen of the chunks, which have this generation, and that the first one has no item of it, nor of the next.
+fn look_at<N: Name>(rt: &impl Abort, heads: &Heads<N>, worker: &mut WorkerSeat<N>, generation: u32)
     requires chunks { all_chunks heads.now ≡ 2 }
     requires alone { worker.old.hold ≡ None }
+    requires later { generation < 4294967295 }
 {
-    let never = head(0, "", Segment::Hot, 0);
-    assert_eq!(rt; heads.see(0), (never, 0));
-    assert_eq!(rt; heads.see(1), (never, 0));
-    let before = ItemId {
-        chunk: 0,
-        generation: 0,
-    };
-    let first = ItemId {
-        chunk: 0,
-        generation: 1,
-    };
-    assert_eq!(rt; refusal(heads, worker, before), Some(TakeRefusal::Stale));
-    assert_eq!(rt; refusal(heads, worker, first), Some(TakeRefusal::Stale));
+    let never = head(0, "", Segment::Hot, generation);
+    assert_eq!(rt; (heads.see(0), heads.see(1)), ((never, 0), (never, 0)));
+    let stale = Some(TakeRefusal::Stale);
+    assert_eq!(rt; refusal(heads, worker, life_of(0, generation)), stale);
+    assert_eq!(rt; refusal(heads, worker, life_of(0, generation + 1)), stale);
     assert_eq!(rt; (heads.chunks(), heads.refs_limit()), (2, 4));
     assert_eq!(rt; worker.worker(), 0);
 }
@@ -40,24 +33,45 @@ fn run_in<N: Name>(
 ) -> Result<(), AllocError>
     requires name { blank.table ≡ N.table }
     requires config { blank.config ≡ config.now }
-    requires small { (config.now.workers ≡ 1) × (config.now.first_generation ≡ 1) × (config.now.classes ≡ record { chunks = 2; hot = 1; warm = 1 } ∷ []) }
+    requires small { (config.now.workers ≡ 1) × (config.now.classes ≡ record { chunks = 2; hot = 1; warm = 1 } ∷ []) }
+    requires first { 0 < config.now.first_generation }
 {
-    let Small {
+    let HeadParts {
         heads,
-        class,
-        mut worker,
-        lane,
-    } = open::<N>(alloc, blank, config)?;
-    look_at(rt, &heads, &mut worker);
+        mut classes,
+        mut workers,
+        mut lanes,
+    } = Heads::<N>::new(alloc, blank, config)?;
+    let mut worker = workers.pop().ok_or(AllocError)?;
+    look_at(rt, &heads, &mut worker, config.first_generation - 1);
+    let class = classes.pop().ok_or(AllocError)?;
     assert_eq!(rt; class.class(), 0);
+    let lane = lanes.pop().ok_or(AllocError)?;
     assert_eq!(rt; (lane.is_whole(), lane.aboard().is_none()), (true, true));
     Ok(())
+}
+
+// One worker, and one class of two chunks. None where memory is refused.
+fn config_from(alloc: Global, first_generation: u32) -> Option<Config>
+    requires { 0 < first_generation }
+    ensures small { IfSome result (λ c. (c.workers ≡ 1) × (c.classes ≡ record { chunks = 2; hot = 1; warm = 1 } ∷ [])) }
+    ensures first { IfSome result (λ c. 0 < c.first_generation) }
+{
+    let class = ClassConfig {
+        chunks: 2,
+        hot: 1,
+        warm: 1,
+    };
+    Config::new(1, 4, 4, first_generation, vec![in alloc; class].ok()?).ok()
 }
 
 #[test]
 fn a_fresh_store_has_no_life(rt: HostRuntime) -> Result<(), Fail> {
     let alloc = rt.alloc();
-    let config = config_of(alloc, 4).ok_or("no memory")?;
-    let blank = Blank::new(alloc, &config)?;
-    Ok(run_in::<Brand>(&rt, alloc, blank, &config)?)
+    for first_generation in [1, 7] {
+        let config = config_from(alloc, first_generation).ok_or("no memory")?;
+        let blank = Blank::new(alloc, &config)?;
+        run_in::<Brand>(&rt, alloc, blank, &config)?;
+    }
+    Ok(())
 }

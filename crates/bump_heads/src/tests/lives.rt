@@ -5,9 +5,9 @@ ghost use Rattle.bump_heads.specs.Making.{worker_seen};
 ghost use Rattle.bump_steps.specs.Rule.{no_accounts, worker_part, chunks as all_chunks};
 ghost use Rattle.bump_heads.specs.Taking.{whole_hold};
 
-use super::stores::{Small, config_of, head, let_out, open, refusal};
+use super::stores::{Small, config_of, head, let_out, life_of, open, refusal};
 use super::*;
-use bump_rules::{Config, ItemId, Segment};
+use bump_rules::{Config, Segment};
 use std::alloc::{AllocError, Global};
 use std::marker::Brand;
 use std::process::Abort;
@@ -58,13 +58,7 @@ fn live<N: Name>(
     class.put_label(0, 7);
     class.put_time(0, 1);
     let life = class.open_life(0);
-    assert_eq!(rt;
-        life,
-        ItemId {
-            chunk: 0,
-            generation: 1
-        }
-    );
+    assert_eq!(rt; life, life_of(0, 1));
     assert_eq!(rt; heads.see(0), (head(1, "l", Segment::Hot, 1), 1));
     let mut hold = heads.take(worker, life).expect(rt, "there is room");
     assert_eq!(rt; class.look(0), head(2, "l", Segment::Hot, 1));
@@ -80,13 +74,7 @@ fn live<N: Name>(
     assert_eq!(rt; free, head(0, "fa", Segment::Hot, 1));
     assert!(rt; free.refs == 0);
     assert_eq!(rt; refusal(heads, worker, life), Some(TakeRefusal::Stale));
-    assert_eq!(rt;
-        class.open_life(0),
-        ItemId {
-            chunk: 0,
-            generation: 2
-        }
-    );
+    assert_eq!(rt; class.open_life(0), life_of(0, 2));
     assert_eq!(rt; heads.see(0), (head(1, "l", Segment::Hot, 2), 3));
     assert_eq!(rt; refusal(heads, worker, life), Some(TakeRefusal::Stale));
 }

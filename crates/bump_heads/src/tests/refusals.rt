@@ -2,19 +2,13 @@
 ghost use Rattle.std.specs.Prelude.{◌≡◌, None, [], ◌∷◌};
 ghost use Rattle.bump_steps.specs.Rule.{chunks as all_chunks};
 
-use super::stores::{Small, config_of, open, refusal};
+use super::stores::{Small, config_of, life_of, open, refusal};
 use super::*;
-use bump_rules::{Config, ItemId};
+use bump_rules::Config;
 use std::alloc::{AllocError, Global};
 use std::marker::Brand;
 use std::process::Abort;
 use std::test::Fail;
-
-fn life_of(chunk: u32, generation: u32) -> ItemId
-    ensures { result ≡ record { chunk = chunk; generation = generation } }
-{
-    ItemId { chunk, generation }
-}
 
 // The first life of chunk 0 is taken in no other generation, and nothing of another chunk.
 fn miss<N: Name>(rt: &impl Abort, heads: &Heads<N>, worker: &mut WorkerSeat<N>)

@@ -59,6 +59,13 @@ pub fn open<N: Name>(alloc: Global, blank: Blank, config: &Config) -> Result<Sma
     })
 }
 
+/// The life of the chunk in this generation.
+pub fn life_of(chunk: u32, generation: u32) -> ItemId
+    ensures { result ≡ record { chunk = chunk; generation = generation } }
+{
+    ItemId { chunk, generation }
+}
+
 /// A head with these marks: `l` for linked, `f` for fetched, `a` for active.
 pub fn head(refs: u32, marks: &str, segment: Segment, generation: u32) -> Head {
     Head {

@@ -1,0 +1,186 @@
+//! Bumps of one worker: how they come to be, and those that find no room.
+ghost use Rattle.std.specs.Prelude.{◌≡◌, ◌<◌, ◌∷◌, [], None, Some, true};
+ghost use Rattle.bump_rules.specs.declared.hands.Hand.TheVariants.{Idle, Trying};
+ghost use Rattle.bump_rules.specs.declared.places.Place.TheVariants as place;
+ghost use Rattle.bump_rules.specs.Lives.{life as life_of};
+ghost use Rattle.bump_steps.specs.References.{new_hold};
+ghost use Rattle.bump_steps.specs.Rule.{chunks as all_chunks, no_accounts};
+ghost use Rattle.bump_heads.specs.Taking.{whole_hold};
+ghost use Rattle.bump_steps.specs.Views.{owns, standing};
+
+use super::stores::{Small, config_of, head, let_out, open};
+use super::*;
+use bump_rules::{Config, ItemId, Segment};
+use std::alloc::{AllocError, Global};
+use std::marker::Brand;
+use std::process::Abort;
+use std::test::Fail;
+
+/// The first life of chunk 0 begins, at time 1, and goes to COLD.
+pub fn begin_in_cold<N: Name>(class: &mut ClassSeat<N>) -> ItemId
+    requires alone { class.old.lane ≡ None }
+    requires first { class.old.part ≡ record { class = 0; first = 0; count = 2; fresh = 0; history = []; labels = []; steps = [] } }
+    ensures alone { class.new.lane ≡ None }
+    ensures own { owns 0 class.new.part ≡ true }
+    ensures stands { standing class.new.part 0 ≡ (place.Cold, 1) }
+    ensures life { result ≡ life_of 0 1 }
+{
+    class.put_label(0, 7);
+    class.put_time(0, 1);
+    let life = class.open_life(0);
+    class.change_segment(0, Segment::Hot, Segment::Cold);
+    life
+}
+
+/// Hits the item of the hold, which nobody hit, and tries to bump it: it is in COLD, and has no other holders.
+pub fn attempt<N: Name>(
+    rt: &impl Abort,
+    heads: &Heads<N>,
+    worker: &mut WorkerSeat<N>,
+    hold: &mut Hold<N>,
+)
+    requires idle { worker.old.part.hand ≡ Idle }
+    requires alone { worker.old.hold ≡ None }
+    requires fresh { worker.old.part.accounts ≡ no_accounts }
+    requires hold { hold.old ≡ whole_hold hold.old.life }
+    requires chunk { hold.old.life.chunk < all_chunks heads.now }
+    ensures trying { worker.new.part.hand ≡ Trying hold.old.life }
+    ensures joined { worker.new.hold ≡ Some (new_hold hold.old.life) }
+    ensures accepted { worker.new.part.accounts.accepted ≡ 0 }
+    ensures number { worker.new.part.worker ≡ worker.old.part.worker }
+    ensures hollow { hold.new ≡ record hold.old { part = None } }
+{
+    let life = hold.life();
+    heads.hold_in(worker, hold);
+    let found = heads.mark_fetched(worker, life);
+    assert_eq!(rt; found, head(2, "l", Segment::Cold, 1));
+    let fetched = head(2, "lf", Segment::Cold, 1);
+    assert_eq!(rt; heads.see(life.chunk).0, fetched);
+    let found = heads.mark_active(worker, life);
+    assert!(rt; matches!(found.segment, Segment::Cold));
+    assert!(rt; !found.active);
+    assert_eq!(rt; found, fetched);
+    let active = head(2, "lfa", Segment::Cold, 1);
+    assert_eq!(rt; heads.see(life.chunk).0, active);
+}
+
+/// Bumps the item of the hold, in the same way, and sends the bump off, which is the worker's first.
+pub fn send_off<N: Name>(
+    rt: &impl Abort,
+    heads: &Heads<N>,
+    worker: &mut WorkerSeat<N>,
+    hold: &mut Hold<N>,
+) -> Rider<N>
+    requires idle { worker.old.part.hand ≡ Idle }
+    requires alone { worker.old.hold ≡ None }
+    requires fresh { worker.old.part.accounts ≡ no_accounts }
+    requires hold { hold.old ≡ whole_hold hold.old.life }
+    requires chunk { hold.old.life.chunk < all_chunks heads.now }
+    ensures rider { result ≡ record { worker = worker.old.part.worker; number = 0; life = hold.old.life } }
+    ensures hold { hold.new ≡ hold.old }
+{
+    attempt(rt, heads, worker, hold);
+    let rider = heads
+        .ride(worker, hold.life(), 0)
+        .expect(rt, "there is room");
+    let_out(heads, worker, hold);
+    rider
+}
+
+// The bump is sent off, but its ring has no room: it comes back, and is dropped.
+fn drop_full<N: Name>(
+    rt: &impl Abort,
+    heads: &Heads<N>,
+    worker: &mut WorkerSeat<N>,
+    hold: &mut Hold<N>,
+)
+    requires idle { worker.old.part.hand ≡ Idle }
+    requires alone { worker.old.hold ≡ None }
+    requires fresh { worker.old.part.accounts ≡ no_accounts }
+    requires hold { hold.old ≡ whole_hold hold.old.life }
+    requires chunk { hold.old.life.chunk < all_chunks heads.now }
+    ensures alone { worker.new.hold ≡ None }
+    ensures hold { hold.new ≡ hold.old }
+{
+    attempt(rt, heads, worker, hold);
+    let life = hold.life();
+    let rider = heads.ride(worker, life, 0).expect(rt, "there is room");
+    let sent = head(3, "lfa", Segment::Cold, 1);
+    assert_eq!(rt; heads.see(life.chunk).0, sent);
+    heads.rider_back(worker, rider);
+    assert_eq!(rt; heads.see(life.chunk).0, sent);
+    assert_eq!(rt; heads.give_back_bump(worker, life), sent);
+    let dropped = head(2, "lfa", Segment::Cold, 1);
+    assert_eq!(rt; heads.see(life.chunk).0, dropped);
+    assert_eq!(rt; heads.unmark(worker, life), dropped);
+    assert_eq!(rt; heads.see(life.chunk).0, head(2, "lf", Segment::Cold, 1));
+    let_out(heads, worker, hold);
+}
+
+// The item has as many references as it may have, so that the bump is dropped before it is sent off.
+fn drop_at_limit<N: Name>(
+    rt: &impl Abort,
+    heads: &Heads<N>,
+    worker: &mut WorkerSeat<N>,
+    hold: &mut Hold<N>,
+)
+    requires idle { worker.old.part.hand ≡ Idle }
+    requires alone { worker.old.hold ≡ None }
+    requires fresh { worker.old.part.accounts ≡ no_accounts }
+    requires hold { hold.old ≡ whole_hold hold.old.life }
+    requires chunk { hold.old.life.chunk < all_chunks heads.now }
+    ensures alone { worker.new.hold ≡ None }
+    ensures hold { hold.new ≡ hold.old }
+{
+    attempt(rt, heads, worker, hold);
+    let life = hold.life();
+    let Err(refusal) = heads.ride(worker, life, 0) else {
+        panic!(rt; "the item has one more reference than it may have")
+    };
+    assert_eq!(rt; refusal, RideRefusal::RefsFull);
+    let dropped = head(2, "lfa", Segment::Cold, 1);
+    assert_eq!(rt; heads.see(life.chunk).0, dropped);
+    assert_eq!(rt; heads.unmark(worker, life), dropped);
+    assert_eq!(rt; heads.see(life.chunk).0, head(2, "lf", Segment::Cold, 1));
+    let_out(heads, worker, hold);
+}
+
+// The bump finds no room in its ring, or, where the limit is 2, no room among the references.
+fn drop_in<N: Name>(
+    rt: &impl Abort,
+    alloc: Global,
+    blank: Blank,
+    config: &Config,
+) -> Result<(), AllocError>
+    requires name { blank.table ≡ N.table }
+    requires config { blank.config ≡ config.now }
+    requires small { (config.now.workers ≡ 1) × (config.now.first_generation ≡ 1) × (config.now.classes ≡ record { chunks = 2; hot = 1; warm = 1 } ∷ []) }
+{
+    let Small {
+        heads,
+        mut class,
+        mut worker,
+        lane: _,
+    } = open::<N>(alloc, blank, config)?;
+    let life = begin_in_cold(&mut class);
+    let mut hold = heads.take(&mut worker, life).expect(rt, "there is room");
+    if heads.refs_limit() == 2 {
+        drop_at_limit(rt, &heads, &mut worker, &mut hold);
+    } else {
+        drop_full(rt, &heads, &mut worker, &mut hold);
+    }
+    assert_eq!(rt; heads.give_back(hold), head(2, "lf", Segment::Cold, 1));
+    assert_eq!(rt; heads.see(0).0, head(1, "lf", Segment::Cold, 1));
+    Ok(())
+}
+
+#[test]
+fn a_bump_without_room_is_dropped(rt: HostRuntime) -> Result<(), Fail> {
+    let alloc = rt.alloc();
+    for limit in [2, 4] {
+        let config = config_of(alloc, limit).ok_or("no memory")?;
+        let blank = Blank::new(alloc, &config)?;
+        drop_in::<Brand>(&rt, alloc, blank, &config)?;
+    }
+    Ok(())
+}
