@@ -1,0 +1,287 @@
+//! The readers' steps of `bump_heads`, and the workloads of `bump_bench`, over plain atomics. `bench/run` builds and runs both.
+//! rustc --edition 2024 -C opt-level=2 -C panic=abort bench/hits.rs -o hits && ./hits all
+
+use std::sync::Arc;
+use std::sync::atomic::AtomicU64;
+use std::sync::atomic::Ordering::SeqCst;
+use std::time::Instant;
+
+const REFS: u64 = 0xffff;
+const LINKED: u64 = 1 << 16;
+const FETCHED: u64 = 1 << 17;
+const ACTIVE: u64 = 1 << 18;
+const SEGMENT: u64 = 3 << 19;
+const COLD: u64 = 2 << 19;
+const MOST_ATTEMPTS: u64 = 4_611_686_018_427_387_903;
+const PASSES: usize = 15;
+
+#[derive(Clone, Copy)]
+struct ItemId {
+    chunk: u32,
+    generation: u32,
+}
+
+struct Chunk {
+    head: AtomicU64,
+    time: AtomicU64,
+    label: AtomicU64,
+}
+
+struct Heads {
+    chunks: Box<[Chunk]>,
+    limit: u64,
+}
+
+#[must_use]
+struct Hold {
+    life: ItemId,
+}
+
+struct Rider {
+    life: ItemId,
+}
+
+#[derive(Clone, Copy)]
+enum Refusal {
+    NoSuchChunk,
+    Stale,
+    RefsFull,
+    Busy,
+}
+
+#[derive(Clone, Copy)]
+enum Touch {
+    First,
+    Already,
+    Marked,
+    Dropped,
+    Exhausted,
+}
+
+impl Heads {
+    /// All chunks are linked, in HOT or in COLD.
+    fn new(chunks: u32, cold: bool) -> Heads {
+        let head = 1 << 32 | if cold { COLD } else { 0 } | LINKED | 1;
+        let chunks = (0..chunks)
+            .map(|chunk| Chunk {
+                head: AtomicU64::new(head),
+                time: AtomicU64::new(0),
+                label: AtomicU64::new(chunk as u64),
+            })
+            .collect();
+        Heads { chunks, limit: 65_535 }
+    }
+
+    #[inline]
+    fn take(&self, life: ItemId) -> Result<Hold, Refusal> {
+        let Some(chunk) = self.chunks.get(life.chunk as usize) else {
+            return Err(Refusal::NoSuchChunk);
+        };
+        let mut word = chunk.head.load(SeqCst);
+        for _ in 0..8 {
+            if word & LINKED == 0 || (word >> 32) as u32 != life.generation {
+                return Err(Refusal::Stale);
+            }
+            if word & REFS >= self.limit {
+                return Err(Refusal::RefsFull);
+            }
+            match chunk.head.compare_exchange(word, word + 1, SeqCst, SeqCst) {
+                Ok(_) => return Ok(Hold { life }),
+                Err(found) => word = found,
+            }
+        }
+        Err(Refusal::Busy)
+    }
+
+    #[inline]
+    fn give_back(&self, hold: Hold) {
+        self.chunks[hold.life.chunk as usize].head.fetch_sub(1, SeqCst);
+    }
+
+    #[inline]
+    fn label_of(&self, hold: &Hold) -> u64 {
+        self.chunks[hold.life.chunk as usize].label.load(SeqCst)
+    }
+
+    #[inline]
+    fn ride(&self, life: ItemId) -> Result<Rider, Refusal> {
+        let head = &self.chunks[life.chunk as usize].head;
+        let mut word = head.load(SeqCst);
+        for _ in 0..8 {
+            if word & REFS >= self.limit {
+                return Err(Refusal::RefsFull);
+            }
+            match head.compare_exchange(word, word + 1, SeqCst, SeqCst) {
+                Ok(_) => return Ok(Rider { life }),
+                Err(found) => word = found,
+            }
+        }
+        Err(Refusal::Busy)
+    }
+}
+
+struct Reader {
+    attempted: u64,
+}
+
+impl Reader {
+    #[inline]
+    fn touch(&mut self, heads: &Heads, hold: &mut Hold, now: u64) -> Touch {
+        if self.attempted >= MOST_ATTEMPTS {
+            return Touch::Exhausted;
+        }
+        let chunk = &heads.chunks[hold.life.chunk as usize];
+        let found = chunk.head.fetch_or(FETCHED, SeqCst);
+        if found & FETCHED == 0 {
+            return Touch::First;
+        }
+        if found & ACTIVE != 0 {
+            return Touch::Already;
+        }
+        let found = chunk.head.fetch_or(ACTIVE, SeqCst);
+        if found & ACTIVE != 0 {
+            return Touch::Already;
+        }
+        if found & SEGMENT != COLD {
+            chunk.time.store(now, SeqCst);
+            return Touch::Marked;
+        }
+        self.attempted += 1;
+        self.attempt(heads, hold.life)
+    }
+
+    #[inline]
+    fn attempt(&mut self, heads: &Heads, life: ItemId) -> Touch {
+        if let Ok(rider) = heads.ride(life) {
+            heads.chunks[rider.life.chunk as usize].head.fetch_sub(1, SeqCst);
+        }
+        heads.chunks[life.chunk as usize].head.fetch_and(!ACTIVE, SeqCst);
+        Touch::Dropped
+    }
+}
+
+#[derive(Clone, Copy, Default)]
+struct Tally {
+    refused: u64,
+    first: u64,
+    already: u64,
+    marked: u64,
+    dropped: u64,
+    labels: u64,
+}
+
+impl Tally {
+    #[inline]
+    fn count(&mut self, touch: Touch) {
+        match touch {
+            Touch::First => self.first = self.first.wrapping_add(1),
+            Touch::Already => self.already = self.already.wrapping_add(1),
+            Touch::Marked => self.marked = self.marked.wrapping_add(1),
+            Touch::Dropped => self.dropped = self.dropped.wrapping_add(1),
+            Touch::Exhausted => {}
+        }
+    }
+}
+
+fn gets(heads: &Heads, items: &[ItemId], rounds: u32) -> Tally {
+    let mut refused: u64 = 0;
+    for _ in 0..rounds {
+        for &item in items {
+            match heads.take(item) {
+                Ok(hold) => heads.give_back(hold),
+                Err(_) => refused = refused.wrapping_add(1),
+            }
+        }
+    }
+    Tally { refused, ..Tally::default() }
+}
+
+fn hits(heads: &Heads, reader: &mut Reader, items: &[ItemId], rounds: u32) -> Tally {
+    let mut tally = Tally::default();
+    for _ in 0..rounds {
+        for &item in items {
+            match heads.take(item) {
+                Ok(mut hold) => {
+                    let touch = reader.touch(heads, &mut hold, 5);
+                    let label = heads.label_of(&hold);
+                    heads.give_back(hold);
+                    tally.count(touch);
+                    tally.labels = tally.labels.wrapping_add(label);
+                }
+                Err(_) => tally.refused = tally.refused.wrapping_add(1),
+            }
+        }
+    }
+    tally
+}
+
+/// Its name is what callgrind is told to count.
+#[inline(never)]
+fn timed_pass(heads: &Heads, reader: &mut Reader, items: &[ItemId], rounds: u32, hit: bool) -> Tally {
+    if hit { hits(heads, reader, items, rounds) } else { gets(heads, items, rounds) }
+}
+
+#[derive(Clone, Copy)]
+struct Workload {
+    name: &'static str,
+    chunks: u32,
+    touches: u32,
+    cold: bool,
+    hits: bool,
+    rounds: u32,
+}
+
+const WORKLOADS: [Workload; 7] = [
+    Workload { name: "get", chunks: 1_024, touches: 0, cold: false, hits: false, rounds: 64 },
+    Workload { name: "hit", chunks: 1_024, touches: 2, cold: false, hits: true, rounds: 64 },
+    Workload { name: "first", chunks: 8_192, touches: 0, cold: false, hits: true, rounds: 1 },
+    Workload { name: "marked", chunks: 8_192, touches: 1, cold: false, hits: true, rounds: 1 },
+    Workload { name: "attempt", chunks: 8_192, touches: 1, cold: true, hits: true, rounds: 1 },
+    Workload { name: "get_1000", chunks: 1_000, touches: 0, cold: false, hits: false, rounds: 1_000 },
+    Workload { name: "get_1000000", chunks: 1_000_000, touches: 0, cold: false, hits: false, rounds: 1 },
+];
+
+fn lives(chunks: u32) -> Vec<ItemId> {
+    (0..chunks as u64)
+        .map(|number| ItemId { chunk: (number * 2_654_435_761 % chunks as u64) as u32, generation: 1 })
+        .collect()
+}
+
+fn pass(workload: Workload) -> (u64, Tally) {
+    let heads = Arc::new(Heads::new(workload.chunks, workload.cold));
+    let mut reader = Reader { attempted: 0 };
+    let items = lives(workload.chunks);
+    if workload.touches > 0 {
+        hits(&heads, &mut reader, &items, workload.touches);
+    }
+    let start = Instant::now();
+    let tally = timed_pass(&heads, &mut reader, &items, workload.rounds, workload.hits);
+    (start.elapsed().as_nanos() as u64, tally)
+}
+
+fn measure(workload: Workload, passes: usize) {
+    let (first, tally) = pass(workload);
+    let mut times: Vec<u64> = (0..passes).map(|_| pass(workload).0).collect();
+    times.sort();
+    let operations = workload.chunks as u64 * workload.rounds as u64;
+    let best = times.first().copied().unwrap_or(first);
+    let median = times.get(times.len() / 2).copied().unwrap_or(first);
+    let Tally { refused, first, already, marked, dropped, labels } = tally;
+    let each = |nanos: u64| nanos as f64 / operations as f64;
+    println!("{}: {:.2} nanoseconds at best, {:.2} in the middle of {passes} passes", workload.name, each(best), each(median));
+    println!(
+        "RESULT\tplain\t{}\t1\t{:.2}\t{:.2}\t{}\toperations={operations} refused={refused} first={first} already={already} marked={marked} dropped={dropped} labels={labels}",
+        workload.name, each(best), each(median), operations as u128 * 1_000_000_000 / best.max(1) as u128
+    );
+}
+
+fn main() {
+    let words: Vec<String> = std::env::args().collect();
+    let Some(word) = words.get(1) else { return };
+    let passes = words.get(2).and_then(|number| number.parse().ok()).unwrap_or(PASSES);
+    for workload in WORKLOADS {
+        if word == "all" || word == workload.name {
+            measure(workload, passes);
+        }
+    }
+}
