@@ -29,14 +29,11 @@ impl Line {
     pub fn print(&self, rt: &impl Print) -> io::Result<()> {
         let best = hundredths(self.best, self.operations);
         let median = hundredths(self.median, self.operations);
-        let each_second =
-            u128::from(self.operations) * 1_000_000_000 / u128::from(self.best.max(1));
+        let each_second = u128::from(self.operations) * 1_000_000_000
+            / u128::from(self.best.max(1));
         let Tally {
             refused,
-            first,
-            already,
-            marked,
-            dropped,
+            right,
             labels,
         } = self.tally;
         println!(rt;
@@ -49,7 +46,7 @@ impl Line {
             self.passes
         )?;
         println!(rt;
-            "RESULT\tbump\t{}\t1\t{}.{:02}\t{}.{:02}\t{each_second}\toperations={} refused={refused} first={first} already={already} marked={marked} dropped={dropped} labels={labels}",
+            "RESULT\tbump\t{}\t1\t{}.{:02}\t{}.{:02}\t{each_second}\toperations={} refused={refused} right={right} labels={labels}",
             self.name,
             best / 100,
             best % 100,

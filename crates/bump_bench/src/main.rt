@@ -13,6 +13,7 @@ use bump_heads::{Blank, Name};
 use bump_rules::Config;
 use lines::Line;
 use passes::{Tally, hits, timed_pass};
+use readers::Touched;
 use std::alloc::{AllocError, Global};
 use std::marker::Brand;
 use std::rt::Clock;
@@ -52,10 +53,22 @@ fn pass_in<N: Name>(
     link_all(&mut class, workload.chunks, workload.cold);
     let items = lives(alloc, workload.chunks)?;
     if workload.touches > 0 {
-        hits(&heads, &mut reader, &items, workload.touches);
+        hits(
+            &heads,
+            &mut reader,
+            &items,
+            workload.touches,
+            Touched::First,
+        );
     }
     let start = Instant::now(clock)?;
-    let tally = timed_pass(&heads, &mut reader, &items, workload.rounds, workload.hits);
+    let tally = timed_pass(
+        &heads,
+        &mut reader,
+        &items,
+        workload.rounds,
+        workload.wanted,
+    );
     let spent = start.elapsed(clock)?;
     Ok(Spent {
         nanos: u64::try_from(spent.as_nanos()).unwrap_or(u64::MAX),

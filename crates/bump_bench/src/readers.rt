@@ -21,7 +21,7 @@ pub struct Reader<N: Name> {
 }
 
 /// What a hit came to.
-#[derive(Clone, Copy)]
+#[derive(Clone, Copy, PartialEq, Eq)]
 pub enum Touched {
     /// The first hit of the item.
     First,
