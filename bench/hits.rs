@@ -167,13 +167,20 @@ struct Tally {
     labels: u64,
 }
 
+/// Counts a refusal, of which there is none where one thread is at work.
+#[cold]
+#[inline(never)]
+fn one_more(refused: u64) -> u64 {
+    refused.wrapping_add(1)
+}
+
 fn gets(heads: &Heads, items: &[ItemId], rounds: u32) -> Tally {
     let mut refused: u64 = 0;
     for _ in 0..rounds {
         for &item in items {
             match heads.take(item) {
                 Ok(hold) => heads.give_back(hold),
-                Err(_) => refused = refused.wrapping_add(1),
+                Err(_) => refused = one_more(refused),
             }
         }
     }
@@ -196,7 +203,7 @@ fn hits(heads: &Heads, reader: &mut Reader, items: &[ItemId], rounds: u32, wante
                     }
                     labels = labels.wrapping_add(label);
                 }
-                Err(_) => refused = refused.wrapping_add(1),
+                Err(_) => refused = one_more(refused),
             }
         }
     }

@@ -11,15 +11,15 @@ use Rattle.bump_rules.specs.declared.history.Change.TheVariants as change
 use Rattle.bump_rules.specs.History.{Standing, subject, target}
 use Rattle.bump_rules.specs.Lives.{life}
 use Rattle.bump_rules.proofs.Replay.{standing_push}
-use Rattle.bump_heads.specs.declared.views.LanePart.{LanePart}
-use Rattle.bump_heads.specs.declared.views.ClassPart.{ClassPart}
+use Rattle.bump_steps.specs.declared.views.LanePart.{LanePart}
+use Rattle.bump_steps.specs.declared.views.ClassPart.{ClassPart}
 use Rattle.bump_heads.specs.declared.views.ClassView.{ClassView}
-use Rattle.bump_heads.specs.Applications.{moved_entry, moved_lane, life_in}
+use Rattle.bump_steps.specs.Applications.{moved_entry, moved_lane, life_in}
 use Rattle.bump_heads.specs.Applying.{timed_class, shifted_class}
 use Rattle.bump_heads.specs.Linking.{with_life}
-use Rattle.bump_heads.specs.Lives.{labelled}
+use Rattle.bump_steps.specs.Lives.{labelled}
 use Rattle.bump_heads.specs.Seats.{listed}
-use Rattle.bump_heads.specs.Views.{owns, standing}
+use Rattle.bump_steps.specs.Views.{owns, standing}
 use Rattle.bump_bench.specs.Stores.{AreUnused, IsLinking}
 
 module _ (k : ClassPart) (e : Change) (c : ℕ) (of : (subject e).chunk ≡ c) where

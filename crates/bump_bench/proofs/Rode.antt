@@ -3,16 +3,17 @@ use Rattle.std.proofs.Common.{◌≡◌, ℕ, ◌+◌, List, ◌∷◌, Option, 
 use Rattle.bump_rules.specs.declared.items.Head.{Head}
 use Rattle.bump_rules.specs.declared.items.ItemId.{ItemId}
 use Rattle.bump_rules.specs.Lawful.{bit}
-use Rattle.bump_heads.specs.declared.riding.RideRefusal.{RideRefusal}
-use Rattle.bump_heads.specs.declared.riding.RideRefusal.TheVariants as refused
-use Rattle.bump_heads.specs.declared.views.Ride.{Ride}
-use Rattle.bump_heads.specs.declared.views.WorkerPart.{WorkerPart}
+use Rattle.bump_steps.specs.declared.refusals.RideRefusal.{RideRefusal}
+use Rattle.bump_steps.specs.declared.refusals.RideRefusal.TheVariants as refused
+use Rattle.bump_steps.specs.declared.views.Ride.{Ride}
+use Rattle.bump_steps.specs.declared.views.WorkerPart.{WorkerPart}
 use Rattle.bump_heads.specs.declared.views.WorkerView.{WorkerView}
-use Rattle.bump_heads.specs.Taking.{last_found, loads, with_more}
-use Rattle.bump_heads.specs.Riding.{Rode, why_refused, part_after, ride_answer, ride_of}
+use Rattle.bump_steps.specs.Tries.{last_found, loads, with_more}
+use Rattle.bump_steps.specs.RideTries.{why_refused}
+use Rattle.bump_heads.specs.Riding.{Rode, part_after, ride_answer, ride_of}
 use Rattle.bump_rules.specs.declared.hands.Hand.TheVariants.{Clearing}
-use Rattle.bump_heads.specs.declared.views.Kind.TheVariants.{Release}
-use Rattle.bump_heads.specs.Rides.{found_by, dropped_full, returned}
+use Rattle.bump_steps.specs.declared.views.Kind.TheVariants.{Release}
+use Rattle.bump_steps.specs.Rides.{found_by, dropped_full, returned}
 use Rattle.bump_bench.specs.Readers.{IsTrying, IsDropping}
 
 module _ (limit number : ℕ) (l : ItemId) (before after : WorkerView) (answered : Result Ride RideRefusal) (first : Head) (more : List Head) (o : Rode limit l number before after answered first more) where

@@ -1,7 +1,7 @@
 -- Stores that are measured: how far the linking of their chunks is.
 use Rattle.std.specs.Prelude.{◌≡◌, ℕ, ◌≤◌, None}
 use Rattle.bump_rules.specs.declared.places.Place.TheVariants.{Unused}
-use Rattle.bump_heads.specs.declared.views.ClassPart.{ClassPart}
+use Rattle.bump_steps.specs.declared.views.ClassPart.{ClassPart}
 use Rattle.bump_heads.specs.declared.views.ClassView.{ClassView}
 use Rattle.bump_heads.specs.Linking.{place_of_chunk}
 

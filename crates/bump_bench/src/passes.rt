@@ -1,6 +1,6 @@
 //! The loops that are timed.
 ghost use Rattle.std.specs.Prelude.{◌≡◌, ◌<◌, All};
-ghost use Rattle.bump_heads.specs.Rule.{chunks as all_chunks};
+ghost use Rattle.bump_steps.specs.Rule.{chunks as all_chunks};
 ghost use Rattle.bump_bench.specs.Readers.{IsReady};
 
 use crate::readers::{Reader, Touched, touch};
@@ -20,6 +20,13 @@ pub struct Tally {
     pub labels: u64,
 }
 
+/// Counts a refusal, of which there is none where one thread is at work.
+#[cold]
+#[inline(never)]
+fn one_more(refused: u64) -> u64 {
+    refused.wrapping_add(1)
+}
+
 /// Takes and gives back each item, as often as there are rounds.
 fn gets<N: Name>(heads: &Heads<N>, reader: &mut Reader<N>, items: &[ItemId], rounds: u32) -> Tally
     requires ready { IsReady reader.old.seat reader.old.attempted reader.old.accepted }
@@ -33,7 +40,7 @@ fn gets<N: Name>(heads: &Heads<N>, reader: &mut Reader<N>, items: &[ItemId], rou
                 Ok(hold) => {
                     heads.give_back(hold);
                 }
-                Err(_) => refused = refused.wrapping_add(1),
+                Err(_) => refused = one_more(refused),
             }
         }
     }
@@ -71,7 +78,7 @@ pub fn hits<N: Name>(
                     }
                     labels = labels.wrapping_add(label);
                 }
-                Err(_) => refused = refused.wrapping_add(1),
+                Err(_) => refused = one_more(refused),
             }
         }
     }

@@ -1,7 +1,7 @@
 -- The reference that was taken came back, and the bump counts as dropped.
 use Rattle.std.proofs.Common.{◌≡◌, OnErr, Some, ap, sym, ◌∙◌, refl, subst}
 use Rattle.bump_rules.specs.declared.hands.Hand.TheVariants.{Clearing}
-use Rattle.bump_heads.specs.References.{new_hold}
+use Rattle.bump_steps.specs.References.{new_hold}
 use Rattle.bump_heads.specs.declared.views.WorkerView.{WorkerView}
 use Rattle.bump_bench.specs.Readers.{Stands}
 use Rattle.bump_bench.proofs.Rode.{dropped_stands, back_stands}
