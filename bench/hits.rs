@@ -222,54 +222,110 @@ fn timed_pass(heads: &Heads, reader: &mut Reader, items: &[ItemId], rounds: u32,
 #[derive(Clone, Copy)]
 struct Workload {
     name: &'static str,
-    chunks: u32,
+    threads: u32,
+    items: u32,
+    shared: bool,
     touches: u32,
     cold: bool,
     wanted: Option<Touch>,
     rounds: u32,
 }
 
-const WORKLOADS: [Workload; 7] = [
-    Workload { name: "get", chunks: 1_024, touches: 0, cold: false, wanted: None, rounds: 64 },
-    Workload { name: "hit", chunks: 1_024, touches: 2, cold: false, wanted: Some(Touch::Already), rounds: 64 },
-    Workload { name: "first", chunks: 8_192, touches: 0, cold: false, wanted: Some(Touch::First), rounds: 1 },
-    Workload { name: "marked", chunks: 8_192, touches: 1, cold: false, wanted: Some(Touch::Marked), rounds: 1 },
-    Workload { name: "attempt", chunks: 8_192, touches: 1, cold: true, wanted: Some(Touch::Dropped), rounds: 1 },
-    Workload { name: "get_1000", chunks: 1_000, touches: 0, cold: false, wanted: None, rounds: 1_000 },
-    Workload { name: "get_1000000", chunks: 1_000_000, touches: 0, cold: false, wanted: None, rounds: 1 },
+const GET: Workload = Workload {
+    name: "get",
+    threads: 1,
+    items: 1_024,
+    shared: false,
+    touches: 0,
+    cold: false,
+    wanted: None,
+    rounds: 64,
+};
+
+const HIT: Workload = Workload { name: "hit", touches: 2, wanted: Some(Touch::Already), ..GET };
+
+const FIRST: Workload = Workload { name: "first", items: 8_192, wanted: Some(Touch::First), rounds: 1, ..GET };
+
+const WORKLOADS: [Workload; 17] = [
+    GET,
+    Workload { threads: 2, ..GET },
+    Workload { threads: 4, ..GET },
+    Workload { name: "get_shared", shared: true, ..GET },
+    Workload { name: "get_shared", shared: true, threads: 2, ..GET },
+    Workload { name: "get_shared", shared: true, threads: 4, ..GET },
+    HIT,
+    Workload { threads: 2, ..HIT },
+    Workload { threads: 4, ..HIT },
+    Workload { name: "hit_shared", shared: true, ..HIT },
+    Workload { name: "hit_shared", shared: true, threads: 2, ..HIT },
+    Workload { name: "hit_shared", shared: true, threads: 4, ..HIT },
+    FIRST,
+    Workload { name: "marked", touches: 1, wanted: Some(Touch::Marked), ..FIRST },
+    Workload { name: "attempt", touches: 1, cold: true, wanted: Some(Touch::Dropped), ..FIRST },
+    Workload { name: "get_1000", items: 1_000, rounds: 1_000, ..GET },
+    Workload { name: "get_1000000", items: 1_000_000, rounds: 1, ..GET },
 ];
 
-fn lives(chunks: u32) -> Vec<ItemId> {
-    (0..chunks as u64)
-        .map(|number| ItemId { chunk: (number * 2_654_435_761 % chunks as u64) as u32, generation: 1 })
+fn lives(first: u32, items: u32, shared: bool) -> Vec<ItemId> {
+    (0..items as u64)
+        .map(|number| {
+            let next = first + (number * 2_654_435_761 % items as u64) as u32;
+            ItemId { chunk: if shared { 0 } else { next }, generation: 1 }
+        })
         .collect()
 }
 
-fn pass(workload: Workload) -> (u64, Tally) {
-    let heads = Arc::new(Heads::new(workload.chunks, workload.cold));
+/// What one worker's thread does.
+fn work(heads: &Heads, worker: u32, workload: Workload, arrived: &AtomicU64) -> (u64, Tally) {
+    let items = lives(worker * workload.items, workload.items, workload.shared);
     let mut reader = Reader { attempted: 0 };
-    let items = lives(workload.chunks);
     if workload.touches > 0 {
-        hits(&heads, &mut reader, &items, workload.touches, Touch::First);
+        hits(heads, &mut reader, &items, workload.touches, Touch::First);
+    }
+    arrived.fetch_add(1, SeqCst);
+    while arrived.load(SeqCst) < workload.threads as u64 {
+        std::hint::spin_loop();
     }
     let start = Instant::now();
-    let tally = timed_pass(&heads, &mut reader, &items, workload.rounds, workload.wanted);
+    let tally = timed_pass(heads, &mut reader, &items, workload.rounds, workload.wanted);
     (start.elapsed().as_nanos() as u64, tally)
+}
+
+/// The mean of the threads, and what all of them counted.
+fn pass(workload: Workload) -> (u64, Tally) {
+    let heads = &Arc::new(Heads::new(workload.items * workload.threads, workload.cold));
+    let arrived = &AtomicU64::new(0);
+    std::thread::scope(|scope| {
+        let threads: Vec<_> = (0..workload.threads)
+            .map(|worker| scope.spawn(move || work(heads, worker, workload, arrived)))
+            .collect();
+        let mut all = (0, Tally { refused: 0, right: 0, labels: 0 });
+        for thread in threads {
+            let (nanos, tally) = thread.join().unwrap();
+            all.0 += nanos / workload.threads as u64;
+            all.1.refused += tally.refused;
+            all.1.right += tally.right;
+            all.1.labels += tally.labels;
+        }
+        all
+    })
 }
 
 fn measure(workload: Workload, passes: usize) {
     let (first, tally) = pass(workload);
     let mut times: Vec<u64> = (0..passes).map(|_| pass(workload).0).collect();
     times.sort();
-    let operations = workload.chunks as u64 * workload.rounds as u64;
+    let Workload { name, threads, .. } = workload;
+    let operations = workload.items as u64 * workload.rounds as u64;
     let best = times.first().copied().unwrap_or(first);
     let median = times.get(times.len() / 2).copied().unwrap_or(first);
     let Tally { refused, right, labels } = tally;
     let each = |nanos: u64| nanos as f64 / operations as f64;
-    println!("{}: {:.2} nanoseconds at best, {:.2} in the middle of {passes} passes", workload.name, each(best), each(median));
+    let each_second = operations as u128 * threads as u128 * 1_000_000_000 / best.max(1) as u128;
+    println!("{name}, threads {threads}: {:.2} nanoseconds at best, {:.2} in the middle of {passes} passes", each(best), each(median));
     println!(
-        "RESULT\tplain\t{}\t1\t{:.2}\t{:.2}\t{}\toperations={operations} refused={refused} right={right} labels={labels}",
-        workload.name, each(best), each(median), operations as u128 * 1_000_000_000 / best.max(1) as u128
+        "RESULT\tplain\t{name}\t{threads}\t{:.2}\t{:.2}\t{each_second}\toperations={operations} refused={refused} right={right} labels={labels}",
+        each(best), each(median)
     );
 }
 
@@ -277,8 +333,10 @@ fn main() {
     let words: Vec<String> = std::env::args().collect();
     let Some(word) = words.get(1) else { return };
     let passes = words.get(2).and_then(|number| number.parse().ok()).unwrap_or(PASSES);
+    let threads: Option<u32> = words.get(3).and_then(|number| number.parse().ok());
     for workload in WORKLOADS {
-        if word == "all" || word == workload.name {
+        let is_named = word == "all" || word == workload.name;
+        if is_named && threads.unwrap_or(workload.threads) == workload.threads {
             measure(workload, passes);
         }
     }

@@ -1,2 +1,3 @@
 mod Linked
 mod Rode
+mod Workers

@@ -6,8 +6,9 @@ use std::io;
 #[derive(Clone, Copy)]
 pub struct Line {
     pub name: &'static str,
+    pub threads: u32,
 
-    /// The operations of one pass, and the passes that were timed.
+    /// The operations of one thread in a pass, and the passes that were timed.
     pub operations: u64,
     pub passes: u32,
 
@@ -37,8 +38,9 @@ impl Line {
             labels,
         } = self.tally;
         println!(rt;
-            "{}: {}.{:02} nanoseconds at best, {}.{:02} in the middle of {} passes",
+            "{}, threads {}: {}.{:02} nanoseconds at best, {}.{:02} in the middle of {} passes",
             self.name,
+            self.threads,
             best / 100,
             best % 100,
             median / 100,
@@ -46,8 +48,9 @@ impl Line {
             self.passes
         )?;
         println!(rt;
-            "RESULT\tbump\t{}\t1\t{}.{:02}\t{}.{:02}\t{each_second}\toperations={} refused={refused} right={right} labels={labels}",
+            "RESULT\tbump\t{}\t{}\t{}.{:02}\t{}.{:02}\t{each_second}\toperations={} refused={refused} right={right} labels={labels}",
             self.name,
+            self.threads,
             best / 100,
             best % 100,
             median / 100,

@@ -20,6 +20,24 @@ pub struct Tally {
     pub labels: u64,
 }
 
+/// A tally of nothing.
+pub const NONE: Tally = Tally {
+    refused: 0,
+    right: 0,
+    labels: 0,
+};
+
+impl Tally {
+    /// Both together.
+    pub fn and(self, other: Tally) -> Tally {
+        Tally {
+            refused: self.refused.wrapping_add(other.refused),
+            right: self.right.wrapping_add(other.right),
+            labels: self.labels.wrapping_add(other.labels),
+        }
+    }
+}
+
 /// Counts a refusal, of which there is none where one thread is at work.
 #[cold]
 #[inline(never)]

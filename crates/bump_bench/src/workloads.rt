@@ -1,13 +1,17 @@
 //! What is measured.
 use crate::readers::Touched;
 
-/// A workload of one reader.
+/// A workload: each thread has a worker, and hits items.
 #[derive(Clone, Copy)]
 pub struct Workload {
     pub name: &'static str,
 
-    /// The chunks of the store, all of which are linked: 1 to 1,000,000.
-    pub chunks: u32,
+    /// How many threads there are, 1 or more, and how many items each of them has. There are as many chunks, at most 1,000,000, and all are linked.
+    pub threads: u32,
+    pub items: u32,
+
+    /// Whether all threads hit one item in place of their own, as often as they would hit those.
+    pub shared: bool,
 
     /// How often each item is hit before the pass, and whether all stand in COLD.
     pub touches: u32,
@@ -20,62 +24,99 @@ pub struct Workload {
     pub rounds: u32,
 }
 
+// A workload of items that are only taken and given back.
+const GET: Workload = Workload {
+    name: "get",
+    threads: 1,
+    items: 1_024,
+    shared: false,
+    touches: 0,
+    cold: false,
+    wanted: None,
+    rounds: 64,
+};
+
+const HIT: Workload = Workload {
+    name: "hit",
+    touches: 2,
+    wanted: Some(Touched::Already),
+    ..GET
+};
+
+const FIRST: Workload = Workload {
+    name: "first",
+    items: 8_192,
+    wanted: Some(Touched::First),
+    rounds: 1,
+    ..GET
+};
+
 /// The workloads, in the order of the table.
-pub const WORKLOADS: [Workload; 7] = [
+pub const WORKLOADS: [Workload; 17] = [
+    GET,
+    Workload { threads: 2, ..GET },
+    Workload { threads: 4, ..GET },
     Workload {
-        name: "get",
-        chunks: 1_024,
-        touches: 0,
-        cold: false,
-        wanted: None,
-        rounds: 64,
+        name: "get_shared",
+        shared: true,
+        ..GET
     },
     Workload {
-        name: "hit",
-        chunks: 1_024,
-        touches: 2,
-        cold: false,
-        wanted: Some(Touched::Already),
-        rounds: 64,
+        name: "get_shared",
+        shared: true,
+        threads: 2,
+        ..GET
     },
     Workload {
-        name: "first",
-        chunks: 8_192,
-        touches: 0,
-        cold: false,
-        wanted: Some(Touched::First),
-        rounds: 1,
+        name: "get_shared",
+        shared: true,
+        threads: 4,
+        ..GET
     },
+    HIT,
+    Workload { threads: 2, ..HIT },
+    Workload { threads: 4, ..HIT },
+    Workload {
+        name: "hit_shared",
+        shared: true,
+        ..HIT
+    },
+    Workload {
+        name: "hit_shared",
+        shared: true,
+        threads: 2,
+        ..HIT
+    },
+    Workload {
+        name: "hit_shared",
+        shared: true,
+        threads: 4,
+        ..HIT
+    },
+    FIRST,
     Workload {
         name: "marked",
-        chunks: 8_192,
         touches: 1,
-        cold: false,
         wanted: Some(Touched::Marked),
-        rounds: 1,
+        ..FIRST
     },
     Workload {
         name: "attempt",
-        chunks: 8_192,
         touches: 1,
         cold: true,
         wanted: Some(Touched::Dropped),
-        rounds: 1,
+        ..FIRST
     },
     Workload {
         name: "get_1000",
-        chunks: 1_000,
-        touches: 0,
-        cold: false,
-        wanted: None,
+        items: 1_000,
         rounds: 1_000,
+        ..GET
     },
     Workload {
         name: "get_1000000",
-        chunks: 1_000_000,
-        touches: 0,
-        cold: false,
-        wanted: None,
+        items: 1_000_000,
         rounds: 1,
+        ..GET
     },
 ];
