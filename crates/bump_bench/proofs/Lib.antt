@@ -1,0 +1,3 @@
+mod Linked
+mod Rode
+mod Workers

@@ -1,0 +1,31 @@
+-- How far a reader is with a hit: its seat, and the counts that its caller keeps beside it.
+use Rattle.std.specs.Prelude.{◌≡◌, ℕ, Option, Some, None}
+use Rattle.bump_rules.specs.declared.items.ItemId.{ItemId}
+use Rattle.bump_rules.specs.declared.hands.Hand.{Hand}
+use Rattle.bump_rules.specs.declared.hands.Hand.TheVariants as hand
+use Rattle.bump_steps.specs.declared.views.HoldPart.{HoldPart}
+use Rattle.bump_heads.specs.declared.views.WorkerView.{WorkerView}
+use Rattle.bump_steps.specs.References.{new_hold}
+
+-- the counts are the seat's, and it has this in its hand and this hold joined to it
+pub record Stands (h : Hand) (joined : Option HoldPart) (w : WorkerView) (attempted accepted : ℕ) : Type 0 where
+  pub handed : w.part.hand ≡ h
+  pub held : w.hold ≡ joined
+  pub tried : w.part.accounts.attempted ≡ attempted
+  pub sent : w.part.accounts.accepted ≡ accepted
+
+-- between two hits
+abbrev pub IsReady : WorkerView → ℕ → ℕ → Type 0
+IsReady = Stands hand.Idle None
+
+-- a hold of the life is joined, and no bump is attempted
+abbrev pub IsTouching : ItemId → WorkerView → ℕ → ℕ → Type 0
+IsTouching l = Stands hand.Idle (Some (new_hold l))
+
+-- a bump of the life is attempted
+abbrev pub IsTrying : ItemId → WorkerView → ℕ → ℕ → Type 0
+IsTrying l = Stands (hand.Trying l) (Some (new_hold l))
+
+-- a bump of the life was dropped
+abbrev pub IsDropping : ItemId → WorkerView → ℕ → ℕ → Type 0
+IsDropping l = Stands (hand.Clearing l) (Some (new_hold l))
