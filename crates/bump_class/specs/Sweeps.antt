@@ -8,7 +8,6 @@ use Rattle.bump_rules.specs.Lives.{life}
 use Rattle.bump_rules.specs.Tables.{is_unheld}
 use Rattle.bump_word.specs.Words.{word_of}
 use Rattle.bump_heads.specs.declared.views.ClassPart.{ClassPart}
-use Rattle.bump_heads.specs.declared.views.Kind.{Kind}
 use Rattle.bump_heads.specs.declared.views.Kind.TheVariants as kind
 use Rattle.bump_heads.specs.declared.views.OwnStep.{OwnStep}
 use Rattle.bump_heads.specs.Linking.{generation_of_chunk}
@@ -38,10 +37,10 @@ abbrev pub swept_book : (ℕ → Head) → List ℕ → BookView → BookView
 swept_book heads cs b = record b { part = swept_part heads cs b.part; lists = replay b.lists (swept_of heads cs) }
 
 -- What a sweep comes to, by the heads that its looks found.
-pub record Sweeps (b : BookView) (freed : ℕ) (a : BookView) (heads : ℕ → Head) : Type 0 where
+pub record Sweeps (b : BookView) (n : ℕ) (a : BookView) (heads : ℕ → Head) : Type 0 where
   -- each is that of a chunk whose life was unlinked
   pub unlinked : (c : ℕ) → 0 < times c b.lists.dying → (heads c).linked ≡ false
   pub generation : (c : ℕ) → 0 < times c b.lists.dying → (heads c).generation ≡ generation_of_chunk b.part c
   -- all chunks of DYING are looked at, as the list stood
   pub after : a ≡ swept_book heads b.lists.dying b
-  pub freed : freed ≡ length (unheld heads b.lists.dying)
+  pub freed : n ≡ length (unheld heads b.lists.dying)
