@@ -1,5 +1,5 @@
 -- What a Book keeps over a change, and where its chunks stand.
-use Rattle.std.proofs.Common.{◌≡◌, ℕ, ◌+◌, ◌-◌, ◌<◌, ◌&&◌, eqb, cond, Bool, true, false, List, [], ◌∷◌, ◌++◌, Option, None, Some, IfSome, if◌then◌else◌, refl, sym, ap, ap₂, ◌∙◌, subst, arith, eq-eqb, ne_eqb, ◌≢◌, option_map}
+use Rattle.std.proofs.Common.{◌≡◌, ℕ, ◌+◌, ◌-◌, ◌<◌, ◌≤◌, ◌&&◌, eqb, cond, Bool, true, false, List, [], ◌∷◌, ◌++◌, Option, None, Some, IfSome, if◌then◌else◌, refl, sym, ap, ap₂, ◌∙◌, subst, arith, eq-eqb, ne_eqb, ◌≢◌, option_map}
 use Rattle.std.proofs.Math.Bool.{and-false}
 use Rattle.std.proofs.lemmas.Bool.{and_parts}
 use Rattle.bump_links.specs.Lists.{times, first_of, last_of}
@@ -17,7 +17,7 @@ use Rattle.bump_rules.specs.Lawful.{bit, IsUsed}
 use Rattle.bump_rules.specs.Lists.{Lists, list_at, to_front, opening, IsListed}
 use Rattle.bump_rules.specs.Totals.{how_many}
 use Rattle.bump_rules.proofs.Counted.{how_many_push}
-use Rattle.bump_rules.proofs.Laws.{bit_some}
+use Rattle.bump_rules.proofs.Laws.{bit_some, bit_at_most}
 use Rattle.bump_rules.proofs.PlainLists.{first_there, last_there}
 use Rattle.bump_rules.proofs.Replay.{replay_push, are_between_push, replayed_lists, standing_push}
 use Rattle.bump_rules.proofs.Standings.{same_place, place_same}
@@ -57,6 +57,10 @@ entry_kept b e labels steps own fair o = record {
 -- how often a chunk is in the list at a place
 pub times_in : (b : BookView) (c : ℕ) (q : Place) → IsBook b → times c (list_at b.lists q) ≡ bit (owns c b.part && is_place (place_of_chunk b.part c) q)
 times_in b c q o = ap (λ l. times c (list_at l q)) o.lists ∙ replayed_lists b.part.first (b.part.first + b.part.count) b.part.fresh c b.part.history o.entries q
+
+-- no chunk is in a list twice
+pub once_at_most : (b : BookView) (c : ℕ) (q : Place) → IsBook b → times c (list_at b.lists q) ≤ 1
+once_at_most b c q o = omega (arith, times_in b c q o, bit_at_most (owns c b.part && is_place (place_of_chunk b.part c) q))
 
 -- a chunk that is in a list is of the class, and stands there
 pub stands_there : (b : BookView) (c : ℕ) (q : Place) → IsBook b → 0 < times c (list_at b.lists q) → (owns c b.part ≡ true) × (place_of_chunk b.part c ≡ q)

@@ -7,6 +7,7 @@ mod ending;
 mod linking;
 mod meeting;
 mod pulling;
+mod sweeping;
 
 pub use books::Book;
 pub use ending::UnlinkRefusal;
