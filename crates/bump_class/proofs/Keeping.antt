@@ -22,15 +22,15 @@ use Rattle.bump_rules.proofs.PlainLists.{first_there, last_there}
 use Rattle.bump_rules.proofs.Replay.{replay_push, are_between_push, replayed_lists, standing_push}
 use Rattle.bump_rules.proofs.Standings.{same_place, place_same}
 use Rattle.bump_word.specs.Words.{word_of}
-use Rattle.bump_heads.specs.declared.views.ClassPart.{ClassPart}
+use Rattle.bump_steps.specs.declared.views.ClassPart.{ClassPart}
 use Rattle.bump_heads.specs.declared.views.ClassView.{ClassView}
-use Rattle.bump_heads.specs.declared.views.OwnStep.{OwnStep}
-use Rattle.bump_heads.specs.Applications.{moved_class, moved_lane}
+use Rattle.bump_steps.specs.declared.views.OwnStep.{OwnStep}
+use Rattle.bump_steps.specs.Applications.{moved_class, moved_lane}
 use Rattle.bump_heads.specs.Applying.{shifted_class}
 use Rattle.bump_heads.specs.Linking.{place_of_chunk}
-use Rattle.bump_heads.specs.Lives.{looked, freed, seen}
+use Rattle.bump_steps.specs.Lives.{looked, freed, seen}
 use Rattle.bump_heads.specs.Seats.{listed as listed_lanes}
-use Rattle.bump_heads.specs.Views.{owns}
+use Rattle.bump_steps.specs.Views.{owns}
 use Rattle.bump_class.specs.Books.{BookView, IsBook}
 
 -- a new class's lists are the replay of no history

@@ -21,14 +21,14 @@ use Rattle.bump_rules.proofs.PlainLists.{times_same, times_other, times_rest}
 use Rattle.bump_rules.proofs.Replay.{replay_push}
 use Rattle.bump_rules.proofs.SixLists.{list_at_front}
 use Rattle.bump_word.specs.Words.{word_of}
-use Rattle.bump_heads.specs.declared.views.ClassPart.{ClassPart}
-use Rattle.bump_heads.specs.declared.views.Kind.TheVariants as kind
-use Rattle.bump_heads.specs.declared.views.OwnStep.{OwnStep}
-use Rattle.bump_heads.specs.Applications.{life_in}
+use Rattle.bump_steps.specs.declared.views.ClassPart.{ClassPart}
+use Rattle.bump_steps.specs.declared.views.Kind.TheVariants as kind
+use Rattle.bump_steps.specs.declared.views.OwnStep.{OwnStep}
+use Rattle.bump_steps.specs.Applications.{life_in}
 use Rattle.bump_heads.specs.Linking.{place_of_chunk, generation_of_chunk}
-use Rattle.bump_heads.specs.Lives.{looked, freed}
-use Rattle.bump_heads.specs.Plays.{step_of}
-use Rattle.bump_heads.specs.Views.{owns, standing}
+use Rattle.bump_steps.specs.Lives.{looked, freed}
+use Rattle.bump_steps.specs.Plays.{step_of}
+use Rattle.bump_steps.specs.Views.{owns, standing}
 use Rattle.bump_class.specs.Books.{BookView, IsBook}
 use Rattle.bump_class.specs.Changes.{seen_book}
 use Rattle.bump_class.specs.Sweeps.{unheld, swept_of, sight, sights, swept_part, swept_book}

@@ -5,7 +5,7 @@ use Rattle.bump_rules.specs.Entries.{is_stray}
 use Rattle.bump_rules.specs.History.{AreBetween, replayed}
 use Rattle.bump_rules.specs.Lists.{Lists, opening}
 use Rattle.bump_rules.specs.Totals.{how_many}
-use Rattle.bump_heads.specs.declared.views.ClassPart.{ClassPart}
+use Rattle.bump_steps.specs.declared.views.ClassPart.{ClassPart}
 use Rattle.bump_heads.specs.declared.views.ClassView.{ClassView}
 
 -- what its class's seat knows, its class's six lists, and the limits of HOT and WARM

@@ -7,11 +7,11 @@ use Rattle.bump_rules.specs.History.{freed_change, replay}
 use Rattle.bump_rules.specs.Lives.{life}
 use Rattle.bump_rules.specs.Tables.{is_unheld}
 use Rattle.bump_word.specs.Words.{word_of}
-use Rattle.bump_heads.specs.declared.views.ClassPart.{ClassPart}
-use Rattle.bump_heads.specs.declared.views.Kind.TheVariants as kind
-use Rattle.bump_heads.specs.declared.views.OwnStep.{OwnStep}
+use Rattle.bump_steps.specs.declared.views.ClassPart.{ClassPart}
+use Rattle.bump_steps.specs.declared.views.Kind.TheVariants as kind
+use Rattle.bump_steps.specs.declared.views.OwnStep.{OwnStep}
 use Rattle.bump_heads.specs.Linking.{generation_of_chunk}
-use Rattle.bump_heads.specs.Plays.{step_of}
+use Rattle.bump_steps.specs.Plays.{step_of}
 use Rattle.bump_class.specs.Books.{BookView}
 
 -- the chunks of a list that nobody holds, by the heads that were found

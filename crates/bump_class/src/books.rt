@@ -3,7 +3,7 @@ ghost use Rattle.std.specs.Prelude.{◌≡◌, ◌+◌, ◌≤◌, ◌*◌, None
 ghost use Rattle.bump_rules.specs.Lawful.{bit, Shows};
 ghost use Rattle.bump_rules.specs.Lists.{list_at};
 ghost use Rattle.bump_heads.specs.Linking.{place_of_chunk, generation_of_chunk};
-ghost use Rattle.bump_heads.specs.Views.{owns};
+ghost use Rattle.bump_steps.specs.Views.{owns};
 ghost use Rattle.bump_class.specs.Books.{BookView as TheBookView, IsBook, IsNewSeat, new_book};
 ghost use Rattle.bump_class.specs.Changes.{looked_book};
 

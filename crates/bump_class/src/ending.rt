@@ -4,8 +4,8 @@ ghost use Rattle.std.specs.Result.{result_err};
 ghost use Rattle.bump_rules.specs.declared.items.Head.{Head as TheHead};
 ghost use Rattle.bump_rules.specs.Tables.{is_of};
 ghost use Rattle.bump_heads.specs.Linking.{place_of_chunk};
-ghost use Rattle.bump_heads.specs.Lives.{IsInSegment};
-ghost use Rattle.bump_heads.specs.Views.{owns};
+ghost use Rattle.bump_steps.specs.Lives.{IsInSegment};
+ghost use Rattle.bump_steps.specs.Views.{owns};
 ghost use Rattle.bump_class.specs.Ends.{EndsLife, Unlinks, unlink_refusal};
 
 use crate::books::Book;

@@ -4,7 +4,7 @@ ghost use Rattle.bump_rules.specs.declared.places.Place.TheVariants.{Unused};
 ghost use Rattle.bump_rules.specs.Labels.{label_of_life};
 ghost use Rattle.bump_rules.specs.Lives.{life};
 ghost use Rattle.bump_heads.specs.Linking.{place_of_chunk, generation_of_chunk};
-ghost use Rattle.bump_heads.specs.Views.{owns};
+ghost use Rattle.bump_steps.specs.Views.{owns};
 ghost use Rattle.bump_class.specs.Changes.{linked_part, linked_book};
 ghost use Rattle.bump_class.specs.Links.{linked_item};
 

@@ -5,7 +5,7 @@ ghost use Rattle.bump_rules.specs.Labels.{label_of_life};
 ghost use Rattle.bump_rules.specs.Totals.{total};
 ghost use Rattle.bump_heads.specs.Applying.{labels_in};
 ghost use Rattle.bump_heads.specs.Linking.{generation_of_chunk};
-ghost use Rattle.bump_heads.specs.Views.{owns, differs};
+ghost use Rattle.bump_steps.specs.Views.{owns, differs};
 
 use crate::books::Book;
 use bump_heads::{Hold, Name};

@@ -9,22 +9,21 @@ use Rattle.bump_rules.specs.declared.places.Place.TheVariants.{Hot, Warm, Cold, 
 use Rattle.bump_rules.specs.declared.history.Change.{Change}
 use Rattle.bump_rules.specs.declared.history.Change.TheVariants as change
 use Rattle.bump_rules.specs.declared.labels.LabelStep.TheVariants.{Begun}
-use Rattle.bump_rules.specs.Entries.{names_bump, is_stray}
+use Rattle.bump_rules.specs.Entries.{is_stray}
 use Rattle.bump_rules.specs.History.{Standing, subject, target, freed_change}
 use Rattle.bump_rules.specs.Labels.{label_of_life, label_word}
 use Rattle.bump_rules.specs.Lawful.{bit, IsUsed}
 use Rattle.bump_rules.specs.Lives.{life, is_same}
-use Rattle.bump_rules.specs.Totals.{how_many}
 use Rattle.bump_rules.proofs.Replay.{standing_push, are_between_push}
 use Rattle.bump_rules.proofs.ToldMoves.{no_stray}
 use Rattle.bump_rules.proofs.Updates.{total_push}
-use Rattle.bump_heads.specs.declared.views.OwnStep.{OwnStep}
-use Rattle.bump_heads.specs.declared.views.ClassPart.{ClassPart}
-use Rattle.bump_heads.specs.Views.{owns, standing, label_of}
+use Rattle.bump_steps.specs.declared.views.ClassPart.{ClassPart}
+use Rattle.bump_steps.specs.Views.{owns, standing, label_of}
 use Rattle.bump_heads.specs.Seats.{IsClassPart}
-use Rattle.bump_heads.specs.Lives.{looked, labelled, begun, severed, freed, seen, IsInSegment}
-use Rattle.bump_heads.proofs.LabelLists.{word_stored, word_begun, life_stored, life_begun, life_begun_else}
-use Rattle.bump_heads.proofs.Entering.{freed_subject, freed_quiet}
+use Rattle.bump_heads.proofs.ClassParts.{noted_part, entered_part}
+use Rattle.bump_steps.specs.Lives.{looked, labelled, begun, severed, freed, seen, IsInSegment}
+use Rattle.bump_steps.proofs.LabelLists.{word_stored, word_begun, life_stored, life_begun, life_begun_else}
+use Rattle.bump_steps.proofs.Entering.{freed_subject, freed_quiet}
 
 -- a chunk of a segment is not free
 used_in_segment : (at : Place) → IsInSegment at → IsUsed at
@@ -48,10 +47,6 @@ other_of_chunk : (d c g j : ℕ) → d ≢ c → is_same (life d g) (life c j) �
 other_of_chunk d c g j ne = ap (λ (b : Bool). b && eqb g j) (ne_eqb d c ne)
 
 module _ (words : ℕ) (k : ClassPart) (o : IsClassPart words k) where
-  -- one more step of its list
-  pub keeps_step : (x : OwnStep) → IsClassPart words (record k { steps = k.steps ++ x ∷ [] })
-  keeps_step x = record { within = o.within; between = o.between; causes = o.causes; labelled = o.labelled; unbegun = o.unbegun }
-
   -- a label that is stored for a free chunk
   pub keeps_labelled : (c y : ℕ) → (standing k c).0 ≡ Unused → IsClassPart words (labelled c y k)
   keeps_labelled c y unused = record {
@@ -72,37 +67,14 @@ module _ (words : ℕ) (k : ClassPart) (o : IsClassPart words k) where
     stands_there : (d : ℕ) → d ≢ c → standing (record k { history = k.history ++ e ∷ [] }) d ≡ standing k d
     stands_there d ne = standing_push d (Unused, k.fresh) k.history e ∙ ap (λ b. cond b (target e, (subject e).generation) (standing k d)) (ne_eqb (subject e).chunk d (λ q. ne (sym q ∙ of)))
 
-    -- the history is of the class's chunks, and has no stray entry
-    entry_between : names_bump e ≡ false → how_many is_stray (k.history ++ e ∷ []) ≡ 0
-    entry_between quiet = omega (arith, total_push (λ z. bit (is_stray z)) k.history e, ap bit (no_stray e quiet), o.causes)
-
-    -- an entry of the same life that leaves no free chunk in use
-    pub keeps_entry : (x : OwnStep) → names_bump e ≡ false → (subject e).generation ≡ (standing k c).1 → (IsUsed (target e) → IsUsed (standing k c).0)
-        → IsClassPart words (record k { history = k.history ++ e ∷ []; steps = k.steps ++ x ∷ [] })
-    keeps_entry x quiet same used_before = record {
-      within = o.within;
-      between = are_between_push k.first (k.first + k.count) k.history e o.between (subst (λ (j : ℕ). owns j k ≡ true) (sym of) own);
-      causes = entry_between quiet;
-      labelled = λ d mine used. dite (ℕ_discrete d c)
-          (λ is. subst (λ (j : ℕ). label_of_life (life j (standing (record k { history = k.history ++ e ∷ [] }) j).1) 0 k.labels ≡ Some (label_of k j)) (sym is)
-          (subst (λ (s : Standing). label_of_life (life c s.1) 0 k.labels ≡ Some (label_of k c)) (sym stands_here)
-          (subst (λ (g : ℕ). label_of_life (life c g) 0 k.labels ≡ Some (label_of k c)) (sym same)
-          (o.labelled c own (used_before (subst (λ (s : Standing). IsUsed s.0) stands_here (subst (λ (j : ℕ). IsUsed (standing (record k { history = k.history ++ e ∷ [] }) j).0) is used)))))))
-          (λ ne. subst (λ (s : Standing). label_of_life (life d s.1) 0 k.labels ≡ Some (label_of k d)) (sym (stands_there d ne)) (o.labelled d mine (subst (λ (s : Standing). IsUsed s.0) (stands_there d ne) used)));
-      unbegun = λ d g later. dite (ℕ_discrete d c)
-          (λ is. subst (λ (j : ℕ). label_of_life (life j g) 0 k.labels ≡ None) (sym is)
-          (o.unbegun c g (subst (λ (n : ℕ). n < g) (ap (λ (j : ℕ). (standing (record k { history = k.history ++ e ∷ [] }) j).1) is ∙ ap (λ (s : Standing). s.1) stands_here ∙ same) later)))
-          (λ ne. o.unbegun d g (subst (λ (n : ℕ). n < g) (ap (λ (s : Standing). s.1) (stands_there d ne)) later));
-    }
-
   -- the chunk's life is unlinked
   pub keeps_severed : (c n : ℕ) → owns c k ≡ true → IsInSegment (standing k c).0 → IsClassPart words (severed c n k)
-  keeps_severed c n own in_it = keeps_entry c own (change.Unlinked (life c (standing k c).1)) refl _ refl refl (λ used. used_in_segment (standing k c).0 in_it)
+  keeps_severed c n own in_it = entered_part words k (change.Unlinked (life c (standing k c).1)) _ o own refl refl (λ used. used_in_segment (standing k c).0 in_it)
 
   -- the chunk is freed
   pub keeps_freed : (c n : ℕ) → owns c k ≡ true → IsClassPart words (freed c n k)
   keeps_freed c n own = let l : ItemId = life c (standing k c).1 in
-      keeps_entry c own (freed_change l) (ap (λ (j : ItemId). j.chunk) (freed_subject l)) _ (freed_quiet l) (ap (λ (j : ItemId). j.generation) (freed_subject l)) (λ used. absurd (freed_unused l used))
+      entered_part words k (freed_change l) _ o (subst (λ (j : ItemId). owns j.chunk k ≡ true) (sym (freed_subject l)) own) (subst (λ (j : ItemId). j.generation ≡ (standing k j.chunk).1) (sym (freed_subject l)) refl) (no_stray (freed_change l) (freed_quiet l)) (λ used. absurd (freed_unused l used))
 
   -- or seen
   pub keeps_seen : (c refs n : ℕ) → owns c k ≡ true → IsClassPart words (seen c refs n k)
@@ -110,7 +82,7 @@ module _ (words : ℕ) (k : ClassPart) (o : IsClassPart words k) where
     where
       by : (b : Bool) → IsClassPart words (if b then freed c n k else looked c n k)
       by true = keeps_freed c n own
-      by false = keeps_step _
+      by false = noted_part words k _ o
 
   -- a new life begins
   module _ (c n : ℕ) (own : owns c k ≡ true) where
@@ -127,7 +99,7 @@ module _ (words : ℕ) (k : ClassPart) (o : IsClassPart words k) where
     keeps_begun = record {
       within = o.within;
       between = are_between_push k.first (k.first + k.count) k.history (change.Linked next_life) o.between own;
-      causes = entry_between c own (change.Linked next_life) refl refl;
+      causes = omega (arith, total_push (λ z. bit (is_stray z)) k.history (change.Linked next_life), o.causes);
       labelled = λ d mine used. dite (ℕ_discrete d c)
           (λ is. subst (λ (j : ℕ). label_of_life (life j (standing (record k { history = k.history ++ change.Linked next_life ∷ [] }) j).1) 0 (k.labels ++ Begun next_life ∷ []) ≡ Some (label_word j 0 (k.labels ++ Begun next_life ∷ []))) (sym is)
           (subst (λ (s : Standing). label_of_life (life c s.1) 0 (k.labels ++ Begun next_life ∷ []) ≡ Some (label_word c 0 (k.labels ++ Begun next_life ∷ []))) (sym (stands_here c own (change.Linked next_life) refl)) label_here))

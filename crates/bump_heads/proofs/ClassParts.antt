@@ -10,9 +10,9 @@ use Rattle.bump_rules.specs.Lawful.{bit, IsUsed}
 use Rattle.bump_rules.specs.Lives.{life}
 use Rattle.bump_rules.proofs.Replay.{standing_push, are_between_push}
 use Rattle.bump_rules.proofs.Updates.{total_push}
-use Rattle.bump_heads.specs.declared.views.OwnStep.{OwnStep}
-use Rattle.bump_heads.specs.declared.views.ClassPart.{ClassPart}
-use Rattle.bump_heads.specs.Views.{owns, standing}
+use Rattle.bump_steps.specs.declared.views.OwnStep.{OwnStep}
+use Rattle.bump_steps.specs.declared.views.ClassPart.{ClassPart}
+use Rattle.bump_steps.specs.Views.{owns, standing}
 use Rattle.bump_heads.specs.Seats.{IsClassPart}
 
 -- the chunks of a class are among the table's

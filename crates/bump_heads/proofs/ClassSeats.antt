@@ -5,14 +5,14 @@ use Rattle.bump_rules.specs.declared.items.Head.{Head}
 use Rattle.bump_rules.specs.Lawful.{Shows}
 use Rattle.bump_word.specs.Words.{Spells}
 use Rattle.bump_word.proofs.Words.{one_head}
-use Rattle.bump_heads.specs.declared.views.ClassPart.{ClassPart}
+use Rattle.bump_steps.specs.declared.views.ClassPart.{ClassPart}
 use Rattle.bump_heads.specs.declared.views.ClassView.{ClassView}
-use Rattle.bump_heads.specs.declared.views.LanePart.{LanePart}
-use Rattle.bump_heads.specs.Views.{owns, standing}
-use Rattle.bump_heads.specs.Plays.{Sat, Found, Told}
+use Rattle.bump_steps.specs.declared.views.LanePart.{LanePart}
+use Rattle.bump_steps.specs.Views.{owns, standing}
+use Rattle.bump_steps.specs.Plays.{Sat, Found, Told}
 use Rattle.bump_heads.specs.Seats.{class_in, class_me, listed, first, bump_aboard, IsInRange, IsClassPart}
-use Rattle.bump_heads.specs.Lives.{alone, on_part}
-use Rattle.bump_heads.proofs.Told.{stands_alone}
+use Rattle.bump_steps.specs.Lives.{alone, on_part}
+use Rattle.bump_steps.proofs.Told.{stands_alone}
 
 -- a seat's parts are read back
 pub class_in_me : (x : ClassView) → class_in (class_me x).0 ≡ x

@@ -21,14 +21,15 @@ use Rattle.bump_rules.proofs.Unlinks.{unlinked_where_dying}
 use Rattle.bump_rules.proofs.Updates.{total_push}
 use Rattle.bump_word.specs.Words.{Fits, word_of, segment_bits}
 use Rattle.bump_word.proofs.Words.{fields, number_one}
-use Rattle.bump_heads.specs.declared.views.Kind.TheVariants as kind
-use Rattle.bump_heads.specs.declared.views.ClassPart.{ClassPart}
+use Rattle.bump_steps.specs.declared.views.Kind.TheVariants as kind
+use Rattle.bump_steps.specs.declared.views.ClassPart.{ClassPart}
 use Rattle.bump_heads.specs.declared.views.ClassView.{ClassView}
-use Rattle.bump_heads.specs.declared.views.LanePart.{LanePart}
-use Rattle.bump_heads.specs.Views.{owns, standing, is_for, linked_elsewhere, active_clear, shows_time_only}
-use Rattle.bump_heads.specs.Plays.{step_of}
-use Rattle.bump_heads.specs.Applications.{tried_lane, noted_class, moved_class}
-use Rattle.bump_heads.specs.Applying.{carried_by, life_aboard, IsOf, IsLinkedIn, MayClear, MayPutTime, MayShift, IsShown, Ends, cleared_class, timed_class, shifted_class, Seen}
+use Rattle.bump_steps.specs.declared.views.LanePart.{LanePart}
+use Rattle.bump_steps.specs.Views.{owns, standing, is_for, linked_elsewhere, active_clear, shows_time_only}
+use Rattle.bump_steps.specs.Plays.{step_of}
+use Rattle.bump_steps.specs.Applications.{tried_lane, noted_class, moved_class}
+use Rattle.bump_heads.specs.Applying.{carried_by, life_aboard, IsOf, MayClear, MayPutTime, MayShift, IsShown, Ends, cleared_class, timed_class, shifted_class, Seen}
+use Rattle.bump_steps.specs.Lives.{IsInSegment}
 
 -- a lane that carries a bump of the chunk
 pub carrying : (c : ℕ) (o : Option LanePart) → IsOf c (carried_by o) → (l : LanePart) × (b : Bump) × (o ≡ Some (record l { stage = lane.Carrying b })) × (b.life.chunk ≡ c)
@@ -43,7 +44,7 @@ carrying c (Some l) is = by l.stage refl is
     by (lane.Moved b) at is = absurd is
 
 -- the list of a linked item is that of its segment
-linked_in : (s : Segment) → IsLinkedIn (place_of s)
+linked_in : (s : Segment) → IsInSegment (place_of s)
 linked_in Hot = tt
 linked_in Warm = tt
 linked_in Cold = tt
@@ -94,7 +95,7 @@ module _ (v v₁ : ClassView) (o : Option LanePart) (l : LanePart) (b : Bump) (c
   -- the time of one that is linked may be stored
   pub may_time : h.linked ≡ true → (owns c v₁.part ≡ true) × MayPutTime c (standing v₁.part c).0 v₁.lane
   may_time on = subst (λ (x : ClassView). (owns c x.part ≡ true) × MayPutTime c (standing x.part c).0 x.lane) (sym looked_is)
-      (own, (subst IsLinkedIn (sym (placed_where_linked h (standing v.part c).0 stood.0 on)) (linked_in h.segment), of))
+      (own, (subst IsInSegment (sym (placed_where_linked h (standing v.part c).0 stood.0 on)) (linked_in h.segment), of))
 
   module _ (now : ℕ) (w₁ : ClassView) (timed : w₁ ≡ timed_class c now v₁) where
     timed_is : w₁ ≡ record { part = noted_class kind.PutTime c now (looked ∷ []) v.part; lane = Some looked }

@@ -5,22 +5,22 @@ use Rattle.bump_rules.specs.declared.items.ItemId.{ItemId}
 use Rattle.bump_rules.specs.Lives.{life, one_if}
 use Rattle.bump_word.specs.Words.{Spells}
 use Rattle.bump_word.proofs.Words.{one_head}
-use Rattle.bump_heads.specs.declared.views.HoldPart.{HoldPart}
+use Rattle.bump_steps.specs.declared.views.HoldPart.{HoldPart}
 use Rattle.bump_heads.specs.declared.views.HoldView.{HoldView}
-use Rattle.bump_heads.specs.Plays.{Sat, Found, Told}
-use Rattle.bump_heads.specs.Seats.{IsOf, hold_me, hold_in_view}
-use Rattle.bump_heads.specs.Views.{held, weight}
-use Rattle.bump_heads.proofs.StepLemmas.{one_life}
+use Rattle.bump_steps.specs.Plays.{Sat, Found, Told}
+use Rattle.bump_heads.specs.Seats.{IsHoldOf, hold_me, hold_in_view}
+use Rattle.bump_steps.specs.Views.{held, weight}
+use Rattle.bump_steps.proofs.StepLemmas.{one_life}
 
 -- the head that a hold finds has the hold's life, and a reference
-held_told : (l : ItemId) (part : Option HoldPart) (m : Sat) (h : Head) → m ≡ hold_me part → IsOf l part → IsSome part → Told l.chunk m.0 h → (h.generation ≡ l.generation) × (0 < h.refs)
+held_told : (l : ItemId) (part : Option HoldPart) (m : Sat) (h : Head) → m ≡ hold_me part → IsHoldOf l part → IsSome part → Told l.chunk m.0 h → (h.generation ≡ l.generation) × (0 < h.refs)
 held_told l None m h mine of whole told = absurd (cc whole)
 held_told l (Some p) m h mine of whole told =
     let one : weight l.chunk (held l.generation) m.0 ≡ 1 = omega (arith, ap (λ (x : Sat). weight l.chunk (held l.generation) x.0) mine, ap (λ (y : ItemId). one_if (life l.chunk l.generation) y) of, one_life l) in
     (sym (told.held l.generation (omega (arith, one))), omega (arith, told.many l.generation, one))
 
 -- for a contract: the head of the word that was found
-pub held_found : (l : ItemId) (m : Sat) (v : HoldView) (n : ℕ) (h : Head) → m ≡ hold_me (hold_in_view m.0) → IsOf l (hold_in_view m.0) → record { life = l; part = hold_in_view m.0 } ≡ v → IsSome v.part → Found n (Told l.chunk m.0) → Spells n h → (h.generation ≡ v.life.generation) × (0 < h.refs)
+pub held_found : (l : ItemId) (m : Sat) (v : HoldView) (n : ℕ) (h : Head) → m ≡ hold_me (hold_in_view m.0) → IsHoldOf l (hold_in_view m.0) → record { life = l; part = hold_in_view m.0 } ≡ v → IsSome v.part → Found n (Told l.chunk m.0) → Spells n h → (h.generation ≡ v.life.generation) × (0 < h.refs)
 held_found l m v n h mine of view whole found spelled =
     let told = held_told l (hold_in_view m.0) m h mine of (subst IsSome (sym (ap (λ (x : HoldView). x.part) view)) whole) (subst (Told l.chunk m.0) (one_head n found.0 h found.1 spelled) found.2) in
     (told.0 ∙ ap (λ (x : HoldView). x.life.generation) view, told.1)

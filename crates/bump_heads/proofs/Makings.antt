@@ -1,22 +1,23 @@
 -- One turn of the loops that split the seats of classes, workers and lanes off.
-use Rattle.std.proofs.Common.{◌≡◌, ℕ, zero, suc, ◌+◌, ◌*◌, ◌<◌, ◌≤◌, List, [], ◌∷◌, ◌++◌, Option, None, map, length, refl, sym, ◌∙◌, subst, arith, append_assoc}
+use Rattle.std.proofs.Common.{◌≡◌, ℕ, zero, suc, ◌+◌, ◌*◌, ◌<◌, List, [], ◌∷◌, ◌++◌, Option, None, map, length, refl, sym, ◌∙◌, subst, arith, append_assoc}
 use Rattle.atomic_table.specs.Table.{Me}
 use Rattle.bump_rules.specs.declared.bumps.Bump.{Bump}
-use Rattle.bump_heads.specs.declared.views.Empty.{Empty}
-use Rattle.bump_heads.specs.declared.views.ClassPart.{ClassPart}
-use Rattle.bump_heads.specs.declared.views.WorkerPart.{WorkerPart}
-use Rattle.bump_heads.specs.declared.views.LanePart.{LanePart}
+use Rattle.bump_steps.specs.declared.views.Empty.{Empty}
+use Rattle.bump_steps.specs.declared.views.ClassPart.{ClassPart}
+use Rattle.bump_steps.specs.declared.views.WorkerPart.{WorkerPart}
+use Rattle.bump_steps.specs.declared.views.LanePart.{LanePart}
 use Rattle.bump_heads.specs.declared.views.ClassView.{ClassView}
 use Rattle.bump_heads.specs.declared.views.WorkerView.{WorkerView}
-use Rattle.bump_heads.specs.declared.views.View.{View}
-use Rattle.bump_heads.specs.Views.{aboard_of}
+use Rattle.bump_steps.specs.declared.views.View.{View}
+use Rattle.bump_steps.specs.Views.{aboard_of}
 use Rattle.bump_rules.specs.declared.configs.ClassConfig.{ClassConfig}
-use Rattle.bump_heads.specs.Rule.{blank, class_parts, worker_parts, lane_parts}
-use Rattle.bump_heads.specs.Cuts.{without_class, class_only, without_worker, worker_only, without_lane, lane_only}
-use Rattle.bump_heads.specs.Plays.{behind, first_of}
+use Rattle.bump_steps.specs.Rule.{blank, class_parts, worker_parts, lane_parts}
+use Rattle.bump_steps.specs.Cuts.{without_class, class_only, without_worker, worker_only, without_lane, lane_only}
+use Rattle.bump_steps.specs.Plays.{behind, first_of}
 use Rattle.atomic_table.specs.Seated.{TableId}
-use Rattle.bump_rules.specs.Configs.{chunks_of, HaveChunks}
-use Rattle.bump_heads.specs.Seats.{class_me, class_in, worker_me, worker_in, lane_me, bump_aboard, held_life, IsInRange, IsLifeInRange, IsClassPart, IsWorkerPart, head_or, no_lane}
+use Rattle.bump_rules.specs.Configs.{chunks_of}
+use Rattle.bump_heads.specs.Seats.{class_me, class_in, worker_me, worker_in, bump_aboard, held_life, IsInRange, IsLifeInRange, IsClassPart, IsWorkerPart, head_or, no_lane}
+use Rattle.bump_steps.specs.Riders.{lane_me}
 use Rattle.bump_heads.specs.Making.{class_seen, worker_seen, lane_seen, AreNewClasses, AreNewWorkers, AreEmpty}
 
 abbrev pub Turn : TableId → Me Empty View → View → ℕ → ℕ → List ClassView → List ClassView → Me Empty View → Me Empty View → Type 0
@@ -61,11 +62,6 @@ lane_turn m v i count made all m' p rest long more empty so_far now part =
         (refl, sym empty.0, refl, omega (arith, long), empty.1, append_assoc made (lane_seen k ∷ []) (map lane_seen ks) ∙ so_far)
 
 -- ---- the parts of a first seat
-
--- there are chunks where there are classes
-pub some_chunks : (ks : List ClassConfig) → 1 ≤ length ks → HaveChunks ks → 0 < chunks_of ks
-some_chunks [] one have = absurd (omega (arith, one))
-some_chunks (k ∷ ks) one have = omega (arith, have.0)
 
 pub length_classes : (f i at : ℕ) (ks : List ClassConfig) → length (class_parts f i at ks) ≡ length ks
 length_classes f i at [] = refl

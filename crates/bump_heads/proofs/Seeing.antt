@@ -23,22 +23,22 @@ use Rattle.bump_rules.specs.Lawful.{Shows, IsUsed, bit}
 use Rattle.bump_rules.proofs.Laws.{used_in_segment}
 use Rattle.bump_word.specs.Words.{Spells, word_of}
 use Rattle.bump_word.proofs.Words.{one_head}
-use Rattle.bump_heads.specs.declared.views.Empty.{Empty}
-use Rattle.bump_heads.specs.declared.views.Kind.TheVariants as kind
-use Rattle.bump_heads.specs.declared.views.ClassPart.{ClassPart}
-use Rattle.bump_heads.specs.declared.views.LanePart.{LanePart}
+use Rattle.bump_steps.specs.declared.views.Empty.{Empty}
+use Rattle.bump_steps.specs.declared.views.Kind.TheVariants as kind
+use Rattle.bump_steps.specs.declared.views.ClassPart.{ClassPart}
+use Rattle.bump_steps.specs.declared.views.LanePart.{LanePart}
 use Rattle.bump_heads.specs.declared.views.ClassView.{ClassView}
-use Rattle.bump_heads.specs.declared.views.View.{View}
-use Rattle.bump_heads.specs.Views.{aboard_of, refers, owns, standing, evidence}
-use Rattle.bump_heads.specs.Plays.{Sat, Told, Found, on_first, step_of}
-use Rattle.bump_heads.specs.Cuts.{joined, lanes_only, without_lanes}
-use Rattle.bump_heads.specs.Applications.{applying, bump_for, tried_lane, tried_view, moved_stage, moved_lane, moved_for, moved_class, moved_view, life_in, alighted_lane, alighted_view, MayMove, MayAlight}
+use Rattle.bump_steps.specs.declared.views.View.{View}
+use Rattle.bump_steps.specs.Views.{aboard_of, refers, owns, standing, evidence}
+use Rattle.bump_steps.specs.Plays.{Sat, Told, Found, on_first, step_of}
+use Rattle.bump_steps.specs.Cuts.{joined, lanes_only, without_lanes}
+use Rattle.bump_steps.specs.Applications.{applying, bump_for, tried_lane, tried_view, moved_stage, moved_lane, moved_for, moved_class, moved_view, life_in, alighted_lane, alighted_view, MayMove, MayAlight}
 use Rattle.bump_heads.specs.Applying.{life_aboard, life_of, IsOf, MayClear, MayShift, IsShown, Ends, shifted_class, Seen, NamesNoBumpTwice, TellsMoves}
 use Rattle.bump_heads.specs.Seats.{class_me, class_in, lane_in, IsLane, IsInRange, IsClassPart, bump_aboard, head_or, no_class, no_lane, listed}
-use Rattle.bump_heads.proofs.Applications.{tried_going, alighted_tells}
+use Rattle.bump_steps.proofs.Applications.{tried_going, alighted_tells}
 use Rattle.bump_heads.proofs.ClassParts.{entered_part}
-use Rattle.bump_heads.proofs.Told.{stands_alone}
-use Rattle.bump_heads.proofs.StepLemmas.{one_life}
+use Rattle.bump_steps.proofs.Told.{stands_alone}
+use Rattle.bump_steps.proofs.StepLemmas.{one_life}
 
 -- what holds of the head found holds of the one that the word spells
 pub of_head : (n : ℕ) (h : Head) (P : Head → Type 0) → Spells n h → Found n P → P h

@@ -12,19 +12,19 @@ use Rattle.bump_rules.proofs.Laws.{bit_some}
 use Rattle.bump_rules.proofs.Updates.{total_push, count_push}
 use Rattle.bump_word.specs.Words.{Spells, word_of}
 use Rattle.bump_word.proofs.Words.{fields, one_head}
-use Rattle.bump_heads.specs.declared.views.Empty.{Empty}
-use Rattle.bump_heads.specs.declared.views.Kind.TheVariants as kind
-use Rattle.bump_heads.specs.declared.views.HoldPart.{HoldPart}
-use Rattle.bump_heads.specs.declared.views.WorkerPart.{WorkerPart}
+use Rattle.bump_steps.specs.declared.views.Empty.{Empty}
+use Rattle.bump_steps.specs.declared.views.Kind.TheVariants as kind
+use Rattle.bump_steps.specs.declared.views.HoldPart.{HoldPart}
+use Rattle.bump_steps.specs.declared.views.WorkerPart.{WorkerPart}
 use Rattle.bump_heads.specs.declared.views.WorkerView.{WorkerView}
-use Rattle.bump_heads.specs.declared.views.View.{View}
-use Rattle.bump_heads.specs.Views.{held, is_life_of, is_fetch_of, weight}
-use Rattle.bump_heads.specs.Plays.{Told, step_of}
+use Rattle.bump_steps.specs.declared.views.View.{View}
+use Rattle.bump_steps.specs.Views.{held, is_life_of, is_fetch_of, weight}
+use Rattle.bump_steps.specs.Plays.{Told, step_of}
 use Rattle.bump_heads.specs.Seats.{worker_in, worker_me, held_life, first, listed}
-use Rattle.bump_heads.specs.Marks.{on_worker, noted, hits_after, fetched_part, trying, attempting, marked_part, done, unmarked_part, changed_by, MayMark}
+use Rattle.bump_steps.specs.Marks.{on_worker, noted, hits_after, fetched_part, trying, attempting, marked_part, done, unmarked_part, changed_by, MayMark}
 use Rattle.bump_heads.specs.Touching.{fetches_of}
-use Rattle.bump_heads.proofs.Marking.{is_its_fetch}
-use Rattle.bump_heads.proofs.StepLemmas.{one_life}
+use Rattle.bump_steps.proofs.Marking.{is_its_fetch}
+use Rattle.bump_steps.proofs.StepLemmas.{one_life}
 
 -- an option is the first of its list
 first_listed : {A : Type 0} (o : Option A) → first (listed o) ≡ o

@@ -4,7 +4,7 @@ use Rattle.std.specs.Prelude.{◌≡◌, ℕ, ◌+◌, ◌<◌, ◌≤◌, Bool,
 use Rattle.bump_rules.specs.declared.items.Head.{Head}
 use Rattle.bump_rules.specs.declared.items.ItemId.{ItemId}
 use Rattle.bump_rules.specs.declared.places.Place.{Place}
-use Rattle.bump_rules.specs.declared.places.Place.TheVariants.{Hot, Warm, Cold, Unused}
+use Rattle.bump_rules.specs.declared.places.Place.TheVariants.{Cold, Unused}
 use Rattle.bump_rules.specs.declared.places.Segment.{Segment}
 use Rattle.bump_rules.specs.declared.places.Segment.TheVariants as segment
 use Rattle.bump_rules.specs.declared.bumps.Bump.{Bump}
@@ -18,14 +18,15 @@ use Rattle.bump_rules.specs.Lives.{life}
 use Rattle.bump_rules.specs.Tables.{may_move}
 use Rattle.bump_rules.specs.Totals.{how_many}
 use Rattle.bump_word.specs.Words.{word_of}
-use Rattle.bump_heads.specs.declared.views.Kind.{Kind}
-use Rattle.bump_heads.specs.declared.views.Kind.TheVariants as kind
-use Rattle.bump_heads.specs.declared.views.ClassPart.{ClassPart}
+use Rattle.bump_steps.specs.declared.views.Kind.{Kind}
+use Rattle.bump_steps.specs.declared.views.Kind.TheVariants as kind
+use Rattle.bump_steps.specs.declared.views.ClassPart.{ClassPart}
 use Rattle.bump_heads.specs.declared.views.ClassView.{ClassView}
-use Rattle.bump_heads.specs.declared.views.HoldPart.{HoldPart}
-use Rattle.bump_heads.specs.declared.views.LanePart.{LanePart}
-use Rattle.bump_heads.specs.Views.{owns, standing, shows_time_only}
-use Rattle.bump_heads.specs.Applications.{is_past_move, cleared_lane, moved_lane, noted_class, moved_class}
+use Rattle.bump_steps.specs.declared.views.HoldPart.{HoldPart}
+use Rattle.bump_steps.specs.declared.views.LanePart.{LanePart}
+use Rattle.bump_steps.specs.Views.{owns, standing, shows_time_only}
+use Rattle.bump_steps.specs.Lives.{IsInSegment}
+use Rattle.bump_steps.specs.Applications.{is_past_move, cleared_lane, moved_lane, noted_class, moved_class}
 use Rattle.bump_heads.specs.Seats.{bump_aboard, listed}
 
 -- ---- the bump aboard
@@ -57,23 +58,16 @@ IsOf c (Some b) = b.life.chunk ≡ c
 
 -- ---- when a step may be made
 
--- the lists of linked items
-abbrev pub IsLinkedIn : Place → Type 0
-IsLinkedIn Hot = Unit {0}
-IsLinkedIn Warm = Unit {0}
-IsLinkedIn Cold = Unit {0}
-IsLinkedIn _ = ⊥
-
 -- ACTIVE of a chunk that stands there may be cleared: for a pull where its item is linked; for the bump aboard once its head was looked
 -- at, in COLD
 abbrev pub MayClear : ℕ → Place → Option LanePart → Type 0
-MayClear c at None = IsLinkedIn at
+MayClear c at None = IsInSegment at
 MayClear c at (Some l) = (at ≡ Cold) × IsOf c (tried l.stage)
 
 -- its time may be stored: for a link where the chunk is in UNUSED; for the bump aboard from the look at its head on, where its item is linked
 abbrev pub MayPutTime : ℕ → Place → Option LanePart → Type 0
 MayPutTime c at None = at ≡ Unused
-MayPutTime c at (Some l) = IsLinkedIn at × IsOf c (applied_now l.stage)
+MayPutTime c at (Some l) = IsInSegment at × IsOf c (applied_now l.stage)
 
 -- it may be moved: by a pull as the tail table has it; for the bump aboard from COLD to WARM, once ACTIVE was found and cleared
 abbrev pub MayShift : ℕ → Segment → Segment → Option LanePart → Type 0

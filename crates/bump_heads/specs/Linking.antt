@@ -5,9 +5,9 @@ use Rattle.bump_rules.specs.declared.items.ItemId.{ItemId}
 use Rattle.bump_rules.specs.declared.places.Place.{Place}
 use Rattle.bump_rules.specs.Heads.{newborn}
 use Rattle.bump_word.specs.Words.{word_of}
-use Rattle.bump_heads.specs.declared.views.ClassPart.{ClassPart}
-use Rattle.bump_heads.specs.Views.{standing}
-use Rattle.bump_heads.specs.Lives.{looked, begun, severed, seen}
+use Rattle.bump_steps.specs.declared.views.ClassPart.{ClassPart}
+use Rattle.bump_steps.specs.Views.{standing}
+use Rattle.bump_steps.specs.Lives.{looked, begun, severed, seen}
 
 -- the place at which the class's history leaves the chunk, and its generation there
 abbrev pub place_of_chunk : ClassPart → ℕ → Place

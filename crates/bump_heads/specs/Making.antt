@@ -2,9 +2,9 @@
 use Rattle.std.specs.Prelude.{◌≡◌, ℕ, ◌+◌, List, [], ◌∷◌, Option, None, Some}
 use Rattle.atomic_table.specs.Seated.{TableId}
 use Rattle.bump_rules.specs.declared.configs.Config.{Config}
-use Rattle.bump_heads.specs.declared.views.WorkerPart.{WorkerPart}
-use Rattle.bump_heads.specs.declared.views.ClassPart.{ClassPart}
-use Rattle.bump_heads.specs.declared.views.LanePart.{LanePart}
+use Rattle.bump_steps.specs.declared.views.WorkerPart.{WorkerPart}
+use Rattle.bump_steps.specs.declared.views.ClassPart.{ClassPart}
+use Rattle.bump_steps.specs.declared.views.LanePart.{LanePart}
 use Rattle.bump_heads.specs.declared.views.ClassView.{ClassView}
 use Rattle.bump_heads.specs.declared.views.WorkerView.{WorkerView}
 use Rattle.bump_heads.specs.Seats.{IsClassPart, IsWorkerPart}
@@ -37,4 +37,4 @@ AreNewWorkers n (w ∷ ws) = (w.worker ≡ n) × IsWorkerPart w × AreNewWorkers
 -- lanes with nothing aboard
 abbrev pub AreEmpty : List LanePart → Type 0
 AreEmpty [] = Unit {0}
-AreEmpty (l ∷ ls) = (Rattle.bump_heads.specs.Views.aboard_of l.stage ≡ None) × AreEmpty ls
+AreEmpty (l ∷ ls) = (Rattle.bump_steps.specs.Views.aboard_of l.stage ≡ None) × AreEmpty ls

@@ -1,30 +1,16 @@
 -- What a call of `ride` comes to, by the heads that it found: the first one by its load, and more by the exchanges that failed, in order.
-use Rattle.std.specs.Prelude.{◌≡◌, ◌≢◌, ℕ, ◌+◌, ◌<◌, ◌≤◌, List, [], ◌∷◌, length, Option, Some, None, Result, Ok, Err}
+use Rattle.std.specs.Prelude.{◌≡◌, ℕ, ◌+◌, ◌≤◌, List, ◌∷◌, length, Option, Some, None, Result, Ok, Err}
 use Rattle.bump_rules.specs.declared.items.Head.{Head}
 use Rattle.bump_rules.specs.declared.items.ItemId.{ItemId}
 use Rattle.bump_rules.specs.declared.hands.Hand.TheVariants as hand
-use Rattle.bump_heads.specs.declared.riding.RideRefusal.{RideRefusal}
-use Rattle.bump_heads.specs.declared.views.Kind.TheVariants as kind
-use Rattle.bump_heads.specs.declared.views.Ride.{Ride}
-use Rattle.bump_heads.specs.declared.views.WorkerPart.{WorkerPart}
+use Rattle.bump_steps.specs.declared.refusals.RideRefusal.{RideRefusal}
+use Rattle.bump_steps.specs.declared.views.Kind.TheVariants as kind
+use Rattle.bump_steps.specs.declared.views.Ride.{Ride}
+use Rattle.bump_steps.specs.declared.views.WorkerPart.{WorkerPart}
 use Rattle.bump_heads.specs.declared.views.WorkerView.{WorkerView}
-use Rattle.bump_heads.specs.Plays.{Sat}
-use Rattle.bump_heads.specs.Taking.{last_found, AreHeads, loads, with_more}
-use Rattle.bump_heads.specs.Rides.{IsHeld, refusal, judged, found_by, reserved, on_worker}
-
--- each of them is of the life that the worker holds
-abbrev pub AreHeld : ℕ → ItemId → Head → List Head → Type 0
-AreHeld limit l h [] = IsHeld limit l h
-AreHeld limit l h (k ∷ more) = IsHeld limit l h × AreHeld limit l k more
-
--- Each of them but the last has room for a reference, so that an exchange was tried; and it failed, since it found another one.
-abbrev pub AreTries : ℕ → Head → List Head → Type 0
-AreTries limit h [] = Unit {0}
-AreTries limit h (k ∷ more) = (h.refs < limit) × (k ≢ h) × AreTries limit k more
-
--- Why the call is refused, if it is: the last step decides, which was the load, or one of the exchanges that failed.
-abbrev pub why_refused : ℕ → Head → List Head → Option RideRefusal
-why_refused limit first more = refusal limit (length more) (last_found first more)
+use Rattle.bump_steps.specs.Tries.{last_found, AreHeads, loads, with_more}
+use Rattle.bump_steps.specs.Rides.{judged, found_by}
+use Rattle.bump_steps.specs.RideTries.{AreHeld, AreTries, why_refused}
 
 -- the reference was taken by an exchange that found this head, and sent off: the bump counts as accepted
 abbrev pub rode_off : ItemId → Head → WorkerPart → WorkerPart
@@ -53,17 +39,3 @@ pub record Rode (limit : ℕ) (l : ItemId) (number : ℕ) (before after : Worker
   -- the worker has these steps more, and what the last of them made of its hand and accounts
   pub worker : after ≡ record before { part = part_after (why_refused limit first more) l (last_found first more) (with_more (loads l.chunk (first ∷ more)) before.part) }
   pub answer : answered ≡ ride_answer (why_refused limit first more) (ride_of before number l)
-
--- The same of a view, before the reference gets a seat of its own.
-
-abbrev pub view_after : Option RideRefusal → ItemId → Head → WorkerPart → WorkerPart
-view_after None l h w = reserved l (found_by kind.Reserve l h w)
-view_after (Some r) l h w = judged (Some r) l w
-
-pub record RodeView (limit : ℕ) (l : ItemId) (before after : Sat) (answered : Option RideRefusal) (first : Head) (more : List Head) : Type 0 where
-  pub heads : AreHeads first more
-  pub held : AreHeld limit l first more
-  pub tries : AreTries limit first more
-  pub most : length more ≤ 8
-  pub view : after ≡ (on_worker (λ w. view_after (why_refused limit first more) l (last_found first more) (with_more (loads l.chunk (first ∷ more)) w)) before.0, before.1)
-  pub answer : answered ≡ why_refused limit first more

@@ -12,17 +12,18 @@ use Rattle.bump_rules.specs.Entries.{is_stray}
 use Rattle.bump_rules.specs.Rings.{IsAccounts}
 use Rattle.bump_rules.specs.History.{AreBetween}
 use Rattle.bump_rules.specs.Labels.{label_of_life}
-use Rattle.bump_heads.specs.Views.{label_of}
-use Rattle.bump_heads.specs.declared.views.Empty.{Empty}
-use Rattle.bump_heads.specs.declared.views.WorkerPart.{WorkerPart}
-use Rattle.bump_heads.specs.declared.views.HoldPart.{HoldPart}
-use Rattle.bump_heads.specs.declared.views.ClassPart.{ClassPart}
-use Rattle.bump_heads.specs.declared.views.LanePart.{LanePart}
+use Rattle.bump_steps.specs.Views.{label_of}
+use Rattle.bump_steps.specs.Riders.{lane_me}
+use Rattle.bump_steps.specs.declared.views.Empty.{Empty}
+use Rattle.bump_steps.specs.declared.views.WorkerPart.{WorkerPart}
+use Rattle.bump_steps.specs.declared.views.HoldPart.{HoldPart}
+use Rattle.bump_steps.specs.declared.views.ClassPart.{ClassPart}
+use Rattle.bump_steps.specs.declared.views.LanePart.{LanePart}
 use Rattle.bump_heads.specs.declared.views.ClassView.{ClassView}
 use Rattle.bump_heads.specs.declared.views.WorkerView.{WorkerView}
-use Rattle.bump_heads.specs.declared.views.View.{View}
-use Rattle.bump_heads.specs.Views.{aboard_of, owns, standing}
-use Rattle.bump_heads.specs.Rule.{blank, worker_part, lane_part}
+use Rattle.bump_steps.specs.declared.views.View.{View}
+use Rattle.bump_steps.specs.Views.{aboard_of, owns, standing}
+use Rattle.bump_steps.specs.Rule.{blank, worker_part, lane_part}
 
 abbrev pub head_or : {A : Type 0} → A → List A → A
 head_or d [] = d
@@ -47,9 +48,6 @@ abbrev pub no_worker : WorkerPart
 no_worker = worker_part 0
 
 -- ---- lanes
-
-abbrev pub lane_me : LanePart → Me Empty View
-lane_me l = (record blank { lanes = l ∷ [] }, [])
 
 abbrev pub lane_in : Option (Seat Empty View) → Option LanePart
 lane_in None = None
@@ -84,9 +82,9 @@ abbrev pub hold_in_view : View → Option HoldPart
 hold_in_view v = first v.holds
 
 -- the part, where it isn't with a worker or a class, is of the life
-abbrev pub IsOf : ItemId → Option HoldPart → Type 0
-IsOf l None = Unit {0}
-IsOf l (Some h) = h.life ≡ l
+abbrev pub IsHoldOf : ItemId → Option HoldPart → Type 0
+IsHoldOf l None = Unit {0}
+IsHoldOf l (Some h) = h.life ≡ l
 
 -- ---- workers
 

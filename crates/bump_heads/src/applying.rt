@@ -1,20 +1,20 @@
 //! The steps under a class's lock that change no list but by a move: those of a link or a pull, and those of an application, for which a
 //! lane's seat joins the class's, which makes the steps, and is split off again.
-ghost use Rattle.std.specs.Prelude.{ℕ, ◌≡◌, None, Some, IsSome, IfSome, option_map, true};
+ghost use Rattle.std.specs.Prelude.{◌≡◌, None, Some, IsSome, IfSome, option_map, true};
 ghost use Rattle.bump_rules.specs.declared.bumps.Bump.{Bump as TheBump};
 ghost use Rattle.bump_rules.specs.History.{place_of};
 ghost use Rattle.bump_rules.specs.Lawful.{Shows};
 ghost use Rattle.bump_word.specs.Words.{word_of, Fits};
-ghost use Rattle.bump_heads.specs.declared.views.LanePart.{LanePart as TheLanePart};
-ghost use Rattle.bump_heads.specs.Views.{aboard_of, owns, standing};
-ghost use Rattle.bump_heads.specs.Applications.{alighted_lane, tried_lane};
+ghost use Rattle.bump_steps.specs.declared.views.LanePart.{LanePart as TheLanePart};
+ghost use Rattle.bump_steps.specs.Views.{aboard_of, owns, standing};
+ghost use Rattle.bump_steps.specs.Applications.{alighted_lane, tried_lane};
 ghost use Rattle.bump_heads.specs.Seats.{bump_aboard};
 ghost use Rattle.bump_heads.specs.Applying.{carried_by, life_aboard, MayClear, MayPutTime, MayShift, IsShown, Ends, cleared_class, timed_class, shifted_class, Seen, NamesNoBumpTwice, TellsMoves};
 
-use crate::decoding::head_of;
 use crate::names::Name;
 use crate::seats::{ClassSeat, LaneSeat};
 use bump_rules::{Head, Outcome, Segment};
+use bump_steps::head_of;
 
 impl<N: Name> ClassSeat<N> {
     /// Joins the lane's seat, and looks at the head of the item of the bump that it carries: the first step of memcached's

@@ -1,11 +1,11 @@
 //! The head words of a named store.
 ghost use Rattle.std.specs.Prelude.{◌≡◌, ◌*◌, ◌<◌};
 ghost use Rattle.bump_rules.specs.declared.configs.Config.{Config as TheConfig};
-ghost use Rattle.bump_heads.specs.Rule.{chunks as all_chunks};
-ghost use Rattle.bump_heads.specs.Words.{words_id};
+ghost use Rattle.bump_steps.specs.Rule.{chunks as all_chunks};
+ghost use Rattle.bump_steps.specs.Words.{words_id};
 
 use crate::names::Name;
-use crate::words::Words;
+use bump_steps::Words;
 use std::marker::{Model, PhantomData};
 
 /// The words of all chunks of a store: head, time and label. All threads share them, and seats alone change them.

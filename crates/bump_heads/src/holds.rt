@@ -1,11 +1,11 @@
 //! Holds: references that readers have.
 ghost use Rattle.std.specs.Prelude.{◌≡◌, ◌*◌, ◌<◌, ◌+◌};
 ghost use Rattle.bump_heads.specs.declared.views.HoldView.{HoldView as TheHoldView};
-ghost use Rattle.bump_heads.specs.Seats.{IsOf, hold_in_view, hold_me};
+ghost use Rattle.bump_heads.specs.Seats.{IsHoldOf, hold_in_view, hold_me};
 
 use crate::names::Name;
-use crate::words::Seat;
 use bump_rules::ItemId;
+use bump_steps::Seat;
 use std::marker::{Model, PhantomData};
 
 /// A reference to a life, which a reader has. While there is one, the chunk isn't free and keeps the life's generation. It may go to
@@ -22,7 +22,7 @@ impl<N: Name> Model for Hold<N> {
 
     ghost view = { λ h. record { life = h.life; part = hold_in_view h.seat.me.0 } };
 
-    ghost invariant = { λ h. (h.seat.me ≡ hold_me (hold_in_view h.seat.me.0)) × (h.seat.table_id ≡ N.table) × IsOf h.life (hold_in_view h.seat.me.0) × (3 * h.life.chunk + 2 < N.table.words) };
+    ghost invariant = { λ h. (h.seat.me ≡ hold_me (hold_in_view h.seat.me.0)) × (h.seat.table_id ≡ N.table) × IsHoldOf h.life (hold_in_view h.seat.me.0) × (3 * h.life.chunk + 2 < N.table.words) };
 }
 
 impl<N: Name> Hold<N> {

@@ -2,7 +2,6 @@
 #![tactic(auto)]
 
 mod applying;
-mod decoding;
 mod heads;
 mod holds;
 mod linking;
@@ -11,27 +10,22 @@ mod meeting;
 mod names;
 mod riders;
 mod riding;
-mod rule;
 mod seats;
-mod steps;
 mod taking;
 mod touching;
 mod views;
-mod words;
 
+pub use bump_steps::{
+    ClassPart, Empty, HoldPart, Kind, LanePart, OwnStep, Ride, RideRefusal, Rule, TakeRefusal,
+    View, WorkerPart,
+};
 pub use heads::Heads;
 pub use holds::Hold;
 pub use making::{Blank, HeadParts};
 pub use names::Name;
 pub use riders::Rider;
-pub use riding::RideRefusal;
-pub use rule::Rule;
 pub use seats::{ClassSeat, LaneSeat, WorkerSeat};
-pub use taking::TakeRefusal;
-pub use views::{
-    ClassPart, ClassView, Empty, HoldPart, HoldView, Kind, LanePart, OwnStep, Ride, View,
-    WorkerPart, WorkerView,
-};
+pub use views::{ClassView, HoldView, WorkerView};
 
 #[cfg(test)]
 mod tests;

@@ -3,14 +3,14 @@ ghost use Rattle.std.specs.Prelude.{◌≡◌, ◌+◌, ◌*◌, ◌<◌, ◌≤
 ghost use Rattle.bump_rules.specs.declared.places.Place.TheVariants.{Dying, Unused};
 ghost use Rattle.bump_rules.specs.Lawful.{bit, Shows};
 ghost use Rattle.bump_rules.specs.Lives.{life};
-ghost use Rattle.bump_heads.specs.Views.{owns};
-ghost use Rattle.bump_heads.specs.Lives.{labelled, IsInSegment};
+ghost use Rattle.bump_steps.specs.Views.{owns};
+ghost use Rattle.bump_steps.specs.Lives.{labelled, IsInSegment};
 ghost use Rattle.bump_heads.specs.Linking.{place_of_chunk, generation_of_chunk, with_look, with_life, without_life, with_sight};
 
-use crate::decoding::head_of;
 use crate::names::Name;
 use crate::seats::ClassSeat;
 use bump_rules::{Head, ItemId};
+use bump_steps::head_of;
 
 impl<N: Name> ClassSeat<N> {
     /// Looks at the head of a chunk of the class, by one load. It agrees with the list in which the class has the chunk: in HOT, WARM

@@ -1,16 +1,15 @@
 //! A table whose chunks had no life yet, and the seats of its classes, workers and lanes.
-ghost use Rattle.std.specs.Prelude.{ℕ, ◌≡◌, ◌≤◌, ◌<◌, ◌-◌, ◌*◌, ◌+◌, [], ◌∷◌, IfOk, None, Some, length, map};
+ghost use Rattle.std.specs.Prelude.{◌≡◌, ◌≤◌, ◌<◌, ◌-◌, ◌*◌, ◌+◌, [], ◌∷◌, IfOk, None, Some, length, map};
 ghost use Rattle.std.specs.Arc.{arc_value};
-ghost use Rattle.bump_heads.specs.Rule.{AreFresh, opened, chunks as all_chunks, class_parts, worker_parts, lane_parts, blank};
-ghost use Rattle.bump_heads.specs.Words.{words_id};
+ghost use Rattle.bump_steps.specs.Rule.{opened, chunks as all_chunks, class_parts, worker_parts, lane_parts, blank};
+ghost use Rattle.bump_steps.specs.Words.{words_id};
 ghost use Rattle.bump_heads.specs.Making.{BlankView as TheBlankView, class_seen, lane_seen, worker_seen, AreNewClasses, AreNewWorkers, AreEmpty};
 
 use crate::heads::Heads;
 use crate::names::Name;
 use crate::seats::{ClassSeat, LaneSeat, WorkerSeat};
-use crate::words::{Seat, Words};
-use atomic_table::Table;
 use bump_rules::Config;
+use bump_steps::{Seat, Words};
 use std::alloc::{AllocError, Global};
 use std::marker::{Model, PhantomData};
 use std::sync::Arc;
@@ -40,32 +39,15 @@ pub struct HeadParts<N: Name> {
     pub lanes: Vec<LaneSeat<N>>,
 }
 
-fn fresh_words(alloc: Global, chunks: u32, first: u32) -> Result<Vec<u64>, AllocError>
-    requires { (chunks ≤ 1000000) × (0 < first) }
-    ensures words { IfOk result (λ v. AreFresh chunks (first - 1) v.items) }
-    ensures fits { first < 4294967296 }
-{
-    let mut words = Vec::with_capacity(alloc, 3 * chunks as usize)?;
-    let word = u64::from(first - 1) * 4_294_967_296;
-    for chunk in 0..chunks {
-        words.push(word)?;
-        words.push(0)?;
-        words.push(0)?;
-    }
-    Ok(words)
-}
-
 impl Blank {
     /// A table whose chunks had no life yet.
     pub fn new(alloc: Global, config: &Config) -> Result<Blank, AllocError>
         ensures config { IfOk result (λ b. b.config ≡ config.now) }
     {
-        let chunks = config.chunks();
-        let words = fresh_words(alloc, chunks, config.first_generation)?;
-        let (table, seat) = Table::of_words(alloc, &words, config)?;
+        let (words, seat) = Words::fresh(alloc, config)?;
         Ok(Blank {
-            words: Words { table },
-            chunks,
+            words,
+            chunks: config.chunks(),
             seat,
         })
     }

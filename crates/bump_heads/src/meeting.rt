@@ -3,7 +3,7 @@ ghost use Rattle.std.specs.Prelude.{◌≡◌, Some, IsSome, true};
 ghost use Rattle.bump_rules.specs.Labels.{label_of_life};
 ghost use Rattle.bump_rules.specs.Lawful.{IsUsed};
 ghost use Rattle.bump_rules.specs.Totals.{total};
-ghost use Rattle.bump_heads.specs.Views.{owns, standing, label_of, differs};
+ghost use Rattle.bump_steps.specs.Views.{owns, standing, label_of, differs};
 ghost use Rattle.bump_heads.specs.Applying.{labels_in};
 
 use crate::holds::Hold;

@@ -1,15 +1,14 @@
 //! Bumps' references that travel, and how they board a lane.
-ghost use Rattle.std.specs.Prelude.{◌≡◌, ◌*◌, ◌<◌, ◌+◌, [], ◌∷◌, None, Some, IsSome, length, option_map};
-ghost use Rattle.bump_heads.specs.declared.views.Ride.{Ride as TheRide};
+ghost use Rattle.std.specs.Prelude.{◌≡◌, ◌*◌, ◌<◌, ◌+◌, [], ◌∷◌, Some, IsSome, length, option_map};
+ghost use Rattle.bump_steps.specs.declared.views.Ride.{Ride as TheRide};
 ghost use Rattle.bump_rules.specs.declared.lanes.Lane.TheVariants.{Empty as IsEmpty};
-ghost use Rattle.bump_heads.specs.Riders.{ride_me, boarded, bump_of, applied_by};
+ghost use Rattle.bump_steps.specs.Riders.{ride_me, boarded, bump_of, applied_by};
 ghost use Rattle.bump_heads.specs.Applying.{stage_of, worker_of};
 
 use crate::names::Name;
 use crate::seats::LaneSeat;
-use crate::views::Ride;
-use crate::words::Seat;
 use bump_rules::{Bump, ItemId};
+use bump_steps::{Ride, Seat};
 use std::marker::{Model, PhantomData};
 
 /// A reference that travels as a bump. Where it is dropped its chunk stays held.

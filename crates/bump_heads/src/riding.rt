@@ -2,32 +2,18 @@
 ghost use Rattle.std.specs.Prelude.{◌≡◌, ◌<◌, ◌≤◌, Some, List, IfOk, OnOk, OnErr};
 ghost use Rattle.bump_rules.specs.declared.hands.Hand.TheVariants.{Idle, Trying, InHand, Clearing};
 ghost use Rattle.bump_rules.specs.declared.items.Head.{Head as TheHead};
-ghost use Rattle.bump_heads.specs.declared.views.HoldPart.{HoldPart as TheHoldPart};
-ghost use Rattle.bump_heads.specs.declared.views.Kind.TheVariants.{Release};
-ghost use Rattle.bump_heads.specs.Rides.{found_by, dropped_full, returned};
+ghost use Rattle.bump_steps.specs.declared.views.HoldPart.{HoldPart as TheHoldPart};
+ghost use Rattle.bump_steps.specs.declared.views.Kind.TheVariants.{Release};
+ghost use Rattle.bump_steps.specs.Rides.{found_by, dropped_full, returned};
 ghost use Rattle.bump_heads.specs.Riding.{Rode, ride_of};
 
-use crate::decoding::head_of;
 use crate::heads::Heads;
 use crate::names::Name;
 use crate::riders::Rider;
 use crate::seats::WorkerSeat;
-use crate::views::Ride;
 use bump_rules::{Head, ItemId};
+use bump_steps::{Ride, RideRefusal, head_of};
 use std::marker::PhantomData;
-use thiserror::Error;
-
-/// Why `ride` gave no rider: the bump is dropped.
-#[derive(Error, Debug, PartialEq, Eq, Clone, Copy)]
-pub enum RideRefusal {
-    /// The chunk's reference count is at its limit.
-    #[error("the item has as many references as it may have")]
-    RefsFull,
-
-    /// Eight exchanges failed, since other threads changed the word before each of them.
-    #[error("other threads changed the item again and again")]
-    Busy,
-}
 
 impl<N: Name> Heads<N> {
     /// Takes the reference of a bump, and sends it off as a rider, as memcached's `lru_bump_async`, which counts the item's reference up

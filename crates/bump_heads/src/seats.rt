@@ -1,14 +1,14 @@
 //! The seats of workers, classes and lanes of a named store. Contracts see plain data.
-ghost use Rattle.std.specs.Prelude.{◌≡◌, ◌*◌, ◌<◌, ◌+◌, [], ◌∷◌, None, Some, Option as TheOption, is_some};
+ghost use Rattle.std.specs.Prelude.{◌≡◌, ◌*◌, ◌<◌, ◌+◌, [], ◌∷◌, None, Option as TheOption, is_some};
 ghost use Rattle.bump_heads.specs.declared.views.ClassView.{ClassView as TheClassView};
-ghost use Rattle.bump_heads.specs.declared.views.LanePart.{LanePart as TheLanePart};
+ghost use Rattle.bump_steps.specs.declared.views.LanePart.{LanePart as TheLanePart};
 ghost use Rattle.bump_heads.specs.declared.views.WorkerView.{WorkerView as TheWorkerView};
 ghost use Rattle.bump_heads.specs.Seats.{IsLane, lane_in, class_in, class_me, worker_in, worker_me, bump_aboard, held_life, IsInRange, IsLifeInRange, IsWorkerPart, IsClassPart};
 
 use crate::heads::Heads;
 use crate::names::Name;
-use crate::words::Seat;
 use bump_rules::Bump;
+use bump_steps::Seat;
 use std::alloc::Global;
 use std::marker::{Model, PhantomData};
 use std::sync::Arc;

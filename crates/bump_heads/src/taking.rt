@@ -2,50 +2,19 @@
 ghost use Rattle.std.specs.Prelude.{◌≡◌, ◌<◌, ◌≤◌, IfOk, IsSome, None, List};
 ghost use Rattle.bump_rules.specs.declared.items.Head.{Head as TheHead};
 ghost use Rattle.bump_rules.specs.Lawful.{bit};
-ghost use Rattle.bump_rules.specs.Tables.{get_of};
 ghost use Rattle.bump_rules.specs.Totals.{total};
 ghost use Rattle.bump_heads.specs.Applying.{labels_in};
-ghost use Rattle.bump_heads.specs.Rule.{chunks as all_chunks};
-ghost use Rattle.bump_heads.specs.Taking.{Took, refused_by, reads, whole_hold};
-ghost use Rattle.bump_heads.specs.Views.{differs};
+ghost use Rattle.bump_steps.specs.Rule.{chunks as all_chunks};
+ghost use Rattle.bump_heads.specs.Taking.{Took, reads, whole_hold};
+ghost use Rattle.bump_steps.specs.Views.{differs};
 
-use crate::decoding::head_of;
 use crate::heads::Heads;
 use crate::holds::Hold;
 use crate::names::Name;
 use crate::seats::WorkerSeat;
 use bump_rules::{Head, ItemId};
+use bump_steps::{TakeRefusal, head_of};
 use std::marker::PhantomData;
-use thiserror::Error;
-
-/// Why `take` gave no hold.
-#[derive(Error, Debug, PartialEq, Eq, Clone, Copy)]
-pub enum TakeRefusal {
-    /// The chunk isn't linked, or has another generation: the life is over, or has not begun.
-    #[error("the item is not linked")]
-    Stale,
-
-    /// The chunk's reference count is at its limit.
-    #[error("the item has as many references as it may have")]
-    RefsFull,
-
-    /// Eight exchanges failed, since other threads changed the word before each of them.
-    #[error("other threads changed the item again and again")]
-    Busy,
-}
-
-// Why a get of the life is refused where this head is found, if it is: Stale comes before RefsFull.
-pub(crate) fn refusal(head: Head, life: ItemId, limit: u32) -> Option<TakeRefusal>
-    ensures { result ≡ refused_by (get_of limit life.generation head) }
-{
-    if !head.linked || head.generation != life.generation {
-        return Some(TakeRefusal::Stale);
-    }
-    if head.refs >= limit {
-        return Some(TakeRefusal::RefsFull);
-    }
-    None
-}
 
 impl<N: Name> Hold<N> {
     // Only a hold whose reference was given back may go.

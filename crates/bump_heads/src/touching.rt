@@ -4,17 +4,17 @@ ghost use Rattle.bump_rules.specs.declared.hands.Hand.TheVariants as hand;
 ghost use Rattle.bump_rules.specs.Lives.{count_of};
 ghost use Rattle.bump_rules.specs.Rings.{most_attempts};
 ghost use Rattle.bump_rules.specs.Tables.{is_cold};
-ghost use Rattle.bump_heads.specs.declared.views.HoldPart.{HoldPart as TheHoldPart};
+ghost use Rattle.bump_steps.specs.declared.views.HoldPart.{HoldPart as TheHoldPart};
 ghost use Rattle.bump_heads.specs.Seats.{held_life};
-ghost use Rattle.bump_heads.specs.Marks.{fetched_part, marked_part, unmarked_part, timed_part};
+ghost use Rattle.bump_steps.specs.Marks.{fetched_part, marked_part, unmarked_part, timed_part};
 ghost use Rattle.bump_heads.specs.Touching.{fetches_of};
 
-use crate::decoding::head_of;
 use crate::heads::Heads;
 use crate::holds::Hold;
 use crate::names::Name;
 use crate::seats::WorkerSeat;
 use bump_rules::{Head, ItemId};
+use bump_steps::head_of;
 
 impl<N: Name> Heads<N> {
     /// Joins the hold to the worker's seat, for a touch: the worker must be Idle and have no other hold. From then on the worker makes

@@ -1,6 +1,6 @@
 //! A store of which no chunk had a life.
 ghost use Rattle.std.specs.Prelude.{◌≡◌, None, [], ◌∷◌};
-ghost use Rattle.bump_heads.specs.Rule.{chunks as all_chunks};
+ghost use Rattle.bump_steps.specs.Rule.{chunks as all_chunks};
 
 use super::stores::{Small, config_of, head, open, refusal};
 use super::*;

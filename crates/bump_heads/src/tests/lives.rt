@@ -2,7 +2,7 @@
 ghost use Rattle.std.specs.Prelude.{◌≡◌, ◌<◌, None, [], ◌∷◌};
 ghost use Rattle.bump_rules.specs.declared.hands.Hand.TheVariants.{Idle};
 ghost use Rattle.bump_heads.specs.Making.{worker_seen};
-ghost use Rattle.bump_heads.specs.Rule.{no_accounts, worker_part, chunks as all_chunks};
+ghost use Rattle.bump_steps.specs.Rule.{no_accounts, worker_part, chunks as all_chunks};
 ghost use Rattle.bump_heads.specs.Taking.{whole_hold};
 
 use super::stores::{Small, config_of, head, let_out, open, refusal};

@@ -1,6 +1,6 @@
 //! Why a worker gets no hold and no rider, where no other thread is at work.
 ghost use Rattle.std.specs.Prelude.{◌≡◌, None, [], ◌∷◌};
-ghost use Rattle.bump_heads.specs.Rule.{chunks as all_chunks};
+ghost use Rattle.bump_steps.specs.Rule.{chunks as all_chunks};
 
 use super::stores::{Small, config_of, open, refusal};
 use super::*;

@@ -1,6 +1,6 @@
 //! Chunks that had no life yet: what is seen of them, and that no item is taken.
 ghost use Rattle.std.specs.Prelude.{◌≡◌, ◌<◌, None, IfSome, [], ◌∷◌};
-ghost use Rattle.bump_heads.specs.Rule.{chunks as all_chunks};
+ghost use Rattle.bump_steps.specs.Rule.{chunks as all_chunks};
 
 use super::*;
 use bump_rules::{ClassConfig, Config, Head, ItemId, Segment};

@@ -1,5 +1,5 @@
 use Rattle.std.proofs.Common.{ap, ◌∙◌, List, Option, ◌++◌, map}
-use Rattle.bump_heads.specs.declared.views.LanePart.{LanePart}
+use Rattle.bump_steps.specs.declared.views.LanePart.{LanePart}
 use Rattle.bump_heads.specs.Making.{lane_seen}
 use Rattle.bump_heads.proofs.Makings.{lane_turn}
 use Rattle.bump_heads.proofs.making.part_lanes.Goals as goal

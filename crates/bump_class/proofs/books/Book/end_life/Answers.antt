@@ -3,7 +3,7 @@ use Rattle.bump_rules.specs.declared.history.Change.TheVariants as change
 use Rattle.bump_rules.specs.History.{Standing}
 use Rattle.bump_rules.specs.Lives.{life}
 use Rattle.bump_heads.specs.Linking.{place_of_chunk, generation_of_chunk}
-use Rattle.bump_heads.specs.Views.{standing}
+use Rattle.bump_steps.specs.Views.{standing}
 use Rattle.bump_class.specs.Books.{BookView}
 use Rattle.bump_class.specs.Changes.{seen_book}
 use Rattle.bump_class.proofs.Keeping.{stands_after}

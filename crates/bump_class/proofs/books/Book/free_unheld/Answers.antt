@@ -3,11 +3,11 @@ use Rattle.bump_rules.specs.declared.items.ItemId.{ItemId}
 use Rattle.bump_rules.specs.History.{subject, target, freed_change}
 use Rattle.bump_rules.specs.Lives.{life}
 use Rattle.bump_word.specs.Words.{word_of}
-use Rattle.bump_heads.specs.declared.views.ClassPart.{ClassPart}
-use Rattle.bump_heads.specs.Applications.{life_in}
+use Rattle.bump_steps.specs.declared.views.ClassPart.{ClassPart}
+use Rattle.bump_steps.specs.Applications.{life_in}
 use Rattle.bump_rules.specs.Lists.{to_front}
-use Rattle.bump_heads.specs.Lives.{seen}
-use Rattle.bump_heads.specs.Views.{owns}
+use Rattle.bump_steps.specs.Lives.{seen}
+use Rattle.bump_steps.specs.Views.{owns}
 use Rattle.bump_class.specs.Books.{BookView}
 use Rattle.bump_class.proofs.Keeping.{entered, listed, freed_subject, freed_fair, seen_free}
 use Rattle.bump_class.proofs.books.Book.free_unheld.Goals as goal

@@ -3,7 +3,7 @@ use Rattle.bump_rules.specs.declared.history.Change.TheVariants as change
 use Rattle.bump_rules.specs.declared.items.ItemId.{ItemId}
 use Rattle.bump_rules.specs.declared.places.Place.TheVariants.{Hot}
 use Rattle.bump_rules.specs.Lists.{to_front}
-use Rattle.bump_heads.specs.Views.{owns}
+use Rattle.bump_steps.specs.Views.{owns}
 use Rattle.bump_class.specs.Books.{BookView}
 use Rattle.bump_class.proofs.Keeping.{entered}
 use Rattle.bump_class.proofs.books.Book.link.Goals as goal

@@ -2,9 +2,9 @@ use Rattle.std.proofs.Common.{◌≡◌, true, refl, sym, ap, subst, ◌∙◌}
 use Rattle.bump_rules.specs.declared.history.Change.TheVariants as change
 use Rattle.bump_rules.specs.declared.history.Cause.TheVariants as cause
 use Rattle.bump_rules.specs.Lists.{to_front}
-use Rattle.bump_heads.specs.Applications.{life_in}
+use Rattle.bump_steps.specs.Applications.{life_in}
 use Rattle.bump_heads.specs.Applying.{shifted_class}
-use Rattle.bump_heads.specs.Views.{owns}
+use Rattle.bump_steps.specs.Views.{owns}
 use Rattle.bump_class.specs.Books.{BookView}
 use Rattle.bump_class.proofs.Keeping.{entered, listed, shifted_alone}
 use Rattle.bump_class.proofs.books.Book.shift.Goals as goal

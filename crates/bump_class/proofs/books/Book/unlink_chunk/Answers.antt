@@ -1,7 +1,7 @@
 use Rattle.std.proofs.Common.{◌≡◌, true, refl, sym, subst}
 use Rattle.bump_rules.specs.declared.history.Change.TheVariants as change
 use Rattle.bump_rules.specs.Lives.{life}
-use Rattle.bump_heads.specs.Views.{owns, standing}
+use Rattle.bump_steps.specs.Views.{owns, standing}
 use Rattle.bump_class.specs.Books.{BookView}
 use Rattle.bump_class.proofs.Keeping.{entered, listed}
 use Rattle.bump_class.proofs.books.Book.unlink_chunk.Goals as goal

@@ -1,6 +1,6 @@
 use Rattle.std.proofs.Common.{◌^◌}
 use Rattle.bump_heads.specs.Seats.{worker_in}
-use Rattle.bump_heads.specs.Marks.{marked_part}
+use Rattle.bump_steps.specs.Marks.{marked_part}
 use Rattle.bump_heads.proofs.Touches.{touched, worker_seen, may_mark, tries_after}
 use Rattle.bump_heads.proofs.heads.Heads.mark_active.Goals as goal
 

@@ -1,6 +1,6 @@
 use Rattle.std.proofs.Common.{◌^◌}
 use Rattle.bump_heads.specs.Seats.{worker_in}
-use Rattle.bump_heads.specs.Marks.{fetched_part}
+use Rattle.bump_steps.specs.Marks.{fetched_part}
 use Rattle.bump_heads.proofs.Touches.{touched, worker_seen, first_hit, named_hit, once_after, noted_after}
 use Rattle.bump_heads.proofs.heads.Heads.mark_fetched.Goals as goal
 

@@ -1,9 +1,9 @@
 use Rattle.std.proofs.Common.{arith, ◌-◌, ◌*◌, ap, sym, ◌∙◌, subst, length, []}
-use Rattle.bump_heads.specs.Plays.{Sat}
+use Rattle.bump_steps.specs.Plays.{Sat}
 use Rattle.bump_rules.specs.declared.configs.Config.{Config}
 use Rattle.atomic_table.specs.Seated.{TableId}
 use Rattle.bump_rules.specs.Configs.{chunks_of}
-use Rattle.bump_heads.specs.Rule.{opened}
+use Rattle.bump_steps.specs.Rule.{opened}
 use Rattle.bump_heads.specs.Making.{BlankView, AreNewClasses, AreNewWorkers, AreEmpty}
 use Rattle.bump_heads.proofs.Makings.{length_classes, new_classes, new_workers, length_workers, length_lanes, empty_lanes}
 use Rattle.bump_heads.proofs.heads.Heads.new.Goals as goal

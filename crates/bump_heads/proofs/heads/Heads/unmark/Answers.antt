@@ -1,6 +1,6 @@
 use Rattle.std.proofs.Common.{◌-◌, ◌^◌}
 use Rattle.bump_heads.specs.Seats.{worker_in}
-use Rattle.bump_heads.specs.Marks.{unmarked_part}
+use Rattle.bump_steps.specs.Marks.{unmarked_part}
 use Rattle.bump_heads.proofs.Touches.{touched, idle_after}
 use Rattle.bump_heads.proofs.heads.Heads.unmark.Goals as goal
 

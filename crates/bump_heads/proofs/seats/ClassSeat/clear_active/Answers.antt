@@ -1,6 +1,6 @@
 use Rattle.bump_heads.proofs.Seeing.{told_as, own_told, life_told, clear_chunk}
 use Rattle.bump_heads.specs.Seats.{class_in}
-use Rattle.bump_heads.specs.Views.{standing}
+use Rattle.bump_steps.specs.Views.{standing}
 use Rattle.bump_heads.proofs.seats.ClassSeat.clear_active.Goals as goal
 
 pub returns-clause-shows : goal.returns-clause-shows

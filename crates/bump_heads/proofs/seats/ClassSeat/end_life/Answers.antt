@@ -1,9 +1,9 @@
 use Rattle.std.proofs.Common.{◌≤◌, refl, ap, ◌∙◌, arith}
 use Rattle.bump_rules.specs.Lawful.{bit}
-use Rattle.bump_heads.specs.Plays.{Told}
-use Rattle.bump_heads.specs.Views.{standing}
-use Rattle.bump_heads.specs.Lives.{severed}
-use Rattle.bump_heads.proofs.Entering.{linked_in_segment}
+use Rattle.bump_steps.specs.Plays.{Told}
+use Rattle.bump_steps.specs.Views.{standing}
+use Rattle.bump_steps.specs.Lives.{severed}
+use Rattle.bump_steps.proofs.Entering.{linked_in_segment}
 use Rattle.bump_heads.proofs.ClassLives.{keeps_severed}
 use Rattle.bump_heads.proofs.ClassSeats.{seat_kept, found_is, agrees}
 use Rattle.bump_heads.proofs.seats.ClassSeat.end_life.Goals as goal

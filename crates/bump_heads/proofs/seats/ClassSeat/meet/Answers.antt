@@ -1,7 +1,7 @@
 use Rattle.std.proofs.Common.{◌∙◌, subst, ap}
-use Rattle.bump_heads.specs.Plays.{Sat}
-use Rattle.bump_heads.specs.Meetings.{Meets}
-use Rattle.bump_heads.specs.Cuts.{joined}
+use Rattle.bump_steps.specs.Plays.{Sat}
+use Rattle.bump_steps.specs.Meetings.{Meets}
+use Rattle.bump_steps.specs.Cuts.{joined}
 use Rattle.bump_heads.specs.Seats.{class_in}
 use Rattle.bump_heads.proofs.Meetings.{met_view}
 use Rattle.bump_heads.proofs.seats.ClassSeat.meet.Goals as goal

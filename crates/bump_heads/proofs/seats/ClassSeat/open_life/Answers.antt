@@ -4,7 +4,7 @@ use Rattle.bump_rules.specs.Heads.{newborn}
 use Rattle.bump_rules.specs.Lawful.{Shows}
 use Rattle.bump_rules.specs.Lives.{life}
 use Rattle.bump_word.specs.Words.{word_of}
-use Rattle.bump_heads.specs.Lives.{begun}
+use Rattle.bump_steps.specs.Lives.{begun}
 use Rattle.bump_heads.specs.Seats.{class_me, IsClassPart}
 use Rattle.bump_heads.proofs.ClassLives.{keeps_begun}
 use Rattle.bump_heads.proofs.ClassSeats.{seat_kept, finds, alone_is, after_look}

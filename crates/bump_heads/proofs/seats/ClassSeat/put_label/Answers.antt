@@ -1,5 +1,5 @@
 use Rattle.std.proofs.Common.{refl, ◌∙◌}
-use Rattle.bump_heads.specs.Lives.{labelled}
+use Rattle.bump_steps.specs.Lives.{labelled}
 use Rattle.bump_heads.proofs.ClassLives.{keeps_labelled}
 use Rattle.bump_heads.proofs.ClassSeats.{seat_kept}
 use Rattle.bump_heads.proofs.seats.ClassSeat.put_label.Goals as goal

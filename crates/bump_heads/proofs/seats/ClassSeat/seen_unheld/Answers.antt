@@ -1,7 +1,7 @@
 use Rattle.std.proofs.Common.{◌%◌, ◌∙◌, subst}
 use Rattle.bump_rules.specs.declared.places.Place.{Place}
 use Rattle.bump_rules.specs.Lawful.{Shows}
-use Rattle.bump_heads.specs.Lives.{seen}
+use Rattle.bump_steps.specs.Lives.{seen}
 use Rattle.bump_heads.proofs.ClassLives.{keeps_seen, class_seen}
 use Rattle.bump_heads.proofs.ClassSeats.{seat_kept, finds}
 use Rattle.bump_heads.proofs.seats.ClassSeat.seen_unheld.Goals as goal

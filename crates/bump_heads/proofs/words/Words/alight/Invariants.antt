@@ -1,4 +1,0 @@
-use Rattle.bump_heads.proofs.words.Words.alight.Given as goal
-
-abbrev pub ghosts-alight_by : goal.ghosts-alight_by
-ghosts-alight_by a = record { outcome = a.outcome }

@@ -1,0 +1,484 @@
+-- Steps of an application: whatever the other seats have, a class's seat with a lane joined to it can go on.
+use Rattle.std.proofs.Common.{◌≡◌, ℕ, ◌+◌, ◌-◌, ◌*◌, ◌%◌, ◌^◌, ◌<◌, ◌≤◌, ◌≢◌, ◌&&◌, ◌==◌, eqb, cond, not, Bool, true, false, List, [], ◌∷◌, ◌++◌, Option, Some, None, refl, sym, ap, ap₂, ◌∙◌, subst, arith, eq-eqb, ne_eqb, eqb-true, bit_xor, bit_and}
+use mathlib.Core.Bool.{false≢true}
+use mathlib.Core.Option.{none}
+use Rattle.atomic_table.specs.Table.{step, Allows}
+use Rattle.bump_rules.specs.declared.places.Segment.TheVariants.{Warm, Cold}
+use Rattle.bump_rules.specs.declared.items.ItemId.{ItemId}
+use Rattle.bump_rules.specs.declared.places.Place.TheVariants.{Unused}
+use Rattle.bump_rules.specs.declared.history.Cause.TheVariants as cause
+use Rattle.bump_rules.specs.declared.history.Change.TheVariants as change
+use Rattle.bump_rules.specs.declared.configs.Config.{Config}
+use Rattle.bump_rules.specs.declared.bumps.Bump.{Bump}
+use Rattle.bump_rules.specs.declared.lanes.Lane.{Lane}
+use Rattle.bump_rules.specs.declared.lanes.Lane.TheVariants as lane
+use Rattle.bump_rules.specs.declared.bumps.AppliedBump.{AppliedBump}
+use Rattle.bump_rules.specs.declared.bumps.Outcome.{Outcome}
+use Rattle.bump_rules.specs.declared.bumps.Outcome.TheVariants as outcome
+use Rattle.bump_rules.specs.Lawful.{bit, Shows, Lawful}
+use Rattle.bump_rules.specs.Totals.{total}
+use Rattle.bump_rules.specs.History.{Standing, is_standing}
+use Rattle.bump_rules.proofs.Laws.{unreferred, marked, moved, in_segment}
+use Rattle.bump_word.specs.Words.{Spells, segment_change}
+use Rattle.bump_word.proofs.Steps.{one_less, clear_active, change_segment}
+use Rattle.bump_steps.specs.declared.views.Empty.{Empty}
+use Rattle.bump_steps.specs.declared.views.Kind.TheVariants as kind
+use Rattle.bump_steps.specs.declared.views.OwnStep.{OwnStep}
+use Rattle.bump_steps.specs.declared.views.ClassPart.{ClassPart}
+use Rattle.bump_steps.specs.declared.views.LanePart.{LanePart}
+use Rattle.bump_steps.specs.declared.views.View.{View}
+use Rattle.bump_steps.specs.Views.{refers, aboard_of, Measure, held, named, saw, owners, strays, mislabels, misreads, owns, standing, label_of, weight, evidence, shown_by, claims, claimed_in, settled_in, is_entry, outcome_number, Query, in_order, untidy_in, shows_time_only, active_clear, IsBacked}
+use Rattle.bump_steps.specs.Rule.{Sound, chunks, Kept}
+use Rattle.bump_steps.specs.Plays.{Sat, Tells, on_chunk, step_of, Stands}
+use Rattle.bump_steps.specs.Applications.{for_bump, for_first, tried_stage, tried_lane, tried_view, tried, cleared_stage, cleared_view, cleared, noted_class, timed_view, timed, moved_on, alighted_view, alighted, entry_of}
+use Rattle.bump_steps.specs.Applications.{applying, pulling, StandsIn, life_in, cleared_lane, MayMove, is_past_move, Alights, MayAlight}
+use Rattle.bump_rules.specs.declared.places.Segment.{Segment}
+use Rattle.bump_rules.specs.declared.history.Cause.{Cause}
+use Rattle.bump_rules.specs.History.{place_of}
+use Rattle.bump_rules.proofs.ToldMoves.{no_move}
+use Rattle.bump_rules.specs.Tables.{is_cold as is_cold_segment, is_warm as is_warm_segment}
+use Rattle.std.proofs.Common.{inl, inr}
+use Rattle.bump_steps.specs.Rule.{blank}
+use Rattle.bump_steps.proofs.Told.{at_standing, tells, stands_alone}
+use Rattle.bump_rules.specs.Lives.{life, one_if, is_same}
+use Rattle.bump_rules.specs.Lanes.{applied_bump}
+use Rattle.bump_rules.specs.Entries.{is_move_for, is_unlink_of, is_told_moved, moving, moves_told, is_moved}
+use Rattle.bump_rules.specs.Totals.{how_many}
+use Rattle.bump_rules.proofs.Updates.{total_push, total_append}
+use Rattle.bump_rules.proofs.Replay.{standing_push}
+use Rattle.bump_rules.proofs.Standings.{standing_same}
+use Rattle.bump_steps.proofs.Frame.{Same, Amid, Reaches, on_time, same_sound}
+use Rattle.bump_steps.proofs.StepLemmas.{time_chunk_is, at_chunk, on_first_total, on_first_le, same_counts, level, one_life, other_life, other_chunk}
+
+-- ---- looking at the head of the bump's item
+
+pub tried_refers : (s : Lane) → aboard_of (tried_stage s) ≡ aboard_of s
+tried_refers lane.Empty = refl
+tried_refers (lane.Carrying b) = refl
+tried_refers (lane.Tried b) = refl
+tried_refers (lane.Cleared b f) = refl
+tried_refers (lane.Moved b) = refl
+
+pub tried_going : (q : Query) (s : Lane) → moving q.test q.number (tried_stage s) ≡ moving q.test q.number s
+tried_going q lane.Empty = refl
+tried_going q (lane.Carrying b) = refl
+tried_going q (lane.Tried b) = refl
+tried_going q (lane.Cleared b f) = refl
+tried_going q (lane.Moved b) = refl
+
+tried_same : (c n : ℕ) (v : View) (b : ℕ) → Same b v (tried_view c n v)
+tried_same c n v b (held j) = omega (arith, on_first_total (λ l. refers b j (aboard_of l.stage)) (tried_lane c n) (λ l. ap (refers b j) (tried_refers l.stage)) v.lanes)
+tried_same c n v b (named j) = refl
+tried_same c n v b (saw j) = refl
+tried_same c n v b owners = refl
+tried_same c n v b (strays s) = refl
+tried_same c n v b (mislabels x) = refl
+tried_same c n v b (misreads j x) = refl
+
+cond_is : (b : Bool) (p q : ℕ) → p ≡ q → cond b p 0 ≡ cond b q 0
+cond_is b p q e = ap (λ (n : ℕ). cond b n 0) e
+
+tried_backed : (c n : ℕ) (v : View) → IsBacked v (tried_view c n v)
+tried_backed c n v = record {
+  backs = λ wk e. (by wk e e.outcome, λ more. absurd (let same = on_first_total (claimed_in wk e) (tried_lane c n) (λ l. refl) v.lanes in omega arith));
+  even = λ q. let same = on_first_total (settled_in q) (tried_lane c n) (λ l. cond_is (l.worker == q.worker) _ _ (ap (λ (g : ℕ). how_many (is_told_moved q.test q.number) l.applied + g) (tried_going q l.stage))) v.lanes in omega arith;
+  lanes = λ w. let same = on_first_total (λ l. cond (l.worker == w) 1 0) (tried_lane c n) (λ l. refl) v.lanes in omega arith;
+  tidy = let same = on_first_total untidy_in (tried_lane c n) (λ l. ap (λ (o : Option Bump). cond (in_order 0 l.applied o) 0 1) (tried_refers l.stage)) v.lanes in omega arith;
+}
+  where
+    by : (wk : ℕ) (e : AppliedBump) (o : Outcome) → shown_by o wk e v ≤ shown_by o wk e (tried_view c n v)
+    by wk e outcome.Moved = omega arith
+    by wk e outcome.Gone = omega arith
+    by wk e outcome.TimeOnly = let more = on_first_le (λ l. how_many (shows_time_only wk e.number e.life.chunk) l.steps) (tried_lane c n) (λ l. omega (arith, total_push (λ x. cond (shows_time_only wk e.number e.life.chunk x) 1 0) l.steps (step_of kind.Try c n (for_bump l)))) v.lanes in omega arith
+
+-- ---- clearing ACTIVE
+
+pub cleared_refers : (f : Bool) (s : Lane) → aboard_of (cleared_stage f s) ≡ aboard_of s
+cleared_refers f lane.Empty = refl
+cleared_refers f (lane.Carrying b) = refl
+cleared_refers f (lane.Tried b) = refl
+cleared_refers f (lane.Cleared b g) = refl
+cleared_refers f (lane.Moved b) = refl
+
+cleared_going : (q : Query) (f : Bool) (s : Lane) → moving q.test q.number (cleared_stage f s) ≡ moving q.test q.number s
+cleared_going q f lane.Empty = refl
+cleared_going q f (lane.Carrying b) = refl
+cleared_going q f (lane.Tried b) = refl
+cleared_going q f (lane.Cleared b g) = refl
+cleared_going q f (lane.Moved b) = refl
+
+module _ (c n : ℕ) (v : View) where
+  cleared_same : (b : ℕ) → Same b v (cleared_view c n v)
+  cleared_same b (held j) = omega (arith, on_first_total (λ l. refers b j (aboard_of l.stage)) (cleared_lane (not (active_clear n))) (λ l. ap (refers b j) (cleared_refers (not (active_clear n)) l.stage)) v.lanes)
+  cleared_same b (named j) = refl
+  cleared_same b (saw j) = refl
+  cleared_same b owners = on_first_total (λ k. cond (owns b k) 1 0) (noted_class kind.ClearActive c n v.lanes) (λ k. refl) v.classes
+  cleared_same b (strays s) = on_first_total (λ k. cond (owns b k && not (is_standing (standing k b) s)) 1 0) (noted_class kind.ClearActive c n v.lanes) (λ k. refl) v.classes
+  cleared_same b (mislabels x) = on_first_total (λ k. cond (owns b k && not (eqb (label_of k b) x)) 1 0) (noted_class kind.ClearActive c n v.lanes) (λ k. refl) v.classes
+  cleared_same b (misreads j x) = refl
+
+  cleared_backed : IsBacked v (cleared_view c n v)
+  cleared_backed = record {
+    backs = λ wk e. (by wk e e.outcome, λ more. absurd (let same = on_first_total (claimed_in wk e) (cleared_lane (not (active_clear n))) (λ l. refl) v.lanes in omega arith));
+    even = λ q. let same = on_first_total (settled_in q) (cleared_lane (not (active_clear n))) (λ l. cond_is (l.worker == q.worker) _ _ (ap (λ (g : ℕ). how_many (is_told_moved q.test q.number) l.applied + g) (cleared_going q (not (active_clear n)) l.stage))) v.lanes in
+        let same_moves = on_first_total (λ k. how_many (is_move_for q.test q.worker q.number) k.history) (noted_class kind.ClearActive c n v.lanes) (λ k. refl) v.classes in omega arith;
+    lanes = λ w. let same = on_first_total (λ l. cond (l.worker == w) 1 0) (cleared_lane (not (active_clear n))) (λ l. refl) v.lanes in omega arith;
+    tidy = let same = on_first_total untidy_in (cleared_lane (not (active_clear n))) (λ l. ap (λ (o : Option Bump). cond (in_order 0 l.applied o) 0 1) (cleared_refers (not (active_clear n)) l.stage)) v.lanes in omega arith;
+  }
+    where
+      by : (wk : ℕ) (e : AppliedBump) (o : Outcome) → shown_by o wk e v ≤ shown_by o wk e (cleared_view c n v)
+      by wk e outcome.Moved = omega (arith, on_first_total (λ k. how_many (is_move_for (is_same e.life) wk e.number) k.history) (noted_class kind.ClearActive c n v.lanes) (λ k. refl) v.classes)
+      by wk e outcome.Gone = omega (arith, on_first_total (λ k. how_many (is_unlink_of e.life) k.history) (noted_class kind.ClearActive c n v.lanes) (λ k. refl) v.classes)
+      by wk e outcome.TimeOnly = let more = on_first_le (λ k. how_many (shows_time_only wk e.number e.life.chunk) k.steps) (noted_class kind.ClearActive c n v.lanes) (λ k. omega (arith, total_push (λ x. cond (shows_time_only wk e.number e.life.chunk x) 1 0) k.steps (step_of kind.ClearActive c n (for_first v.lanes)))) v.classes in
+          let same = on_first_total (λ l. how_many (shows_time_only wk e.number e.life.chunk) l.steps) (cleared_lane (not (active_clear n))) (λ l. refl) v.lanes in omega arith
+
+-- ---- storing the time
+
+module _ (c n : ℕ) (v : View) where
+  timed_same : (b : ℕ) → Same b v (timed_view c n v)
+  timed_same b (held j) = refl
+  timed_same b (named j) = refl
+  timed_same b (saw j) = refl
+  timed_same b owners = on_first_total (λ k. cond (owns b k) 1 0) (noted_class kind.PutTime c n v.lanes) (λ k. refl) v.classes
+  timed_same b (strays s) = on_first_total (λ k. cond (owns b k && not (is_standing (standing k b) s)) 1 0) (noted_class kind.PutTime c n v.lanes) (λ k. refl) v.classes
+  timed_same b (mislabels x) = on_first_total (λ k. cond (owns b k && not (eqb (label_of k b) x)) 1 0) (noted_class kind.PutTime c n v.lanes) (λ k. refl) v.classes
+  timed_same b (misreads j x) = refl
+
+  timed_backed : IsBacked v (timed_view c n v)
+  timed_backed = record {
+    backs = λ wk e. (by wk e e.outcome, λ more. absurd (omega arith));
+    even = λ q. let same_moves = on_first_total (λ k. how_many (is_move_for q.test q.worker q.number) k.history) (noted_class kind.PutTime c n v.lanes) (λ k. refl) v.classes in omega arith;
+    lanes = λ w. refl;
+    tidy = omega arith;
+  }
+    where
+      by : (wk : ℕ) (e : AppliedBump) (o : Outcome) → shown_by o wk e v ≤ shown_by o wk e (timed_view c n v)
+      by wk e outcome.Moved = omega (arith, on_first_total (λ k. how_many (is_move_for (is_same e.life) wk e.number) k.history) (noted_class kind.PutTime c n v.lanes) (λ k. refl) v.classes)
+      by wk e outcome.Gone = omega (arith, on_first_total (λ k. how_many (is_unlink_of e.life) k.history) (noted_class kind.PutTime c n v.lanes) (λ k. refl) v.classes)
+      by wk e outcome.TimeOnly = let more = on_first_le (λ k. how_many (shows_time_only wk e.number e.life.chunk) k.steps) (noted_class kind.PutTime c n v.lanes) (λ k. omega (arith, total_push (λ x. cond (shows_time_only wk e.number e.life.chunk x) 1 0) k.steps (step_of kind.PutTime c n (for_first v.lanes)))) v.classes in omega arith
+
+module _ (key : Config) (slots id : ℕ) (m : Sat) (c : ℕ) (near : c < chunks key) where
+  pub tries : Allows (Kept key) slots id m (3 * c) (λ n. n) (on_chunk tried (step slots (3 * c) 0 0 none) m)
+  tries = at_chunk tried key slots id m c 0 (λ n. n) near (λ n x t limits o a. (
+    tried_view c n m.0,
+    (λ u moved. same_sound key.refs_limit n x t u (same_counts c m.0 (tried_view c n m.0) t u (tried_same c n m.0 c) moved) o),
+    (λ b ne. tried_same c n m.0 b),
+    tried_backed c n m.0,
+    (refl, (o.head, o.spells, tells c key.refs_limit n x m.0 t o a)),
+  ))
+
+  pub clears : Allows (Kept key) slots id m (3 * c) (λ n. bit_and n (2 ^ 64 - 1 - 2 ^ 18)) (on_chunk cleared (step slots (3 * c) (2 ^ 64 - 1 - 2 ^ 18) 0 none) m)
+  clears = at_chunk cleared key slots id m c (2 ^ 64 - 1 - 2 ^ 18) (λ n. bit_and n (2 ^ 64 - 1 - 2 ^ 18)) near (λ n x t limits o a. (
+    cleared_view c n m.0,
+    (λ u moves. same_sound key.refs_limit (bit_and n (2 ^ 64 - 1 - 2 ^ 18)) x t u (same_counts c m.0 (cleared_view c n m.0) t u (cleared_same c n m.0 c) moves) (record {
+      head = record o.head { active = false };
+      at = o.at;
+      spells = clear_active n o.head o.spells tt;
+      lawful = marked key.refs_limit o.head o.at (λ g. t (held g)) (λ g. t (named g)) o.lawful false (omega arith);
+      owned = o.owned;
+      agreed = o.agreed;
+      labelled = o.labelled;
+      read = o.read;
+      hit = o.hit;
+    })),
+    (λ b ne. cleared_same c n m.0 b),
+    cleared_backed c n m.0,
+    (refl, refl, (o.head, o.spells, tells c key.refs_limit n x m.0 t o a)),
+  ))
+
+  pub times : (now : ℕ) → Allows (Kept key) slots id m (3 * c + 1) (λ _. now) (λ _. timed (step slots (3 * c + 1) now 0 none) m now)
+  times now = subst (λ (d : ℕ). Allows (Kept key) slots id m (3 * c + 1) (λ _. now) (λ _ w. w ≡ (timed_view d now m.0, m.1))) (sym (time_chunk_is c))
+      (on_time key slots id m c (λ _. now) (λ _ w. w ≡ (timed_view c now m.0, m.1)) near (λ y n x t limits o a. (
+        timed_view c now m.0,
+        (λ u moves. same_sound key.refs_limit n x t u (same_counts c m.0 (timed_view c now m.0) t u (timed_same c now m.0 c) moves) o),
+        (λ b ne. timed_same c now m.0 b),
+        timed_backed c now m.0,
+        refl,
+      )))
+
+-- ---- moves: a class's part gets an entry, and the lanes that are joined keep their references
+
+-- one more move, and one more that is about to settle
+even_bits : (s w n : Bool) (t : ℕ) → cond (s && (w && n)) 1 0 + cond w (t + 0) 0 ≡ cond w (t + cond (n && s) 1 0) 0
+even_bits true true true t = omega arith
+even_bits true true false t = omega arith
+even_bits true false n t = omega arith
+even_bits false true true t = omega arith
+even_bits false true false t = omega arith
+even_bits false false n t = omega arith
+
+module _ (c : ℕ) (k : ClassPart) (own : owns c k ≡ true) (l : ItemId) (of : l.chunk ≡ c) (from to : Segment) (why : Cause) (made : OwnStep) where
+  -- the class's part with one more move
+  abbrev pub shifted : ClassPart
+  shifted = record k { history = k.history ++ change.Moved l from to why ∷ []; steps = k.steps ++ made ∷ [] }
+
+  abbrev pub to_be : Standing
+  to_be = (place_of to, l.generation)
+
+  -- it leaves other chunks where they are
+  shift_stands : (d : ℕ) → d ≢ c → standing shifted d ≡ standing k d
+  shift_stands d ne = standing_push d (Unused, k.fresh) k.history (change.Moved l from to why) ∙ ap (λ (o : Bool). cond o (place_of to, l.generation) (standing k d)) (ne_eqb l.chunk d (λ q. ne (sym q ∙ of)))
+
+  -- and its own chunk in the segment to which it went
+  shift_stands_here : standing shifted c ≡ (place_of to, l.generation)
+  shift_stands_here = standing_push c (Unused, k.fresh) k.history (change.Moved l from to why) ∙ ap (λ (o : Bool). cond o (place_of to, l.generation) (standing k c)) (eq-eqb l.chunk c of)
+
+  module _ (ls ms : List LanePart) (keep : (d j : ℕ) → total (λ x. refers d j (aboard_of x.stage)) ms ≡ total (λ x. refers d j (aboard_of x.stage)) ls) where
+    abbrev pub stood : View
+    stood = record blank { classes = k ∷ []; lanes = ls }
+
+    abbrev pub went : View
+    went = record blank { classes = shifted ∷ []; lanes = ms }
+
+    shift_apart : (d : ℕ) → d ≢ c → Same d stood went
+    shift_apart d ne (held j) = omega (arith, keep d j)
+    shift_apart d ne (named j) = refl
+    shift_apart d ne (saw j) = refl
+    shift_apart d ne owners = refl
+    shift_apart d ne (strays s) = ap (λ (at : Standing). bit (owns d k && not (is_standing at s)) + 0) (shift_stands d ne)
+    shift_apart d ne (mislabels z) = refl
+    shift_apart d ne (misreads j z) = refl
+
+    no_stray : weight c (strays to_be) went ≡ 0
+    no_stray = ap₂ (λ (o same : Bool). bit (o && not same) + 0) own (standing_same _ _ shift_stands_here)
+
+    shift_sound : (limit p label : ℕ) (t u : Measure → ℕ) → Amid c stood t → ((y : Measure) → u y + weight c y stood ≡ t y + weight c y went) → (o : Sound limit p label t) → (n : ℕ) → Spells n (record o.head { segment = to }) → o.head.generation ≡ l.generation → o.head.linked ≡ true
+        → Sound limit n label u
+    shift_sound limit p label t u a adds o n spells gen on = record {
+      head = record o.head { segment = to };
+      at = place_of to;
+      spells = spells;
+      lawful = subst (λ (y : (ℕ → ℕ) × (ℕ → ℕ)). Lawful limit (record o.head { segment = to }) (place_of to) y.0 y.1)
+          (λ i. ((λ g. level_kept (t (held g)) (u (held g)) (weight c (held g) stood) (weight c (held g) went) (keep_held g) (adds (held g)) i), (λ g. level (t (named g)) (u (named g)) 0 (adds (named g)) i)))
+          (moved limit o.head o.at (λ g. t (held g)) (λ g. t (named g)) o.lawful to on);
+      owned = omega (arith, adds owners, o.owned);
+      agreed = subst (λ (g : ℕ). u (strays (place_of to, g)) ≡ 0) (sym gen) (omega (arith, adds (strays to_be), no_stray, a.others to_be, a.mine owners, o.owned, ap bit own));
+      labelled = omega (arith, adds (mislabels label), o.labelled);
+      read = omega (arith, adds (misreads o.head.generation label), o.read);
+      hit = λ j some. omega (arith, adds (named j), o.hit j (omega (arith, some, adds (saw j))));
+    }
+      where
+        keep_held : (g : ℕ) → weight c (held g) went ≡ weight c (held g) stood
+        keep_held g = omega (arith, keep c g)
+
+        level_kept : (p q w x : ℕ) → x ≡ w → q + w ≡ p + x → p ≡ q
+        level_kept p q w x e m = omega (arith, e, m)
+
+    -- what the class shows of entries stays
+    shift_shows : (wk : ℕ) (e : AppliedBump) (o : Outcome) → total (λ x. how_many (shows_time_only wk e.number e.life.chunk) x.steps) ms ≡ total (λ x. how_many (shows_time_only wk e.number e.life.chunk) x.steps) ls → shown_by o wk e stood ≤ shown_by o wk e went
+    shift_shows wk e outcome.Moved same = omega (arith, total_push (λ z. cond (is_move_for (is_same e.life) wk e.number z) 1 0) k.history (change.Moved l from to why))
+    shift_shows wk e outcome.Gone same = omega (arith, total_push (λ z. cond (is_unlink_of e.life z) 1 0) k.history (change.Moved l from to why))
+    shift_shows wk e outcome.TimeOnly same = omega (arith, same, total_push (λ z. cond (shows_time_only wk e.number e.life.chunk z) 1 0) k.steps made)
+
+    module _ (key : Config) (slots id : ℕ) (near : c < chunks key) (sl : List (ℕ × Empty)) where
+      -- the seat of the class can go on so, where the move is of the life that the chunk has, and evens out
+      shift_goes : (tells : Tells) (x : ℕ) (at : Standing) → standing k c ≡ at → at.0 ≡ place_of from → ((n y : ℕ) (t : Measure → ℕ) (o : Sound key.refs_limit n y t) → Amid c stood t → o.head.generation ≡ at.1 → l.generation ≡ at.1) → IsBacked stood went
+          → (n y : ℕ) (t : Measure → ℕ) → (0 < key.refs_limit) × (key.refs_limit < 65536) → (o : Sound key.refs_limit n y t) → Amid c stood t → tells c x (stood, sl) n (went, sl)
+          → Reaches key c (stood, sl) (tells c x (stood, sl) n) (bit_xor n (segment_change from to)) y t
+      shift_goes say x at st place same_life back n y t limits o a told =
+          let stands : Stands c stood at = subst (Stands c stood) st (stands_alone c stood k refl own) in
+          let here = at_standing c key.refs_limit n y stood t o a at stands in
+          let shows = in_segment o.head from (subst (Shows o.head) (ap (λ (s : Standing). s.0) here ∙ place) o.lawful.shown) in
+          let gen : o.head.generation ≡ at.1 = ap (λ (s : Standing). s.1) here in (
+            went,
+            (λ u adds. shift_sound key.refs_limit n y t u a adds o (bit_xor n (segment_change from to)) (change_segment from to n o.head o.spells shows.1) (gen ∙ sym (same_life n y t o a gen)) shows.0),
+            (λ d ne. shift_apart d ne),
+            back,
+            told,
+          )
+
+-- ---- what is asked of a move
+
+module _ (key : Config) (slots id c : ℕ) (near : c < chunks key) (k : ClassPart) (from to : Segment) (st : StandsIn from c k) (sl : List (ℕ × Empty)) where
+  -- a pull's
+  pub pulls : (x : ℕ) → Allows (Kept key) slots id (pulling k, sl) (3 * c) (λ n. bit_xor n (segment_change from to)) (on_chunk (moved_on from to) (step slots (3 * c) x 0 none) (pulling k, sl))
+  pulls x = at_chunk (moved_on from to) key slots id (pulling k, sl) c x (λ n. bit_xor n (segment_change from to)) near (λ n y t limits o a.
+      let l : ItemId = life_in k c in let made : OwnStep = step_of kind.Move c n None in
+      shift_goes c k st.0 l refl from to cause.Pull made [] [] (λ d j. refl) key slots id near sl (moved_on from to) x (standing k c) refl st.1 (λ n y t o a gen. refl)
+      (record {
+        backs = λ wk e. (shift_shows c k st.0 l refl from to cause.Pull made [] [] (λ d j. refl) wk e e.outcome refl, λ more. absurd (omega arith));
+        even = λ q. omega (arith, total_push (λ z. cond (is_move_for q.test q.worker q.number z) 1 0) k.history (change.Moved l from to cause.Pull), ap bit (no_move q.test q.worker q.number (change.Moved l from to cause.Pull) refl));
+        lanes = λ w. refl;
+        tidy = omega arith;
+      })
+      n y t limits o a (refl, (o.head, o.spells, tells c key.refs_limit n y (pulling k) t o a)))
+
+  -- that of the bump aboard
+  pub shifts : (l : LanePart) (b : Bump) → b.life.chunk ≡ c → from ≡ Cold → to ≡ Warm → (x : ℕ)
+      → Allows (Kept key) slots id (applying k (record l { stage = lane.Cleared b true }), sl) (3 * c) (λ n. bit_xor n (segment_change from to)) (on_chunk (moved_on from to) (step slots (3 * c) x 0 none) (applying k (record l { stage = lane.Cleared b true }), sl))
+  shifts l b of is_cold is_warm x = at_chunk (moved_on from to) key slots id (applying k (record l { stage = lane.Cleared b true }), sl) c x (λ n. bit_xor n (segment_change from to)) near (λ n y t limits o a.
+      let why : Cause = cause.Bump l.worker b.number in let made : OwnStep = step_of kind.Move c n (Some (l.worker, b.number)) in
+      let ls : List LanePart = record l { stage = lane.Cleared b true } ∷ [] in let ms : List LanePart = record l { stage = lane.Moved b } ∷ [] in
+      shift_goes c k st.0 b.life of from to why made ls ms (λ d j. refl) key slots id near sl (moved_on from to) x (standing k c) refl st.1
+      (λ n y t o a gen. (o.lawful.used b.life.generation (omega (arith, a.mine (held b.life.generation), one_life b.life, ap (λ (d : ℕ). one_if (life d b.life.generation) b.life) of))).0 ∙ gen)
+      (record {
+        backs = λ wk e. (shift_shows c k st.0 b.life of from to why made ls ms (λ d j. refl) wk e e.outcome refl, λ more. absurd (omega arith));
+        even = λ q. omega (
+          arith,
+          total_push (λ z. cond (is_move_for q.test q.worker q.number z) 1 0) k.history (change.Moved b.life from to why),
+          ap₂ (λ (f g : Segment). bit (q.test b.life && (is_cold_segment f && (is_warm_segment g && ((l.worker == q.worker) && (b.number == q.number)))))) is_cold is_warm,
+          even_bits (q.test b.life) (l.worker == q.worker) (b.number == q.number) (how_many (is_told_moved q.test q.number) l.applied),
+        );
+        lanes = λ w. refl;
+        tidy = omega arith;
+      })
+      n y t limits o a (refl, (o.head, o.spells, tells c key.refs_limit n y (applying k (record l { stage = lane.Cleared b true })) t o a)))
+
+-- for the contract
+pub may_move : (key : Config) (slots id c x : ℕ) (from to : Segment) (m : Sat) → c < chunks key → MayMove from to c m.0 → Allows (Kept key) slots id m (3 * c) (λ n. bit_xor n (segment_change from to)) (on_chunk (moved_on from to) (step slots (3 * c) x 0 none) m)
+may_move key slots id c x from to m near (inl (k, p)) = subst (λ (v : View). Allows (Kept key) slots id (v, m.1) (3 * c) (λ n. bit_xor n (segment_change from to)) (on_chunk (moved_on from to) (step slots (3 * c) x 0 none) (v, m.1))) (sym p.view) (pulls key slots id c near k from to p.stands m.1 x)
+may_move key slots id c x from to m near (inr (k, l, b, g)) = let is : m.0 ≡ applying k (record l { stage = lane.Cleared b true }) = g.view ∙ ap (λ (s : Lane). applying k (record l { stage = s })) g.stage in
+    subst (λ (v : View). Allows (Kept key) slots id (v, m.1) (3 * c) (λ n. bit_xor n (segment_change from to)) (on_chunk (moved_on from to) (step slots (3 * c) x 0 none) (v, m.1))) (sym is) (shifts key slots id c near k from to g.stands m.1 l b g.chunk g.from_cold g.to_warm x)
+
+-- ---- the end of a bump
+
+bump_or : Bump → Option Bump → Bump
+bump_or d None = d
+bump_or d (Some x) = x
+
+one_bump : (d b : Bump) → Some d ≡ Some b → d ≡ b
+unfolding bump_or
+one_bump d b e = ap (bump_or d) e
+
+-- what a bump aboard counts for: nothing before it is moved
+moving_of : (q : Query) (s : Lane) (b : Bump) → aboard_of s ≡ Some b → moving q.test q.number s ≡ cond (is_past_move s && ((b.number == q.number) && q.test b.life)) 1 0
+moving_of q s b e = by s e
+  where
+    by : (s : Lane) → aboard_of s ≡ Some b → moving q.test q.number s ≡ cond (is_past_move s && ((b.number == q.number) && q.test b.life)) 1 0
+    by lane.Empty e = refl
+    by (lane.Carrying d) e = refl
+    by (lane.Tried d) e = refl
+    by (lane.Cleared d f) e = refl
+    by (lane.Moved d) e = ap (λ (x : Bump). cond ((x.number == q.number) && q.test x.life) 1 0) (one_bump d b e)
+
+-- the entry tells of the move that was in progress
+pub alighted_tells : (test : ItemId → Bool) (n : ℕ) (l : LanePart) (b : Bump) (out : Outcome) → aboard_of l.stage ≡ Some b → is_past_move l.stage ≡ is_moved out → moves_told test n (l.applied ++ entry_of out (aboard_of l.stage)) lane.Empty ≡ moves_told test n l.applied l.stage
+alighted_tells test n l b out aboard past = omega (
+  arith,
+  total_append (λ a. cond (is_told_moved test n a) 1 0) l.applied (entry_of out (aboard_of l.stage)),
+  ap (λ (o : Option Bump). total (λ a. cond (is_told_moved test n a) 1 0) (entry_of out o)) aboard,
+  moving_of (record { test = test; worker = 0; number = n }) l.stage b aboard ∙ ap (λ (x : Bool). cond (x && ((b.number == n) && test b.life)) 1 0) past,
+)
+
+and_both : (a b : Bool) → (a && b) ≡ true → (a ≡ true) × (b ≡ true)
+and_both true true e = (refl, refl)
+and_both true false e = absurd (false≢true e)
+and_both false b e = absurd (false≢true e)
+
+outcome_is : (a b : Outcome) → outcome_number a ≡ outcome_number b → a ≡ b
+outcome_is outcome.Moved outcome.Moved e = refl
+outcome_is outcome.Moved outcome.TimeOnly e = absurd (omega arith)
+outcome_is outcome.Moved outcome.Gone e = absurd (omega arith)
+outcome_is outcome.TimeOnly outcome.Moved e = absurd (omega arith)
+outcome_is outcome.TimeOnly outcome.TimeOnly e = refl
+outcome_is outcome.TimeOnly outcome.Gone e = absurd (omega arith)
+outcome_is outcome.Gone outcome.Moved e = absurd (omega arith)
+outcome_is outcome.Gone outcome.TimeOnly e = absurd (omega arith)
+outcome_is outcome.Gone outcome.Gone e = refl
+
+-- entries that test as one are one
+same_entry_is : (e f : AppliedBump) → is_entry f e ≡ true → e ≡ f
+same_entry_is e f is = let a = and_both _ _ is in let b = and_both _ _ a.1 in let l = and_both _ _ b.0 in
+    let n = eqb-true _ _ a.0 in let ch = eqb-true _ _ l.0 in let g = eqb-true _ _ l.1 in let o = outcome_is e.outcome f.outcome (eqb-true _ _ b.1) in
+    λ i. record { number = n i; life = record { chunk = ch i; generation = g i }; outcome = o i }
+
+settle_bits : (w : Bool) (t going more : ℕ) → going ≡ more → cond w (t + more + 0) 0 ≡ cond w (t + going) 0
+settle_bits true t going more e = omega arith
+settle_bits false t going more e = refl
+
+claim_bits : (w x : Bool) (t : ℕ) → cond w t 0 < cond w (t + cond x 1 0) 0 → (w ≡ true) × (x ≡ true)
+claim_bits true true t more = (refl, refl)
+claim_bits true false t more = absurd (omega arith)
+claim_bits false x t more = absurd (omega arith)
+
+and_true : (x : Bool) → (x && true) ≡ x
+and_true true = refl
+and_true false = refl
+
+-- the bump aboard becomes the next entry
+order_ends : (b : Bump) (a : AppliedBump) → a.number ≡ b.number → (es : List AppliedBump) (i : ℕ) → in_order i (es ++ a ∷ []) None ≡ in_order i es (Some b)
+order_ends b a e [] i = and_true (a.number == i) ∙ ap (λ (n : ℕ). n == i) e
+order_ends b a e (x ∷ xs) i = ap (λ (y : Bool). (x.number == i) && y) (order_ends b a e xs (i + 1))
+
+module _ (key : Config) (slots id : ℕ) (k : ClassPart) (l : LanePart) (b : Bump) (out : Outcome) (near : b.life.chunk < chunks key) (sl : List (ℕ × Empty)) (aboard : aboard_of l.stage ≡ Some b) (past : is_past_move l.stage ≡ is_moved out) where
+  the_entry : AppliedBump
+  the_entry = record { number = b.number; life = b.life; outcome = out }
+
+  refers_is : (d g : ℕ) → refers d g (aboard_of l.stage) ≡ one_if (life d g) b.life
+  refers_is d g = ap (refers d g) aboard
+
+  applied_is : (f : AppliedBump → ℕ) → total f (l.applied ++ entry_of out (aboard_of l.stage)) ≡ total f l.applied + f (record { number = b.number; life = b.life; outcome = out })
+  applied_is f = omega (arith, total_append f l.applied (entry_of out (aboard_of l.stage)), ap (λ (o : Option Bump). total f (entry_of out o)) aboard)
+
+  module _ (n : ℕ) where
+    abbrev before : View
+    before = applying k l
+
+    abbrev behind : View
+    behind = alighted_view out b.life.chunk n (applying k l)
+
+    alight_apart : (d : ℕ) → d ≢ b.life.chunk → Same d (applying k l) (alighted_view out b.life.chunk n (applying k l))
+    alight_apart d ne (held j) = omega (arith, refers_is d j, other_chunk d j b.life ne)
+    alight_apart d ne (named j) = refl
+    alight_apart d ne (saw j) = refl
+    alight_apart d ne owners = refl
+    alight_apart d ne (strays s) = refl
+    alight_apart d ne (mislabels y) = refl
+    alight_apart d ne (misreads j y) = refl
+
+    more_evidence : (wk : ℕ) (e : AppliedBump) (o : Outcome) → shown_by o wk e (applying k l) ≤ shown_by o wk e (alighted_view out b.life.chunk n (applying k l))
+    more_evidence wk e outcome.Moved = omega arith
+    more_evidence wk e outcome.Gone = omega arith
+    more_evidence wk e outcome.TimeOnly = omega (arith, total_push (λ z. cond (shows_time_only wk e.number e.life.chunk z) 1 0) l.steps (step_of kind.Alight b.life.chunk n (for_bump l)))
+
+    alight_backed : 0 < evidence l.worker (applied_bump b out) (applying k l) → IsBacked (applying k l) (alighted_view out b.life.chunk n (applying k l))
+    alight_backed proof = record {
+      backs = λ wk d. (more_evidence wk d d.outcome, λ more. claimed wk d more);
+      even = λ q. omega (
+        arith,
+        settle_bits (l.worker == q.worker) (how_many (is_told_moved q.test q.number) l.applied) (moving q.test q.number l.stage) (cond (is_told_moved q.test q.number (record { number = b.number; life = b.life; outcome = out })) 1 0)
+            (moving_of q l.stage b aboard ∙ ap (λ (x : Bool). cond (x && ((b.number == q.number) && q.test b.life)) 1 0) past),
+        ap (λ (t : ℕ). cond (l.worker == q.worker) (t + 0) 0) (applied_is (λ a. cond (is_told_moved q.test q.number a) 1 0)),
+      );
+      lanes = λ w. refl;
+      tidy = omega (arith, ap {B = ℕ} (λ (x : Bool). cond x 0 1) (ap (in_order 0 l.applied) aboard ∙ sym (order_ends b (record { number = b.number; life = b.life; outcome = out }) refl l.applied 0) ∙ sym (ap (λ (o : Option Bump). in_order 0 (l.applied ++ entry_of out o) None) aboard)));
+    }
+      where
+        claimed : (wk : ℕ) (d : AppliedBump) → claims wk d (applying k l) < claims wk d (alighted_view out b.life.chunk n (applying k l)) → 0 < evidence wk d (alighted_view out b.life.chunk n (applying k l))
+        claimed wk d more = let bits = claim_bits (l.worker == wk) (is_entry d (record { number = b.number; life = b.life; outcome = out })) (how_many (is_entry d) l.applied)
+            (omega (arith, more, ap (λ (t : ℕ). cond (l.worker == wk) t 0) (applied_is (λ a. cond (is_entry d a) 1 0)))) in
+            let is = same_entry_is (record { number = b.number; life = b.life; outcome = out }) d bits.1 in let whose = eqb-true l.worker wk bits.0 in
+            subst (λ (e : ℕ × AppliedBump). 0 < evidence e.0 e.1 (alighted_view out b.life.chunk n (applying k l))) (λ i. (whose i, is i)) (omega (arith, proof, more_evidence l.worker (applied_bump b out) out))
+
+  pub alights : (x : ℕ) → 0 < evidence l.worker (applied_bump b out) (applying k l) → Allows (Kept key) slots id (applying k l, sl) (3 * b.life.chunk) (λ n. (n + (2 ^ 64 - 1)) % 2 ^ 64) (on_chunk (alighted out) (step slots (3 * b.life.chunk) x 0 none) (applying k l, sl))
+  alights x proof = at_chunk (alighted out) key slots id (applying k l, sl) b.life.chunk x (λ n. (n + (2 ^ 64 - 1)) % 2 ^ 64) near (λ n label t limits o a.
+      let g : ℕ = b.life.generation in
+      let c : ℕ = b.life.chunk in
+      let own : weight c (held g) (applying k l) ≡ 1 = omega (arith, refers_is c g, one_life b.life) in
+      let gen : g ≡ o.head.generation = (o.lawful.used g (omega (arith, a.mine (held g)))).0 in
+      let many : 0 < o.head.refs = omega (arith, o.lawful.counted, a.mine (held g), ap (λ (j : ℕ). t (held j)) gen) in
+      let w : View = alighted_view out b.life.chunk n (applying k l) in (
+        w,
+        (λ u moves. record {
+          head = record o.head { refs = o.head.refs - 1 };
+          at = o.at;
+          spells = one_less n o.head o.spells many;
+          lawful = subst (λ (y : ℕ → ℕ). Lawful key.refs_limit (record o.head { refs = o.head.refs - 1 }) o.at (λ j. u (held j)) y) (λ i j. level (t (named j)) (u (named j)) 0 (moves (named j)) i)
+              (unreferred key.refs_limit o.head o.at (λ j. t (held j)) (λ j. t (named j)) o.lawful (λ j. u (held j)) (subst (λ (j : ℕ). u (held j) + 1 ≡ t (held j)) gen (omega (arith, moves (held g))))
+              (λ j ne. omega (arith, moves (held j), refers_is c j, other_life b.life j (λ q. ne (q ∙ gen)))));
+          owned = omega (arith, moves owners, o.owned);
+          agreed = omega (arith, moves (strays (o.at, o.head.generation)), o.agreed);
+          labelled = omega (arith, moves (mislabels label), o.labelled);
+          read = omega (arith, moves (misreads o.head.generation label), o.read);
+          hit = λ j some. omega (arith, moves (named j), o.hit j (omega (arith, some, moves (saw j))));
+        }),
+        (λ d ne. alight_apart n d ne),
+        alight_backed n proof,
+        (refl, (o.head, o.spells, tells c key.refs_limit n label (applying k l) t o a)),
+      ))
+
+-- for the contract
+pub may_alight : (key : Config) (slots id c x : ℕ) (out : Outcome) (m : Sat) → c < chunks key → MayAlight c out m.0 → Allows (Kept key) slots id m (3 * c) (λ n. (n + (2 ^ 64 - 1)) % 2 ^ 64) (on_chunk (alighted out) (step slots (3 * c) x 0 none) m)
+may_alight key slots id c x out m near may = let k : ClassPart = may.0 in let l : LanePart = may.1 in let b : Bump = may.2 in let g : Alights c out m.0 k l b = may.3 in
+    subst (λ (y : ℕ × View). Allows (Kept key) slots id (y.1, m.1) (3 * y.0) (λ n. (n + (2 ^ 64 - 1)) % 2 ^ 64) (on_chunk (alighted out) (step slots (3 * y.0) x 0 none) (y.1, m.1))) (λ i. (g.chunk i, sym g.view i))
+    (alights key slots id k l b out (omega (arith, g.chunk)) m.1 g.aboard g.past x g.proof)

@@ -1,0 +1,14 @@
+pub mod Views
+pub mod Rule
+pub mod Words
+pub mod Plays
+pub mod Cuts
+pub mod References
+pub mod Tries
+pub mod Marks
+pub mod Rides
+pub mod RideTries
+pub mod Riders
+pub mod Lives
+pub mod Applications
+pub mod Meetings

@@ -1,0 +1,72 @@
+-- What a step tells: of the seat before it, the number found, and the seat after it.
+use Rattle.std.specs.Prelude.{◌≡◌, ℕ, ◌/◌, ◌<◌, ◌≤◌, true, List, [], ◌∷◌, Option}
+use Rattle.atomic_table.specs.Table.{Me, Step}
+use Rattle.bump_rules.specs.declared.items.Head.{Head}
+use Rattle.bump_rules.specs.Lawful.{bit, Shows, IsUsed}
+use Rattle.bump_rules.specs.History.{Standing}
+use Rattle.bump_word.specs.Words.{Spells}
+use Rattle.bump_steps.specs.declared.views.Empty.{Empty}
+use Rattle.bump_steps.specs.declared.views.Kind.{Kind}
+use Rattle.bump_steps.specs.declared.views.OwnStep.{OwnStep}
+use Rattle.bump_steps.specs.declared.views.View.{View}
+use Rattle.bump_steps.specs.Views.{named, saw, owners, strays, weight, aboard_of, active_clear, owns, label_of, differs, Query, moves, settled, lanes_of}
+
+abbrev pub Sat : Type 0
+Sat = Me Empty View
+
+-- of the chunk, the first operand, the seat before, the number found and the seat after
+abbrev pub Tells : Type 1
+Tells = ℕ → ℕ → Sat → ℕ → Sat → Type 0
+
+abbrev pub on_chunk : Tells → Step Empty → Sat → ℕ → Sat → Type 0
+on_chunk tells st = tells (st.word / 3) st.first
+
+-- the number found is the word of a head, of which P holds
+abbrev pub Found : ℕ → (Head → Type 0) → Type 0
+Found n P = (h : Head) × Spells n h × P h
+
+-- the seat's class has the chunk, and its history leaves it there
+abbrev pub Stands : ℕ → View → Standing → Type 0
+Stands c v s = (weight c owners v ≡ 1) × (weight c (strays s) v ≡ 0)
+
+-- every bump `n` of worker w
+abbrev pub every : ℕ → ℕ → Query
+every w n = record { test = λ l. true; worker = w; number = n }
+
+-- What a view tells of the head that its chunk's word spells.
+pub record Told (c : ℕ) (v : View) (h : Head) : Type 0 where
+  -- a reference's life is the chunk's
+  pub held : (g : ℕ) → 0 < weight c (Rattle.bump_steps.specs.Views.held g) v → g ≡ h.generation
+  -- the count is at least the view's own references
+  pub many : (g : ℕ) → weight c (Rattle.bump_steps.specs.Views.held g) v ≤ h.refs
+  -- a chunk of the view's class stands where its history leaves it
+  pub stood : (at : Standing) → Stands c v at → Shows h at.0 × (h.generation ≡ at.1)
+  -- and is not free where the view has a reference to it
+  pub busy : (g : ℕ) → 0 < weight c (Rattle.bump_steps.specs.Views.held g) v → (at : Standing) → Stands c v at → IsUsed at.0
+  -- ACTIVE implies FETCHED, which is set where the view names the life's first hit, or had FETCHED set
+  pub active : bit h.active ≤ bit h.fetched
+  pub hit : weight c (named h.generation) v ≤ bit h.fetched
+  pub saw : 0 < weight c (Rattle.bump_steps.specs.Views.saw h.generation) v → h.fetched ≡ true
+  -- no life is named twice
+  pub named : (g : ℕ) → weight c (Rattle.bump_steps.specs.Views.named g) v ≤ 1
+  -- the histories of the view name no bump twice, and each move of a bump whose lane is in the view is told by this lane
+  pub once : (w n : ℕ) → moves (every w n) v ≤ 1
+  pub told : (q : Query) → 0 < lanes_of q.worker v → moves q v ≤ settled q v
+
+-- ---- lists
+
+abbrev pub behind : {A : Type 0} → List A → List A
+behind [] = []
+behind (x ∷ xs) = xs
+
+abbrev pub first_of : {A : Type 0} → List A → List A
+first_of [] = []
+first_of (x ∷ xs) = x ∷ []
+
+abbrev pub on_first : {A : Type 0} → (A → A) → List A → List A
+on_first f [] = []
+on_first f (x ∷ xs) = f x ∷ xs
+
+-- a seat's own step
+abbrev pub step_of : Kind → ℕ → ℕ → Option (ℕ × ℕ) → OwnStep
+step_of kind c n bump = record { kind = kind; chunk = c; word = n; bump = bump }

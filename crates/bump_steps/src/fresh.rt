@@ -1,0 +1,37 @@
+//! The words of chunks that had no life yet.
+ghost use Rattle.std.specs.Prelude.{ℕ, ◌≡◌, ◌≤◌, ◌<◌, ◌-◌, ◌*◌, [], IfOk};
+ghost use Rattle.bump_steps.specs.Rule.{AreFresh, opened};
+ghost use Rattle.bump_steps.specs.Words.{words_id};
+
+use crate::words::{Seat, Words};
+use atomic_table::Table;
+use bump_rules::Config;
+use std::alloc::{AllocError, Global};
+
+fn fresh_words(alloc: Global, chunks: u32, first: u32) -> Result<Vec<u64>, AllocError>
+    requires { (chunks ≤ 1000000) × (0 < first) }
+    ensures words { IfOk result (λ v. AreFresh chunks (first - 1) v.items) }
+    ensures fits { first < 4294967296 }
+{
+    let mut words = Vec::with_capacity(alloc, 3 * chunks as usize)?;
+    let word = u64::from(first - 1) * 4_294_967_296;
+    for chunk in 0..chunks {
+        words.push(word)?;
+        words.push(0)?;
+        words.push(0)?;
+    }
+    Ok(words)
+}
+
+impl Words {
+    /// A table for the chunks of the configuration, of which none had a life yet, and the one seat that has every part.
+    pub fn fresh(alloc: Global, config: &Config) -> Result<(Words, Seat), AllocError>
+        ensures config { IfOk result (λ p. p.0.table.shared.key ≡ config.now) }
+        ensures seat { IfOk result (λ p. (p.1.table_id ≡ words_id p.0) × (p.1.me ≡ (opened p.0.table.shared.key, []))) }
+        ensures chunks { IfOk result (λ p. 0 < (words_id p.0).words) }
+    {
+        let words = fresh_words(alloc, config.chunks(), config.first_generation)?;
+        let (table, seat) = Table::of_words(alloc, &words, config)?;
+        Ok((Words { table }, seat))
+    }
+}

@@ -1,0 +1,17 @@
+//! Single steps on the words of all chunks, under one rule for all threads: head, time and label of each chunk, and what each seat
+//! knows of them. A step's contract is one equation on the view of the seat that makes it.
+#![tactic(auto)]
+
+mod decoding;
+mod fresh;
+mod refusals;
+mod rule;
+mod steps;
+mod views;
+mod words;
+
+pub use decoding::head_of;
+pub use refusals::{RideRefusal, TakeRefusal};
+pub use rule::Rule;
+pub use views::{ClassPart, Empty, HoldPart, Kind, LanePart, OwnStep, Ride, View, WorkerPart};
+pub use words::{Seat, Words};

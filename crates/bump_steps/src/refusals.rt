@@ -1,0 +1,48 @@
+//! Why an attempt to take a reference fails.
+ghost use Rattle.std.specs.Prelude.{◌≡◌};
+ghost use Rattle.bump_rules.specs.Tables.{get_of};
+ghost use Rattle.bump_steps.specs.Tries.{refused_by};
+
+use bump_rules::{Head, ItemId};
+use thiserror::Error;
+
+/// Why `take` gave no hold.
+#[derive(Error, Debug, PartialEq, Eq, Clone, Copy)]
+pub enum TakeRefusal {
+    /// The chunk isn't linked, or has another generation: the life is over, or has not begun.
+    #[error("the item is not linked")]
+    Stale,
+
+    /// The chunk's reference count is at its limit.
+    #[error("the item has as many references as it may have")]
+    RefsFull,
+
+    /// Eight exchanges failed, since other threads changed the word before each of them.
+    #[error("other threads changed the item again and again")]
+    Busy,
+}
+
+/// Why `ride` gave no rider: the bump is dropped.
+#[derive(Error, Debug, PartialEq, Eq, Clone, Copy)]
+pub enum RideRefusal {
+    /// The chunk's reference count is at its limit.
+    #[error("the item has as many references as it may have")]
+    RefsFull,
+
+    /// Eight exchanges failed, since other threads changed the word before each of them.
+    #[error("other threads changed the item again and again")]
+    Busy,
+}
+
+// Why a get of the life is refused where this head is found, if it is: Stale comes before RefsFull.
+pub fn refusal(head: Head, life: ItemId, limit: u32) -> Option<TakeRefusal>
+    ensures { result ≡ refused_by (get_of limit life.generation head) }
+{
+    if !head.linked || head.generation != life.generation {
+        return Some(TakeRefusal::Stale);
+    }
+    if head.refs >= limit {
+        return Some(TakeRefusal::RefsFull);
+    }
+    None
+}

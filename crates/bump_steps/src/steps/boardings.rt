@@ -1,0 +1,33 @@
+//! The step by which a bump boards its lane.
+ghost use Rattle.std.specs.Prelude.{ℕ, ◌≡◌, ◌+◌, ◌*◌, ◌<◌, ◌++◌, [], ◌∷◌};
+ghost use Rattle.bump_rules.specs.declared.lanes.Lane.TheVariants.{Empty as IsEmpty};
+ghost use Rattle.bump_steps.specs.declared.views.LanePart.{LanePart as TheLanePart};
+ghost use Rattle.bump_steps.specs.declared.views.Ride.{Ride as TheRide};
+ghost use Rattle.bump_steps.specs.Words.{words_id};
+ghost use Rattle.bump_steps.specs.Riders.{ride_me, board_both};
+ghost use Rattle.bump_steps.specs.Riders.{lane_me};
+ghost use Rattle.bump_steps.specs.Rule.{blank};
+
+use crate::views::View;
+use crate::words::{Seat, Words};
+use atomic_table::Join;
+
+pub struct Board;
+
+impl Join<View> for Board {
+    ghost both = { board_both };
+
+    ghost spent = { blank };
+}
+
+impl Words {
+    /// A rider's seat joins a lane's, which has nothing aboard.
+    pub fn board(&self, seat: &mut Seat, rider: Seat)
+        requires seats { (seat.old.table_id ≡ words_id self.now) × (rider.table_id ≡ words_id self.now) × (0 < (words_id self.now).words) }
+        requires views { (l : TheLanePart) × (r : TheRide) × (seat.old.me ≡ lane_me l) × (l.stage ≡ IsEmpty) × (rider.me ≡ ride_me r) }
+        ensures same { (seat.new.table_id ≡ seat.old.table_id) × (seat.new.id ≡ seat.old.id) }
+        ensures boarded { seat.new.me ≡ (board_both seat.old.me.0 rider.me.0, seat.old.me.1) }
+    {
+        self.table.shared.join_seat::<Board>(seat, rider);
+    }
+}

@@ -1,0 +1,156 @@
+//! The steps of a reader on a reference: a load, the exchange that takes it, and the subtraction that gives it back; the load of a
+//! label; and loads that need no seat of the caller's.
+ghost use Rattle.std.specs.Prelude.{ℕ, ◌≡◌, ◌+◌, ◌*◌, ◌<◌, List};
+ghost use Rattle.bump_rules.specs.declared.items.Head.{Head as TheHead};
+ghost use Rattle.bump_steps.specs.Words.{words_id};
+ghost use Rattle.bump_steps.specs.Plays.{on_chunk, Found};
+ghost use Rattle.bump_steps.specs.References.{looked, taken, MayTake, HasHold, given_back, label_read, seen, IsSeen};
+ghost use Rattle.bump_steps.specs.Tries.{TookView};
+
+use crate::decoding::head_of;
+use crate::refusals::{TakeRefusal, refusal};
+use crate::views::{Empty, View};
+use crate::words::{Seat, Words};
+use atomic_table::Play;
+use bump_rules::ItemId;
+use bump_word::laws::ONE_REFERENCE;
+use std::marker::{Brand, PhantomData};
+
+pub struct Look;
+
+impl Play<Empty, View> for Look {
+    ghost then = { on_chunk looked };
+}
+
+pub struct Take;
+
+impl Play<Empty, View> for Take {
+    ghost then = { on_chunk taken };
+}
+
+pub struct GiveBack;
+
+impl Play<Empty, View> for GiveBack {
+    ghost then = { on_chunk given_back };
+}
+
+pub struct ReadLabel;
+
+impl Play<Empty, View> for ReadLabel {
+    ghost then = { on_chunk label_read };
+}
+
+/// Tells a load the limit of references, which it can't know.
+pub trait Limited {
+    ghost use Rattle.std.specs.Prelude.{ℕ};
+
+    ghost limit: { ℕ };
+}
+
+impl Limited for Brand {
+    ghost limit = { 0 };
+}
+
+pub struct See<L: Limited> {
+    of: PhantomData<L>,
+}
+
+impl<L: Limited> Play<Empty, View> for See<L> {
+    ghost then = { on_chunk (seen L.limit) };
+}
+
+impl Words {
+    /// A load of a head word, by a worker.
+    pub fn look(&self, seat: &mut Seat, chunk: u32) -> u64
+        requires { (seat.old.table_id ≡ words_id self.now) × (3 * chunk + 2 < (words_id self.now).words) }
+        ensures same { (seat.new.table_id ≡ seat.old.table_id) × (seat.new.id ≡ seat.old.id) }
+        ensures told { looked chunk 0 seat.old.me result seat.new.me }
+    {
+        self.table.shared.load::<Look>(seat, 3 * chunk as usize)
+    }
+
+    /// The exchange by which a worker takes a hold.
+    pub fn try_take(&self, seat: &mut Seat, life: ItemId, word: u64) -> u64
+        requires seat { (seat.old.table_id ≡ words_id self.now) × (3 * life.chunk + 2 < (words_id self.now).words) }
+        requires word { MayTake self.now.table.shared.key.refs_limit life word }
+        ensures same { (seat.new.table_id ≡ seat.old.table_id) × (seat.new.id ≡ seat.old.id) }
+        ensures told { taken life.chunk word seat.old.me result seat.new.me }
+    {
+        self.table
+            .shared
+            .compare_exchange::<Take>(seat, 3 * life.chunk as usize, word, word + ONE_REFERENCE)
+    }
+
+    /// One load, and at most 8 exchanges.
+    pub fn take(&self, seat: &mut Seat, life: ItemId, limit: u32) -> Option<TakeRefusal>
+        requires seat { (seat.old.table_id ≡ words_id self.now) × (3 * life.chunk + 2 < (words_id self.now).words) }
+        requires limit { limit ≡ self.now.table.shared.key.refs_limit }
+        ensures same { (seat.new.table_id ≡ seat.old.table_id) × (seat.new.id ≡ seat.old.id) }
+        ensures told { (first : TheHead) × (more : List TheHead) × TookView limit life seat.old.me seat.new.me result first more }
+    {
+        let mut word = self.look(seat, life.chunk);
+        for failed in 0..8u32 {
+            let head = head_of(word);
+            if let Some(refused) = refusal(head, life, limit) {
+                return Some(refused);
+            }
+            let found = self.try_take(seat, life, word);
+            if found == word {
+                return None;
+            }
+            word = found;
+        }
+        Some(TakeRefusal::Busy)
+    }
+
+    /// The subtraction by which a hold gives its reference back.
+    pub fn give_back(&self, seat: &mut Seat, chunk: u32) -> u64
+        requires seat { (seat.old.table_id ≡ words_id self.now) × (3 * chunk + 2 < (words_id self.now).words) }
+        requires hold { HasHold chunk seat.old.me.0 }
+        ensures same { (seat.new.table_id ≡ seat.old.table_id) × (seat.new.id ≡ seat.old.id) }
+        ensures told { given_back chunk ONE_REFERENCE seat.old.me result seat.new.me }
+    {
+        self.table
+            .shared
+            .fetch_sub::<GiveBack>(seat, 3 * chunk as usize, ONE_REFERENCE)
+    }
+
+    /// A load of a label word, by a hold.
+    pub fn read_label(&self, seat: &mut Seat, chunk: u32) -> u64
+        requires seat { (seat.old.table_id ≡ words_id self.now) × (3 * chunk + 2 < (words_id self.now).words) }
+        requires hold { HasHold chunk seat.old.me.0 }
+        ensures same { (seat.new.table_id ≡ seat.old.table_id) × (seat.new.id ≡ seat.old.id) }
+        ensures told { label_read chunk 0 seat.old.me result seat.new.me }
+    {
+        self.table
+            .shared
+            .load::<ReadLabel>(seat, 3 * chunk as usize + 2)
+    }
+
+    fn see_by<L: Limited>(&self, chunk: u32) -> u64
+        requires chunk { 3 * chunk + 2 < (words_id self.now).words }
+        requires limit { L.limit ≡ self.now.table.shared.key.refs_limit }
+        ensures { Found result (IsSeen L.limit) }
+    {
+        let (found, _seat) = self
+            .table
+            .shared
+            .load_new_seat::<See<L>>(3 * chunk as usize);
+        found
+    }
+
+    /// A load of a head word, without a seat.
+    pub fn see(&self, chunk: u32) -> u64
+        requires { 3 * chunk + 2 < (words_id self.now).words }
+        ensures { Found result (IsSeen self.now.table.shared.key.refs_limit) }
+    {
+        self.see_by::<Brand>(chunk)
+    }
+
+    /// A load of a time word, without a seat.
+    pub fn see_time(&self, chunk: u32) -> u64
+        requires { 3 * chunk + 2 < (words_id self.now).words }
+    {
+        self.table.shared.peek(3 * chunk as usize + 1)
+    }
+}

@@ -1,0 +1,215 @@
+//! The steps by which a worker takes the reference of a bump, sends it off, has it back and drops it.
+ghost use Rattle.std.specs.Prelude.{ℕ, ◌≡◌, ◌≢◌, ◌+◌, ◌*◌, ◌<◌, ◌≤◌, ◌++◌, [], ◌∷◌, None, List};
+ghost use Rattle.bump_rules.specs.declared.items.Head.{Head as TheHead};
+ghost use Rattle.bump_rules.specs.declared.items.ItemId.{ItemId as TheItemId};
+ghost use Rattle.bump_rules.specs.declared.hands.Hand.TheVariants.{Idle, Trying, InHand};
+ghost use Rattle.bump_rules.specs.Lives.{life as life_in};
+ghost use Rattle.bump_steps.specs.declared.views.WorkerPart.{WorkerPart as TheWorkerPart};
+ghost use Rattle.bump_steps.specs.declared.views.HoldPart.{HoldPart as TheHoldPart};
+ghost use Rattle.bump_steps.specs.declared.views.Ride.{Ride as TheRide};
+ghost use Rattle.bump_steps.specs.Words.{words_id};
+ghost use Rattle.bump_steps.specs.Rule.{blank};
+ghost use Rattle.bump_steps.specs.Riders.{ride_me};
+ghost use Rattle.bump_steps.specs.RideTries.{RodeView};
+ghost use Rattle.bump_steps.specs.Rides.{looked, rode, gave_back, IsOn, HasRoom, without_ride, ride_only, return_both};
+
+use crate::decoding::head_of;
+use crate::refusals::RideRefusal;
+use crate::views::{Empty, View};
+use crate::words::{Seat, Words};
+use atomic_table::{Join, Play, Split};
+use bump_rules::ItemId;
+use bump_word::laws::ONE_REFERENCE;
+use std::marker::{Brand, PhantomData};
+
+/// Tells a step what no view has: the limit, the life, and how many exchanges have failed if this step does.
+pub trait Attempt {
+    ghost limit: { ℕ };
+
+    ghost failed: { ℕ };
+
+    ghost life: { TheItemId };
+}
+
+impl Attempt for Brand {
+    ghost limit = { 0 };
+
+    ghost failed = { 0 };
+
+    ghost life = { life_in 0 0 };
+}
+
+pub struct LookToRide<W: Attempt> {
+    of: PhantomData<W>,
+}
+
+impl<W: Attempt> Play<Empty, View> for LookToRide<W> {
+    ghost then = { λ _ m r n. looked W.limit W.failed W.life m r n };
+}
+
+pub struct TryToRide<W: Attempt> {
+    of: PhantomData<W>,
+}
+
+impl<W: Attempt> Play<Empty, View> for TryToRide<W> {
+    ghost then = { λ s m r n. rode W.limit W.failed W.life s.first m r n };
+}
+
+pub struct DropFull<W: Attempt> {
+    of: PhantomData<W>,
+}
+
+impl<W: Attempt> Play<Empty, View> for DropFull<W> {
+    ghost then = { λ _ m r n. gave_back W.life m r n };
+}
+
+pub struct RideOut;
+
+impl Split<View> for RideOut {
+    ghost left = { without_ride };
+
+    ghost right = { ride_only };
+}
+
+pub struct RideBack;
+
+impl Join<View> for RideBack {
+    ghost both = { return_both };
+
+    ghost spent = { blank };
+}
+
+impl Words {
+    fn look_to_ride_by<W: Attempt>(&self, seat: &mut Seat, limit: u32, life: ItemId) -> u64
+        requires seat { (seat.old.table_id ≡ words_id self.now) × (3 * life.chunk + 2 < (words_id self.now).words) }
+        requires attempt { (W.limit ≡ limit) × (W.failed ≡ 0) × (W.life ≡ life) }
+        requires limit { limit ≡ self.now.table.shared.key.refs_limit }
+        requires trying { IsOn (Trying life) life seat.old.me.0 }
+        ensures same { (seat.new.table_id ≡ seat.old.table_id) × (seat.new.id ≡ seat.old.id) }
+        ensures told { looked limit 0 life seat.old.me result seat.new.me }
+    {
+        self.table
+            .shared
+            .load::<LookToRide<W>>(seat, 3 * life.chunk as usize)
+    }
+
+    /// A load, of a worker that looks for room for its bump's reference.
+    pub fn look_to_ride(&self, seat: &mut Seat, limit: u32, life: ItemId) -> u64
+        requires seat { (seat.old.table_id ≡ words_id self.now) × (3 * life.chunk + 2 < (words_id self.now).words) }
+        requires limit { limit ≡ self.now.table.shared.key.refs_limit }
+        requires trying { IsOn (Trying life) life seat.old.me.0 }
+        ensures same { (seat.new.table_id ≡ seat.old.table_id) × (seat.new.id ≡ seat.old.id) }
+        ensures told { looked limit 0 life seat.old.me result seat.new.me }
+    {
+        self.look_to_ride_by::<Brand>(seat, limit, life)
+    }
+
+    fn try_to_ride_by<W: Attempt>(
+        &self,
+        seat: &mut Seat,
+        limit: u32,
+        life: ItemId,
+        seen: u64,
+        failed: u32,
+    ) -> u64
+        requires seat { (seat.old.table_id ≡ words_id self.now) × (3 * life.chunk + 2 < (words_id self.now).words) }
+        requires attempt { (W.limit ≡ limit) × (W.failed ≡ failed) × (W.life ≡ life) }
+        requires limit { limit ≡ self.now.table.shared.key.refs_limit }
+        requires trying { IsOn (Trying life) life seat.old.me.0 }
+        requires room { HasRoom limit seen }
+        ensures same { (seat.new.table_id ≡ seat.old.table_id) × (seat.new.id ≡ seat.old.id) }
+        ensures told { rode limit failed life seen seat.old.me result seat.new.me }
+    {
+        self.table
+            .shared
+            .compare_exchange::<TryToRide<W>>(
+                seat,
+                3 * life.chunk as usize,
+                seen,
+                seen + ONE_REFERENCE,
+            )
+    }
+
+    /// An exchange that takes the bump's reference. Where it fails it is a load, and `failed` exchanges have failed.
+    pub fn try_to_ride(
+        &self,
+        seat: &mut Seat,
+        limit: u32,
+        life: ItemId,
+        seen: u64,
+        failed: u32,
+    ) -> u64
+        requires seat { (seat.old.table_id ≡ words_id self.now) × (3 * life.chunk + 2 < (words_id self.now).words) }
+        requires limit { limit ≡ self.now.table.shared.key.refs_limit }
+        requires trying { IsOn (Trying life) life seat.old.me.0 }
+        requires room { HasRoom limit seen }
+        ensures same { (seat.new.table_id ≡ seat.old.table_id) × (seat.new.id ≡ seat.old.id) }
+        ensures told { rode limit failed life seen seat.old.me result seat.new.me }
+    {
+        self.try_to_ride_by::<Brand>(seat, limit, life, seen, failed)
+    }
+
+    /// One load, and at most 8 exchanges.
+    pub fn ride(&self, seat: &mut Seat, limit: u32, life: ItemId) -> Option<RideRefusal>
+        requires seat { (seat.old.table_id ≡ words_id self.now) × (3 * life.chunk + 2 < (words_id self.now).words) }
+        requires limit { limit ≡ self.now.table.shared.key.refs_limit }
+        requires trying { IsOn (Trying life) life seat.old.me.0 }
+        ensures same { (seat.new.table_id ≡ seat.old.table_id) × (seat.new.id ≡ seat.old.id) }
+        ensures told { (first : TheHead) × (more : List TheHead) × RodeView limit life seat.old.me seat.new.me result first more }
+    {
+        let mut word = self.look_to_ride(seat, limit, life);
+        for failed in 0..8u32 {
+            let head = head_of(word);
+            if head.refs >= limit {
+                return Some(RideRefusal::RefsFull);
+            }
+            let found = self.try_to_ride(seat, limit, life, word, failed + 1);
+            if found == word {
+                return None;
+            }
+            word = found;
+        }
+        Some(RideRefusal::Busy)
+    }
+
+    fn drop_full_by<W: Attempt>(&self, seat: &mut Seat, life: ItemId) -> u64
+        requires seat { (seat.old.table_id ≡ words_id self.now) × (3 * life.chunk + 2 < (words_id self.now).words) }
+        requires attempt { W.life ≡ life }
+        requires in_hand { IsOn (InHand life) life seat.old.me.0 }
+        ensures same { (seat.new.table_id ≡ seat.old.table_id) × (seat.new.id ≡ seat.old.id) }
+        ensures told { gave_back life seat.old.me result seat.new.me }
+    {
+        self.table
+            .shared
+            .fetch_sub::<DropFull<W>>(seat, 3 * life.chunk as usize, ONE_REFERENCE)
+    }
+
+    /// The subtraction that gives the reference of a bump back which found no room.
+    pub fn drop_full(&self, seat: &mut Seat, life: ItemId) -> u64
+        requires seat { (seat.old.table_id ≡ words_id self.now) × (3 * life.chunk + 2 < (words_id self.now).words) }
+        requires in_hand { IsOn (InHand life) life seat.old.me.0 }
+        ensures same { (seat.new.table_id ≡ seat.old.table_id) × (seat.new.id ≡ seat.old.id) }
+        ensures told { gave_back life seat.old.me result seat.new.me }
+    {
+        self.drop_full_by::<Brand>(seat, life)
+    }
+
+    /// The reference in the worker's hand leaves it.
+    pub fn part_ride(&self, seat: &mut Seat) -> Seat
+        requires { (seat.old.table_id ≡ words_id self.now) × (0 < (words_id self.now).words) }
+        ensures same { (seat.new.table_id ≡ seat.old.table_id) × (seat.new.id ≡ seat.old.id) × (result.table_id ≡ seat.old.table_id) }
+        ensures parts { (seat.new.me ≡ (without_ride seat.old.me.0, seat.old.me.1)) × (result.me ≡ (ride_only seat.old.me.0, [])) }
+    {
+        self.table.shared.split_seat::<RideOut>(seat)
+    }
+
+    /// A rider's seat joins its worker's, which has no bump under way.
+    pub fn ride_back(&self, seat: &mut Seat, rider: Seat)
+        requires seats { (seat.old.table_id ≡ words_id self.now) × (rider.table_id ≡ words_id self.now) × (0 < (words_id self.now).words) }
+        requires rider { (r : TheRide) × (rider.me ≡ ride_me r) × IsOn Idle r.life seat.old.me.0 }
+        ensures same { (seat.new.table_id ≡ seat.old.table_id) × (seat.new.id ≡ seat.old.id) }
+        ensures back { seat.new.me ≡ (return_both seat.old.me.0 rider.me.0, seat.old.me.1) }
+    {
+        self.table.shared.join_seat::<RideBack>(seat, rider);
+    }
+}

@@ -1,0 +1,175 @@
+//! What seats know of the words: plain data, which contracts speak of. No value of it is ever made.
+use bump_rules::{Accounts, AppliedBump, Change, Hand, ItemId, LabelStep, Lane};
+use std::collections::LinkedList;
+
+/// A kind of atomic step.
+#[derive(Clone, Copy)]
+pub enum Kind {
+    /// A load, or an exchange that failed.
+    Load,
+
+    /// A reference was taken for a hold.
+    Take,
+
+    /// FETCHED was set.
+    Fetch,
+
+    /// ACTIVE was set.
+    Mark,
+
+    /// A reference was taken for a bump.
+    Reserve,
+
+    /// ACTIVE was cleared after a drop.
+    Unmark,
+
+    /// The reference of a bump that found no room was given back.
+    Release,
+
+    /// A reader stored the time.
+    StoreTime,
+
+    /// A life began.
+    Link,
+
+    /// A life was unlinked.
+    Unlink,
+
+    /// An unlinked chunk was found without a reference.
+    Sweep,
+
+    /// ACTIVE was cleared under the class's lock.
+    ClearActive,
+
+    /// The segment bits were changed.
+    Move,
+
+    /// The head of the bump aboard was looked at.
+    Try,
+
+    /// The reference of the bump aboard was given back.
+    Alight,
+
+    /// The label was stored.
+    PutLabel,
+
+    /// The time was stored under the class's lock.
+    PutTime,
+}
+
+/// A step that a seat made.
+#[derive(Clone, Copy)]
+pub struct OwnStep {
+    /// What was done.
+    pub kind: Kind,
+
+    /// The chunk on one of whose words it was made.
+    pub chunk: u32,
+
+    /// The word that it found, or the value that it stored.
+    pub word: u64,
+
+    /// The bump for which it was made, if it was for one: its worker, and its number.
+    pub bump: Option<(u32, u64)>,
+}
+
+/// A reference that travels as a bump.
+#[derive(Clone, Copy)]
+pub struct Ride {
+    /// The worker whose bump it is.
+    pub worker: u32,
+
+    /// Its number among this worker's accepted bumps, from 0.
+    pub number: u64,
+
+    /// The life that was hit, to which it refers.
+    pub life: ItemId,
+}
+
+/// What a worker's seat knows.
+pub struct WorkerPart {
+    /// The worker's number, from 0.
+    pub worker: u32,
+
+    /// How far it is with an attempted bump.
+    pub hand: Hand,
+
+    /// Its counts of bumps. A bump that travels counts as accepted, until it comes back.
+    pub accounts: Accounts,
+
+    /// The lives that it hit first, in order.
+    pub hits: LinkedList<ItemId>,
+
+    /// The steps that it made, in order.
+    pub steps: LinkedList<OwnStep>,
+}
+
+/// What a hold knows.
+pub struct HoldPart {
+    /// The life to which it refers.
+    pub life: ItemId,
+
+    /// The labels that it read, in order.
+    pub labels: LinkedList<u64>,
+}
+
+/// What a class's seat knows.
+pub struct ClassPart {
+    /// The class's number, from 0.
+    pub class: u32,
+
+    /// Its first chunk.
+    pub first: u32,
+
+    /// The number of its chunks.
+    pub count: u32,
+
+    /// The generation of its chunks before their first life.
+    pub fresh: u32,
+
+    /// What happened to its lists, in order.
+    pub history: LinkedList<Change>,
+
+    /// The labels that it stored, and the lives that it began, in order.
+    pub labels: LinkedList<LabelStep>,
+
+    /// The steps that it made, in order.
+    pub steps: LinkedList<OwnStep>,
+}
+
+/// What a lane's seat knows.
+pub struct LanePart {
+    /// The worker whose ring it drains.
+    pub worker: u32,
+
+    /// How far it is with the bump aboard.
+    pub stage: Lane,
+
+    /// The bumps that it applied, in order.
+    pub applied: LinkedList<AppliedBump>,
+
+    /// The steps that it made, in order.
+    pub steps: LinkedList<OwnStep>,
+}
+
+/// What a seat of the table knows: the parts of which it is made.
+pub struct View {
+    /// Workers' parts.
+    pub workers: LinkedList<WorkerPart>,
+
+    /// Holds' parts.
+    pub holds: LinkedList<HoldPart>,
+
+    /// References that travel.
+    pub riders: LinkedList<Ride>,
+
+    /// Classes' parts.
+    pub classes: LinkedList<ClassPart>,
+
+    /// Lanes' parts.
+    pub lanes: LinkedList<LanePart>,
+}
+
+/// What lies in a slot of the table. The table has none.
+#[derive(Clone, Copy)]
+pub struct Empty;

@@ -1,0 +1,17 @@
+//! The words that threads share, and the steps on them, under no name.
+ghost use Rattle.std.specs.Prelude.{◌≡◌, ◌*◌};
+ghost use Rattle.bump_steps.specs.Rule.{chunks as all_chunks};
+
+use crate::rule::Rule;
+use crate::views::{Empty, View};
+use atomic_table::Table;
+use bump_rules::Config;
+use std::alloc::Global;
+
+pub type Seat = atomic_table::Seat<Empty, View>;
+
+#[derive(Drop)]
+pub struct Words {
+    pub table: Table<Empty, View, Config, Rule, Global>,
+    ghost sized: { table.shared.table_id.words ≡ 3 * all_chunks table.shared.key },
+}
