@@ -6,6 +6,7 @@ ghost use Rattle.bump_heads.specs.Linking.{place_of_chunk, generation_of_chunk};
 ghost use Rattle.bump_steps.specs.Views.{owns};
 ghost use Rattle.bump_class.specs.Books.{BookView as TheBookView, IsBook, IsNewSeat, new_book};
 ghost use Rattle.bump_class.specs.Changes.{looked_book};
+ghost use Rattle.bump_class.specs.Ends.{is_in_segment};
 
 use bump_heads::{ClassSeat, Name};
 use bump_rules::{ClassConfig, ClassLists, Head, Place};
@@ -93,6 +94,21 @@ impl<N: Name> Book<N> {
         ensures { IfOk result (λ v. v.items ≡ list_at self.now.lists place) }
     {
         self.lists.chunks(place).collect(alloc)
+    }
+
+    /// The head and the time of a chunk of the class, by two loads, between which other threads may change both. The head agrees with the
+    /// chunk's list: it is linked, with this segment, in HOT, WARM and COLD, and not linked elsewhere; and it has the chunk's generation.
+    /// Of the time nothing is promised.
+    pub fn see(&mut self, chunk: u32) -> (Head, u64)
+        requires own { owns chunk self.old.part ≡ true }
+        ensures looked { self.new ≡ looked_book chunk result.0 self.old }
+        ensures listed { is_in_segment chunk self.old.lists ≡ result.0.linked }
+        ensures agrees { Shows result.0 (place_of_chunk self.old.part chunk) }
+        ensures generation { result.0.generation ≡ generation_of_chunk self.old.part chunk }
+        ensures marks { bit result.0.active ≤ bit result.0.fetched }
+    {
+        let head = self.look(chunk);
+        (head, self.seat.see_time(chunk))
     }
 
     /// Whether a chunk is of the class.

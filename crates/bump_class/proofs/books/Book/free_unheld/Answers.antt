@@ -29,4 +29,4 @@ invariant_of-self g c =
     let place = c.place.ensures ∙ ap target (c.freed.ensures ∙ ap freed_change same) in
     entered i.seat c.seen_unheld-head.new.self i.first i.end i.hot_limit i.warm_limit i.lists c.to_front.new.self (freed_change l) _ _ c.self.invariant
     (◌∙◌ {b = record i.seat { part = seen c.args.chunk h.refs (word_of h) i.seat.part }} c.seen_unheld-head.ensures.seen (ap (λ (k : ClassPart). record i.seat { part = k }) (seen_free c.args.chunk h.refs (word_of h) i.seat.part c.if-head-eq0.true)))
-    (c.to_front.ensures ∙ ap₂ (λ d p. to_front d p i.lists) (sym of) place) (ap (λ d. owns d i.seat.part) of ∙ own) (freed_fair l)
+    (◌∙◌ {b = to_front c.args.chunk c.place.result i.lists} c.to_front.ensures (ap₂ (λ d p. to_front d p i.lists) (sym of) place)) (ap (λ d. owns d i.seat.part) of ∙ own) (freed_fair l)

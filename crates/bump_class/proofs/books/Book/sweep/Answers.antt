@@ -1,9 +1,8 @@
-use Rattle.std.proofs.Common.{◌≡◌, ◌+◌, ◌==◌, ℕ, Some, if◌then◌else◌, refl, sym, ap, ap₂, ◌∙◌, subst, arith, eq-eqb, ne_eqb, Option}
-use Rattle.bump_rules.specs.declared.items.Head.{Head}
+use Rattle.std.proofs.Common.{◌≡◌, ◌+◌, ◌==◌, if◌then◌else◌, refl, sym, ap, ◌∙◌, arith, eq-eqb, ne_eqb}
 use Rattle.bump_links.specs.Lists.{next_of}
 use Rattle.bump_class.specs.Books.{BookView}
 use Rattle.bump_class.specs.Changes.{seen_book}
-use Rattle.bump_class.proofs.Sights.{SweptSoFar, none_seen, one_more, next_dying, moved_on, some_ahead}
+use Rattle.bump_class.proofs.Sights.{none_seen, one_more, next_dying, moved_on, some_ahead}
 use Rattle.bump_class.proofs.books.Book.sweep.Goals as goal
 use Rattle.bump_class.proofs.books.Book.sweep.Goals.{then-head-eq0, else-head-eq0}
 
@@ -45,4 +44,4 @@ loop-looked-preserved g c =
       | then-head-eq0 w ↦ ap (λ t. c.loop-looked.freed + (if t then 1 else 0)) (eq-eqb h.refs 0 w.if-head-eq0.true) ∙ sym w.freed-is
       | else-head-eq0 w ↦ ap (λ t. c.loop-looked.freed + (if t then 1 else 0)) (ne_eqb h.refs 0 (λ e. absurd (omega (arith, e, w.if-head-eq0.false)))) ∙ (omega arith ∙ sym w.freed-is)
     ] in
-    moved_on b (seen_book c.in-Some.chunk h c.loop-looked.self) c.free_unheld-head.new.self (c.loop-looked.looked + 1) _ c.if-head-eq0.freed _ c.after-next.result (sym c.free_unheld-head.ensures.seen) (sym c.after-next.ensures.next) freed more
+    moved_on b (seen_book c.in-Some.chunk h c.loop-looked.self) c.free_unheld-head.new.self (c.loop-looked.looked + 1) (c.loop-looked.freed + (if h.refs == 0 then 1 else 0)) c.if-head-eq0.freed (next_of c.in-Some.chunk c.loop-looked.self.lists.dying) c.after-next.result (sym c.free_unheld-head.ensures.seen) (sym c.after-next.ensures.next) freed more
