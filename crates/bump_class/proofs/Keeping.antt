@@ -1,26 +1,24 @@
 -- What a Book keeps over a change, and where its chunks stand.
-use Rattle.std.proofs.Common.{◌≡◌, ℕ, ◌+◌, ◌-◌, ◌<◌, ◌≤◌, ◌&&◌, eqb, cond, Bool, true, false, List, [], ◌∷◌, ◌++◌, Option, None, Some, IfSome, if◌then◌else◌, refl, sym, ap, ap₂, ◌∙◌, subst, arith, eq-eqb, ne_eqb, ◌≢◌, option_map}
+use Rattle.std.proofs.Common.{◌≡◌, ℕ, ◌+◌, ◌-◌, ◌<◌, ◌≤◌, ◌&&◌, cond, Bool, true, false, List, [], ◌∷◌, ◌++◌, Option, None, Some, IfSome, if◌then◌else◌, refl, sym, ap, ap₂, ◌∙◌, subst, arith, eq-eqb, ne_eqb, ◌≢◌, option_map}
 use Rattle.std.proofs.Math.Bool.{and-false}
 use Rattle.std.proofs.lemmas.Bool.{and_parts}
 use Rattle.bump_links.specs.Lists.{times, first_of, last_of}
 use Rattle.bump_rules.specs.declared.history.Change.{Change}
-use Rattle.bump_rules.specs.declared.history.Change.TheVariants as change
 use Rattle.bump_rules.specs.declared.items.Head.{Head}
-use Rattle.bump_rules.specs.declared.items.ItemId.{ItemId}
 use Rattle.bump_rules.specs.declared.labels.LabelStep.{LabelStep}
 use Rattle.bump_rules.specs.declared.places.Place.{Place}
 use Rattle.bump_rules.specs.declared.places.Segment.{Segment}
 use Rattle.bump_rules.specs.declared.places.Place.TheVariants.{Hot, Warm, Cold, Dying, Unused, Retired}
 use Rattle.bump_rules.specs.Entries.{is_stray}
-use Rattle.bump_rules.specs.History.{is_place, subject, target, freed_change, replayed, AreBetween, standing_in}
+use Rattle.bump_rules.specs.History.{is_place, subject, target, replayed, AreBetween, standing_in}
 use Rattle.bump_rules.specs.Lawful.{bit, IsUsed}
-use Rattle.bump_rules.specs.Lists.{Lists, list_at, to_front, opening, IsListed}
+use Rattle.bump_rules.specs.Lists.{times_in_all, Lists, list_at, to_front, opening, IsListed}
 use Rattle.bump_rules.specs.Totals.{how_many}
 use Rattle.bump_rules.proofs.Counted.{how_many_push}
 use Rattle.bump_rules.proofs.Laws.{bit_some, bit_at_most}
 use Rattle.bump_rules.proofs.PlainLists.{first_there, last_there}
 use Rattle.bump_rules.proofs.Replay.{replay_push, are_between_push, replayed_lists, standing_push}
-use Rattle.bump_rules.proofs.Standings.{same_place, place_same}
+use Rattle.bump_rules.proofs.Standings.{same_place, place_same, one_place}
 use Rattle.bump_word.specs.Words.{word_of}
 use Rattle.bump_steps.specs.declared.views.ClassPart.{ClassPart}
 use Rattle.bump_heads.specs.declared.views.ClassView.{ClassView}
@@ -102,22 +100,6 @@ entered v w first end hot warm lists after e labels steps o is moved own fair =
     let kept : Keeps new first end (to_front (subject e).chunk (target e) lists) hot warm = (o.0, o.1, o.2, entry_kept old e labels steps own fair o.3) in
     subst (λ (x : ClassView). Keeps x first end after hot warm) (sym is) (subst (λ (l : Lists). Keeps new first end l hot warm) (sym moved) kept)
 
--- the entry of a chunk that is freed speaks of it
-pub freed_subject : (l : ItemId) → subject (freed_change l) ≡ l
-freed_subject l = by (eqb l.generation 4294967295)
-  where
-    by : (b : Bool) → subject (cond b (change.Retired l) (change.Swept l)) ≡ l
-    by true = refl
-    by false = refl
-
--- and names no bump
-pub freed_fair : (l : ItemId) → is_stray (freed_change l) ≡ false
-freed_fair l = by (eqb l.generation 4294967295)
-  where
-    by : (b : Bool) → is_stray (cond b (change.Retired l) (change.Swept l)) ≡ false
-    by true = refl
-    by false = refl
-
 -- where one more entry of a chunk leaves it
 pub stands_after : (k : ClassPart) (e : Change) (c : ℕ) → (subject e).chunk ≡ c → standing_in k.fresh (k.history ++ e ∷ []) c ≡ (target e, (subject e).generation)
 stands_after k e c of = standing_push c (Unused, k.fresh) k.history e ∙ ap (λ (b : Bool). cond b (target e, (subject e).generation) (standing_in k.fresh k.history c)) (eq-eqb (subject e).chunk c of)
@@ -145,3 +127,19 @@ never_free b c o used = (times_in b c Unused o ∙ (ap (λ a. bit (owns c b.part
     by Dying u = (refl, refl)
     by Unused u = absurd u
     by Retired u = absurd u
+
+-- each chunk of the class is once in the six lists
+pub once_in_all : (b : BookView) (c : ℕ) → IsBook b → owns c b.part ≡ true → times_in_all c b.lists ≡ 1
+once_in_all b c o own = omega (
+  arith,
+  in_list Hot,
+  in_list Warm,
+  in_list Cold,
+  in_list Dying,
+  in_list Unused,
+  in_list Retired,
+  one_place (place_of_chunk b.part c),
+)
+  where
+    in_list : (q : Place) → times c (list_at b.lists q) ≡ bit (is_place (place_of_chunk b.part c) q)
+    in_list q = times_in b c q o ∙ ap (λ a. bit (a && is_place (place_of_chunk b.part c) q)) own

@@ -14,6 +14,7 @@ use Rattle.bump_rules.specs.Heads.{fresh_head}
 use Rattle.bump_rules.specs.History.{Standing, is_place, subject, target, freed_change, standing_after, standing_from, replay}
 use Rattle.bump_rules.specs.Lists.{list_at, to_front}
 use Rattle.bump_rules.specs.Lives.{life}
+use Rattle.bump_rules.specs.Sweeps.{unheld, swept_of}
 use Rattle.bump_rules.specs.Tables.{is_unheld}
 use Rattle.bump_rules.proofs.PlainLists.{times_same, times_other, times_rest}
 use Rattle.bump_rules.proofs.Replay.{replay_push}
@@ -29,8 +30,9 @@ use Rattle.bump_steps.specs.Plays.{step_of}
 use Rattle.bump_steps.specs.Views.{owns, standing}
 use Rattle.bump_class.specs.Books.{BookView, IsBook}
 use Rattle.bump_class.specs.Changes.{seen_book}
-use Rattle.bump_class.specs.Sweeps.{unheld, swept_of, sight, sights, swept_part, swept_book}
-use Rattle.bump_class.proofs.Keeping.{once_at_most, stands_there, freed_subject}
+use Rattle.bump_class.specs.Sweeps.{sight, sights, swept_part, swept_book}
+use Rattle.bump_steps.proofs.Entering.{freed_subject}
+use Rattle.bump_class.proofs.Keeping.{once_at_most, stands_there}
 
 -- ---- plain lists
 
@@ -289,15 +291,15 @@ next_dying b now i n ahead heads kept c o within is so =
     )
 
 -- the same of what is equal
-pub moved_on : (b now new : BookView) (i n m : ℕ) (ahead behind : Option ℕ) → now ≡ new → ahead ≡ behind → n ≡ m
+pub moved_on : (b now new : BookView) (i n m : ℕ) (ahead behind : Option ℕ) → new ≡ now → ahead ≡ behind → n ≡ m
     → ((heads : ℕ → Head) × (kept : List ℕ) × SweptSoFar b i now ahead n heads kept) → (heads : ℕ → Head) × (kept : List ℕ) × SweptSoFar b i new behind m heads kept
 moved_on b now new i n m ahead behind is_new is_behind is_counted so =
     (so.0, so.1, record {
-      after = sym is_new ∙ so.2.after;
+      after = is_new ∙ so.2.after;
       counted = sym is_counted ∙ so.2.counted;
       few = omega (arith, so.2.few, is_counted);
       next = sym is_behind ∙ so.2.next;
-      left = ap (λ (a : BookView). a.lists.dying) (sym is_new) ∙ so.2.left;
+      left = ap (λ (a : BookView). a.lists.dying) is_new ∙ so.2.left;
       unlinked = so.2.unlinked;
       generation = so.2.generation;
     })

@@ -1,7 +1,10 @@
 //! A Book: the lists of a class, and its seat on the words.
-ghost use Rattle.std.specs.Prelude.{◌≡◌, ◌+◌, ◌≤◌, ◌*◌, None, IfOk, length, true};
+ghost use Rattle.std.specs.Prelude.{◌≡◌, ℕ, ◌+◌, ◌≤◌, ◌*◌, ◌&&◌, None, IfOk, length, true};
+ghost use Rattle.bump_links.specs.Lists.{times};
+ghost use Rattle.bump_rules.specs.declared.places.Place.{Place as ThePlace};
+ghost use Rattle.bump_rules.specs.History.{is_place};
 ghost use Rattle.bump_rules.specs.Lawful.{bit, Shows};
-ghost use Rattle.bump_rules.specs.Lists.{list_at};
+ghost use Rattle.bump_rules.specs.Lists.{list_at, times_in_all};
 ghost use Rattle.bump_heads.specs.Linking.{place_of_chunk, generation_of_chunk};
 ghost use Rattle.bump_steps.specs.Views.{owns};
 ghost use Rattle.bump_class.specs.Books.{BookView as TheBookView, IsBook, IsNewSeat, new_book};
@@ -61,9 +64,13 @@ impl<N: Name> Book<N> {
         })
     }
 
-    /// What every Book keeps: its lists are the replay of its class's history, whose entries are of the class's own chunks.
+    /// What every Book keeps: its lists are the replay of its class's history, whose entries are of the class's own chunks. So a chunk
+    /// stands in a list once exactly where it is of the class and its history leaves it there, and not at all elsewhere; and each chunk of
+    /// the class stands once in the six lists.
     pub fn promise(&self)
-        ensures { IsBook self.now }
+        ensures book { IsBook self.now }
+        ensures stands { (c : ℕ) (q : ThePlace) → times c (list_at self.now.lists q) ≡ bit (owns c self.now.part && is_place (place_of_chunk self.now.part c) q) }
+        ensures once { (c : ℕ) → owns c self.now.part ≡ true → times_in_all c self.now.lists ≡ 1 }
     {
         let _lists = &self.lists;
     }
@@ -112,7 +119,7 @@ impl<N: Name> Book<N> {
     }
 
     /// Whether a chunk is of the class.
-    pub(crate) fn has_chunk(&self, chunk: u32) -> bool
+    pub fn has_chunk(&self, chunk: u32) -> bool
         ensures { result ≡ owns chunk self.now.part }
     {
         self.first <= chunk && chunk < self.end

@@ -44,4 +44,4 @@ loop-looked-preserved g c =
       | then-head-eq0 w ↦ ap (λ t. c.loop-looked.freed + (if t then 1 else 0)) (eq-eqb h.refs 0 w.if-head-eq0.true) ∙ sym w.freed-is
       | else-head-eq0 w ↦ ap (λ t. c.loop-looked.freed + (if t then 1 else 0)) (ne_eqb h.refs 0 (λ e. absurd (omega (arith, e, w.if-head-eq0.false)))) ∙ (omega arith ∙ sym w.freed-is)
     ] in
-    moved_on b (seen_book c.in-Some.chunk h c.loop-looked.self) c.free_unheld-head.new.self (c.loop-looked.looked + 1) (c.loop-looked.freed + (if h.refs == 0 then 1 else 0)) c.if-head-eq0.freed (next_of c.in-Some.chunk c.loop-looked.self.lists.dying) c.after-next.result (sym c.free_unheld-head.ensures.seen) (sym c.after-next.ensures.next) freed more
+    moved_on b (seen_book c.in-Some.chunk h c.loop-looked.self) c.free_unheld-head.new.self (c.loop-looked.looked + 1) (c.loop-looked.freed + (if h.refs == 0 then 1 else 0)) c.if-head-eq0.freed (next_of c.in-Some.chunk c.loop-looked.self.lists.dying) c.after-next.result c.free_unheld-head.ensures.seen (sym c.after-next.ensures.next) freed more
