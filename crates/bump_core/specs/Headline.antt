@@ -1,5 +1,5 @@
 -- What a World promises of its rings, its accounts, its free chunks, its lists and its lanes' entries, in the words of the headline.
-use Rattle.std.specs.Prelude.{◌≡◌, ℕ, ◌+◌, ◌<◌, ◌≤◌, Bool, true, false, ◌&&◌, ◌++◌, length, map}
+use Rattle.std.specs.Prelude.{◌≡◌, ℕ, ◌<◌, ◌≤◌, Bool, true, false, ◌&&◌, ◌++◌, length, map}
 use Rattle.std.specs.List.{Contains}
 use Rattle.bump_rules.specs.declared.places.Place.{Place}
 use Rattle.bump_rules.specs.declared.items.ItemId.{ItemId}
@@ -9,7 +9,7 @@ use Rattle.bump_rules.specs.Entries.{is_stray, is_move_for, IsTrueEntry}
 use Rattle.bump_rules.specs.History.{is_place}
 use Rattle.bump_rules.specs.Lawful.{bit, Shows}
 use Rattle.bump_links.specs.Lists.{times}
-use Rattle.bump_rules.specs.Lists.{Lists, list_at}
+use Rattle.bump_rules.specs.Lists.{list_at, times_in_all}
 use Rattle.bump_state.specs.Rings.{in_ring}
 use Rattle.bump_rules.specs.Rings.{aboard, bump_applied, numbered_from, IsRing, IsAccounts}
 use Rattle.bump_state.specs.State.{State, WorkerState, head, class, class_of, worker}
@@ -19,10 +19,6 @@ use Rattle.bump_state.specs.Worlds.{references, owns, stands_in, CountsMoves}
 -- bump is applied once at most, and in that worker's order, and what is not applied yet is still on its way.
 abbrev pub AppliesInOrder : WorkerState → Type 0
 AppliesInOrder x = map bump_applied x.applied ++ aboard x.lane ++ numbered_from (length x.received) (in_ring x) ≡ numbered_from 0 x.sent
-
--- how often a chunk stands in the lists of a class
-abbrev pub times_in_all : ℕ → Lists → ℕ
-times_in_all c l = times c l.hot + times c l.warm + times c l.cold + times c l.dying + times c l.unused + times c l.retired
 
 -- how many moves for bump n of worker w the histories of all classes have together
 abbrev pub moves_for : State → ℕ → ℕ → ℕ

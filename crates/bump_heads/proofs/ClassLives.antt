@@ -89,10 +89,13 @@ module _ (words : ℕ) (k : ClassPart) (o : IsClassPart words k) where
     abbrev pub next_life : ItemId
     next_life = life c ((standing k c).1 + 1)
 
-    -- it has the chunk's label
+    -- it has the label that was stored last for the chunk
+    pub begun_label : label_of_life next_life 0 (k.labels ++ Begun next_life ∷ []) ≡ Some (label_of k c)
+    begun_label = life_begun next_life 0 k.labels (and_from (eqb c c) (eqb ((standing k c).1 + 1) ((standing k c).1 + 1)) (eq-eqb c c refl) (eq-eqb ((standing k c).1 + 1) ((standing k c).1 + 1) refl)) (o.unbegun c ((standing k c).1 + 1) (omega arith))
+
+    -- which stays the chunk's
     label_here : label_of_life next_life 0 (k.labels ++ Begun next_life ∷ []) ≡ Some (label_word c 0 (k.labels ++ Begun next_life ∷ []))
-    label_here = life_begun next_life 0 k.labels (and_from (eqb c c) (eqb ((standing k c).1 + 1) ((standing k c).1 + 1)) (eq-eqb c c refl) (eq-eqb ((standing k c).1 + 1) ((standing k c).1 + 1) refl)) (o.unbegun c ((standing k c).1 + 1) (omega arith))
-        ∙ ap (λ (y : ℕ). Some y) (sym (word_begun c 0 k.labels next_life))
+    label_here = begun_label ∙ ap (λ (y : ℕ). Some y) (sym (word_begun c 0 k.labels next_life))
 
     -- and what the class keeps, it keeps
     pub keeps_begun : IsClassPart words (begun c ((standing k c).1 + 1) n k)

@@ -1,9 +1,10 @@
 //! Lives begin and end under their class's lock: labels, links, unlinks, and the chunks that nobody holds any more.
-ghost use Rattle.std.specs.Prelude.{◌≡◌, ◌+◌, ◌*◌, ◌<◌, ◌≤◌, None, true, false};
+ghost use Rattle.std.specs.Prelude.{◌≡◌, ◌+◌, ◌*◌, ◌<◌, ◌≤◌, None, Some, true, false};
 ghost use Rattle.bump_rules.specs.declared.places.Place.TheVariants.{Dying, Unused};
+ghost use Rattle.bump_rules.specs.Labels.{label_of_life};
 ghost use Rattle.bump_rules.specs.Lawful.{bit, Shows};
 ghost use Rattle.bump_rules.specs.Lives.{life};
-ghost use Rattle.bump_steps.specs.Views.{owns};
+ghost use Rattle.bump_steps.specs.Views.{owns, label_of};
 ghost use Rattle.bump_steps.specs.Lives.{labelled, IsInSegment};
 ghost use Rattle.bump_heads.specs.Linking.{place_of_chunk, generation_of_chunk, with_look, with_life, without_life, with_sight};
 
@@ -23,6 +24,13 @@ impl<N: Name> ClassSeat<N> {
         ensures marks { bit result.active ≤ bit result.fetched }
     {
         head_of(self.heads.words.class_look(&mut self.seat, chunk))
+    }
+
+    /// The time of a chunk of the class, by one load. Nothing is promised of it, and the load is no step of the class's list.
+    pub fn see_time(&self, chunk: u32) -> u64
+        requires own { owns chunk self.now.part ≡ true }
+    {
+        self.heads.words.see_time(chunk)
     }
 
     /// Stores the label of a chunk, by one store: a number that says what the chunk's next life is, and that each reader who holds
@@ -46,6 +54,7 @@ impl<N: Name> ClassSeat<N> {
         requires unused { place_of_chunk self.old.part chunk ≡ Unused }
         ensures next { result ≡ life chunk (generation_of_chunk self.old.part chunk + 1) }
         ensures begun { self.new ≡ record self.old { part = with_life result self.old.part } }
+        ensures label { label_of_life result 0 self.new.part.labels ≡ Some (label_of self.old.part chunk) }
     {
         let found = head_of(self.heads.words.peek(&mut self.seat, chunk));
         let generation = found.generation + 1;

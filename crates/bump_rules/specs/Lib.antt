@@ -10,5 +10,6 @@ pub mod Lawful
 pub mod Lists
 pub mod Lives
 pub mod Rings
+pub mod Sweeps
 pub mod Tables
 pub mod Totals

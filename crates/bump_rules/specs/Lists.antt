@@ -1,5 +1,5 @@
 -- The six lists of a class.
-use Rattle.std.specs.Prelude.{ℕ, ◌<◌, List, [], ◌∷◌}
+use Rattle.std.specs.Prelude.{ℕ, ◌+◌, ◌<◌, List, [], ◌∷◌}
 use Rattle.std.specs.List.{range_with_len}
 use Rattle.bump_links.specs.Lists.{times, without}
 use Rattle.bump_rules.specs.declared.places.Place.{Place}
@@ -58,3 +58,7 @@ opening first n = record { hot = []; warm = []; cold = []; dying = []; unused = 
 -- the chunk stands in one of the lists
 abbrev pub IsListed : ℕ → Lists → Type 0
 IsListed c l = (p : Place) × (0 < times c (list_at l p))
+
+-- how often a chunk stands in the lists of a class
+abbrev pub times_in_all : ℕ → Lists → ℕ
+times_in_all c l = times c l.hot + times c l.warm + times c l.cold + times c l.dying + times c l.unused + times c l.retired

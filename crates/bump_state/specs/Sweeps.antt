@@ -1,23 +1,8 @@
 -- What a sweep enters into the history of a class.
-use Rattle.std.specs.Prelude.{ℕ, List, map, filter}
-use Rattle.bump_rules.specs.declared.items.Head.{Head}
+use Rattle.std.specs.Prelude.{ℕ, List}
 use Rattle.bump_rules.specs.declared.history.Change.{Change}
-use Rattle.bump_rules.specs.Lives.{life}
-use Rattle.bump_rules.specs.History.{freed_change}
-use Rattle.bump_rules.specs.Tables.{is_unheld}
+use Rattle.bump_rules.specs.Sweeps.{swept_of}
 use Rattle.bump_state.specs.State.{State, head, class}
-
--- the chunks of a list that nobody holds, by the heads of all chunks
-abbrev pub unheld : (ℕ → Head) → List ℕ → List ℕ
-unheld heads cs = filter (λ c. is_unheld (heads c)) cs
-
--- what the sweep of these chunks enters into the history
-abbrev pub swept_changes : (ℕ → Head) → List ℕ → List Change
-swept_changes heads cs = map (λ c. freed_change (life c (heads c).generation)) cs
-
--- what a sweep of this list enters: those that nobody holds, front to back as the list stands
-abbrev pub swept_of : (ℕ → Head) → List ℕ → List Change
-swept_of heads cs = swept_changes heads (unheld heads cs)
 
 -- what a sweep of a class enters, by its DYING
 abbrev pub sweep_of : State → ℕ → List Change

@@ -1,7 +1,7 @@
 //! What a World keeps of a class.
 ghost use Rattle.std.specs.Prelude.{◌≡◌, ◌<◌, ◌≤◌, ◌+◌, ◌++◌, All, OnOk, OnErr, drop, length};
 ghost use Rattle.std.specs.Vec.{vec_capacity, vec_len};
-ghost use Rattle.bump_state.specs.Sweeps.{unheld, swept_of};
+ghost use Rattle.bump_rules.specs.Sweeps.{unheld, swept_of};
 ghost use Rattle.bump_rules.specs.History.{subject, replay, AreListed};
 ghost use Rattle.bump_rules.specs.Lists.{IsListed};
 ghost use Rattle.bump_state.specs.State.{class_with_change, class_with_changes, heads_of};

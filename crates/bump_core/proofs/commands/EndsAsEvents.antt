@@ -27,7 +27,7 @@ use Rattle.bump_state.specs.Worlds.{IsLawful, owns, place, place_in}
 use Rattle.bump_state.specs.Events.{is_enabled, after, unlink, close}
 use Rattle.bump_core.specs.Runs.{run_of}
 use Rattle.bump_core.specs.Commands.{is_allowed, events_of, command_after, end_of, freed_by, end_life, look_of, end_events, looks_at}
-use Rattle.bump_state.specs.Sweeps.{unheld, swept_changes, swept_of}
+use Rattle.bump_rules.specs.Sweeps.{unheld, swept_changes, swept_of}
 use Rattle.bump_rules.proofs.SixLists.{times_front}
 use Rattle.bump_state.proofs.Tiles.{class_within}
 use Rattle.bump_core.proofs.events.Moves.{stands_pushed}

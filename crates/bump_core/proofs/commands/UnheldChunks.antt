@@ -7,7 +7,8 @@ use Rattle.bump_rules.specs.Tables.{is_unheld}
 use Rattle.bump_rules.specs.declared.commands.Command.TheVariants as command
 use Rattle.bump_state.specs.State.{State, head, class, is_class, is_under_application}
 use Rattle.bump_core.specs.Commands.{is_allowed}
-use Rattle.bump_state.specs.Sweeps.{swept_of, swept_changes, sweep_of, unheld}
+use Rattle.bump_rules.specs.Sweeps.{swept_of, swept_changes, unheld}
+use Rattle.bump_state.specs.Sweeps.{sweep_of}
 
 -- a sweep that enters something finds a chunk that nobody holds
 pub some_unheld : (heads : ℕ → Head) (cs : List ℕ) → 0 < length (swept_of heads cs) → list_any (λ c. is_unheld (heads c)) cs ≡ true

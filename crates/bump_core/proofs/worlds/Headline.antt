@@ -3,11 +3,11 @@ use Rattle.std.proofs.Common.{◌≡◌, ℕ, ◌<◌, ◌&&◌, Bool, true, Lis
 use Rattle.bump_rules.specs.declared.places.Place.{Place}
 use Rattle.bump_rules.specs.declared.places.Place.TheVariants.{Hot, Warm, Cold, Dying, Unused, Retired}
 use Rattle.bump_rules.specs.declared.bumps.Bump.{Bump}
-use Rattle.bump_core.specs.Headline.{Headline, AppliesInOrder, Stands, times_in_all}
+use Rattle.bump_core.specs.Headline.{Headline, AppliesInOrder, Stands}
 use Rattle.bump_rules.specs.History.{is_place}
 use Rattle.bump_rules.specs.Lawful.{bit, IsUsed, Shows}
 use Rattle.bump_links.specs.Lists.{times}
-use Rattle.bump_rules.specs.Lists.{list_at}
+use Rattle.bump_rules.specs.Lists.{list_at, times_in_all}
 use Rattle.bump_state.specs.Rings.{in_ring, IsWorker}
 use Rattle.bump_rules.specs.Rings.{numbered_from}
 use Rattle.bump_state.specs.State.{State, WorkerState, class, head, worker}

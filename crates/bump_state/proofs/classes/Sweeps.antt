@@ -7,7 +7,7 @@ use Rattle.bump_rules.specs.declared.history.Change.{Change}
 use Rattle.bump_rules.specs.declared.history.Change.TheVariants as change
 use Rattle.bump_rules.specs.declared.places.Place.{Place}
 use Rattle.bump_rules.specs.declared.places.Place.TheVariants.{Dying}
-use Rattle.bump_state.specs.Sweeps.{unheld, swept_changes, swept_of}
+use Rattle.bump_rules.specs.Sweeps.{unheld, swept_changes, swept_of}
 use Rattle.bump_rules.specs.History.{subject, target, replay, freed_change, AreListed}
 use Rattle.bump_rules.specs.Lists.{Lists, to_front, IsListed}
 use Rattle.bump_rules.specs.Lives.{life}

@@ -1,6 +1,6 @@
 use Rattle.std.proofs.Common.{◌≡◌, ◌≤◌, ◌+◌, ◌++◌, length}
 use Rattle.std.specs.Vec.{vec_capacity, vec_len}
-use Rattle.bump_state.specs.Sweeps.{unheld, swept_of}
+use Rattle.bump_rules.specs.Sweeps.{unheld, swept_of}
 use Rattle.bump_state.specs.State.{heads_of}
 use Rattle.bump_state.proofs.classes.enter_unheld.Given as goal
 

@@ -1,13 +1,16 @@
-use Rattle.std.proofs.Common.{ℕ, ◌+◌, refl, ap, ◌∙◌, sym, subst, arith}
+use Rattle.std.proofs.Common.{◌≡◌, Some, ℕ, ◌+◌, refl, ap, ◌∙◌, sym, subst, arith}
 use Rattle.bump_rules.specs.declared.places.Place.{Place}
 use Rattle.bump_rules.specs.Heads.{newborn}
+use Rattle.bump_rules.specs.Labels.{label_of_life}
 use Rattle.bump_rules.specs.Lawful.{Shows}
 use Rattle.bump_rules.specs.Lives.{life}
 use Rattle.bump_word.specs.Words.{word_of}
 use Rattle.bump_steps.specs.Lives.{begun}
+use Rattle.bump_steps.specs.Views.{label_of}
+use Rattle.bump_heads.specs.declared.views.ClassView.{ClassView}
 use Rattle.bump_heads.specs.Seats.{class_me, IsClassPart}
-use Rattle.bump_heads.proofs.ClassLives.{keeps_begun}
-use Rattle.bump_heads.proofs.ClassSeats.{seat_kept, finds, alone_is, after_look}
+use Rattle.bump_heads.proofs.ClassLives.{keeps_begun, begun_label}
+use Rattle.bump_heads.proofs.ClassSeats.{seat_kept, finds, alone_is, after_look, view_after}
 use Rattle.bump_heads.proofs.seats.ClassSeat.open_life.Goals as goal
 
 pub overflow_add-generation : goal.overflow_add-generation
@@ -26,3 +29,12 @@ invariant_of-self g c = let n : ℕ = c.head_of-found.result.generation + 1 in l
 
 pub returns-clause-next : goal.returns-clause-next
 returns-clause-next g c = ap (λ (j : ℕ). life c.args.chunk (j + 1)) (finds c.args.chunk c.peek.result c.self.inside.seat.me c.args.self.now c.head_of-found.result c.self.view_is c.self.invariant.0 c.requires.own c.head_of-found.ensures c.peek.ensures.told.1).1
+
+pub returns-clause-label : goal.returns-clause-label
+returns-clause-label g c = let n : ℕ = c.head_of-found.result.generation + 1 in let word : ℕ = word_of (newborn n) in
+    let gen = (finds c.args.chunk c.peek.result c.self.inside.seat.me c.args.self.now c.head_of-found.result c.self.view_is c.self.invariant.0 c.requires.own c.head_of-found.ensures c.peek.ensures.told.1).1 in
+    let part = subst (λ (v : ClassView). IsClassPart g.N.Name.table.words v.part) c.self.view_is c.self.invariant.4 in
+    let after = after_look c.self.inside.seat.me c.peek.new.seat.me c.begin.new.seat.me (begun c.args.chunk n word) c.peek.ensures.told.0 c.begin.ensures.told in
+    let seen = view_after c.self.inside.seat.me c.begin.new.seat.me c.args.self.now (begun c.args.chunk n word) (c.self.invariant.0 ∙ ap class_me c.self.view_is) after in
+    ap (λ (v : ClassView). label_of_life (life c.args.chunk n) 0 v.part.labels) seen
+        ∙ subst (λ (j : ℕ). label_of_life (life c.args.chunk (j + 1)) 0 (begun c.args.chunk (j + 1) word c.args.self.now.part).labels ≡ Some (label_of c.args.self.now.part c.args.chunk)) (sym gen) (begun_label g.N.Name.table.words c.args.self.now.part part c.args.chunk word c.requires.own)

@@ -1,5 +1,5 @@
 use Rattle.std.proofs.Common.{length, arith, ap}
-use Rattle.bump_state.specs.Sweeps.{unheld}
+use Rattle.bump_rules.specs.Sweeps.{unheld}
 use Rattle.bump_state.specs.State.{heads_of}
 use Rattle.bump_state.proofs.classes.Sweeps.{unheld_within, unheld_held}
 use Rattle.bump_state.proofs.classes.Class.count_unheld.Goals as goal

@@ -1,7 +1,7 @@
 use Rattle.std.proofs.Common.{◌≡◌, ◌++◌, ◌-◌, arith, length, List, drop, sym, ap, ◌∙◌, subst}
 use Rattle.std.proofs.lemmas.List.{drop_at, take_all, length-drop}
 use Rattle.bump_rules.specs.declared.history.Change.{Change}
-use Rattle.bump_state.specs.Sweeps.{swept_of}
+use Rattle.bump_rules.specs.Sweeps.{swept_of}
 use Rattle.bump_rules.specs.History.{AreListed}
 use Rattle.bump_state.specs.State.{heads_of}
 use Rattle.bump_state.proofs.classes.Sweeps.{dying_listed}

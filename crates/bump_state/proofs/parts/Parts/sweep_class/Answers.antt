@@ -2,7 +2,7 @@ use Rattle.std.proofs.Common.{◌<◌, List, length, slice_index_or, sym, ap, �
 use Rattle.std.proofs.lemmas.List.{length-map}
 use Rattle.bump_state.specs.declared.chunks.Chunk.{Chunk}
 use Rattle.bump_rules.specs.declared.places.Place.TheVariants.{Dying}
-use Rattle.bump_state.specs.Sweeps.{swept_of}
+use Rattle.bump_rules.specs.Sweeps.{swept_of}
 use Rattle.bump_state.specs.State.{ClassState, head, no_class, heads_of, class_with_changes}
 use Rattle.bump_state.specs.Views.{state_of, class_view}
 use Rattle.bump_rules.proofs.Updates.{rewritten, unchanged, on_err}
