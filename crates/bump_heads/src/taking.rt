@@ -41,6 +41,7 @@ impl<N: Name> Heads<N> {
     ///
     /// Busy is answered where 8 exchanges failed, whatever the last of them found. A refusal changes nothing: all that is new to the
     /// worker is the list of its steps, of which none changed a word.
+    #[inline(always)]
     pub fn take(&self, worker: &mut WorkerSeat<N>, life: ItemId) -> Result<Hold<N>, TakeRefusal>
         requires alone { worker.old.hold ≡ None }
         requires chunk { life.chunk < all_chunks self.now }

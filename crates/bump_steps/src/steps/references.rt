@@ -82,6 +82,7 @@ impl Words {
     }
 
     /// One load, and at most 8 exchanges.
+    #[inline(always)]
     pub fn take(&self, seat: &mut Seat, life: ItemId, limit: u32) -> Option<TakeRefusal>
         requires seat { (seat.old.table_id ≡ words_id self.now) × (3 * life.chunk + 2 < (words_id self.now).words) }
         requires limit { limit ≡ self.now.table.shared.key.refs_limit }
