@@ -266,18 +266,18 @@ const WORKLOADS: [Workload; 17] = [
     Workload { name: "get_1000000", items: 1_000_000, rounds: 1, ..GET },
 ];
 
-fn lives(first: u32, items: u32, shared: bool) -> Vec<ItemId> {
+fn lives(chunks: u32, first: u32, items: u32, shared: bool) -> Vec<ItemId> {
     (0..items as u64)
         .map(|number| {
             let next = first + (number * 2_654_435_761 % items as u64) as u32;
-            ItemId { chunk: if shared { 0 } else { next }, generation: 1 }
+            ItemId { chunk: if shared { chunks - 1 } else { next }, generation: 1 }
         })
         .collect()
 }
 
 /// What one worker's thread does.
 fn work(heads: &Heads, worker: u32, workload: Workload, arrived: &AtomicU64) -> (u64, Tally) {
-    let items = lives(worker * workload.items, workload.items, workload.shared);
+    let items = lives(workload.items * workload.threads, worker * workload.items, workload.items, workload.shared);
     let mut reader = Reader { attempted: 0 };
     if workload.touches > 0 {
         hits(heads, &mut reader, &items, workload.touches, Touch::First);

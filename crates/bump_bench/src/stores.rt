@@ -71,7 +71,7 @@ pub fn link_all<N: Name>(class: &mut ClassSeat<N>, chunks: u32, cold: bool)
     }
 }
 
-/// The first lives of so many chunks from this one on, in an order that jumps; or of the first chunk alone, as often. All are below `chunks`.
+/// The first lives of so many chunks from this one on, in an order that jumps; or of the last chunk alone, as often. All are below `chunks`.
 pub fn lives(
     alloc: Global,
     chunks: u32,
@@ -85,7 +85,7 @@ pub fn lives(
     let mut lives = Vec::with_capacity(alloc, items as usize)?;
     for number in 0..items {
         let chunk = if shared {
-            0
+            chunks - 1
         } else {
             let next = u64::from(number) * 2_654_435_761 % u64::from(items);
             ((u64::from(first) + next) % u64::from(chunks)) as u32
