@@ -193,15 +193,19 @@ pub record SweptSoFar (b : BookView) (i : ℕ) (now : BookView) (ahead : Option 
 
 -- nothing was looked at yet
 pub none_seen : (b : BookView) → (heads : ℕ → Head) × (kept : List ℕ) × SweptSoFar b 0 b (first_of b.lists.dying) 0 heads kept
-none_seen b = (λ c. fresh_head 0, [], record {
-  after = λ i. record b { part = record b.part { history = sym (append-nil b.part.history) i; steps = sym (append-nil b.part.steps) i } };
-  counted = refl;
-  few = omega arith;
-  next = refl;
-  left = refl;
-  unlinked = λ c some. absurd (omega (arith, some));
-  generation = λ c some. absurd (omega (arith, some));
-})
+none_seen b = (
+  λ c. fresh_head 0,
+  [],
+  record {
+    after = λ i. record b { part = record b.part { history = sym (append-nil b.part.history) i; steps = sym (append-nil b.part.steps) i } };
+    counted = refl;
+    few = omega arith;
+    next = refl;
+    left = refl;
+    unlinked = λ c some. absurd (omega (arith, some));
+    generation = λ c some. absurd (omega (arith, some));
+  },
+)
 
 -- what the list DYING is after a look at a chunk that stands in it once
 pub left_seen : (b : BookView) (c : ℕ) (h : Head) (kept ys : List ℕ) → b.lists.dying ≡ kept ++ c ∷ ys → times c kept ≡ 0 → times c ys ≡ 0
@@ -293,16 +297,19 @@ next_dying b now i n ahead heads kept c o within is so =
 -- the same of what is equal
 pub moved_on : (b now new : BookView) (i n m : ℕ) (ahead behind : Option ℕ) → new ≡ now → ahead ≡ behind → n ≡ m
     → ((heads : ℕ → Head) × (kept : List ℕ) × SweptSoFar b i now ahead n heads kept) → (heads : ℕ → Head) × (kept : List ℕ) × SweptSoFar b i new behind m heads kept
-moved_on b now new i n m ahead behind is_new is_behind is_counted so =
-    (so.0, so.1, record {
-      after = is_new ∙ so.2.after;
-      counted = sym is_counted ∙ so.2.counted;
-      few = omega (arith, so.2.few, is_counted);
-      next = sym is_behind ∙ so.2.next;
-      left = ap (λ (a : BookView). a.lists.dying) is_new ∙ so.2.left;
-      unlinked = so.2.unlinked;
-      generation = so.2.generation;
-    })
+moved_on b now new i n m ahead behind is_new is_behind is_counted so = (
+  so.0,
+  so.1,
+  record {
+    after = is_new ∙ so.2.after;
+    counted = sym is_counted ∙ so.2.counted;
+    few = omega (arith, so.2.few, is_counted);
+    next = sym is_behind ∙ so.2.next;
+    left = ap (λ (a : BookView). a.lists.dying) is_new ∙ so.2.left;
+    unlinked = so.2.unlinked;
+    generation = so.2.generation;
+  },
+)
 
 -- a chunk is ahead as long as not all were looked at
 pub some_ahead : (b now : BookView) (i n : ℕ) (ahead : Option ℕ) (heads : ℕ → Head) (kept : List ℕ) → i < length b.lists.dying → SweptSoFar b i now ahead n heads kept → ahead ≡ Some (get_or b.lists.dying i 0)

@@ -12,3 +12,6 @@ mod sweeping;
 pub use books::Book;
 pub use ending::UnlinkRefusal;
 pub use linking::LinkRefusal;
+
+#[cfg(test)]
+mod tests;

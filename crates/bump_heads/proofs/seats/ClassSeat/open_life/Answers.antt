@@ -37,4 +37,4 @@ returns-clause-label g c = let n : ℕ = c.head_of-found.result.generation + 1 i
     let after = after_look c.self.inside.seat.me c.peek.new.seat.me c.begin.new.seat.me (begun c.args.chunk n word) c.peek.ensures.told.0 c.begin.ensures.told in
     let seen = view_after c.self.inside.seat.me c.begin.new.seat.me c.args.self.now (begun c.args.chunk n word) (c.self.invariant.0 ∙ ap class_me c.self.view_is) after in
     ap (λ (v : ClassView). label_of_life (life c.args.chunk n) 0 v.part.labels) seen
-        ∙ subst (λ (j : ℕ). label_of_life (life c.args.chunk (j + 1)) 0 (begun c.args.chunk (j + 1) word c.args.self.now.part).labels ≡ Some (label_of c.args.self.now.part c.args.chunk)) (sym gen) (begun_label g.N.Name.table.words c.args.self.now.part part c.args.chunk word c.requires.own)
+    ∙ subst (λ (j : ℕ). label_of_life (life c.args.chunk (j + 1)) 0 (begun c.args.chunk (j + 1) word c.args.self.now.part).labels ≡ Some (label_of c.args.self.now.part c.args.chunk)) (sym gen) (begun_label g.N.Name.table.words c.args.self.now.part part c.args.chunk word c.requires.own)
