@@ -29,7 +29,7 @@ use Rattle.bump_heads.specs.Linking.{place_of_chunk}
 use Rattle.bump_steps.specs.Lives.{looked, freed, seen}
 use Rattle.bump_heads.specs.Seats.{listed as listed_lanes}
 use Rattle.bump_steps.specs.Views.{owns}
-use Rattle.bump_class.specs.Books.{BookView, IsBook}
+use Rattle.bump_class.specs.Books.{BookView, IsBook, Keeps}
 
 -- a new class's lists are the replay of no history
 pub new_kept : (b : BookView) → b.part.history ≡ [] → b.lists ≡ opening b.part.first b.part.count → IsBook b
@@ -83,11 +83,7 @@ once_there b c q o own at = times_in b c q o ∙ ap₂ (λ a d. bit (a && d)) ow
 pub listed : (b : BookView) (c : ℕ) → IsBook b → owns c b.part ≡ true → IsListed c b.lists
 listed b c o own = let once : times c (list_at b.lists (place_of_chunk b.part c)) ≡ 1 = once_there b c (place_of_chunk b.part c) o own refl in (place_of_chunk b.part c, omega (arith, once))
 
--- What the type of a Book keeps, with the seat whole.
-abbrev pub Keeps : ClassView → ℕ → ℕ → Lists → ℕ → ℕ → Type 0
-Keeps v first end lists hot warm = (v.lane ≡ None) × (first ≡ v.part.first) × (end ≡ v.part.first + v.part.count) × IsBook (record { part = v.part; lists = lists; hot_limit = hot; warm_limit = warm })
-
--- it is kept by an entry and its move
+-- what the type of a Book keeps, it keeps by an entry and its move
 pub entered : (v w : ClassView) (first end hot warm : ℕ) (lists after : Lists) (e : Change) (labels : List LabelStep) (steps : List OwnStep)
     → Keeps v first end lists hot warm
     → w ≡ record v { part = record v.part { history = v.part.history ++ e ∷ []; labels = labels; steps = steps } }
