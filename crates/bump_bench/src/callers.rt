@@ -113,25 +113,21 @@ fn links<N: Name>(book: &mut Book<N>, times: u32) -> Tally {
     }
 }
 
-// Pulls the last item of a list, so often. Sums the chunks of the items.
+// Pulls the last item of a list, so often. Right is a pull that found one.
 fn pulls<N: Name>(book: &mut Book<N>, tail: Tail, times: u32) -> Tally {
     let mut refused: u64 = 0;
-    let mut labels: u64 = 0;
+    let mut right: u64 = 0;
     for _time in 0..times {
-        match book.pull(tail) {
-            Pulled::Empty => refused = one_more(refused),
-            Pulled::Stay(item)
-            | Pulled::Warm(item)
-            | Pulled::Again(item)
-            | Pulled::Cold(item)
-            | Pulled::Freed(item)
-            | Pulled::Deferred(item) => labels = labels.wrapping_add(u64::from(item.chunk)),
+        if matches!(book.pull(tail), Pulled::Empty) {
+            refused = one_more(refused);
+        } else {
+            right = right.wrapping_add(1);
         }
     }
     Tally {
         refused,
-        right: 0,
-        labels,
+        right,
+        labels: 0,
     }
 }
 
