@@ -1,6 +1,10 @@
-//! The readers' steps of `bump_heads`, and the workloads of `bump_bench`, over plain atomics. `bench/run` builds and runs both.
-//! rustc --edition 2024 -C opt-level=2 -C panic=abort bench/hits.rs -o hits && ./hits all
+//! The readers' steps of `bump_heads`, and the workloads of `bump_bench`, over plain atomics; books.rs has the calls of a Book.
+//! `bench/run` builds and runs both programs.
+//! rustc --edition 2024 -C opt-level=3 -C codegen-units=1 -C panic=abort bench/hits.rs -o hits && ./hits all
 
+mod books;
+
+use books::{CALLS, Calls};
 use std::sync::Arc;
 use std::sync::atomic::AtomicU64;
 use std::sync::atomic::Ordering::SeqCst;
@@ -311,22 +315,58 @@ fn pass(workload: Workload) -> (u64, Tally) {
     })
 }
 
-fn measure(workload: Workload, passes: usize) {
-    let (first, tally) = pass(workload);
-    let mut times: Vec<u64> = (0..passes).map(|_| pass(workload).0).collect();
-    times.sort();
-    let Workload { name, threads, .. } = workload;
-    let operations = workload.items as u64 * workload.rounds as u64;
-    let best = times.first().copied().unwrap_or(first);
-    let median = times.get(times.len() / 2).copied().unwrap_or(first);
-    let Tally { refused, right, labels } = tally;
-    let each = |nanos: u64| nanos as f64 / operations as f64;
-    let each_second = operations as u128 * threads as u128 * 1_000_000_000 / best.max(1) as u128;
-    println!("{name}, threads {threads}: {:.2} nanoseconds at best, {:.2} in the middle of {passes} passes", each(best), each(median));
-    println!(
-        "RESULT\tplain\t{name}\t{threads}\t{:.2}\t{:.2}\t{each_second}\toperations={operations} refused={refused} right={right} labels={labels}",
-        each(best), each(median)
-    );
+/// What is measured: steps of readers, or calls of a Book.
+#[derive(Clone, Copy)]
+enum Measured {
+    Reads(Workload),
+    Calls(Calls),
+}
+
+impl Measured {
+    fn name(self) -> &'static str {
+        match self {
+            Measured::Reads(workload) => workload.name,
+            Measured::Calls(calls) => calls.name,
+        }
+    }
+
+    fn threads(self) -> u32 {
+        match self {
+            Measured::Reads(workload) => workload.threads,
+            Measured::Calls(_) => 1,
+        }
+    }
+
+    fn operations(self) -> u64 {
+        match self {
+            Measured::Reads(workload) => workload.items as u64 * workload.rounds as u64,
+            Measured::Calls(calls) => calls.times as u64,
+        }
+    }
+
+    fn pass(self) -> (u64, Tally) {
+        match self {
+            Measured::Reads(workload) => pass(workload),
+            Measured::Calls(calls) => books::pass(calls),
+        }
+    }
+
+    fn measure(self, passes: usize) {
+        let (first, tally) = self.pass();
+        let mut times: Vec<u64> = (0..passes).map(|_| self.pass().0).collect();
+        times.sort();
+        let (name, threads, operations) = (self.name(), self.threads(), self.operations());
+        let best = times.first().copied().unwrap_or(first);
+        let median = times.get(times.len() / 2).copied().unwrap_or(first);
+        let Tally { refused, right, labels } = tally;
+        let each = |nanos: u64| nanos as f64 / operations as f64;
+        let each_second = operations as u128 * threads as u128 * 1_000_000_000 / best.max(1) as u128;
+        println!("{name}, threads {threads}: {:.2} nanoseconds at best, {:.2} in the middle of {passes} passes", each(best), each(median));
+        println!(
+            "RESULT\tplain\t{name}\t{threads}\t{:.2}\t{:.2}\t{each_second}\toperations={operations} refused={refused} right={right} labels={labels}",
+            each(best), each(median)
+        );
+    }
 }
 
 fn main() {
@@ -334,10 +374,12 @@ fn main() {
     let Some(word) = words.get(1) else { return };
     let passes = words.get(2).and_then(|number| number.parse().ok()).unwrap_or(PASSES);
     let threads: Option<u32> = words.get(3).and_then(|number| number.parse().ok());
-    for workload in WORKLOADS {
-        let is_named = word == "all" || word == workload.name;
-        if is_named && threads.unwrap_or(workload.threads) == workload.threads {
-            measure(workload, passes);
+    let reads = WORKLOADS.into_iter().map(Measured::Reads);
+    let calls = CALLS.into_iter().map(Measured::Calls);
+    for measured in reads.chain(calls) {
+        let is_named = word == "all" || word == measured.name();
+        if is_named && threads.unwrap_or(measured.threads()) == measured.threads() {
+            measured.measure(passes);
         }
     }
 }

@@ -1,9 +1,11 @@
-//! Measures what the steps of `bump_heads` cost. It prints only when it is given a word: the name of a workload, or `all`. Behind it may
+//! Measures what the steps of `bump_heads` and the calls of `bump_class` cost. It prints only when it is given a word: the name of a workload, or `all`. Behind it may
 //! stand how many passes are wanted, and then of how many threads.
 #![tactic(auto)]
 
 ghost use Rattle.std.specs.Prelude.{◌≡◌, ◌<◌, ◌≤◌, [], ◌∷◌};
 
+mod callers;
+mod calls;
 mod jobs;
 mod lines;
 mod passes;
@@ -11,8 +13,11 @@ mod readers;
 mod stores;
 mod workloads;
 
+use bump_class::Book;
 use bump_heads::{Blank, Name};
-use bump_rules::Config;
+use bump_rules::{Config, MAX_CHUNKS};
+use callers::{link_all, prepare_all, timed_calls};
+use calls::{CALLS, Calls};
 use jobs::{Spent, work_apart};
 use lines::Line;
 use passes::NONE;
@@ -20,8 +25,9 @@ use std::alloc::{AllocError, Global};
 use std::marker::Brand;
 use std::rt::Clock;
 use std::thread::Threads;
+use std::time::Instant;
 use std::{env, io};
-use stores::{Store, config_of, link_all, open};
+use stores::{Store, begin_all, config_of, open};
 use workloads::{WORKLOADS, Workload};
 
 // How often each workload is passed through.
@@ -45,7 +51,7 @@ fn pass_in<N: Name + Send + Sync, R: Threads + Clock + Sync>(
         mut class,
         workers,
     } = open::<N>(alloc, blank, config, chunks)?;
-    link_all(&mut class, chunks, workload.cold);
+    begin_all(&mut class, chunks, workload.cold);
     let mut all = Spent {
         nanos: 0,
         tally: NONE,
@@ -68,29 +74,122 @@ fn pass<R: Threads + Clock + Sync>(rt: &R, alloc: Global, workload: Workload) ->
     pass_in::<Brand, _>(rt, alloc, blank, &config, workload, chunks)
 }
 
-// Passes through the workload so often, and once more before that, and prints what it took.
-fn measure<R: Threads + Clock + Sync + Print>(
+// Opens a store under a name, prepares its class, and makes the calls.
+fn calls_in<N: Name, R: Clock>(
     rt: &R,
     alloc: Global,
-    workload: Workload,
-    passes: u32,
-) -> io::Result<()> {
-    let first = pass(rt, alloc, workload)?;
-    let mut times = Vec::new(alloc);
-    for _pass in 0..passes {
-        times.push(pass(rt, alloc, workload)?.nanos)?;
-    }
-    times.sort()?;
-    let line = Line {
-        name: workload.name,
-        threads: workload.threads,
-        operations: u64::from(workload.items) * u64::from(workload.rounds),
-        passes,
-        best: times.first().copied().unwrap_or(first.nanos),
-        median: times.get(times.len() / 2).copied().unwrap_or(first.nanos),
-        tally: first.tally,
+    blank: Blank,
+    config: &Config,
+    calls: Calls,
+) -> io::Result<Spent>
+    requires name { blank.table ≡ N.table }
+    requires config { blank.config ≡ config.now }
+    requires one { (config.now.first_generation ≡ 1) × (config.now.classes ≡ record { chunks = calls.class.chunks; hot = 0; warm = 0 } ∷ []) }
+    requires some { 1 ≤ calls.class.chunks }
+    requires few { calls.class.chunks ≤ MAX_CHUNKS }
+{
+    let Store {
+        heads,
+        class,
+        mut workers,
+    } = open::<N>(alloc, blank, config, calls.class.chunks)?;
+    let mut book = Book::new(alloc, class, 0, calls.class)?;
+    link_all(&mut book, calls.items);
+    let Some(worker) = workers.pop() else {
+        return Err(AllocError.into());
     };
-    line.print(rt)
+    prepare_all(alloc, &heads, worker, &mut book, calls)?;
+    let start = Instant::now(rt)?;
+    let mut tally = timed_calls(&mut book, calls.call, calls.times);
+    let spent = start.elapsed(rt)?;
+    tally.labels = tally
+        .labels
+        .wrapping_add(u64::from(book.size(calls.behind)));
+    Ok(Spent {
+        nanos: u64::try_from(spent.as_nanos()).unwrap_or(u64::MAX),
+        tally,
+    })
+}
+
+// Opens a store of one class and one worker, and picks its name.
+fn pass_calls<R: Clock>(rt: &R, alloc: Global, calls: Calls) -> io::Result<Spent> {
+    let chunks = calls.class.chunks;
+    if chunks == 0 || chunks > MAX_CHUNKS {
+        return Err(AllocError.into());
+    }
+    let config = config_of(alloc, chunks, 1).ok_or(AllocError)?;
+    let blank = Blank::new(alloc, &config)?;
+    calls_in::<Brand, _>(rt, alloc, blank, &config, calls)
+}
+
+// What is measured: steps of readers, or calls of a Book.
+#[derive(Clone, Copy)]
+enum Measured {
+    Reads(Workload),
+    Calls(Calls),
+}
+
+impl Measured {
+    fn name(self) -> &'static str {
+        match self {
+            Measured::Reads(workload) => workload.name,
+            Measured::Calls(calls) => calls.name,
+        }
+    }
+
+    fn threads(self) -> u32 {
+        match self {
+            Measured::Reads(workload) => workload.threads,
+            Measured::Calls(_) => 1,
+        }
+    }
+
+    // The operations of one thread in a pass.
+    fn operations(self) -> u64 {
+        match self {
+            Measured::Reads(workload) => workload.operations(),
+            Measured::Calls(calls) => u64::from(calls.times),
+        }
+    }
+
+    // One pass, on a store that is opened for it.
+    fn pass<R: Threads + Clock + Sync>(self, rt: &R, alloc: Global) -> io::Result<Spent> {
+        match self {
+            Measured::Reads(workload) => pass(rt, alloc, workload),
+            Measured::Calls(calls) => pass_calls(rt, alloc, calls),
+        }
+    }
+
+    // Passes so often, and once more before that, and prints what it took.
+    fn measure<R: Threads + Clock + Sync + Print>(
+        self,
+        rt: &R,
+        alloc: Global,
+        passes: u32,
+    ) -> io::Result<()> {
+        let first = self.pass(rt, alloc)?;
+        let mut times = Vec::new(alloc);
+        for _pass in 0..passes {
+            times.push(self.pass(rt, alloc)?.nanos)?;
+        }
+        times.sort()?;
+        let line = Line {
+            name: self.name(),
+            threads: self.threads(),
+            operations: self.operations(),
+            passes,
+            best: times.first().copied().unwrap_or(first.nanos),
+            median: times.get(times.len() / 2).copied().unwrap_or(first.nanos),
+            tally: first.tally,
+        };
+        line.print(rt)
+    }
+
+    // Whether the command line asks for it: by its name, or by `all`, and where it says how many threads, by their count.
+    fn is_wanted(self, word: &str, threads: Option<u32>) -> bool {
+        let is_named = word == "all" || word == self.name();
+        is_named && threads.unwrap_or(self.threads()) == self.threads()
+    }
 }
 
 // The number in the command line, if there is one at this place.
@@ -105,10 +204,11 @@ fn main(rt: HostRuntime) -> io::Result<()> {
     };
     let passes = number_at(&words, 2).unwrap_or(PASSES);
     let threads = number_at(&words, 3);
-    for workload in WORKLOADS {
-        let is_named = word.as_str() == "all" || word.as_str() == workload.name;
-        if is_named && threads.unwrap_or(workload.threads) == workload.threads {
-            measure(&rt, rt.alloc(), workload, passes)?;
+    let reads = WORKLOADS.into_iter().map(Measured::Reads);
+    let calls = CALLS.into_iter().map(Measured::Calls);
+    for measured in reads.chain(calls) {
+        if measured.is_wanted(word.as_str(), threads) {
+            measured.measure(&rt, rt.alloc(), passes)?;
         }
     }
     Ok(())

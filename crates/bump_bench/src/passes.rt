@@ -3,7 +3,7 @@ ghost use Rattle.std.specs.Prelude.{◌≡◌, ◌<◌, All};
 ghost use Rattle.bump_steps.specs.Rule.{chunks as all_chunks};
 ghost use Rattle.bump_bench.specs.Readers.{IsReady};
 
-use crate::readers::{Reader, Touched, touch};
+use crate::readers::{Reader, Touched, touch, touch_and_send};
 use bump_heads::{Heads, Name};
 use bump_rules::ItemId;
 
@@ -41,7 +41,7 @@ impl Tally {
 /// Counts a refusal, of which there is none where one thread is at work.
 #[cold]
 #[inline(never)]
-fn one_more(refused: u64) -> u64 {
+pub fn one_more(refused: u64) -> u64 {
     refused.wrapping_add(1)
 }
 
@@ -104,6 +104,20 @@ pub fn hits<N: Name>(
         refused,
         right,
         labels,
+    }
+}
+
+/// Hits each item once, so that in COLD each is ACTIVE, and held by its bump.
+pub fn rides<N: Name>(heads: &Heads<N>, reader: &mut Reader<N>, items: &[ItemId])
+    requires ready { IsReady reader.old.seat reader.old.attempted reader.old.accepted }
+    requires items { All (λ i. i.chunk < all_chunks heads.now) items.now }
+    ensures { IsReady reader.new.seat reader.new.attempted reader.new.accepted }
+{
+    for item in items {
+        if let Ok(mut hold) = heads.take(&mut reader.seat, *item) {
+            touch_and_send(heads, reader, &mut hold);
+            heads.give_back(hold);
+        }
     }
 }
 

@@ -110,3 +110,54 @@ pub fn touch<N: Name>(
     heads.hold_out(&mut reader.seat, hold);
     touch
 }
+
+/// Takes the reference of a bump, and lets it go: the bump is under way from then on.
+fn send<N: Name>(heads: &Heads<N>, reader: &mut Reader<N>, life: ItemId)
+    requires trying { IsTrying life reader.old.seat reader.old.attempted reader.old.accepted }
+    ensures { IsTouching life reader.new.seat reader.new.attempted reader.new.accepted }
+{
+    match heads.ride(&mut reader.seat, life, reader.accepted) {
+        Ok(rider) => reader.accepted = rider.number() + 1,
+        Err(_) => {
+            heads.unmark(&mut reader.seat, life);
+        }
+    }
+}
+
+/// Marks the item of the joined hold ACTIVE, and sends a bump of it off where it stands in COLD.
+fn mark_and_send<N: Name>(heads: &Heads<N>, reader: &mut Reader<N>, life: ItemId)
+    requires touching { IsTouching life reader.old.seat reader.old.attempted reader.old.accepted }
+    requires room { reader.old.attempted < most_attempts }
+    ensures { IsTouching life reader.new.seat reader.new.attempted reader.new.accepted }
+{
+    let found = heads.mark_fetched(&mut reader.seat, life);
+    if !found.fetched || found.active {
+        return;
+    }
+    let found = heads.mark_active(&mut reader.seat, life);
+    if found.active {
+        return;
+    }
+    if let Segment::Hot | Segment::Warm = found.segment {
+        heads.set_time(&mut reader.seat, life, 0);
+        return;
+    }
+    reader.attempted += 1;
+    send(heads, reader, life);
+}
+
+/// A hit of the item that is held, whose bump isn't dropped: in COLD the item is ACTIVE behind it, and held by its bump.
+pub fn touch_and_send<N: Name>(heads: &Heads<N>, reader: &mut Reader<N>, hold: &mut Hold<N>)
+    requires ready { IsReady reader.old.seat reader.old.attempted reader.old.accepted }
+    requires whole { hold.old ≡ whole_hold hold.old.life }
+    ensures ready { IsReady reader.new.seat reader.new.attempted reader.new.accepted }
+    ensures same { hold.new ≡ hold.old }
+{
+    if reader.attempted >= MOST_ATTEMPTS {
+        return;
+    }
+    let life = hold.life();
+    heads.hold_in(&mut reader.seat, hold);
+    mark_and_send(heads, reader, life);
+    heads.hold_out(&mut reader.seat, hold);
+}

@@ -3,6 +3,7 @@ ghost use Rattle.std.specs.Prelude.{◌≡◌, ◌<◌, ◌≤◌, None, IfOk, I
 ghost use Rattle.std.specs.Arc.{arc_value};
 ghost use Rattle.bump_steps.specs.Rule.{chunks as all_chunks, worker_part};
 ghost use Rattle.bump_heads.specs.Making.{class_seen, worker_seen};
+ghost use Rattle.bump_class.specs.Books.{IsNewSeat};
 ghost use Rattle.bump_bench.specs.Readers.{IsReady};
 ghost use Rattle.bump_bench.specs.Stores.{IsLinking};
 
@@ -42,6 +43,7 @@ pub fn open<N: Name>(
     requires one { (config.now.first_generation ≡ 1) × (config.now.classes ≡ record { chunks = chunks; hot = 0; warm = 0 } ∷ []) }
     ensures chunks { IfOk result (λ s. all_chunks (arc_value s.heads) ≡ chunks) }
     ensures class { IfOk result (λ s. IsLinking chunks 0 s.class) }
+    ensures new { IfOk result (λ s. IsNewSeat s.class) }
     ensures workers { IfOk result (λ s. All (λ w. IsReady w 0 0) s.workers.items) }
 {
     let HeadParts {
@@ -58,7 +60,7 @@ pub fn open<N: Name>(
 }
 
 /// Begins a life of each chunk, and pulls it to COLD, if that is wanted.
-pub fn link_all<N: Name>(class: &mut ClassSeat<N>, chunks: u32, cold: bool)
+pub fn begin_all<N: Name>(class: &mut ClassSeat<N>, chunks: u32, cold: bool)
     requires { IsLinking chunks 0 class.old }
 {
     for chunk in 0..chunks {

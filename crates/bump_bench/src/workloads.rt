@@ -24,6 +24,13 @@ pub struct Workload {
     pub rounds: u32,
 }
 
+impl Workload {
+    /// The operations of one thread in a pass.
+    pub fn operations(self) -> u64 {
+        u64::from(self.items) * u64::from(self.rounds)
+    }
+}
+
 // A workload of items that are only taken and given back.
 const GET: Workload = Workload {
     name: "get",

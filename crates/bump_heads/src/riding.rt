@@ -28,6 +28,7 @@ impl<N: Name> Heads<N> {
     /// Busy is answered where 8 exchanges failed, whatever the last of them found. A refusal changes no word. It is the drop of the bump,
     /// made by the step that found no room, or by the last exchange: the worker counts it as one of its kind, and is to clear ACTIVE by
     /// `unmark`. With a rider the worker is idle, and counts the bump as accepted.
+    #[inline(always)]
     pub fn ride(
         &self,
         worker: &mut WorkerSeat<N>,

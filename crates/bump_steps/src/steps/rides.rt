@@ -150,6 +150,7 @@ impl Words {
     }
 
     /// One load, and at most 8 exchanges.
+    #[inline(always)]
     pub fn ride(&self, seat: &mut Seat, limit: u32, life: ItemId) -> Option<RideRefusal>
         requires seat { (seat.old.table_id ≡ words_id self.now) × (3 * life.chunk + 2 < (words_id self.now).words) }
         requires limit { limit ≡ self.now.table.shared.key.refs_limit }

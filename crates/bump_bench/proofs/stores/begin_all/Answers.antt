@@ -2,8 +2,8 @@
 use Rattle.std.proofs.Common.{sym, subst, ◌+◌}
 use Rattle.bump_bench.specs.Stores.{IsLinking}
 use Rattle.bump_bench.proofs.Linked.{linked, linked_hot, linked_cold}
-use Rattle.bump_bench.proofs.stores.link_all.Goals as goal
-use Rattle.bump_bench.proofs.stores.link_all.Goals.{then-cold, else-cold}
+use Rattle.bump_bench.proofs.stores.begin_all.Goals as goal
+use Rattle.bump_bench.proofs.stores.begin_all.Goals.{then-cold, else-cold}
 
 pub change_segment-requires-clause-stands : goal.change_segment-requires-clause-stands
 change_segment-requires-clause-stands g c = linked_hot c.args.chunks c.loop-chunk.chunk _ _ _ c.loop-chunk.class c.put_label.new.self c.put_time.new.self c.open_life.new.self c.open_life.result c.loop-chunk.invariant c.put_label.ensures.labelled c.put_time.ensures.timed c.open_life.ensures.next c.open_life.ensures.begun
