@@ -7,6 +7,7 @@ ghost use Rattle.bump_steps.specs.Rule.{chunks as all_chunks, worker_part};
 use super::calls::{call_each, tell_class};
 use super::ends::{defer_and_sweep, retire};
 use super::pulls::{pull_cold, pull_hot, pull_warm};
+use super::refused_memory::walk_again;
 use super::*;
 use bump_heads::{Blank, HeadParts, Heads, Name, WorkerSeat};
 use bump_rules::{ClassConfig, Config};
@@ -33,6 +34,7 @@ pub enum Scene {
     HotPulled,
     WarmPulled,
     ColdPulled,
+    WalkedAgain,
 }
 
 /// The configuration of such a store. None where memory is refused.
@@ -95,6 +97,7 @@ fn play_in<N: Name>(
         Scene::ClassTold => tell_class(rt, alloc, &mut book)?,
         Scene::DeferredAndSwept => defer_and_sweep(rt, alloc, &heads, &mut book, &mut worker)?,
         Scene::Retired => retire(rt, alloc, &mut book)?,
+        Scene::WalkedAgain => walk_again(rt, alloc, &mut book)?,
         Scene::HotPulled => pull_hot(rt, alloc, &heads, &mut book, &mut worker)?,
         Scene::WarmPulled => pull_warm(rt, alloc, &heads, &mut book, &mut worker)?,
         Scene::ColdPulled => pull_cold(rt, alloc, &heads, &mut book, &mut worker)?,
