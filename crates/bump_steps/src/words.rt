@@ -8,10 +8,13 @@ use atomic_table::Table;
 use bump_rules::Config;
 use std::alloc::Global;
 
+/// What a thread needs to make a step on the words. It has no bytes; what it knows is its view.
 pub type Seat = atomic_table::Seat<Empty, View>;
 
+/// The table of all words: three for each chunk, side by side, its head, its time and its label.
 #[derive(Drop)]
 pub struct Words {
+    /// The kit's table, which asks the rule of each step.
     pub table: Table<Empty, View, Config, Rule, Global>,
     ghost sized: { table.shared.table_id.words ≡ 3 * all_chunks table.shared.key },
 }

@@ -57,6 +57,7 @@ impl Split<View> for FirstLane {
 }
 
 impl Words {
+    /// Joins another seat to this one, which has the parts of both from then on. The other one may not have taken a slot.
     pub fn join(&self, seat: &mut Seat, other: Seat)
         requires { (seat.old.table_id ≡ words_id self.now) × (other.table_id ≡ words_id self.now) × (other.me.1 ≡ []) × (0 < (words_id self.now).words) }
         ensures same { (seat.new.table_id ≡ seat.old.table_id) × (seat.new.id ≡ seat.old.id) }
@@ -65,6 +66,7 @@ impl Words {
         self.table.shared.join_seat::<Both>(seat, other);
     }
 
+    /// Cuts the lanes' parts off the seat, into a seat of their own.
     pub fn part_lanes(&self, seat: &mut Seat) -> Seat
         requires { (seat.old.table_id ≡ words_id self.now) × (0 < (words_id self.now).words) }
         ensures same { (seat.new.table_id ≡ seat.old.table_id) × (seat.new.id ≡ seat.old.id) × (result.table_id ≡ seat.old.table_id) }
@@ -73,6 +75,7 @@ impl Words {
         self.table.shared.split_seat::<LanesOut>(seat)
     }
 
+    /// Cuts the holds' parts off the seat, into a seat of their own.
     pub fn part_holds(&self, seat: &mut Seat) -> Seat
         requires { (seat.old.table_id ≡ words_id self.now) × (0 < (words_id self.now).words) }
         ensures same { (seat.new.table_id ≡ seat.old.table_id) × (seat.new.id ≡ seat.old.id) × (result.table_id ≡ seat.old.table_id) }
@@ -81,6 +84,7 @@ impl Words {
         self.table.shared.split_seat::<HoldsOut>(seat)
     }
 
+    /// Cuts the first class's part off the seat, into a seat of its own.
     pub fn part_class(&self, seat: &mut Seat) -> Seat
         requires { (seat.old.table_id ≡ words_id self.now) × (0 < (words_id self.now).words) }
         ensures same { (seat.new.table_id ≡ seat.old.table_id) × (seat.new.id ≡ seat.old.id) × (result.table_id ≡ seat.old.table_id) }
@@ -89,6 +93,7 @@ impl Words {
         self.table.shared.split_seat::<FirstClass>(seat)
     }
 
+    /// Cuts the first worker's part off the seat, into a seat of its own.
     pub fn part_worker(&self, seat: &mut Seat) -> Seat
         requires { (seat.old.table_id ≡ words_id self.now) × (0 < (words_id self.now).words) }
         ensures same { (seat.new.table_id ≡ seat.old.table_id) × (seat.new.id ≡ seat.old.id) × (result.table_id ≡ seat.old.table_id) }
@@ -97,6 +102,7 @@ impl Words {
         self.table.shared.split_seat::<FirstWorker>(seat)
     }
 
+    /// Cuts the first lane's part off the seat, into a seat of its own.
     pub fn part_lane(&self, seat: &mut Seat) -> Seat
         requires { (seat.old.table_id ≡ words_id self.now) × (0 < (words_id self.now).words) }
         ensures same { (seat.new.table_id ≡ seat.old.table_id) × (seat.new.id ≡ seat.old.id) × (result.table_id ≡ seat.old.table_id) }
