@@ -16,7 +16,7 @@ use Rattle.bump_steps.specs.Views.{owns, standing}
 use Rattle.bump_heads.specs.Seats.{IsClassPart}
 
 -- the chunks of a class are among the table's
-pub own_in_range : (words c : ℕ) (k : ClassPart) → IsClassPart words k → owns c k ≡ true → 3 * c + 2 < words
+pub own_in_range : (words c : ℕ) (k : ClassPart) → IsClassPart words k → owns c k ≡ true → 3 * c + 11 < words
 own_in_range words c k p own = omega (arith, p.within, ltb-true c (k.first + k.count) (and_parts (nat_le k.first c) (nat_lt c (k.first + k.count)) own).1)
 
 -- a step is noted, and nothing else

@@ -67,7 +67,7 @@ pub length_classes : (f i at : ℕ) (ks : List ClassConfig) → length (class_pa
 length_classes f i at [] = refl
 length_classes f i at (k ∷ ks) = omega (arith, length_classes f (i + 1) (at + k.chunks) ks)
 
-pub new_classes : (words f i at : ℕ) (ks : List ClassConfig) → words ≡ 3 * (at + chunks_of ks) → AreNewClasses words i (class_parts f i at ks)
+pub new_classes : (words f i at : ℕ) (ks : List ClassConfig) → words ≡ 3 * (at + chunks_of ks) + 9 → AreNewClasses words i (class_parts f i at ks)
 new_classes words f i at [] all = tt
 new_classes words f i at (k ∷ ks) all = (
   refl,

@@ -63,7 +63,7 @@ bump_aboard (Some l) = aboard_of l.stage
 
 abbrev pub IsInRange : TableId → Option Bump → Type 0
 IsInRange table None = Unit {0}
-IsInRange table (Some b) = 3 * b.life.chunk + 2 < table.words
+IsInRange table (Some b) = 3 * b.life.chunk + 11 < table.words
 
 -- ---- classes
 
@@ -101,7 +101,7 @@ held_life (Some h) = Some h.life
 
 abbrev pub IsLifeInRange : TableId → Option ItemId → Type 0
 IsLifeInRange table None = Unit {0}
-IsLifeInRange table (Some l) = 3 * l.chunk + 2 < table.words
+IsLifeInRange table (Some l) = 3 * l.chunk + 11 < table.words
 
 -- What each worker's part keeps: accepted and dropped bumps, and the attempt under way, add up to those attempted.
 abbrev pub IsWorkerPart : WorkerPart → Type 0
@@ -110,7 +110,7 @@ IsWorkerPart w = IsAccounts w.accounts w.accounts.accepted w.hand
 -- What each class's part keeps.
 pub record IsClassPart (words : ℕ) (k : ClassPart) : Type 0 where
   -- its chunks are among the table's
-  pub within : 3 * (k.first + k.count) ≤ words
+  pub within : 3 * (k.first + k.count) + 9 ≤ words
   -- its history speaks of its own chunks alone, and its moves for bumps are from COLD to WARM
   pub between : AreBetween k.first (k.first + k.count) k.history
   pub causes : how_many is_stray k.history ≡ 0

@@ -22,7 +22,7 @@ impl<N: Name> Model for Hold<N> {
 
     ghost view = { λ h. record { life = h.life; part = hold_in_view h.seat.me.0 } };
 
-    ghost invariant = { λ h. (h.seat.me ≡ hold_me (hold_in_view h.seat.me.0)) × (h.seat.table_id ≡ N.table) × IsHoldOf h.life (hold_in_view h.seat.me.0) × (3 * h.life.chunk + 2 < N.table.words) };
+    ghost invariant = { λ h. (h.seat.me ≡ hold_me (hold_in_view h.seat.me.0)) × (h.seat.table_id ≡ N.table) × IsHoldOf h.life (hold_in_view h.seat.me.0) × (3 * h.life.chunk + 11 < N.table.words) };
 }
 
 impl<N: Name> Hold<N> {

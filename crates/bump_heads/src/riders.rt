@@ -24,7 +24,7 @@ impl<N: Name> Model for Rider<N> {
 
     ghost view = { λ r. r.ride };
 
-    ghost invariant = { λ r. (r.seat.me ≡ ride_me r.ride) × (r.seat.table_id ≡ N.table) × (3 * r.ride.life.chunk + 2 < N.table.words) × (r.ride.number < 4611686018427387903) };
+    ghost invariant = { λ r. (r.seat.me ≡ ride_me r.ride) × (r.seat.table_id ≡ N.table) × (3 * r.ride.life.chunk + 11 < N.table.words) × (r.ride.number < 4611686018427387903) };
 }
 
 impl<N: Name> Rider<N> {

@@ -158,7 +158,7 @@ module _ (c n : ℕ) (v : View) where
       by wk e outcome.TimeOnly = let more = on_first_le (λ k. how_many (shows_time_only wk e.number e.life.chunk) k.steps) (noted_class kind.PutTime c n v.lanes) (λ k. omega (arith, total_push (λ x. cond (shows_time_only wk e.number e.life.chunk x) 1 0) k.steps (step_of kind.PutTime c n (for_first v.lanes)))) v.classes in omega arith
 
 module _ (key : Config) (slots id : ℕ) (m : Sat) (c : ℕ) (near : c < chunks key) where
-  pub tries : Allows (Kept key) slots id m (3 * c) (λ n. n) (on_chunk tried (step slots (3 * c) 0 0 none) m)
+  pub tries : Allows (Kept key) slots id m (3 * c + 9) (λ n. n) (on_chunk tried (step slots (3 * c + 9) 0 0 none) m)
   tries = at_chunk tried key slots id m c 0 (λ n. n) near (λ n x t limits o a. (
     tried_view c n m.0,
     (λ u moved. same_sound key.refs_limit n x t u (same_counts c m.0 (tried_view c n m.0) t u (tried_same c n m.0 c) moved) o),
@@ -167,7 +167,7 @@ module _ (key : Config) (slots id : ℕ) (m : Sat) (c : ℕ) (near : c < chunks 
     (refl, (o.head, o.spells, tells c key.refs_limit n x m.0 t o a)),
   ))
 
-  pub clears : Allows (Kept key) slots id m (3 * c) (λ n. bit_and n (2 ^ 64 - 1 - 2 ^ 18)) (on_chunk cleared (step slots (3 * c) (2 ^ 64 - 1 - 2 ^ 18) 0 none) m)
+  pub clears : Allows (Kept key) slots id m (3 * c + 9) (λ n. bit_and n (2 ^ 64 - 1 - 2 ^ 18)) (on_chunk cleared (step slots (3 * c + 9) (2 ^ 64 - 1 - 2 ^ 18) 0 none) m)
   clears = at_chunk cleared key slots id m c (2 ^ 64 - 1 - 2 ^ 18) (λ n. bit_and n (2 ^ 64 - 1 - 2 ^ 18)) near (λ n x t limits o a. (
     cleared_view c n m.0,
     (λ u moves. same_sound key.refs_limit (bit_and n (2 ^ 64 - 1 - 2 ^ 18)) x t u (same_counts c m.0 (cleared_view c n m.0) t u (cleared_same c n m.0 c) moves) (record {
@@ -186,8 +186,8 @@ module _ (key : Config) (slots id : ℕ) (m : Sat) (c : ℕ) (near : c < chunks 
     (refl, refl, (o.head, o.spells, tells c key.refs_limit n x m.0 t o a)),
   ))
 
-  pub times : (now : ℕ) → Allows (Kept key) slots id m (3 * c + 1) (λ _. now) (λ _. timed (step slots (3 * c + 1) now 0 none) m now)
-  times now = subst (λ (d : ℕ). Allows (Kept key) slots id m (3 * c + 1) (λ _. now) (λ _ w. w ≡ (timed_view d now m.0, m.1))) (sym (time_chunk_is c))
+  pub times : (now : ℕ) → Allows (Kept key) slots id m (3 * c + 10) (λ _. now) (λ _. timed (step slots (3 * c + 10) now 0 none) m now)
+  times now = subst (λ (d : ℕ). Allows (Kept key) slots id m (3 * c + 10) (λ _. now) (λ _ w. w ≡ (timed_view d now m.0, m.1))) (sym (time_chunk_is c))
       (on_time key slots id m c (λ _. now) (λ _ w. w ≡ (timed_view c now m.0, m.1)) near (λ y n x t limits o a. (
         timed_view c now m.0,
         (λ u moves. same_sound key.refs_limit n x t u (same_counts c m.0 (timed_view c now m.0) t u (timed_same c now m.0 c) moves) o),
@@ -291,7 +291,7 @@ module _ (c : ℕ) (k : ClassPart) (own : owns c k ≡ true) (l : ItemId) (of : 
 
 module _ (key : Config) (slots id c : ℕ) (near : c < chunks key) (k : ClassPart) (from to : Segment) (st : StandsIn from c k) (sl : List (ℕ × Empty)) where
   -- a pull's
-  pub pulls : (x : ℕ) → Allows (Kept key) slots id (pulling k, sl) (3 * c) (λ n. bit_xor n (segment_change from to)) (on_chunk (moved_on from to) (step slots (3 * c) x 0 none) (pulling k, sl))
+  pub pulls : (x : ℕ) → Allows (Kept key) slots id (pulling k, sl) (3 * c + 9) (λ n. bit_xor n (segment_change from to)) (on_chunk (moved_on from to) (step slots (3 * c + 9) x 0 none) (pulling k, sl))
   pulls x = at_chunk (moved_on from to) key slots id (pulling k, sl) c x (λ n. bit_xor n (segment_change from to)) near (λ n y t limits o a.
       let l : ItemId = life_in k c in let made : OwnStep = step_of kind.Move c n None in
       shift_goes c k st.0 l refl from to cause.Pull made [] [] (λ d j. refl) key slots id near sl (moved_on from to) x (standing k c) refl st.1 (λ n y t o a gen. refl)
@@ -305,7 +305,7 @@ module _ (key : Config) (slots id c : ℕ) (near : c < chunks key) (k : ClassPar
 
   -- that of the bump aboard
   pub shifts : (l : LanePart) (b : Bump) → b.life.chunk ≡ c → from ≡ Cold → to ≡ Warm → (x : ℕ)
-      → Allows (Kept key) slots id (applying k (record l { stage = lane.Cleared b true }), sl) (3 * c) (λ n. bit_xor n (segment_change from to)) (on_chunk (moved_on from to) (step slots (3 * c) x 0 none) (applying k (record l { stage = lane.Cleared b true }), sl))
+      → Allows (Kept key) slots id (applying k (record l { stage = lane.Cleared b true }), sl) (3 * c + 9) (λ n. bit_xor n (segment_change from to)) (on_chunk (moved_on from to) (step slots (3 * c + 9) x 0 none) (applying k (record l { stage = lane.Cleared b true }), sl))
   shifts l b of is_cold is_warm x = at_chunk (moved_on from to) key slots id (applying k (record l { stage = lane.Cleared b true }), sl) c x (λ n. bit_xor n (segment_change from to)) near (λ n y t limits o a.
       let why : Cause = cause.Bump l.worker b.number in let made : OwnStep = step_of kind.Move c n (Some (l.worker, b.number)) in
       let ls : List LanePart = record l { stage = lane.Cleared b true } ∷ [] in let ms : List LanePart = record l { stage = lane.Moved b } ∷ [] in
@@ -325,10 +325,10 @@ module _ (key : Config) (slots id c : ℕ) (near : c < chunks key) (k : ClassPar
       n y t limits o a (refl, (o.head, o.spells, tells c key.refs_limit n y (applying k (record l { stage = lane.Cleared b true })) t o a)))
 
 -- for the contract
-pub may_move : (key : Config) (slots id c x : ℕ) (from to : Segment) (m : Sat) → c < chunks key → MayMove from to c m.0 → Allows (Kept key) slots id m (3 * c) (λ n. bit_xor n (segment_change from to)) (on_chunk (moved_on from to) (step slots (3 * c) x 0 none) m)
-may_move key slots id c x from to m near (inl (k, p)) = subst (λ (v : View). Allows (Kept key) slots id (v, m.1) (3 * c) (λ n. bit_xor n (segment_change from to)) (on_chunk (moved_on from to) (step slots (3 * c) x 0 none) (v, m.1))) (sym p.view) (pulls key slots id c near k from to p.stands m.1 x)
+pub may_move : (key : Config) (slots id c x : ℕ) (from to : Segment) (m : Sat) → c < chunks key → MayMove from to c m.0 → Allows (Kept key) slots id m (3 * c + 9) (λ n. bit_xor n (segment_change from to)) (on_chunk (moved_on from to) (step slots (3 * c + 9) x 0 none) m)
+may_move key slots id c x from to m near (inl (k, p)) = subst (λ (v : View). Allows (Kept key) slots id (v, m.1) (3 * c + 9) (λ n. bit_xor n (segment_change from to)) (on_chunk (moved_on from to) (step slots (3 * c + 9) x 0 none) (v, m.1))) (sym p.view) (pulls key slots id c near k from to p.stands m.1 x)
 may_move key slots id c x from to m near (inr (k, l, b, g)) = let is : m.0 ≡ applying k (record l { stage = lane.Cleared b true }) = g.view ∙ ap (λ (s : Lane). applying k (record l { stage = s })) g.stage in
-    subst (λ (v : View). Allows (Kept key) slots id (v, m.1) (3 * c) (λ n. bit_xor n (segment_change from to)) (on_chunk (moved_on from to) (step slots (3 * c) x 0 none) (v, m.1))) (sym is) (shifts key slots id c near k from to g.stands m.1 l b g.chunk g.from_cold g.to_warm x)
+    subst (λ (v : View). Allows (Kept key) slots id (v, m.1) (3 * c + 9) (λ n. bit_xor n (segment_change from to)) (on_chunk (moved_on from to) (step slots (3 * c + 9) x 0 none) (v, m.1))) (sym is) (shifts key slots id c near k from to g.stands m.1 l b g.chunk g.from_cold g.to_warm x)
 
 -- ---- the end of a bump
 
@@ -450,7 +450,7 @@ module _ (key : Config) (slots id : ℕ) (k : ClassPart) (l : LanePart) (b : Bum
             let is = same_entry_is (record { number = b.number; life = b.life; outcome = out }) d bits.1 in let whose = eqb-true l.worker wk bits.0 in
             subst (λ (e : ℕ × AppliedBump). 0 < evidence e.0 e.1 (alighted_view out b.life.chunk n (applying k l))) (λ i. (whose i, is i)) (omega (arith, proof, more_evidence l.worker (applied_bump b out) out))
 
-  pub alights : (x : ℕ) → 0 < evidence l.worker (applied_bump b out) (applying k l) → Allows (Kept key) slots id (applying k l, sl) (3 * b.life.chunk) (λ n. (n + (2 ^ 64 - 1)) % 2 ^ 64) (on_chunk (alighted out) (step slots (3 * b.life.chunk) x 0 none) (applying k l, sl))
+  pub alights : (x : ℕ) → 0 < evidence l.worker (applied_bump b out) (applying k l) → Allows (Kept key) slots id (applying k l, sl) (3 * b.life.chunk + 9) (λ n. (n + (2 ^ 64 - 1)) % 2 ^ 64) (on_chunk (alighted out) (step slots (3 * b.life.chunk + 9) x 0 none) (applying k l, sl))
   alights x proof = at_chunk (alighted out) key slots id (applying k l, sl) b.life.chunk x (λ n. (n + (2 ^ 64 - 1)) % 2 ^ 64) near (λ n label t limits o a.
       let g : ℕ = b.life.generation in
       let c : ℕ = b.life.chunk in
@@ -478,7 +478,7 @@ module _ (key : Config) (slots id : ℕ) (k : ClassPart) (l : LanePart) (b : Bum
       ))
 
 -- for the contract
-pub may_alight : (key : Config) (slots id c x : ℕ) (out : Outcome) (m : Sat) → c < chunks key → MayAlight c out m.0 → Allows (Kept key) slots id m (3 * c) (λ n. (n + (2 ^ 64 - 1)) % 2 ^ 64) (on_chunk (alighted out) (step slots (3 * c) x 0 none) m)
+pub may_alight : (key : Config) (slots id c x : ℕ) (out : Outcome) (m : Sat) → c < chunks key → MayAlight c out m.0 → Allows (Kept key) slots id m (3 * c + 9) (λ n. (n + (2 ^ 64 - 1)) % 2 ^ 64) (on_chunk (alighted out) (step slots (3 * c + 9) x 0 none) m)
 may_alight key slots id c x out m near may = let k : ClassPart = may.0 in let l : LanePart = may.1 in let b : Bump = may.2 in let g : Alights c out m.0 k l b = may.3 in
-    subst (λ (y : ℕ × View). Allows (Kept key) slots id (y.1, m.1) (3 * y.0) (λ n. (n + (2 ^ 64 - 1)) % 2 ^ 64) (on_chunk (alighted out) (step slots (3 * y.0) x 0 none) (y.1, m.1))) (λ i. (g.chunk i, sym g.view i))
+    subst (λ (y : ℕ × View). Allows (Kept key) slots id (y.1, m.1) (3 * y.0 + 9) (λ n. (n + (2 ^ 64 - 1)) % 2 ^ 64) (on_chunk (alighted out) (step slots (3 * y.0 + 9) x 0 none) (y.1, m.1))) (λ i. (g.chunk i, sym g.view i))
     (alights key slots id k l b out (omega (arith, g.chunk)) m.1 g.aboard g.past x g.proof)

@@ -146,8 +146,8 @@ module _ (key : Config) (slots id c : ℕ) (near : c < chunks key) (sl : List (�
   stands_at p e = subst (λ (q : Place). Stands c (alone k) (q, (standing k c).1)) e (stands_alone c (alone k) k refl own)
 
   -- the head of a new life is stored
-  pub begins : (new : ℕ) → (standing k c).0 ≡ Unused → new ≡ word_of (newborn ((standing k c).1 + 1)) → Allows (Kept key) slots id (alone k, sl) (3 * c) (λ _. new) (λ _. beginning (step slots (3 * c) new 0 none) (alone k, sl) new)
-  begins new unused is = subst (λ (d : ℕ). Allows (Kept key) slots id (alone k, sl) (3 * c) (λ _. new) (λ _ w. w ≡ (on_part (begun d (new / 2 ^ generation_first) new) (alone k), sl))) (sym (chunk_is c))
+  pub begins : (new : ℕ) → (standing k c).0 ≡ Unused → new ≡ word_of (newborn ((standing k c).1 + 1)) → Allows (Kept key) slots id (alone k, sl) (3 * c + 9) (λ _. new) (λ _. beginning (step slots (3 * c + 9) new 0 none) (alone k, sl) new)
+  begins new unused is = subst (λ (d : ℕ). Allows (Kept key) slots id (alone k, sl) (3 * c + 9) (λ _. new) (λ _ w. w ≡ (on_part (begun d (new / 2 ^ generation_first) new) (alone k), sl))) (sym (chunk_is c))
       (on_head key slots id (alone k, sl) c (λ _. new) (λ _ w. w ≡ (on_part (begun c (new / 2 ^ generation_first) new) (alone k), sl)) near (λ n label t limits o a.
       let at = at_standing c key.refs_limit n label (alone k) t o a (Unused, (standing k c).1) (stands_at Unused unused) in
       let gen : o.head.generation ≡ (standing k c).1 = ap (λ (s : Standing). s.1) at in
@@ -169,7 +169,7 @@ module _ (key : Config) (slots id c : ℕ) (near : c < chunks key) (sl : List (�
       )))
 
   -- LINKED and its reference are subtracted
-  pub severs : IsInSegment (standing k c).0 → Allows (Kept key) slots id (alone k, sl) (3 * c) (λ n. (n + (2 ^ 64 - 65537)) % 2 ^ 64) (on_chunk severing (step slots (3 * c) 65537 0 none) (alone k, sl))
+  pub severs : IsInSegment (standing k c).0 → Allows (Kept key) slots id (alone k, sl) (3 * c + 9) (λ n. (n + (2 ^ 64 - 65537)) % 2 ^ 64) (on_chunk severing (step slots (3 * c + 9) 65537 0 none) (alone k, sl))
   severs in_it = at_chunk severing key slots id (alone k, sl) c 65537 (λ n. (n + (2 ^ 64 - 65537)) % 2 ^ 64) near (λ n label t limits o a.
       let at = at_standing c key.refs_limit n label (alone k) t o a (standing k c) (stands_alone c (alone k) k refl own) in
       let gen : o.head.generation ≡ (standing k c).1 = ap (λ (s : Standing). s.1) at in
@@ -186,7 +186,7 @@ module _ (key : Config) (slots id c : ℕ) (near : c < chunks key) (sl : List (�
       ))
 
   -- a DYING chunk is looked at, and freed where no reference is found
-  pub sweeps : (standing k c).0 ≡ Dying → Allows (Kept key) slots id (alone k, sl) (3 * c) (λ n. n) (on_chunk sweeping (step slots (3 * c) 0 0 none) (alone k, sl))
+  pub sweeps : (standing k c).0 ≡ Dying → Allows (Kept key) slots id (alone k, sl) (3 * c + 9) (λ n. n) (on_chunk sweeping (step slots (3 * c + 9) 0 0 none) (alone k, sl))
   sweeps dying = at_chunk sweeping key slots id (alone k, sl) c 0 (λ n. n) near (λ n label t limits o a. by n label t o a (n % 2 ^ refs_width == 0) refl)
     where
       by : (n label : ℕ) (t : Measure → ℕ) (o : Sound key.refs_limit n label t) → Amid c (alone k) t → (b : Bool) → (n % 2 ^ refs_width == 0) ≡ b → Reaches key c (alone k, sl) (sweeping c 0 (alone k, sl) n) n label t
@@ -217,19 +217,19 @@ module _ (key : Config) (slots id c : ℕ) (near : c < chunks key) (sl : List (�
 -- ---- For the contracts.
 
 -- a life may begin by the store of its head
-pub may_begin : (key : Config) (slots id c g : ℕ) (m : Sat) → c < chunks key → MayBegin c g m.0 → (new : ℕ) → new ≡ word_of (newborn g) → Allows (Kept key) slots id m (3 * c) (λ _. new) (λ _. beginning (step slots (3 * c) new 0 none) m new)
+pub may_begin : (key : Config) (slots id c g : ℕ) (m : Sat) → c < chunks key → MayBegin c g m.0 → (new : ℕ) → new ≡ word_of (newborn g) → Allows (Kept key) slots id m (3 * c + 9) (λ _. new) (λ _. beginning (step slots (3 * c + 9) new 0 none) m new)
 may_begin key slots id c g m near may new is = let k : ClassPart = may.0 in let o = may.1 in
-    subst (λ (v : View). Allows (Kept key) slots id (v, m.1) (3 * c) (λ _. new) (λ _. beginning (step slots (3 * c) new 0 none) (v, m.1) new)) (sym o.view)
+    subst (λ (v : View). Allows (Kept key) slots id (v, m.1) (3 * c + 9) (λ _. new) (λ _. beginning (step slots (3 * c + 9) new 0 none) (v, m.1) new)) (sym o.view)
     (begins key slots id c near m.1 k o.own new o.at (is ∙ ap (λ (j : ℕ). word_of (newborn j)) may.2))
 
 -- a linked chunk may be unlinked
-pub may_sever : (key : Config) (slots id c : ℕ) (m : Sat) → c < chunks key → IsLinked c m.0 → Allows (Kept key) slots id m (3 * c) (λ n. (n + (2 ^ 64 - 65537)) % 2 ^ 64) (on_chunk severing (step slots (3 * c) 65537 0 none) m)
+pub may_sever : (key : Config) (slots id c : ℕ) (m : Sat) → c < chunks key → IsLinked c m.0 → Allows (Kept key) slots id m (3 * c + 9) (λ n. (n + (2 ^ 64 - 65537)) % 2 ^ 64) (on_chunk severing (step slots (3 * c + 9) 65537 0 none) m)
 may_sever key slots id c m near may =
-    subst (λ (v : View). Allows (Kept key) slots id (v, m.1) (3 * c) (λ n. (n + (2 ^ 64 - 65537)) % 2 ^ 64) (on_chunk severing (step slots (3 * c) 65537 0 none) (v, m.1))) (sym may.1.view)
+    subst (λ (v : View). Allows (Kept key) slots id (v, m.1) (3 * c + 9) (λ n. (n + (2 ^ 64 - 65537)) % 2 ^ 64) (on_chunk severing (step slots (3 * c + 9) 65537 0 none) (v, m.1))) (sym may.1.view)
     (severs key slots id c near m.1 may.0 may.1.own may.1.at)
 
 -- a DYING chunk may be seen, and freed
-pub may_sweep : (key : Config) (slots id c : ℕ) (m : Sat) → c < chunks key → IsDying c m.0 → Allows (Kept key) slots id m (3 * c) (λ n. n) (on_chunk sweeping (step slots (3 * c) 0 0 none) m)
+pub may_sweep : (key : Config) (slots id c : ℕ) (m : Sat) → c < chunks key → IsDying c m.0 → Allows (Kept key) slots id m (3 * c + 9) (λ n. n) (on_chunk sweeping (step slots (3 * c + 9) 0 0 none) m)
 may_sweep key slots id c m near may =
-    subst (λ (v : View). Allows (Kept key) slots id (v, m.1) (3 * c) (λ n. n) (on_chunk sweeping (step slots (3 * c) 0 0 none) (v, m.1))) (sym may.1.view)
+    subst (λ (v : View). Allows (Kept key) slots id (v, m.1) (3 * c + 9) (λ n. n) (on_chunk sweeping (step slots (3 * c + 9) 0 0 none) (v, m.1))) (sym may.1.view)
     (sweeps key slots id c near m.1 may.0 may.1.own may.1.at)

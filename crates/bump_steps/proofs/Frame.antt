@@ -85,8 +85,8 @@ backed : (views : List View) (i : ℕ) (v w : View) → get_elem? views i ≡ so
 backed views i v w me is o n e many = let more = total-set (evidence n e) views i v w me in let had = total-set (claims n e) views i v w me in let b = is.backs n e in let old = o n e in
     dite (ℕ_discrete (total (claims n e) views) 0) (λ none. omega (arith, b.1 (omega arith), term_le (evidence n e) views i v me)) (λ ne. omega (arith, old (omega arith), b.0))
 
-module _ (key : Config) (s : State Empty View) (o : Kept key s) (homes : List (Option Empty)) (i c word j p : ℕ) (v w : View) (me : get_elem? s.views i ≡ some v) (near : c < chunks key) (at : word ≡ 3 * c + j) (small : j ≤ 2) where
-  stepped_kept : ((b : ℕ) → b ≢ c → Same b v w) → IsBacked v w → Sound key.refs_limit (get_or (set s.words word p) (3 * c) 0) (get_or (set s.words word p) (3 * c + 2) 0) (tally (set s.views i w) c)
+module _ (key : Config) (s : State Empty View) (o : Kept key s) (homes : List (Option Empty)) (i c word j p : ℕ) (v w : View) (me : get_elem? s.views i ≡ some v) (near : c < chunks key) (at : word ≡ 3 * c + 9 + j) (small : j ≤ 2) where
+  stepped_kept : ((b : ℕ) → b ≢ c → Same b v w) → IsBacked v w → Sound key.refs_limit (get_or (set s.words word p) (3 * c + 9) 0) (get_or (set s.words word p) (3 * c + 11) 0) (tally (set s.views i w) c)
       → Kept key (state (set s.words word p) homes (set s.views i w))
   stepped_kept apart back now = record {
     wide = length-set s.words word p ∙ o.wide;
@@ -94,8 +94,8 @@ module _ (key : Config) (s : State Empty View) (o : Kept key s) (homes : List (O
     each = λ b h. dite (ℕ_discrete b c) (λ e. subst (λ (x : ℕ). SoundAt key (state (set s.words word p) homes (set s.views i w)) x) (sym e) now) (λ ne.
         subst (λ (x : ℕ × ℕ × (Measure → ℕ)). Sound key.refs_limit x.0 x.1 x.2)
         (λ k. (
-          sym (get_or-set_other s.words word (3 * b) p 0 (λ e. ne (omega arith))) k,
-          sym (get_or-set_other s.words word (3 * b + 2) p 0 (λ e. ne (omega arith))) k,
+          sym (get_or-set_other s.words word (3 * b + 9) p 0 (λ e. ne (omega arith))) k,
+          sym (get_or-set_other s.words word (3 * b + 11) p 0 (λ e. ne (omega arith))) k,
           same_tally s.views i b v w me (apart b ne) k,
         )) (o.each b h));
     true_entries = backed s.views i v w me back o.true_entries;
@@ -105,44 +105,44 @@ module _ (key : Config) (s : State Empty View) (o : Kept key s) (homes : List (O
   }
 
 -- a step on a head word is allowed where it can go on, whatever sound words it finds
-pub on_head : (key : Config) (slots id : ℕ) (m : Sat) (c : ℕ) (f : ℕ → ℕ) (then : ℕ → Sat → Type 0) → c < chunks key → From key c m (λ n x t. Reaches key c m (then n) (f n) x t) → Allows (Kept key) slots id m (3 * c) f then
-on_head key slots id m c f then near goes s o count me small = let n : ℕ = get_or s.words (3 * c) 0 in let x : ℕ = get_or s.words (3 * c + 2) 0 in
+pub on_head : (key : Config) (slots id : ℕ) (m : Sat) (c : ℕ) (f : ℕ → ℕ) (then : ℕ → Sat → Type 0) → c < chunks key → From key c m (λ n x t. Reaches key c m (then n) (f n) x t) → Allows (Kept key) slots id m (3 * c + 9) f then
+on_head key slots id m c f then near goes s o count me small = let n : ℕ = get_or s.words (3 * c + 9) 0 in let x : ℕ = get_or s.words (3 * c + 11) 0 in
     let g = goes n x (tally s.views c) o.small (o.each c near) (amid c s.views id m.0 me o.even_moves o.one_lane o.orderly) in
     let now : Sound key.refs_limit (f n) x (tally (set s.views id g.0) c) = g.1 (tally (set s.views id g.0) c) (λ y. total-set (weight c y) s.views id m.0 g.0 me) in (
       g.0,
       keeps,
       tt,
-      stepped_kept key s o s.homes id c (3 * c) 0 (f n) m.0 g.0 me near (omega arith) (omega arith) g.2 g.3
+      stepped_kept key s o s.homes id c (3 * c + 9) 0 (f n) m.0 g.0 me near (omega arith) (omega arith) g.2 g.3
           (subst (λ (y : ℕ × ℕ). Sound key.refs_limit y.0 y.1 (tally (set s.views id g.0) c))
-          (λ k. (sym (get_or-set_same s.words (3 * c) (f n) 0 (omega (arith, o.wide))) k, sym (get_or-set_other s.words (3 * c) (3 * c + 2) (f n) 0 (λ e. omega arith)) k)) now),
+          (λ k. (sym (get_or-set_same s.words (3 * c + 9) (f n) 0 (omega (arith, o.wide))) k, sym (get_or-set_other s.words (3 * c + 9) (3 * c + 11) (f n) 0 (λ e. omega arith)) k)) now),
       g.4,
     )
 
 -- on a label word
-pub on_label : (key : Config) (slots id : ℕ) (m : Sat) (c : ℕ) (f : ℕ → ℕ) (then : ℕ → Sat → Type 0) → c < chunks key → From key c m (λ n x t. Reaches key c m (then x) n (f x) t) → Allows (Kept key) slots id m (3 * c + 2) f then
-on_label key slots id m c f then near goes s o count me small = let n : ℕ = get_or s.words (3 * c) 0 in let x : ℕ = get_or s.words (3 * c + 2) 0 in
+pub on_label : (key : Config) (slots id : ℕ) (m : Sat) (c : ℕ) (f : ℕ → ℕ) (then : ℕ → Sat → Type 0) → c < chunks key → From key c m (λ n x t. Reaches key c m (then x) n (f x) t) → Allows (Kept key) slots id m (3 * c + 11) f then
+on_label key slots id m c f then near goes s o count me small = let n : ℕ = get_or s.words (3 * c + 9) 0 in let x : ℕ = get_or s.words (3 * c + 11) 0 in
     let g = goes n x (tally s.views c) o.small (o.each c near) (amid c s.views id m.0 me o.even_moves o.one_lane o.orderly) in
     let now : Sound key.refs_limit n (f x) (tally (set s.views id g.0) c) = g.1 (tally (set s.views id g.0) c) (λ y. total-set (weight c y) s.views id m.0 g.0 me) in (
       g.0,
       keeps,
       tt,
-      stepped_kept key s o s.homes id c (3 * c + 2) 2 (f x) m.0 g.0 me near refl (omega arith) g.2 g.3
+      stepped_kept key s o s.homes id c (3 * c + 11) 2 (f x) m.0 g.0 me near (omega arith) (omega arith) g.2 g.3
           (subst (λ (y : ℕ × ℕ). Sound key.refs_limit y.0 y.1 (tally (set s.views id g.0) c))
-          (λ k. (sym (get_or-set_other s.words (3 * c + 2) (3 * c) (f x) 0 (λ e. omega arith)) k, sym (get_or-set_same s.words (3 * c + 2) (f x) 0 (omega (arith, o.wide))) k)) now),
+          (λ k. (sym (get_or-set_other s.words (3 * c + 11) (3 * c + 9) (f x) 0 (λ e. omega arith)) k, sym (get_or-set_same s.words (3 * c + 11) (f x) 0 (omega (arith, o.wide))) k)) now),
       g.4,
     )
 
 -- on a time word, of which the rule says nothing
-pub on_time : (key : Config) (slots id : ℕ) (m : Sat) (c : ℕ) (f : ℕ → ℕ) (then : ℕ → Sat → Type 0) → c < chunks key → ((y : ℕ) → From key c m (λ n x t. Reaches key c m (then y) n x t)) → Allows (Kept key) slots id m (3 * c + 1) f then
-on_time key slots id m c f then near goes s o count me small = let n : ℕ = get_or s.words (3 * c) 0 in let x : ℕ = get_or s.words (3 * c + 2) 0 in let y : ℕ = get_or s.words (3 * c + 1) 0 in
+pub on_time : (key : Config) (slots id : ℕ) (m : Sat) (c : ℕ) (f : ℕ → ℕ) (then : ℕ → Sat → Type 0) → c < chunks key → ((y : ℕ) → From key c m (λ n x t. Reaches key c m (then y) n x t)) → Allows (Kept key) slots id m (3 * c + 10) f then
+on_time key slots id m c f then near goes s o count me small = let n : ℕ = get_or s.words (3 * c + 9) 0 in let x : ℕ = get_or s.words (3 * c + 11) 0 in let y : ℕ = get_or s.words (3 * c + 10) 0 in
     let g = goes y n x (tally s.views c) o.small (o.each c near) (amid c s.views id m.0 me o.even_moves o.one_lane o.orderly) in
     let now : Sound key.refs_limit n x (tally (set s.views id g.0) c) = g.1 (tally (set s.views id g.0) c) (λ y. total-set (weight c y) s.views id m.0 g.0 me) in (
       g.0,
       keeps,
       tt,
-      stepped_kept key s o s.homes id c (3 * c + 1) 1 (f y) m.0 g.0 me near refl (omega arith) g.2 g.3
+      stepped_kept key s o s.homes id c (3 * c + 10) 1 (f y) m.0 g.0 me near (omega arith) (omega arith) g.2 g.3
           (subst (λ (y : ℕ × ℕ). Sound key.refs_limit y.0 y.1 (tally (set s.views id g.0) c))
-          (λ k. (sym (get_or-set_other s.words (3 * c + 1) (3 * c) (f y) 0 (λ e. omega arith)) k, sym (get_or-set_other s.words (3 * c + 1) (3 * c + 2) (f y) 0 (λ e. omega arith)) k)) now),
+          (λ k. (sym (get_or-set_other s.words (3 * c + 10) (3 * c + 9) (f y) 0 (λ e. omega arith)) k, sym (get_or-set_other s.words (3 * c + 10) (3 * c + 11) (f y) 0 (λ e. omega arith)) k)) now),
       g.4,
     )
 
@@ -156,7 +156,7 @@ pub splits : (key : Config) (id : ℕ) (v left right : View) → ((c : ℕ) (x :
 splits key id v left right even entries rides lanes tidy s o me = record {
   wide = o.wide;
   small = o.small;
-  each = λ c near. same_sound key.refs_limit (get_or s.words (3 * c) 0) (get_or s.words (3 * c + 2) 0) (tally s.views c) (tally (set s.views id left ++ right ∷ []) c) (λ x. keep (weight c x) (even c x)) (o.each c near);
+  each = λ c near. same_sound key.refs_limit (get_or s.words (3 * c + 9) 0) (get_or s.words (3 * c + 11) 0) (tally s.views c) (tally (set s.views id left ++ right ∷ []) c) (λ x. keep (weight c x) (even c x)) (o.each c near);
   true_entries = λ n e many. let old = o.true_entries n e in omega (arith, keep (claims n e) (entries n e).0, keep (evidence n e) (entries n e).1, old (omega (arith, keep (claims n e) (entries n e).0)));
   even_moves = λ q. omega (arith, keep (moves q) (rides q).0, keep (settled q) (rides q).1, o.even_moves q);
   one_lane = λ n. omega (arith, keep (lanes_of n) (lanes n), o.one_lane n);
@@ -172,7 +172,7 @@ pub joins : (key : Config) (id : ℕ) (v : View) (other : ℕ) (w both spent : V
 joins key id v other w both spent even entries rides lanes tidy s o me apart them = record {
   wide = o.wide;
   small = o.small;
-  each = λ c near. same_sound key.refs_limit (get_or s.words (3 * c) 0) (get_or s.words (3 * c + 2) 0) (tally s.views c) (tally (set (set s.views id both) other spent) c) (λ x. keep (weight c x) (even c x)) (o.each c near);
+  each = λ c near. same_sound key.refs_limit (get_or s.words (3 * c + 9) 0) (get_or s.words (3 * c + 11) 0) (tally s.views c) (tally (set (set s.views id both) other spent) c) (λ x. keep (weight c x) (even c x)) (o.each c near);
   true_entries = λ n e many. let old = o.true_entries n e in omega (arith, keep (evidence n e) (entries n e).1, old (omega (arith, keep (claims n e) (entries n e).0)));
   even_moves = λ q. omega (arith, keep (moves q) (rides q).0, keep (settled q) (rides q).1, o.even_moves q);
   one_lane = λ n. omega (arith, keep (lanes_of n) (lanes n), o.one_lane n);

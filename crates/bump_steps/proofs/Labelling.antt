@@ -59,8 +59,8 @@ module _ (c y : ℕ) (k : ClassPart) (own : owns c k ≡ true) where
 
 module _ (key : Config) (slots id c : ℕ) (near : c < chunks key) (sl : List (ℕ × Empty)) (k : ClassPart) (own : owns c k ≡ true) where
   -- the label of a free chunk is stored: nobody has read another
-  pub stores : (y : ℕ) → (standing k c).0 ≡ Unused → Allows (Kept key) slots id (alone k, sl) (3 * c + 2) (λ _. y) (λ _. storing (step slots (3 * c + 2) y 0 none) (alone k, sl) y)
-  stores y unused = subst (λ (d : ℕ). Allows (Kept key) slots id (alone k, sl) (3 * c + 2) (λ _. y) (λ _ w. w ≡ (on_part (labelled d y) (alone k), sl))) (sym (label_chunk_is c))
+  pub stores : (y : ℕ) → (standing k c).0 ≡ Unused → Allows (Kept key) slots id (alone k, sl) (3 * c + 11) (λ _. y) (λ _. storing (step slots (3 * c + 11) y 0 none) (alone k, sl) y)
+  stores y unused = subst (λ (d : ℕ). Allows (Kept key) slots id (alone k, sl) (3 * c + 11) (λ _. y) (λ _ w. w ≡ (on_part (labelled d y) (alone k), sl))) (sym (label_chunk_is c))
       (on_label key slots id (alone k, sl) c (λ _. y) (λ _ w. w ≡ (on_part (labelled c y) (alone k), sl)) near (λ n label t limits o a.
       let stands : Stands c (alone k) (Unused, (standing k c).1) = subst (λ (q : Place). Stands c (alone k) (q, (standing k c).1)) unused (stands_alone c (alone k) k refl own) in
       let place : o.at ≡ Unused = ap (λ (s : Standing). s.0) (at_standing c key.refs_limit n label (alone k) t o a (Unused, (standing k c).1) stands) in
@@ -83,7 +83,7 @@ module _ (key : Config) (slots id c : ℕ) (near : c < chunks key) (sl : List (�
       )))
 
 -- for the contract: the label of a chunk of UNUSED may be stored
-pub may_store : (key : Config) (slots id c y : ℕ) (m : Sat) → c < chunks key → IsUnused c m.0 → Allows (Kept key) slots id m (3 * c + 2) (λ _. y) (λ _. storing (step slots (3 * c + 2) y 0 none) m y)
+pub may_store : (key : Config) (slots id c y : ℕ) (m : Sat) → c < chunks key → IsUnused c m.0 → Allows (Kept key) slots id m (3 * c + 11) (λ _. y) (λ _. storing (step slots (3 * c + 11) y 0 none) m y)
 may_store key slots id c y m near may =
-    subst (λ (v : View). Allows (Kept key) slots id (v, m.1) (3 * c + 2) (λ _. y) (λ _. storing (step slots (3 * c + 2) y 0 none) (v, m.1) y)) (sym may.1.view)
+    subst (λ (v : View). Allows (Kept key) slots id (v, m.1) (3 * c + 11) (λ _. y) (λ _. storing (step slots (3 * c + 11) y 0 none) (v, m.1) y)) (sym may.1.view)
     (stores key slots id c near m.1 may.0 may.1.own y may.1.at)

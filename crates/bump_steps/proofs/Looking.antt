@@ -1,5 +1,5 @@
 -- Looks of a class's seat at a chunk change nothing that is counted.
-use Rattle.std.proofs.Common.{ℕ, ◌*◌, ◌<◌, ◌≤◌, ◌&&◌, eqb, cond, not, None, refl, arith}
+use Rattle.std.proofs.Common.{◌+◌, ℕ, ◌*◌, ◌<◌, ◌≤◌, ◌&&◌, eqb, cond, not, None, refl, arith}
 use mathlib.Core.Option.{none}
 use Rattle.atomic_table.specs.Table.{step, Allows}
 use Rattle.bump_rules.specs.declared.bumps.AppliedBump.{AppliedBump}
@@ -48,7 +48,7 @@ module _ (c n : ℕ) (v : View) where
 
 module _ (key : Config) (slots id : ℕ) (m : Sat) (c : ℕ) (near : c < chunks key) where
   -- any class may look at any chunk
-  pub looks : Allows (Kept key) slots id m (3 * c) (λ n. n) (on_chunk looking (step slots (3 * c) 0 0 none) m)
+  pub looks : Allows (Kept key) slots id m (3 * c + 9) (λ n. n) (on_chunk looking (step slots (3 * c + 9) 0 0 none) m)
   looks = at_chunk looking key slots id m c 0 (λ n. n) near (λ n x t limits o a. (
     on_part (looked c n) m.0,
     (λ u moved. same_sound key.refs_limit n x t u (same_counts c m.0 (on_part (looked c n) m.0) t u (looked_same c n m.0 c) moved) o),
@@ -58,7 +58,7 @@ module _ (key : Config) (slots id : ℕ) (m : Sat) (c : ℕ) (near : c < chunks 
   ))
 
   -- also without a step of its list
-  pub peeks : Allows (Kept key) slots id m (3 * c) (λ n. n) (on_chunk peeking (step slots (3 * c) 0 0 none) m)
+  pub peeks : Allows (Kept key) slots id m (3 * c + 9) (λ n. n) (on_chunk peeking (step slots (3 * c + 9) 0 0 none) m)
   peeks = at_chunk peeking key slots id m c 0 (λ n. n) near (λ n x t limits o a. (
     m.0,
     (λ u moved. same_sound key.refs_limit n x t u (λ y. let e = moved y in omega arith) o),

@@ -199,7 +199,7 @@ module _ (key : Config) (slots id : ℕ) (m : Sat) (c : ℕ) (near : c < chunks 
       }
 
   -- a fetch is allowed where the seat has a worker's part
-  pub fetches : 0 < length m.0.workers → Allows (Kept key) slots id m (3 * c) (λ n. bit_or n (2 ^ 17)) (on_chunk fetched (step slots (3 * c) (2 ^ 17) 0 none) m)
+  pub fetches : 0 < length m.0.workers → Allows (Kept key) slots id m (3 * c + 9) (λ n. bit_or n (2 ^ 17)) (on_chunk fetched (step slots (3 * c + 9) (2 ^ 17) 0 none) m)
   fetches has = at_chunk fetched key slots id m c (2 ^ 17) (λ n. bit_or n (2 ^ 17)) near (λ n x t limits o a. (
     on_worker (fetched_part (life c o.head.generation) o.head) m.0,
     (λ u moves. fetch_sound has n x t o u moves),
@@ -209,7 +209,7 @@ module _ (key : Config) (slots id : ℕ) (m : Sat) (c : ℕ) (near : c < chunks 
   ))
 
   -- ACTIVE may be set where the seat's own fetch shows that FETCHED is set
-  pub marks : MayMark c m.0 → Allows (Kept key) slots id m (3 * c) (λ n. bit_or n (2 ^ 18)) (on_chunk marked (step slots (3 * c) (2 ^ 18) 0 none) m)
+  pub marks : MayMark c m.0 → Allows (Kept key) slots id m (3 * c + 9) (λ n. bit_or n (2 ^ 18)) (on_chunk marked (step slots (3 * c + 9) (2 ^ 18) 0 none) m)
   marks may = at_chunk marked key slots id m c (2 ^ 18) (λ n. bit_or n (2 ^ 18)) near (λ n x t limits o a.
       let l : ItemId = life c o.head.generation in
       let told = tells c key.refs_limit n x m.0 t o a in
@@ -232,7 +232,7 @@ module _ (key : Config) (slots id : ℕ) (m : Sat) (c : ℕ) (near : c < chunks 
       ))
 
   -- it may always be cleared
-  pub unmarks : Allows (Kept key) slots id m (3 * c) (λ n. bit_and n (2 ^ 64 - 1 - 2 ^ 18)) (on_chunk unmarked (step slots (3 * c) (2 ^ 64 - 1 - 2 ^ 18) 0 none) m)
+  pub unmarks : Allows (Kept key) slots id m (3 * c + 9) (λ n. bit_and n (2 ^ 64 - 1 - 2 ^ 18)) (on_chunk unmarked (step slots (3 * c + 9) (2 ^ 64 - 1 - 2 ^ 18) 0 none) m)
   unmarks = at_chunk unmarked key slots id m c (2 ^ 64 - 1 - 2 ^ 18) (λ n. bit_and n (2 ^ 64 - 1 - 2 ^ 18)) near (λ n x t limits o a.
       let l : ItemId = life c o.head.generation in (
         on_worker (unmarked_part l o.head) m.0,
@@ -253,8 +253,8 @@ module _ (key : Config) (slots id : ℕ) (m : Sat) (c : ℕ) (near : c < chunks 
       ))
 
   -- and the rule says nothing of time words
-  pub sets_time : (now : ℕ) → Allows (Kept key) slots id m (3 * c + 1) (λ _. now) (λ _. timed (step slots (3 * c + 1) now 0 none) m now)
-  sets_time now = subst (λ (d : ℕ). Allows (Kept key) slots id m (3 * c + 1) (λ _. now) (λ _ w. w ≡ (on_worker (timed_part (life d 0) now) m.0, m.1))) (sym (time_chunk_is c))
+  pub sets_time : (now : ℕ) → Allows (Kept key) slots id m (3 * c + 10) (λ _. now) (λ _. timed (step slots (3 * c + 10) now 0 none) m now)
+  sets_time now = subst (λ (d : ℕ). Allows (Kept key) slots id m (3 * c + 10) (λ _. now) (λ _ w. w ≡ (on_worker (timed_part (life d 0) now) m.0, m.1))) (sym (time_chunk_is c))
       (on_time key slots id m c (λ _. now) (λ _ w. w ≡ (on_worker (timed_part (life c 0) now) m.0, m.1)) near (λ y n x t limits o a. (
         on_worker (timed_part (life c 0) now) m.0,
         (λ u moves. same_sound key.refs_limit n x t u (same_counts c m.0 (on_worker (timed_part (life c 0) now) m.0) t u (quiet_same c (timed_part (life c 0) now) m.0 (timed_quiet c (life c 0) now)) moves) o),

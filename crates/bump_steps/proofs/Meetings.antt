@@ -56,8 +56,8 @@ met_labels c limit n x v t o a k h ks hs mine of = record {
     read : one_if (life c h.life.generation) h.life * total (differs x) h.labels ≡ 0
     read = subst (λ (j : ℕ). one_if (life c j) h.life * total (differs x) h.labels ≡ 0) (sym gen) (omega (arith, a.mine (misreads o.head.generation x), o.read, ap (total (misread c o.head.generation x)) hs))
 
-pub meets : (key : Config) (slots id : ℕ) (m : Sat) (c : ℕ) → c < chunks key → Allows (Kept key) slots id m (3 * c + 2) (λ x. x) (on_chunk met (step slots (3 * c + 2) 0 0 none) m)
-meets key slots id m c near = subst (λ (d : ℕ). Allows (Kept key) slots id m (3 * c + 2) (λ x. x) (λ x n. met d 0 m x n)) (sym (label_chunk_is c))
+pub meets : (key : Config) (slots id : ℕ) (m : Sat) (c : ℕ) → c < chunks key → Allows (Kept key) slots id m (3 * c + 11) (λ x. x) (on_chunk met (step slots (3 * c + 11) 0 0 none) m)
+meets key slots id m c near = subst (λ (d : ℕ). Allows (Kept key) slots id m (3 * c + 11) (λ x. x) (λ x n. met d 0 m x n)) (sym (label_chunk_is c))
     (on_label key slots id m c (λ x. x) (λ x n. met c 0 m x n) near (λ n x t limits o a. (
       m.0,
       (λ u moved. same_sound key.refs_limit n x t u (λ y. let e = moved y in omega arith) o),

@@ -114,7 +114,7 @@ module _ (key : Config) (slots id : ℕ) (m : Sat) (c : ℕ) (near : c < chunks 
   )
 
   -- a load by a worker
-  pub looks : Allows (Kept key) slots id m (3 * c) (λ n. n) (on_chunk looked (step slots (3 * c) 0 0 none) m)
+  pub looks : Allows (Kept key) slots id m (3 * c + 9) (λ n. n) (on_chunk looked (step slots (3 * c + 9) 0 0 none) m)
   looks = at_chunk looked key slots id m c 0 (λ n. n) near (λ n x t limits o a. loaded n x t (looked c 0 m n) o (refl, (o.head, o.spells, tells c key.refs_limit n x m.0 t o a)))
 
   -- a reference is taken where the word is the one that the exchange expects
@@ -152,7 +152,7 @@ module _ (key : Config) (slots id : ℕ) (m : Sat) (c : ℕ) (near : c < chunks 
       apart k hs same b ne (misreads j y) = omega (arith, same b (misreads j y))
 
   -- the exchange that takes a hold
-  pub takes : (g old : ℕ) (h : Head) → Spells old h → get_of key.refs_limit g h ≡ IsHeld → Allows (Kept key) slots id m (3 * c) (λ n. either (eqb n old) (old + 1) n) (on_chunk taken (step slots (3 * c) old (old + 1) none) m)
+  pub takes : (g old : ℕ) (h : Head) → Spells old h → get_of key.refs_limit g h ≡ IsHeld → Allows (Kept key) slots id m (3 * c + 9) (λ n. either (eqb n old) (old + 1) n) (on_chunk taken (step slots (3 * c + 9) old (old + 1) none) m)
   takes g old h is may = at_chunk taken key slots id m c old (λ n. either (eqb n old) (old + 1) n) near (λ n x t limits o a.
       exchanged n old (old + 1) (λ p. Reaches key c m (taken c old m n) p x t) (λ hit. won g old h is may n x t limits o a hit)
       (λ miss. loaded n x t (taken c old m n) o ((λ hit. absurd (miss hit)), (λ _. refl), (o.head, o.spells, tells c key.refs_limit n x m.0 t o a))))
@@ -189,7 +189,7 @@ module _ (key : Config) (slots id : ℕ) (m : Sat) (c : ℕ) (near : c < chunks 
     is_life n x t o a = (o.lawful.used h.life.generation (omega (arith, a.mine (held h.life.generation), first_term (λ p. one_if (life c h.life.generation) p.life), one_here))).0
 
     -- a hold gives its reference back
-    gives : Allows (Kept key) slots id m (3 * c) (λ n. (n + (2 ^ 64 - 1)) % 2 ^ 64) (on_chunk given_back (step slots (3 * c) 1 0 none) m)
+    gives : Allows (Kept key) slots id m (3 * c + 9) (λ n. (n + (2 ^ 64 - 1)) % 2 ^ 64) (on_chunk given_back (step slots (3 * c + 9) 1 0 none) m)
     gives = at_chunk given_back key slots id m c 1 (λ n. (n + (2 ^ 64 - 1)) % 2 ^ 64) near (λ n x t limits o a.
         let g : ℕ = h.life.generation in
         let gen : g ≡ o.head.generation = is_life n x t o a in
@@ -219,7 +219,7 @@ module _ (key : Config) (slots id : ℕ) (m : Sat) (c : ℕ) (near : c < chunks 
     read_apart x b ne (misreads j y) = omega (arith, first_read x (misread b j y), first_term (misread b j y), unread_there b j (total (differs y) (read_hold x h).labels) ne, unread_there b j (total (differs y) h.labels) ne)
 
   -- for the contract
-  pub gives_back : HasHold c m.0 → Allows (Kept key) slots id m (3 * c) (λ n. (n + (2 ^ 64 - 1)) % 2 ^ 64) (on_chunk given_back (step slots (3 * c) 1 0 none) m)
+  pub gives_back : HasHold c m.0 → Allows (Kept key) slots id m (3 * c + 9) (λ n. (n + (2 ^ 64 - 1)) % 2 ^ 64) (on_chunk given_back (step slots (3 * c + 9) 1 0 none) m)
   gives_back has = gives has.0 has.1 has.2
 
   -- the label word is what the first hold of the chunk read
@@ -235,8 +235,8 @@ module _ (key : Config) (slots id : ℕ) (m : Sat) (c : ℕ) (near : c < chunks 
   no_difference x p = omega (arith, total_push (differs x) p.labels x, ap {B = ℕ} (λ (b : Bool). cond b 0 1) (eq-eqb x x refl))
 
   -- a load of a label word, by a hold
-  pub reads_label : HasHold c m.0 → Allows (Kept key) slots id m (3 * c + 2) (λ x. x) (on_chunk label_read (step slots (3 * c + 2) 0 0 none) m)
-  reads_label has = subst (λ (d : ℕ). Allows (Kept key) slots id m (3 * c + 2) (λ x. x) (λ x n. label_read d 0 m x n)) (sym (label_chunk_is c))
+  pub reads_label : HasHold c m.0 → Allows (Kept key) slots id m (3 * c + 11) (λ x. x) (on_chunk label_read (step slots (3 * c + 11) 0 0 none) m)
+  reads_label has = subst (λ (d : ℕ). Allows (Kept key) slots id m (3 * c + 11) (λ x. x) (λ x n. label_read d 0 m x n)) (sym (label_chunk_is c))
       (on_label key slots id m c (λ x. x) (λ x n. label_read c 0 m x n) near (λ n x t limits o a.
       let same : (f : HoldPart → ℕ) → ((p : HoldPart) → f (read_hold x p) ≡ f p) → total f (on_first (read_hold x) m.0.holds) ≡ total f m.0.holds = λ f e. on_first_total f (read_hold x) e m.0.holds in
       let held_same : (j : ℕ) → weight c (held j) (read_view x m.0) ≡ weight c (held j) m.0 = λ j. omega (arith, same (λ p. one_if (life c j) p.life) (λ p. refl)) in (
@@ -260,7 +260,7 @@ nothing c (mislabels x) = refl
 nothing c (misreads g x) = refl
 
 -- a load of a head word, without a seat
-pub sees : (key : Config) (slots c : ℕ) (first : View) → c < chunks key → Enters (Kept key) slots (3 * c) (λ n w. on_chunk (seen key.refs_limit) (step slots (3 * c) 0 0 none) (first, []) n (w, []))
+pub sees : (key : Config) (slots c : ℕ) (first : View) → c < chunks key → Enters (Kept key) slots (3 * c + 9) (λ n w. on_chunk (seen key.refs_limit) (step slots (3 * c + 9) 0 0 none) (first, []) n (w, []))
 sees key slots c first near s o count small = let e = o.each c near in (
   blank,
   record {

@@ -113,7 +113,7 @@ module _ (key : Config) (slots id : ℕ) (p : WorkerPart) (q : HoldPart) (l : It
         (o.head, o.spells, held_here (hand.Trying l) n y t o a, refl),
       )
 
-  looks : (failed : ℕ) → Allows (Kept key) slots id (seat_with (hand.Trying l)) (3 * l.chunk) (λ n. n) (looked key.refs_limit failed l (seat_with (hand.Trying l)))
+  looks : (failed : ℕ) → Allows (Kept key) slots id (seat_with (hand.Trying l)) (3 * l.chunk + 9) (λ n. n) (looked key.refs_limit failed l (seat_with (hand.Trying l)))
   looks failed = on_head key slots id (seat_with (hand.Trying l)) l.chunk (λ n. n) (looked key.refs_limit failed l (seat_with (hand.Trying l))) near (λ n y t limits o a. look_reaches failed n y t o a)
 
   -- an exchange that found the word that it expects
@@ -137,14 +137,14 @@ module _ (key : Config) (slots id : ℕ) (p : WorkerPart) (q : HoldPart) (l : It
       away : (s z : Hand) (a : Accounts) (x : OwnStep) (plain : is_fetch x.kind ≡ false) (b : ℕ) → b ≢ l.chunk → ((j : ℕ) → in_hand b j s ≡ 0) → ((j : ℕ) → in_hand b j z ≡ 0) → Same b (seat_with s).0 (with_hold p q l z a (p.steps ++ x ∷ []))
       away s z a x plain b ne none nothing = elsewhere p q l s z a x plain b (λ j. nothing j ∙ sym (none j))
 
-  tries : (failed old : ℕ) → HasRoom key.refs_limit old → Allows (Kept key) slots id (seat_with (hand.Trying l)) (3 * l.chunk) (λ n. either (n == old) (old + 1) n) (rode key.refs_limit failed l old (seat_with (hand.Trying l)))
+  tries : (failed old : ℕ) → HasRoom key.refs_limit old → Allows (Kept key) slots id (seat_with (hand.Trying l)) (3 * l.chunk + 9) (λ n. either (n == old) (old + 1) n) (rode key.refs_limit failed l old (seat_with (hand.Trying l)))
   tries failed old room = on_head key slots id (seat_with (hand.Trying l)) l.chunk (λ n. either (n == old) (old + 1) n) (rode key.refs_limit failed l old (seat_with (hand.Trying l))) near (λ n y t limits o a.
       exchanged n old (old + 1) (λ k. Reaches key l.chunk (seat_with (hand.Trying l)) (rode key.refs_limit failed l old (seat_with (hand.Trying l)) n) k y t)
       (λ hit. let r = take_reaches old room n y t limits o a hit in (r.0, r.1, r.2, r.3, ((λ _. r.4), (λ miss. absurd (miss hit)))))
       (λ miss. let r = look_reaches failed n y t o a in (r.0, r.1, r.2, r.3, ((λ hit. absurd (miss hit)), (λ _. r.4)))))
 
   -- a bump's reference is given back
-  gives_back : Allows (Kept key) slots id (seat_with (hand.InHand l)) (3 * l.chunk) (λ n. (n + (2 ^ 64 - 1)) % 2 ^ 64) (gave_back l (seat_with (hand.InHand l)))
+  gives_back : Allows (Kept key) slots id (seat_with (hand.InHand l)) (3 * l.chunk + 9) (λ n. (n + (2 ^ 64 - 1)) % 2 ^ 64) (gave_back l (seat_with (hand.InHand l)))
   gives_back = on_head key slots id (seat_with (hand.InHand l)) l.chunk (λ n. (n + (2 ^ 64 - 1)) % 2 ^ 64) (gave_back l (seat_with (hand.InHand l))) near (λ n y t limits o a.
       let x : OwnStep = step_of kind.Release l.chunk (word_of o.head) None in
       let less : Accounts = record p.accounts { full = p.accounts.full + 1 } in
@@ -169,13 +169,13 @@ seen_as s l m on = (with_hold on.part on.hold l s on.part.accounts on.part.steps
 seat_is : (s : Hand) (l : ItemId) (m : Sat) (on : IsOn s l m.0) → m ≡ seen_as s l m on
 seat_is s l m on = λ i. ((on.view ∙ (λ j. touching (record on.part { hand = on.hand j }) (record on.hold { life = on.life j }))) i, m.1)
 
-pub may_look : (key : Config) (slots id : ℕ) (m : Sat) (l : ItemId) (limit failed : ℕ) → l.chunk < chunks key → limit ≡ key.refs_limit → IsOn (hand.Trying l) l m.0 → Allows (Kept key) slots id m (3 * l.chunk) (λ n. n) (looked limit failed l m)
-may_look key slots id m l limit failed near is on = subst (λ (z : ℕ × Sat). Allows (Kept key) slots id z.1 (3 * l.chunk) (λ n. n) (looked z.0 failed l z.1)) (λ i. (sym is i, sym (seat_is (hand.Trying l) l m on) i))
+pub may_look : (key : Config) (slots id : ℕ) (m : Sat) (l : ItemId) (limit failed : ℕ) → l.chunk < chunks key → limit ≡ key.refs_limit → IsOn (hand.Trying l) l m.0 → Allows (Kept key) slots id m (3 * l.chunk + 9) (λ n. n) (looked limit failed l m)
+may_look key slots id m l limit failed near is on = subst (λ (z : ℕ × Sat). Allows (Kept key) slots id z.1 (3 * l.chunk + 9) (λ n. n) (looked z.0 failed l z.1)) (λ i. (sym is i, sym (seat_is (hand.Trying l) l m on) i))
     (looks key slots id on.part on.hold l near m.1 failed)
 
-pub may_try : (key : Config) (slots id : ℕ) (m : Sat) (l : ItemId) (limit failed old : ℕ) → l.chunk < chunks key → limit ≡ key.refs_limit → IsOn (hand.Trying l) l m.0 → HasRoom limit old → Allows (Kept key) slots id m (3 * l.chunk) (λ n. either (n == old) (old + 1) n) (rode limit failed l old m)
-may_try key slots id m l limit failed old near is on room = subst (λ (z : ℕ × Sat). Allows (Kept key) slots id z.1 (3 * l.chunk) (λ n. either (n == old) (old + 1) n) (rode z.0 failed l old z.1)) (λ i. (sym is i, sym (seat_is (hand.Trying l) l m on) i))
+pub may_try : (key : Config) (slots id : ℕ) (m : Sat) (l : ItemId) (limit failed old : ℕ) → l.chunk < chunks key → limit ≡ key.refs_limit → IsOn (hand.Trying l) l m.0 → HasRoom limit old → Allows (Kept key) slots id m (3 * l.chunk + 9) (λ n. either (n == old) (old + 1) n) (rode limit failed l old m)
+may_try key slots id m l limit failed old near is on room = subst (λ (z : ℕ × Sat). Allows (Kept key) slots id z.1 (3 * l.chunk + 9) (λ n. either (n == old) (old + 1) n) (rode z.0 failed l old z.1)) (λ i. (sym is i, sym (seat_is (hand.Trying l) l m on) i))
     (tries key slots id on.part on.hold l near m.1 failed old (subst (λ (k : ℕ). HasRoom k old) is room))
 
-pub may_give_back : (key : Config) (slots id : ℕ) (m : Sat) (l : ItemId) → l.chunk < chunks key → IsOn (hand.InHand l) l m.0 → Allows (Kept key) slots id m (3 * l.chunk) (λ n. (n + (2 ^ 64 - 1)) % 2 ^ 64) (gave_back l m)
-may_give_back key slots id m l near on = subst (λ (z : Sat). Allows (Kept key) slots id z (3 * l.chunk) (λ n. (n + (2 ^ 64 - 1)) % 2 ^ 64) (gave_back l z)) (sym (seat_is (hand.InHand l) l m on)) (gives_back key slots id on.part on.hold l near m.1)
+pub may_give_back : (key : Config) (slots id : ℕ) (m : Sat) (l : ItemId) → l.chunk < chunks key → IsOn (hand.InHand l) l m.0 → Allows (Kept key) slots id m (3 * l.chunk + 9) (λ n. (n + (2 ^ 64 - 1)) % 2 ^ 64) (gave_back l m)
+may_give_back key slots id m l near on = subst (λ (z : Sat). Allows (Kept key) slots id z (3 * l.chunk + 9) (λ n. (n + (2 ^ 64 - 1)) % 2 ^ 64) (gave_back l z)) (sym (seat_is (hand.InHand l) l m on)) (gives_back key slots id on.part on.hold l near m.1)

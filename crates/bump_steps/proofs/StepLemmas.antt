@@ -1,5 +1,5 @@
 -- What all steps need: the chunk of a word, lists whose first element changes, and how often a life counts.
-use Rattle.std.proofs.Common.{◌≡◌, ℕ, ◌+◌, ◌*◌, ◌/◌, ◌<◌, ◌≤◌, ◌≢◌, ◌&&◌, eqb, cond, List, [], ◌∷◌, refl, sym, ap, ap₂, subst, arith, eq-eqb, ne_eqb}
+use Rattle.std.proofs.Common.{◌-◌, ◌≡◌, ℕ, ◌+◌, ◌*◌, ◌/◌, ◌<◌, ◌≤◌, ◌≢◌, ◌&&◌, eqb, cond, List, [], ◌∷◌, refl, sym, ap, ap₂, subst, arith, eq-eqb, ne_eqb}
 use Rattle.atomic_table.specs.Table.{Allows}
 use Rattle.bump_rules.specs.declared.configs.Config.{Config}
 use Rattle.bump_rules.specs.declared.items.ItemId.{ItemId}
@@ -12,18 +12,18 @@ use Rattle.bump_steps.specs.Plays.{Sat, Tells, on_first}
 use Rattle.bump_steps.proofs.Frame.{Same, From, Reaches, on_head}
 
 -- the chunk of a head word, of a time word, and of a label word
-pub chunk_is : (c : ℕ) → 3 * c / 3 ≡ c
+pub chunk_is : (c : ℕ) → (3 * c + 9) / 3 - 3 ≡ c
 chunk_is c = omega arith
 
-pub time_chunk_is : (c : ℕ) → (3 * c + 1) / 3 ≡ c
+pub time_chunk_is : (c : ℕ) → (3 * c + 10) / 3 - 3 ≡ c
 time_chunk_is c = omega arith
 
-pub label_chunk_is : (c : ℕ) → (3 * c + 2) / 3 ≡ c
+pub label_chunk_is : (c : ℕ) → (3 * c + 11) / 3 - 3 ≡ c
 label_chunk_is c = omega arith
 
 -- a step on a head word is allowed where it can go on, whatever sound words it finds
-pub at_chunk : (tells : Tells) (key : Config) (slots id : ℕ) (m : Sat) (c x : ℕ) (f : ℕ → ℕ) → c < chunks key → From key c m (λ n y t. Reaches key c m (tells c x m n) (f n) y t) → Allows (Kept key) slots id m (3 * c) f (tells (3 * c / 3) x m)
-at_chunk tells key slots id m c x f near goes = subst (λ (d : ℕ). Allows (Kept key) slots id m (3 * c) f (tells d x m)) (sym (chunk_is c)) (on_head key slots id m c f (tells c x m) near goes)
+pub at_chunk : (tells : Tells) (key : Config) (slots id : ℕ) (m : Sat) (c x : ℕ) (f : ℕ → ℕ) → c < chunks key → From key c m (λ n y t. Reaches key c m (tells c x m n) (f n) y t) → Allows (Kept key) slots id m (3 * c + 9) f (tells ((3 * c + 9) / 3 - 3) x m)
+at_chunk tells key slots id m c x f near goes = subst (λ (d : ℕ). Allows (Kept key) slots id m (3 * c + 9) f (tells d x m)) (sym (chunk_is c)) (on_head key slots id m c f (tells c x m) near goes)
 
 module _ {A : Type 0} (f : A → ℕ) (h : A → A) where
   -- a change of the first element that keeps its term keeps the sum

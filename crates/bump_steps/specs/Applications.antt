@@ -26,7 +26,7 @@ use Rattle.bump_steps.specs.declared.views.View.{View}
 use Rattle.bump_steps.specs.Views.{aboard_of, active_clear, owns, standing, evidence}
 use Rattle.bump_word.specs.Layout.{active_first}
 use Rattle.bump_steps.specs.Rule.{blank}
-use Rattle.bump_steps.specs.Plays.{Sat, Tells, Found, Told, on_first, step_of}
+use Rattle.bump_steps.specs.Plays.{Sat, Tells, chunk_of, Found, Told, on_first, step_of}
 
 -- the bump for which a step is made, by its lane
 abbrev pub bump_for : ℕ → Option Bump → Option (ℕ × ℕ)
@@ -101,7 +101,7 @@ abbrev pub cleared : Tells
 cleared c x m r n = (x ≡ 2 ^ 64 - 1 - 2 ^ active_first) × (n ≡ (cleared_view c r m.0, m.1)) × Found r (Told c m.0)
 
 abbrev pub timed : Step Empty → Sat → ℕ → Sat → Type 0
-timed st m r n = n ≡ (timed_view (st.word / 3) r m.0, m.1)
+timed st m r n = n ≡ (timed_view (chunk_of st.word) r m.0, m.1)
 
 abbrev pub moved_on : Segment → Segment → Tells
 moved_on from to c x m r n = (n ≡ (moved_view from to c r m.0, m.1)) × Found r (Told c m.0)

@@ -15,7 +15,7 @@ use Rattle.bump_steps.specs.declared.views.ClassPart.{ClassPart}
 use Rattle.bump_steps.specs.declared.views.View.{View}
 use Rattle.bump_steps.specs.Views.{owns, standing}
 use Rattle.bump_steps.specs.Rule.{blank}
-use Rattle.bump_steps.specs.Plays.{Sat, Tells, Found, Told, on_first, step_of}
+use Rattle.bump_steps.specs.Plays.{Sat, Tells, chunk_of, Found, Told, on_first, step_of}
 
 -- the view of a class's seat to which nothing is joined
 abbrev pub alone : ClassPart → View
@@ -90,11 +90,11 @@ looking c x m r n = (n ≡ (on_part (looked c r) m.0, m.1)) × Found r (Told c m
 
 -- the store of a label
 abbrev pub storing : Step Empty → Sat → ℕ → Sat → Type 0
-storing st m r n = n ≡ (on_part (labelled (st.word / 3) r) m.0, m.1)
+storing st m r n = n ≡ (on_part (labelled (chunk_of st.word) r) m.0, m.1)
 
 -- the store of a new life's head: the life's generation is the one in it
 abbrev pub beginning : Step Empty → Sat → ℕ → Sat → Type 0
-beginning st m r n = n ≡ (on_part (begun (st.word / 3) (r / 2 ^ generation_first) r) m.0, m.1)
+beginning st m r n = n ≡ (on_part (begun (chunk_of st.word) (r / 2 ^ generation_first) r) m.0, m.1)
 
 -- an unlinking: a linked chunk has at least the reference of its link
 abbrev pub severing : Tells

@@ -15,7 +15,7 @@ use Rattle.bump_steps.specs.declared.views.Kind.TheVariants as kind
 use Rattle.bump_steps.specs.declared.views.WorkerPart.{WorkerPart}
 use Rattle.bump_steps.specs.declared.views.View.{View}
 use Rattle.bump_steps.specs.Views.{held, saw, weight}
-use Rattle.bump_steps.specs.Plays.{Sat, Tells, Found, Told, on_first, step_of}
+use Rattle.bump_steps.specs.Plays.{Sat, Tells, chunk_of, Found, Told, on_first, step_of}
 
 -- the worker's part changes
 abbrev pub on_worker : (WorkerPart → WorkerPart) → View → View
@@ -74,7 +74,7 @@ abbrev pub unmarked : Tells
 unmarked = changed_by (2 ^ 64 - 1 - 2 ^ active_first) unmarked_part
 
 abbrev pub timed : Step Empty → Sat → ℕ → Sat → Type 0
-timed st m r n = n ≡ (on_worker (timed_part (life (st.word / 3) 0) r) m.0, m.1)
+timed st m r n = n ≡ (on_worker (timed_part (life (chunk_of st.word) 0) r) m.0, m.1)
 
 -- the seat refers to a life of the chunk, and set its FETCHED
 abbrev pub MayMark : ℕ → View → Type 0

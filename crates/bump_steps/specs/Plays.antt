@@ -1,5 +1,5 @@
 -- What a step tells: of the seat before it, the number found, and the seat after it.
-use Rattle.std.specs.Prelude.{◌≡◌, ℕ, ◌/◌, ◌<◌, ◌≤◌, true, List, [], ◌∷◌, Option}
+use Rattle.std.specs.Prelude.{◌≡◌, ℕ, ◌-◌, ◌/◌, ◌<◌, ◌≤◌, true, List, [], ◌∷◌, Option}
 use Rattle.atomic_table.specs.Table.{Me, Step}
 use Rattle.bump_rules.specs.declared.items.Head.{Head}
 use Rattle.bump_rules.specs.Lawful.{bit, Shows, IsUsed}
@@ -18,8 +18,12 @@ Sat = Me Empty View
 abbrev pub Tells : Type 1
 Tells = ℕ → ℕ → Sat → ℕ → Sat → Type 0
 
+-- the chunk whose head, time or label a word is: three words for each chunk, behind nine that are spare
+abbrev pub chunk_of : ℕ → ℕ
+chunk_of word = word / 3 - 3
+
 abbrev pub on_chunk : Tells → Step Empty → Sat → ℕ → Sat → Type 0
-on_chunk tells st = tells (st.word / 3) st.first
+on_chunk tells st = tells (chunk_of st.word) st.first
 
 -- the number found is the word of a head, of which P holds
 abbrev pub Found : ℕ → (Head → Type 0) → Type 0

@@ -42,10 +42,10 @@ chunks key = chunks_of key.classes
 
 -- The words of chunk c stand side by side: its head, its time, of which nothing is said, and its label.
 abbrev pub SoundAt : Config → State Empty View → ℕ → Type 0
-SoundAt key s c = Sound key.refs_limit (slice_index s.words (3 * c)) (slice_index s.words (3 * c + 2)) (tally s.views c)
+SoundAt key s c = Sound key.refs_limit (slice_index s.words (3 * c + 9)) (slice_index s.words (3 * c + 11)) (tally s.views c)
 
 pub record Kept (key : Config) (s : State Empty View) : Type 0 where
-  pub wide : length s.words ≡ 3 * chunks key
+  pub wide : length s.words ≡ 3 * chunks key + 9
   pub small : (0 < key.refs_limit) × (key.refs_limit < 65536)
   pub each : (c : ℕ) → c < chunks key → SoundAt key s c
   -- each applied entry is true
@@ -91,4 +91,4 @@ opened key = record blank { workers = worker_parts 0 key.workers; classes = clas
 
 -- words of chunks that had no life
 abbrev pub AreFresh : ℕ → ℕ → List ℕ → Type 0
-AreFresh count g words = (length words ≡ 3 * count) × ((c : ℕ) → c < count → (slice_index words (3 * c) ≡ 4294967296 * g) × (slice_index words (3 * c + 2) ≡ 0))
+AreFresh count g words = (length words ≡ 3 * count + 9) × ((c : ℕ) → c < count → (slice_index words (3 * c + 9) ≡ 4294967296 * g) × (slice_index words (3 * c + 11) ≡ 0))

@@ -3,7 +3,7 @@ ghost use Rattle.std.specs.Prelude.{ℕ, ◌≡◌, ◌≤◌, ◌<◌, ◌-◌,
 ghost use Rattle.bump_steps.specs.Rule.{AreFresh, opened};
 ghost use Rattle.bump_steps.specs.Words.{words_id};
 
-use crate::words::{Seat, Words};
+use crate::words::{HEAD, Seat, Words};
 use atomic_table::Table;
 use bump_rules::Config;
 use std::alloc::{AllocError, Global};
@@ -13,7 +13,10 @@ fn fresh_words(alloc: Global, chunks: u32, first: u32) -> Result<Vec<u64>, Alloc
     ensures words { IfOk result (λ v. AreFresh chunks (first - 1) v.items) }
     ensures fits { first < 4294967296 }
 {
-    let mut words = Vec::with_capacity(alloc, 3 * chunks as usize)?;
+    let mut words = Vec::with_capacity(alloc, 3 * chunks as usize + HEAD)?;
+    for spare in 0..HEAD {
+        words.push(0)?;
+    }
     let word = u64::from(first - 1) * 4_294_967_296;
     for chunk in 0..chunks {
         words.push(word)?;

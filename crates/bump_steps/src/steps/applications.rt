@@ -9,7 +9,7 @@ ghost use Rattle.bump_rules.specs.declared.places.Segment.{Segment as TheSegment
 ghost use Rattle.bump_rules.specs.declared.places.Segment.TheVariants.{Hot};
 
 use crate::views::{Empty, View};
-use crate::words::{Seat, Words};
+use crate::words::{HEAD, Seat, TIME, Words};
 use atomic_table::Play;
 use bump_rules::{Outcome, Segment};
 use bump_word::laws::{ALL_BUT_ACTIVE, ONE_REFERENCE};
@@ -75,37 +75,39 @@ impl<W: Ends> Play<Empty, View> for Alight<W> {
 impl Words {
     /// The head of the bump's item is looked at.
     pub fn try_front(&self, seat: &mut Seat, chunk: u32) -> u64
-        requires { (seat.old.table_id ≡ words_id self.now) × (3 * chunk + 2 < (words_id self.now).words) }
+        requires { (seat.old.table_id ≡ words_id self.now) × (3 * chunk + 11 < (words_id self.now).words) }
         ensures same { (seat.new.table_id ≡ seat.old.table_id) × (seat.new.id ≡ seat.old.id) }
         ensures told { tried chunk 0 seat.old.me result seat.new.me }
     {
-        self.table.shared.load::<Try>(seat, 3 * chunk as usize)
+        self.table
+            .shared
+            .load::<Try>(seat, 3 * chunk as usize + HEAD)
     }
 
     /// ACTIVE is cleared, for a pull or for the bump aboard.
     pub fn clear_for(&self, seat: &mut Seat, chunk: u32) -> u64
-        requires { (seat.old.table_id ≡ words_id self.now) × (3 * chunk + 2 < (words_id self.now).words) }
+        requires { (seat.old.table_id ≡ words_id self.now) × (3 * chunk + 11 < (words_id self.now).words) }
         ensures same { (seat.new.table_id ≡ seat.old.table_id) × (seat.new.id ≡ seat.old.id) }
         ensures told { cleared chunk ALL_BUT_ACTIVE seat.old.me result seat.new.me }
     {
         self.table
             .shared
-            .fetch_and::<ClearFor>(seat, 3 * chunk as usize, ALL_BUT_ACTIVE)
+            .fetch_and::<ClearFor>(seat, 3 * chunk as usize + HEAD, ALL_BUT_ACTIVE)
     }
 
     /// The time is stored under the class's lock, for a link or for the bump aboard.
     pub fn time_for(&self, seat: &mut Seat, chunk: u32, now: u64)
-        requires { (seat.old.table_id ≡ words_id self.now) × (3 * chunk + 2 < (words_id self.now).words) }
+        requires { (seat.old.table_id ≡ words_id self.now) × (3 * chunk + 11 < (words_id self.now).words) }
         ensures same { (seat.new.table_id ≡ seat.old.table_id) × (seat.new.id ≡ seat.old.id) }
         ensures told { seat.new.me ≡ (timed_view chunk now seat.old.me.0, seat.old.me.1) }
     {
         self.table
             .shared
-            .store::<TimeFor>(seat, 3 * chunk as usize + 1, now);
+            .store::<TimeFor>(seat, 3 * chunk as usize + TIME, now);
     }
 
     fn shift_by<W: Shifts>(&self, seat: &mut Seat, chunk: u32, from: Segment, to: Segment) -> u64
-        requires seat { (seat.old.table_id ≡ words_id self.now) × (3 * chunk + 2 < (words_id self.now).words) }
+        requires seat { (seat.old.table_id ≡ words_id self.now) × (3 * chunk + 11 < (words_id self.now).words) }
         requires segments { (from ≡ W.from) × (to ≡ W.to) }
         requires may { MayMove from to chunk seat.old.me.0 }
         ensures same { (seat.new.table_id ≡ seat.old.table_id) × (seat.new.id ≡ seat.old.id) }
@@ -113,12 +115,12 @@ impl Words {
     {
         self.table
             .shared
-            .fetch_xor::<Shift<W>>(seat, 3 * chunk as usize, segment_xor(from, to))
+            .fetch_xor::<Shift<W>>(seat, 3 * chunk as usize + HEAD, segment_xor(from, to))
     }
 
     /// The segment's bits are changed, for a pull or for the bump aboard.
     pub fn change_segment(&self, seat: &mut Seat, chunk: u32, from: Segment, to: Segment) -> u64
-        requires seat { (seat.old.table_id ≡ words_id self.now) × (3 * chunk + 2 < (words_id self.now).words) }
+        requires seat { (seat.old.table_id ≡ words_id self.now) × (3 * chunk + 11 < (words_id self.now).words) }
         requires may { MayMove from to chunk seat.old.me.0 }
         ensures same { (seat.new.table_id ≡ seat.old.table_id) × (seat.new.id ≡ seat.old.id) }
         ensures told { (x : ℕ) × moved_on from to chunk x seat.old.me result seat.new.me }
@@ -127,7 +129,7 @@ impl Words {
     }
 
     fn alight_by<W: Ends>(&self, seat: &mut Seat, chunk: u32, outcome: Outcome) -> u64
-        requires seat { (seat.old.table_id ≡ words_id self.now) × (3 * chunk + 2 < (words_id self.now).words) }
+        requires seat { (seat.old.table_id ≡ words_id self.now) × (3 * chunk + 11 < (words_id self.now).words) }
         requires outcome { outcome ≡ W.outcome }
         requires may { MayAlight chunk outcome seat.old.me.0 }
         ensures same { (seat.new.table_id ≡ seat.old.table_id) × (seat.new.id ≡ seat.old.id) }
@@ -135,12 +137,12 @@ impl Words {
     {
         self.table
             .shared
-            .fetch_sub::<Alight<W>>(seat, 3 * chunk as usize, ONE_REFERENCE)
+            .fetch_sub::<Alight<W>>(seat, 3 * chunk as usize + HEAD, ONE_REFERENCE)
     }
 
     /// The reference of the bump aboard is given back.
     pub fn alight(&self, seat: &mut Seat, chunk: u32, outcome: Outcome) -> u64
-        requires seat { (seat.old.table_id ≡ words_id self.now) × (3 * chunk + 2 < (words_id self.now).words) }
+        requires seat { (seat.old.table_id ≡ words_id self.now) × (3 * chunk + 11 < (words_id self.now).words) }
         requires may { MayAlight chunk outcome seat.old.me.0 }
         ensures same { (seat.new.table_id ≡ seat.old.table_id) × (seat.new.id ≡ seat.old.id) }
         ensures told { alighted outcome chunk ONE_REFERENCE seat.old.me result seat.new.me }

@@ -7,7 +7,7 @@ ghost use Rattle.bump_rules.specs.Heads.{newborn};
 ghost use Rattle.bump_steps.specs.Lives.{peeking, looking, storing, beginning, severing, sweeping, labelled, begun, on_part, IsUnused, IsDying, IsLinked, MayBegin};
 
 use crate::views::{Empty, View};
-use crate::words::{Seat, Words};
+use crate::words::{HEAD, LABEL, Seat, Words};
 use atomic_table::Play;
 use bump_word::laws::{LINK, ONE_GENERATION};
 
@@ -50,37 +50,41 @@ impl Play<Empty, View> for Sweep {
 impl Words {
     /// A load that the class's list of steps has not.
     pub fn peek(&self, seat: &mut Seat, chunk: u32) -> u64
-        requires { (seat.old.table_id ≡ words_id self.now) × (3 * chunk + 2 < (words_id self.now).words) }
+        requires { (seat.old.table_id ≡ words_id self.now) × (3 * chunk + 11 < (words_id self.now).words) }
         ensures same { (seat.new.table_id ≡ seat.old.table_id) × (seat.new.id ≡ seat.old.id) }
         ensures told { peeking chunk 0 seat.old.me result seat.new.me }
     {
-        self.table.shared.load::<Peek>(seat, 3 * chunk as usize)
+        self.table
+            .shared
+            .load::<Peek>(seat, 3 * chunk as usize + HEAD)
     }
 
     /// A load of a head by its class.
     pub fn class_look(&self, seat: &mut Seat, chunk: u32) -> u64
-        requires { (seat.old.table_id ≡ words_id self.now) × (3 * chunk + 2 < (words_id self.now).words) }
+        requires { (seat.old.table_id ≡ words_id self.now) × (3 * chunk + 11 < (words_id self.now).words) }
         ensures same { (seat.new.table_id ≡ seat.old.table_id) × (seat.new.id ≡ seat.old.id) }
         ensures told { looking chunk 0 seat.old.me result seat.new.me }
     {
-        self.table.shared.load::<Look>(seat, 3 * chunk as usize)
+        self.table
+            .shared
+            .load::<Look>(seat, 3 * chunk as usize + HEAD)
     }
 
     /// The store of a label.
     pub fn put_label(&self, seat: &mut Seat, chunk: u32, label: u64)
-        requires seat { (seat.old.table_id ≡ words_id self.now) × (3 * chunk + 2 < (words_id self.now).words) }
+        requires seat { (seat.old.table_id ≡ words_id self.now) × (3 * chunk + 11 < (words_id self.now).words) }
         requires may { IsUnused chunk seat.old.me.0 }
         ensures same { (seat.new.table_id ≡ seat.old.table_id) × (seat.new.id ≡ seat.old.id) }
         ensures told { seat.new.me ≡ (on_part (labelled chunk label) seat.old.me.0, seat.old.me.1) }
     {
         self.table
             .shared
-            .store::<PutLabel>(seat, 3 * chunk as usize + 2, label);
+            .store::<PutLabel>(seat, 3 * chunk as usize + LABEL, label);
     }
 
     /// The store of the head of a new life.
     pub fn begin(&self, seat: &mut Seat, chunk: u32, generation: u32)
-        requires seat { (seat.old.table_id ≡ words_id self.now) × (3 * chunk + 2 < (words_id self.now).words) }
+        requires seat { (seat.old.table_id ≡ words_id self.now) × (3 * chunk + 11 < (words_id self.now).words) }
         requires may { MayBegin chunk generation seat.old.me.0 }
         ensures same { (seat.new.table_id ≡ seat.old.table_id) × (seat.new.id ≡ seat.old.id) }
         ensures told { seat.new.me ≡ (on_part (begun chunk generation (word_of (newborn generation))) seat.old.me.0, seat.old.me.1) }
@@ -88,28 +92,30 @@ impl Words {
         let word = LINK + u64::from(generation) * ONE_GENERATION;
         self.table
             .shared
-            .store::<Begin>(seat, 3 * chunk as usize, word);
+            .store::<Begin>(seat, 3 * chunk as usize + HEAD, word);
     }
 
     /// The subtraction of LINKED and of the link's reference.
     pub fn sever(&self, seat: &mut Seat, chunk: u32) -> u64
-        requires seat { (seat.old.table_id ≡ words_id self.now) × (3 * chunk + 2 < (words_id self.now).words) }
+        requires seat { (seat.old.table_id ≡ words_id self.now) × (3 * chunk + 11 < (words_id self.now).words) }
         requires may { IsLinked chunk seat.old.me.0 }
         ensures same { (seat.new.table_id ≡ seat.old.table_id) × (seat.new.id ≡ seat.old.id) }
         ensures told { severing chunk LINK seat.old.me result seat.new.me }
     {
         self.table
             .shared
-            .fetch_sub::<Sever>(seat, 3 * chunk as usize, LINK)
+            .fetch_sub::<Sever>(seat, 3 * chunk as usize + HEAD, LINK)
     }
 
     /// A load of the head of a DYING chunk.
     pub fn sweep(&self, seat: &mut Seat, chunk: u32) -> u64
-        requires seat { (seat.old.table_id ≡ words_id self.now) × (3 * chunk + 2 < (words_id self.now).words) }
+        requires seat { (seat.old.table_id ≡ words_id self.now) × (3 * chunk + 11 < (words_id self.now).words) }
         requires may { IsDying chunk seat.old.me.0 }
         ensures same { (seat.new.table_id ≡ seat.old.table_id) × (seat.new.id ≡ seat.old.id) }
         ensures told { sweeping chunk 0 seat.old.me result seat.new.me }
     {
-        self.table.shared.load::<Sweep>(seat, 3 * chunk as usize)
+        self.table
+            .shared
+            .load::<Sweep>(seat, 3 * chunk as usize + HEAD)
     }
 }

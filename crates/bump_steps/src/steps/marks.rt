@@ -6,7 +6,7 @@ ghost use Rattle.bump_steps.specs.Plays.{on_chunk};
 ghost use Rattle.bump_steps.specs.Marks.{fetched, marked, unmarked, timed, on_worker, timed_part, MayMark};
 
 use crate::views::{Empty, View};
-use crate::words::{Seat, Words};
+use crate::words::{HEAD, Seat, TIME, Words};
 use atomic_table::Play;
 use bump_word::laws::ALL_BUT_ACTIVE;
 use bump_word::{ACTIVE, FETCHED};
@@ -38,47 +38,47 @@ impl Play<Empty, View> for StoreTime {
 impl Words {
     /// A worker sets FETCHED.
     pub fn mark_fetched(&self, seat: &mut Seat, chunk: u32) -> u64
-        requires seat { (seat.old.table_id ≡ words_id self.now) × (3 * chunk + 2 < (words_id self.now).words) }
+        requires seat { (seat.old.table_id ≡ words_id self.now) × (3 * chunk + 11 < (words_id self.now).words) }
         requires worker { 0 < length seat.old.me.0.workers }
         ensures same { (seat.new.table_id ≡ seat.old.table_id) × (seat.new.id ≡ seat.old.id) }
         ensures told { fetched chunk FETCHED seat.old.me result seat.new.me }
     {
         self.table
             .shared
-            .fetch_or::<Fetch>(seat, 3 * chunk as usize, FETCHED)
+            .fetch_or::<Fetch>(seat, 3 * chunk as usize + HEAD, FETCHED)
     }
 
     /// A worker sets ACTIVE.
     pub fn mark_active(&self, seat: &mut Seat, chunk: u32) -> u64
-        requires seat { (seat.old.table_id ≡ words_id self.now) × (3 * chunk + 2 < (words_id self.now).words) }
+        requires seat { (seat.old.table_id ≡ words_id self.now) × (3 * chunk + 11 < (words_id self.now).words) }
         requires may { MayMark chunk seat.old.me.0 }
         ensures same { (seat.new.table_id ≡ seat.old.table_id) × (seat.new.id ≡ seat.old.id) }
         ensures told { marked chunk ACTIVE seat.old.me result seat.new.me }
     {
         self.table
             .shared
-            .fetch_or::<Mark>(seat, 3 * chunk as usize, ACTIVE)
+            .fetch_or::<Mark>(seat, 3 * chunk as usize + HEAD, ACTIVE)
     }
 
     /// A worker clears ACTIVE.
     pub fn unmark(&self, seat: &mut Seat, chunk: u32) -> u64
-        requires { (seat.old.table_id ≡ words_id self.now) × (3 * chunk + 2 < (words_id self.now).words) }
+        requires { (seat.old.table_id ≡ words_id self.now) × (3 * chunk + 11 < (words_id self.now).words) }
         ensures same { (seat.new.table_id ≡ seat.old.table_id) × (seat.new.id ≡ seat.old.id) }
         ensures told { unmarked chunk ALL_BUT_ACTIVE seat.old.me result seat.new.me }
     {
         self.table
             .shared
-            .fetch_and::<Unmark>(seat, 3 * chunk as usize, ALL_BUT_ACTIVE)
+            .fetch_and::<Unmark>(seat, 3 * chunk as usize + HEAD, ALL_BUT_ACTIVE)
     }
 
     /// A worker stores the time.
     pub fn set_time(&self, seat: &mut Seat, chunk: u32, now: u64)
-        requires { (seat.old.table_id ≡ words_id self.now) × (3 * chunk + 2 < (words_id self.now).words) }
+        requires { (seat.old.table_id ≡ words_id self.now) × (3 * chunk + 11 < (words_id self.now).words) }
         ensures same { (seat.new.table_id ≡ seat.old.table_id) × (seat.new.id ≡ seat.old.id) }
         ensures told { seat.new.me ≡ (on_worker (timed_part (life chunk 0) now) seat.old.me.0, seat.old.me.1) }
     {
         self.table
             .shared
-            .store::<StoreTime>(seat, 3 * chunk as usize + 1, now);
+            .store::<StoreTime>(seat, 3 * chunk as usize + TIME, now);
     }
 }

@@ -5,7 +5,7 @@ ghost use Rattle.bump_steps.specs.Plays.{on_chunk};
 ghost use Rattle.bump_steps.specs.Meetings.{met};
 
 use crate::views::{Empty, View};
-use crate::words::{Seat, Words};
+use crate::words::{LABEL, Seat, Words};
 use atomic_table::Play;
 
 pub struct Meet;
@@ -17,10 +17,12 @@ impl Play<Empty, View> for Meet {
 impl Words {
     /// A load of the label word, for `meet`.
     pub fn meet(&self, seat: &mut Seat, chunk: u32) -> u64
-        requires { (seat.old.table_id ≡ words_id self.now) × (3 * chunk + 2 < (words_id self.now).words) }
+        requires { (seat.old.table_id ≡ words_id self.now) × (3 * chunk + 11 < (words_id self.now).words) }
         ensures same { (seat.new.table_id ≡ seat.old.table_id) × (seat.new.id ≡ seat.old.id) }
         ensures told { met chunk 0 seat.old.me result seat.new.me }
     {
-        self.table.shared.load::<Meet>(seat, 3 * chunk as usize + 2)
+        self.table
+            .shared
+            .load::<Meet>(seat, 3 * chunk as usize + LABEL)
     }
 }

@@ -10,7 +10,7 @@ ghost use Rattle.bump_steps.specs.Tries.{TookView};
 use crate::decoding::head_of;
 use crate::refusals::{TakeRefusal, refusal};
 use crate::views::{Empty, View};
-use crate::words::{Seat, Words};
+use crate::words::{HEAD, LABEL, Seat, TIME, Words};
 use atomic_table::Play;
 use bump_rules::ItemId;
 use bump_word::laws::ONE_REFERENCE;
@@ -62,29 +62,34 @@ impl<L: Limited> Play<Empty, View> for See<L> {
 impl Words {
     /// A load of a head word, by a worker.
     pub fn look(&self, seat: &mut Seat, chunk: u32) -> u64
-        requires { (seat.old.table_id ≡ words_id self.now) × (3 * chunk + 2 < (words_id self.now).words) }
+        requires { (seat.old.table_id ≡ words_id self.now) × (3 * chunk + 11 < (words_id self.now).words) }
         ensures same { (seat.new.table_id ≡ seat.old.table_id) × (seat.new.id ≡ seat.old.id) }
         ensures told { looked chunk 0 seat.old.me result seat.new.me }
     {
-        self.table.shared.load::<Look>(seat, 3 * chunk as usize)
+        self.table
+            .shared
+            .load::<Look>(seat, 3 * chunk as usize + HEAD)
     }
 
     /// The exchange by which a worker takes a hold.
     pub fn try_take(&self, seat: &mut Seat, life: ItemId, word: u64) -> u64
-        requires seat { (seat.old.table_id ≡ words_id self.now) × (3 * life.chunk + 2 < (words_id self.now).words) }
+        requires seat { (seat.old.table_id ≡ words_id self.now) × (3 * life.chunk + 11 < (words_id self.now).words) }
         requires word { MayTake self.now.table.shared.key.refs_limit life word }
         ensures same { (seat.new.table_id ≡ seat.old.table_id) × (seat.new.id ≡ seat.old.id) }
         ensures told { taken life.chunk word seat.old.me result seat.new.me }
     {
-        self.table
-            .shared
-            .compare_exchange::<Take>(seat, 3 * life.chunk as usize, word, word + ONE_REFERENCE)
+        self.table.shared.compare_exchange::<Take>(
+            seat,
+            3 * life.chunk as usize + HEAD,
+            word,
+            word + ONE_REFERENCE,
+        )
     }
 
     /// One load, and at most 8 exchanges.
     #[inline(always)]
     pub fn take(&self, seat: &mut Seat, life: ItemId, limit: u32) -> Option<TakeRefusal>
-        requires seat { (seat.old.table_id ≡ words_id self.now) × (3 * life.chunk + 2 < (words_id self.now).words) }
+        requires seat { (seat.old.table_id ≡ words_id self.now) × (3 * life.chunk + 11 < (words_id self.now).words) }
         requires limit { limit ≡ self.now.table.shared.key.refs_limit }
         ensures same { (seat.new.table_id ≡ seat.old.table_id) × (seat.new.id ≡ seat.old.id) }
         ensures told { (first : TheHead) × (more : List TheHead) × TookView limit life seat.old.me seat.new.me result first more }
@@ -106,43 +111,43 @@ impl Words {
 
     /// The subtraction by which a hold gives its reference back.
     pub fn give_back(&self, seat: &mut Seat, chunk: u32) -> u64
-        requires seat { (seat.old.table_id ≡ words_id self.now) × (3 * chunk + 2 < (words_id self.now).words) }
+        requires seat { (seat.old.table_id ≡ words_id self.now) × (3 * chunk + 11 < (words_id self.now).words) }
         requires hold { HasHold chunk seat.old.me.0 }
         ensures same { (seat.new.table_id ≡ seat.old.table_id) × (seat.new.id ≡ seat.old.id) }
         ensures told { given_back chunk ONE_REFERENCE seat.old.me result seat.new.me }
     {
         self.table
             .shared
-            .fetch_sub::<GiveBack>(seat, 3 * chunk as usize, ONE_REFERENCE)
+            .fetch_sub::<GiveBack>(seat, 3 * chunk as usize + HEAD, ONE_REFERENCE)
     }
 
     /// A load of a label word, by a hold.
     pub fn read_label(&self, seat: &mut Seat, chunk: u32) -> u64
-        requires seat { (seat.old.table_id ≡ words_id self.now) × (3 * chunk + 2 < (words_id self.now).words) }
+        requires seat { (seat.old.table_id ≡ words_id self.now) × (3 * chunk + 11 < (words_id self.now).words) }
         requires hold { HasHold chunk seat.old.me.0 }
         ensures same { (seat.new.table_id ≡ seat.old.table_id) × (seat.new.id ≡ seat.old.id) }
         ensures told { label_read chunk 0 seat.old.me result seat.new.me }
     {
         self.table
             .shared
-            .load::<ReadLabel>(seat, 3 * chunk as usize + 2)
+            .load::<ReadLabel>(seat, 3 * chunk as usize + LABEL)
     }
 
     fn see_by<L: Limited>(&self, chunk: u32) -> u64
-        requires chunk { 3 * chunk + 2 < (words_id self.now).words }
+        requires chunk { 3 * chunk + 11 < (words_id self.now).words }
         requires limit { L.limit ≡ self.now.table.shared.key.refs_limit }
         ensures { Found result (IsSeen L.limit) }
     {
         let (found, _seat) = self
             .table
             .shared
-            .load_new_seat::<See<L>>(3 * chunk as usize);
+            .load_new_seat::<See<L>>(3 * chunk as usize + HEAD);
         found
     }
 
     /// A load of a head word, without a seat.
     pub fn see(&self, chunk: u32) -> u64
-        requires { 3 * chunk + 2 < (words_id self.now).words }
+        requires { 3 * chunk + 11 < (words_id self.now).words }
         ensures { Found result (IsSeen self.now.table.shared.key.refs_limit) }
     {
         self.see_by::<Brand>(chunk)
@@ -150,8 +155,8 @@ impl Words {
 
     /// A load of a time word, without a seat.
     pub fn see_time(&self, chunk: u32) -> u64
-        requires { 3 * chunk + 2 < (words_id self.now).words }
+        requires { 3 * chunk + 11 < (words_id self.now).words }
     {
-        self.table.shared.peek(3 * chunk as usize + 1)
+        self.table.shared.peek(3 * chunk as usize + TIME)
     }
 }

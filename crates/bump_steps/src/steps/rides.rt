@@ -16,7 +16,7 @@ ghost use Rattle.bump_steps.specs.Rides.{looked, rode, gave_back, IsOn, HasRoom,
 use crate::decoding::head_of;
 use crate::refusals::RideRefusal;
 use crate::views::{Empty, View};
-use crate::words::{Seat, Words};
+use crate::words::{HEAD, Seat, Words};
 use atomic_table::{Join, Play, Split};
 use bump_rules::ItemId;
 use bump_word::laws::ONE_REFERENCE;
@@ -81,7 +81,7 @@ impl Join<View> for RideBack {
 
 impl Words {
     fn look_to_ride_by<W: Attempt>(&self, seat: &mut Seat, limit: u32, life: ItemId) -> u64
-        requires seat { (seat.old.table_id ≡ words_id self.now) × (3 * life.chunk + 2 < (words_id self.now).words) }
+        requires seat { (seat.old.table_id ≡ words_id self.now) × (3 * life.chunk + 11 < (words_id self.now).words) }
         requires attempt { (W.limit ≡ limit) × (W.failed ≡ 0) × (W.life ≡ life) }
         requires limit { limit ≡ self.now.table.shared.key.refs_limit }
         requires trying { IsOn (Trying life) life seat.old.me.0 }
@@ -90,12 +90,12 @@ impl Words {
     {
         self.table
             .shared
-            .load::<LookToRide<W>>(seat, 3 * life.chunk as usize)
+            .load::<LookToRide<W>>(seat, 3 * life.chunk as usize + HEAD)
     }
 
     /// A load, of a worker that looks for room for its bump's reference.
     pub fn look_to_ride(&self, seat: &mut Seat, limit: u32, life: ItemId) -> u64
-        requires seat { (seat.old.table_id ≡ words_id self.now) × (3 * life.chunk + 2 < (words_id self.now).words) }
+        requires seat { (seat.old.table_id ≡ words_id self.now) × (3 * life.chunk + 11 < (words_id self.now).words) }
         requires limit { limit ≡ self.now.table.shared.key.refs_limit }
         requires trying { IsOn (Trying life) life seat.old.me.0 }
         ensures same { (seat.new.table_id ≡ seat.old.table_id) × (seat.new.id ≡ seat.old.id) }
@@ -112,7 +112,7 @@ impl Words {
         seen: u64,
         failed: u32,
     ) -> u64
-        requires seat { (seat.old.table_id ≡ words_id self.now) × (3 * life.chunk + 2 < (words_id self.now).words) }
+        requires seat { (seat.old.table_id ≡ words_id self.now) × (3 * life.chunk + 11 < (words_id self.now).words) }
         requires attempt { (W.limit ≡ limit) × (W.failed ≡ failed) × (W.life ≡ life) }
         requires limit { limit ≡ self.now.table.shared.key.refs_limit }
         requires trying { IsOn (Trying life) life seat.old.me.0 }
@@ -120,14 +120,12 @@ impl Words {
         ensures same { (seat.new.table_id ≡ seat.old.table_id) × (seat.new.id ≡ seat.old.id) }
         ensures told { rode limit failed life seen seat.old.me result seat.new.me }
     {
-        self.table
-            .shared
-            .compare_exchange::<TryToRide<W>>(
-                seat,
-                3 * life.chunk as usize,
-                seen,
-                seen + ONE_REFERENCE,
-            )
+        self.table.shared.compare_exchange::<TryToRide<W>>(
+            seat,
+            3 * life.chunk as usize + HEAD,
+            seen,
+            seen + ONE_REFERENCE,
+        )
     }
 
     /// An exchange that takes the bump's reference. Where it fails it is a load, and `failed` exchanges have failed.
@@ -139,7 +137,7 @@ impl Words {
         seen: u64,
         failed: u32,
     ) -> u64
-        requires seat { (seat.old.table_id ≡ words_id self.now) × (3 * life.chunk + 2 < (words_id self.now).words) }
+        requires seat { (seat.old.table_id ≡ words_id self.now) × (3 * life.chunk + 11 < (words_id self.now).words) }
         requires limit { limit ≡ self.now.table.shared.key.refs_limit }
         requires trying { IsOn (Trying life) life seat.old.me.0 }
         requires room { HasRoom limit seen }
@@ -152,7 +150,7 @@ impl Words {
     /// One load, and at most 8 exchanges.
     #[inline(always)]
     pub fn ride(&self, seat: &mut Seat, limit: u32, life: ItemId) -> Option<RideRefusal>
-        requires seat { (seat.old.table_id ≡ words_id self.now) × (3 * life.chunk + 2 < (words_id self.now).words) }
+        requires seat { (seat.old.table_id ≡ words_id self.now) × (3 * life.chunk + 11 < (words_id self.now).words) }
         requires limit { limit ≡ self.now.table.shared.key.refs_limit }
         requires trying { IsOn (Trying life) life seat.old.me.0 }
         ensures same { (seat.new.table_id ≡ seat.old.table_id) × (seat.new.id ≡ seat.old.id) }
@@ -174,7 +172,7 @@ impl Words {
     }
 
     fn drop_full_by<W: Attempt>(&self, seat: &mut Seat, life: ItemId) -> u64
-        requires seat { (seat.old.table_id ≡ words_id self.now) × (3 * life.chunk + 2 < (words_id self.now).words) }
+        requires seat { (seat.old.table_id ≡ words_id self.now) × (3 * life.chunk + 11 < (words_id self.now).words) }
         requires attempt { W.life ≡ life }
         requires in_hand { IsOn (InHand life) life seat.old.me.0 }
         ensures same { (seat.new.table_id ≡ seat.old.table_id) × (seat.new.id ≡ seat.old.id) }
@@ -182,12 +180,12 @@ impl Words {
     {
         self.table
             .shared
-            .fetch_sub::<DropFull<W>>(seat, 3 * life.chunk as usize, ONE_REFERENCE)
+            .fetch_sub::<DropFull<W>>(seat, 3 * life.chunk as usize + HEAD, ONE_REFERENCE)
     }
 
     /// The subtraction that gives the reference of a bump back which found no room.
     pub fn drop_full(&self, seat: &mut Seat, life: ItemId) -> u64
-        requires seat { (seat.old.table_id ≡ words_id self.now) × (3 * life.chunk + 2 < (words_id self.now).words) }
+        requires seat { (seat.old.table_id ≡ words_id self.now) × (3 * life.chunk + 11 < (words_id self.now).words) }
         requires in_hand { IsOn (InHand life) life seat.old.me.0 }
         ensures same { (seat.new.table_id ≡ seat.old.table_id) × (seat.new.id ≡ seat.old.id) }
         ensures told { gave_back life seat.old.me result seat.new.me }

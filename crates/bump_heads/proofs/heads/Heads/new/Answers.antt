@@ -1,4 +1,4 @@
-use Rattle.std.proofs.Common.{arith, ◌-◌, ◌*◌, ap, sym, ◌∙◌, subst, length, []}
+use Rattle.std.proofs.Common.{◌+◌, arith, ◌-◌, ◌*◌, ap, sym, ◌∙◌, subst, length, []}
 use Rattle.bump_steps.specs.Plays.{Sat}
 use Rattle.bump_rules.specs.declared.configs.Config.{Config}
 use Rattle.atomic_table.specs.Seated.{TableId}
@@ -10,7 +10,7 @@ use Rattle.bump_heads.proofs.heads.Heads.new.Goals as goal
 
 pub part_classes-requires-clause-parts : goal.part_classes-requires-clause-parts
 part_classes-requires-clause-parts g c = let k = c.args.config.now in let me = c.blank.invariant.2 ∙ ap (λ (x : Config). (opened x, [])) (ap (λ (b : BlankView). b.config) c.blank.view_is ∙ c.requires.config) in
-    (ap (λ (x : Sat). length x.0.classes) me ∙ length_classes (k.first_generation - 1) 0 0 k.classes ∙ ap length (sym c.as_slice.ensures), subst (λ (x : Sat). AreNewClasses g.N.Name.table.words 0 x.0.classes) (sym me) (new_classes g.N.Name.table.words (k.first_generation - 1) 0 0 k.classes (omega (arith, ap (λ (t : TableId). t.words) (sym (ap (λ (b : BlankView). b.table) c.blank.view_is ∙ c.requires.name)) ∙ c.blank.inside.words.sized ∙ ap (λ (x : Config). 3 * chunks_of x.classes) (ap (λ (b : BlankView). b.config) c.blank.view_is ∙ c.requires.config)))))
+    (ap (λ (x : Sat). length x.0.classes) me ∙ length_classes (k.first_generation - 1) 0 0 k.classes ∙ ap length (sym c.as_slice.ensures), subst (λ (x : Sat). AreNewClasses g.N.Name.table.words 0 x.0.classes) (sym me) (new_classes g.N.Name.table.words (k.first_generation - 1) 0 0 k.classes (omega (arith, ap (λ (t : TableId). t.words) (sym (ap (λ (b : BlankView). b.table) c.blank.view_is ∙ c.requires.name)) ∙ c.blank.inside.words.sized ∙ ap (λ (x : Config). 3 * chunks_of x.classes + 9) (ap (λ (b : BlankView). b.config) c.blank.view_is ∙ c.requires.config)))))
 
 pub part_workers-requires-clause-parts : goal.part_workers-requires-clause-parts
 part_workers-requires-clause-parts g c = let k = c.args.config.now in let me = c.blank.invariant.2 ∙ ap (λ (x : Config). (opened x, [])) (ap (λ (b : BlankView). b.config) c.blank.view_is ∙ c.requires.config) in

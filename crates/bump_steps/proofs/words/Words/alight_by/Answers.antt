@@ -12,6 +12,6 @@ pub fetch_sub-requires : goal.fetch_sub-requires
 fetch_sub-requires g c = let t = c.args.self.now.table.shared in let m = c.args.seat.now.me in (
   c.requires.seat.0,
   omega (arith, c.requires.seat.1),
-  subst (λ (o : Outcome). Allows (Kept t.key) t.table_id.slots c.args.seat.now.id m (3 * c.args.chunk) (λ n. (n + (2 ^ 64 - 1)) % 2 ^ 64) (on_chunk (alighted o) (step t.table_id.slots (3 * c.args.chunk) 1 0 none) m)) c.requires.outcome
+  subst (λ (o : Outcome). Allows (Kept t.key) t.table_id.slots c.args.seat.now.id m (3 * c.args.chunk + 9) (λ n. (n + (2 ^ 64 - 1)) % 2 ^ 64) (on_chunk (alighted o) (step t.table_id.slots (3 * c.args.chunk + 9) 1 0 none) m)) c.requires.outcome
       (may_alight t.key t.table_id.slots c.args.seat.now.id c.args.chunk 1 c.args.outcome m (omega (arith, c.args.self.now.sized, c.requires.seat.1)) c.requires.may),
 )

@@ -10,6 +10,6 @@ pub fetch_sub-requires : goal.fetch_sub-requires
 fetch_sub-requires g c = let t = c.args.self.now.table.shared in let m = c.args.seat.now.me in (
   c.requires.seat.0,
   omega (arith, c.requires.seat.1),
-  subst (λ (z : ItemId). Allows (Kept t.key) t.table_id.slots c.args.seat.now.id m (3 * c.args.life.chunk) (λ n. (n + (2 ^ 64 - 1)) % 2 ^ 64) (gave_back z m)) (sym c.requires.attempt)
+  subst (λ (z : ItemId). Allows (Kept t.key) t.table_id.slots c.args.seat.now.id m (3 * c.args.life.chunk + 9) (λ n. (n + (2 ^ 64 - 1)) % 2 ^ 64) (gave_back z m)) (sym c.requires.attempt)
       (may_give_back t.key t.table_id.slots c.args.seat.now.id m c.args.life (omega (arith, c.args.self.now.sized, c.requires.seat.1)) c.requires.in_hand),
 )

@@ -11,7 +11,7 @@ pub compare_exchange-requires : goal.compare_exchange-requires
 compare_exchange-requires g c = let t = c.args.self.now.table.shared in let m = c.args.seat.now.me in let is = c.requires.attempt in (
   c.requires.seat.0,
   omega (arith, c.requires.seat.1),
-  subst (λ (z : ℕ × ℕ × ItemId). Allows (Kept t.key) t.table_id.slots c.args.seat.now.id m (3 * c.args.life.chunk) (λ n. either (n == c.args.seen) (c.args.seen + 1) n) (rode z.0 z.1 z.2 c.args.seen m)) (λ i. (sym is.0 i, sym is.1 i, sym is.2 i))
+  subst (λ (z : ℕ × ℕ × ItemId). Allows (Kept t.key) t.table_id.slots c.args.seat.now.id m (3 * c.args.life.chunk + 9) (λ n. either (n == c.args.seen) (c.args.seen + 1) n) (rode z.0 z.1 z.2 c.args.seen m)) (λ i. (sym is.0 i, sym is.1 i, sym is.2 i))
       (may_try t.key t.table_id.slots c.args.seat.now.id m c.args.life c.args.limit c.args.failed c.args.seen (omega (arith, c.args.self.now.sized, c.requires.seat.1)) c.requires.limit c.requires.trying c.requires.room),
 )
 
