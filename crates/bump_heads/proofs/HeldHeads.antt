@@ -8,7 +8,7 @@ use Rattle.bump_word.proofs.Words.{one_head}
 use Rattle.bump_steps.specs.declared.views.HoldPart.{HoldPart}
 use Rattle.bump_heads.specs.declared.views.HoldView.{HoldView}
 use Rattle.bump_steps.specs.Plays.{Sat, Found, Told}
-use Rattle.bump_heads.specs.Seats.{IsHoldOf, hold_me, hold_in_view}
+use Rattle.bump_heads.specs.Seats.{IsHoldOf, hold_me}
 use Rattle.bump_steps.specs.Views.{held, weight}
 use Rattle.bump_steps.proofs.StepLemmas.{one_life}
 
@@ -20,7 +20,5 @@ held_told l (Some p) m h mine of whole told =
     (sym (told.held l.generation (omega (arith, one))), omega (arith, told.many l.generation, one))
 
 -- for a contract: the head of the word that was found
-pub held_found : (l : ItemId) (m : Sat) (v : HoldView) (n : ℕ) (h : Head) → m ≡ hold_me (hold_in_view m.0) → IsHoldOf l (hold_in_view m.0) → record { life = l; part = hold_in_view m.0 } ≡ v → IsSome v.part → Found n (Told l.chunk m.0) → Spells n h → (h.generation ≡ v.life.generation) × (0 < h.refs)
-held_found l m v n h mine of view whole found spelled =
-    let told = held_told l (hold_in_view m.0) m h mine of (subst IsSome (sym (ap (λ (x : HoldView). x.part) view)) whole) (subst (Told l.chunk m.0) (one_head n found.0 h found.1 spelled) found.2) in
-    (told.0 ∙ ap (λ (x : HoldView). x.life.generation) view, told.1)
+pub held_found : (v : HoldView) (m : Sat) (n : ℕ) (h : Head) → m ≡ hold_me v.part → IsHoldOf v.life v.part → IsSome v.part → Found n (Told v.life.chunk m.0) → Spells n h → (h.generation ≡ v.life.generation) × (0 < h.refs)
+held_found v m n h mine of whole found spelled = held_told v.life v.part m h mine of whole (subst (Told v.life.chunk m.0) (one_head n found.0 h found.1 spelled) found.2)

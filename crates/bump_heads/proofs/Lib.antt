@@ -2,7 +2,6 @@ pub mod Seeing
 pub mod ClassParts
 pub mod ClassLives
 pub mod ClassSeats
-pub mod Meetings
 pub mod Makings
 pub mod HeldHeads
 pub mod Endings

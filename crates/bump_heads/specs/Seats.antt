@@ -78,8 +78,14 @@ class_me v = (record blank { classes = v.part ∷ []; lanes = listed v.lane }, [
 abbrev pub hold_me : Option HoldPart → Me Empty View
 hold_me h = (record blank { holds = listed h }, [])
 
-abbrev pub hold_in_view : View → Option HoldPart
-hold_in_view v = first v.holds
+-- the view that a hold keeps: none while it is hollow
+abbrev pub hold_views : Option HoldPart → List View
+hold_views None = []
+hold_views (Some h) = record blank { holds = h ∷ [] } ∷ []
+
+abbrev pub hold_in_views : List View → Option HoldPart
+hold_in_views [] = None
+hold_in_views (v ∷ vs) = first v.holds
 
 -- the part, where it isn't with a worker or a class, is of the life
 abbrev pub IsHoldOf : ItemId → Option HoldPart → Type 0

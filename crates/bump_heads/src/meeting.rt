@@ -24,10 +24,9 @@ impl<N: Name> ClassSeat<N> {
         ensures read { total (differs result) (labels_in hold.old.part) ≡ 0 }
         ensures in_use { IsUsed (standing self.old.part hold.old.life.chunk).0 × ((standing self.old.part hold.old.life.chunk).1 ≡ hold.old.life.generation) }
     {
-        let seat = self.heads.words.part_holds(&mut hold.seat);
-        self.heads.words.join(&mut self.seat, seat);
+        self.heads.words.join(&mut self.seat, hold.seat_out());
         let label = self.heads.words.meet(&mut self.seat, hold.life.chunk);
-        hold.seat = self.heads.words.part_holds(&mut self.seat);
+        hold.seat_in(self.heads.words.part_holds(&mut self.seat));
         label
     }
 }

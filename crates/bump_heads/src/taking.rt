@@ -22,7 +22,7 @@ impl<N: Name> Hold<N> {
         requires hollow { self.part ≡ None }
     {
         let Hold {
-            seat: _,
+            badge: _,
             life: _,
             of: _,
         } = self;
@@ -54,7 +54,7 @@ impl<N: Name> Heads<N> {
         }
         let part = self.words.part_holds(&mut worker.seat);
         Ok(Hold {
-            seat: part,
+            badge: part.into_badge(),
             life,
             of: PhantomData,
         })
@@ -80,7 +80,8 @@ impl<N: Name> Heads<N> {
         ensures generation { result.generation ≡ hold.old.life.generation }
         ensures counted { 0 < result.refs }
     {
-        head_of(self.words.give_back(&mut hold.seat, hold.life.chunk))
+        let mut seat = hold.seat_out();
+        head_of(self.words.give_back(&mut seat, hold.life.chunk))
     }
 
     /// The chunk's label, by one load: a number that was stored before the hold's life began, as memcached's key and value of an item
@@ -90,7 +91,10 @@ impl<N: Name> Heads<N> {
         ensures read { hold.new ≡ record hold.old { part = reads result hold.old.part } }
         ensures same { total (differs result) (labels_in hold.old.part) ≡ 0 }
     {
-        self.words.read_label(&mut hold.seat, hold.life.chunk)
+        let mut seat = hold.seat_out();
+        let label = self.words.read_label(&mut seat, hold.life.chunk);
+        hold.seat_in(seat);
+        label
     }
 
     /// The head and the time of a chunk of the store, by two loads, between which other threads may change both. No seat is needed. Of

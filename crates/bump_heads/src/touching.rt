@@ -26,8 +26,7 @@ impl<N: Name> Heads<N> {
         ensures worker { worker.new ≡ record worker.old { hold = hold.old.part } }
         ensures hollow { hold.new ≡ record hold.old { part = None } }
     {
-        let seat = self.words.part_holds(&mut hold.seat);
-        self.words.join(&mut worker.seat, seat);
+        self.words.join(&mut worker.seat, hold.seat_out());
     }
 
     /// Splits the hold off again: it must be the one that was joined, and the worker must be Idle, since an attempted bump needs the
@@ -39,7 +38,7 @@ impl<N: Name> Heads<N> {
         ensures worker { worker.new ≡ record worker.old { hold = None } }
         ensures whole { hold.new ≡ record hold.old { part = worker.old.hold } }
     {
-        hold.seat = self.words.part_holds(&mut worker.seat);
+        hold.seat_in(self.words.part_holds(&mut worker.seat));
     }
 
     /// Sets FETCHED (memcached's `ITEM_FETCHED`, in `do_item_bump`) of the item that the joined hold holds, by one step on its head

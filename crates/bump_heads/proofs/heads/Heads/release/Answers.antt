@@ -1,8 +1,14 @@
+use Rattle.std.proofs.Common.{◌∙◌, subst, ap}
+use Rattle.bump_rules.specs.declared.items.ItemId.{ItemId}
+use Rattle.bump_heads.specs.declared.views.HoldView.{HoldView}
+use Rattle.bump_steps.specs.Plays.{Found, Told}
 use Rattle.bump_heads.proofs.HeldHeads.{held_found}
 use Rattle.bump_heads.proofs.heads.Heads.release.Goals as goal
 
 pub returns-clause-generation : goal.returns-clause-generation
-returns-clause-generation g c = (held_found c.hold.inside.life c.hold.inside.seat.me c.args.hold.now c.give_back.result c.head_of.result c.hold.invariant.0 c.hold.invariant.2 (cc c.hold.view_is) c.requires.whole c.give_back.ensures.told.1 c.head_of.ensures).0
+returns-clause-generation g c = let s = c.seat_out-seat in
+    (held_found c.args.hold.now s.result.me c.give_back.result c.head_of.result s.ensures.seat.0 s.ensures.life c.requires.whole (subst (λ (l : ItemId). Found c.give_back.result (Told l.chunk s.result.me.0)) (ap (λ (v : HoldView). v.life) (c.hold.view_is ∙ s.ensures.hollow)) c.give_back.ensures.told.1) c.head_of.ensures).0
 
 pub returns-clause-counted : goal.returns-clause-counted
-returns-clause-counted g c = (held_found c.hold.inside.life c.hold.inside.seat.me c.args.hold.now c.give_back.result c.head_of.result c.hold.invariant.0 c.hold.invariant.2 (cc c.hold.view_is) c.requires.whole c.give_back.ensures.told.1 c.head_of.ensures).1
+returns-clause-counted g c = let s = c.seat_out-seat in
+    (held_found c.args.hold.now s.result.me c.give_back.result c.head_of.result s.ensures.seat.0 s.ensures.life c.requires.whole (subst (λ (l : ItemId). Found c.give_back.result (Told l.chunk s.result.me.0)) (ap (λ (v : HoldView). v.life) (c.hold.view_is ∙ s.ensures.hollow)) c.give_back.ensures.told.1) c.head_of.ensures).1
