@@ -1,5 +1,5 @@
 -- The steps of a worker's seat on the marks of a chunk, and on its time.
-use Rattle.std.specs.Prelude.{◌≡◌, ℕ, ◌+◌, ◌-◌, ◌/◌, ◌^◌, ◌<◌, Bool, true, false, not, ◌&&◌, if◌then◌else◌, List, [], ◌∷◌, ◌++◌, None}
+use Rattle.std.specs.Prelude.{◌≡◌, ℕ, ◌+◌, ◌-◌, ◌^◌, ◌<◌, Bool, true, false, not, ◌&&◌, if◌then◌else◌, List, [], ◌∷◌, ◌++◌, None}
 use Rattle.atomic_table.specs.Table.{Step}
 use Rattle.bump_rules.specs.declared.hands.Hand.{Hand}
 use Rattle.bump_rules.specs.declared.hands.Hand.TheVariants as hand
