@@ -251,12 +251,12 @@ is_allowed s (command.Close w) = is_open s w && is_idle (worker s w).hand
 
 -- A command that only reads or writes what is there asks for no memory. All others may: for an entry of a history, a bump, or a
 -- first hit.
-abbrev pub asks_for_memory : Command → Bool
-asks_for_memory (command.Take w l) = false
-asks_for_memory (command.Label l) = false
-asks_for_memory (command.Release l) = false
-asks_for_memory (command.Close w) = false
-asks_for_memory _ = true
+abbrev pub command_asks_for_memory : Command → Bool
+command_asks_for_memory (command.Take w l) = false
+command_asks_for_memory (command.Label l) = false
+command_asks_for_memory (command.Release l) = false
+command_asks_for_memory (command.Close w) = false
+command_asks_for_memory _ = true
 
 -- what an unlink answers
 abbrev pub unlink_answer : State → ItemId → Answer

@@ -5,7 +5,7 @@ use Rattle.bump_rules.specs.declared.events.Reply.{Reply}
 use Rattle.bump_rules.specs.declared.events.Refused.{Refused}
 use Rattle.bump_rules.specs.declared.events.Refused.TheVariants.{NotEnabled, OutOfMemory}
 use Rattle.bump_state.specs.State.{State}
-use Rattle.bump_state.specs.Events.{IsEnabledBy, is_enabled, after, reply_of}
+use Rattle.bump_state.specs.Events.{IsEnabledBy, is_enabled, asks_for_memory, after, reply_of}
 
 -- What a step does: where the event is enabled it makes it and answers its reply, else it refuses. A refusal changes nothing.
 pub record Steps (old : State) (e : Event) (new : State) (result : Result Reply Refused) : Type 0 where
@@ -25,8 +25,8 @@ made es (Ok u) = es
 made es (Err (n, refused)) = take n es
 
 -- What a run does: it makes the events in order up to the first that is refused, and tells its place. That event was not
--- enabled in the state that the events before it left; or it was, and memory was wanting.
+-- enabled in the state that the events before it left; or it was and asks for memory, which was wanting.
 abbrev pub Runs : State → List Event → State → Result Unit (ℕ × Refused) → Type 0
 Runs old es new (Ok u) = run_of old es ≡ Some new
 Runs old es new (Err (n, NotEnabled)) = (run_of old (take n es) ≡ Some new) × (e : Event) × (slice_get es n ≡ Some e) × (is_enabled new e ≡ false)
-Runs old es new (Err (n, OutOfMemory)) = (run_of old (take n es) ≡ Some new) × (e : Event) × (slice_get es n ≡ Some e) × (is_enabled new e ≡ true)
+Runs old es new (Err (n, OutOfMemory)) = (run_of old (take n es) ≡ Some new) × (e : Event) × (slice_get es n ≡ Some e) × (is_enabled new e ≡ true) × (asks_for_memory new e ≡ true)

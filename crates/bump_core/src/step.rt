@@ -1,7 +1,8 @@
 //! Each event, and each command, by the function that makes it.
 ghost use Rattle.std.specs.Prelude.{◌≡◌, IfErr, false};
-ghost use Rattle.bump_core.specs.Commands.{Commands, asks_for_memory};
+ghost use Rattle.bump_core.specs.Commands.{Commands, command_asks_for_memory};
 ghost use Rattle.bump_core.specs.Runs.{Steps};
+ghost use Rattle.bump_state.specs.Events.{asks_for_memory};
 ghost use Rattle.bump_state.specs.Views.{state_of};
 ghost use Rattle.bump_state.specs.Worlds.{IsLawful};
 ghost use Rattle.bump_rules.specs.declared.events.Refused.TheVariants.{NotEnabled};
@@ -13,7 +14,8 @@ use bump_state::Parts;
 /// Makes an event where it is enabled.
 pub fn step(parts: &mut Parts, event: Event) -> Result<Reply, Refused>
     requires { IsLawful (state_of parts.old) }
-    ensures { Steps (state_of parts.old) event (state_of parts.new) result }
+    ensures step { Steps (state_of parts.old) event (state_of parts.new) result }
+    ensures memory { asks_for_memory (state_of parts.old) event ≡ false → IfErr result (λ r. r ≡ NotEnabled) }
 {
     match event {
         Event::Load { chunk } => parts.load(chunk),
@@ -49,7 +51,7 @@ pub fn step(parts: &mut Parts, event: Event) -> Result<Reply, Refused>
 pub fn command(parts: &mut Parts, command: Command) -> Result<Answer, Refused>
     requires { IsLawful (state_of parts.old) }
     ensures command { Commands (state_of parts.old) command (state_of parts.new) result }
-    ensures memory { asks_for_memory command ≡ false → IfErr result (λ r. r ≡ NotEnabled) }
+    ensures memory { command_asks_for_memory command ≡ false → IfErr result (λ r. r ≡ NotEnabled) }
 {
     match command {
         Command::Link { class, label, now } => links::call_link(parts, class, label, now),

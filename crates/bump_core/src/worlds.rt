@@ -30,12 +30,13 @@ impl Model for World {
 
 impl World {
     ghost use Rattle.std.specs.Prelude.{◌≡◌, IfErr, IfOk, OnOk, Some, false};
-    ghost use Rattle.bump_core.specs.Commands.{Commands, asks_for_memory, events_of};
+    ghost use Rattle.bump_core.specs.Commands.{Commands, command_asks_for_memory, events_of};
     ghost use Rattle.bump_core.specs.Headline.{Headline, ClosedStay};
     ghost use Rattle.bump_rules.specs.declared.events.Refused.TheVariants.{NotEnabled};
     ghost use Rattle.bump_core.specs.Labels.{KeepsLabels};
     ghost use Rattle.bump_state.specs.Opening.{new_state};
     ghost use Rattle.bump_core.specs.Runs.{Steps, Runs, run_of, made};
+    ghost use Rattle.bump_state.specs.Events.{asks_for_memory};
     ghost use Rattle.bump_state.specs.State.{head, SameSizes};
     ghost use Rattle.bump_core.specs.Readers.{list_of, time_of, label_of, holds_at, accounts_of, sent_of, received_of, applied_of};
     ghost use Rattle.bump_state.specs.Worlds.{IsLawful};
@@ -50,9 +51,11 @@ impl World {
     }
 
     /// Makes an event. Refused as NotEnabled exactly where it isn't enabled, and as OutOfMemory for want of memory; a
-    /// refusal changes nothing.
+    /// refusal changes nothing. Only an event that asks for memory may want it: a first hit, a Push, an Alight, and what
+    /// changes lists.
     pub fn step(&mut self, event: Event) -> Result<Reply, Refused>
         ensures step { Steps self.old event self.new result }
+        ensures memory { asks_for_memory self.old event ≡ false → IfErr result (λ r. r ≡ NotEnabled) }
         ensures sizes { SameSizes self.old self.new }
         ensures lawful { IsLawful self.new }
         ensures headline { Headline self.new }
@@ -84,7 +87,7 @@ impl World {
     /// Release and Close ask for no memory.
     pub fn command(&mut self, command: Command) -> Result<Answer, Refused>
         ensures command { Commands self.old command self.new result }
-        ensures memory { asks_for_memory command ≡ false → IfErr result (λ r. r ≡ NotEnabled) }
+        ensures memory { command_asks_for_memory command ≡ false → IfErr result (λ r. r ≡ NotEnabled) }
         ensures events { OnOk result (run_of self.old (events_of self.old command) ≡ Some self.new) }
         ensures sizes { SameSizes self.old self.new }
         ensures lawful { IsLawful self.new }

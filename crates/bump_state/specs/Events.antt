@@ -88,6 +88,19 @@ is_enabled s (event.ClearFor w) = is_worker s w && some_and (λ b. (head s b.lif
 is_enabled s (event.MoveFor w) = is_worker s w && some_and (λ b. true) (cleared_active (worker s w).lane)
 is_enabled s (event.Alight w) = is_worker s w && some_and (λ a. true) (ending s w)
 
+-- An event that only reads or writes what is there asks for no memory. The others may: for an entry of a history, a bump, or a first
+-- hit, which is one only where FETCHED was clear.
+abbrev pub asks_for_memory : State → Event → Bool
+asks_for_memory s (event.Fetch w l) = not (head s l.chunk).fetched
+asks_for_memory s (event.Push w) = true
+asks_for_memory s (event.Link k) = true
+asks_for_memory s (event.Unlink l) = true
+asks_for_memory s (event.Sweep c) = true
+asks_for_memory s (event.Move c to) = true
+asks_for_memory s (event.MoveFor w) = true
+asks_for_memory s (event.Alight w) = true
+asks_for_memory s _ = false
+
 -- The changes that the events make, by the chunk, worker or class that they concern.
 
 -- a hold more, or fewer

@@ -9,7 +9,7 @@ use Rattle.bump_rules.specs.declared.events.Refused.{Refused}
 use Rattle.bump_rules.specs.declared.events.Refused.TheVariants.{NotEnabled, OutOfMemory}
 use Rattle.bump_core.specs.Runs.{Steps, Runs, run_of}
 use Rattle.bump_state.specs.State.{State}
-use Rattle.bump_state.specs.Events.{is_enabled, after}
+use Rattle.bump_state.specs.Events.{is_enabled, asks_for_memory, after}
 
 -- an enabled event, and then the others
 pub run_step : (s t : State) (e : Event) (es : List Event) → is_enabled s e ≡ true → after s e ≡ t → run_of s (e ∷ es) ≡ run_of t es
@@ -36,10 +36,15 @@ run_more s es n d t new within ends enabled made = ap (run_of s) (take_more es n
 pub refused_same : (t : State) (e : Event) (new : State) (r : Refused) → Steps t e new (Err r) → new ≡ t
 refused_same t e new r refused = refused.unchanged
 
+-- what is refused for want of memory asks for some
+pub wanting_asks : (asks : Bool) → (asks ≡ false → OutOfMemory ≡ NotEnabled) → asks ≡ true
+wanting_asks true never = refl
+wanting_asks false never = absurd (let u : ⊥ = cc (never refl) in u)
+
 -- a run up to its first refusal
-pub run_refused : (old : State) (es : List Event) (n : ℕ) (t new : State) (e : Event) (r : Refused) → run_of old (take n es) ≡ Some t → slice_get es n ≡ Some e → Steps t e new (Err r) → Runs old es new (Err (n, r))
-run_refused old es n t new e NotEnabled ends at refused = (ends ∙ ap (λ x. Some x) (sym refused.unchanged), e, at, ap (λ x. is_enabled x e) refused.unchanged ∙ refused.enabled)
-run_refused old es n t new e OutOfMemory ends at refused = (ends ∙ ap (λ x. Some x) (sym refused.unchanged), e, at, ap (λ x. is_enabled x e) refused.unchanged ∙ refused.enabled)
+pub run_refused : (old : State) (es : List Event) (n : ℕ) (t new : State) (e : Event) (r : Refused) → run_of old (take n es) ≡ Some t → slice_get es n ≡ Some e → Steps t e new (Err r) → (asks_for_memory t e ≡ false → r ≡ NotEnabled) → Runs old es new (Err (n, r))
+run_refused old es n t new e NotEnabled ends at refused memory = (ends ∙ ap (λ x. Some x) (sym refused.unchanged), e, at, ap (λ x. is_enabled x e) refused.unchanged ∙ refused.enabled)
+run_refused old es n t new e OutOfMemory ends at refused memory = (ends ∙ ap (λ x. Some x) (sym refused.unchanged), e, at, ap (λ x. is_enabled x e) refused.unchanged ∙ refused.enabled, ap (λ x. asks_for_memory x e) refused.unchanged ∙ wanting_asks (asks_for_memory t e) memory)
 
 -- a step that is refused behind a run: the state is still the one that the run left
 pub refused_stays : (s : State) (es : List Event) (t : State) (e : Event) (new : State) (r : Refused) → run_of s es ≡ Some t → Steps t e new (Err r) → run_of s es ≡ Some new

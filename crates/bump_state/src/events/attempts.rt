@@ -1,11 +1,12 @@
 //! Events of an attempted bump, from its reference to the worker's ring, or to its drop.
-ghost use Rattle.std.specs.Prelude.{◌≡◌, ◌<◌, IsSome, IfSome, length, IfOk, OnOk, OnErr};
+ghost use Rattle.std.specs.Prelude.{◌≡◌, ◌<◌, IsSome, IfSome, length, IfOk, IfErr, OnOk, OnErr};
 ghost use Rattle.bump_state.specs.State.{worker};
 ghost use Rattle.bump_rules.specs.Hands.{tried_life, life_in_hand, cleared_life};
 ghost use Rattle.bump_state.specs.Events.{IsEnabledBy, is_enabled, after, reply_of};
 ghost use Rattle.bump_state.specs.Views.{state_of};
 ghost use Rattle.bump_state.specs.Worlds.{IsLawful};
 ghost use Rattle.bump_rules.specs.declared.events.Event.TheVariants as event;
+ghost use Rattle.bump_rules.specs.declared.events.Refused.TheVariants.{NotEnabled};
 
 use crate::parts::Parts;
 use bump_rules::{Accounts, Hand, Head, ItemId, Refused, Reply};
@@ -57,6 +58,7 @@ impl Parts {
         ensures state { OnOk result (state_of self.new ≡ after (state_of self.old) (event.Reserve worker)) }
         ensures reply { IfOk result (λ r. r ≡ reply_of (state_of self.old) (event.Reserve worker)) }
         ensures unchanged { OnErr result (state_of self.new ≡ state_of self.old) }
+        ensures memory { IfErr result (λ r. r ≡ NotEnabled) }
     {
         let Some(life) = self.tried_by(worker) else {
             return Err(Refused::NotEnabled);
@@ -85,6 +87,7 @@ impl Parts {
         ensures state { OnOk result (state_of self.new ≡ after (state_of self.old) (event.DropRefs worker)) }
         ensures reply { IfOk result (λ r. r ≡ reply_of (state_of self.old) (event.DropRefs worker)) }
         ensures unchanged { OnErr result (state_of self.new ≡ state_of self.old) }
+        ensures memory { IfErr result (λ r. r ≡ NotEnabled) }
     {
         let Some(life) = self.tried_by(worker) else {
             return Err(Refused::NotEnabled);
@@ -113,6 +116,7 @@ impl Parts {
         ensures state { OnOk result (state_of self.new ≡ after (state_of self.old) (event.DropBusy worker)) }
         ensures reply { IfOk result (λ r. r ≡ reply_of (state_of self.old) (event.DropBusy worker)) }
         ensures unchanged { OnErr result (state_of self.new ≡ state_of self.old) }
+        ensures memory { IfErr result (λ r. r ≡ NotEnabled) }
     {
         let Some(life) = self.tried_by(worker) else {
             return Err(Refused::NotEnabled);
@@ -157,6 +161,7 @@ impl Parts {
         ensures state { OnOk result (state_of self.new ≡ after (state_of self.old) (event.DropFull worker)) }
         ensures reply { IfOk result (λ r. r ≡ reply_of (state_of self.old) (event.DropFull worker)) }
         ensures unchanged { OnErr result (state_of self.new ≡ state_of self.old) }
+        ensures memory { IfErr result (λ r. r ≡ NotEnabled) }
     {
         let Some(life) = self.in_hand_by(worker) else {
             return Err(Refused::NotEnabled);
@@ -191,6 +196,7 @@ impl Parts {
         ensures state { OnOk result (state_of self.new ≡ after (state_of self.old) (event.Unmark worker)) }
         ensures reply { IfOk result (λ r. r ≡ reply_of (state_of self.old) (event.Unmark worker)) }
         ensures unchanged { OnErr result (state_of self.new ≡ state_of self.old) }
+        ensures memory { IfErr result (λ r. r ≡ NotEnabled) }
     {
         let Some(life) = self.cleared_by(worker) else {
             return Err(Refused::NotEnabled);

@@ -1,8 +1,10 @@
 //! Events of hits: the marks that a hit leaves, and its time.
-ghost use Rattle.std.specs.Prelude.{◌≡◌, IfOk, OnOk, OnErr};
+ghost use Rattle.std.specs.Prelude.{◌≡◌, true, IfOk, IfErr, OnOk, OnErr};
+ghost use Rattle.bump_state.specs.State.{head};
 ghost use Rattle.bump_state.specs.Events.{IsEnabledBy, may_hit, is_enabled, after, reply_of};
 ghost use Rattle.bump_state.specs.Views.{state_of};
 ghost use Rattle.bump_rules.specs.declared.events.Event.TheVariants as event;
+ghost use Rattle.bump_rules.specs.declared.events.Refused.TheVariants.{NotEnabled};
 
 use crate::chunks::Chunk;
 use crate::parts::Parts;
@@ -15,6 +17,7 @@ impl Parts {
         ensures state { OnOk result (state_of self.new ≡ after (state_of self.old) (event.StoreTime life time)) }
         ensures reply { IfOk result (λ r. r ≡ reply_of (state_of self.old) (event.StoreTime life time)) }
         ensures unchanged { OnErr result (state_of self.new ≡ state_of self.old) }
+        ensures memory { IfErr result (λ r. r ≡ NotEnabled) }
     {
         if !self.is_held(life) {
             return Err(Refused::NotEnabled);
@@ -38,6 +41,7 @@ impl Parts {
         ensures state { OnOk result (state_of self.new ≡ after (state_of self.old) (event.Fetch worker life)) }
         ensures reply { IfOk result (λ r. r ≡ reply_of (state_of self.old) (event.Fetch worker life)) }
         ensures unchanged { OnErr result (state_of self.new ≡ state_of self.old) }
+        ensures memory { (head (state_of self.old) life.chunk).fetched ≡ true → IfErr result (λ r. r ≡ NotEnabled) }
     {
         if !self.may_hit(worker, life) {
             return Err(Refused::NotEnabled);
@@ -63,6 +67,7 @@ impl Parts {
         ensures state { OnOk result (state_of self.new ≡ after (state_of self.old) (event.Mark worker life)) }
         ensures reply { IfOk result (λ r. r ≡ reply_of (state_of self.old) (event.Mark worker life)) }
         ensures unchanged { OnErr result (state_of self.new ≡ state_of self.old) }
+        ensures memory { IfErr result (λ r. r ≡ NotEnabled) }
     {
         if !self.may_hit(worker, life) {
             return Err(Refused::NotEnabled);

@@ -15,6 +15,7 @@ impl Parts {
     pub fn load(&self, chunk: u32) -> Result<Reply, Refused>
         ensures enabled { IsEnabledBy (is_enabled (state_of self.now) (event.Load chunk)) result }
         ensures reply { IfOk result (λ r. r ≡ reply_of (state_of self.now) (event.Load chunk)) }
+        ensures memory { IfErr result (λ r. r ≡ NotEnabled) }
     {
         if !self.has_chunk(chunk) {
             return Err(Refused::NotEnabled);
@@ -29,6 +30,7 @@ impl Parts {
         ensures state { OnOk result (state_of self.new ≡ after (state_of self.old) (event.Take worker life)) }
         ensures reply { IfOk result (λ r. r ≡ reply_of (state_of self.old) (event.Take worker life)) }
         ensures unchanged { OnErr result (state_of self.new ≡ state_of self.old) }
+        ensures memory { IfErr result (λ r. r ≡ NotEnabled) }
     {
         if !self.is_open(worker) || !self.is_linked(life) {
             return Err(Refused::NotEnabled);

@@ -1,5 +1,5 @@
 //! Events of a lane: the bumps of its worker's ring are taken and applied, in order.
-ghost use Rattle.std.specs.Prelude.{◌≡◌, ◌<◌, IsSome, IfSome, length, true, IfOk, OnOk, OnErr};
+ghost use Rattle.std.specs.Prelude.{◌≡◌, ◌<◌, IsSome, IfSome, length, true, IfOk, IfErr, OnOk, OnErr};
 ghost use Rattle.bump_state.specs.State.{worker, head};
 ghost use Rattle.bump_rules.specs.Lanes.{carried, tried, applied_now, cleared_active};
 ghost use Rattle.bump_state.specs.Events.{IsEnabledBy, is_enabled, after, reply_of};
@@ -7,6 +7,7 @@ ghost use Rattle.bump_rules.specs.declared.places.Segment.TheVariants.{Cold};
 ghost use Rattle.bump_state.specs.Views.{state_of};
 ghost use Rattle.bump_state.specs.Worlds.{IsLawful};
 ghost use Rattle.bump_rules.specs.declared.events.Event.TheVariants as event;
+ghost use Rattle.bump_rules.specs.declared.events.Refused.TheVariants.{NotEnabled};
 
 use crate::chunks::Chunk;
 use crate::parts::Parts;
@@ -72,6 +73,7 @@ impl Parts {
         ensures state { OnOk result (state_of self.new ≡ after (state_of self.old) (event.TakeBump worker)) }
         ensures reply { IfOk result (λ r. r ≡ reply_of (state_of self.old) (event.TakeBump worker)) }
         ensures unchanged { OnErr result (state_of self.new ≡ state_of self.old) }
+        ensures memory { IfErr result (λ r. r ≡ NotEnabled) }
     {
         if !self.has_worker(worker) || !self.lane(worker).is_empty() {
             return Err(Refused::NotEnabled);
@@ -90,6 +92,7 @@ impl Parts {
         ensures state { OnOk result (state_of self.new ≡ after (state_of self.old) (event.Try worker)) }
         ensures reply { IfOk result (λ r. r ≡ reply_of (state_of self.old) (event.Try worker)) }
         ensures unchanged { OnErr result (state_of self.new ≡ state_of self.old) }
+        ensures memory { IfErr result (λ r. r ≡ NotEnabled) }
     {
         let Some(bump) = self.carried_by(worker) else {
             return Err(Refused::NotEnabled);
@@ -109,6 +112,7 @@ impl Parts {
         ensures state { OnOk result (state_of self.new ≡ after (state_of self.old) (event.BumpTime worker time)) }
         ensures reply { IfOk result (λ r. r ≡ reply_of (state_of self.old) (event.BumpTime worker time)) }
         ensures unchanged { OnErr result (state_of self.new ≡ state_of self.old) }
+        ensures memory { IfErr result (λ r. r ≡ NotEnabled) }
     {
         let Some(bump) = self.applied_by(worker) else {
             return Err(Refused::NotEnabled);
@@ -129,6 +133,7 @@ impl Parts {
         ensures state { OnOk result (state_of self.new ≡ after (state_of self.old) (event.ClearFor worker)) }
         ensures reply { IfOk result (λ r. r ≡ reply_of (state_of self.old) (event.ClearFor worker)) }
         ensures unchanged { OnErr result (state_of self.new ≡ state_of self.old) }
+        ensures memory { IfErr result (λ r. r ≡ NotEnabled) }
     {
         let Some(bump) = self.looked_at_by(worker) else {
             return Err(Refused::NotEnabled);

@@ -1,9 +1,10 @@
 //! Events of links: the next item of a class gets its label and its time, and begins its life.
-ghost use Rattle.std.specs.Prelude.{◌≡◌, IfOk, OnOk, OnErr};
+ghost use Rattle.std.specs.Prelude.{◌≡◌, IfOk, IfErr, OnOk, OnErr};
 ghost use Rattle.bump_state.specs.Events.{IsEnabledBy, is_class_at_rest, is_enabled, after, reply_of};
 ghost use Rattle.bump_state.specs.Views.{state_of};
 ghost use Rattle.bump_state.specs.Worlds.{IsLawful};
 ghost use Rattle.bump_rules.specs.declared.events.Event.TheVariants as event;
+ghost use Rattle.bump_rules.specs.declared.events.Refused.TheVariants.{NotEnabled};
 
 use crate::chunks::Chunk;
 use crate::parts::Parts;
@@ -25,6 +26,7 @@ impl Parts {
         ensures state { OnOk result (state_of self.new ≡ after (state_of self.old) (event.PutLabel k label)) }
         ensures reply { IfOk result (λ r. r ≡ reply_of (state_of self.old) (event.PutLabel k label)) }
         ensures unchanged { OnErr result (state_of self.new ≡ state_of self.old) }
+        ensures memory { IfErr result (λ r. r ≡ NotEnabled) }
     {
         if !self.is_class_at_rest(k) {
             return Err(Refused::NotEnabled);
@@ -44,6 +46,7 @@ impl Parts {
         ensures state { OnOk result (state_of self.new ≡ after (state_of self.old) (event.PutTime k time)) }
         ensures reply { IfOk result (λ r. r ≡ reply_of (state_of self.old) (event.PutTime k time)) }
         ensures unchanged { OnErr result (state_of self.new ≡ state_of self.old) }
+        ensures memory { IfErr result (λ r. r ≡ NotEnabled) }
     {
         if !self.is_class_at_rest(k) {
             return Err(Refused::NotEnabled);

@@ -1,10 +1,11 @@
 //! Events of pulls: ACTIVE is cleared, and items move to the front of a segment.
-ghost use Rattle.std.specs.Prelude.{◌≡◌, IfOk, OnOk, OnErr};
+ghost use Rattle.std.specs.Prelude.{◌≡◌, IfOk, IfErr, OnOk, OnErr};
 ghost use Rattle.bump_rules.specs.Tables.{may_move};
 ghost use Rattle.bump_state.specs.Events.{IsEnabledBy, is_enabled, after, reply_of};
 ghost use Rattle.bump_state.specs.Views.{state_of};
 ghost use Rattle.bump_state.specs.Worlds.{IsLawful};
 ghost use Rattle.bump_rules.specs.declared.events.Event.TheVariants as event;
+ghost use Rattle.bump_rules.specs.declared.events.Refused.TheVariants.{NotEnabled};
 
 use crate::parts::Parts;
 use bump_rules::{Cause, Change, Head, ItemId, Refused, Reply, Segment};
@@ -17,6 +18,7 @@ impl Parts {
         ensures state { OnOk result (state_of self.new ≡ after (state_of self.old) (event.ClearActive chunk)) }
         ensures reply { IfOk result (λ r. r ≡ reply_of (state_of self.old) (event.ClearActive chunk)) }
         ensures unchanged { OnErr result (state_of self.new ≡ state_of self.old) }
+        ensures memory { IfErr result (λ r. r ≡ NotEnabled) }
     {
         if !self.has_chunk(chunk) {
             return Err(Refused::NotEnabled);

@@ -13,7 +13,7 @@ use Rattle.bump_core.proofs.worlds.Sizes.{run_sizes, refused_sizes}
 use Rattle.bump_core.proofs.worlds.World.run.Goals as goal
 
 pub returns-in-Err-clause-run : goal.returns-in-Err-clause-run
-returns-in-Err-clause-run c = run_refused c.args.self.now c.args.events.now c.loop-place.place c.loop-place.self c.step.new.self _ c.in-Err.refused c.loop-place.invariant (slice_get-get_or c.args.events.now c.loop-place.place _ c.loop-place-test.true) c.in-Err.ensures.step
+returns-in-Err-clause-run c = run_refused c.args.self.now c.args.events.now c.loop-place.place c.loop-place.self c.step.new.self _ c.in-Err.refused c.loop-place.invariant (slice_get-get_or c.args.events.now c.loop-place.place _ c.loop-place-test.true) c.in-Err.ensures.step c.in-Err.ensures.memory
 
 pub loop-place-preserved : goal.loop-place-preserved
 loop-place-preserved c = run_more c.args.self.now c.args.events.now c.loop-place.place _ c.loop-place.self c.step.new.self c.loop-place-test.true c.loop-place.invariant c.in_default.ensures.step.enabled c.in_default.ensures.step.state
