@@ -1,7 +1,7 @@
 //! The workloads of `bump_bench` that call a `Book`. A module of hits.rs.
 
 use crate::books::{Book, Class, Ended, Place, Pulled, Tail};
-use crate::{ACTIVE, COLD, Chunk, FETCHED, ItemId, SEGMENT, Tally, one_more};
+use crate::{ACTIVE, COLD, Chunk, FETCHED, ItemId, SEGMENT, Tally, lives, one_more};
 use std::sync::atomic::AtomicU64;
 use std::sync::atomic::Ordering::SeqCst;
 use std::time::Instant;
@@ -133,8 +133,9 @@ pub const CALLS: [Calls; 17] = [
 ];
 
 /// What the hits of all items leave, or a pull of each.
-fn prepare(book: &mut Book, items: u32, before: Before) {
-    for node in 0..items {
+fn prepare(book: &mut Book, items: &[ItemId], before: Before) {
+    for &item in items {
+        let node = item.chunk;
         match before {
             Before::Hit => {
                 let found = book.chunk(node).head.fetch_or(FETCHED, SeqCst);
@@ -152,7 +153,7 @@ fn prepare(book: &mut Book, items: u32, before: Before) {
             }
             Before::End => {
                 book.chunk(node).head.fetch_add(1, SeqCst);
-                let _ended = book.unlink(ItemId { chunk: node, generation: 1 });
+                let _ended = book.unlink(item);
                 book.chunk(node).head.fetch_sub(1, SeqCst);
             }
         }
@@ -212,8 +213,9 @@ pub fn pass(calls: Calls) -> (u64, Tally) {
     for number in 0..calls.items {
         let _linked = book.link(number as u64, 0);
     }
+    let items = lives(calls.class.chunks, 0, calls.items, false);
     for &before in calls.before {
-        prepare(&mut book, calls.items, before);
+        prepare(&mut book, &items, before);
     }
     let start = Instant::now();
     let mut tally = timed_calls(&mut book, calls.call, calls.times);
