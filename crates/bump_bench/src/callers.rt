@@ -49,12 +49,7 @@ pub fn link_all<N: Name>(book: &mut Book<N>, items: u32) {
 }
 
 // Ends the life of each item while it is held.
-fn end_held<N: Name>(
-    heads: &Heads<N>,
-    reader: &mut Reader<N>,
-    book: &mut Book<N>,
-    items: &[ItemId],
-)
+fn end_held<N: Name>(heads: &Heads<N>, reader: &mut Reader<N>, book: &mut Book<N>, items: &[ItemId])
     requires ready { IsReady reader.old.seat reader.old.attempted reader.old.accepted }
     requires items { All (λ i. i.chunk < all_chunks heads.now) items.now }
     ensures { IsReady reader.new.seat reader.new.attempted reader.new.accepted }
