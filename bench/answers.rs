@@ -1,6 +1,17 @@
 //! The text of the answers. A module of model.rs.
 
-use crate::store::{Accounts, Applied, Chunk, Ended, ItemId, Pulled, Touch};
+use crate::places::{Ended, Place, Tail};
+use crate::store::{Accounts, Applied, Chunk, ItemId, Pulled, Touch};
+
+/// The lists in the order in which they are shown.
+pub const PLACES: [(Place, &str); 6] = [
+    (Place::Hot, "hot"),
+    (Place::Warm, "warm"),
+    (Place::Cold, "cold"),
+    (Place::Dying, "dying"),
+    (Place::Unused, "unused"),
+    (Place::Retired, "retired"),
+];
 
 /// What was not written yet.
 pub struct Text {
@@ -11,6 +22,15 @@ fn ended(ended: Ended) -> &'static str {
     match ended {
         Ended::Freed => "freed",
         Ended::Deferred => "deferred",
+    }
+}
+
+fn tail(tail: Tail) -> &'static str {
+    match tail {
+        Tail::Hot => "hot ",
+        Tail::Warm => "warm ",
+        Tail::Cold => "cold ",
+        Tail::Evict => "evict ",
     }
 }
 
@@ -53,7 +73,8 @@ impl Text {
         self.put(answer.map_or("gone", ended))
     }
 
-    pub fn pulled(&mut self, pulled: Pulled) -> &mut Text {
+    pub fn pulled(&mut self, from: Tail, pulled: Pulled) -> &mut Text {
+        self.put(tail(from));
         let (word, id) = match pulled {
             Pulled::Empty => return self.put("empty"),
             Pulled::Stay(id) => ("stay ", id),

@@ -2,27 +2,12 @@
 //! has the Book has the class's lock: none is taken here.
 
 use crate::lists::Lists;
+use crate::places::{Ended, Place, Tail};
 use crate::{ACTIVE, COLD, Chunk, ItemId, LINKED, REFS};
 use std::sync::Arc;
 use std::sync::atomic::Ordering::SeqCst;
 
 const WARM: u64 = 1 << 19;
-
-#[derive(Clone, Copy, PartialEq, Eq)]
-pub enum Place {
-    Hot,
-    Warm,
-    Cold,
-    Dying,
-    Unused,
-    Retired,
-}
-
-impl From<Place> for u32 {
-    fn from(place: Place) -> u32 {
-        place as u32
-    }
-}
 
 #[derive(Clone, Copy)]
 enum Segment {
@@ -47,20 +32,6 @@ impl Segment {
             Segment::Cold => Place::Cold,
         }
     }
-}
-
-#[derive(Clone, Copy)]
-pub enum Tail {
-    Hot,
-    Warm,
-    Cold,
-    Evict,
-}
-
-#[derive(Clone, Copy)]
-pub enum Ended {
-    Freed,
-    Deferred,
 }
 
 /// What a pull did, and with which item. The loop that is timed doesn't look at the item.

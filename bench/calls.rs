@@ -1,6 +1,7 @@
 //! The workloads of `bump_bench` that call a `Book`. A module of hits.rs.
 
-use crate::books::{Book, Class, Ended, Place, Pulled, Tail};
+use crate::books::{Book, Class, Pulled};
+use crate::places::{Ended, Place, Tail};
 use crate::{ACTIVE, COLD, Chunk, FETCHED, ItemId, SEGMENT, Tally, lives, one_more};
 use std::sync::atomic::AtomicU64;
 use std::sync::atomic::Ordering::SeqCst;

@@ -7,6 +7,7 @@ mod books;
 mod calls;
 mod lists;
 mod moves;
+mod places;
 
 use calls::{CALLS, Calls};
 use moves::{MOVES, Moves, TIMES};

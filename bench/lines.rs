@@ -1,6 +1,6 @@
 //! The lines of a trace, read. A module of model.rs.
 
-use crate::store::Tail;
+use crate::places::Tail;
 
 /// What a line says. Names are those of the trace's own bytes.
 pub enum Line<'a> {

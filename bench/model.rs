@@ -5,13 +5,15 @@
 mod answers;
 mod lines;
 mod lists;
+mod places;
 mod store;
 
-use answers::Text;
+use answers::{PLACES, Text};
 use lines::{Line, parse};
+use places::Place;
 use std::collections::HashMap;
 use std::io::Write;
-use store::{ItemId, PLACES, Place, Store, Take};
+use store::{ItemId, Store, Take};
 
 /// How much text is gathered before it is written.
 const GATHERED: usize = 1 << 16;
@@ -146,7 +148,7 @@ impl<'a> Run<'a> {
             }
             Line::Pull { class, tail } => {
                 let pulled = self.store.pull(self.class(class)?, tail);
-                self.text.put("pull ").number(class).put(" ").put(tail.word()).put(" ").pulled(pulled).put("\n");
+                self.text.put("pull ").number(class).put(" ").pulled(tail, pulled).put("\n");
             }
             Line::Sweep { class } => {
                 let freed = self.store.sweep(self.class(class)?);

@@ -1,56 +1,13 @@
 //! The store that a trace is run on: chunks, the lists of the classes, the workers' rings. A module of model.rs.
 
 use crate::lists::Lists;
+use crate::places::{Ended, Place, Tail};
 use std::collections::VecDeque;
 
 #[derive(Clone, Copy, PartialEq, Eq)]
 pub struct ItemId {
     pub chunk: u32,
     pub generation: u32,
-}
-
-#[derive(Clone, Copy, PartialEq, Eq)]
-pub enum Place {
-    Hot,
-    Warm,
-    Cold,
-    Dying,
-    Unused,
-    Retired,
-}
-
-pub const PLACES: [(Place, &str); 6] = [
-    (Place::Hot, "hot"),
-    (Place::Warm, "warm"),
-    (Place::Cold, "cold"),
-    (Place::Dying, "dying"),
-    (Place::Unused, "unused"),
-    (Place::Retired, "retired"),
-];
-
-impl From<Place> for u32 {
-    fn from(place: Place) -> u32 {
-        place as u32
-    }
-}
-
-#[derive(Clone, Copy)]
-pub enum Tail {
-    Hot,
-    Warm,
-    Cold,
-    Evict,
-}
-
-impl Tail {
-    pub fn word(self) -> &'static str {
-        match self {
-            Tail::Hot => "hot",
-            Tail::Warm => "warm",
-            Tail::Cold => "cold",
-            Tail::Evict => "evict",
-        }
-    }
 }
 
 /// A chunk's words.
@@ -109,12 +66,6 @@ pub enum Touch {
     Queued(u64),
     DroppedFull,
     DroppedRefs,
-}
-
-#[derive(Clone, Copy)]
-pub enum Ended {
-    Freed,
-    Deferred,
 }
 
 pub enum Pulled {
