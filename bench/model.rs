@@ -84,6 +84,12 @@ impl<'a> Run<'a> {
         Some(())
     }
 
+    fn hit(&mut self, worker: u32, hold: &[u8], now: u64) -> Option<()> {
+        let touch = self.store.touch(self.worker(worker)?, *self.holds.get(hold)?, now);
+        self.text.put("hit ").number(worker).put(" ").put(hold).put(" ").touch(touch).put("\n");
+        Some(())
+    }
+
     fn drain(&mut self, now: u64) {
         let mut all: u32 = 0;
         for worker in 0..self.store.workers.len() {
@@ -130,10 +136,7 @@ impl<'a> Run<'a> {
             Line::Set { name, class, label } => self.set(name, class, label, now)?,
             Line::Get { worker, name } => self.get(worker, name, now)?,
             Line::Hold { worker, name, hold } => self.hold(worker, name, hold)?,
-            Line::Hit { worker, hold } => {
-                let touch = self.store.touch(self.worker(worker)?, *self.holds.get(hold)?, now);
-                self.text.put("hit ").number(worker).put(" ").put(hold).put(" ").touch(touch).put("\n");
-            }
+            Line::Hit { worker, hold } => self.hit(worker, hold, now)?,
             Line::Read { hold } => {
                 let label = self.store.chunks[self.holds.get(hold)?.chunk as usize].label;
                 self.text.put("read ").put(hold).put(" ").number(label).put("\n");
