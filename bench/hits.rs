@@ -1,10 +1,16 @@
-//! The readers' steps of `bump_heads`, and the workloads of `bump_bench`, over plain atomics; books.rs has the calls of a Book.
+//! The readers' steps of `bump_heads`, and the workloads of `bump_bench`, over plain atomics. calls.rs and moves.rs have the workloads
+//! of a Book's calls and of moves among lists.
 //! `bench/run` builds and runs both programs.
 //! rustc --edition 2024 -C opt-level=3 -C codegen-units=1 -C panic=abort bench/hits.rs -o hits && ./hits all
 
 mod books;
+mod calls;
+mod lists;
+mod moves;
+mod places;
 
-use books::{CALLS, Calls};
+use calls::{CALLS, Calls};
+use moves::{MOVES, Moves, TIMES};
 use std::sync::Arc;
 use std::sync::atomic::AtomicU64;
 use std::sync::atomic::Ordering::SeqCst;
@@ -315,11 +321,12 @@ fn pass(workload: Workload) -> (u64, Tally) {
     })
 }
 
-/// What is measured: steps of readers, or calls of a Book.
+/// What is measured: steps of readers, calls of a Book, or moves among lists.
 #[derive(Clone, Copy)]
 enum Measured {
     Reads(Workload),
     Calls(Calls),
+    Moves(Moves),
 }
 
 impl Measured {
@@ -327,13 +334,14 @@ impl Measured {
         match self {
             Measured::Reads(workload) => workload.name,
             Measured::Calls(calls) => calls.name,
+            Measured::Moves(moves) => moves.name,
         }
     }
 
     fn threads(self) -> u32 {
         match self {
             Measured::Reads(workload) => workload.threads,
-            Measured::Calls(_) => 1,
+            Measured::Calls(_) | Measured::Moves(_) => 1,
         }
     }
 
@@ -341,13 +349,15 @@ impl Measured {
         match self {
             Measured::Reads(workload) => workload.items as u64 * workload.rounds as u64,
             Measured::Calls(calls) => calls.times as u64,
+            Measured::Moves(_) => TIMES as u64,
         }
     }
 
     fn pass(self) -> (u64, Tally) {
         match self {
             Measured::Reads(workload) => pass(workload),
-            Measured::Calls(calls) => books::pass(calls),
+            Measured::Calls(calls) => calls::pass(calls),
+            Measured::Moves(moves) => moves::pass(moves),
         }
     }
 
@@ -376,7 +386,8 @@ fn main() {
     let threads: Option<u32> = words.get(3).and_then(|number| number.parse().ok());
     let reads = WORKLOADS.into_iter().map(Measured::Reads);
     let calls = CALLS.into_iter().map(Measured::Calls);
-    for measured in reads.chain(calls) {
+    let moves = MOVES.into_iter().map(Measured::Moves);
+    for measured in reads.chain(calls).chain(moves) {
         let is_named = word == "all" || word == measured.name();
         if is_named && threads.unwrap_or(measured.threads()) == measured.threads() {
             measured.measure(passes);

@@ -20,6 +20,9 @@ pub enum Call {
 
     /// The last item of a list is pulled.
     Pull(Tail),
+
+    /// The class is swept, once.
+    Sweep,
 }
 
 /// What is done with each item before the calls.
@@ -33,12 +36,29 @@ pub enum Before {
 
     /// It is pulled.
     Pull(Tail),
+
+    /// It is held, its life ends, and it is given back: its chunk is in DYING, and nobody holds it.
+    End,
 }
 
 /// Links so many items.
 pub fn link_all<N: Name>(book: &mut Book<N>, items: u32) {
     for number in 0..items {
         let _linked = book.link(u64::from(number), 0);
+    }
+}
+
+// Ends the life of each item while it is held.
+fn end_held<N: Name>(heads: &Heads<N>, reader: &mut Reader<N>, book: &mut Book<N>, items: &[ItemId])
+    requires ready { IsReady reader.old.seat reader.old.attempted reader.old.accepted }
+    requires items { All (λ i. i.chunk < all_chunks heads.now) items.now }
+    ensures { IsReady reader.new.seat reader.new.attempted reader.new.accepted }
+{
+    for item in items {
+        if let Ok(hold) = heads.take(&mut reader.seat, *item) {
+            let _ended = book.unlink(*item);
+            heads.give_back(hold);
+        }
     }
 }
 
@@ -59,6 +79,7 @@ fn prepare<N: Name>(
             hits(heads, reader, items, 1, Touched::First);
         }
         Before::Ride => rides(heads, reader, items),
+        Before::End => end_held(heads, reader, book, items),
         Before::Pull(tail) => {
             for _item in items {
                 book.pull(tail);
@@ -131,11 +152,21 @@ fn pulls<N: Name>(book: &mut Book<N>, tail: Tail, times: u32) -> Tally {
     }
 }
 
+// Sweeps the class. Right is a chunk that is freed.
+fn sweeps<N: Name>(book: &mut Book<N>) -> Tally {
+    Tally {
+        refused: 0,
+        right: u64::from(book.sweep()),
+        labels: 0,
+    }
+}
+
 /// The calls that are timed. Its name is what callgrind is told to count.
 #[inline(never)]
 pub fn timed_calls<N: Name>(book: &mut Book<N>, call: Call, times: u32) -> Tally {
     match call {
         Call::LinkUnlink => links(book, times),
         Call::Pull(tail) => pulls(book, tail, times),
+        Call::Sweep => sweeps(book),
     }
 }

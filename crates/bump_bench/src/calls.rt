@@ -14,7 +14,7 @@ pub struct Calls {
     pub items: u32,
     pub before: &'static [Before],
 
-    /// What is called, and how often.
+    /// What is called, and how often; of a sweep, how many chunks of DYING it looks at.
     pub call: Call,
     pub times: u32,
 
@@ -61,8 +61,17 @@ const ROOM: ClassConfig = ClassConfig {
     warm: 8_192,
 };
 
+// All items have ended, and nobody holds them.
+const SWEEP: Calls = Calls {
+    name: "sweep_freed",
+    before: &[Before::End],
+    call: Call::Sweep,
+    behind: Place::Unused,
+    ..PULL
+};
+
 /// The workloads, in the order of the table.
-pub const CALLS: [Calls; 14] = [
+pub const CALLS: [Calls; 17] = [
     LINKS,
     Calls {
         name: "link_unlink_1000",
@@ -157,5 +166,27 @@ pub const CALLS: [Calls; 14] = [
         items: 1_000_000,
         times: 1_000_000,
         ..PULL
+    },
+    SWEEP,
+    Calls {
+        name: "sweep_held",
+        before: &[
+            Before::Hit,
+            Before::Pull(Tail::Hot),
+            Before::Ride,
+            Before::Pull(Tail::Evict),
+        ],
+        behind: Place::Dying,
+        ..SWEEP
+    },
+    Calls {
+        name: "sweep_freed_1000000",
+        class: ClassConfig {
+            chunks: 1_000_000,
+            ..NO_ROOM
+        },
+        items: 1_000_000,
+        times: 1_000_000,
+        ..SWEEP
     },
 ];

@@ -15,13 +15,23 @@ use std::sync::atomic::AtomicU64;
 use std::sync::atomic::Ordering::SeqCst;
 use std::thread;
 use std::thread::Threads;
-use std::time::Instant;
+use std::time::{Duration, Instant};
 
 /// What a thread took, in nanoseconds, and what it counted.
 #[derive(Clone, Copy)]
 pub struct Spent {
     pub nanos: u64,
     pub tally: Tally,
+}
+
+impl Spent {
+    /// So long, and what was counted meanwhile.
+    pub fn new(spent: Duration, tally: Tally) -> Spent {
+        Spent {
+            nanos: u64::try_from(spent.as_nanos()).unwrap_or(u64::MAX),
+            tally,
+        }
+    }
 }
 
 // How often a thread looks whether the others have come: then it begins without them.
@@ -67,10 +77,7 @@ fn work<N: Name, R: Clock>(
     let start = Instant::now(rt).ok()?;
     let tally = timed_pass(heads, &mut reader, &items, workload.rounds, workload.wanted);
     let spent = start.elapsed(rt).ok()?;
-    Some(Spent {
-        nanos: u64::try_from(spent.as_nanos()).unwrap_or(u64::MAX),
-        tally,
-    })
+    Some(Spent::new(spent, tally))
 }
 
 /// Each worker passes through the workload in a thread of its own.

@@ -1,4 +1,4 @@
-//! Measures what the steps of `bump_heads` and the calls of `bump_class` cost. It prints only when it is given a word: the name of a workload, or `all`. Behind it may
+//! Measures what the steps of `bump_heads`, the calls of `bump_class` and the moves of `bump_links` cost. It prints only when it is given a word: the name of a workload, or `all`. Behind it may
 //! stand how many passes are wanted, and then of how many threads.
 #![tactic(auto)]
 
@@ -8,6 +8,7 @@ mod callers;
 mod calls;
 mod jobs;
 mod lines;
+mod moves;
 mod passes;
 mod readers;
 mod stores;
@@ -20,6 +21,7 @@ use callers::{link_all, prepare_all, timed_calls};
 use calls::{CALLS, Calls};
 use jobs::{Spent, work_apart};
 use lines::Line;
+use moves::{MOVES, Moves, TIMES};
 use passes::NONE;
 use std::alloc::{AllocError, Global};
 use std::marker::Brand;
@@ -105,10 +107,7 @@ fn calls_in<N: Name, R: Clock>(
     tally.labels = tally
         .labels
         .wrapping_add(u64::from(book.size(calls.behind)));
-    Ok(Spent {
-        nanos: u64::try_from(spent.as_nanos()).unwrap_or(u64::MAX),
-        tally,
-    })
+    Ok(Spent::new(spent, tally))
 }
 
 // Opens a store of one class and one worker, and picks its name.
@@ -122,11 +121,12 @@ fn pass_calls<R: Clock>(rt: &R, alloc: Global, calls: Calls) -> io::Result<Spent
     calls_in::<Brand, _>(rt, alloc, blank, &config, calls)
 }
 
-// What is measured: steps of readers, or calls of a Book.
+// What is measured: steps of readers, calls of a Book, or moves among lists.
 #[derive(Clone, Copy)]
 enum Measured {
     Reads(Workload),
     Calls(Calls),
+    Moves(Moves),
 }
 
 impl Measured {
@@ -134,13 +134,14 @@ impl Measured {
         match self {
             Measured::Reads(workload) => workload.name,
             Measured::Calls(calls) => calls.name,
+            Measured::Moves(moves) => moves.name,
         }
     }
 
     fn threads(self) -> u32 {
         match self {
             Measured::Reads(workload) => workload.threads,
-            Measured::Calls(_) => 1,
+            Measured::Calls(_) | Measured::Moves(_) => 1,
         }
     }
 
@@ -149,14 +150,16 @@ impl Measured {
         match self {
             Measured::Reads(workload) => workload.operations(),
             Measured::Calls(calls) => u64::from(calls.times),
+            Measured::Moves(_) => u64::from(TIMES),
         }
     }
 
-    // One pass, on a store that is opened for it.
+    // One pass, on a store or lists that are made for it.
     fn pass<R: Threads + Clock + Sync>(self, rt: &R, alloc: Global) -> io::Result<Spent> {
         match self {
             Measured::Reads(workload) => pass(rt, alloc, workload),
             Measured::Calls(calls) => pass_calls(rt, alloc, calls),
+            Measured::Moves(moves) => moves.pass(rt, alloc),
         }
     }
 
@@ -206,7 +209,8 @@ fn main(rt: HostRuntime) -> io::Result<()> {
     let threads = number_at(&words, 3);
     let reads = WORKLOADS.into_iter().map(Measured::Reads);
     let calls = CALLS.into_iter().map(Measured::Calls);
-    for measured in reads.chain(calls) {
+    let moves = MOVES.into_iter().map(Measured::Moves);
+    for measured in reads.chain(calls).chain(moves) {
         if measured.is_wanted(word.as_str(), threads) {
             measured.measure(&rt, rt.alloc(), passes)?;
         }

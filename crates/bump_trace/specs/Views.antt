@@ -1,8 +1,7 @@
 -- The program's values as the definitions see them, and what its functions return.
 use Rattle.std.specs.Prelude.{◌≡◌, ⊤, ℕ, List, ◌++◌, Result, Ok, Err}
-use Rattle.std.specs.BTreeMap.{BTreeMap, get_by}
-use Rattle.std.specs.Cmp.Lexicographic.{slice_cmp}
-use Rattle.std.specs.Ordering.{nat_cmp}
+use Rattle.std.specs.HashMap.{HashMap, get_by}
+use Rattle.std.specs.Str.{bytes_eq}
 use denote.Ref.{Bor}
 use Rattle.bump_rules.specs.declared.items.ItemId.{ItemId}
 use Rattle.bump_trace.specs.Names as names
@@ -17,8 +16,8 @@ use Rattle.bump_trace.specs.declared.stages.Stage.{Stage}
 use Rattle.bump_trace.specs.declared.stages.Stage.TheVariants as stage
 
 -- what each name is bound to
-abbrev pub bindings_of : BTreeMap (Bor (List ℕ)) ItemId → names.Names
-bindings_of ids name = get_by (λ key. slice_cmp nat_cmp name key.now) ids
+abbrev pub bindings_of : {S : Type 0} → HashMap (Bor (List ℕ)) ItemId S → names.Names
+bindings_of ids name = get_by (λ key. bytes_eq name key.now) ids
 
 -- the names of a map
 abbrev pub names_of : Names → names.Names

@@ -5,12 +5,12 @@ ghost use Rattle.bump_trace.specs.Names.{no_names, bind, unbind};
 
 use bump_core::ItemId;
 use std::alloc::{AllocError, Global};
-use std::collections::BTreeMap;
+use std::collections::HashMap;
 
 /// What each name is bound to. A name is a part of the trace itself.
 #[derive(Drop)]
 pub struct Names<'a> {
-    ids: BTreeMap<&'a [u8], ItemId>,
+    ids: HashMap<&'a [u8], ItemId>,
 }
 
 impl<'a> Names<'a> {
@@ -21,7 +21,7 @@ impl<'a> Names<'a> {
         ensures { names_of result ≡ no_names }
     {
         Names {
-            ids: BTreeMap::new(alloc),
+            ids: HashMap::new(alloc),
         }
     }
 

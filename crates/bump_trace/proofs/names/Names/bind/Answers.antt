@@ -1,6 +1,6 @@
 use std.Path.{fun_ext}
-use Rattle.std.proofs.lemmas.Map.Text.{btree_map_updates_str}
+use Rattle.std.proofs.lemmas.Map.Text.{hash_map_updates_str}
 use Rattle.bump_trace.proofs.names.Names.bind.Goals as goal
 
 pub returns : goal.returns
-returns c = fun_ext (btree_map_updates_str c.args.name.now c.args.self.now.ids c.insert.new.self _ c.in_ok-insert.ensures.updates)
+returns c = fun_ext (hash_map_updates_str c.args.name.now c.args.self.now.ids c.insert.new.self _ c.in_ok-insert.ensures.updates)
