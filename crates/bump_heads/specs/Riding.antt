@@ -1,5 +1,5 @@
 -- What a call of `ride` comes to, by the heads that it found: the first one by its load, and more by the exchanges that failed, in order.
-use Rattle.std.specs.Prelude.{◌≡◌, ℕ, ◌+◌, ◌≤◌, List, ◌∷◌, length, Option, Some, None, Result, Ok, Err}
+use Rattle.std.specs.Prelude.{◌≡◌, ℕ, ◌+◌, ◌<◌, ◌≤◌, List, ◌∷◌, length, Option, Some, None, Result, Ok, Err}
 use Rattle.bump_rules.specs.declared.items.Head.{Head}
 use Rattle.bump_rules.specs.declared.items.ItemId.{ItemId}
 use Rattle.bump_rules.specs.declared.hands.Hand.TheVariants as hand
@@ -8,9 +8,9 @@ use Rattle.bump_steps.specs.declared.views.Kind.TheVariants as kind
 use Rattle.bump_steps.specs.declared.views.Ride.{Ride}
 use Rattle.bump_steps.specs.declared.views.WorkerPart.{WorkerPart}
 use Rattle.bump_heads.specs.declared.views.WorkerView.{WorkerView}
-use Rattle.bump_steps.specs.Tries.{last_found, AreHeads, loads, with_more}
+use Rattle.bump_steps.specs.Tries.{last_found, AreHeads, AreTries, loads, with_more}
 use Rattle.bump_steps.specs.Rides.{judged, found_by}
-use Rattle.bump_steps.specs.RideTries.{AreHeld, AreTries, why_refused}
+use Rattle.bump_steps.specs.RideTries.{AreHeld, why_refused}
 
 -- the reference was taken by an exchange that found this head, and sent off: the bump counts as accepted
 abbrev pub rode_off : ItemId → Head → WorkerPart → WorkerPart
@@ -33,7 +33,7 @@ ride_of v n l = record { worker = v.part.worker; number = n; life = l }
 pub record Rode (limit : ℕ) (l : ItemId) (number : ℕ) (before after : WorkerView) (answered : Result Ride RideRefusal) (first : Head) (more : List Head) : Type 0 where
   pub heads : AreHeads first more
   pub held : AreHeld limit l first more
-  pub tries : AreTries limit first more
+  pub tries : AreTries (λ h. h.refs < limit) first more
   -- at most 8 exchanges failed
   pub most : length more ≤ 8
   -- the worker has these steps more, and what the last of them made of its hand and accounts

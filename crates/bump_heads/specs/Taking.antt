@@ -3,6 +3,7 @@
 use Rattle.std.specs.Prelude.{◌≡◌, ℕ, ◌≤◌, List, length, Option, Some, None, Result, Ok, Err}
 use Rattle.bump_rules.specs.declared.items.Head.{Head}
 use Rattle.bump_rules.specs.declared.items.ItemId.{ItemId}
+use Rattle.bump_rules.specs.Tables.{IsHeld, get_of}
 use Rattle.bump_steps.specs.declared.refusals.TakeRefusal.{TakeRefusal}
 use Rattle.bump_steps.specs.declared.views.HoldPart.{HoldPart}
 use Rattle.bump_heads.specs.declared.views.HoldView.{HoldView}
@@ -22,7 +23,7 @@ answer_of (Some refusal) l = Err refusal
 -- what a call of `take` comes to that found these heads
 pub record Took (limit : ℕ) (l : ItemId) (before after : WorkerView) (answered : Result HoldView TakeRefusal) (first : Head) (more : List Head) : Type 0 where
   pub heads : AreHeads first more
-  pub tries : AreTries limit l.generation first more
+  pub tries : AreTries (λ h. get_of limit l.generation h ≡ IsHeld) first more
   -- at most 8 exchanges failed
   pub most : length more ≤ 8
   -- nothing but the steps is new to the worker: where the call is refused none of them changed the word

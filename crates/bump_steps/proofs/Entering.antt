@@ -40,7 +40,7 @@ use Rattle.bump_steps.specs.declared.views.View.{View}
 use Rattle.bump_steps.specs.Views.{Measure, held, named, saw, owners, strays, mislabels, misreads, owns, standing, label_of, weight, shown_by, shows_time_only, IsBacked}
 use Rattle.bump_steps.specs.Rule.{Sound, chunks, Kept}
 use Rattle.bump_steps.specs.Plays.{Sat, on_chunk, step_of, Stands}
-use Rattle.bump_steps.specs.Lives.{alone, looked, begun, freed, seen, IsInSegment, Keeps, IsLinked, IsDying, MayBegin, on_part, beginning, severing, sweeping}
+use Rattle.bump_steps.specs.Lives.{alone, looked, begun, freed, seen, IsInSegment, StandsAt, IsLinked, IsDying, MayBegin, on_part, beginning, severing, sweeping}
 use Rattle.bump_steps.specs.Lives as lives
 use Rattle.bump_steps.proofs.Frame.{Same, Amid, Reaches, on_head, same_sound}
 use Rattle.bump_steps.proofs.LabelLists.{word_begun}

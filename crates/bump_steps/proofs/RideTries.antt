@@ -13,19 +13,14 @@ use Rattle.bump_steps.specs.declared.views.OwnStep.{OwnStep}
 use Rattle.bump_steps.specs.declared.views.WorkerPart.{WorkerPart}
 use Rattle.bump_steps.specs.declared.views.View.{View}
 use Rattle.bump_steps.specs.Plays.{Sat, on_first, step_of}
-use Rattle.bump_steps.specs.Tries.{last_found, AreHeads, loads, with_more}
+use Rattle.bump_steps.specs.Tries.{last_found, AreHeads, AreTries, loads, with_more}
 use Rattle.bump_steps.specs.Rides.{on_worker, found_by, IsHeld, refusal, judged, judged_hand, counted_drop, reserved, looked, took, IsOn, HasRoom}
-use Rattle.bump_steps.specs.RideTries.{AreHeld, AreTries, why_refused, view_after, RodeView}
-use Rattle.bump_steps.proofs.Tries.{heads_push, last_push, last_fits, loads_push}
+use Rattle.bump_steps.specs.RideTries.{AreHeld, why_refused, view_after, RodeView}
+use Rattle.bump_steps.proofs.Tries.{heads_push, tries_push, last_push, last_fits, loads_push}
 
 held_push : (limit : ℕ) (l : ItemId) (h : Head) (more : List Head) (k : Head) → AreHeld limit l h more → IsHeld limit l k → AreHeld limit l h (more ++ k ∷ [])
 held_push limit l h [] k are is = (are, is)
 held_push limit l h (j ∷ more) k are is = (are.0, held_push limit l j more k are.1 is)
-
--- after one more exchange that failed
-tries_push : (limit : ℕ) (h : Head) (more : List Head) (k : Head) → AreTries limit h more → (last_found h more).refs < limit → k ≢ last_found h more → AreTries limit h (more ++ k ∷ [])
-tries_push limit h [] k are room other = (room, other, tt)
-tries_push limit h (j ∷ more) k are room other = (are.0, are.1, tries_push limit j more k are.2 room other)
 
 -- two changes of a worker's part, one after the other
 first_again : (f g : WorkerPart → WorkerPart) (ws : List WorkerPart) → on_first g (on_first f ws) ≡ on_first (λ w. g (f w)) ws
@@ -49,7 +44,7 @@ busy limit failed h all = ap (λ (a : Bool). if a then Some Busy else (if nat_lt
 pub record Riding (limit : ℕ) (l : ItemId) (before now : Sat) (word failed : ℕ) (first : Head) (more : List Head) : Type 0 where
   pub heads : AreHeads first more
   pub held : AreHeld limit l first more
-  pub tries : AreTries limit first more
+  pub tries : AreTries (λ h. h.refs < limit) first more
   pub count : length more ≡ failed
   pub last : word ≡ word_of (last_found first more)
   pub view : now ≡ (on_worker (λ w. judged (why_refused limit first more) l (with_more (loads l.chunk (first ∷ more)) w)) before.0, before.1)
@@ -97,7 +92,7 @@ module _ (limit : ℕ) (l : ItemId) (before now : Sat) (word failed : ℕ) (firs
         record {
           heads = heads_push first more k y.heads t.1.1;
           held = held_push limit l first more k y.held t.2;
-          tries = tries_push limit first more k y.tries (subst (λ (j : Head). j.refs < limit) (sym (last_is h spelled)) room) (λ e. miss (t.1.0 ∙ ap word_of e ∙ sym y.last));
+          tries = tries_push (λ j. j.refs < limit) first more k y.tries (subst (λ (j : Head). j.refs < limit) (sym (last_is h spelled)) room) (λ e. miss (t.1.0 ∙ ap word_of e ∙ sym y.last));
           count = count;
           last = t.1.0 ∙ ap word_of (sym (last_push first more k));
           view = t.3

@@ -24,9 +24,9 @@ heads_push h [] k are fits = (are, fits)
 heads_push h (j ∷ more) k are fits = (are.0, heads_push j more k are.1 fits)
 
 -- after one more exchange that failed
-tries_push : (limit g : ℕ) (h : Head) (more : List Head) (k : Head) → AreTries limit g h more → get_of limit g (last_found h more) ≡ IsHeld → k ≢ last_found h more → AreTries limit g h (more ++ k ∷ [])
-tries_push limit g h [] k are can other = (can, other, tt)
-tries_push limit g h (j ∷ more) k are can other = (are.0, are.1, tries_push limit g j more k are.2 can other)
+pub tries_push : (IsOpen : Head → Type 0) (h : Head) (more : List Head) (k : Head) → AreTries IsOpen h more → IsOpen (last_found h more) → k ≢ last_found h more → AreTries IsOpen h (more ++ k ∷ [])
+tries_push IsOpen h [] k are is other = (is, other, tt)
+tries_push IsOpen h (j ∷ more) k are is other = (are.0, are.1, tries_push IsOpen j more k are.2 is other)
 
 -- what was found last is the last
 pub last_push : (h : Head) (more : List Head) (k : Head) → last_found h (more ++ k ∷ []) ≡ k
@@ -57,7 +57,7 @@ unrefused IsHeld is = refl
 -- So many exchanges failed, and the last step found the word.
 pub record Trying (limit : ℕ) (l : ItemId) (before now : Sat) (word failed : ℕ) (first : Head) (more : List Head) : Type 0 where
   pub heads : AreHeads first more
-  pub tries : AreTries limit l.generation first more
+  pub tries : AreTries (λ h. get_of limit l.generation h ≡ IsHeld) first more
   pub count : length more ≡ failed
   pub last : word ≡ word_of (last_found first more)
   pub view : now ≡ (stepped_view (loads l.chunk (first ∷ more)) before.0, before.1)
@@ -87,7 +87,7 @@ module _ (limit : ℕ) (l : ItemId) (before now : Sat) (word failed : ℕ) (firs
     k,
     record {
       heads = heads_push first more k y.heads other.1;
-      tries = tries_push limit l.generation first more k y.tries (ap (get_of limit l.generation) (last_is h spelled) ∙ unrefused (get_of limit l.generation h) can) (λ e. miss (other.0 ∙ ap word_of e ∙ sym y.last));
+      tries = tries_push (λ j. get_of limit l.generation j ≡ IsHeld) first more k y.tries (ap (get_of limit l.generation) (last_is h spelled) ∙ unrefused (get_of limit l.generation h) can) (λ e. miss (other.0 ∙ ap word_of e ∙ sym y.last));
       count = omega (arith, length-append more (k ∷ []), y.count);
       last = other.0 ∙ ap word_of (sym (last_push first more k));
       view = t.1 miss ∙ ap (λ (x : ℕ × Sat). (looked_view l.chunk x.0 x.1.0, x.1.1)) (λ i. (other.0 i, y.view i))

@@ -55,24 +55,24 @@ IsInSegment Unused = ⊥
 IsInSegment Retired = ⊥
 
 -- the view is that of a class's seat alone, which has the chunk at such a place
-pub record Keeps (places : Place → Type 0) (c : ℕ) (v : View) (k : ClassPart) : Type 0 where
+pub record StandsAt (places : Place → Type 0) (c : ℕ) (v : View) (k : ClassPart) : Type 0 where
   pub view : v ≡ alone k
   pub own : owns c k ≡ true
   pub at : places (standing k c).0
 
 -- where it is UNUSED, DYING, or linked
 abbrev pub IsUnused : ℕ → View → Type 0
-IsUnused c v = (k : ClassPart) × Keeps (λ p. p ≡ Unused) c v k
+IsUnused c v = (k : ClassPart) × StandsAt (λ p. p ≡ Unused) c v k
 
 abbrev pub IsDying : ℕ → View → Type 0
-IsDying c v = (k : ClassPart) × Keeps (λ p. p ≡ Dying) c v k
+IsDying c v = (k : ClassPart) × StandsAt (λ p. p ≡ Dying) c v k
 
 abbrev pub IsLinked : ℕ → View → Type 0
-IsLinked c v = (k : ClassPart) × Keeps IsInSegment c v k
+IsLinked c v = (k : ClassPart) × StandsAt IsInSegment c v k
 
 -- and this is the next generation of the chunk
 abbrev pub MayBegin : ℕ → ℕ → View → Type 0
-MayBegin c g v = (k : ClassPart) × Keeps (λ p. p ≡ Unused) c v k × (g ≡ (standing k c).1 + 1)
+MayBegin c g v = (k : ClassPart) × StandsAt (λ p. p ≡ Unused) c v k × (g ≡ (standing k c).1 + 1)
 
 -- a step on the class's part
 abbrev pub on_part : (ClassPart → ClassPart) → View → View

@@ -25,10 +25,10 @@ abbrev pub AreHeads : Head → List Head → Type 0
 AreHeads h [] = Fits h
 AreHeads h (k ∷ more) = Fits h × AreHeads k more
 
--- By each of them but the last a get is a hold, so that an exchange was tried; and it failed, since it found another one.
-abbrev pub AreTries : ℕ → ℕ → Head → List Head → Type 0
-AreTries limit g h [] = Unit {0}
-AreTries limit g h (k ∷ more) = (get_of limit g h ≡ IsHeld) × (k ≢ h) × AreTries limit g k more
+-- By each of them but the last there is a reference to take, so that an exchange was tried; and it failed, since it found another one.
+abbrev pub AreTries : (Head → Type 0) → Head → List Head → Type 0
+AreTries IsOpen h [] = Unit {0}
+AreTries IsOpen h (k ∷ more) = IsOpen h × (k ≢ h) × AreTries IsOpen k more
 
 -- why the get table refuses, if it does
 abbrev pub refused_by : Get → Option TakeRefusal
@@ -72,7 +72,7 @@ took_view limit l first more v = record v { workers = on_first (with_more (steps
 
 pub record TookView (limit : ℕ) (l : ItemId) (before after : Sat) (answered : Option TakeRefusal) (first : Head) (more : List Head) : Type 0 where
   pub heads : AreHeads first more
-  pub tries : AreTries limit l.generation first more
+  pub tries : AreTries (λ h. get_of limit l.generation h ≡ IsHeld) first more
   pub most : length more ≤ 8
   pub steps : after ≡ (took_view limit l first more before.0, before.1)
   pub answer : answered ≡ refusal_of limit l.generation first more
