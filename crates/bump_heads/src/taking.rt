@@ -4,6 +4,7 @@ ghost use Rattle.bump_rules.specs.declared.items.Head.{Head as TheHead};
 ghost use Rattle.bump_rules.specs.Lawful.{bit};
 ghost use Rattle.bump_rules.specs.Totals.{total};
 ghost use Rattle.bump_heads.specs.Applying.{labels_in};
+ghost use Rattle.bump_heads.specs.Seats.{hold_me};
 ghost use Rattle.bump_steps.specs.Rule.{chunks as all_chunks};
 ghost use Rattle.bump_heads.specs.Taking.{Took, reads, whole_hold};
 ghost use Rattle.bump_steps.specs.Views.{differs};
@@ -13,13 +14,14 @@ use crate::holds::Hold;
 use crate::names::Name;
 use crate::seats::WorkerSeat;
 use bump_rules::{Head, ItemId};
-use bump_steps::{TakeRefusal, head_of};
+use bump_steps::{Seat, TakeRefusal, head_of};
 use std::marker::PhantomData;
 
 impl<N: Name> Hold<N> {
-    // Only a hold whose reference was given back may go.
-    fn forget(self)
+    // Only a hold whose reference was given back may go: it is hollow, and the seat that it had refers to no life any more.
+    fn forget(self, _spent: Seat)
         requires hollow { self.part ≡ None }
+        requires spent { _spent.me ≡ hold_me None }
     {
         let Hold {
             badge: _,
@@ -68,20 +70,22 @@ impl<N: Name> Heads<N> {
         ensures counted { 0 < result.refs }
     {
         let mut held = hold;
-        let head = self.release(&mut held);
-        held.forget();
+        let (head, spent) = self.release(&mut held);
+        held.forget(spent);
         head
     }
 
-    // The reference is given back, so that the hold is hollow from then on.
-    fn release(&self, hold: &mut Hold<N>) -> Head
+    // The reference is given back, so that the hold is hollow from then on, and its seat, which is answered too, refers to no life.
+    fn release(&self, hold: &mut Hold<N>) -> (Head, Seat)
         requires whole { IsSome hold.old.part }
         ensures hollow { hold.new ≡ record hold.old { part = None } }
-        ensures generation { result.generation ≡ hold.old.life.generation }
-        ensures counted { 0 < result.refs }
+        ensures generation { result.0.generation ≡ hold.old.life.generation }
+        ensures counted { 0 < result.0.refs }
+        ensures spent { result.1.me ≡ hold_me None }
     {
         let mut seat = hold.seat_out();
-        head_of(self.words.give_back(&mut seat, hold.life.chunk))
+        let head = head_of(self.words.give_back(&mut seat, hold.life.chunk));
+        (head, seat)
     }
 
     /// The chunk's label, by one load: a number that was stored before the hold's life began, as memcached's key and value of an item
