@@ -12,7 +12,8 @@ use std::marker::{Model, PhantomData};
 #[derive(Drop)]
 pub struct Heads<N: Name> {
     pub(crate) words: Words,
-    pub(crate) limit: u32,
+    // A limit has 16 bits, as the counts in the words have.
+    pub(crate) limit: u16,
     pub(crate) chunks: u32,
     pub(crate) of: PhantomData<N>,
 }
@@ -37,6 +38,6 @@ impl<N: Name> Heads<N> {
     pub fn refs_limit(&self) -> u32
         ensures { result ≡ self.now.refs_limit }
     {
-        self.limit
+        u32::from(self.limit)
     }
 }

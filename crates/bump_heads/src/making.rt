@@ -143,7 +143,7 @@ impl<N: Name> Heads<N> {
             alloc,
             Heads {
                 words,
-                limit: config.refs_limit,
+                limit: config.refs_limit as u16,
                 chunks,
                 of: PhantomData,
             },

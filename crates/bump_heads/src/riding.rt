@@ -44,7 +44,7 @@ impl<N: Name> Heads<N> {
         ensures dropped { OnErr result (worker.new.part.hand ≡ Clearing life) }
         ensures hold { worker.new.hold ≡ worker.old.hold }
     {
-        if let Some(refusal) = self.words.ride(&mut worker.seat, self.limit, life) {
+        if let Some(refusal) = self.words.ride(&mut worker.seat, &self.limit, life) {
             return Err(refusal);
         }
         let part = self.words.part_ride(&mut worker.seat);

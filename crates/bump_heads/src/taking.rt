@@ -51,7 +51,7 @@ impl<N: Name> Heads<N> {
         ensures alone { worker.new.hold ≡ None }
         ensures hold { IfOk result (λ h. h ≡ whole_hold life) }
     {
-        if let Some(refusal) = self.words.take(&mut worker.seat, life, self.limit) {
+        if let Some(refusal) = self.words.take(&mut worker.seat, life, &self.limit) {
             return Err(refusal);
         }
         let part = self.words.part_holds(&mut worker.seat);

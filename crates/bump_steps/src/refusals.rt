@@ -2,6 +2,7 @@
 ghost use Rattle.std.specs.Prelude.{◌≡◌};
 ghost use Rattle.bump_rules.specs.Tables.{get_of};
 ghost use Rattle.bump_steps.specs.Tries.{refused_by};
+ghost use Rattle.bump_word.specs.Words.{Fits};
 
 use bump_rules::{Head, ItemId};
 use thiserror::Error;
@@ -34,14 +35,16 @@ pub enum RideRefusal {
     Busy,
 }
 
-// Why a get of the life is refused where this head is found, if it is: Stale comes before RefsFull.
-pub fn refusal(head: Head, life: ItemId, limit: u32) -> Option<TakeRefusal>
-    ensures { result ≡ refused_by (get_of limit life.generation head) }
+// Why a get of the life is refused where this head is found, if it is: Stale comes before RefsFull. A count has 16 bits, and so has the
+// limit: so compared, one instruction compares the word's lowest bits with the limit in memory.
+pub fn refusal(head: Head, life: ItemId, limit: &u16) -> Option<TakeRefusal>
+    requires { Fits head }
+    ensures { result ≡ refused_by (get_of limit.now life.generation head) }
 {
     if !head.linked || head.generation != life.generation {
         return Some(TakeRefusal::Stale);
     }
-    if head.refs >= limit {
+    if head.refs as u16 >= *limit {
         return Some(TakeRefusal::RefsFull);
     }
     None

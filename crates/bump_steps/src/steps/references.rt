@@ -86,13 +86,13 @@ impl Words {
         )
     }
 
-    /// One load, and at most 8 exchanges.
+    /// One load, and at most 8 exchanges. The limit is read anew for each word, as its comparison's operand.
     #[inline(always)]
-    pub fn take(&self, seat: &mut Seat, life: ItemId, limit: u32) -> Option<TakeRefusal>
+    pub fn take(&self, seat: &mut Seat, life: ItemId, limit: &u16) -> Option<TakeRefusal>
         requires seat { (seat.old.table_id ≡ words_id self.now) × (3 * life.chunk + 11 < (words_id self.now).words) }
-        requires limit { limit ≡ self.now.table.shared.key.refs_limit }
+        requires limit { limit.now ≡ self.now.table.shared.key.refs_limit }
         ensures same { (seat.new.table_id ≡ seat.old.table_id) × (seat.new.id ≡ seat.old.id) }
-        ensures told { (first : TheHead) × (more : List TheHead) × TookView limit life seat.old.me seat.new.me result first more }
+        ensures told { (first : TheHead) × (more : List TheHead) × TookView limit.now life seat.old.me seat.new.me result first more }
     {
         let mut word = self.look(seat, life.chunk);
         for failed in 0..8u32 {

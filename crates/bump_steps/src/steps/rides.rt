@@ -80,7 +80,7 @@ impl Join<View> for RideBack {
 }
 
 impl Words {
-    fn look_to_ride_by<W: Attempt>(&self, seat: &mut Seat, limit: u32, life: ItemId) -> u64
+    fn look_to_ride_by<W: Attempt>(&self, seat: &mut Seat, limit: u16, life: ItemId) -> u64
         requires seat { (seat.old.table_id ≡ words_id self.now) × (3 * life.chunk + 11 < (words_id self.now).words) }
         requires attempt { (W.limit ≡ limit) × (W.failed ≡ 0) × (W.life ≡ life) }
         requires limit { limit ≡ self.now.table.shared.key.refs_limit }
@@ -94,7 +94,7 @@ impl Words {
     }
 
     /// A load, of a worker that looks for room for its bump's reference.
-    pub fn look_to_ride(&self, seat: &mut Seat, limit: u32, life: ItemId) -> u64
+    pub fn look_to_ride(&self, seat: &mut Seat, limit: u16, life: ItemId) -> u64
         requires seat { (seat.old.table_id ≡ words_id self.now) × (3 * life.chunk + 11 < (words_id self.now).words) }
         requires limit { limit ≡ self.now.table.shared.key.refs_limit }
         requires trying { IsOn (Trying life) life seat.old.me.0 }
@@ -107,7 +107,7 @@ impl Words {
     fn try_to_ride_by<W: Attempt>(
         &self,
         seat: &mut Seat,
-        limit: u32,
+        limit: u16,
         life: ItemId,
         seen: u64,
         failed: u32,
@@ -132,7 +132,7 @@ impl Words {
     pub fn try_to_ride(
         &self,
         seat: &mut Seat,
-        limit: u32,
+        limit: u16,
         life: ItemId,
         seen: u64,
         failed: u32,
@@ -147,22 +147,22 @@ impl Words {
         self.try_to_ride_by::<Brand>(seat, limit, life, seen, failed)
     }
 
-    /// One load, and at most 8 exchanges.
+    /// One load, and at most 8 exchanges. The limit is read anew for each word, as its comparison's operand.
     #[inline(always)]
-    pub fn ride(&self, seat: &mut Seat, limit: u32, life: ItemId) -> Option<RideRefusal>
+    pub fn ride(&self, seat: &mut Seat, limit: &u16, life: ItemId) -> Option<RideRefusal>
         requires seat { (seat.old.table_id ≡ words_id self.now) × (3 * life.chunk + 11 < (words_id self.now).words) }
-        requires limit { limit ≡ self.now.table.shared.key.refs_limit }
+        requires limit { limit.now ≡ self.now.table.shared.key.refs_limit }
         requires trying { IsOn (Trying life) life seat.old.me.0 }
         ensures same { (seat.new.table_id ≡ seat.old.table_id) × (seat.new.id ≡ seat.old.id) }
-        ensures told { (first : TheHead) × (more : List TheHead) × RodeView limit life seat.old.me seat.new.me result first more }
+        ensures told { (first : TheHead) × (more : List TheHead) × RodeView limit.now life seat.old.me seat.new.me result first more }
     {
-        let mut word = self.look_to_ride(seat, limit, life);
+        let mut word = self.look_to_ride(seat, *limit, life);
         for failed in 0..8u32 {
             let head = head_of(word);
-            if head.refs >= limit {
+            if head.refs as u16 >= *limit {
                 return Some(RideRefusal::RefsFull);
             }
-            let found = self.try_to_ride(seat, limit, life, word, failed + 1);
+            let found = self.try_to_ride(seat, *limit, life, word, failed + 1);
             if found == word {
                 return None;
             }

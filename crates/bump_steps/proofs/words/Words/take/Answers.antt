@@ -8,13 +8,13 @@ head_of-head-requires c = let t = c.loop-failed.invariant.tries in (last_found t
 
 pub returns-in-Some-clause-told : goal.returns-in-Some-clause-told
 returns-in-Some-clause-told c = let t = c.loop-failed.invariant.tries in
-    (t.0, t.1, refuses c.args.limit c.args.life c.args.seat.now.me c.loop-failed.seat.me c.loop-failed.word c.loop-failed.failed t.0 t.1 t.2 (omega (arith, c.loop-failed-test.true)) c.head_of-head.result c.head_of-head.ensures c.in-Some.refused (sym c.refusal.ensures ∙ c.in-Some.is))
+    (t.0, t.1, refuses c.args.limit.now c.args.life c.args.seat.now.me c.loop-failed.seat.me c.loop-failed.word c.loop-failed.failed t.0 t.1 t.2 (omega (arith, c.loop-failed-test.true)) c.head_of-head.result c.head_of-head.ensures c.in-Some.refused (sym c.refusal.ensures ∙ c.in-Some.is))
 
 pub returns-then-found-word-clause-told : goal.returns-then-found-word-clause-told
 returns-then-found-word-clause-told c = let t = c.loop-failed.invariant.tries in
-    (t.0, t.1, takes_it c.args.limit c.args.life c.args.seat.now.me c.loop-failed.seat.me c.loop-failed.word c.loop-failed.failed t.0 t.1 t.2 (omega (arith, c.loop-failed-test.true)) c.head_of-head.result c.head_of-head.ensures (sym c.refusal.ensures ∙ c.in_default.is) c.try_take-found.new.seat.me c.try_take-found.result c.if-found-word.true c.try_take-found.ensures.told)
+    (t.0, t.1, takes_it c.args.limit.now c.args.life c.args.seat.now.me c.loop-failed.seat.me c.loop-failed.word c.loop-failed.failed t.0 t.1 t.2 (omega (arith, c.loop-failed-test.true)) c.head_of-head.result c.head_of-head.ensures (sym c.refusal.ensures ∙ c.in_default.is) c.try_take-found.new.seat.me c.try_take-found.result c.if-found-word.true c.try_take-found.ensures.told)
 
 pub loop-failed-preserved : goal.loop-failed-preserved
 loop-failed-preserved c = let t = c.loop-failed.invariant.tries in
-    let k = goes_on c.args.limit c.args.life c.args.seat.now.me c.loop-failed.seat.me c.loop-failed.word c.loop-failed.failed t.0 t.1 t.2 c.head_of-head.result c.head_of-head.ensures (sym c.refusal.ensures ∙ c.in_default.is) c.try_take-found.new.seat.me c.try_take-found.result c.if-found-word.false c.try_take-found.ensures.told in
+    let k = goes_on c.args.limit.now c.args.life c.args.seat.now.me c.loop-failed.seat.me c.loop-failed.word c.loop-failed.failed t.0 t.1 t.2 c.head_of-head.result c.head_of-head.ensures (sym c.refusal.ensures ∙ c.in_default.is) c.try_take-found.new.seat.me c.try_take-found.result c.if-found-word.false c.try_take-found.ensures.told in
     record { same = (c.try_take-found.ensures.same.0 ∙ c.loop-failed.invariant.same.0, c.try_take-found.ensures.same.1 ∙ c.loop-failed.invariant.same.1); tries = (t.0, t.1 ++ k.0 ∷ [], k.1) }
