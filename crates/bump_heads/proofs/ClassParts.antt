@@ -1,6 +1,7 @@
 -- What a class's part keeps over a step: over one that only notes itself, and over an entry of its history that begins no life.
 use Rattle.std.proofs.Common.{◌≡◌, ℕ, ◌+◌, ◌*◌, ◌<◌, cond, eqb, nat_le, nat_lt, Bool, true, false, List, [], ◌∷◌, ◌++◌, refl, ap, ◌∙◌, subst, arith, eqb-true}
 use Rattle.std.proofs.lemmas.Bool.{and_parts, ltb-true}
+use Rattle.bump_rules.specs.declared.places.Place.{Place}
 use Rattle.bump_rules.specs.declared.places.Place.TheVariants.{Unused}
 use Rattle.bump_rules.specs.declared.history.Change.{Change}
 use Rattle.bump_rules.specs.Entries.{is_stray}
@@ -13,6 +14,7 @@ use Rattle.bump_rules.proofs.Updates.{total_push}
 use Rattle.bump_steps.specs.declared.views.OwnStep.{OwnStep}
 use Rattle.bump_steps.specs.declared.views.ClassPart.{ClassPart}
 use Rattle.bump_steps.specs.Views.{owns, standing}
+use Rattle.bump_heads.specs.Linking.{place_of_chunk}
 use Rattle.bump_heads.specs.Seats.{IsClassPart}
 
 -- the chunks of a class are among the table's
@@ -57,3 +59,13 @@ module _ (words : ℕ) (k : ClassPart) (e : Change) (steps : List OwnStep) (p : 
           by : (b : Bool) → eqb (subject e).chunk c ≡ b → IsUsed (cond b (target e, (subject e).generation) (standing k c)).0 → IsUsed (standing k c).0
           by true is there = subst (λ (d : ℕ). IsUsed (standing k d).0) (eqb-true (subject e).chunk c is) (used there)
           by false is there = there
+
+-- the place of a choice of standings
+first_of : (b : Bool) (p : Place) (n : ℕ) (s : Standing) → (cond b (p, n) s).0 ≡ cond b p s.0
+first_of true p n s = refl
+first_of false p n s = refl
+
+-- where one more entry leaves each chunk
+pub entered_place : (k : ClassPart) (e : Change) (d : ℕ) → place_of_chunk (record k { history = k.history ++ e ∷ [] }) d ≡ cond (eqb (subject e).chunk d) (target e) (place_of_chunk k d)
+entered_place k e d = ap (λ (s : Standing). s.0) (standing_push d (Unused, k.fresh) k.history e)
+    ∙ first_of (eqb (subject e).chunk d) (target e) (subject e).generation (standing k d)

@@ -19,15 +19,16 @@ use std::marker::PhantomData;
 
 impl<N: Name> Hold<N> {
     // Only a hold whose reference was given back may go: it is hollow, and the seat that it had refers to no life any more.
-    fn forget(self, _spent: Seat)
+    fn forget(self, spent: Seat)
         requires hollow { self.part ≡ None }
-        requires spent { _spent.me ≡ hold_me None }
+        requires spent { spent.me ≡ hold_me None }
     {
         let Hold {
             badge: _,
             life: _,
             of: _,
         } = self;
+        drop(spent);
     }
 }
 

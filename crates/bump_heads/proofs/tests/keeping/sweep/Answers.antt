@@ -1,30 +1,18 @@
-use Rattle.std.proofs.Common.{◌≡◌, ℕ, ◌==◌, cond, eqb, Bool, true, false, if◌then◌else◌, ◌∷◌, [], ◌++◌, refl, sym, ap, ap₂, ◌∙◌, eq-eqb, ne_eqb}
+use Rattle.std.proofs.Common.{◌≡◌, ℕ, ◌==◌, Bool, true, false, if◌then◌else◌, ◌∷◌, [], ◌++◌, sym, ap, ap₂, ◌∙◌, eq-eqb, ne_eqb}
 use Rattle.bump_rules.specs.declared.history.Change.{Change}
 use Rattle.bump_rules.specs.declared.history.Change.TheVariants as change
 use Rattle.bump_rules.specs.declared.items.Head.{Head}
-use Rattle.bump_rules.specs.declared.places.Place.{Place}
-use Rattle.bump_rules.specs.declared.places.Place.TheVariants.{Unused}
-use Rattle.bump_rules.specs.History.{Standing, subject, target}
 use Rattle.bump_rules.specs.Lives.{life}
-use Rattle.bump_rules.proofs.Replay.{standing_push}
 use Rattle.bump_word.specs.Words.{word_of}
 use Rattle.bump_steps.specs.declared.views.ClassPart.{ClassPart}
 use Rattle.bump_heads.specs.declared.views.ClassView.{ClassView}
 use Rattle.bump_heads.specs.Linking.{place_of_chunk, with_sight}
 use Rattle.bump_steps.specs.Lives.{freed, looked}
 use Rattle.bump_steps.specs.Views.{standing}
+use Rattle.bump_heads.proofs.ClassParts.{entered_place}
 use Rattle.bump_heads.proofs.tests.keeping.sweep.Goals as goal
 
--- the place of a choice of standings
-first_of : (b : Bool) (p : Place) (n : ℕ) (s : Standing) → (cond b (p, n) s).0 ≡ cond b p s.0
-first_of true p n s = refl
-first_of false p n s = refl
-
 module _ (k : ClassPart) (c : ℕ) (h : Head) (none : h.refs ≡ 0) (d : ℕ) where
-  -- where one more entry leaves each chunk
-  entered : (e : Change) → place_of_chunk (record k { history = k.history ++ e ∷ [] }) d ≡ cond (eqb (subject e).chunk d) (target e) (place_of_chunk k d)
-  entered e = ap (λ (s : Standing). s.0) (standing_push d (Unused, k.fresh) k.history e) ∙ first_of (eqb (subject e).chunk d) (target e) (subject e).generation (standing k d)
-
   -- the entry of a chunk that is free, by whether its generation is the last one
   abbrev freeing : Bool → Change
   freeing b = if b then change.Retired (life c (standing k c).1) else change.Swept (life c (standing k c).1)
@@ -40,7 +28,7 @@ returns-then-head-clause-stand g c d =
     let n = c.args.chunk in
     ap (λ (x : ClassView). place_of_chunk x.part d) s.ensures.seen
     ∙ freed_as k n s.result c.if-head-ne0.false d true (eq-eqb (standing k n).1 4294967295 (sym s.ensures.generation ∙ c.if-head.true))
-    ∙ entered k n s.result c.if-head-ne0.false d (change.Retired (life n (standing k n).1))
+    ∙ entered_place k (change.Retired (life n (standing k n).1)) d
 
 pub returns-clause-stand : goal.returns-clause-stand
 returns-clause-stand g c d =
@@ -49,4 +37,4 @@ returns-clause-stand g c d =
     let n = c.args.chunk in
     ap (λ (x : ClassView). place_of_chunk x.part d) s.ensures.seen
     ∙ freed_as k n s.result c.if-head-ne0.false d false (ne_eqb (standing k n).1 4294967295 (λ e. c.if-head.false (s.ensures.generation ∙ e)))
-    ∙ entered k n s.result c.if-head-ne0.false d (change.Swept (life n (standing k n).1))
+    ∙ entered_place k (change.Swept (life n (standing k n).1)) d

@@ -1,42 +1,30 @@
-use Rattle.std.proofs.Common.{◌≡◌, ℕ, cond, eqb, Bool, true, false, Option, None, ◌∷◌, [], ◌++◌, refl, ap, ap₂, ◌∙◌}
-use Rattle.bump_rules.specs.declared.history.Change.{Change}
+use Rattle.std.proofs.Common.{◌≡◌, ℕ, cond, eqb, Option, None, ap, ap₂, ◌∙◌}
 use Rattle.bump_rules.specs.declared.history.Change.TheVariants.{Linked, Unlinked}
 use Rattle.bump_rules.specs.declared.items.Head.{Head}
 use Rattle.bump_rules.specs.declared.places.Place.{Place}
-use Rattle.bump_rules.specs.declared.places.Place.TheVariants.{Hot, Unused}
+use Rattle.bump_rules.specs.declared.places.Place.TheVariants.{Hot}
 use Rattle.bump_rules.specs.declared.places.Segment.{Segment}
 use Rattle.bump_rules.specs.declared.places.Segment.TheVariants as segment
-use Rattle.bump_rules.specs.History.{Standing, subject, target, place_of}
+use Rattle.bump_rules.specs.History.{place_of}
 use Rattle.bump_rules.specs.Lives.{life}
-use Rattle.bump_rules.proofs.Replay.{standing_push}
-use Rattle.bump_steps.specs.declared.views.ClassPart.{ClassPart}
 use Rattle.bump_heads.specs.declared.views.ClassView.{ClassView}
 use Rattle.bump_steps.specs.declared.views.LanePart.{LanePart}
 use Rattle.bump_heads.specs.Applying.{shifted_class}
+use Rattle.bump_heads.proofs.ClassParts.{entered_place}
 use Rattle.bump_heads.specs.Linking.{place_of_chunk}
 use Rattle.bump_steps.specs.Views.{standing}
 use Rattle.bump_heads.proofs.tests.keeping.turn.Goals as goal
 
--- the place of a choice of standings
-first_of : (b : Bool) (p : Place) (n : ℕ) (s : Standing) → (cond b (p, n) s).0 ≡ cond b p s.0
-first_of true p n s = refl
-first_of false p n s = refl
-
--- where one more entry leaves each chunk
-entered : (k : ClassPart) (e : Change) (d : ℕ) → place_of_chunk (record k { history = k.history ++ e ∷ [] }) d ≡ cond (eqb (subject e).chunk d) (target e) (place_of_chunk k d)
-entered k e d = ap (λ (s : Standing). s.0) (standing_push d (Unused, k.fresh) k.history e)
-    ∙ first_of (eqb (subject e).chunk d) (target e) (subject e).generation (standing k d)
-
 -- where a pull's move leaves each chunk
 shifted : (v : ClassView) (c : ℕ) (from to : Segment) (h : Head) → v.lane ≡ None → (d : ℕ) → place_of_chunk (shifted_class c from to h v).part d ≡ cond (eqb c d) (place_of to) (place_of_chunk v.part d)
 shifted v c from to h alone d = ap (λ (o : Option LanePart). place_of_chunk (shifted_class c from to h (record v { lane = o })).part d) alone
-    ∙ entered v.part _ d
+    ∙ entered_place v.part _ d
 
 pub returns-in-Unused-clause-stand : goal.returns-in-Unused-clause-stand
 returns-in-Unused-clause-stand g c d =
     let o = c.open_life in
     ap (λ (x : ClassView). place_of_chunk x.part d) o.ensures.begun
-    ∙ entered c.put_time.new.self.part (Linked (life o.result.chunk o.result.generation)) d
+    ∙ entered_place c.put_time.new.self.part (Linked (life o.result.chunk o.result.generation)) d
     ∙ ap₂ (λ (a : ℕ) (p : Place). cond (eqb a d) Hot p)
     (ap (λ x. x.chunk) o.ensures.next)
     (ap (λ (x : ClassView). place_of_chunk x.part d) c.put_time.ensures.timed
@@ -61,4 +49,4 @@ returns-in-Cold-clause-stand g c d =
 pub returns-in-Cold-2-clause-stand : goal.returns-in-Cold-2-clause-stand
 returns-in-Cold-2-clause-stand g c d =
     let k = c.args.class.now.part in
-    ap (λ (x : ClassView). place_of_chunk x.part d) c.end_life.ensures.ended ∙ entered k (Unlinked (life c.args.chunk (standing k c.args.chunk).1)) d
+    ap (λ (x : ClassView). place_of_chunk x.part d) c.end_life.ensures.ended ∙ entered_place k (Unlinked (life c.args.chunk (standing k c.args.chunk).1)) d
