@@ -1,4 +1,4 @@
-use Rattle.std.proofs.Common.{◌+◌, arith, ◌-◌, ◌*◌, ap, sym, ◌∙◌, subst, length, []}
+use Rattle.std.proofs.Common.{rules, ◌+◌, arith, ◌-◌, ◌*◌, ap, sym, ◌∙◌, subst, length, []}
 use Rattle.bump_steps.specs.Plays.{Sat}
 use Rattle.bump_rules.specs.declared.configs.Config.{Config}
 use Rattle.atomic_table.specs.Seated.{TableId}
@@ -21,3 +21,6 @@ pub part_lanes-requires-clause-parts : goal.part_lanes-requires-clause-parts
 part_lanes-requires-clause-parts g c = let k = c.args.config.now in let me = c.blank.invariant.2 ∙ ap (λ (x : Config). (opened x, [])) (ap (λ (b : BlankView). b.config) c.blank.view_is ∙ c.requires.config) in
     let lanes = ap (λ (x : Sat). x.0.lanes) c.in_ok-workers.ensures.rest.1 ∙ ap (λ (x : Sat). x.0.lanes) c.in_ok-classes.ensures.rest.1 ∙ ap (λ (x : Sat). x.0.lanes) me in
     (ap length lanes ∙ length_lanes 0 k.workers, subst AreEmpty (sym lanes) (empty_lanes 0 k.workers))
+
+pub invariant_of-new : goal.invariant_of-new
+invariant_of-new g c = search rules

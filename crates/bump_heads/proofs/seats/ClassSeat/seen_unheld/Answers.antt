@@ -1,9 +1,11 @@
-use Rattle.std.proofs.Common.{◌%◌, ◌∙◌, subst}
+use Rattle.std.proofs.Common.{ℕ, ◌%◌, ap, ap₂, ◌∙◌, subst}
 use Rattle.bump_rules.specs.declared.places.Place.{Place}
 use Rattle.bump_rules.specs.Lawful.{Shows}
+use Rattle.bump_word.proofs.Words.{fields}
 use Rattle.bump_steps.specs.Lives.{seen}
+use Rattle.bump_heads.specs.Seats.{class_me}
 use Rattle.bump_heads.proofs.ClassLives.{keeps_seen, class_seen}
-use Rattle.bump_heads.proofs.ClassSeats.{seat_kept, finds}
+use Rattle.bump_heads.proofs.ClassSeats.{view_after, seat_kept, finds}
 use Rattle.bump_heads.proofs.seats.ClassSeat.seen_unheld.Goals as goal
 
 pub invariant_of-self : goal.invariant_of-self
@@ -14,3 +16,11 @@ returns-clause-unlinked g c = subst (λ (p : Place). Shows c.head_of.result p) c
 
 pub returns-clause-generation : goal.returns-clause-generation
 returns-clause-generation g c = (finds c.args.chunk c.sweep.result c.self.inside.seat.me c.args.self.now c.head_of.result c.self.view_is c.self.invariant.0 c.requires.own c.head_of.ensures c.sweep.ensures.told.1).1
+
+-- the class's view after the sweep, by the head that the word spells
+pub returns-clause-seen : goal.returns-clause-seen
+returns-clause-seen g c =
+    let n = c.sweep.result in
+    let now = c.args.self.now in
+    view_after c.self.inside.seat.me c.sweep.new.seat.me now (seen c.args.chunk (n % 65536) n) (c.self.invariant.0 ∙ ap class_me c.self.view_is) c.sweep.ensures.told.0
+    ∙ ap₂ (λ (refs word : ℕ). record now { part = seen c.args.chunk refs word now.part }) (fields n c.head_of.result c.head_of.ensures).refs c.head_of.ensures.0
