@@ -18,7 +18,7 @@ use Rattle.bump_steps.specs.Applications.{moved_entry, moved_lane, life_in}
 use Rattle.bump_heads.specs.Applying.{timed_class, shifted_class}
 use Rattle.bump_heads.specs.Linking.{with_life}
 use Rattle.bump_steps.specs.Lives.{labelled}
-use Rattle.bump_heads.specs.Seats.{listed}
+use Rattle.bump_readers.specs.Seats.{listed}
 use Rattle.bump_steps.specs.Views.{owns, standing}
 use Rattle.bump_bench.specs.Stores.{AreUnused, IsLinking}
 

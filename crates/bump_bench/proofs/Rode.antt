@@ -7,10 +7,10 @@ use Rattle.bump_steps.specs.declared.refusals.RideRefusal.{RideRefusal}
 use Rattle.bump_steps.specs.declared.refusals.RideRefusal.TheVariants as refused
 use Rattle.bump_steps.specs.declared.views.Ride.{Ride}
 use Rattle.bump_steps.specs.declared.views.WorkerPart.{WorkerPart}
-use Rattle.bump_heads.specs.declared.views.WorkerView.{WorkerView}
+use Rattle.bump_readers.specs.declared.views.WorkerView.{WorkerView}
 use Rattle.bump_steps.specs.Tries.{last_found, loads, with_more}
 use Rattle.bump_steps.specs.RideTries.{why_refused}
-use Rattle.bump_heads.specs.Riding.{Rode, part_after, ride_answer, ride_of}
+use Rattle.bump_readers.specs.Riding.{Rode, part_after, ride_answer, ride_of}
 use Rattle.bump_rules.specs.declared.hands.Hand.TheVariants.{Clearing}
 use Rattle.bump_steps.specs.declared.views.Kind.TheVariants.{Release}
 use Rattle.bump_steps.specs.Rides.{found_by, dropped_full, returned}

@@ -2,7 +2,7 @@
 use Rattle.std.proofs.Common.{refl, ℕ, ◌+◌, zero, suc, All, map}
 use Rattle.std.proofs.lemmas.List.Elements.{All-nil, All-cons}
 use Rattle.bump_steps.specs.Rule.{worker_part, worker_parts}
-use Rattle.bump_heads.specs.Making.{worker_seen}
+use Rattle.bump_readers.specs.Workers.{worker_seen}
 use Rattle.bump_bench.specs.Readers.{IsReady}
 
 -- each of them

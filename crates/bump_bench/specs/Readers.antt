@@ -4,7 +4,7 @@ use Rattle.bump_rules.specs.declared.items.ItemId.{ItemId}
 use Rattle.bump_rules.specs.declared.hands.Hand.{Hand}
 use Rattle.bump_rules.specs.declared.hands.Hand.TheVariants as hand
 use Rattle.bump_steps.specs.declared.views.HoldPart.{HoldPart}
-use Rattle.bump_heads.specs.declared.views.WorkerView.{WorkerView}
+use Rattle.bump_readers.specs.declared.views.WorkerView.{WorkerView}
 use Rattle.bump_steps.specs.References.{new_hold}
 
 -- the counts are the seat's, and it has this in its hand and this hold joined to it

@@ -3,7 +3,7 @@ ghost use Rattle.std.specs.Prelude.{◌≡◌, ◌<◌, Some};
 ghost use Rattle.bump_rules.specs.declared.hands.Hand.TheVariants.{Clearing, Trying};
 ghost use Rattle.bump_rules.specs.Rings.{most_attempts};
 ghost use Rattle.bump_steps.specs.References.{new_hold};
-ghost use Rattle.bump_heads.specs.Taking.{whole_hold};
+ghost use Rattle.bump_readers.specs.Taking.{whole_hold};
 ghost use Rattle.bump_bench.specs.Readers.{IsReady, IsTouching, IsTrying, IsDropping};
 
 use bump_heads::{Heads, Hold, Name, RideRefusal, WorkerSeat};

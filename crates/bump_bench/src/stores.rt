@@ -2,7 +2,8 @@
 ghost use Rattle.std.specs.Prelude.{◌≡◌, ◌<◌, ◌≤◌, None, IfOk, IfSome, All, [], ◌∷◌};
 ghost use Rattle.std.specs.Arc.{arc_value};
 ghost use Rattle.bump_steps.specs.Rule.{chunks as all_chunks, worker_part};
-ghost use Rattle.bump_heads.specs.Making.{class_seen, worker_seen};
+ghost use Rattle.bump_readers.specs.Workers.{worker_seen};
+ghost use Rattle.bump_heads.specs.Making.{class_seen};
 ghost use Rattle.bump_class.specs.Books.{IsNewSeat};
 ghost use Rattle.bump_bench.specs.Readers.{IsReady};
 ghost use Rattle.bump_bench.specs.Stores.{IsLinking};

@@ -10,7 +10,8 @@ use Rattle.bump_heads.specs.declared.views.ClassView.{ClassView}
 use Rattle.bump_steps.specs.declared.views.LanePart.{LanePart}
 use Rattle.bump_steps.specs.Views.{owns, standing}
 use Rattle.bump_steps.specs.Plays.{Sat, Found, Told}
-use Rattle.bump_heads.specs.Seats.{class_in, class_me, listed, first, bump_aboard, IsInRange, IsClassPart}
+use Rattle.bump_readers.specs.Seats.{listed, first}
+use Rattle.bump_heads.specs.Seats.{class_in, class_me, bump_aboard, IsInRange, IsClassPart}
 use Rattle.bump_steps.specs.Lives.{alone, on_part}
 use Rattle.bump_steps.proofs.Told.{stands_alone}
 

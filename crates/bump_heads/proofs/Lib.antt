@@ -3,6 +3,4 @@ pub mod ClassParts
 pub mod ClassLives
 pub mod ClassSeats
 pub mod Makings
-pub mod HeldHeads
 pub mod Endings
-pub mod Touches

@@ -4,21 +4,20 @@ use Rattle.atomic_table.specs.Table.{Me}
 use Rattle.bump_rules.specs.declared.bumps.Bump.{Bump}
 use Rattle.bump_steps.specs.declared.views.Empty.{Empty}
 use Rattle.bump_steps.specs.declared.views.ClassPart.{ClassPart}
-use Rattle.bump_steps.specs.declared.views.WorkerPart.{WorkerPart}
 use Rattle.bump_steps.specs.declared.views.LanePart.{LanePart}
 use Rattle.bump_heads.specs.declared.views.ClassView.{ClassView}
-use Rattle.bump_heads.specs.declared.views.WorkerView.{WorkerView}
 use Rattle.bump_steps.specs.declared.views.View.{View}
 use Rattle.bump_steps.specs.Views.{aboard_of}
 use Rattle.bump_rules.specs.declared.configs.ClassConfig.{ClassConfig}
-use Rattle.bump_steps.specs.Rule.{blank, class_parts, worker_parts, lane_parts}
-use Rattle.bump_steps.specs.Cuts.{without_class, class_only, without_worker, worker_only, without_lane, lane_only}
+use Rattle.bump_steps.specs.Rule.{blank, class_parts, lane_parts}
+use Rattle.bump_steps.specs.Cuts.{without_class, class_only, without_lane, lane_only}
 use Rattle.bump_steps.specs.Plays.{behind, first_of}
 use Rattle.atomic_table.specs.Seated.{TableId}
 use Rattle.bump_rules.specs.Configs.{chunks_of}
-use Rattle.bump_heads.specs.Seats.{class_me, class_in, worker_me, worker_in, bump_aboard, held_life, IsInRange, IsLifeInRange, IsClassPart, IsWorkerPart, head_or, no_lane}
+use Rattle.bump_readers.specs.Seats.{head_or}
+use Rattle.bump_heads.specs.Seats.{class_me, class_in, bump_aboard, IsInRange, IsClassPart, no_lane}
 use Rattle.bump_steps.specs.Riders.{lane_me}
-use Rattle.bump_heads.specs.Making.{class_seen, worker_seen, lane_seen, AreNewClasses, AreNewWorkers, AreEmpty}
+use Rattle.bump_heads.specs.Making.{class_seen, lane_seen, AreNewClasses, AreEmpty}
 
 abbrev pub Turn : TableId → Me Empty View → View → ℕ → ℕ → List ClassView → List ClassView → Me Empty View → Me Empty View → Type 0
 Turn table m v i count made all m' p = (p ≡ class_me (class_in p.0)) × IsInRange table (bump_aboard (class_in p.0).lane) × (i ≡ (class_in p.0).part.class) × IsClassPart table.words (class_in p.0).part × (m' ≡ (record v { classes = m'.0.classes }, [])) × (i + 1 + length m'.0.classes ≡ count) × AreNewClasses table.words (i + 1) m'.0.classes × ((made ++ class_in p.0 ∷ []) ++ map class_seen m'.0.classes ≡ all)
@@ -33,20 +32,6 @@ class_turn table m v i count made all m' p rest long more numbers so_far now par
     by [] rest long numbers so_far = absurd (omega (arith, more))
     by (k ∷ ks) rest long numbers so_far = subst (λ (x : Me Empty View). Turn table m v i count made all (record x.0 { classes = behind x.0.classes }, x.1) (record blank { classes = first_of x.0.classes }, [])) (sym rest)
         (refl, tt, sym numbers.0, numbers.1, refl, omega (arith, long), numbers.2, append_assoc made (class_seen k ∷ []) (map class_seen ks) ∙ so_far)
-
-abbrev pub WorkerTurn : TableId → Me Empty View → View → ℕ → ℕ → List WorkerView → List WorkerView → Me Empty View → Me Empty View → Type 0
-WorkerTurn table m v i count made all m' p = (p ≡ worker_me (worker_in p.0)) × (i ≡ (worker_in p.0).part.worker) × IsLifeInRange table (held_life (worker_in p.0).hold) × IsWorkerPart (worker_in p.0).part × (m' ≡ (record v { workers = m'.0.workers }, [])) × (i + 1 + length m'.0.workers ≡ count) × AreNewWorkers (i + 1) m'.0.workers × ((made ++ worker_in p.0 ∷ []) ++ map worker_seen m'.0.workers ≡ all)
-
--- one turn of the loop over the workers
-pub worker_turn : (table : TableId) (m : Me Empty View) (v : View) (i count : ℕ) (made all : List WorkerView) (m' p : Me Empty View) → m ≡ (record v { workers = m.0.workers }, []) → i + length m.0.workers ≡ count → i < count → AreNewWorkers i m.0.workers → made ++ map worker_seen m.0.workers ≡ all → m' ≡ (without_worker m.0, m.1) → p ≡ (worker_only m.0, [])
-    → WorkerTurn table m v i count made all m' p
-worker_turn table m v i count made all m' p rest long more numbers so_far now part =
-    subst (λ (x : Me Empty View × Me Empty View). WorkerTurn table m v i count made all x.0 x.1) (λ j. (sym now j, sym part j)) (by m.0.workers rest long numbers so_far)
-  where
-    by : (ks : List WorkerPart) → m ≡ (record v { workers = ks }, []) → i + length ks ≡ count → AreNewWorkers i ks → made ++ map worker_seen ks ≡ all → WorkerTurn table m v i count made all (record m.0 { workers = behind m.0.workers }, m.1) (record blank { workers = first_of m.0.workers }, [])
-    by [] rest long numbers so_far = absurd (omega (arith, more))
-    by (k ∷ ks) rest long numbers so_far = subst (λ (x : Me Empty View). WorkerTurn table m v i count made all (record x.0 { workers = behind x.0.workers }, x.1) (record blank { workers = first_of x.0.workers }, [])) (sym rest)
-        (refl, sym numbers.0, tt, numbers.1, refl, omega (arith, long), numbers.2, append_assoc made (worker_seen k ∷ []) (map worker_seen ks) ∙ so_far)
 
 abbrev pub LaneTurn : Me Empty View → View → ℕ → ℕ → List (Option LanePart) → List (Option LanePart) → Me Empty View → Me Empty View → Type 0
 LaneTurn m v i count made all m' p = (p ≡ lane_me (head_or no_lane p.0.lanes)) × (◌≡◌ {A = Option Bump} None (aboard_of (head_or no_lane p.0.lanes).stage)) × (m' ≡ (record v { lanes = m'.0.lanes }, [])) × (i + 1 + length m'.0.lanes ≡ count) × AreEmpty m'.0.lanes × ((made ++ lane_seen (head_or no_lane p.0.lanes) ∷ []) ++ map lane_seen m'.0.lanes ≡ all)
@@ -80,14 +65,6 @@ new_classes words f i at (k ∷ ks) all = (
   },
   new_classes words f (i + 1) (at + k.chunks) ks (omega (arith, all)),
 )
-
-pub new_workers : (w n : ℕ) → AreNewWorkers w (worker_parts w n)
-new_workers w zero = tt
-new_workers w (suc n) = (refl, record { accepted = refl; attempted = refl; most = omega arith }, new_workers (w + 1) n)
-
-pub length_workers : (w n : ℕ) → length (worker_parts w n) ≡ n
-length_workers w zero = refl
-length_workers w (suc n) = omega (arith, length_workers (w + 1) n)
 
 pub length_lanes : (w n : ℕ) → length (lane_parts w n) ≡ n
 length_lanes w zero = refl

@@ -34,7 +34,8 @@ use Rattle.bump_steps.specs.Plays.{Sat, Told, Found, on_first, step_of}
 use Rattle.bump_steps.specs.Cuts.{joined, lanes_only, without_lanes}
 use Rattle.bump_steps.specs.Applications.{applying, bump_for, tried_lane, tried_view, moved_stage, moved_lane, moved_for, moved_class, moved_view, life_in, alighted_lane, alighted_view, MayMove, MayAlight}
 use Rattle.bump_heads.specs.Applying.{life_aboard, life_of, IsOf, MayClear, MayShift, IsShown, Ends, shifted_class, Seen, NamesNoBumpTwice, TellsMoves}
-use Rattle.bump_heads.specs.Seats.{class_me, class_in, lane_in, IsLane, IsInRange, IsClassPart, bump_aboard, head_or, no_class, no_lane, listed}
+use Rattle.bump_readers.specs.Seats.{head_or, listed}
+use Rattle.bump_heads.specs.Seats.{class_me, class_in, lane_in, IsLane, IsInRange, IsClassPart, bump_aboard, no_class, no_lane}
 use Rattle.bump_steps.proofs.Applications.{tried_going, alighted_tells}
 use Rattle.bump_heads.proofs.ClassParts.{entered_part}
 use Rattle.bump_steps.proofs.Told.{stands_alone}

@@ -1,6 +1,6 @@
 -- The steps under a class's lock, as the contracts of the class's seat tell them: without a lane they are made for a link or a pull, and
 -- with a lane joined for the bump aboard it.
-use Rattle.std.specs.Prelude.{◌≡◌, ℕ, ◌+◌, ◌<◌, ◌≤◌, Bool, true, List, [], Option, Some, None, option_map}
+use Rattle.std.specs.Prelude.{◌≡◌, ℕ, ◌+◌, ◌<◌, ◌≤◌, Bool, true, Option, Some, None, option_map}
 use Rattle.bump_rules.specs.declared.items.Head.{Head}
 use Rattle.bump_rules.specs.declared.items.ItemId.{ItemId}
 use Rattle.bump_rules.specs.declared.places.Place.{Place}
@@ -22,12 +22,12 @@ use Rattle.bump_steps.specs.declared.views.Kind.{Kind}
 use Rattle.bump_steps.specs.declared.views.Kind.TheVariants as kind
 use Rattle.bump_steps.specs.declared.views.ClassPart.{ClassPart}
 use Rattle.bump_heads.specs.declared.views.ClassView.{ClassView}
-use Rattle.bump_steps.specs.declared.views.HoldPart.{HoldPart}
 use Rattle.bump_steps.specs.declared.views.LanePart.{LanePart}
 use Rattle.bump_steps.specs.Views.{owns, standing, shows_time_only}
 use Rattle.bump_steps.specs.Lives.{IsInSegment}
 use Rattle.bump_steps.specs.Applications.{is_past_move, cleared_lane, moved_lane, noted_class, moved_class}
-use Rattle.bump_heads.specs.Seats.{bump_aboard, listed}
+use Rattle.bump_readers.specs.Seats.{listed}
+use Rattle.bump_heads.specs.Seats.{bump_aboard}
 
 -- ---- the bump aboard
 
@@ -126,7 +126,3 @@ NamesNoBumpTwice k = (w n : ℕ) → how_many (is_move_for (λ l. true) w n) k.h
 -- same life and outcome Moved, or as the move in progress
 abbrev pub TellsMoves : ClassPart → LanePart → Type 0
 TellsMoves k l = (test : ItemId → Bool) (n : ℕ) → how_many (is_move_for test l.worker n) k.history ≤ moves_told test n l.applied l.stage
-
-abbrev pub labels_in : Option HoldPart → List ℕ
-labels_in None = []
-labels_in (Some h) = h.labels

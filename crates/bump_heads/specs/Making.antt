@@ -2,12 +2,10 @@
 use Rattle.std.specs.Prelude.{◌≡◌, ℕ, ◌+◌, List, [], ◌∷◌, Option, None, Some}
 use Rattle.atomic_table.specs.Seated.{TableId}
 use Rattle.bump_rules.specs.declared.configs.Config.{Config}
-use Rattle.bump_steps.specs.declared.views.WorkerPart.{WorkerPart}
 use Rattle.bump_steps.specs.declared.views.ClassPart.{ClassPart}
 use Rattle.bump_steps.specs.declared.views.LanePart.{LanePart}
 use Rattle.bump_heads.specs.declared.views.ClassView.{ClassView}
-use Rattle.bump_heads.specs.declared.views.WorkerView.{WorkerView}
-use Rattle.bump_heads.specs.Seats.{IsClassPart, IsWorkerPart}
+use Rattle.bump_heads.specs.Seats.{IsClassPart}
 
 -- what contracts see of the words of a store without a name: its configuration, and which table they are
 pub record BlankView : Type 0 where
@@ -18,9 +16,6 @@ pub record BlankView : Type 0 where
 abbrev pub class_seen : ClassPart → ClassView
 class_seen k = record { part = k; lane = None }
 
-abbrev pub worker_seen : WorkerPart → WorkerView
-worker_seen w = record { part = w; hold = None }
-
 abbrev pub lane_seen : LanePart → Option LanePart
 lane_seen l = Some l
 
@@ -28,11 +23,6 @@ lane_seen l = Some l
 abbrev pub AreNewClasses : ℕ → ℕ → List ClassPart → Type 0
 AreNewClasses words c [] = Unit {0}
 AreNewClasses words c (k ∷ ks) = (k.class ≡ c) × IsClassPart words k × AreNewClasses words (c + 1) ks
-
--- new workers, numbered from n on
-abbrev pub AreNewWorkers : ℕ → List WorkerPart → Type 0
-AreNewWorkers n [] = Unit {0}
-AreNewWorkers n (w ∷ ws) = (w.worker ≡ n) × IsWorkerPart w × AreNewWorkers (n + 1) ws
 
 -- lanes with nothing aboard
 abbrev pub AreEmpty : List LanePart → Type 0

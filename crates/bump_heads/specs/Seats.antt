@@ -1,41 +1,25 @@
--- What contracts see of seats.
-use Rattle.std.specs.Prelude.{◌≡◌, ℕ, ◌+◌, ◌*◌, ◌<◌, ◌≤◌, true, List, [], ◌∷◌, Option, Some, None}
+-- What contracts see of the seats of classes and lanes.
+use Rattle.std.specs.Prelude.{◌≡◌, ℕ, ◌+◌, ◌*◌, ◌<◌, ◌≤◌, true, [], ◌∷◌, Option, Some, None}
 use Rattle.atomic_table.specs.Table.{Me}
 use Rattle.atomic_table.specs.Seated.{TableId}
 use Rattle.atomic_table.specs.declared.shared.Seat.{Seat}
-use Rattle.bump_rules.specs.declared.items.ItemId.{ItemId}
 use Rattle.bump_rules.specs.declared.bumps.Bump.{Bump}
 use Rattle.bump_rules.specs.Lawful.{IsUsed}
 use Rattle.bump_rules.specs.Lives.{life}
 use Rattle.bump_rules.specs.Totals.{how_many}
 use Rattle.bump_rules.specs.Entries.{is_stray}
-use Rattle.bump_rules.specs.Rings.{IsAccounts}
 use Rattle.bump_rules.specs.History.{AreBetween}
 use Rattle.bump_rules.specs.Labels.{label_of_life}
 use Rattle.bump_steps.specs.Views.{label_of}
 use Rattle.bump_steps.specs.Riders.{lane_me}
 use Rattle.bump_steps.specs.declared.views.Empty.{Empty}
-use Rattle.bump_steps.specs.declared.views.WorkerPart.{WorkerPart}
-use Rattle.bump_steps.specs.declared.views.HoldPart.{HoldPart}
 use Rattle.bump_steps.specs.declared.views.ClassPart.{ClassPart}
 use Rattle.bump_steps.specs.declared.views.LanePart.{LanePart}
 use Rattle.bump_heads.specs.declared.views.ClassView.{ClassView}
-use Rattle.bump_heads.specs.declared.views.WorkerView.{WorkerView}
 use Rattle.bump_steps.specs.declared.views.View.{View}
 use Rattle.bump_steps.specs.Views.{aboard_of, owns, standing}
-use Rattle.bump_steps.specs.Rule.{blank, worker_part, lane_part}
-
-abbrev pub head_or : {A : Type 0} → A → List A → A
-head_or d [] = d
-head_or d (x ∷ xs) = x
-
-abbrev pub first : {A : Type 0} → List A → Option A
-first [] = None
-first (x ∷ xs) = Some x
-
-abbrev pub listed : {A : Type 0} → Option A → List A
-listed None = []
-listed (Some x) = x ∷ []
+use Rattle.bump_steps.specs.Rule.{blank, lane_part}
+use Rattle.bump_readers.specs.Seats.{head_or, first, listed}
 
 -- parts of seats that have none
 abbrev pub no_lane : LanePart
@@ -43,9 +27,6 @@ no_lane = lane_part 0
 
 abbrev pub no_class : ClassPart
 no_class = record { class = 0; first = 0; count = 0; fresh = 0; history = []; labels = []; steps = [] }
-
-abbrev pub no_worker : WorkerPart
-no_worker = worker_part 0
 
 -- ---- lanes
 
@@ -72,46 +53,6 @@ class_in v = record { part = head_or no_class v.classes; lane = first v.lanes }
 
 abbrev pub class_me : ClassView → Me Empty View
 class_me v = (record blank { classes = v.part ∷ []; lanes = listed v.lane }, [])
-
--- ---- holds
-
-abbrev pub hold_me : Option HoldPart → Me Empty View
-hold_me h = (record blank { holds = listed h }, [])
-
--- the view that a hold keeps: none while it is hollow
-abbrev pub hold_views : Option HoldPart → List View
-hold_views None = []
-hold_views (Some h) = record blank { holds = h ∷ [] } ∷ []
-
-abbrev pub hold_in_views : List View → Option HoldPart
-hold_in_views [] = None
-hold_in_views (v ∷ vs) = first v.holds
-
--- the part, where it isn't with a worker or a class, is of the life
-abbrev pub IsHoldOf : ItemId → Option HoldPart → Type 0
-IsHoldOf l None = Unit {0}
-IsHoldOf l (Some h) = h.life ≡ l
-
--- ---- workers
-
-abbrev pub worker_in : View → WorkerView
-worker_in v = record { part = head_or no_worker v.workers; hold = first v.holds }
-
-abbrev pub worker_me : WorkerView → Me Empty View
-worker_me v = (record blank { workers = v.part ∷ []; holds = listed v.hold }, [])
-
--- the life of a hold, if there is one
-abbrev pub held_life : Option HoldPart → Option ItemId
-held_life None = None
-held_life (Some h) = Some h.life
-
-abbrev pub IsLifeInRange : TableId → Option ItemId → Type 0
-IsLifeInRange table None = Unit {0}
-IsLifeInRange table (Some l) = 3 * l.chunk + 11 < table.words
-
--- What each worker's part keeps: accepted and dropped bumps, and the attempt under way, add up to those attempted.
-abbrev pub IsWorkerPart : WorkerPart → Type 0
-IsWorkerPart w = IsAccounts w.accounts w.accounts.accepted w.hand
 
 -- What each class's part keeps.
 pub record IsClassPart (words : ℕ) (k : ClassPart) : Type 0 where

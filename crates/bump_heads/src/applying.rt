@@ -11,8 +11,8 @@ ghost use Rattle.bump_steps.specs.Applications.{alighted_lane, tried_lane};
 ghost use Rattle.bump_heads.specs.Seats.{bump_aboard};
 ghost use Rattle.bump_heads.specs.Applying.{carried_by, life_aboard, MayClear, MayPutTime, MayShift, IsShown, Ends, cleared_class, timed_class, shifted_class, Seen, NamesNoBumpTwice, TellsMoves};
 
-use crate::names::Name;
 use crate::seats::{ClassSeat, LaneSeat};
+use bump_readers::Name;
 use bump_rules::{Head, Outcome, Segment};
 use bump_steps::head_of;
 
@@ -39,8 +39,11 @@ impl<N: Name> ClassSeat<N> {
             unreachable!()
         };
         lane.aboard = None;
-        self.heads.words.join(&mut self.seat, seat);
-        let word = self.heads.words.try_front(&mut self.seat, bump.life.chunk);
+        self.heads.words().join(&mut self.seat, seat);
+        let word = self
+            .heads
+            .words()
+            .try_front(&mut self.seat, bump.life.chunk);
         head_of(word)
     }
 
@@ -56,7 +59,7 @@ impl<N: Name> ClassSeat<N> {
         ensures life { IfSome (bump_aboard self.old.lane) (λ b. b.life.generation ≡ result.generation) }
         ensures fits { Fits result }
     {
-        let word = self.heads.words.clear_for(&mut self.seat, chunk);
+        let word = self.heads.words().clear_for(&mut self.seat, chunk);
         head_of(word)
     }
 
@@ -68,7 +71,7 @@ impl<N: Name> ClassSeat<N> {
         requires may { MayPutTime chunk (standing self.old.part chunk).0 self.old.lane }
         ensures timed { self.new ≡ timed_class chunk now self.old }
     {
-        self.heads.words.time_for(&mut self.seat, chunk, now);
+        self.heads.words().time_for(&mut self.seat, chunk, now);
     }
 
     /// Moves the chunk, which is the class's, from the segment in whose list it stands to another one, or to the front of its own, by
@@ -86,7 +89,7 @@ impl<N: Name> ClassSeat<N> {
     {
         let word = self
             .heads
-            .words
+            .words()
             .change_segment(&mut self.seat, chunk, from, to);
         head_of(word)
     }
@@ -109,8 +112,8 @@ impl<N: Name> ClassSeat<N> {
         ensures once { NamesNoBumpTwice self.new.part }
         ensures moves { IfSome lane.new (TellsMoves self.new.part) }
     {
-        let word = self.heads.words.alight(&mut self.seat, chunk, outcome);
-        let part = self.heads.words.part_lanes(&mut self.seat);
+        let word = self.heads.words().alight(&mut self.seat, chunk, outcome);
+        let part = self.heads.words().part_lanes(&mut self.seat);
         lane.seat = Some(part);
         head_of(word)
     }

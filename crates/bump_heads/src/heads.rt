@@ -1,43 +1,45 @@
-//! The head words of a named store.
-ghost use Rattle.std.specs.Prelude.{◌≡◌, ◌*◌, ◌<◌};
+//! The heads of a named store.
+ghost use Rattle.std.specs.Prelude.{◌≡◌, ◌<◌};
 ghost use Rattle.bump_rules.specs.declared.configs.Config.{Config as TheConfig};
-ghost use Rattle.bump_steps.specs.Rule.{chunks as all_chunks};
 ghost use Rattle.bump_steps.specs.Words.{words_id};
 
-use crate::names::Name;
+use bump_readers::{Name, ReaderHeads};
 use bump_steps::Words;
-use std::marker::{Model, PhantomData};
+use std::marker::Model;
+use std::ops::Deref;
 
-/// The words of all chunks of a store: head, time and label. All threads share them, and seats alone change them.
+/// The words of all chunks of a store: head, time and label. All threads share them, and seats alone change them. What readers do with
+/// them are the calls of `ReaderHeads`, to which it derefs.
 #[derive(Drop)]
 pub struct Heads<N: Name> {
-    pub(crate) words: Words,
-    // A limit has 16 bits, as the counts in the words have.
-    pub(crate) limit: u16,
-    pub(crate) chunks: u32,
-    pub(crate) of: PhantomData<N>,
+    pub(crate) readers: ReaderHeads<N>,
 }
 
 impl<N: Name> Model for Heads<N> {
     ghost Value = { TheConfig };
 
-    ghost view = { λ h. h.words.table.shared.key };
+    ghost view = { λ h. h.readers };
+}
 
-    ghost invariant = { λ h. (words_id h.words ≡ N.table) × (0 < N.table.words) × (h.limit ≡ h.words.table.shared.key.refs_limit) × (h.chunks ≡ all_chunks h.words.table.shared.key) };
+impl<N: Name> Deref for Heads<N> {
+    type Target = ReaderHeads<N>;
+
+    ghost deref_gives = { λ h r. r ≡ h };
+
+    fn deref(&self) -> &ReaderHeads<N>
+        ensures { result.now ≡ self.now }
+    {
+        &self.readers
+    }
 }
 
 impl<N: Name> Heads<N> {
-    /// The number of chunks of all classes.
-    pub fn chunks(&self) -> u32
-        ensures { result ≡ all_chunks self.now }
+    // The words, on which the seats of classes and lanes make their steps.
+    pub(crate) fn words(&self) -> &Words
+        ensures name { words_id result.now ≡ N.table }
+        ensures config { result.now.table.shared.key ≡ self.now }
+        ensures some { 0 < N.table.words }
     {
-        self.chunks
-    }
-
-    /// The greatest reference count that a chunk may have.
-    pub fn refs_limit(&self) -> u32
-        ensures { result ≡ self.now.refs_limit }
-    {
-        u32::from(self.limit)
+        self.readers.words()
     }
 }

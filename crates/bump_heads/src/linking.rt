@@ -8,8 +8,8 @@ ghost use Rattle.bump_steps.specs.Views.{owns, label_of};
 ghost use Rattle.bump_steps.specs.Lives.{labelled, IsInSegment};
 ghost use Rattle.bump_heads.specs.Linking.{place_of_chunk, generation_of_chunk, with_look, with_life, without_life, with_sight};
 
-use crate::names::Name;
 use crate::seats::ClassSeat;
+use bump_readers::Name;
 use bump_rules::{Head, ItemId};
 use bump_steps::head_of;
 
@@ -23,14 +23,14 @@ impl<N: Name> ClassSeat<N> {
         ensures generation { result.generation ≡ generation_of_chunk self.old.part chunk }
         ensures marks { bit result.active ≤ bit result.fetched }
     {
-        head_of(self.heads.words.class_look(&mut self.seat, chunk))
+        head_of(self.heads.words().class_look(&mut self.seat, chunk))
     }
 
     /// The time of a chunk of the class, by one load. Nothing is promised of it, and the load is no step of the class's list.
     pub fn see_time(&self, chunk: u32) -> u64
         requires own { owns chunk self.now.part ≡ true }
     {
-        self.heads.words.see_time(chunk)
+        self.heads.words().see_time(chunk)
     }
 
     /// Stores the label of a chunk, by one store: a number that says what the chunk's next life is, and that each reader who holds
@@ -42,7 +42,7 @@ impl<N: Name> ClassSeat<N> {
         requires unused { place_of_chunk self.old.part chunk ≡ Unused }
         ensures labelled { self.new ≡ record self.old { part = labelled chunk label self.old.part } }
     {
-        self.heads.words.put_label(&mut self.seat, chunk, label);
+        self.heads.words().put_label(&mut self.seat, chunk, label);
     }
 
     /// Begins the next life of a chunk, in HOT, by one store of its head: linked, with the one reference of the link, and without
@@ -56,9 +56,9 @@ impl<N: Name> ClassSeat<N> {
         ensures begun { self.new ≡ record self.old { part = with_life result self.old.part } }
         ensures label { label_of_life result 0 self.new.part.labels ≡ Some (label_of self.old.part chunk) }
     {
-        let found = head_of(self.heads.words.peek(&mut self.seat, chunk));
+        let found = head_of(self.heads.words().peek(&mut self.seat, chunk));
         let generation = found.generation + 1;
-        self.heads.words.begin(&mut self.seat, chunk, generation);
+        self.heads.words().begin(&mut self.seat, chunk, generation);
         ItemId { chunk, generation }
     }
 
@@ -75,7 +75,7 @@ impl<N: Name> ClassSeat<N> {
         ensures counted { 0 < result.refs }
         ensures marks { bit result.active ≤ bit result.fetched }
     {
-        head_of(self.heads.words.sever(&mut self.seat, chunk))
+        head_of(self.heads.words().sever(&mut self.seat, chunk))
     }
 
     /// Looks whether a DYING chunk is still held, by one load. Where the head has no reference the chunk is free: it goes to UNUSED, or
@@ -89,6 +89,6 @@ impl<N: Name> ClassSeat<N> {
         ensures unlinked { result.linked ≡ false }
         ensures generation { result.generation ≡ generation_of_chunk self.old.part chunk }
     {
-        head_of(self.heads.words.sweep(&mut self.seat, chunk))
+        head_of(self.heads.words().sweep(&mut self.seat, chunk))
     }
 }

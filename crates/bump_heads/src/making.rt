@@ -1,13 +1,14 @@
 //! A table whose chunks had no life yet, and the seats of its classes, workers and lanes.
 ghost use Rattle.std.specs.Prelude.{◌≡◌, ◌≤◌, ◌<◌, ◌-◌, ◌*◌, ◌+◌, [], ◌∷◌, IfOk, None, Some, length, map};
 ghost use Rattle.std.specs.Arc.{arc_value};
-ghost use Rattle.bump_steps.specs.Rule.{opened, chunks as all_chunks, class_parts, worker_parts, lane_parts, blank};
+ghost use Rattle.bump_steps.specs.Rule.{opened, class_parts, worker_parts, lane_parts, blank};
 ghost use Rattle.bump_steps.specs.Words.{words_id};
-ghost use Rattle.bump_heads.specs.Making.{BlankView as TheBlankView, class_seen, lane_seen, worker_seen, AreNewClasses, AreNewWorkers, AreEmpty};
+ghost use Rattle.bump_readers.specs.Workers.{worker_seen};
+ghost use Rattle.bump_heads.specs.Making.{BlankView as TheBlankView, class_seen, lane_seen, AreNewClasses, AreEmpty};
 
 use crate::heads::Heads;
-use crate::names::Name;
-use crate::seats::{ClassSeat, LaneSeat, WorkerSeat};
+use crate::seats::{ClassSeat, LaneSeat};
+use bump_readers::{Name, ReaderHeads, WorkerSeat};
 use bump_rules::Config;
 use bump_steps::{Seat, Words};
 use std::alloc::{AllocError, Global};
@@ -18,7 +19,6 @@ use std::sync::Arc;
 #[derive(Drop)]
 pub struct Blank {
     words: Words,
-    chunks: u32,
     seat: Seat,
 }
 
@@ -27,7 +27,7 @@ impl Model for Blank {
 
     ghost view = { λ b. record { config = b.words.table.shared.key; table = words_id b.words } };
 
-    ghost invariant = { λ b. (b.chunks ≡ all_chunks b.words.table.shared.key) × (b.seat.table_id ≡ words_id b.words) × (b.seat.me ≡ (opened b.words.table.shared.key, [])) × (0 < (words_id b.words).words) };
+    ghost invariant = { λ b. (b.seat.table_id ≡ words_id b.words) × (b.seat.me ≡ (opened b.words.table.shared.key, [])) × (0 < (words_id b.words).words) };
 }
 
 /// What a store's heads are made of: the heads, and a seat for each class, worker and lane, by number.
@@ -45,11 +45,7 @@ impl Blank {
         ensures config { IfOk result (λ b. b.config ≡ config.now) }
     {
         let (words, seat) = Words::fresh(alloc, config)?;
-        Ok(Blank {
-            words,
-            chunks: config.chunks(),
-            seat,
-        })
+        Ok(Blank { words, seat })
     }
 }
 
@@ -66,34 +62,11 @@ fn part_classes<N: Name>(
 {
     let mut seats = Vec::with_capacity(alloc, count as usize)?;
     for class in 0..count {
-        let part = heads.words.part_class(seat);
+        let part = heads.words().part_class(seat);
         seats.push(ClassSeat {
             seat: part,
             class,
             heads: Arc::try_clone(heads)?,
-            of: PhantomData,
-        })?;
-    }
-    Ok(seats)
-}
-
-fn part_workers<N: Name>(
-    alloc: Global,
-    heads: &Arc<Heads<N>, Global>,
-    seat: &mut Seat,
-    count: u32,
-) -> Result<Vec<WorkerSeat<N>>, AllocError>
-    requires seat { (seat.old.table_id ≡ N.table) × (seat.old.me.1 ≡ []) }
-    requires parts { (length seat.old.me.0.workers ≡ count) × AreNewWorkers 0 seat.old.me.0.workers }
-    ensures rest { IfOk result (λ v. (seat.new.table_id ≡ N.table) × (seat.new.me ≡ (record seat.old.me.0 { workers = [] }, []))) }
-    ensures seats { IfOk result (λ v. v.items ≡ map worker_seen seat.old.me.0.workers) }
-{
-    let mut seats = Vec::with_capacity(alloc, count as usize)?;
-    for worker in 0..count {
-        let part = heads.words.part_worker(seat);
-        seats.push(WorkerSeat {
-            seat: part,
-            worker,
             of: PhantomData,
         })?;
     }
@@ -113,7 +86,7 @@ fn part_lanes<N: Name>(
 {
     let mut seats = Vec::with_capacity(alloc, count as usize)?;
     for worker in 0..count {
-        let part = heads.words.part_lane(seat);
+        let part = heads.words().part_lane(seat);
         seats.push(LaneSeat {
             seat: Some(part),
             aboard: None,
@@ -134,23 +107,12 @@ impl<N: Name> Heads<N> {
         ensures workers { IfOk result (λ p. p.workers.items ≡ map worker_seen (worker_parts 0 config.now.workers)) }
         ensures lanes { IfOk result (λ p. p.lanes.items ≡ map lane_seen (lane_parts 0 config.now.workers)) }
     {
-        let Blank {
-            words,
-            chunks,
-            mut seat,
-        } = blank;
-        let heads = Arc::new(
-            alloc,
-            Heads {
-                words,
-                limit: config.refs_limit as u16,
-                chunks,
-                of: PhantomData,
-            },
-        )?;
+        let Blank { words, mut seat } = blank;
+        let readers = ReaderHeads::new(words, config);
+        let heads = Arc::new(alloc, Heads { readers })?;
         let count = config.classes.as_slice().len() as u32;
         let classes = part_classes(alloc, &heads, &mut seat, count)?;
-        let workers = part_workers(alloc, &heads, &mut seat, config.workers)?;
+        let workers = heads.part_workers(alloc, &mut seat, config.workers)?;
         let lanes = part_lanes(alloc, &heads, &mut seat, config.workers)?;
         Ok(HeadParts {
             heads,

@@ -4,11 +4,10 @@ ghost use Rattle.bump_rules.specs.Labels.{label_of_life};
 ghost use Rattle.bump_rules.specs.Lawful.{IsUsed};
 ghost use Rattle.bump_rules.specs.Totals.{total};
 ghost use Rattle.bump_steps.specs.Views.{owns, standing, label_of, differs};
-ghost use Rattle.bump_heads.specs.Applying.{labels_in};
+ghost use Rattle.bump_readers.specs.Seats.{labels_in};
 
-use crate::holds::Hold;
-use crate::names::Name;
 use crate::seats::ClassSeat;
+use bump_readers::{Hold, Name};
 
 impl<N: Name> ClassSeat<N> {
     /// Shows a hold and its class each other: joins the hold's part to the class's seat, loads the label word, and splits the hold off
@@ -24,9 +23,9 @@ impl<N: Name> ClassSeat<N> {
         ensures read { total (differs result) (labels_in hold.old.part) ≡ 0 }
         ensures in_use { IsUsed (standing self.old.part hold.old.life.chunk).0 × ((standing self.old.part hold.old.life.chunk).1 ≡ hold.old.life.generation) }
     {
-        self.heads.words.join(&mut self.seat, hold.seat_out());
-        let label = self.heads.words.meet(&mut self.seat, hold.life.chunk);
-        hold.seat_in(self.heads.words.part_holds(&mut self.seat));
+        self.heads.words().join(&mut self.seat, hold.seat_out());
+        let label = self.heads.words().meet(&mut self.seat, hold.life().chunk);
+        hold.seat_in(self.heads.words().part_holds(&mut self.seat));
         label
     }
 }

@@ -1,42 +1,16 @@
-//! The seats of workers, classes and lanes of a named store. Contracts see plain data.
+//! The seats of classes and lanes of a named store. Contracts see plain data.
 ghost use Rattle.std.specs.Prelude.{◌≡◌, ◌*◌, ◌<◌, ◌+◌, [], ◌∷◌, None, Option as TheOption, is_some};
 ghost use Rattle.bump_heads.specs.declared.views.ClassView.{ClassView as TheClassView};
 ghost use Rattle.bump_steps.specs.declared.views.LanePart.{LanePart as TheLanePart};
-ghost use Rattle.bump_heads.specs.declared.views.WorkerView.{WorkerView as TheWorkerView};
-ghost use Rattle.bump_heads.specs.Seats.{IsLane, lane_in, class_in, class_me, worker_in, worker_me, bump_aboard, held_life, IsInRange, IsLifeInRange, IsWorkerPart, IsClassPart};
+ghost use Rattle.bump_heads.specs.Seats.{IsLane, lane_in, class_in, class_me, bump_aboard, IsInRange, IsClassPart};
 
 use crate::heads::Heads;
-use crate::names::Name;
+use bump_readers::Name;
 use bump_rules::Bump;
 use bump_steps::Seat;
 use std::alloc::Global;
 use std::marker::{Model, PhantomData};
 use std::sync::Arc;
-
-/// A worker's seat: its part, and that of the hold that is joined to it for a touch.
-#[derive(Drop)]
-pub struct WorkerSeat<N: Name> {
-    pub(crate) seat: Seat,
-    pub(crate) worker: u32,
-    pub(crate) of: PhantomData<N>,
-}
-
-impl<N: Name> Model for WorkerSeat<N> {
-    ghost Value = { TheWorkerView };
-
-    ghost view = { λ w. worker_in w.seat.me.0 };
-
-    ghost invariant = { λ w. (w.seat.me ≡ worker_me (worker_in w.seat.me.0)) × (w.seat.table_id ≡ N.table) × (w.worker ≡ (worker_in w.seat.me.0).part.worker) × IsLifeInRange N.table (held_life (worker_in w.seat.me.0).hold) × IsWorkerPart (worker_in w.seat.me.0).part };
-}
-
-impl<N: Name> WorkerSeat<N> {
-    /// The worker's number, from 0.
-    pub fn worker(&self) -> u32
-        ensures { result ≡ self.now.part.worker }
-    {
-        self.worker
-    }
-}
 
 /// A class's seat: its part, and that of the lane that is joined to it for an application.
 #[derive(Drop)]

@@ -1,6 +1,6 @@
 //! 10,000 commands that a Book and a World get, with the same answers, lists, heads and times after each.
 ghost use Rattle.std.specs.Prelude.{◌≡◌, ◌≤◌, IfSome, [], ◌∷◌};
-ghost use Rattle.bump_heads.specs.Making.{worker_seen};
+ghost use Rattle.bump_readers.specs.Workers.{worker_seen};
 ghost use Rattle.bump_steps.specs.Rule.{worker_part};
 
 mod readers;

@@ -7,7 +7,7 @@ ghost use Rattle.bump_rules.specs.Lives.{life as life_of};
 ghost use Rattle.bump_heads.specs.Applying.{IsOf, carried_by};
 ghost use Rattle.bump_heads.specs.Linking.{place_of_chunk};
 ghost use Rattle.bump_steps.specs.Rule.{chunks as all_chunks};
-ghost use Rattle.bump_heads.specs.Taking.{whole_hold};
+ghost use Rattle.bump_readers.specs.Taking.{whole_hold};
 ghost use Rattle.bump_steps.specs.Views.{owns, standing};
 
 use super::bumps::{begin_in_cold, send_off};

@@ -5,7 +5,7 @@ ghost use Rattle.bump_rules.specs.declared.places.Place.TheVariants as place;
 ghost use Rattle.bump_rules.specs.Lives.{life as life_of};
 ghost use Rattle.bump_steps.specs.References.{new_hold};
 ghost use Rattle.bump_steps.specs.Rule.{chunks as all_chunks, no_accounts};
-ghost use Rattle.bump_heads.specs.Taking.{whole_hold};
+ghost use Rattle.bump_readers.specs.Taking.{whole_hold};
 ghost use Rattle.bump_steps.specs.Views.{owns, standing};
 
 use super::stores::{Small, config_of, head, let_out, open};

@@ -1,9 +1,9 @@
 //! A life of a chunk, from its label to its end, with what a reader sees of it.
 ghost use Rattle.std.specs.Prelude.{◌≡◌, ◌<◌, None, [], ◌∷◌};
 ghost use Rattle.bump_rules.specs.declared.hands.Hand.TheVariants.{Idle};
-ghost use Rattle.bump_heads.specs.Making.{worker_seen};
+ghost use Rattle.bump_readers.specs.Workers.{worker_seen};
 ghost use Rattle.bump_steps.specs.Rule.{no_accounts, worker_part, chunks as all_chunks};
-ghost use Rattle.bump_heads.specs.Taking.{whole_hold};
+ghost use Rattle.bump_readers.specs.Taking.{whole_hold};
 
 use super::stores::{Small, config_of, head, let_out, life_of, open, refusal};
 use super::*;

@@ -4,8 +4,9 @@ ghost use Rattle.std.specs.Arc.{arc_value};
 ghost use Rattle.bump_rules.specs.declared.hands.Hand.TheVariants.{Idle};
 ghost use Rattle.bump_steps.specs.References.{new_hold};
 ghost use Rattle.bump_steps.specs.Rule.{chunks as all_chunks, worker_part, lane_part};
-ghost use Rattle.bump_heads.specs.Making.{class_seen, lane_seen, worker_seen};
-ghost use Rattle.bump_heads.specs.Taking.{whole_hold};
+ghost use Rattle.bump_readers.specs.Workers.{worker_seen};
+ghost use Rattle.bump_heads.specs.Making.{class_seen, lane_seen};
+ghost use Rattle.bump_readers.specs.Taking.{whole_hold};
 
 use super::*;
 use bump_rules::{ClassConfig, Config, Head, ItemId, Segment};

@@ -5,7 +5,7 @@ ghost use Rattle.bump_rules.specs.Rings.{most_attempts};
 ghost use Rattle.bump_rules.specs.Tables.{is_cold};
 ghost use Rattle.bump_steps.specs.References.{new_hold};
 ghost use Rattle.bump_steps.specs.Rule.{chunks as all_chunks, no_accounts};
-ghost use Rattle.bump_heads.specs.Taking.{whole_hold};
+ghost use Rattle.bump_readers.specs.Taking.{whole_hold};
 
 use super::keeping::{keep, label_of};
 use super::stores::let_out;

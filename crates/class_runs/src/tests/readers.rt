@@ -1,7 +1,7 @@
 //! A reader: a hit of an item that is not in COLD, and a hold that is kept for a while.
 ghost use Rattle.std.specs.Prelude.{◌≡◌, None, Some, IfSome};
 ghost use Rattle.bump_rules.specs.declared.hands.Hand.TheVariants.{Idle};
-ghost use Rattle.bump_heads.specs.Taking.{whole_hold};
+ghost use Rattle.bump_readers.specs.Taking.{whole_hold};
 ghost use Rattle.bump_steps.specs.References.{new_hold};
 ghost use Rattle.bump_steps.specs.Rule.{no_accounts};
 

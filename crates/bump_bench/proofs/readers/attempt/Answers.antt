@@ -2,7 +2,7 @@
 use Rattle.std.proofs.Common.{◌≡◌, OnErr, Some, ap, sym, ◌∙◌, refl, subst}
 use Rattle.bump_rules.specs.declared.hands.Hand.TheVariants.{Clearing}
 use Rattle.bump_steps.specs.References.{new_hold}
-use Rattle.bump_heads.specs.declared.views.WorkerView.{WorkerView}
+use Rattle.bump_readers.specs.declared.views.WorkerView.{WorkerView}
 use Rattle.bump_bench.specs.Readers.{Stands}
 use Rattle.bump_bench.proofs.Rode.{dropped_stands, back_stands}
 use Rattle.bump_bench.proofs.readers.attempt.Goals as goal

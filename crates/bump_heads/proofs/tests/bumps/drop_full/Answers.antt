@@ -1,6 +1,6 @@
 use Rattle.std.proofs.Common.{sym, ap, ◌∙◌}
-use Rattle.bump_heads.specs.declared.views.HoldView.{HoldView}
-use Rattle.bump_heads.specs.declared.views.WorkerView.{WorkerView}
+use Rattle.bump_readers.specs.declared.views.HoldView.{HoldView}
+use Rattle.bump_readers.specs.declared.views.WorkerView.{WorkerView}
 use Rattle.bump_steps.specs.References.{new_hold}
 use Rattle.bump_heads.proofs.tests.bumps.drop_full.Goals as goal
 

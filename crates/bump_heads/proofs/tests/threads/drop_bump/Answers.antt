@@ -1,5 +1,5 @@
 use Rattle.std.proofs.Common.{refl, ap, ◌∙◌}
-use Rattle.bump_heads.specs.declared.views.WorkerView.{WorkerView}
+use Rattle.bump_readers.specs.declared.views.WorkerView.{WorkerView}
 use Rattle.bump_steps.specs.References.{new_hold}
 use Rattle.bump_heads.proofs.tests.threads.drop_bump.Goals as goal
 

@@ -1,5 +1,0 @@
-use Rattle.std.proofs.Common.{rules}
-use Rattle.bump_heads.proofs.heads.Heads.hold_in.Goals as goal
-
-pub returns-clause-worker : goal.returns-clause-worker
-returns-clause-worker g c = search rules

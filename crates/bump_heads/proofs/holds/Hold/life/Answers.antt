@@ -1,6 +1,0 @@
-use Rattle.std.proofs.Common.{ap}
-use Rattle.bump_heads.specs.declared.views.HoldView.{HoldView}
-use Rattle.bump_heads.proofs.holds.Hold.life.Goals as goal
-
-pub returns : goal.returns
-returns g c = ap (λ (v : HoldView). v.life) c.self.view_is

@@ -1,0 +1,3 @@
+pub mod WorkerTurns
+pub mod HeldHeads
+pub mod Touches

@@ -1,0 +1,6 @@
+pub mod Naming
+pub mod Seats
+pub mod Workers
+pub mod Taking
+pub mod Riding
+pub mod Touching

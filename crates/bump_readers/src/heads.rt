@@ -1,0 +1,68 @@
+//! The words of a named store, as readers use them.
+ghost use Rattle.std.specs.Prelude.{◌≡◌, ◌*◌, ◌<◌};
+ghost use Rattle.bump_rules.specs.declared.configs.Config.{Config as TheConfig};
+ghost use Rattle.bump_steps.specs.Rule.{chunks as all_chunks};
+ghost use Rattle.bump_steps.specs.Words.{words_id};
+
+use crate::names::Name;
+use bump_rules::Config;
+use bump_steps::Words;
+use std::marker::{Model, PhantomData};
+
+/// The words of all chunks of a store: head, time and label. All threads share them, and seats alone change them.
+#[derive(Drop)]
+pub struct ReaderHeads<N: Name> {
+    pub(crate) words: Words,
+    // A limit has 16 bits, as the counts in the words have.
+    pub(crate) limit: u16,
+    chunks: u32,
+    of: PhantomData<N>,
+}
+
+impl<N: Name> Model for ReaderHeads<N> {
+    ghost Value = { TheConfig };
+
+    ghost view = { λ h. h.words.table.shared.key };
+
+    ghost invariant = { λ h. (words_id h.words ≡ N.table) × (0 < N.table.words) × (h.limit ≡ h.words.table.shared.key.refs_limit) × (h.chunks ≡ all_chunks h.words.table.shared.key) };
+}
+
+impl<N: Name> ReaderHeads<N> {
+    /// Words under the name that their table has, of a store with this configuration.
+    pub fn new(words: Words, config: &Config) -> ReaderHeads<N>
+        requires name { words_id words ≡ N.table }
+        requires config { words.table.shared.key ≡ config.now }
+        requires some { 0 < N.table.words }
+        ensures { result ≡ config.now }
+    {
+        ReaderHeads {
+            words,
+            limit: config.refs_limit as u16,
+            chunks: config.chunks(),
+            of: PhantomData,
+        }
+    }
+
+    /// The words without their name, on which the seats of classes and lanes make their steps.
+    pub fn words(&self) -> &Words
+        ensures name { words_id result.now ≡ N.table }
+        ensures config { result.now.table.shared.key ≡ self.now }
+        ensures some { 0 < N.table.words }
+    {
+        &self.words
+    }
+
+    /// The number of chunks of all classes.
+    pub fn chunks(&self) -> u32
+        ensures { result ≡ all_chunks self.now }
+    {
+        self.chunks
+    }
+
+    /// The greatest reference count that a chunk may have.
+    pub fn refs_limit(&self) -> u32
+        ensures { result ≡ self.now.refs_limit }
+    {
+        u32::from(self.limit)
+    }
+}

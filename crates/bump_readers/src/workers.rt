@@ -1,0 +1,63 @@
+//! Workers' seats. Contracts see plain data.
+ghost use Rattle.std.specs.Prelude.{◌≡◌, ◌<◌, [], IfOk, length, map};
+ghost use Rattle.bump_readers.specs.declared.views.WorkerView.{WorkerView as TheWorkerView};
+ghost use Rattle.bump_readers.specs.Seats.{worker_in, worker_me, held_life, IsLifeInRange, IsWorkerPart};
+ghost use Rattle.bump_readers.specs.Workers.{worker_seen, AreNewWorkers};
+
+use crate::heads::ReaderHeads;
+use crate::names::Name;
+use bump_steps::Seat;
+use std::alloc::{AllocError, Global};
+use std::marker::{Model, PhantomData};
+
+/// A worker's seat: its part, and that of the hold that is joined to it for a touch.
+#[derive(Drop)]
+pub struct WorkerSeat<N: Name> {
+    pub(crate) seat: Seat,
+    pub(crate) worker: u32,
+    of: PhantomData<N>,
+}
+
+impl<N: Name> Model for WorkerSeat<N> {
+    ghost Value = { TheWorkerView };
+
+    ghost view = { λ w. worker_in w.seat.me.0 };
+
+    ghost invariant = { λ w. (w.seat.me ≡ worker_me (worker_in w.seat.me.0)) × (w.seat.table_id ≡ N.table) × (w.worker ≡ (worker_in w.seat.me.0).part.worker) × IsLifeInRange N.table (held_life (worker_in w.seat.me.0).hold) × IsWorkerPart (worker_in w.seat.me.0).part };
+}
+
+impl<N: Name> WorkerSeat<N> {
+    /// The worker's number, from 0.
+    pub fn worker(&self) -> u32
+        ensures { result ≡ self.now.part.worker }
+    {
+        self.worker
+    }
+}
+
+impl<N: Name> ReaderHeads<N> {
+    /// Cuts the parts of all workers off a seat of the store's table, which has so many new ones: a seat for each, by number. Nothing else
+    /// of the seat changes. It is refused only for want of memory, and parts that were cut off by then are gone.
+    pub fn part_workers(
+        &self,
+        alloc: Global,
+        seat: &mut Seat,
+        count: u32,
+    ) -> Result<Vec<WorkerSeat<N>>, AllocError>
+        requires seat { (seat.old.table_id ≡ N.table) × (seat.old.me.1 ≡ []) }
+        requires parts { (length seat.old.me.0.workers ≡ count) × AreNewWorkers 0 seat.old.me.0.workers }
+        ensures rest { IfOk result (λ v. (seat.new.table_id ≡ N.table) × (seat.new.me ≡ (record seat.old.me.0 { workers = [] }, []))) }
+        ensures seats { IfOk result (λ v. v.items ≡ map worker_seen seat.old.me.0.workers) }
+    {
+        let mut seats = Vec::with_capacity(alloc, count as usize)?;
+        for worker in 0..count {
+            let part = self.words.part_worker(seat);
+            seats.push(WorkerSeat {
+                seat: part,
+                worker,
+                of: PhantomData,
+            })?;
+        }
+        Ok(seats)
+    }
+}
