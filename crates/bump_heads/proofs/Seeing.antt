@@ -22,7 +22,6 @@ use Rattle.bump_rules.specs.Lanes.{tried, applied_now, cleared_active, applied_b
 use Rattle.bump_rules.specs.Lawful.{Shows, IsUsed, bit}
 use Rattle.bump_rules.proofs.Laws.{used_in_segment}
 use Rattle.bump_word.specs.Words.{Spells, word_of}
-use Rattle.bump_word.proofs.Words.{one_head}
 use Rattle.bump_steps.specs.declared.views.Empty.{Empty}
 use Rattle.bump_steps.specs.declared.views.Kind.TheVariants as kind
 use Rattle.bump_steps.specs.declared.views.ClassPart.{ClassPart}
@@ -38,31 +37,20 @@ use Rattle.bump_readers.specs.Seats.{head_or, listed}
 use Rattle.bump_heads.specs.Seats.{class_me, class_in, lane_in, IsLane, IsInRange, IsClassPart, bump_aboard, no_class, no_lane}
 use Rattle.bump_steps.proofs.Applications.{tried_going, alighted_tells}
 use Rattle.bump_heads.proofs.ClassParts.{entered_part}
+use Rattle.bump_heads.proofs.ClassSeats.{class_in_me, found_is}
 use Rattle.bump_steps.proofs.Told.{stands_alone}
 use Rattle.bump_steps.proofs.StepLemmas.{one_life}
 
--- what holds of the head found holds of the one that the word spells
-pub of_head : (n : ℕ) (h : Head) (P : Head → Type 0) → Spells n h → Found n P → P h
-of_head n h P spells (g, spells_g, p) = subst P (one_head n g h spells_g spells) p
-
 -- ---- a class's seat as it is seen
-
--- a class's view is what its seat is made of
-in_me : (v : ClassView) → class_in (class_me v).0 ≡ v
-in_me v = by v.lane
-  where
-    by : (o : Option LanePart) → class_in (class_me (record { part = v.part; lane = o })).0 ≡ record { part = v.part; lane = o }
-    by None = refl
-    by (Some l) = refl
 
 -- what a seat's invariant says of the view that it is made of
 pub seen_whole : (words : ℕ) (table : TableId) (number : ℕ) (m : Sat) (v : ClassView) → m ≡ class_me v → IsInRange table (bump_aboard v.lane) → number ≡ v.part.class → IsClassPart words v.part
     → (m ≡ class_me (class_in m.0)) × IsInRange table (bump_aboard (class_in m.0).lane) × (number ≡ (class_in m.0).part.class) × IsClassPart words (class_in m.0).part
-seen_whole words table number m v is near class part = subst (λ (x : ClassView). (m ≡ class_me x) × IsInRange table (bump_aboard x.lane) × (number ≡ x.part.class) × IsClassPart words x.part) (sym (ap (λ (x : Sat). class_in x.0) is ∙ in_me v)) (is, near, class, part)
+seen_whole words table number m v is near class part = subst (λ (x : ClassView). (m ≡ class_me x) × IsInRange table (bump_aboard x.lane) × (number ≡ x.part.class) × IsClassPart words x.part) (sym (ap (λ (x : Sat). class_in x.0) is ∙ class_in_me v)) (is, near, class, part)
 
 -- and the view is the one that is seen
 pub seen_as : (m : Sat) (v : ClassView) → m ≡ class_me v → class_in m.0 ≡ v
-seen_as m v is = ap (λ (x : Sat). class_in x.0) is ∙ in_me v
+seen_as m v is = ap (λ (x : Sat). class_in x.0) is ∙ class_in_me v
 
 -- the seat of a class whose lane, if one is joined, changes
 lane_changed : (k : ClassPart) (o : Option LanePart) (f : LanePart → LanePart) → ◌≡◌ {A = Sat} (record (class_me (record { part = k; lane = o })).0 { lanes = on_first f (listed o) }, []) (class_me (record { part = k; lane = option_map f o }))
@@ -76,7 +64,7 @@ module _ (m p : Sat) (v w : ClassView) (is : m ≡ class_me v) (same : v ≡ w) 
 
   -- what was told of it
   pub told_as : (h : Head) → Spells n h → Found n (Told c m.0) → Told c (class_me w).0 h
-  told_as h spells found = subst (λ (x : Sat). Told c x.0 h) whole_as (of_head n h (Told c m.0) spells found)
+  told_as h spells found = subst (λ (x : Sat). Told c x.0 h) whole_as (found_is n (Told c m.0) h spells found)
 
   -- after a move
   pub shifted_me : (from to : Segment) (h : Head) → Spells n h → p ≡ (moved_view from to c n m.0, m.1) → p ≡ class_me (shifted_class c from to h w)
@@ -253,7 +241,7 @@ module _ (m : Sat) (v w : ClassView) (o : Option (Seat Empty View)) (s : Seat Em
 
     -- what was told there
     told_here : Found n (Told b.life.chunk q.0) → Told b.life.chunk (class_me (record w { lane = lane })).0 h
-    told_here found = subst (λ (x : Sat). Told b.life.chunk x.0 h) (joins ∙ joined_me) (of_head n h (Told b.life.chunk q.0) spells found)
+    told_here found = subst (λ (x : Sat). Told b.life.chunk x.0 h) (joins ∙ joined_me) (found_is n (Told b.life.chunk q.0) h spells found)
 
     pub tried_seen : Found n (Told b.life.chunk q.0) → Seen w.part (life_aboard lane) h
     tried_seen found = seen_class (record w { lane = lane }) b h (sym (ap bump_aboard lane_is) ∙ aboard) (told_here found)
@@ -288,7 +276,7 @@ module _ (m : Sat) (v w : ClassView) (is : m ≡ class_me v) (same : v ≡ w) (c
 
   module _ (n : ℕ) (h : Head) (spells : Spells n h) where
     told_there : Found n (Told c m.0) → Told c (applying w.part l) h
-    told_there found = subst (λ (x : Sat). Told c x.0 h) view_is (of_head n h (Told c m.0) spells found)
+    told_there found = subst (λ (x : Sat). Told c x.0 h) view_is (found_is n (Told c m.0) h spells found)
 
     pub alighted_seen : Found n (Told c m.0) → Seen w.part (life_aboard w.lane) h
     alighted_seen found = seen_class w b h aboard_is (subst (λ (x : ℕ × Option LanePart). Told x.0 (class_me (record w { lane = x.1 })).0 h) (λ i. (sym ends.chunk i, sym ends.joined i)) (told_there found))
