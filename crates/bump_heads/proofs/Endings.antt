@@ -19,7 +19,8 @@ use Rattle.bump_rules.specs.Lives.{is_same}
 use Rattle.bump_rules.proofs.Laws.{dying_where_unlinked, placed_where_linked}
 use Rattle.bump_rules.proofs.Unlinks.{unlinked_where_dying}
 use Rattle.bump_rules.proofs.Updates.{total_push}
-use Rattle.bump_word.specs.Words.{Fits, word_of, segment_bits}
+use Rattle.bump_word.specs.Layout.{linked_first, active_first}
+use Rattle.bump_word.specs.Words.{Fits, number_of, word_of, segment_bits}
 use Rattle.bump_word.proofs.Words.{fields, number_one}
 use Rattle.bump_steps.specs.declared.views.Kind.TheVariants as kind
 use Rattle.bump_steps.specs.declared.views.ClassPart.{ClassPart}
@@ -52,11 +53,11 @@ linked_in Cold = tt
 -- the word of a linked head that isn't in COLD
 elsewhere : (h : Head) → Fits h → h.linked ≡ true → h.segment ≢ Cold → linked_elsewhere (word_of h) ≡ true
 elsewhere h fits on other = let f = fields (word_of h) h (refl, fits) in
-    ap₂ (λ (a b : Bool). a && not b) (eq-eqb (word_of h / 2 ^ 16 % 2) 1 (omega (arith, f.linked, ap bit on))) (ne_eqb (segment_bits (word_of h)) 2 (λ e. other (number_one h.segment Cold (sym f.segment ∙ e))))
+    ap₂ (λ (a b : Bool). a && not b) (eq-eqb (word_of h / 2 ^ linked_first % 2) 1 (omega (arith, f.linked, ap bit on))) (ne_eqb (segment_bits (word_of h)) (number_of Cold) (λ e. other (number_one h.segment Cold (sym f.segment ∙ e))))
 
 -- the word of a head without ACTIVE
 clear_word : (h : Head) → Fits h → h.active ≡ false → active_clear (word_of h) ≡ true
-clear_word h fits off = eq-eqb (word_of h / 2 ^ 18 % 2) 0 (omega (arith, (fields (word_of h) h (refl, fits)).active, ap bit off))
+clear_word h fits off = eq-eqb (word_of h / 2 ^ active_first % 2) 0 (omega (arith, (fields (word_of h) h (refl, fits)).active, ap bit off))
 
 -- a step that was made for the bump, on its chunk
 made_for : (w n c d : ℕ) → c ≡ d → (is_for w n (Some (w, n)) && (c == d)) ≡ true

@@ -7,14 +7,15 @@ ghost use Rattle.bump_steps.specs.Words.{words_id};
 use crate::names::Name;
 use bump_rules::Config;
 use bump_steps::Words;
+use bump_word::Count;
 use std::marker::{Model, PhantomData};
 
 /// The words of all chunks of a store: head, time and label. All threads share them, and seats alone change them.
 #[derive(Drop)]
 pub struct ReaderHeads<N: Name> {
     pub(crate) words: Words,
-    // A limit has 16 bits, as the counts in the words have.
-    pub(crate) limit: u16,
+    // A limit is of the type of the counts in the words.
+    pub(crate) limit: Count,
     chunks: u32,
     of: PhantomData<N>,
 }
@@ -37,7 +38,7 @@ impl<N: Name> ReaderHeads<N> {
     {
         ReaderHeads {
             words,
-            limit: config.refs_limit as u16,
+            limit: config.refs_limit as Count,
             chunks: config.chunks(),
             of: PhantomData,
         }

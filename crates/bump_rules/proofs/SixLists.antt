@@ -1,11 +1,11 @@
 -- The six lists of a class and their places: which list is at a place, and what a move to the front does to each.
-use Rattle.std.proofs.Common.{◌≡◌, ℕ, ◌≢◌, cond, eqb, Bool, true, false, ◌∷◌, refl, sym, ap, ◌∙◌, arith, eq-eqb, ne_eqb}
+use Rattle.std.proofs.Common.{◌≡◌, ℕ, ◌≢◌, cond, eqb, Bool, true, false, List, ◌∷◌, refl, sym, ap, ◌∙◌, arith, eq-eqb, ne_eqb}
 use native.Mathlib.Decide.{ℕ_discrete}
 use Rattle.bump_rules.specs.declared.places.Place.{Place}
 use Rattle.bump_rules.specs.declared.places.Place.TheVariants.{Hot, Warm, Cold, Dying, Unused, Retired}
 use Rattle.bump_rules.specs.History.{is_place}
 use Rattle.bump_rules.specs.Lawful.{bit}
-use Rattle.bump_rules.specs.Lists.{Lists, list_at, all_without, to_front, IsListed}
+use Rattle.bump_rules.specs.Lists.{Lists, list_at, lists_by, all_without, to_front, IsListed}
 use Rattle.bump_links.specs.Lists.{times, without}
 use Rattle.bump_links.proofs.ListsLemmas.{times-without_same, times-without_other}
 use Rattle.bump_rules.proofs.Standings.{place_same}
@@ -15,55 +15,26 @@ use Rattle.bump_rules.proofs.PlainLists.{times_same, times_other}
 
 -- lists that agree at each place are the same
 pub same_lists : (l m : Lists) → ((q : Place) → list_at l q ≡ list_at m q) → l ≡ m
-same_lists l m e = λ i. record { hot = e Hot i; warm = e Warm i; cold = e Cold i; dying = e Dying i; unused = e Unused i; retired = e Retired i }
+same_lists l m e = λ i. lists_by (λ q. e q i)
+
+-- the list at a place of lists that are given by place
+pub list_at_by : (f : Place → List ℕ) (q : Place) → list_at (lists_by f) q ≡ f q
+list_at_by f Hot = refl
+list_at_by f Warm = refl
+list_at_by f Cold = refl
+list_at_by f Dying = refl
+list_at_by f Unused = refl
+list_at_by f Retired = refl
 
 -- each list without the chunk
 pub list_at_without : (c : ℕ) (q : Place) (l : Lists) → list_at (all_without c l) q ≡ without c (list_at l q)
-list_at_without c Hot l = refl
-list_at_without c Warm l = refl
-list_at_without c Cold l = refl
-list_at_without c Dying l = refl
-list_at_without c Unused l = refl
-list_at_without c Retired l = refl
+list_at_without c q l = list_at_by (λ p. without c (list_at l p)) q
 
 -- the list at a place after a move to the front
 pub list_at_front : (c : ℕ) (p q : Place) (l : Lists) → list_at (to_front c p l) q ≡ cond (is_place p q) (c ∷ without c (list_at l q)) (without c (list_at l q))
-list_at_front c Hot Hot l = refl
-list_at_front c Hot Warm l = refl
-list_at_front c Hot Cold l = refl
-list_at_front c Hot Dying l = refl
-list_at_front c Hot Unused l = refl
-list_at_front c Hot Retired l = refl
-list_at_front c Warm Hot l = refl
-list_at_front c Warm Warm l = refl
-list_at_front c Warm Cold l = refl
-list_at_front c Warm Dying l = refl
-list_at_front c Warm Unused l = refl
-list_at_front c Warm Retired l = refl
-list_at_front c Cold Hot l = refl
-list_at_front c Cold Warm l = refl
-list_at_front c Cold Cold l = refl
-list_at_front c Cold Dying l = refl
-list_at_front c Cold Unused l = refl
-list_at_front c Cold Retired l = refl
-list_at_front c Dying Hot l = refl
-list_at_front c Dying Warm l = refl
-list_at_front c Dying Cold l = refl
-list_at_front c Dying Dying l = refl
-list_at_front c Dying Unused l = refl
-list_at_front c Dying Retired l = refl
-list_at_front c Unused Hot l = refl
-list_at_front c Unused Warm l = refl
-list_at_front c Unused Cold l = refl
-list_at_front c Unused Dying l = refl
-list_at_front c Unused Unused l = refl
-list_at_front c Unused Retired l = refl
-list_at_front c Retired Hot l = refl
-list_at_front c Retired Warm l = refl
-list_at_front c Retired Cold l = refl
-list_at_front c Retired Dying l = refl
-list_at_front c Retired Unused l = refl
-list_at_front c Retired Retired l = refl
+list_at_front c p q l =
+    list_at_by (λ r. cond (is_place p r) (c ∷ list_at (all_without c l) r) (list_at (all_without c l) r)) q
+    ∙ ap (λ xs. cond (is_place p q) (c ∷ xs) xs) (list_at_without c q l)
 
 -- how often a chunk is in a list after a move of some chunk to the front
 pub times_front : (c d : ℕ) (p q : Place) (l : Lists) → times c (list_at (to_front d p l) q) ≡ cond (eqb d c) (bit (is_place p q)) (times c (list_at l q))

@@ -1,14 +1,16 @@
 -- Equality tests of places and of standings.
-use Rattle.std.proofs.Common.{◌≡◌, ℕ, ◌+◌, ◌≢◌, ◌&&◌, cond, eqb, true, false, refl, sym, ap, ap₂, ◌∙◌, eq-eqb, ne_eqb, eqb-true}
+use Rattle.std.proofs.Common.{◌≡◌, ℕ, ◌+◌, ◌≢◌, ◌&&◌, get_or, eqb, true, false, refl, sym, ap, ap₂, ◌∙◌, eq-eqb, ne_eqb, eqb-true}
 use Rattle.std.proofs.lemmas.Bool.{and_parts}
 use Rattle.bump_rules.specs.declared.places.Place.{Place}
 use Rattle.bump_rules.specs.declared.places.Place.TheVariants.{Hot, Warm, Cold, Dying, Unused, Retired}
 use Rattle.bump_rules.specs.History.{place_number, is_place, Standing, is_standing}
 use Rattle.bump_rules.specs.Lawful.{bit}
+use Rattle.bump_rules.specs.Places.{all_places}
+use Rattle.bump_rules.specs.Totals.{total}
 
 -- the place of a number
 abbrev place_numbered : ℕ → Place
-place_numbered n = cond (eqb n 0) Hot (cond (eqb n 1) Warm (cond (eqb n 2) Cold (cond (eqb n 3) Dying (cond (eqb n 4) Unused Retired))))
+place_numbered n = get_or all_places n Retired
 
 -- a place has its number
 numbered_number : (p : Place) → place_numbered (place_number p) ≡ p
@@ -31,14 +33,18 @@ place_same p q e = eq-eqb (place_number p) (place_number q) (ap place_number e)
 pub other_place : (p q : Place) → p ≢ q → is_place p q ≡ false
 other_place p q ne = ne_eqb (place_number p) (place_number q) (λ e. ne (sym (numbered_number p) ∙ (ap place_numbered e ∙ numbered_number q)))
 
--- a place is one of the six
-pub one_place : (p : Place) → bit (is_place p Hot) + bit (is_place p Warm) + bit (is_place p Cold) + bit (is_place p Dying) + bit (is_place p Unused) + bit (is_place p Retired) ≡ 1
+-- a place is one of all
+pub one_place : (p : Place) → total (λ q. bit (is_place p q)) all_places ≡ 1
 one_place Hot = refl
 one_place Warm = refl
 one_place Cold = refl
 one_place Dying = refl
 one_place Unused = refl
 one_place Retired = refl
+
+-- what counts 1 at one place and 0 elsewhere counts 1 at all places together
+pub once_in_places : (p : Place) (f : Place → ℕ) → ((q : Place) → f q ≡ bit (is_place p q)) → total f all_places ≡ 1
+once_in_places p f e = ap (λ (g : Place → ℕ). total g all_places) (λ i q. e q i) ∙ one_place p
 
 -- standings that test as one are one
 pub same_standing : (a b : Standing) → is_standing a b ≡ true → a ≡ b

@@ -3,9 +3,8 @@ use Rattle.std.specs.Prelude.{◌≡◌, ℕ, ◌+◌, ◌-◌, ◌<◌, ◌≤�
 use Rattle.bump_links.specs.Lists.{first_of, HoldsEachOnce}
 use Rattle.bump_links.specs.Lists as links
 use Rattle.bump_rules.specs.declared.places.Place.{Place}
-use Rattle.bump_rules.specs.declared.places.Place.TheVariants.{Hot, Warm, Cold, Dying, Unused, Retired}
-use Rattle.bump_rules.specs.History.{place_number}
-use Rattle.bump_rules.specs.Lists.{Lists}
+use Rattle.bump_rules.specs.Places.{place_number, place_count}
+use Rattle.bump_rules.specs.Lists.{Lists, lists_by}
 
 -- nodes as chunks, where node 0 is the chunk `first`
 abbrev pub chunks_from : ℕ → List ℕ → List ℕ
@@ -17,18 +16,11 @@ listed_from first s p = chunks_from first (links.list_at s (place_number p))
 
 -- the six lists, each by the number of its place
 abbrev pub lists_from : ℕ → links.Lists → Lists
-lists_from first s = record {
-  hot = listed_from first s Hot;
-  warm = listed_from first s Warm;
-  cold = listed_from first s Cold;
-  dying = listed_from first s Dying;
-  unused = listed_from first s Unused;
-  retired = listed_from first s Retired;
-}
+lists_from first s = lists_by (listed_from first s)
 
 -- there are six lists, each node stands in one of them, once, and the number behind the last chunk fits 32 bits too
 pub record AreSixLists (first : ℕ) (s : links.Lists) : Type 0 where
-  pub six : length s.lists ≡ 6
+  pub six : length s.lists ≡ place_count
   pub each_once : HoldsEachOnce s
   pub numbered : first + s.nodes < 2 ^ 32
 

@@ -18,11 +18,15 @@ chunks_of classes = total (λ k. k.chunks) classes
 abbrev pub have_wrong_chunks : List ClassConfig → Bool
 have_wrong_chunks classes = list_any (λ k. k.chunks == 0) classes || nat_lt 1000000 (chunks_of classes)
 
+-- the greatest limit of references: the greatest reference count of a head word
+abbrev pub most_refs : ℕ
+most_refs = 65535
+
 -- whether a configuration has this fault
 abbrev pub has_fault : ℕ → ℕ → ℕ → ℕ → List ClassConfig → ConfigFault → Bool
 has_fault workers capacity limit generation classes Workers = not (is_within 1 64 workers)
 has_fault workers capacity limit generation classes Capacity = not (is_within 1 65536 capacity)
-has_fault workers capacity limit generation classes RefsLimit = not (is_within 2 65535 limit)
+has_fault workers capacity limit generation classes RefsLimit = not (is_within 2 most_refs limit)
 has_fault workers capacity limit generation classes Generation = generation == 0
 has_fault workers capacity limit generation classes Classes = not (is_within 1 16 (length classes))
 has_fault workers capacity limit generation classes Chunks = have_wrong_chunks classes
@@ -44,7 +48,7 @@ pub record Bounds (workers capacity limit generation : ℕ) (classes : List Clas
   pub capacity_least : 1 ≤ capacity
   pub capacity_most : capacity ≤ 65536
   pub limit_least : 2 ≤ limit
-  pub limit_most : limit ≤ 65535
+  pub limit_most : limit ≤ most_refs
   pub generation_least : 1 ≤ generation
   pub classes_least : 1 ≤ length classes
   pub classes_most : length classes ≤ 16

@@ -8,12 +8,7 @@ use Rattle.bump_rules.specs.declared.items.ItemId.{ItemId}
 use Rattle.bump_rules.specs.declared.history.Change.{Change}
 use Rattle.bump_rules.specs.declared.history.Change.TheVariants as change
 use Rattle.bump_rules.specs.Lists.{Lists, to_front, opening, IsListed}
-
--- the list of a segment
-abbrev pub place_of : Segment → Place
-place_of segment.Hot = Hot
-place_of segment.Warm = Warm
-place_of segment.Cold = Cold
+pub use Rattle.bump_rules.specs.Places.{place_of, place_number, is_place}
 
 -- the life that an entry speaks of
 abbrev pub subject : Change → ItemId
@@ -34,19 +29,6 @@ target (change.Retired life) = Retired
 -- the entry of a chunk that is found without holders: it is UNUSED again, or RETIRED after the last generation
 abbrev pub freed_change : ItemId → Change
 freed_change l = if l.generation == 4294967295 then change.Retired l else change.Swept l
-
--- the places, told apart by a number each
-abbrev pub place_number : Place → ℕ
-place_number Hot = 0
-place_number Warm = 1
-place_number Cold = 2
-place_number Dying = 3
-place_number Unused = 4
-place_number Retired = 5
-
--- whether two places are one
-abbrev pub is_place : Place → Place → Bool
-is_place p q = place_number p == place_number q
 
 -- where a chunk stands: its place, and its generation
 abbrev pub Standing : Type 0

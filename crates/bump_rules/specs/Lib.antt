@@ -9,6 +9,7 @@ pub mod Lanes
 pub mod Lawful
 pub mod Lists
 pub mod Lives
+pub mod Places
 pub mod Rings
 pub mod Sweeps
 pub mod Tables

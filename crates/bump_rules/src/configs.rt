@@ -9,6 +9,9 @@ use thiserror::Error;
 /// The greatest number of chunks of all classes together.
 pub const MAX_CHUNKS: u32 = 1_000_000;
 
+/// The greatest limit of a reference count: as much as the count of a head word holds.
+pub const MAX_REFS: u32 = 65_535;
+
 /// What a class is made from.
 #[derive(Clone, Copy, Debug, PartialEq, Eq)]
 pub struct ClassConfig {
@@ -142,7 +145,7 @@ impl Config {
             ConfigFault::Workers
         } else if capacity < 1 || capacity > 65_536 {
             ConfigFault::Capacity
-        } else if refs_limit < 2 || refs_limit > 65_535 {
+        } else if refs_limit < 2 || refs_limit > MAX_REFS {
             ConfigFault::RefsLimit
         } else if first_generation == 0 {
             ConfigFault::Generation

@@ -18,7 +18,7 @@ mod tables;
 pub use bumps::{Accounts, Applied, AppliedBump, Bump, Ended, Entry, MOST_ATTEMPTS, Outcome};
 pub use class_lists::{ClassLists, ListedChunks};
 pub use commands::{Answer, Command, Dropped, Pulled, Touch};
-pub use configs::{ClassConfig, Classes, Config, ConfigFault, MAX_CHUNKS};
+pub use configs::{ClassConfig, Classes, Config, ConfigFault, MAX_CHUNKS, MAX_REFS};
 pub use events::{Event, Refused, Reply};
 pub use hands::Hand;
 pub use history::{Cause, Change};

@@ -1,6 +1,6 @@
 //! Segments of the recency list, and the lists of a class.
 ghost use Rattle.std.specs.Prelude.{◌≡◌, ◌<◌};
-ghost use Rattle.bump_rules.specs.History.{place_of, place_number};
+ghost use Rattle.bump_rules.specs.Places.{place_of, place_number, place_count};
 
 /// A segment of a class's recency list: memcached's HOT, WARM and COLD.
 #[derive(Clone, Copy, Debug, PartialEq, Eq)]
@@ -70,7 +70,7 @@ impl Place {
     /// The number of its list among the six of a class.
     pub fn number(self) -> u32
         ensures number { result ≡ place_number self }
-        ensures one_of_six { result < 6 }
+        ensures one_of_six { result < place_count }
     {
         match self {
             Place::Hot => 0,

@@ -19,6 +19,7 @@ use Rattle.bump_rules.specs.Lawful.{bit, Shows, Lawful}
 use Rattle.bump_rules.specs.Totals.{total}
 use Rattle.bump_rules.specs.History.{Standing, is_standing}
 use Rattle.bump_rules.proofs.Laws.{unreferred, marked, moved, in_segment}
+use Rattle.bump_word.specs.Layout.{active_first}
 use Rattle.bump_word.specs.Words.{Spells, segment_change}
 use Rattle.bump_word.proofs.Steps.{one_less, clear_active, change_segment}
 use Rattle.bump_steps.specs.declared.views.Empty.{Empty}
@@ -28,7 +29,7 @@ use Rattle.bump_steps.specs.declared.views.ClassPart.{ClassPart}
 use Rattle.bump_steps.specs.declared.views.LanePart.{LanePart}
 use Rattle.bump_steps.specs.declared.views.View.{View}
 use Rattle.bump_steps.specs.Views.{refers, aboard_of, Measure, held, named, saw, owners, strays, mislabels, misreads, owns, standing, label_of, weight, evidence, shown_by, claims, claimed_in, settled_in, is_entry, outcome_number, Query, in_order, untidy_in, shows_time_only, active_clear, IsBacked}
-use Rattle.bump_steps.specs.Rule.{Sound, chunks, Kept}
+use Rattle.bump_steps.specs.Rule.{Sound, chunks, Kept, HasFittingLimit}
 use Rattle.bump_steps.specs.Plays.{Sat, Tells, on_chunk, step_of, Stands}
 use Rattle.bump_steps.specs.Applications.{for_bump, for_first, tried_stage, tried_lane, tried_view, tried, cleared_stage, cleared_view, cleared, noted_class, timed_view, timed, moved_on, alighted_view, alighted, entry_of}
 use Rattle.bump_steps.specs.Applications.{applying, pulling, StandsIn, life_in, cleared_lane, MayMove, is_past_move, Alights, MayAlight}
@@ -167,10 +168,10 @@ module _ (key : Config) (slots id : ℕ) (m : Sat) (c : ℕ) (near : c < chunks 
     (refl, (o.head, o.spells, tells c key.refs_limit n x m.0 t o a)),
   ))
 
-  pub clears : Allows (Kept key) slots id m (3 * c + 9) (λ n. bit_and n (2 ^ 64 - 1 - 2 ^ 18)) (on_chunk cleared (step slots (3 * c + 9) (2 ^ 64 - 1 - 2 ^ 18) 0 none) m)
-  clears = at_chunk cleared key slots id m c (2 ^ 64 - 1 - 2 ^ 18) (λ n. bit_and n (2 ^ 64 - 1 - 2 ^ 18)) near (λ n x t limits o a. (
+  pub clears : Allows (Kept key) slots id m (3 * c + 9) (λ n. bit_and n (2 ^ 64 - 1 - 2 ^ active_first)) (on_chunk cleared (step slots (3 * c + 9) (2 ^ 64 - 1 - 2 ^ active_first) 0 none) m)
+  clears = at_chunk cleared key slots id m c (2 ^ 64 - 1 - 2 ^ active_first) (λ n. bit_and n (2 ^ 64 - 1 - 2 ^ active_first)) near (λ n x t limits o a. (
     cleared_view c n m.0,
-    (λ u moves. same_sound key.refs_limit (bit_and n (2 ^ 64 - 1 - 2 ^ 18)) x t u (same_counts c m.0 (cleared_view c n m.0) t u (cleared_same c n m.0 c) moves) (record {
+    (λ u moves. same_sound key.refs_limit (bit_and n (2 ^ 64 - 1 - 2 ^ active_first)) x t u (same_counts c m.0 (cleared_view c n m.0) t u (cleared_same c n m.0 c) moves) (record {
       head = record o.head { active = false };
       at = o.at;
       spells = clear_active n o.head o.spells tt;
@@ -273,7 +274,7 @@ module _ (c : ℕ) (k : ClassPart) (own : owns c k ≡ true) (l : ItemId) (of : 
     module _ (key : Config) (slots id : ℕ) (near : c < chunks key) (sl : List (ℕ × Empty)) where
       -- the seat of the class can go on so, where the move is of the life that the chunk has, and evens out
       shift_goes : (tells : Tells) (x : ℕ) (at : Standing) → standing k c ≡ at → at.0 ≡ place_of from → ((n y : ℕ) (t : Measure → ℕ) (o : Sound key.refs_limit n y t) → Amid c stood t → o.head.generation ≡ at.1 → l.generation ≡ at.1) → IsBacked stood went
-          → (n y : ℕ) (t : Measure → ℕ) → (0 < key.refs_limit) × (key.refs_limit < 65536) → (o : Sound key.refs_limit n y t) → Amid c stood t → tells c x (stood, sl) n (went, sl)
+          → (n y : ℕ) (t : Measure → ℕ) → HasFittingLimit key → (o : Sound key.refs_limit n y t) → Amid c stood t → tells c x (stood, sl) n (went, sl)
           → Reaches key c (stood, sl) (tells c x (stood, sl) n) (bit_xor n (segment_change from to)) y t
       shift_goes say x at st place same_life back n y t limits o a told =
           let stands : Stands c stood at = subst (Stands c stood) st (stands_alone c stood k refl own) in

@@ -28,7 +28,7 @@ use Rattle.bump_rules.proofs.Replay.{standing_push}
 use Rattle.bump_rules.proofs.Standings.{standing_same}
 use Rattle.bump_rules.proofs.ToldMoves.{no_move}
 use Rattle.bump_rules.proofs.Updates.{total_push}
-use Rattle.bump_word.specs.Layout.{refs_width, generation_first}
+use Rattle.bump_word.specs.Layout.{refs_width, linked_first, generation_first}
 use Rattle.bump_word.specs.Words.{Spells, word_of}
 use Rattle.bump_word.proofs.Steps.{unlink}
 use Rattle.bump_word.proofs.Words.{fields}
@@ -169,8 +169,8 @@ module _ (key : Config) (slots id c : ℕ) (near : c < chunks key) (sl : List (�
       )))
 
   -- LINKED and its reference are subtracted
-  pub severs : IsInSegment (standing k c).0 → Allows (Kept key) slots id (alone k, sl) (3 * c + 9) (λ n. (n + (2 ^ 64 - 65537)) % 2 ^ 64) (on_chunk severing (step slots (3 * c + 9) 65537 0 none) (alone k, sl))
-  severs in_it = at_chunk severing key slots id (alone k, sl) c 65537 (λ n. (n + (2 ^ 64 - 65537)) % 2 ^ 64) near (λ n label t limits o a.
+  pub severs : IsInSegment (standing k c).0 → Allows (Kept key) slots id (alone k, sl) (3 * c + 9) (λ n. (n + (2 ^ 64 - (2 ^ linked_first + 1))) % 2 ^ 64) (on_chunk severing (step slots (3 * c + 9) (2 ^ linked_first + 1) 0 none) (alone k, sl))
+  severs in_it = at_chunk severing key slots id (alone k, sl) c (2 ^ linked_first + 1) (λ n. (n + (2 ^ 64 - (2 ^ linked_first + 1))) % 2 ^ 64) near (λ n label t limits o a.
       let at = at_standing c key.refs_limit n label (alone k) t o a (standing k c) (stands_alone c (alone k) k refl own) in
       let gen : o.head.generation ≡ (standing k c).1 = ap (λ (s : Standing). s.1) at in
       let on : o.head.linked ≡ true = linked_in_segment o.head (standing k c).0 (subst (Shows o.head) (ap (λ (s : Standing). s.0) at) o.lawful.shown) in_it in
@@ -178,7 +178,7 @@ module _ (key : Config) (slots id c : ℕ) (near : c < chunks key) (sl : List (�
       let e : Change = change.Unlinked (life c (standing k c).1) in
       let x : OwnStep = step_of kind.Unlink c n None in (
         on_part (lives.severed c n) (alone k),
-        (λ u moves. enter_sound c k own e k.labels x refl refl (λ b. refl) key.refs_limit n ((n + (2 ^ 64 - 65537)) % 2 ^ 64) label t u a moves o (severed_head o.head) (unlink n o.head o.spells (on, omega (arith, many, ap bit on))) gen o.read
+        (λ u moves. enter_sound c k own e k.labels x refl refl (λ b. refl) key.refs_limit n ((n + (2 ^ 64 - (2 ^ linked_first + 1))) % 2 ^ 64) label t u a moves o (severed_head o.head) (unlink n o.head o.spells (on, omega (arith, many, ap bit on))) gen o.read
             (severed key.refs_limit o.head o.at (λ g. t (held g)) (λ g. t (named g)) o.lawful on)),
         enter_apart c k own e k.labels x refl refl (λ b. refl),
         enter_backed c k own e k.labels x refl refl (λ b. refl),
@@ -223,9 +223,9 @@ may_begin key slots id c g m near may new is = let k : ClassPart = may.0 in let 
     (begins key slots id c near m.1 k o.own new o.at (is ∙ ap (λ (j : ℕ). word_of (newborn j)) may.2))
 
 -- a linked chunk may be unlinked
-pub may_sever : (key : Config) (slots id c : ℕ) (m : Sat) → c < chunks key → IsLinked c m.0 → Allows (Kept key) slots id m (3 * c + 9) (λ n. (n + (2 ^ 64 - 65537)) % 2 ^ 64) (on_chunk severing (step slots (3 * c + 9) 65537 0 none) m)
+pub may_sever : (key : Config) (slots id c : ℕ) (m : Sat) → c < chunks key → IsLinked c m.0 → Allows (Kept key) slots id m (3 * c + 9) (λ n. (n + (2 ^ 64 - (2 ^ linked_first + 1))) % 2 ^ 64) (on_chunk severing (step slots (3 * c + 9) (2 ^ linked_first + 1) 0 none) m)
 may_sever key slots id c m near may =
-    subst (λ (v : View). Allows (Kept key) slots id (v, m.1) (3 * c + 9) (λ n. (n + (2 ^ 64 - 65537)) % 2 ^ 64) (on_chunk severing (step slots (3 * c + 9) 65537 0 none) (v, m.1))) (sym may.1.view)
+    subst (λ (v : View). Allows (Kept key) slots id (v, m.1) (3 * c + 9) (λ n. (n + (2 ^ 64 - (2 ^ linked_first + 1))) % 2 ^ 64) (on_chunk severing (step slots (3 * c + 9) (2 ^ linked_first + 1) 0 none) (v, m.1))) (sym may.1.view)
     (severs key slots id c near m.1 may.0 may.1.own may.1.at)
 
 -- a DYING chunk may be seen, and freed

@@ -15,7 +15,7 @@ use Rattle.bump_rules.specs.Lives.{life, one_if}
 use Rattle.bump_rules.proofs.Updates.{total_append, total_below}
 use Rattle.bump_steps.specs.declared.views.View.{View}
 use Rattle.bump_steps.specs.Views.{Measure, held, owners, strays, mislabels, misreads, misread, differs, owns, standing, label_of, weight, tally, claims, evidence, Query, moves, settled, lanes_of, untidy, IsBacked}
-use Rattle.bump_steps.specs.Rule.{Sound, SoundAt, chunks, Kept}
+use Rattle.bump_steps.specs.Rule.{Sound, SoundAt, chunks, Kept, HasFittingLimit}
 use Rattle.bump_steps.specs.Plays.{every}
 use Rattle.bump_steps.proofs.Once.{settled_once, settled_here}
 use Rattle.bump_steps.proofs.Sums.{total-set, none_where_none, term_le, others_le}
@@ -47,7 +47,7 @@ abbrev pub Reaches : Config → ℕ → Sat → (Sat → Type 0) → ℕ → ℕ
 Reaches key c m then n x t = (w : View) × ((u : Measure → ℕ) → ((y : Measure) → u y + weight c y m.0 ≡ t y + weight c y w) → Sound key.refs_limit n x u) × ((b : ℕ) → b ≢ c → Same b m.0 w) × IsBacked m.0 w × then (w, m.1)
 
 abbrev pub From : Config → ℕ → Sat → (ℕ → ℕ → (Measure → ℕ) → Type 0) → Type 0
-From key c m goes = (n x : ℕ) (t : Measure → ℕ) → (0 < key.refs_limit) × (key.refs_limit < 65536) → Sound key.refs_limit n x t → Amid c m.0 t → goes n x t
+From key c m goes = (n x : ℕ) (t : Measure → ℕ) → HasFittingLimit key → Sound key.refs_limit n x t → Amid c m.0 t → goes n x t
 
 same_tally : (views : List View) (i c : ℕ) (v w : View) → get_elem? views i ≡ some v → Same c v w → tally views c ≡ tally (set views i w) c
 same_tally views i c v w me same = λ k m. eq m k

@@ -19,6 +19,7 @@ use Rattle.bump_rules.specs.Tables.{is_cold}
 use Rattle.bump_rules.specs.Totals.{total, how_many}
 use Rattle.bump_rules.proofs.Laws.{relawful, named_first, fetched_again, marked as marked_law}
 use Rattle.bump_rules.proofs.Updates.{total_push, count_push}
+use Rattle.bump_word.specs.Layout.{fetched_first, active_first, generation_first}
 use Rattle.bump_word.specs.Words.{word_of}
 use Rattle.bump_word.proofs.Words.{fields}
 use Rattle.bump_word.proofs.Steps.{set_fetched, set_active, clear_active}
@@ -71,7 +72,7 @@ quiet_same b f v q (misreads j x) = refl
 
 -- a step that isn't a fetch is none of the fetches
 other_steps : (k : Kind) → is_fetch k ≡ false → (b j c n : ℕ) (p : WorkerPart) → how_many (is_fetch_of b j) (noted k c n p).steps ≡ how_many (is_fetch_of b j) p.steps
-other_steps k other b j c n p = omega (arith, total_push (λ x. cond (is_fetch_of b j x) 1 0) p.steps (step_of k c n None), ap {B = ℕ} (λ (a : Bool). cond (a && ((c == b) && (n / 2 ^ 32 == j))) 1 0) other)
+other_steps k other b j c n p = omega (arith, total_push (λ x. cond (is_fetch_of b j x) 1 0) p.steps (step_of k c n None), ap {B = ℕ} (λ (a : Bool). cond (a && ((c == b) && (n / 2 ^ generation_first == j))) 1 0) other)
 
 -- who tries to take a reference has none in its hand yet
 tries_none : (b j : ℕ) (l : ItemId) (h : Hand) → in_hand b j (trying l h) ≡ in_hand b j h
@@ -117,7 +118,7 @@ gained true d j l hits = omega arith
 gained false d j l hits = count_push (life d j) l hits
 
 -- a fetch of a life is one of its fetches, and none of another life's
-pub is_its_fetch : (c n g : ℕ) → n / 2 ^ 32 ≡ g → (j : ℕ) → cond (is_fetch_of c j (step_of kind.Fetch c n None)) 1 0 ≡ one_if (life c j) (life c g)
+pub is_its_fetch : (c n g : ℕ) → n / 2 ^ generation_first ≡ g → (j : ℕ) → cond (is_fetch_of c j (step_of kind.Fetch c n None)) 1 0 ≡ one_if (life c j) (life c g)
 is_its_fetch c n g e j = ap {B = ℕ} (λ (a : Bool). cond ((c == c) && a) 1 0) (ap (λ (k : ℕ). k == j) e ∙ eqb_turn g j)
   where
     eqb_turn : (x y : ℕ) → ◌≡◌ {A = Bool} (x == y) (y == x)
@@ -136,8 +137,8 @@ module _ (key : Config) (slots id : ℕ) (m : Sat) (c : ℕ) (near : c < chunks 
     after = on_worker (fetched_part (life c o.head.generation) o.head) m.0
 
     -- the word has the chunk's generation
-    gen : word_of o.head / 2 ^ 32 ≡ o.head.generation
-    gen = ap (λ (k : ℕ). k / 2 ^ 32) (sym o.spells.0) ∙ (fields n o.head o.spells).generation
+    gen : word_of o.head / 2 ^ generation_first ≡ o.head.generation
+    gen = ap (λ (k : ℕ). k / 2 ^ generation_first) (sym o.spells.0) ∙ (fields n o.head o.spells).generation
 
     -- the life is named once more where FETCHED was clear
     names_more : (b j : ℕ) → weight b (named j) after ≡ weight b (named j) m.0 + cond o.head.fetched 0 (one_if (life b j) of)
@@ -159,7 +160,7 @@ module _ (key : Config) (slots id : ℕ) (m : Sat) (c : ℕ) (near : c < chunks 
         none_of : (f : Bool) (k : ℕ) → ◌≡◌ {A = ℕ} k 0 → ◌≡◌ {A = ℕ} (cond f 0 k) 0
         none_of true k e = refl
         none_of false k e = e
-    fetch_apart b ne (saw j) = omega (arith, saw_more b j, ap {B = ℕ} (λ (a : Bool). cond (a && (word_of o.head / 2 ^ 32 == j)) 1 0) (ne_eqb c b (λ e. ne (sym e))))
+    fetch_apart b ne (saw j) = omega (arith, saw_more b j, ap {B = ℕ} (λ (a : Bool). cond (a && (word_of o.head / 2 ^ generation_first == j)) 1 0) (ne_eqb c b (λ e. ne (sym e))))
     fetch_apart b ne owners = refl
     fetch_apart b ne (strays s) = refl
     fetch_apart b ne (mislabels y) = refl
@@ -185,7 +186,7 @@ module _ (key : Config) (slots id : ℕ) (m : Sat) (c : ℕ) (near : c < chunks 
           (λ g. u (held g)) (λ g. u (named g)) (λ g. omega (arith, moves (held g), held_as c g)) (λ g. refl)
 
       -- and sound
-      fetch_sound : Sound key.refs_limit (bit_or n (2 ^ 17)) x u
+      fetch_sound : Sound key.refs_limit (bit_or n (2 ^ fetched_first)) x u
       fetch_sound = let lawful = fetch_lawful o.head.fetched refl in record {
         head = fetched_head o.head;
         at = o.at;
@@ -199,8 +200,8 @@ module _ (key : Config) (slots id : ℕ) (m : Sat) (c : ℕ) (near : c < chunks 
       }
 
   -- a fetch is allowed where the seat has a worker's part
-  pub fetches : 0 < length m.0.workers → Allows (Kept key) slots id m (3 * c + 9) (λ n. bit_or n (2 ^ 17)) (on_chunk fetched (step slots (3 * c + 9) (2 ^ 17) 0 none) m)
-  fetches has = at_chunk fetched key slots id m c (2 ^ 17) (λ n. bit_or n (2 ^ 17)) near (λ n x t limits o a. (
+  pub fetches : 0 < length m.0.workers → Allows (Kept key) slots id m (3 * c + 9) (λ n. bit_or n (2 ^ fetched_first)) (on_chunk fetched (step slots (3 * c + 9) (2 ^ fetched_first) 0 none) m)
+  fetches has = at_chunk fetched key slots id m c (2 ^ fetched_first) (λ n. bit_or n (2 ^ fetched_first)) near (λ n x t limits o a. (
     on_worker (fetched_part (life c o.head.generation) o.head) m.0,
     (λ u moves. fetch_sound has n x t o u moves),
     (λ b ne. fetch_apart has n x t o b ne),
@@ -209,13 +210,13 @@ module _ (key : Config) (slots id : ℕ) (m : Sat) (c : ℕ) (near : c < chunks 
   ))
 
   -- ACTIVE may be set where the seat's own fetch shows that FETCHED is set
-  pub marks : MayMark c m.0 → Allows (Kept key) slots id m (3 * c + 9) (λ n. bit_or n (2 ^ 18)) (on_chunk marked (step slots (3 * c + 9) (2 ^ 18) 0 none) m)
-  marks may = at_chunk marked key slots id m c (2 ^ 18) (λ n. bit_or n (2 ^ 18)) near (λ n x t limits o a.
+  pub marks : MayMark c m.0 → Allows (Kept key) slots id m (3 * c + 9) (λ n. bit_or n (2 ^ active_first)) (on_chunk marked (step slots (3 * c + 9) (2 ^ active_first) 0 none) m)
+  marks may = at_chunk marked key slots id m c (2 ^ active_first) (λ n. bit_or n (2 ^ active_first)) near (λ n x t limits o a.
       let l : ItemId = life c o.head.generation in
       let told = tells c key.refs_limit n x m.0 t o a in
       let set : bit o.head.fetched ≡ 1 = ap bit (told.saw (subst (λ (g : ℕ). 0 < weight c (saw g) m.0) (told.held may.0 may.1) may.2)) in (
         on_worker (marked_part l o.head) m.0,
-        (λ u moves. same_sound key.refs_limit (bit_or n (2 ^ 18)) x t u (same_counts c m.0 (on_worker (marked_part l o.head) m.0) t u (quiet_same c (marked_part l o.head) m.0 (marked_quiet c l o.head)) moves) (record {
+        (λ u moves. same_sound key.refs_limit (bit_or n (2 ^ active_first)) x t u (same_counts c m.0 (on_worker (marked_part l o.head) m.0) t u (quiet_same c (marked_part l o.head) m.0 (marked_quiet c l o.head)) moves) (record {
           head = active_head o.head;
           at = o.at;
           spells = set_active n o.head o.spells tt;
@@ -232,11 +233,11 @@ module _ (key : Config) (slots id : ℕ) (m : Sat) (c : ℕ) (near : c < chunks 
       ))
 
   -- it may always be cleared
-  pub unmarks : Allows (Kept key) slots id m (3 * c + 9) (λ n. bit_and n (2 ^ 64 - 1 - 2 ^ 18)) (on_chunk unmarked (step slots (3 * c + 9) (2 ^ 64 - 1 - 2 ^ 18) 0 none) m)
-  unmarks = at_chunk unmarked key slots id m c (2 ^ 64 - 1 - 2 ^ 18) (λ n. bit_and n (2 ^ 64 - 1 - 2 ^ 18)) near (λ n x t limits o a.
+  pub unmarks : Allows (Kept key) slots id m (3 * c + 9) (λ n. bit_and n (2 ^ 64 - 1 - 2 ^ active_first)) (on_chunk unmarked (step slots (3 * c + 9) (2 ^ 64 - 1 - 2 ^ active_first) 0 none) m)
+  unmarks = at_chunk unmarked key slots id m c (2 ^ 64 - 1 - 2 ^ active_first) (λ n. bit_and n (2 ^ 64 - 1 - 2 ^ active_first)) near (λ n x t limits o a.
       let l : ItemId = life c o.head.generation in (
         on_worker (unmarked_part l o.head) m.0,
-        (λ u moves. same_sound key.refs_limit (bit_and n (2 ^ 64 - 1 - 2 ^ 18)) x t u (same_counts c m.0 (on_worker (unmarked_part l o.head) m.0) t u (quiet_same c (unmarked_part l o.head) m.0 (unmarked_quiet c l o.head)) moves) (record {
+        (λ u moves. same_sound key.refs_limit (bit_and n (2 ^ 64 - 1 - 2 ^ active_first)) x t u (same_counts c m.0 (on_worker (unmarked_part l o.head) m.0) t u (quiet_same c (unmarked_part l o.head) m.0 (unmarked_quiet c l o.head)) moves) (record {
           head = cleared_head o.head;
           at = o.at;
           spells = clear_active n o.head o.spells tt;

@@ -30,7 +30,7 @@ use Rattle.bump_steps.specs.declared.views.View.{View}
 use Rattle.bump_steps.specs.declared.views.WorkerPart.{WorkerPart}
 use Rattle.bump_steps.specs.Plays.{Sat, on_chunk, behind, on_first, step_of}
 use Rattle.bump_steps.specs.References.{noted_by, looked_view, looked, new_hold, taken_view, taken, HasHold, given_view, given_back, read_hold, read_view, IsLabel, label_read, seen}
-use Rattle.bump_steps.specs.Rule.{Sound, chunks, Kept, blank}
+use Rattle.bump_steps.specs.Rule.{Sound, chunks, Kept, blank, HasFittingLimit}
 use Rattle.bump_steps.specs.Views.{Measure, held, named, saw, owners, strays, mislabels, misreads, is_fetch, is_fetch_of, in_hand, misread, differs, weight, tally, claims, evidence, shown_by, moves, settled, lanes_of, untidy, IsBacked}
 use Rattle.bump_steps.proofs.Frame.{Same, Amid, Reaches, on_label, same_sound}
 use Rattle.bump_steps.proofs.StepLemmas.{at_chunk, label_chunk_is, on_first_total, same_counts, one_life, other_life, other_chunk}
@@ -118,7 +118,7 @@ module _ (key : Config) (slots id : ℕ) (m : Sat) (c : ℕ) (near : c < chunks 
   looks = at_chunk looked key slots id m c 0 (λ n. n) near (λ n x t limits o a. loaded n x t (looked c 0 m n) o (refl, (o.head, o.spells, tells c key.refs_limit n x m.0 t o a)))
 
   -- a reference is taken where the word is the one that the exchange expects
-  won : (g old : ℕ) (h : Head) → Spells old h → get_of key.refs_limit g h ≡ IsHeld → (n x : ℕ) (t : Measure → ℕ) → (0 < key.refs_limit) × (key.refs_limit < 65536) → Sound key.refs_limit n x t → Amid c m.0 t → n ≡ old → Reaches key c m (taken c old m n) (old + 1) x t
+  won : (g old : ℕ) (h : Head) → Spells old h → get_of key.refs_limit g h ≡ IsHeld → (n x : ℕ) (t : Measure → ℕ) → HasFittingLimit key → Sound key.refs_limit n x t → Amid c m.0 t → n ≡ old → Reaches key c m (taken c old m n) (old + 1) x t
   won g old h is may n x t limits o a hit =
       let now : o.head ≡ h = one_head n o.head h o.spells (hit ∙ is.0, is.1) in
       let can = held_is key.refs_limit g h may in

@@ -28,7 +28,7 @@ use Rattle.bump_steps.specs.declared.views.HoldPart.{HoldPart}
 use Rattle.bump_steps.specs.declared.views.View.{View}
 use Rattle.bump_steps.specs.declared.refusals.RideRefusal.{RideRefusal}
 use Rattle.bump_steps.specs.Views.{Measure, held, named, saw, owners, strays, mislabels, misreads, weight, in_hand, is_fetch, is_fetch_of, shown_by, IsBacked}
-use Rattle.bump_steps.specs.Rule.{Sound, chunks, Kept}
+use Rattle.bump_steps.specs.Rule.{Sound, chunks, Kept, HasFittingLimit}
 use Rattle.bump_steps.specs.Plays.{Sat, step_of}
 use Rattle.bump_steps.specs.Rides.{touching, judged_hand, counted_drop, refusal, IsHeld, looked, took, rode, gave_back, IsOn, HasRoom}
 use Rattle.bump_steps.proofs.Frame.{Same, Amid, Reaches, on_head, same_sound}
@@ -117,7 +117,7 @@ module _ (key : Config) (slots id : ℕ) (p : WorkerPart) (q : HoldPart) (l : It
   looks failed = on_head key slots id (seat_with (hand.Trying l)) l.chunk (λ n. n) (looked key.refs_limit failed l (seat_with (hand.Trying l))) near (λ n y t limits o a. look_reaches failed n y t o a)
 
   -- an exchange that found the word that it expects
-  take_reaches : (old : ℕ) → HasRoom key.refs_limit old → (n y : ℕ) (t : Measure → ℕ) → (0 < key.refs_limit) × (key.refs_limit < 65536) → (o : Sound key.refs_limit n y t) → Amid l.chunk (seat_with (hand.Trying l)).0 t → n ≡ old
+  take_reaches : (old : ℕ) → HasRoom key.refs_limit old → (n y : ℕ) (t : Measure → ℕ) → HasFittingLimit key → (o : Sound key.refs_limit n y t) → Amid l.chunk (seat_with (hand.Trying l)).0 t → n ≡ old
       → Reaches key l.chunk (seat_with (hand.Trying l)) (took key.refs_limit l (seat_with (hand.Trying l)) n) (old + 1) y t
   take_reaches old room n y t limits o a hit =
       let x : OwnStep = step_of kind.Reserve l.chunk (word_of o.head) None in

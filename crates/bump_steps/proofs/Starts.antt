@@ -1,5 +1,5 @@
 -- The start: the rule holds of fresh words and the first seat.
-use Rattle.std.proofs.Common.{◌≡◌, ℕ, zero, suc, cond, ◌+◌, ◌-◌, ◌<◌, ◌≤◌, ◌&&◌, eqb, ltb, leb, not, Bool, true, false, List, [], ◌∷◌, length, refl, sym, ap, ap₂, ◌∙◌, subst, arith, eq-eqb, ne_eqb, lt-ltb, le-ltb}
+use Rattle.std.proofs.Common.{◌≡◌, ℕ, zero, suc, cond, ◌+◌, ◌-◌, ◌^◌, ◌<◌, ◌≤◌, ◌&&◌, eqb, ltb, leb, not, Bool, true, false, List, [], ◌∷◌, length, refl, sym, ap, ap₂, ◌∙◌, subst, arith, eq-eqb, ne_eqb, lt-ltb, le-ltb}
 use Rattle.std.proofs.lemmas.Bool.{le-leb, lt-leb}
 use mathlib.Core.Logic.{dite}
 use native.Mathlib.Decide.{dec_le, ℕ_discrete}
@@ -19,8 +19,9 @@ use Rattle.bump_rules.specs.Lives.{life, count_of}
 use Rattle.bump_rules.specs.History.{is_standing}
 use Rattle.bump_rules.specs.Entries.{is_move_for}
 use Rattle.bump_rules.proofs.Standings.{standing_same}
+use Rattle.bump_word.specs.Layout.{generation_width}
 use Rattle.bump_steps.specs.Views.{owns, standing, label_of, held, named, saw, weight, refers, in_hand, is_fetch_of, aboard_of, claimed_in, settled_in, untidy_in}
-use Rattle.bump_steps.specs.Rule.{chunks, Kept, class_parts, worker_part, worker_parts, lane_part, lane_parts, opened, AreFresh}
+use Rattle.bump_steps.specs.Rule.{chunks, Kept, class_parts, worker_part, worker_parts, lane_part, lane_parts, opened, AreFresh, HasFittingLimit}
 
 -- there are chunks where there are classes
 pub some_chunks : (ks : List ClassConfig) → 1 ≤ length ks → HaveChunks ks → 0 < chunks_of ks
@@ -100,7 +101,7 @@ one_of : (n w m : ℕ) → total (λ l. cond (eqb l.worker n) 1 0) (lane_parts w
 one_of n w zero = omega arith
 one_of n w (suc m) = dite (ℕ_discrete w n) (λ e. omega (arith, ap {B = ℕ} (λ (b : Bool). cond b 1 0) (eq-eqb w n e), none_of n (w + 1) m (omega arith))) (λ ne. omega (arith, ap {B = ℕ} (λ (b : Bool). cond b 1 0) (ne_eqb w n ne), one_of n (w + 1) m))
 
-pub starts : (key : Config) (words : List ℕ) → AreFresh (chunks key) (key.first_generation - 1) words → (0 < key.refs_limit) × (key.refs_limit < 65536) → (0 < key.first_generation) × (key.first_generation < 4294967296) → Kept key (opening words [] (opened key))
+pub starts : (key : Config) (words : List ℕ) → AreFresh (chunks key) (key.first_generation - 1) words → HasFittingLimit key → (0 < key.first_generation) × (key.first_generation < 2 ^ generation_width) → Kept key (opening words [] (opened key))
 starts key words fresh limits generations = record {
   wide = fresh.0;
   small = limits;

@@ -1,5 +1,5 @@
 -- The rule: what holds of the words and of all views between any two atomic steps of all threads.
-use Rattle.std.specs.Prelude.{◌≡◌, ℕ, zero, suc, ◌+◌, ◌-◌, ◌*◌, ◌<◌, ◌≤◌, List, [], ◌∷◌, length, slice_index}
+use Rattle.std.specs.Prelude.{◌≡◌, ℕ, zero, suc, ◌+◌, ◌-◌, ◌*◌, ◌^◌, ◌<◌, ◌≤◌, List, [], ◌∷◌, length, slice_index}
 use Rattle.atomic_table.specs.Table.{State}
 use Rattle.bump_rules.specs.declared.places.Place.{Place}
 use Rattle.bump_rules.specs.declared.items.Head.{Head}
@@ -12,6 +12,7 @@ use Rattle.bump_rules.specs.declared.lanes.Lane.TheVariants as lane
 use Rattle.bump_rules.specs.Lawful.{Lawful}
 use Rattle.bump_rules.specs.Totals.{total}
 use Rattle.bump_rules.specs.Configs.{chunks_of}
+use Rattle.bump_word.specs.Layout.{refs_width, generation_first}
 use Rattle.bump_word.specs.Words.{Spells}
 use Rattle.bump_steps.specs.declared.views.Empty.{Empty}
 use Rattle.bump_steps.specs.declared.views.ClassPart.{ClassPart}
@@ -44,9 +45,13 @@ chunks key = chunks_of key.classes
 abbrev pub SoundAt : Config → State Empty View → ℕ → Type 0
 SoundAt key s c = Sound key.refs_limit (slice_index s.words (3 * c + 9)) (slice_index s.words (3 * c + 11)) (tally s.views c)
 
+-- the limit of references is at least 1, and has room in the bits of a head word's count
+abbrev pub HasFittingLimit : Config → Type 0
+HasFittingLimit key = (0 < key.refs_limit) × (key.refs_limit < 2 ^ refs_width)
+
 pub record Kept (key : Config) (s : State Empty View) : Type 0 where
   pub wide : length s.words ≡ 3 * chunks key + 9
-  pub small : (0 < key.refs_limit) × (key.refs_limit < 65536)
+  pub small : HasFittingLimit key
   pub each : (c : ℕ) → c < chunks key → SoundAt key s c
   -- each applied entry is true
   pub true_entries : (w : ℕ) (a : AppliedBump) → 0 < total (claims w a) s.views → 0 < total (evidence w a) s.views
@@ -91,4 +96,4 @@ opened key = record blank { workers = worker_parts 0 key.workers; classes = clas
 
 -- words of chunks that had no life
 abbrev pub AreFresh : ℕ → ℕ → List ℕ → Type 0
-AreFresh count g words = (length words ≡ 3 * count + 9) × ((c : ℕ) → c < count → (slice_index words (3 * c + 9) ≡ 4294967296 * g) × (slice_index words (3 * c + 11) ≡ 0))
+AreFresh count g words = (length words ≡ 3 * count + 9) × ((c : ℕ) → c < count → (slice_index words (3 * c + 9) ≡ 2 ^ generation_first * g) × (slice_index words (3 * c + 11) ≡ 0))

@@ -16,7 +16,8 @@ use Rattle.bump_rules.specs.Labels.{label_word}
 use Rattle.bump_rules.specs.History.{Standing, standing_in, is_standing, is_between}
 use Rattle.bump_rules.specs.Entries.{is_move_for, is_unlink_of, moves_told}
 use Rattle.bump_word.specs.Layout.{linked_first, active_first, generation_first}
-use Rattle.bump_word.specs.Words.{segment_bits}
+use Rattle.bump_rules.specs.declared.places.Segment.TheVariants.{Cold}
+use Rattle.bump_word.specs.Words.{number_of, segment_bits}
 use Rattle.bump_steps.specs.declared.views.Kind.{Kind}
 use Rattle.bump_steps.specs.declared.views.Kind.TheVariants as kind
 use Rattle.bump_steps.specs.declared.views.OwnStep.{OwnStep}
@@ -140,7 +141,7 @@ is_for w n None = false
 
 -- the word is of a linked chunk that is not in COLD
 abbrev pub linked_elsewhere : ℕ → Bool
-linked_elsewhere n = (n / 2 ^ linked_first % 2 == 1) && not (segment_bits n == 2)
+linked_elsewhere n = (n / 2 ^ linked_first % 2 == 1) && not (segment_bits n == number_of Cold)
 
 -- the word has ACTIVE clear
 abbrev pub active_clear : ℕ → Bool

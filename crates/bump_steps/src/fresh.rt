@@ -1,23 +1,25 @@
 //! The words of chunks that had no life yet.
-ghost use Rattle.std.specs.Prelude.{ℕ, ◌≡◌, ◌≤◌, ◌<◌, ◌-◌, ◌*◌, [], IfOk};
+ghost use Rattle.std.specs.Prelude.{ℕ, ◌≡◌, ◌≤◌, ◌<◌, ◌-◌, ◌*◌, ◌^◌, [], IfOk};
+ghost use Rattle.bump_word.specs.Layout.{generation_width};
 ghost use Rattle.bump_steps.specs.Rule.{AreFresh, opened};
 ghost use Rattle.bump_steps.specs.Words.{words_id};
 
 use crate::words::{HEAD, Seat, Words};
 use atomic_table::Table;
 use bump_rules::Config;
+use bump_word::laws::ONE_GENERATION;
 use std::alloc::{AllocError, Global};
 
 fn fresh_words(alloc: Global, chunks: u32, first: u32) -> Result<Vec<u64>, AllocError>
     requires { (chunks ≤ 1000000) × (0 < first) }
     ensures words { IfOk result (λ v. AreFresh chunks (first - 1) v.items) }
-    ensures fits { first < 4294967296 }
+    ensures fits { first < 2 ^ generation_width }
 {
     let mut words = Vec::with_capacity(alloc, 3 * chunks as usize + HEAD)?;
     for spare in 0..HEAD {
         words.push(0)?;
     }
-    let word = u64::from(first - 1) * 4_294_967_296;
+    let word = u64::from(first - 1) * ONE_GENERATION;
     for chunk in 0..chunks {
         words.push(word)?;
         words.push(0)?;

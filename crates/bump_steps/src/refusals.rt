@@ -5,6 +5,7 @@ ghost use Rattle.bump_steps.specs.Tries.{refused_by};
 ghost use Rattle.bump_word.specs.Words.{Fits};
 
 use bump_rules::{Head, ItemId};
+use bump_word::Count;
 use thiserror::Error;
 
 /// Why `take` gave no hold.
@@ -35,16 +36,16 @@ pub enum RideRefusal {
     Busy,
 }
 
-// Why a get of the life is refused where this head is found, if it is: Stale comes before RefsFull. A count has 16 bits, and so has the
-// limit: so compared, one instruction compares the word's lowest bits with the limit in memory.
-pub fn refusal(head: Head, life: ItemId, limit: &u16) -> Option<TakeRefusal>
+// Why a get of the life is refused where this head is found, if it is: Stale comes before RefsFull. The limit is of the type of a
+// count: where its bits are all of that type's, one instruction compares the word's lowest bits with the limit in memory.
+pub fn refusal(head: Head, life: ItemId, limit: &Count) -> Option<TakeRefusal>
     requires { Fits head }
     ensures { result ≡ refused_by (get_of limit.now life.generation head) }
 {
     if !head.linked || head.generation != life.generation {
         return Some(TakeRefusal::Stale);
     }
-    if head.refs as u16 >= *limit {
+    if head.refs as Count >= *limit {
         return Some(TakeRefusal::RefsFull);
     }
     None

@@ -8,12 +8,14 @@ ghost use prog.Atomic.{either};
 ghost use Rattle.bump_rules.specs.declared.items.Head.{Head as TheHead};
 ghost use Rattle.bump_rules.specs.declared.places.Segment.{Segment as TheSegment};
 ghost use Rattle.bump_rules.specs.declared.places.Segment.TheVariants.{Hot, Warm, Cold};
-ghost use Rattle.bump_word.specs.Layout.{segment_first, generation_first, generation_width};
+ghost use Rattle.bump_rules.specs.Configs.{most_refs};
+ghost use Rattle.bump_word.specs.Layout.{refs_width, segment_first, generation_first, generation_width};
 ghost use Rattle.bump_word.specs.Words.{Spells, IsPacked, FindsHead, number_of, word_of, segment_bits, segment_change};
 ghost use Rattle.bump_word.specs.Steps.{Changes, Tests, Reads};
 ghost use Rattle.bump_rules.specs.Heads.{newborn, severed_head, one_more as with_one_more, one_fewer, fetched_head, active_head, cleared_head, moved_head};
 
 use crate::layout::{ACTIVE, FETCHED, GENERATION_AT, LINKED, REFS_AT, REFS_MAX, SEGMENT_AT};
+use bump_rules::MAX_REFS;
 
 /// One reference: what the word grows by where one is taken, and what is subtracted where one is given back.
 pub const ONE_REFERENCE: u64 = 1 << REFS_AT.first;
@@ -136,6 +138,11 @@ pub fn read_segment()
 /// The reference count is what its mask leaves, since it stands in the lowest bits.
 pub fn read_refs()
     ensures { Reads (λ n. bit_and n REFS_MASK) (λ h. h.refs) }
+{}
+
+/// The greatest limit that a store may have is the greatest count of a word.
+pub fn greatest_count()
+    ensures { (REFS_MAX ≡ most_refs) × (REFS_MAX ≡ 2 ^ refs_width - 1) × (MAX_REFS ≡ most_refs) }
 {}
 
 /// The generation is what a shift leaves, since it stands in the highest bits.

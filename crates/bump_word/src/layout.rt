@@ -13,32 +13,32 @@ pub const REFS_AT: Field = Field {
 
 /// The flag of an item that is linked.
 pub const LINKED_AT: Field = Field {
-    first: 16,
+    first: REFS_AT.width,
     width: 1,
 };
 
 /// The flag of an item that was hit.
 pub const FETCHED_AT: Field = Field {
-    first: 17,
+    first: LINKED_AT.first + LINKED_AT.width,
     width: 1,
 };
 
 /// The flag of an item that was hit again.
 pub const ACTIVE_AT: Field = Field {
-    first: 18,
+    first: FETCHED_AT.first + FETCHED_AT.width,
     width: 1,
 };
 
 /// The segment's number.
 pub const SEGMENT_AT: Field = Field {
-    first: 19,
+    first: ACTIVE_AT.first + ACTIVE_AT.width,
     width: 2,
 };
 
 /// The bits that are zero in the word of every Head.
 pub const ZERO_AT: Field = Field {
-    first: 21,
-    width: 11,
+    first: SEGMENT_AT.first + SEGMENT_AT.width,
+    width: GENERATION_AT.first - SEGMENT_AT.first - SEGMENT_AT.width,
 };
 
 /// The generation: highest, so that a shift alone reads it.
@@ -58,6 +58,9 @@ pub const ACTIVE: u64 = 1 << ACTIVE_AT.first;
 
 /// The greatest reference count that a word holds (memcached's `refcount` has 16 bits, too).
 pub const REFS_MAX: u32 = (1 << REFS_AT.width) - 1;
+
+/// The narrowest number that a reference count fits into: a count cast to it stays as it is. Its limit is kept as one, too.
+pub type Count = u16;
 
 /// A run of bits of the word.
 #[derive(Clone, Copy)]

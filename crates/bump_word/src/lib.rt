@@ -16,7 +16,7 @@ mod layout;
 mod segment;
 mod word;
 
-pub use layout::{ACTIVE, FETCHED, LINKED, REFS_MAX};
+pub use layout::{ACTIVE, Count, FETCHED, LINKED, REFS_MAX};
 pub use segment::segment_xor;
 pub use word::{pack, unpack};
 

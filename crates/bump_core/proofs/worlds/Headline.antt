@@ -16,7 +16,7 @@ use Rattle.bump_state.proofs.LawfulStates.{referred_in_range, referred_used}
 use Rattle.bump_state.proofs.Fronts.{times_in, listed, never_at}
 use Rattle.bump_core.proofs.worlds.TrueEntries.{named_once, true_entry}
 use Rattle.bump_state.proofs.Ring.{numbered_append}
-use Rattle.bump_rules.proofs.Standings.{other_place, one_place}
+use Rattle.bump_rules.proofs.Standings.{other_place, once_in_places}
 
 -- a lawful worker's lane applies what its ring accepted, in order
 pub applies_in_order : (capacity : ℕ) (x : WorkerState) → IsWorker capacity x → AppliesInOrder x
@@ -27,7 +27,7 @@ applies_in_order capacity x p =
 
 -- a chunk of a class stands once in its six lists
 pub once_in_all : (s : State) → IsLawful s → (k c : ℕ) → k < length s.classes → owns (class s k) c ≡ true → times_in_all c (class s k).lists ≡ 1
-once_in_all s o k c within own = omega (arith, at Hot, at Warm, at Cold, at Dying, at Unused, at Retired, one_place (place_in (class s k) c))
+once_in_all s o k c within own = once_in_places (place_in (class s k) c) (λ q. times c (list_at (class s k).lists q)) at
   where
     at : (q : Place) → times c (list_at (class s k).lists q) ≡ bit (is_place (place_in (class s k) c) q)
     at q = times_in s o k c q within ∙ ap (λ (b : Bool). bit (b && is_place (place_in (class s k) c) q)) own

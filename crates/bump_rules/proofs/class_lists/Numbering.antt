@@ -11,14 +11,15 @@ use Rattle.bump_links.specs.Lists as links
 use Rattle.bump_rules.specs.declared.places.Place.{Place}
 use Rattle.bump_rules.specs.declared.places.Place.TheVariants.{Hot, Warm, Cold, Dying, Unused, Retired}
 use Rattle.bump_rules.specs.History.{place_number, is_place}
-use Rattle.bump_rules.specs.Lists.{list_at, to_front, opening, IsListed}
+use Rattle.bump_rules.specs.Lists.{list_at, lists_by, to_front, opening, IsListed}
+use Rattle.bump_rules.specs.Places.{place_count}
 use Rattle.bump_rules.specs.ClassLists.{chunks_from, listed_from, lists_from, AreSixLists}
-use Rattle.bump_rules.proofs.SixLists.{same_lists, list_at_front}
+use Rattle.bump_rules.proofs.SixLists.{same_lists, list_at_by, list_at_front}
 
 -- Which list is at a place.
 
 -- a place has one of six numbers
-pub number_below : (p : Place) → place_number p < 6
+pub number_below : (p : Place) → place_number p < place_count
 number_below Hot = omega arith
 number_below Warm = omega arith
 number_below Cold = omega arith
@@ -28,12 +29,7 @@ number_below Retired = omega arith
 
 -- the list at a place is the one of its number
 pub list_at_from : (first : ℕ) (s : links.Lists) (p : Place) → list_at (lists_from first s) p ≡ listed_from first s p
-list_at_from first s Hot = refl
-list_at_from first s Warm = refl
-list_at_from first s Cold = refl
-list_at_from first s Dying = refl
-list_at_from first s Unused = refl
-list_at_from first s Retired = refl
+list_at_from first s p = list_at_by (listed_from first s) p
 
 -- What a list of nodes shows as one of chunks.
 
@@ -45,11 +41,11 @@ chunks_range first a (suc n) =
     ap (λ xs. (first + a) ∷ xs) (chunks_range first (a + 1) n ∙ ap (λ k. range_with_len k n) next)
 
 -- new lists are those at the start
-pub new_from : (first n : ℕ) → lists_from first (links.all_in_first n 6 4) ≡ opening first n
+pub new_from : (first n : ℕ) → lists_from first (links.all_in_first n place_count (place_number Unused)) ≡ opening first n
 new_from first n =
     let none : first + 0 ≡ first = omega arith in
     let row = chunks_range first 0 n ∙ ap (λ k. range_with_len k n) none in
-    λ i. record { hot = []; warm = []; cold = []; dying = []; unused = row i; retired = [] }
+    λ i. lists_by (λ q. cond (is_place Unused q) (row i) [])
 
 -- without a node is without its chunk
 pub chunks_without : (first n : ℕ) (xs : List ℕ) → chunks_from first (without n xs) ≡ without (first + n) (chunks_from first xs)
@@ -126,7 +122,7 @@ chunks_moved first n p q xs =
     ]
 
 -- the move of a node to the front is the move of its chunk
-pub moved_from : (first n : ℕ) (p : Place) (s : links.Lists) → length s.lists ≡ 6
+pub moved_from : (first n : ℕ) (p : Place) (s : links.Lists) → length s.lists ≡ place_count
     → lists_from first (moved_to_front n (place_number p) s) ≡ to_front (first + n) p (lists_from first s)
 moved_from first n p s six =
     same_lists (lists_from first (moved_to_front n (place_number p) s)) (to_front (first + n) p (lists_from first s))

@@ -13,6 +13,7 @@ use crate::views::{Empty, View};
 use crate::words::{HEAD, LABEL, Seat, TIME, Words};
 use atomic_table::Play;
 use bump_rules::ItemId;
+use bump_word::Count;
 use bump_word::laws::ONE_REFERENCE;
 use std::marker::{Brand, PhantomData};
 
@@ -88,7 +89,7 @@ impl Words {
 
     /// One load, and at most 8 exchanges. The limit is read anew for each word, as its comparison's operand.
     #[inline(always)]
-    pub fn take(&self, seat: &mut Seat, life: ItemId, limit: &u16) -> Option<TakeRefusal>
+    pub fn take(&self, seat: &mut Seat, life: ItemId, limit: &Count) -> Option<TakeRefusal>
         requires seat { (seat.old.table_id ≡ words_id self.now) × (3 * life.chunk + 11 < (words_id self.now).words) }
         requires limit { limit.now ≡ self.now.table.shared.key.refs_limit }
         ensures same { (seat.new.table_id ≡ seat.old.table_id) × (seat.new.id ≡ seat.old.id) }

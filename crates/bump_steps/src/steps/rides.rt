@@ -19,6 +19,7 @@ use crate::views::{Empty, View};
 use crate::words::{HEAD, Seat, Words};
 use atomic_table::{Join, Play, Split};
 use bump_rules::ItemId;
+use bump_word::Count;
 use bump_word::laws::ONE_REFERENCE;
 use std::marker::{Brand, PhantomData};
 
@@ -80,7 +81,7 @@ impl Join<View> for RideBack {
 }
 
 impl Words {
-    fn look_to_ride_by<W: Attempt>(&self, seat: &mut Seat, limit: u16, life: ItemId) -> u64
+    fn look_to_ride_by<W: Attempt>(&self, seat: &mut Seat, limit: Count, life: ItemId) -> u64
         requires seat { (seat.old.table_id ≡ words_id self.now) × (3 * life.chunk + 11 < (words_id self.now).words) }
         requires attempt { (W.limit ≡ limit) × (W.failed ≡ 0) × (W.life ≡ life) }
         requires limit { limit ≡ self.now.table.shared.key.refs_limit }
@@ -94,7 +95,7 @@ impl Words {
     }
 
     /// A load, of a worker that looks for room for its bump's reference.
-    pub fn look_to_ride(&self, seat: &mut Seat, limit: u16, life: ItemId) -> u64
+    pub fn look_to_ride(&self, seat: &mut Seat, limit: Count, life: ItemId) -> u64
         requires seat { (seat.old.table_id ≡ words_id self.now) × (3 * life.chunk + 11 < (words_id self.now).words) }
         requires limit { limit ≡ self.now.table.shared.key.refs_limit }
         requires trying { IsOn (Trying life) life seat.old.me.0 }
@@ -107,7 +108,7 @@ impl Words {
     fn try_to_ride_by<W: Attempt>(
         &self,
         seat: &mut Seat,
-        limit: u16,
+        limit: Count,
         life: ItemId,
         seen: u64,
         failed: u32,
@@ -132,7 +133,7 @@ impl Words {
     pub fn try_to_ride(
         &self,
         seat: &mut Seat,
-        limit: u16,
+        limit: Count,
         life: ItemId,
         seen: u64,
         failed: u32,
@@ -149,7 +150,7 @@ impl Words {
 
     /// One load, and at most 8 exchanges. The limit is read anew for each word, as its comparison's operand.
     #[inline(always)]
-    pub fn ride(&self, seat: &mut Seat, limit: &u16, life: ItemId) -> Option<RideRefusal>
+    pub fn ride(&self, seat: &mut Seat, limit: &Count, life: ItemId) -> Option<RideRefusal>
         requires seat { (seat.old.table_id ≡ words_id self.now) × (3 * life.chunk + 11 < (words_id self.now).words) }
         requires limit { limit.now ≡ self.now.table.shared.key.refs_limit }
         requires trying { IsOn (Trying life) life seat.old.me.0 }
@@ -159,7 +160,7 @@ impl Words {
         let mut word = self.look_to_ride(seat, *limit, life);
         for failed in 0..8u32 {
             let head = head_of(word);
-            if head.refs as u16 >= *limit {
+            if head.refs as Count >= *limit {
                 return Some(RideRefusal::RefsFull);
             }
             let found = self.try_to_ride(seat, *limit, life, word, failed + 1);

@@ -1,6 +1,7 @@
-use Rattle.std.proofs.Common.{ℕ, ◌%◌, ap, ap₂, ◌∙◌, subst}
+use Rattle.std.proofs.Common.{ℕ, ◌%◌, ◌^◌, ap, ap₂, ◌∙◌, subst}
 use Rattle.bump_rules.specs.declared.places.Place.{Place}
 use Rattle.bump_rules.specs.Lawful.{Shows}
+use Rattle.bump_word.specs.Layout.{refs_width}
 use Rattle.bump_word.proofs.Words.{fields}
 use Rattle.bump_steps.specs.Lives.{seen}
 use Rattle.bump_heads.specs.Seats.{class_me}
@@ -9,7 +10,7 @@ use Rattle.bump_heads.proofs.ClassSeats.{view_after, seat_kept, finds}
 use Rattle.bump_heads.proofs.seats.ClassSeat.seen_unheld.Goals as goal
 
 pub invariant_of-self : goal.invariant_of-self
-invariant_of-self g c = seat_kept c.self.inside.seat.me c.sweep.new.seat.me c.args.self.now (seen c.args.chunk (c.sweep.result % 65536) c.sweep.result) g.N.Name.table c.sweep.new.seat.table_id c.self.inside.class c.self.view_is c.self.invariant.0 c.sweep.ensures.told.0 (c.sweep.ensures.same.0 ∙ c.self.invariant.1) c.self.invariant.2 c.self.invariant.3 c.self.invariant.4 (class_seen c.args.chunk (c.sweep.result % 65536) c.sweep.result c.args.self.now.part) (λ o. keeps_seen g.N.Name.table.words c.args.self.now.part o c.args.chunk (c.sweep.result % 65536) c.sweep.result c.requires.own)
+invariant_of-self g c = seat_kept c.self.inside.seat.me c.sweep.new.seat.me c.args.self.now (seen c.args.chunk (c.sweep.result % 2 ^ refs_width) c.sweep.result) g.N.Name.table c.sweep.new.seat.table_id c.self.inside.class c.self.view_is c.self.invariant.0 c.sweep.ensures.told.0 (c.sweep.ensures.same.0 ∙ c.self.invariant.1) c.self.invariant.2 c.self.invariant.3 c.self.invariant.4 (class_seen c.args.chunk (c.sweep.result % 2 ^ refs_width) c.sweep.result c.args.self.now.part) (λ o. keeps_seen g.N.Name.table.words c.args.self.now.part o c.args.chunk (c.sweep.result % 2 ^ refs_width) c.sweep.result c.requires.own)
 
 pub returns-clause-unlinked : goal.returns-clause-unlinked
 returns-clause-unlinked g c = subst (λ (p : Place). Shows c.head_of.result p) c.requires.dying (finds c.args.chunk c.sweep.result c.self.inside.seat.me c.args.self.now c.head_of.result c.self.view_is c.self.invariant.0 c.requires.own c.head_of.ensures c.sweep.ensures.told.1).0
@@ -22,5 +23,5 @@ pub returns-clause-seen : goal.returns-clause-seen
 returns-clause-seen g c =
     let n = c.sweep.result in
     let now = c.args.self.now in
-    view_after c.self.inside.seat.me c.sweep.new.seat.me now (seen c.args.chunk (n % 65536) n) (c.self.invariant.0 ∙ ap class_me c.self.view_is) c.sweep.ensures.told.0
+    view_after c.self.inside.seat.me c.sweep.new.seat.me now (seen c.args.chunk (n % 2 ^ refs_width) n) (c.self.invariant.0 ∙ ap class_me c.self.view_is) c.sweep.ensures.told.0
     ∙ ap₂ (λ (refs word : ℕ). record now { part = seen c.args.chunk refs word now.part }) (fields n c.head_of.result c.head_of.ensures).refs c.head_of.ensures.0

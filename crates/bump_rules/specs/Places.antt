@@ -1,0 +1,33 @@
+-- The places of a class: the list of each segment, and the numbers that tell places apart.
+use Rattle.std.specs.Prelude.{ℕ, Bool, ◌==◌, List, [], ◌∷◌}
+use Rattle.bump_rules.specs.declared.places.Segment.{Segment}
+use Rattle.bump_rules.specs.declared.places.Segment.TheVariants as segment
+use Rattle.bump_rules.specs.declared.places.Place.{Place}
+use Rattle.bump_rules.specs.declared.places.Place.TheVariants.{Hot, Warm, Cold, Dying, Unused, Retired}
+
+-- the list of a segment
+abbrev pub place_of : Segment → Place
+place_of segment.Hot = Hot
+place_of segment.Warm = Warm
+place_of segment.Cold = Cold
+
+-- the places, told apart by a number each
+abbrev pub place_number : Place → ℕ
+place_number Hot = 0
+place_number Warm = 1
+place_number Cold = 2
+place_number Dying = 3
+place_number Unused = 4
+place_number Retired = 5
+
+-- whether two places are one
+abbrev pub is_place : Place → Place → Bool
+is_place p q = place_number p == place_number q
+
+-- all places, each at its number
+abbrev pub all_places : List Place
+all_places = Hot ∷ Warm ∷ Cold ∷ Dying ∷ Unused ∷ Retired ∷ []
+
+-- how many places there are
+abbrev pub place_count : ℕ
+place_count = 6
