@@ -2,6 +2,7 @@
 ghost use Rattle.std.specs.Prelude.{◌≡◌, ◌<◌, ◌≤◌, Some, List, IfOk, OnOk, OnErr};
 ghost use Rattle.bump_rules.specs.declared.hands.Hand.TheVariants.{Idle, Trying, InHand, Clearing};
 ghost use Rattle.bump_rules.specs.declared.items.Head.{Head as TheHead};
+ghost use Rattle.bump_word.specs.Words.{Fits};
 ghost use Rattle.bump_steps.specs.declared.views.HoldPart.{HoldPart as TheHoldPart};
 ghost use Rattle.bump_steps.specs.declared.views.Kind.TheVariants.{Release};
 ghost use Rattle.bump_steps.specs.Rides.{found_by, dropped_full, returned};
@@ -87,6 +88,7 @@ impl<N: Name> ReaderHeads<N> {
         ensures worker { worker.new ≡ record worker.old { part = dropped_full life (found_by Release life result worker.old.part) } }
         ensures generation { result.generation ≡ life.generation }
         ensures counted { 2 ≤ result.refs }
+        ensures fits { Fits result }
     {
         head_of(self.words.drop_full(&mut worker.seat, life))
     }
