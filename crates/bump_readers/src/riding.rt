@@ -1,5 +1,5 @@
 //! The reference of a bump: taken by a worker, and sent off, had back or dropped.
-ghost use Rattle.std.specs.Prelude.{◌≡◌, ◌<◌, ◌≤◌, Some, List, IfOk, OnOk, OnErr};
+ghost use Rattle.std.specs.Prelude.{◌≡◌, ◌+◌, ◌<◌, ◌≤◌, Some, List, IfOk, OnOk, OnErr};
 ghost use Rattle.bump_rules.specs.declared.hands.Hand.TheVariants.{Idle, Trying, InHand, Clearing};
 ghost use Rattle.bump_rules.specs.declared.items.Head.{Head as TheHead};
 ghost use Rattle.bump_word.specs.Words.{Fits};
@@ -60,14 +60,14 @@ impl<N: Name> ReaderHeads<N> {
         })
     }
 
-    /// The rider comes back to its own worker, whose ring has no room for it. The worker is idle, has accepted a bump, and has a whole
-    /// hold of the rider's life joined to its seat. The reference is in its hand again, and the bump no longer counts as accepted. No
-    /// word is changed.
+    /// The rider comes back to its own worker, whose ring has no room for it. It is the last one that was sent off; the worker is idle, and
+    /// has a whole hold of the rider's life joined to its seat. The reference is in its hand again, and the bump no longer counts as
+    /// accepted, so that the next one gets its number. No word is changed.
     pub fn rider_back(&self, worker: &mut WorkerSeat<N>, rider: Rider<N>)
         requires held { (h : TheHoldPart) × (worker.old.hold ≡ Some h) × (h.life ≡ rider.life) }
         requires idle { worker.old.part.hand ≡ Idle }
         requires own { rider.worker ≡ worker.old.part.worker }
-        requires accepted { 0 < worker.old.part.accounts.accepted }
+        requires last { rider.number + 1 ≡ worker.old.part.accounts.accepted }
         ensures { worker.new ≡ record worker.old { part = returned rider worker.old.part } }
     {
         let Rider {
