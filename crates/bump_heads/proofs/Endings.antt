@@ -68,13 +68,13 @@ module _ (v v₁ : ClassView) (o : Option LanePart) (l : LanePart) (b : Bump) (c
   abbrev pub looked : LanePart
   looked = tried_lane c (word_of h) (record l { stage = lane.Carrying b })
 
-  looked_is : v₁ ≡ record { part = v.part; lane = Some looked }
+  pub looked_is : v₁ ≡ record { part = v.part; lane = Some looked }
   looked_is = after
       ∙ ap (λ (x : Option LanePart). record v { lane = option_map (tried_lane (life_aboard x).chunk (word_of h)) x }) carries
       ∙ ap (λ (d : ℕ). record v { lane = Some (tried_lane d (word_of h) (record l { stage = lane.Carrying b })) }) of
 
   -- where the chunk stands, by the head that was found
-  stood : Shows h (standing v.part c).0 × ((standing v.part c).1 ≡ b.life.generation) × IsUsed (standing v.part c).0
+  pub stood : Shows h (standing v.part c).0 × ((standing v.part c).1 ≡ b.life.generation) × IsUsed (standing v.part c).0
   stood = subst (λ (d : ℕ). Shows h (standing v.part d).0 × ((standing v.part d).1 ≡ b.life.generation) × IsUsed (standing v.part d).0) of
       ((subst (λ (x : Option LanePart). Seen v.part (life_aboard x) h) carries seen).stands (ap (λ (d : ℕ). owns d v.part) of ∙ own))
 
@@ -99,7 +99,7 @@ module _ (v v₁ : ClassView) (o : Option LanePart) (l : LanePart) (b : Bump) (c
       (own, (subst IsInSegment (sym (placed_where_linked h (standing v.part c).0 stood.0 on)) (linked_in h.segment), of))
 
   module _ (now : ℕ) (w₁ : ClassView) (timed : w₁ ≡ timed_class c now v₁) where
-    timed_is : w₁ ≡ record { part = noted_class kind.PutTime c now (looked ∷ []) v.part; lane = Some looked }
+    pub timed_is : w₁ ≡ record { part = noted_class kind.PutTime c now (looked ∷ []) v.part; lane = Some looked }
     timed_is = timed ∙ ap (timed_class c now) looked_is
 
     -- one that isn't in COLD gets its time only
@@ -130,7 +130,7 @@ module _ (v v₁ : ClassView) (o : Option LanePart) (l : LanePart) (b : Bump) (c
       abbrev pub cleared_part : ClassPart
       cleared_part = noted_class kind.ClearActive c (word_of found) (looked ∷ []) (noted_class kind.PutTime c now (looked ∷ []) v.part)
 
-      cleared_is : v₂ ≡ record { part = cleared_part; lane = Some (record looked { stage = lane.Cleared b found.active }) }
+      pub cleared_is : v₂ ≡ record { part = cleared_part; lane = Some (record looked { stage = lane.Cleared b found.active }) }
       cleared_is = cleared ∙ ap (cleared_class c found) timed_is
 
       -- one without ACTIVE gets its time only
@@ -156,23 +156,24 @@ module _ (v v₁ : ClassView) (o : Option LanePart) (l : LanePart) (b : Bump) (c
       may_move_on on cold some = subst (λ (x : ClassView). (owns c x.part ≡ true) × ((standing x.part c).0 ≡ place_of Cold) × MayShift c Cold Warm x.lane) (sym cleared_is)
           (own, placed_where_linked h (standing v.part c).0 stood.0 on ∙ ap place_of cold, subst (λ (f : Bool). MayShift c Cold Warm (Some (record looked { stage = lane.Cleared b f }))) (sym some) (refl, refl, of))
 
+      -- the class after the move
+      pub moved_is : (last : Head) (v₃ : ClassView) → v₃ ≡ shifted_class c Cold Warm last v₂ → v₃ ≡ record { part = moved_class Cold Warm c (word_of last) (record looked { stage = lane.Cleared b found.active } ∷ []) cleared_part; lane = Some (record looked { stage = lane.Moved b }) }
+      moved_is last v₃ moved = moved ∙ ap (shifted_class c Cold Warm last) cleared_is
+
       -- and its bump ends as moved
       pub ends_moved : (last : Head) (v₃ : ClassView) → v₃ ≡ shifted_class c Cold Warm last v₂ → found.active ≡ true → (x : LanePart) × (y : Bump) × Ends v₃ c Moved x y
       ends_moved last v₃ moved some = (
         record looked { stage = lane.Moved b },
         b,
         record {
-          joined = ap (λ (x : ClassView). x.lane) moved_is;
+          joined = ap (λ (x : ClassView). x.lane) (moved_is last v₃ moved);
           aboard = refl;
           chunk = of;
           past = refl;
-          entry = subst (λ (k : ClassPart). IsShown k (record looked { stage = lane.Moved b }) b Moved) (sym (ap (λ (x : ClassView). x.part) moved_is)) (omega (
+          entry = subst (λ (k : ClassPart). IsShown k (record looked { stage = lane.Moved b }) b Moved) (sym (ap (λ (x : ClassView). x.part) (moved_is last v₃ moved))) (omega (
             arith,
             total_push (λ x. bit (is_move_for (is_same b.life) l.worker b.number x)) v.part.history (change.Moved b.life Cold Warm (cause.Bump l.worker b.number)),
             ap bit (ap₂ (λ (p q : Bool). p && q) (ap₂ (λ (p q : Bool). p && q) (eq-eqb b.life.chunk b.life.chunk refl) (eq-eqb b.life.generation b.life.generation refl)) (ap₂ (λ (p q : Bool). p && q) (eq-eqb l.worker l.worker refl) (eq-eqb b.number b.number refl))),
           ));
         },
       )
-        where
-          moved_is : v₃ ≡ record { part = moved_class Cold Warm c (word_of last) (record looked { stage = lane.Cleared b found.active } ∷ []) cleared_part; lane = Some (record looked { stage = lane.Moved b }) }
-          moved_is = moved ∙ ap (shifted_class c Cold Warm last) cleared_is

@@ -1,7 +1,10 @@
 -- One turn of the loops that split the seats of classes, workers and lanes off.
-use Rattle.std.proofs.Common.{◌≡◌, ℕ, zero, suc, ◌+◌, ◌*◌, ◌<◌, List, [], ◌∷◌, ◌++◌, Option, None, map, length, refl, sym, ◌∙◌, subst, arith, append_assoc}
+use Rattle.std.proofs.Common.{◌≡◌, ℕ, zero, suc, ◌+◌, ◌*◌, ◌<◌, false, List, [], ◌∷◌, ◌++◌, Option, None, map, length, refl, sym, ◌∙◌, subst, arith, append_assoc}
 use Rattle.atomic_table.specs.Table.{Me}
 use Rattle.bump_rules.specs.declared.bumps.Bump.{Bump}
+use Rattle.bump_rules.specs.declared.lanes.Lane.{Lane}
+use Rattle.bump_rules.specs.declared.lanes.Lane.TheVariants as lane
+use Rattle.bump_rules.specs.Lanes.{is_half_made}
 use Rattle.bump_steps.specs.declared.views.Empty.{Empty}
 use Rattle.bump_steps.specs.declared.views.ClassPart.{ClassPart}
 use Rattle.bump_steps.specs.declared.views.LanePart.{LanePart}
@@ -33,8 +36,16 @@ class_turn table m v i count made all m' p rest long more numbers so_far now par
     by (k ∷ ks) rest long numbers so_far = subst (λ (x : Me Empty View). Turn table m v i count made all (record x.0 { classes = behind x.0.classes }, x.1) (record blank { classes = first_of x.0.classes }, [])) (sym rest)
         (refl, tt, sym numbers.0, numbers.1, refl, omega (arith, long), numbers.2, append_assoc made (class_seen k ∷ []) (map class_seen ks) ∙ so_far)
 
+-- a lane with nothing aboard is at rest
+rests_empty : (s : Lane) → ◌≡◌ {A = Option Bump} None (aboard_of s) → is_half_made s ≡ false
+rests_empty lane.Empty none = refl
+rests_empty (lane.Carrying b) none = absurd (cc none)
+rests_empty (lane.Tried b) none = absurd (cc none)
+rests_empty (lane.Cleared b f) none = absurd (cc none)
+rests_empty (lane.Moved b) none = absurd (cc none)
+
 abbrev pub LaneTurn : Me Empty View → View → ℕ → ℕ → List (Option LanePart) → List (Option LanePart) → Me Empty View → Me Empty View → Type 0
-LaneTurn m v i count made all m' p = (p ≡ lane_me (head_or no_lane p.0.lanes)) × (◌≡◌ {A = Option Bump} None (aboard_of (head_or no_lane p.0.lanes).stage)) × (m' ≡ (record v { lanes = m'.0.lanes }, [])) × (i + 1 + length m'.0.lanes ≡ count) × AreEmpty m'.0.lanes × ((made ++ lane_seen (head_or no_lane p.0.lanes) ∷ []) ++ map lane_seen m'.0.lanes ≡ all)
+LaneTurn m v i count made all m' p = (p ≡ lane_me (head_or no_lane p.0.lanes)) × (◌≡◌ {A = Option Bump} None (aboard_of (head_or no_lane p.0.lanes).stage)) × (is_half_made (head_or no_lane p.0.lanes).stage ≡ false) × (m' ≡ (record v { lanes = m'.0.lanes }, [])) × (i + 1 + length m'.0.lanes ≡ count) × AreEmpty m'.0.lanes × ((made ++ lane_seen (head_or no_lane p.0.lanes) ∷ []) ++ map lane_seen m'.0.lanes ≡ all)
 
 pub lane_turn : (m : Me Empty View) (v : View) (i count : ℕ) (made all : List (Option LanePart)) (m' p : Me Empty View) → m ≡ (record v { lanes = m.0.lanes }, []) → i + length m.0.lanes ≡ count → i < count → AreEmpty m.0.lanes → made ++ map lane_seen m.0.lanes ≡ all → m' ≡ (without_lane m.0, m.1) → p ≡ (lane_only m.0, [])
     → LaneTurn m v i count made all m' p
@@ -44,7 +55,7 @@ lane_turn m v i count made all m' p rest long more empty so_far now part =
     by : (ks : List LanePart) → m ≡ (record v { lanes = ks }, []) → i + length ks ≡ count → AreEmpty ks → made ++ map lane_seen ks ≡ all → LaneTurn m v i count made all (record m.0 { lanes = behind m.0.lanes }, m.1) (record blank { lanes = first_of m.0.lanes }, [])
     by [] rest long empty so_far = absurd (omega (arith, more))
     by (k ∷ ks) rest long empty so_far = subst (λ (x : Me Empty View). LaneTurn m v i count made all (record x.0 { lanes = behind x.0.lanes }, x.1) (record blank { lanes = first_of x.0.lanes }, [])) (sym rest)
-        (refl, sym empty.0, refl, omega (arith, long), empty.1, append_assoc made (lane_seen k ∷ []) (map lane_seen ks) ∙ so_far)
+        (refl, sym empty.0, rests_empty k.stage (sym empty.0), refl, omega (arith, long), empty.1, append_assoc made (lane_seen k ∷ []) (map lane_seen ks) ∙ so_far)
 
 -- ---- the parts of a first seat
 

@@ -1,9 +1,10 @@
 -- What contracts see of the seats of classes and lanes.
-use Rattle.std.specs.Prelude.{◌≡◌, ℕ, ◌+◌, ◌*◌, ◌<◌, ◌≤◌, true, [], ◌∷◌, Option, Some, None}
+use Rattle.std.specs.Prelude.{◌≡◌, ℕ, ◌+◌, ◌*◌, ◌<◌, ◌≤◌, true, false, [], ◌∷◌, Option, Some, None}
 use Rattle.atomic_table.specs.Table.{Me}
 use Rattle.atomic_table.specs.Seated.{TableId}
 use Rattle.atomic_table.specs.declared.shared.Seat.{Seat}
 use Rattle.bump_rules.specs.declared.bumps.Bump.{Bump}
+use Rattle.bump_rules.specs.Lanes.{is_half_made}
 use Rattle.bump_rules.specs.Lawful.{IsUsed}
 use Rattle.bump_rules.specs.Lives.{life}
 use Rattle.bump_rules.specs.Totals.{how_many}
@@ -34,9 +35,10 @@ abbrev pub lane_in : Option (Seat Empty View) → Option LanePart
 lane_in None = None
 lane_in (Some s) = Some (head_or no_lane s.me.0.lanes)
 
+-- a lane's seat, if it isn't hollow, has its part alone, and no bump that is half applied
 abbrev pub IsLane : TableId → Option (Seat Empty View) → Type 0
 IsLane table None = Unit {0}
-IsLane table (Some s) = (s.me ≡ lane_me (head_or no_lane s.me.0.lanes)) × (s.table_id ≡ table)
+IsLane table (Some s) = (s.me ≡ lane_me (head_or no_lane s.me.0.lanes)) × (s.table_id ≡ table) × (is_half_made (head_or no_lane s.me.0.lanes).stage ≡ false)
 
 abbrev pub bump_aboard : Option LanePart → Option Bump
 bump_aboard None = None

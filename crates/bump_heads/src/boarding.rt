@@ -2,19 +2,18 @@
 ghost use Rattle.std.specs.Prelude.{◌≡◌, IsSome, length, option_map};
 ghost use Rattle.bump_rules.specs.declared.lanes.Lane.TheVariants.{Empty as IsEmpty};
 ghost use Rattle.bump_steps.specs.Riders.{boarded, bump_of, applied_by};
-ghost use Rattle.bump_heads.specs.Applying.{stage_of, worker_of};
+ghost use Rattle.bump_heads.specs.Applying.{stage_of};
 
 use crate::seats::LaneSeat;
 use bump_readers::{Name, Rider};
 use bump_rules::Bump;
 
 impl<N: Name> LaneSeat<N> {
-    /// The bump goes aboard the lane, which is whole and has nothing aboard. It is a bump of the worker whose ring the lane drains, and
-    /// its number is that of the bumps that the lane applied before. No word changes.
+    /// The bump goes aboard the lane, which is whole and has nothing aboard. Its number is that of the bumps that the lane applied before,
+    /// and from then on it is a bump of the lane's worker. No word changes.
     pub fn board(&mut self, rider: Rider<N>)
         requires whole { IsSome self.old }
         requires empty { stage_of self.old ≡ IsEmpty }
-        requires worker { rider.worker ≡ worker_of self.old }
         requires next { rider.number ≡ length (applied_by self.old) }
         ensures boarded { self.new ≡ option_map (boarded (bump_of rider)) self.old }
     {

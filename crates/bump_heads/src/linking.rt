@@ -4,6 +4,7 @@ ghost use Rattle.bump_rules.specs.declared.places.Place.TheVariants.{Dying, Unus
 ghost use Rattle.bump_rules.specs.Labels.{label_of_life};
 ghost use Rattle.bump_rules.specs.Lawful.{bit, Shows};
 ghost use Rattle.bump_rules.specs.Lives.{life};
+ghost use Rattle.bump_word.specs.Words.{Fits};
 ghost use Rattle.bump_steps.specs.Views.{owns, label_of};
 ghost use Rattle.bump_steps.specs.Lives.{labelled, IsInSegment};
 ghost use Rattle.bump_heads.specs.Linking.{place_of_chunk, generation_of_chunk, with_look, with_life, without_life, with_sight};
@@ -19,6 +20,7 @@ impl<N: Name> ClassSeat<N> {
     pub fn look(&mut self, chunk: u32) -> Head
         requires own { owns chunk self.old.part ≡ true }
         ensures looked { self.new ≡ record self.old { part = with_look chunk result self.old.part } }
+        ensures fits { Fits result }
         ensures agrees { Shows result (place_of_chunk self.old.part chunk) }
         ensures generation { result.generation ≡ generation_of_chunk self.old.part chunk }
         ensures marks { bit result.active ≤ bit result.fetched }
@@ -70,6 +72,7 @@ impl<N: Name> ClassSeat<N> {
         requires own { owns chunk self.old.part ≡ true }
         requires linked { IsInSegment (place_of_chunk self.old.part chunk) }
         ensures ended { self.new ≡ record self.old { part = without_life chunk result self.old.part } }
+        ensures fits { Fits result }
         ensures agrees { Shows result (place_of_chunk self.old.part chunk) }
         ensures generation { result.generation ≡ generation_of_chunk self.old.part chunk }
         ensures counted { 0 < result.refs }
@@ -86,6 +89,7 @@ impl<N: Name> ClassSeat<N> {
         requires own { owns chunk self.old.part ≡ true }
         requires dying { place_of_chunk self.old.part chunk ≡ Dying }
         ensures seen { self.new ≡ record self.old { part = with_sight chunk result self.old.part } }
+        ensures fits { Fits result }
         ensures unlinked { result.linked ≡ false }
         ensures generation { result.generation ≡ generation_of_chunk self.old.part chunk }
     {

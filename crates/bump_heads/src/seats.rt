@@ -1,7 +1,9 @@
 //! The seats of classes and lanes of a named store. Contracts see plain data.
-ghost use Rattle.std.specs.Prelude.{◌≡◌, ◌*◌, ◌<◌, ◌+◌, [], ◌∷◌, None, Option as TheOption, is_some};
+ghost use Rattle.std.specs.Prelude.{◌≡◌, ◌*◌, ◌<◌, ◌+◌, [], ◌∷◌, None, Option as TheOption, is_some, false};
 ghost use Rattle.bump_heads.specs.declared.views.ClassView.{ClassView as TheClassView};
 ghost use Rattle.bump_steps.specs.declared.views.LanePart.{LanePart as TheLanePart};
+ghost use Rattle.bump_rules.specs.Lanes.{is_half_made};
+ghost use Rattle.bump_heads.specs.Applying.{carried_by, stage_of};
 ghost use Rattle.bump_heads.specs.Seats.{IsLane, lane_in, class_in, class_me, bump_aboard, IsInRange, IsClassPart};
 
 use crate::heads::Heads;
@@ -38,7 +40,8 @@ impl<N: Name> ClassSeat<N> {
     }
 }
 
-/// A lane's seat: its part, or None while it is hollow, joined to a class's seat.
+/// A lane's seat: its part, or None while it is hollow, joined to a class's seat. While it is whole no application is in progress: a
+/// bump aboard is one at which nobody looked yet.
 #[derive(Drop)]
 pub struct LaneSeat<N: Name> {
     pub(crate) seat: Option<Seat>,
@@ -58,14 +61,16 @@ impl<N: Name> Model for LaneSeat<N> {
 impl<N: Name> LaneSeat<N> {
     /// Whether it is whole: not joined to a class's seat.
     pub fn is_whole(&self) -> bool
-        ensures { result ≡ is_some self.now }
+        ensures whole { result ≡ is_some self.now }
+        ensures at_rest { is_half_made (stage_of self.now) ≡ false }
     {
         self.seat.is_some()
     }
 
     /// The bump aboard, if the lane is whole and one is.
     pub fn aboard(&self) -> Option<Bump>
-        ensures { result ≡ bump_aboard self.now }
+        ensures aboard { result ≡ bump_aboard self.now }
+        ensures carried { result ≡ carried_by self.now }
     {
         self.aboard
     }

@@ -46,8 +46,9 @@ impl<N: Name> Hold<N> {
         std::mem::replace(&mut self.badge, Badge::blank()).into_seat()
     }
 
-    /// Makes the hold whole again, by a seat that has a part of the hold's life alone.
+    /// Makes the hold, which is hollow, whole again, by a seat that has a part of the hold's life alone.
     pub fn seat_in(&mut self, seat: Seat)
+        requires hollow { self.old.part ≡ None }
         requires seat { (h : TheHoldPart) × (seat.me ≡ hold_me (Some h)) × (h.life ≡ self.old.life) }
         requires table { seat.table_id ≡ N.table }
         ensures whole { hold_me self.new.part ≡ seat.me }

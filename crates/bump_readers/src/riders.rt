@@ -32,9 +32,10 @@ impl<N: Name> Rider<N> {
         self.ride.worker
     }
 
-    /// Its number among that worker's accepted bumps, from 0.
+    /// How many bumps the worker had accepted before it, those that travelled counted: below 4,611,686,018,427,387,903.
     pub fn number(&self) -> u64
-        ensures { result ≡ self.now.number }
+        ensures number { result ≡ self.now.number }
+        ensures few { result < 4611686018427387903 }
     {
         self.ride.number
     }

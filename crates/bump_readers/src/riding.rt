@@ -1,7 +1,8 @@
 //! The reference of a bump: taken by a worker, and sent off, had back or dropped.
-ghost use Rattle.std.specs.Prelude.{◌≡◌, ◌<◌, ◌≤◌, Some, List, IfOk, OnOk, OnErr};
+ghost use Rattle.std.specs.Prelude.{◌≡◌, ◌+◌, ◌<◌, ◌≤◌, Some, List, IfOk, OnOk, OnErr};
 ghost use Rattle.bump_rules.specs.declared.hands.Hand.TheVariants.{Idle, Trying, InHand, Clearing};
 ghost use Rattle.bump_rules.specs.declared.items.Head.{Head as TheHead};
+ghost use Rattle.bump_word.specs.Words.{Fits};
 ghost use Rattle.bump_steps.specs.declared.views.HoldPart.{HoldPart as TheHoldPart};
 ghost use Rattle.bump_steps.specs.declared.views.Kind.TheVariants.{Release};
 ghost use Rattle.bump_steps.specs.Rides.{found_by, dropped_full, returned};
@@ -59,14 +60,14 @@ impl<N: Name> ReaderHeads<N> {
         })
     }
 
-    /// The rider comes back to its own worker, whose ring has no room for it. The worker is idle, has accepted a bump, and has a whole
-    /// hold of the rider's life joined to its seat. The reference is in its hand again, and the bump no longer counts as accepted. No
-    /// word is changed.
+    /// The rider comes back to its own worker, whose ring has no room for it. It is the last one that was sent off; the worker is idle, and
+    /// has a whole hold of the rider's life joined to its seat. The reference is in its hand again, and the bump no longer counts as
+    /// accepted, so that the next one gets its number. No word is changed.
     pub fn rider_back(&self, worker: &mut WorkerSeat<N>, rider: Rider<N>)
         requires held { (h : TheHoldPart) × (worker.old.hold ≡ Some h) × (h.life ≡ rider.life) }
         requires idle { worker.old.part.hand ≡ Idle }
         requires own { rider.worker ≡ worker.old.part.worker }
-        requires accepted { 0 < worker.old.part.accounts.accepted }
+        requires last { rider.number + 1 ≡ worker.old.part.accounts.accepted }
         ensures { worker.new ≡ record worker.old { part = returned rider worker.old.part } }
     {
         let Rider {
@@ -87,6 +88,7 @@ impl<N: Name> ReaderHeads<N> {
         ensures worker { worker.new ≡ record worker.old { part = dropped_full life (found_by Release life result worker.old.part) } }
         ensures generation { result.generation ≡ life.generation }
         ensures counted { 2 ≤ result.refs }
+        ensures fits { Fits result }
     {
         head_of(self.words.drop_full(&mut worker.seat, life))
     }

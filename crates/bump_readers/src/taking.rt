@@ -3,6 +3,7 @@ ghost use Rattle.std.specs.Prelude.{◌≡◌, ◌<◌, ◌≤◌, IfOk, IsSome,
 ghost use Rattle.bump_rules.specs.declared.items.Head.{Head as TheHead};
 ghost use Rattle.bump_rules.specs.Lawful.{bit};
 ghost use Rattle.bump_rules.specs.Totals.{total};
+ghost use Rattle.bump_word.specs.Words.{Fits};
 ghost use Rattle.bump_readers.specs.Seats.{hold_me, labels_in};
 ghost use Rattle.bump_steps.specs.Rule.{chunks as all_chunks};
 ghost use Rattle.bump_readers.specs.Taking.{Took, reads, whole_hold};
@@ -68,6 +69,7 @@ impl<N: Name> ReaderHeads<N> {
         requires whole { IsSome hold.part }
         ensures generation { result.generation ≡ hold.life.generation }
         ensures counted { 0 < result.refs }
+        ensures fits { Fits result }
     {
         let mut held = hold;
         let (head, spent) = self.release(&mut held);
@@ -81,6 +83,7 @@ impl<N: Name> ReaderHeads<N> {
         ensures hollow { hold.new ≡ record hold.old { part = None } }
         ensures generation { result.0.generation ≡ hold.old.life.generation }
         ensures counted { 0 < result.0.refs }
+        ensures fits { Fits result.0 }
         ensures spent { result.1.me ≡ hold_me None }
     {
         let mut seat = hold.seat_out();
@@ -108,6 +111,7 @@ impl<N: Name> ReaderHeads<N> {
         ensures limit { result.0.refs ≤ self.now.refs_limit }
         ensures linked { bit result.0.linked ≤ result.0.refs }
         ensures active { bit result.0.active ≤ bit result.0.fetched }
+        ensures fits { Fits result.0 }
     {
         let head = head_of(self.words.see(chunk));
         (head, self.words.see_time(chunk))

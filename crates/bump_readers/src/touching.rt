@@ -4,6 +4,7 @@ ghost use Rattle.bump_rules.specs.declared.hands.Hand.TheVariants as hand;
 ghost use Rattle.bump_rules.specs.Lives.{count_of};
 ghost use Rattle.bump_rules.specs.Rings.{most_attempts};
 ghost use Rattle.bump_rules.specs.Tables.{is_cold};
+ghost use Rattle.bump_word.specs.Words.{Fits};
 ghost use Rattle.bump_steps.specs.declared.views.HoldPart.{HoldPart as TheHoldPart};
 ghost use Rattle.bump_readers.specs.Seats.{held_life};
 ghost use Rattle.bump_steps.specs.Marks.{fetched_part, marked_part, unmarked_part, timed_part};
@@ -50,6 +51,7 @@ impl<N: Name> ReaderHeads<N> {
         requires idle { worker.old.part.hand ≡ hand.Idle }
         requires held { held_life worker.old.hold ≡ Some life }
         ensures worker { worker.new ≡ record worker.old { part = fetched_part life result worker.old.part } }
+        ensures fits { Fits result }
         ensures generation { result.generation ≡ life.generation }
         ensures count { 0 < result.refs }
         ensures first { result.fetched ≡ false → count_of life worker.old.part.hits ≡ 0 }
@@ -71,6 +73,7 @@ impl<N: Name> ReaderHeads<N> {
         requires fetched { 0 < fetches_of life worker.old.part }
         requires attempts { worker.old.part.accounts.attempted < most_attempts }
         ensures worker { worker.new ≡ record worker.old { part = marked_part life result worker.old.part } }
+        ensures fits { Fits result }
         ensures tries { (not result.active && is_cold result.segment) ≡ true → worker.new.part.hand ≡ hand.Trying life }
         ensures generation { result.generation ≡ life.generation }
         ensures count { 0 < result.refs }
@@ -86,6 +89,7 @@ impl<N: Name> ReaderHeads<N> {
         requires clearing { worker.old.part.hand ≡ hand.Clearing life }
         requires held { held_life worker.old.hold ≡ Some life }
         ensures worker { worker.new ≡ record worker.old { part = unmarked_part life result worker.old.part } }
+        ensures fits { Fits result }
         ensures idle { worker.new.part.hand ≡ hand.Idle }
         ensures generation { result.generation ≡ life.generation }
         ensures count { 0 < result.refs }

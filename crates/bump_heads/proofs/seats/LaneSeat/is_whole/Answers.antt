@@ -10,5 +10,5 @@ lane_of_seat : (o : Option (Seat Empty View)) → is_some (lane_in o) ≡ is_som
 lane_of_seat None = refl
 lane_of_seat (Some s) = refl
 
-pub returns : goal.returns
-returns g c = c.is_some.ensures ∙ sym (lane_of_seat c.self.inside.seat) ∙ ap is_some c.self.view_is
+pub returns-clause-whole : goal.returns-clause-whole
+returns-clause-whole g c = c.is_some.ensures ∙ sym (lane_of_seat c.self.inside.seat) ∙ ap is_some c.self.view_is
