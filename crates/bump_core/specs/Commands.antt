@@ -43,6 +43,7 @@ use Rattle.bump_rules.specs.Tables.{Get, IsStale, IsRefsFull, IsHeld, Hit, IsFir
 use Rattle.bump_links.specs.Lists.{last_of}
 use Rattle.bump_state.specs.Sweeps.{sweep_of}
 use Rattle.bump_state.specs.State.{State, WorkerState, chunk, head, class, worker, is_chunk, is_class, is_worker, with_chunk, with_head, with_worker, with_change, with_changes, class_of, is_linked, is_held, has_free_hold, is_open, some_and, is_under_application}
+use Rattle.bump_core.specs.Runs.{one_asks}
 use Rattle.bump_rules.specs.Hands.{is_idle}
 use Rattle.bump_rules.specs.Rings.{most_attempts}
 use Rattle.bump_rules.specs.Heads.{newborn, one_more, one_fewer, fetched_head, active_head, severed_head}
@@ -249,15 +250,6 @@ is_allowed s (command.Release l) = has_free_hold s l
 is_allowed s (command.Next w now) = is_worker s w && (not (is_half_made (worker s w).lane) && not (some_and (λ b. is_under_application s (class_of s b.life.chunk)) (bump_next (worker s w))))
 is_allowed s (command.Close w) = is_open s w && is_idle (worker s w).hand
 
--- A command that only reads or writes what is there asks for no memory. All others may: for an entry of a history, a bump, or a
--- first hit.
-abbrev pub command_asks_for_memory : Command → Bool
-command_asks_for_memory (command.Take w l) = false
-command_asks_for_memory (command.Label l) = false
-command_asks_for_memory (command.Release l) = false
-command_asks_for_memory (command.Close w) = false
-command_asks_for_memory _ = true
-
 -- what an unlink answers
 abbrev pub unlink_answer : State → ItemId → Answer
 unlink_answer s l = if not (is_chunk s l.chunk) then answer.NoSuchChunk else (if is_linked s l then answer.Ended (end_of s l) else answer.NotLinked)
@@ -343,9 +335,13 @@ events_of s (command.Release l) = event.Release l ∷ []
 events_of s (command.Next w now) = option_map_or (λ b. take_events w (worker s w).lane ++ apply_events (head s b.life.chunk) w now b.life.chunk) (bump_next (worker s w)) []
 events_of s (command.Close w) = event.Close w ∷ []
 
+-- A command asks for memory where one of its events does.
+abbrev pub command_asks_for_memory : State → Command → Bool
+command_asks_for_memory s c = one_asks s (events_of s c)
+
 -- What a command does: where it is allowed it answers and leaves what the tables say, else it refuses. Want of memory is the
--- last refusal: only a command that is allowed meets it. A refusal changes nothing.
+-- last refusal: only a command that is allowed and asks for memory meets it. A refusal changes nothing.
 abbrev pub Commands : State → Command → State → Result Answer Refused → Type 0
 Commands old c new (Ok answer) = (is_allowed old c ≡ true) × (new ≡ command_after old c) × (answer ≡ answer_of old c)
 Commands old c new (Err NotEnabled) = (is_allowed old c ≡ false) × (new ≡ old)
-Commands old c new (Err OutOfMemory) = (is_allowed old c ≡ true) × (new ≡ old)
+Commands old c new (Err OutOfMemory) = (is_allowed old c ≡ true) × (new ≡ old) × (command_asks_for_memory old c ≡ true)

@@ -1,5 +1,5 @@
 //! An attempted bump in the command of a hit: it is queued or dropped at once.
-ghost use Rattle.std.specs.Prelude.{◌≡◌, ◌<◌, [], ◌∷◌, ◌++◌, IfOk, OnOk, OnErr, Some, length};
+ghost use Rattle.std.specs.Prelude.{◌≡◌, ◌<◌, [], ◌∷◌, ◌++◌, IfOk, OnOk, OnErr, None, Some, length};
 ghost use Rattle.bump_core.specs.Commands.{counted, attempt, attempt_answer, dropped_at};
 ghost use Rattle.bump_rules.specs.Rings.{most_attempts};
 ghost use Rattle.bump_state.specs.State.{worker, with_worker};
@@ -51,6 +51,7 @@ pub fn attempt(parts: &mut Parts, w: u32, life: ItemId) -> Result<Touch, AllocEr
     ensures ok { OnOk result (state_of parts.new ≡ attempt (state_of parts.old) w life (dropped_at (state_of parts.old) w life)) }
     ensures answer { IfOk result (λ t. t ≡ attempt_answer (state_of parts.old) w (dropped_at (state_of parts.old) w life)) }
     ensures err { OnErr result (state_of parts.new ≡ state_of parts.old) }
+    ensures memory { OnErr result (dropped_at (state_of parts.old) w life ≡ None) }
 {
     let head = parts.head(life.chunk);
     if head.refs >= parts.refs_limit {

@@ -1,6 +1,7 @@
 //! The command of a hit: its change at once, by the hit table.
-ghost use Rattle.std.specs.Prelude.{◌≡◌, ◌<◌, IfOk, OnOk, OnErr, length};
-ghost use Rattle.bump_core.specs.Commands.{Commands, hit, hit_at, hit_answer};
+ghost use Rattle.std.specs.Prelude.{◌≡◌, ◌<◌, IfOk, OnOk, OnErr, true, length};
+ghost use Rattle.bump_core.specs.Commands.{Commands, hit, hit_at, hit_answer, hit_events};
+ghost use Rattle.bump_core.specs.Runs.{one_asks};
 ghost use Rattle.bump_rules.specs.Rings.{most_attempts};
 ghost use Rattle.bump_state.specs.State.{worker};
 ghost use Rattle.bump_state.specs.Views.{state_of};
@@ -21,6 +22,7 @@ fn hit(parts: &mut Parts, w: u32, life: ItemId, now: u64) -> Result<Touch, Alloc
     ensures ok { OnOk result (state_of parts.new ≡ hit (state_of parts.old) w life now (hit_at (state_of parts.old) life)) }
     ensures answer { IfOk result (λ t. t ≡ hit_answer (state_of parts.old) w life (hit_at (state_of parts.old) life)) }
     ensures err { OnErr result (state_of parts.new ≡ state_of parts.old) }
+    ensures memory { OnErr result (one_asks (state_of parts.old) (hit_events (state_of parts.old) w life now (hit_at (state_of parts.old) life)) ≡ true) }
 {
     let chunk = parts.chunk(life.chunk);
     let head = chunk.head;
