@@ -18,10 +18,12 @@ use Rattle.bump_rules.specs.declared.commands.Command.{Command}
 use Rattle.bump_rules.specs.declared.commands.Command.TheVariants as command
 use Rattle.bump_rules.specs.declared.history.Change.{Change}
 use Rattle.bump_rules.specs.declared.commands.Dropped.{Dropped}
+use Rattle.bump_rules.specs.declared.commands.Hit.{Hit}
+use Rattle.bump_rules.specs.declared.commands.Hit.TheVariants.{First as IsFirst, Attempts}
 use Rattle.bump_rules.specs.declared.events.Event.TheVariants as event
 use Rattle.bump_rules.specs.declared.events.Refused.{Refused}
 use Rattle.bump_rules.specs.declared.events.Refused.TheVariants.{NotEnabled, OutOfMemory}
-use Rattle.bump_rules.specs.Tables.{Hit, IsFirst, Attempts, is_unheld, is_cold, ended_of, pulled_to}
+use Rattle.bump_rules.specs.Tables.{is_unheld, is_cold, ended_of, pulled_to}
 use Rattle.bump_rules.specs.Heads.{one_fewer}
 use Rattle.bump_state.specs.State.{State, head, class, with_changes, is_under_application}
 use Rattle.bump_state.specs.Sweeps.{sweep_of}

@@ -9,7 +9,7 @@ ghost use Rattle.bump_state.specs.Worlds.{IsLawful};
 ghost use Rattle.bump_rules.specs.declared.commands.Command.TheVariants as command;
 
 use crate::commands::attempts::attempt;
-use bump_rules::{Answer, Head, ItemId, MOST_ATTEMPTS, Refused, Segment, Touch};
+use bump_rules::{Answer, Head, Hit, ItemId, MOST_ATTEMPTS, Refused, Touch};
 use bump_state::{Chunk, Parts};
 use std::alloc::AllocError;
 
@@ -26,35 +26,34 @@ fn hit(parts: &mut Parts, w: u32, life: ItemId, now: u64) -> Result<Touch, Alloc
 {
     let chunk = parts.chunk(life.chunk);
     let head = chunk.head;
-    if !head.fetched {
-        parts.push_first_hit(w, life)?;
-        parts.set_head(
-            life.chunk,
-            Head {
-                fetched: true,
-                ..head
-            },
-        );
-        return Ok(Touch::First);
-    }
-    if head.active {
-        return Ok(Touch::Already);
-    }
-    if matches!(head.segment, Segment::Cold) {
-        return attempt(parts, w, life);
-    }
-    parts.set_chunk(
-        life.chunk,
-        Chunk {
-            head: Head {
+    let second = Head {
+        fetched: true,
+        ..head
+    };
+    match head.hit(second) {
+        Hit::First => {
+            parts.push_first_hit(w, life)?;
+            parts.set_head(life.chunk, second);
+            Ok(Touch::First)
+        }
+        Hit::Already => Ok(Touch::Already),
+        Hit::Marked => {
+            let marked = Head {
                 active: true,
                 ..head
-            },
-            time: now,
-            ..chunk
-        },
-    );
-    Ok(Touch::Marked)
+            };
+            parts.set_chunk(
+                life.chunk,
+                Chunk {
+                    head: marked,
+                    time: now,
+                    ..chunk
+                },
+            );
+            Ok(Touch::Marked)
+        }
+        Hit::Attempts => attempt(parts, w, life),
+    }
 }
 
 /// A hit by a hold.
