@@ -7,6 +7,7 @@ pub mod HitsAsEvents
 pub mod HoldsAsEvents
 pub mod LanesAsEvents
 pub mod LinksAsEvents
+pub mod Memory
 pub mod NextBumps
 pub mod PullsAsEvents
 pub mod UnheldChunks

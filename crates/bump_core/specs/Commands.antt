@@ -28,6 +28,8 @@ use Rattle.bump_rules.specs.declared.commands.Answer.{Answer}
 use Rattle.bump_rules.specs.declared.commands.Answer.TheVariants as answer
 use Rattle.bump_rules.specs.declared.commands.Touch.{Touch}
 use Rattle.bump_rules.specs.declared.commands.Touch.TheVariants as touch
+use Rattle.bump_rules.specs.declared.commands.Hit.{Hit}
+use Rattle.bump_rules.specs.declared.commands.Hit.TheVariants.{First as IsFirst, Already as IsAlready, Marked as IsMarked, Attempts}
 use Rattle.bump_rules.specs.declared.commands.Dropped.{Dropped}
 use Rattle.bump_rules.specs.declared.commands.Dropped.TheVariants.{Full, Busy, RefsFull}
 use Rattle.bump_rules.specs.declared.commands.Pulled.{Pulled}
@@ -39,10 +41,11 @@ use Rattle.bump_rules.specs.declared.events.Refused.TheVariants.{NotEnabled, Out
 use Rattle.bump_rules.specs.Lives.{life}
 use Rattle.bump_rules.specs.History.{place_of, freed_change}
 use Rattle.bump_rules.specs.Lists.{list_at}
-use Rattle.bump_rules.specs.Tables.{Get, IsStale, IsRefsFull, IsHeld, Hit, IsFirst, IsAlready, IsMarked, Attempts, is_cold, is_over, get_of, ended_of, is_unheld, hit_of, dropped_of, outcome_of, pulled_of, pulled_to, segment_of}
+use Rattle.bump_rules.specs.Tables.{Get, IsStale, IsRefsFull, IsHeld, is_cold, is_over, get_of, ended_of, is_unheld, hit_of, dropped_of, touch_of, outcome_of, pulled_of, pulled_to, segment_of}
 use Rattle.bump_links.specs.Lists.{last_of}
 use Rattle.bump_state.specs.Sweeps.{sweep_of}
 use Rattle.bump_state.specs.State.{State, WorkerState, chunk, head, class, worker, is_chunk, is_class, is_worker, with_chunk, with_head, with_worker, with_change, with_changes, class_of, is_linked, is_held, has_free_hold, is_open, some_and, is_under_application}
+use Rattle.bump_core.specs.Runs.{one_asks}
 use Rattle.bump_rules.specs.Hands.{is_idle}
 use Rattle.bump_rules.specs.Rings.{most_attempts}
 use Rattle.bump_rules.specs.Heads.{newborn, one_more, one_fewer, fetched_head, active_head, severed_head}
@@ -141,7 +144,7 @@ hit_at s l = hit_of (head s l.chunk) (fetched_head (head s l.chunk))
 
 -- why a bump that a hit attempts is dropped, if it is: no exchange fails where nobody else makes a step
 abbrev pub dropped_at : State → ℕ → ItemId → Option Dropped
-dropped_at s w l = dropped_of (not (is_under_limit s l.chunk)) false (nat_lt (waiting (worker s w)) s.capacity)
+dropped_at s w l = dropped_of s.refs_limit 0 (head s l.chunk) (nat_lt (waiting (worker s w)) s.capacity)
 
 -- the accounts after an attempt
 abbrev pub counted : Accounts → Option Dropped → Accounts
@@ -157,10 +160,6 @@ attempt s w l None =
     with_worker (with_head s l.chunk (one_more (active_head (head s l.chunk)))) w (record x { accounts = counted x.accounts None; sent = x.sent ++ l ∷ [] })
 attempt s w l (Some d) = let x = worker s w in with_worker s w (record x { accounts = counted x.accounts (Some d) })
 
-abbrev pub attempt_answer : State → ℕ → Option Dropped → Touch
-attempt_answer s w None = touch.Queued (length (worker s w).sent)
-attempt_answer s w (Some d) = touch.Dropped d
-
 -- a hit, by the hit table
 abbrev pub hit : State → ℕ → ItemId → ℕ → Hit → State
 hit s w l now IsFirst = let x = worker s w in with_worker (with_head s l.chunk (fetched_head (head s l.chunk))) w (record x { first_hits = x.first_hits ++ l ∷ [] })
@@ -168,11 +167,9 @@ hit s w l now IsAlready = s
 hit s w l now IsMarked = with_chunk s l.chunk (record (chunk s l.chunk) { head = active_head (head s l.chunk); time = now })
 hit s w l now Attempts = attempt s w l (dropped_at s w l)
 
+-- what a hit answers: a bump gets the number of those sent before it
 abbrev pub hit_answer : State → ℕ → ItemId → Hit → Touch
-hit_answer s w l IsFirst = touch.First
-hit_answer s w l IsAlready = touch.Already
-hit_answer s w l IsMarked = touch.Marked
-hit_answer s w l Attempts = attempt_answer s w (dropped_at s w l)
+hit_answer s w l h = touch_of h (dropped_at s w l) (length (worker s w).sent)
 
 -- the worker has attempted as many bumps as any may
 abbrev pub is_exhausted : State → ℕ → Bool
@@ -191,7 +188,7 @@ bump_next x = by x.lane
 
 -- what applying a bump comes to, by the update table: the clearing step finds ACTIVE as it stands
 abbrev pub outcome_next : State → Bump → Outcome
-outcome_next s b = let h = head s b.life.chunk in outcome_of h h.active
+outcome_next s b = outcome_of (head s b.life.chunk) (head s b.life.chunk)
 
 -- what the end of an unlinked life comes to when a bump's reference is given back
 abbrev pub ended_at : State → ℕ → Ended
@@ -248,15 +245,6 @@ is_allowed s (command.Label l) = is_held s l
 is_allowed s (command.Release l) = has_free_hold s l
 is_allowed s (command.Next w now) = is_worker s w && (not (is_half_made (worker s w).lane) && not (some_and (λ b. is_under_application s (class_of s b.life.chunk)) (bump_next (worker s w))))
 is_allowed s (command.Close w) = is_open s w && is_idle (worker s w).hand
-
--- A command that only reads or writes what is there asks for no memory. All others may: for an entry of a history, a bump, or a
--- first hit.
-abbrev pub command_asks_for_memory : Command → Bool
-command_asks_for_memory (command.Take w l) = false
-command_asks_for_memory (command.Label l) = false
-command_asks_for_memory (command.Release l) = false
-command_asks_for_memory (command.Close w) = false
-command_asks_for_memory _ = true
 
 -- what an unlink answers
 abbrev pub unlink_answer : State → ItemId → Answer
@@ -343,9 +331,13 @@ events_of s (command.Release l) = event.Release l ∷ []
 events_of s (command.Next w now) = option_map_or (λ b. take_events w (worker s w).lane ++ apply_events (head s b.life.chunk) w now b.life.chunk) (bump_next (worker s w)) []
 events_of s (command.Close w) = event.Close w ∷ []
 
+-- A command asks for memory where one of its events does.
+abbrev pub command_asks_for_memory : State → Command → Bool
+command_asks_for_memory s c = one_asks s (events_of s c)
+
 -- What a command does: where it is allowed it answers and leaves what the tables say, else it refuses. Want of memory is the
--- last refusal: only a command that is allowed meets it. A refusal changes nothing.
+-- last refusal: only a command that is allowed and asks for memory meets it. A refusal changes nothing.
 abbrev pub Commands : State → Command → State → Result Answer Refused → Type 0
 Commands old c new (Ok answer) = (is_allowed old c ≡ true) × (new ≡ command_after old c) × (answer ≡ answer_of old c)
 Commands old c new (Err NotEnabled) = (is_allowed old c ≡ false) × (new ≡ old)
-Commands old c new (Err OutOfMemory) = (is_allowed old c ≡ true) × (new ≡ old)
+Commands old c new (Err OutOfMemory) = (is_allowed old c ≡ true) × (new ≡ old) × (command_asks_for_memory old c ≡ true)

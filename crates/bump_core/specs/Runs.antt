@@ -1,5 +1,5 @@
 -- Steps, and runs of many.
-use Rattle.std.specs.Prelude.{◌≡◌, ℕ, true, false, List, [], ◌∷◌, take, slice_get, Option, None, Some, Result, Ok, Err, OnOk, IfOk, OnErr, if◌then◌else◌}
+use Rattle.std.specs.Prelude.{◌≡◌, ℕ, Bool, true, false, ◌||◌, List, [], ◌∷◌, take, slice_get, Option, None, Some, Result, Ok, Err, OnOk, IfOk, OnErr, if◌then◌else◌}
 use Rattle.bump_rules.specs.declared.events.Event.{Event}
 use Rattle.bump_rules.specs.declared.events.Reply.{Reply}
 use Rattle.bump_rules.specs.declared.events.Refused.{Refused}
@@ -18,6 +18,11 @@ pub record Steps (old : State) (e : Event) (new : State) (result : Result Reply 
 abbrev pub run_of : State → List Event → Option State
 run_of s [] = Some s
 run_of s (e ∷ es) = if is_enabled s e then run_of (after s e) es else None
+
+-- one of the events asks for memory, each in the state that those before it left
+abbrev pub one_asks : State → List Event → Bool
+one_asks s [] = false
+one_asks s (e ∷ es) = asks_for_memory s e || one_asks (after s e) es
 
 -- the events that a run made: all, or those before the refused one
 abbrev pub made : List Event → Result Unit (ℕ × Refused) → List Event

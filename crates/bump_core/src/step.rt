@@ -1,6 +1,6 @@
 //! Each event, and each command, by the function that makes it.
 ghost use Rattle.std.specs.Prelude.{◌≡◌, IfErr, false};
-ghost use Rattle.bump_core.specs.Commands.{Commands, command_asks_for_memory};
+ghost use Rattle.bump_core.specs.Commands.{Commands};
 ghost use Rattle.bump_core.specs.Runs.{Steps};
 ghost use Rattle.bump_state.specs.Events.{asks_for_memory};
 ghost use Rattle.bump_state.specs.Views.{state_of};
@@ -50,8 +50,7 @@ pub fn step(parts: &mut Parts, event: Event) -> Result<Reply, Refused>
 /// Makes a command where it is allowed.
 pub fn command(parts: &mut Parts, command: Command) -> Result<Answer, Refused>
     requires { IsLawful (state_of parts.old) }
-    ensures command { Commands (state_of parts.old) command (state_of parts.new) result }
-    ensures memory { command_asks_for_memory command ≡ false → IfErr result (λ r. r ≡ NotEnabled) }
+    ensures { Commands (state_of parts.old) command (state_of parts.new) result }
 {
     match command {
         Command::Link { class, label, now } => links::call_link(parts, class, label, now),

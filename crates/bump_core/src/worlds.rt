@@ -83,11 +83,11 @@ impl World {
 
     /// Makes a command: a call as its events, with nothing between them. All room is reserved before anything is changed.
     /// Refused as NotEnabled where a number is out of range, a worker's ring is closed, a life has no free hold (a hit, a
-    /// release) or no hold (a label), or another command is half made in its way; a refusal changes nothing. Take, Label,
-    /// Release and Close ask for no memory.
+    /// release) or no hold (a label), or another command is half made in its way; a refusal changes nothing. Only a command
+    /// of which an event asks for memory may want it: so none that is answered without such an event, as NoSuchChunk, Already or Empty.
     pub fn command(&mut self, command: Command) -> Result<Answer, Refused>
         ensures command { Commands self.old command self.new result }
-        ensures memory { command_asks_for_memory command ≡ false → IfErr result (λ r. r ≡ NotEnabled) }
+        ensures memory { command_asks_for_memory self.old command ≡ false → IfErr result (λ r. r ≡ NotEnabled) }
         ensures events { OnOk result (run_of self.old (events_of self.old command) ≡ Some self.new) }
         ensures sizes { SameSizes self.old self.new }
         ensures lawful { IsLawful self.new }

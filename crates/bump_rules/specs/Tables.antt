@@ -10,6 +10,10 @@ use Rattle.bump_rules.specs.declared.bumps.Ended.{Ended}
 use Rattle.bump_rules.specs.declared.bumps.Ended.TheVariants.{Freed, Deferred}
 use Rattle.bump_rules.specs.declared.bumps.Outcome.{Outcome}
 use Rattle.bump_rules.specs.declared.bumps.Outcome.TheVariants as outcome
+use Rattle.bump_rules.specs.declared.commands.Hit.{Hit}
+use Rattle.bump_rules.specs.declared.commands.Hit.TheVariants as hit
+use Rattle.bump_rules.specs.declared.commands.Touch.{Touch}
+use Rattle.bump_rules.specs.declared.commands.Touch.TheVariants as touch
 use Rattle.bump_rules.specs.declared.commands.Dropped.{Dropped}
 use Rattle.bump_rules.specs.declared.commands.Dropped.TheVariants.{Full, Busy, RefsFull}
 use Rattle.bump_rules.specs.declared.commands.Pulled.{Pulled}
@@ -43,13 +47,6 @@ ended_of found = if is_unheld found then Freed else Deferred
 abbrev pub is_over : ℕ → ℕ → Bool
 is_over size limit = nat_lt limit size
 
--- what a hit comes to: its answer, or that it attempts a bump
-pub data Hit : Type 0 where
-  IsFirst : Hit
-  IsAlready : Hit
-  IsMarked : Hit
-  Attempts : Hit
-
 -- whether the segment bits say COLD, or WARM
 abbrev pub is_cold : Segment → Bool
 is_cold segment.Hot = false
@@ -67,20 +64,46 @@ makes_second first = first.fetched && not first.active
 
 -- by the word that the second step found
 abbrev pub hit_by_second : Head → Hit
-hit_by_second second = if second.active then IsAlready else (if is_cold second.segment then Attempts else IsMarked)
+hit_by_second second = if second.active then hit.Already else (if is_cold second.segment then hit.Attempts else hit.Marked)
 
--- The hit table: the first step sets FETCHED, the second ACTIVE. LINKED isn't looked at.
+-- The hit table, by the words that both steps found: the first one sets FETCHED, the second one ACTIVE. LINKED isn't looked at.
 abbrev pub hit_of : Head → Head → Hit
-hit_of first second = if not first.fetched then IsFirst else (if first.active then IsAlready else hit_by_second second)
+hit_of first second = if not first.fetched then hit.First else (if first.active then hit.Already else hit_by_second second)
 
--- The rule of an attempt: why the bump is dropped, if it is, by whether the count was at its limit, whether all exchanges
--- failed, and whether the ring had room.
-abbrev pub dropped_of : Bool → Bool → Bool → Option Dropped
-dropped_of at_limit all_failed has_room = if at_limit then Some RefsFull else (if all_failed then Some Busy else (if has_room then None else Some Full))
+-- after so many exchanges that failed no more are tried
+abbrev pub most_exchanges : ℕ
+most_exchanges = 8
 
--- The update table: what applying a bump comes to, by the word found and by whether the clearing step found ACTIVE.
-abbrev pub outcome_of : Head → Bool → Outcome
-outcome_of found cleared = if not found.linked then outcome.Gone else (if is_cold found.segment && cleared then outcome.Moved else outcome.TimeOnly)
+-- Why no reference is taken for a bump, if none is, by the limit, by how many exchanges failed, and by the word that the last of them
+-- found, or the load before them: the eighth that fails is the last, whatever word it found, and else the count is at the limit.
+abbrev pub refused_of : ℕ → ℕ → Head → Option Dropped
+refused_of limit failed found = if failed == most_exchanges then Some Busy else (if nat_lt found.refs limit then None else Some RefsFull)
+
+-- the ring's room decides where a reference was taken
+abbrev pub dropped_for_room : Bool → Option Dropped → Option Dropped
+dropped_for_room has_room (Some dropped) = Some dropped
+dropped_for_room has_room None = if has_room then None else Some Full
+
+-- The rule of an attempt: why the bump is dropped, if it is. First a reference is taken, and then the bump is pushed.
+abbrev pub dropped_of : ℕ → ℕ → Head → Bool → Option Dropped
+dropped_of limit failed found has_room = dropped_for_room has_room (refused_of limit failed found)
+
+-- what an attempt answers: why its bump was dropped, or the number of the bump
+abbrev pub attempted_of : Option Dropped → ℕ → Touch
+attempted_of None number = touch.Queued number
+attempted_of (Some dropped) number = touch.Dropped dropped
+
+-- what a hit answers, by what it comes to; where it attempts a bump, by why that was dropped, if it was, and by its number else
+abbrev pub touch_of : Hit → Option Dropped → ℕ → Touch
+touch_of hit.First dropped number = touch.First
+touch_of hit.Already dropped number = touch.Already
+touch_of hit.Marked dropped number = touch.Marked
+touch_of hit.Attempts dropped number = attempted_of dropped number
+
+-- The update table: what applying a bump comes to, by the word that Try found and the word that the clearing step found. The second is
+-- looked at only where the first is of a linked item in COLD, so that there is a clearing step.
+abbrev pub outcome_of : Head → Head → Outcome
+outcome_of found cleared = if not found.linked then outcome.Gone else (if is_cold found.segment && cleared.active then outcome.Moved else outcome.TimeOnly)
 
 -- what an evict tells of an item that it ended
 abbrev pub evicted_as : Ended → ItemId → Pulled

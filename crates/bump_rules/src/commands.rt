@@ -51,6 +51,22 @@ pub enum Dropped {
     RefsFull,
 }
 
+/// What the steps of a hit come to, by the hit table.
+#[derive(Clone, Copy, Debug, PartialEq, Eq)]
+pub enum Hit {
+    /// It is the item's first.
+    First,
+
+    /// The item was hit before, and is ACTIVE already.
+    Already,
+
+    /// ACTIVE was set in HOT or WARM, and the time is to be stored.
+    Marked,
+
+    /// ACTIVE was set in COLD, and a bump is to be attempted.
+    Attempts,
+}
+
 /// What a hit did.
 #[derive(Clone, Copy, Debug, PartialEq, Eq)]
 pub enum Touch {

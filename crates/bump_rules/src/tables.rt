@@ -1,21 +1,73 @@
-//! The tables: what an end, an applied bump and a pull come to, by the words found.
+//! The tables: what a hit, an attempt, an applied bump, an end and a pull come to, by the words found.
 ghost use Rattle.std.specs.Prelude.{◌≡◌};
-ghost use Rattle.bump_rules.specs.Tables.{ended_of, may_move, outcome_of, pulled_of, pulled_to, segment_of};
+ghost use Rattle.bump_rules.specs.Tables.{dropped_of, ended_of, hit_of, makes_second, may_move, most_exchanges, outcome_of, pulled_of, pulled_to, refused_of, segment_of, touch_of};
 
 use crate::bumps::{Ended, Outcome};
-use crate::commands::Pulled;
+use crate::commands::{Dropped, Hit, Pulled, Touch};
 use crate::items::{Head, ItemId};
 use crate::places::{Segment, Tail};
 
+/// After so many exchanges that failed no more are tried.
+pub const MOST_EXCHANGES: u32 = 8;
+
 impl Head {
-    /// The update table: what applying a bump comes to, by the head found and by whether the clearing step found ACTIVE.
-    pub fn outcome(self, cleared: bool) -> Outcome
+    /// Whether a hit whose first step found this head makes a second one.
+    pub fn makes_second(self) -> bool
+        ensures { result ≡ makes_second self }
+    {
+        self.fetched && !self.active
+    }
+
+    /// The hit table: what a hit comes to, by the heads that its first step and its second one found. Where no second one is made,
+    /// its head isn't looked at.
+    pub fn hit(self, second: Head) -> Hit
+        ensures { result ≡ hit_of self second }
+    {
+        if !self.fetched {
+            return Hit::First;
+        }
+        if self.active || second.active {
+            return Hit::Already;
+        }
+        match second.segment {
+            Segment::Cold => Hit::Attempts,
+            Segment::Hot | Segment::Warm => Hit::Marked,
+        }
+    }
+
+    /// Why no reference is taken for a bump, if none is, by the limit, by how many exchanges failed, and by the head that was found last.
+    pub fn refused(self, limit: u32, failed: u32) -> Option<Dropped>
+        ensures { result ≡ refused_of limit failed self }
+    {
+        if failed == MOST_EXCHANGES {
+            return Some(Dropped::Busy);
+        }
+        if self.refs < limit {
+            return None;
+        }
+        Some(Dropped::RefsFull)
+    }
+
+    /// The rule of an attempt: why a bump is dropped, if it is, by the same and by whether the ring has room.
+    pub fn dropped(self, limit: u32, failed: u32, has_room: bool) -> Option<Dropped>
+        ensures { result ≡ dropped_of limit failed self has_room }
+    {
+        let refused = self.refused(limit, failed);
+        if refused.is_none() && !has_room {
+            return Some(Dropped::Full);
+        }
+        refused
+    }
+
+    /// The update table: what applying a bump comes to, by the head that was found when it was looked at, and by the head that
+    /// the clearing step found. Where there is no such step, its head isn't looked at.
+    pub fn outcome(self, cleared: Head) -> Outcome
         ensures { result ≡ outcome_of self cleared }
     {
         if !self.linked {
             return Outcome::Gone;
         }
-        if matches!(self.segment, Segment::Cold) && cleared {
+        if matches!(self.segment, Segment::Cold) && cleared.active {
             return Outcome::Moved;
         }
         Outcome::TimeOnly
@@ -29,6 +81,21 @@ impl Head {
             return Ended::Freed;
         }
         Ended::Deferred
+    }
+}
+
+impl Hit {
+    /// What the hit answers: where it attempts a bump, by why that was dropped, if it was, and by its number else.
+    pub fn touch(self, dropped: Option<Dropped>, number: u64) -> Touch
+        ensures { result ≡ touch_of self dropped number }
+    {
+        match (self, dropped) {
+            (Hit::First, _) => Touch::First,
+            (Hit::Already, _) => Touch::Already,
+            (Hit::Marked, _) => Touch::Marked,
+            (Hit::Attempts, Some(dropped)) => Touch::Dropped(dropped),
+            (Hit::Attempts, None) => Touch::Queued(number),
+        }
     }
 }
 

@@ -25,7 +25,9 @@ use Rattle.bump_state.specs.Events.{next_chunk}
 use Rattle.bump_rules.specs.Lives.{life}
 use Rattle.bump_state.specs.State.{State, ClassState, WorkerState, new_worker, no_chunk, chunk, head, worker, is_class, is_worker, with_chunk, with_class, with_worker, class_of, is_current, is_linked, is_held, has_free_hold, is_open, workers_on, some_and, is_under_application, applies_in}
 use Rattle.bump_rules.specs.Hands.{is_idle, is_on}
-use Rattle.bump_rules.specs.Tables.{Get, IsStale, IsRefsFull, IsHeld, Hit, IsFirst, IsAlready, IsMarked, Attempts, pulled_to}
+use Rattle.bump_rules.specs.declared.commands.Hit.{Hit}
+use Rattle.bump_rules.specs.declared.commands.Hit.TheVariants.{First as IsFirst, Already as IsAlready, Marked as IsMarked, Attempts}
+use Rattle.bump_rules.specs.Tables.{Get, IsStale, IsRefsFull, IsHeld, pulled_to}
 use Rattle.bump_rules.specs.Totals.{total}
 use Rattle.bump_trace.specs.Ready.{IsResting, IsAtRest}
 

@@ -25,7 +25,9 @@ use Rattle.bump_core.specs.Commands.{is_allowed, answer_of, command_after, freed
 use Rattle.bump_state.specs.Events.{next_chunk, with_hold, without_hold}
 use Rattle.bump_rules.specs.Lives.{life, one_if}
 use Rattle.bump_state.specs.State.{State, ClassState, WorkerState, no_chunk, chunk, head, worker, is_chunk, is_current, is_held, is_open, with_chunk, with_class, with_worker}
-use Rattle.bump_rules.specs.Tables.{Get, IsStale, IsRefsFull, IsHeld, Hit, IsFirst, IsAlready, IsMarked, Attempts, get_of, is_of, pulled_to}
+use Rattle.bump_rules.specs.declared.commands.Hit.{Hit}
+use Rattle.bump_rules.specs.declared.commands.Hit.TheVariants.{First as IsFirst, Already as IsAlready, Marked as IsMarked, Attempts}
+use Rattle.bump_rules.specs.Tables.{Get, IsStale, IsRefsFull, IsHeld, get_of, is_of, pulled_to}
 use Rattle.bump_state.specs.Worlds.{IsLawful, holds_of}
 use Rattle.bump_core.proofs.Held.{held_by, held_at, held_else, one_if_same, one_if_cases, unheld_next}
 use Rattle.bump_trace.specs.OpenStore.{answer_by, state_by, Drained, drained_by, drained_of, drained_through}

@@ -13,7 +13,8 @@ use Rattle.bump_rules.specs.declared.events.Event.{Event}
 use Rattle.bump_rules.specs.declared.events.Event.TheVariants as event
 use Rattle.bump_rules.specs.declared.commands.Command.TheVariants as command
 use Rattle.bump_rules.specs.declared.commands.Dropped.TheVariants.{Full, RefsFull}
-use Rattle.bump_rules.specs.Tables.{IsFirst, IsAlready, IsMarked, Attempts, is_cold, dropped_of}
+use Rattle.bump_rules.specs.declared.commands.Hit.TheVariants.{First as IsFirst, Already as IsAlready, Marked as IsMarked, Attempts}
+use Rattle.bump_rules.specs.Tables.{is_cold, dropped_for_room}
 use Rattle.bump_state.specs.State.{State, ClassState, WorkerState, chunk, head, worker, no_chunk, is_chunk, is_worker, with_chunk, with_head, with_worker, is_current, is_held, has_free_hold, is_open, workers_on, some_and}
 use Rattle.bump_rules.specs.Hands.{tried_life, life_in_hand, cleared_life, is_idle}
 use Rattle.bump_state.specs.Worlds.{IsLawful}
@@ -196,7 +197,7 @@ module _ (s : State) (w : ℕ) (l : ItemId) (now : ℕ) (w_in : w < length s.wor
       ∙ by (is_under_limit s l.chunk) (ltb (waiting y) s.capacity) refl refl)
     where
       by : (a b : Bool) → is_under_limit s l.chunk ≡ a → ltb (waiting y) s.capacity ≡ b
-          → run_of (at s l.chunk w s.classes (record x { head = active_head h }) (record y { hand = hand.Trying l; accounts = began })) (attempt_events w (dropped_of (not a) false b)) ≡ Some (attempt s w l (dropped_of (not a) false b))
+          → run_of (at s l.chunk w s.classes (record x { head = active_head h }) (record y { hand = hand.Trying l; accounts = began })) (attempt_events w (dropped_for_room b (if a then None else Some RefsFull))) ≡ Some (attempt s w l (dropped_for_room b (if a then None else Some RefsFull)))
       by false b over room = refs_full_made clear over
       by true true under room = queued_made under room
       by true false under none = full_made clear under none

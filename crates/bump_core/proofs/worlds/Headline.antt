@@ -1,7 +1,7 @@
 -- What the headline says follows from that a World is lawful.
 use Rattle.std.proofs.Common.{◌≡◌, ℕ, ◌<◌, ◌&&◌, Bool, true, List, ◌++◌, length, refl, sym, ap, ◌∙◌, subst, arith}
 use Rattle.bump_rules.specs.declared.places.Place.{Place}
-use Rattle.bump_rules.specs.declared.places.Place.TheVariants.{Hot, Warm, Cold, Dying, Unused, Retired}
+use Rattle.bump_rules.specs.declared.places.Place.TheVariants.{Unused, Retired}
 use Rattle.bump_rules.specs.declared.bumps.Bump.{Bump}
 use Rattle.bump_core.specs.Headline.{Headline, AppliesInOrder, Stands}
 use Rattle.bump_rules.specs.History.{is_place}

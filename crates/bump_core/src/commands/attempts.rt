@@ -1,6 +1,7 @@
 //! An attempted bump in the command of a hit: it is queued or dropped at once.
-ghost use Rattle.std.specs.Prelude.{◌≡◌, ◌<◌, [], ◌∷◌, ◌++◌, IfOk, OnOk, OnErr, Some, length};
-ghost use Rattle.bump_core.specs.Commands.{counted, attempt, attempt_answer, dropped_at};
+ghost use Rattle.std.specs.Prelude.{◌≡◌, ◌<◌, [], ◌∷◌, ◌++◌, IfOk, OnOk, OnErr, None, Some, length};
+ghost use Rattle.bump_core.specs.Commands.{counted, attempt, dropped_at};
+ghost use Rattle.bump_rules.specs.Tables.{attempted_of};
 ghost use Rattle.bump_rules.specs.Rings.{most_attempts};
 ghost use Rattle.bump_state.specs.State.{worker, with_worker};
 ghost use Rattle.bump_state.specs.Views.{state_of};
@@ -49,17 +50,16 @@ pub fn attempt(parts: &mut Parts, w: u32, life: ItemId) -> Result<Touch, AllocEr
     requires room { (worker (state_of parts.old) w).accounts.attempted < most_attempts }
     requires lawful { IsLawful (state_of parts.old) }
     ensures ok { OnOk result (state_of parts.new ≡ attempt (state_of parts.old) w life (dropped_at (state_of parts.old) w life)) }
-    ensures answer { IfOk result (λ t. t ≡ attempt_answer (state_of parts.old) w (dropped_at (state_of parts.old) w life)) }
+    ensures answer { IfOk result (λ t. t ≡ attempted_of (dropped_at (state_of parts.old) w life) (length (worker (state_of parts.old) w).sent)) }
     ensures err { OnErr result (state_of parts.new ≡ state_of parts.old) }
+    ensures memory { OnErr result (dropped_at (state_of parts.old) w life ≡ None) }
 {
     let head = parts.head(life.chunk);
-    if head.refs >= parts.refs_limit {
-        count_drop(parts, w, Dropped::RefsFull);
-        return Ok(Touch::Dropped(Dropped::RefsFull));
-    }
-    if parts.waiting(w) >= parts.capacity as usize {
-        count_drop(parts, w, Dropped::Full);
-        return Ok(Touch::Dropped(Dropped::Full));
+    let has_room = parts.waiting(w) < parts.capacity as usize;
+    // nothing comes between the events of a command, so no exchange fails
+    if let Some(dropped) = head.dropped(parts.refs_limit, 0, has_room) {
+        count_drop(parts, w, dropped);
+        return Ok(Touch::Dropped(dropped));
     }
     let accounts = parts.accounts(w);
     let number = parts.sent_bumps(w).len() as u64;

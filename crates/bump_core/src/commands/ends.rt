@@ -1,8 +1,7 @@
 //! The commands of ends: an item is ended, and the chunks of DYING that nobody holds are freed.
-ghost use Rattle.std.specs.Prelude.{◌≡◌, ◌<◌, IfOk, OnOk, OnErr, true, length};
-ghost use Rattle.bump_core.specs.Commands.{Commands, is_allowed, end_life, end_of};
-ghost use Rattle.bump_state.specs.Sweeps.{sweep_of};
-ghost use Rattle.bump_state.specs.State.{is_linked, with_changes};
+ghost use Rattle.std.specs.Prelude.{◌≡◌, IfOk, OnOk, OnErr, true};
+ghost use Rattle.bump_core.specs.Commands.{Commands, end_life, end_of};
+ghost use Rattle.bump_state.specs.State.{is_linked};
 ghost use Rattle.bump_state.specs.Views.{state_of};
 ghost use Rattle.bump_state.specs.Worlds.{IsLawful};
 ghost use Rattle.bump_rules.specs.declared.commands.Command.TheVariants as command;
@@ -51,15 +50,6 @@ pub fn call_unlink(parts: &mut Parts, id: ItemId) -> Result<Answer, Refused>
     Ok(Answer::Ended(ended))
 }
 
-/// Whether a sweep may be made, by how many chunks it frees: only one that frees some has to wait for a lane.
-fn may_sweep(parts: &Parts, k: u32, count: u32) -> bool
-    requires class { k < length (state_of parts.now).classes }
-    requires count { count ≡ length (sweep_of (state_of parts.now) k) }
-    ensures { result ≡ is_allowed (state_of parts.now) (command.Sweep k) }
-{
-    count == 0 || !parts.is_under_application(k as usize)
-}
-
 /// Frees the chunks of a class's DYING that nobody holds.
 pub fn call_sweep(parts: &mut Parts, k: u32) -> Result<Answer, Refused>
     requires { IsLawful (state_of parts.old) }
@@ -69,7 +59,11 @@ pub fn call_sweep(parts: &mut Parts, k: u32) -> Result<Answer, Refused>
         return Err(Refused::NotEnabled);
     }
     let count = parts.count_unheld(k);
-    if !may_sweep(parts, k, count) {
+    // a sweep that frees nothing waits for no lane, and asks for no memory
+    if count == 0 {
+        return Ok(Answer::Swept(0));
+    }
+    if parts.is_under_application(k as usize) {
         return Err(Refused::NotEnabled);
     }
     parts.sweep_class(k, count)?;

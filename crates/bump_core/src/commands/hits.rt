@@ -1,6 +1,7 @@
 //! The command of a hit: its change at once, by the hit table.
-ghost use Rattle.std.specs.Prelude.{◌≡◌, ◌<◌, IfOk, OnOk, OnErr, length};
-ghost use Rattle.bump_core.specs.Commands.{Commands, hit, hit_at, hit_answer};
+ghost use Rattle.std.specs.Prelude.{◌≡◌, ◌<◌, IfOk, OnOk, OnErr, true, length};
+ghost use Rattle.bump_core.specs.Commands.{Commands, hit, hit_at, hit_answer, hit_events};
+ghost use Rattle.bump_core.specs.Runs.{one_asks};
 ghost use Rattle.bump_rules.specs.Rings.{most_attempts};
 ghost use Rattle.bump_state.specs.State.{worker};
 ghost use Rattle.bump_state.specs.Views.{state_of};
@@ -8,7 +9,7 @@ ghost use Rattle.bump_state.specs.Worlds.{IsLawful};
 ghost use Rattle.bump_rules.specs.declared.commands.Command.TheVariants as command;
 
 use crate::commands::attempts::attempt;
-use bump_rules::{Answer, Head, ItemId, MOST_ATTEMPTS, Refused, Segment, Touch};
+use bump_rules::{Answer, Head, Hit, ItemId, MOST_ATTEMPTS, Refused, Touch};
 use bump_state::{Chunk, Parts};
 use std::alloc::AllocError;
 
@@ -21,38 +22,38 @@ fn hit(parts: &mut Parts, w: u32, life: ItemId, now: u64) -> Result<Touch, Alloc
     ensures ok { OnOk result (state_of parts.new ≡ hit (state_of parts.old) w life now (hit_at (state_of parts.old) life)) }
     ensures answer { IfOk result (λ t. t ≡ hit_answer (state_of parts.old) w life (hit_at (state_of parts.old) life)) }
     ensures err { OnErr result (state_of parts.new ≡ state_of parts.old) }
+    ensures memory { OnErr result (one_asks (state_of parts.old) (hit_events (state_of parts.old) w life now (hit_at (state_of parts.old) life)) ≡ true) }
 {
     let chunk = parts.chunk(life.chunk);
     let head = chunk.head;
-    if !head.fetched {
-        parts.push_first_hit(w, life)?;
-        parts.set_head(
-            life.chunk,
-            Head {
-                fetched: true,
-                ..head
-            },
-        );
-        return Ok(Touch::First);
-    }
-    if head.active {
-        return Ok(Touch::Already);
-    }
-    if matches!(head.segment, Segment::Cold) {
-        return attempt(parts, w, life);
-    }
-    parts.set_chunk(
-        life.chunk,
-        Chunk {
-            head: Head {
+    let second = Head {
+        fetched: true,
+        ..head
+    };
+    match head.hit(second) {
+        Hit::First => {
+            parts.push_first_hit(w, life)?;
+            parts.set_head(life.chunk, second);
+            Ok(Touch::First)
+        }
+        Hit::Already => Ok(Touch::Already),
+        Hit::Marked => {
+            let marked = Head {
                 active: true,
                 ..head
-            },
-            time: now,
-            ..chunk
-        },
-    );
-    Ok(Touch::Marked)
+            };
+            parts.set_chunk(
+                life.chunk,
+                Chunk {
+                    head: marked,
+                    time: now,
+                    ..chunk
+                },
+            );
+            Ok(Touch::Marked)
+        }
+        Hit::Attempts => attempt(parts, w, life),
+    }
 }
 
 /// A hit by a hold.

@@ -1,10 +1,9 @@
 //! The commands of holds: a get, the label of what is held, and a release.
-ghost use Rattle.std.specs.Prelude.{◌≡◌, IfErr};
+ghost use Rattle.std.specs.Prelude.{◌≡◌};
 ghost use Rattle.bump_core.specs.Commands.{Commands};
 ghost use Rattle.bump_state.specs.Views.{state_of};
 ghost use Rattle.bump_state.specs.Worlds.{IsLawful};
 ghost use Rattle.bump_rules.specs.declared.commands.Command.TheVariants as command;
-ghost use Rattle.bump_rules.specs.declared.events.Refused.TheVariants.{NotEnabled};
 
 use bump_rules::{Answer, Head, ItemId, Refused};
 use bump_state::{Chunk, Parts};
@@ -12,8 +11,7 @@ use bump_state::{Chunk, Parts};
 /// Takes a hold of an item.
 pub fn call_take(parts: &mut Parts, worker: u32, id: ItemId) -> Result<Answer, Refused>
     requires { IsLawful (state_of parts.old) }
-    ensures command { Commands (state_of parts.old) (command.Take worker id) (state_of parts.new) result }
-    ensures memory { IfErr result (λ r. r ≡ NotEnabled) }
+    ensures { Commands (state_of parts.old) (command.Take worker id) (state_of parts.new) result }
 {
     if !parts.is_open(worker) {
         return Err(Refused::NotEnabled);
@@ -44,8 +42,7 @@ pub fn call_take(parts: &mut Parts, worker: u32, id: ItemId) -> Result<Answer, R
 
 /// The label of a held item.
 pub fn call_label(parts: &Parts, id: ItemId) -> Result<Answer, Refused>
-    ensures command { Commands (state_of parts.now) (command.Label id) (state_of parts.now) result }
-    ensures memory { IfErr result (λ r. r ≡ NotEnabled) }
+    ensures { Commands (state_of parts.now) (command.Label id) (state_of parts.now) result }
 {
     if !parts.is_held(id) {
         return Err(Refused::NotEnabled);
@@ -56,8 +53,7 @@ pub fn call_label(parts: &Parts, id: ItemId) -> Result<Answer, Refused>
 /// Gives a hold back.
 pub fn call_release(parts: &mut Parts, id: ItemId) -> Result<Answer, Refused>
     requires { IsLawful (state_of parts.old) }
-    ensures command { Commands (state_of parts.old) (command.Release id) (state_of parts.new) result }
-    ensures memory { IfErr result (λ r. r ≡ NotEnabled) }
+    ensures { Commands (state_of parts.old) (command.Release id) (state_of parts.new) result }
 {
     parts.release(id)?;
     Ok(Answer::Done)

@@ -127,7 +127,7 @@ fn apply(parts: &mut Parts, w: u32, now: u64, bump: Bump) -> Result<Entry, Alloc
     ensures err { OnErr result (state_of parts.new ≡ state_of parts.old) }
 {
     let chunk = parts.chunk(bump.life.chunk);
-    let outcome = chunk.head.outcome(chunk.head.active);
+    let outcome = chunk.head.outcome(chunk.head);
     let ended = chunk.head.one_fewer().ended();
     parts.reserve_applied(w)?;
     change_for(parts, w, bump, outcome, ended)?;

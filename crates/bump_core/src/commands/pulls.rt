@@ -1,6 +1,7 @@
 //! The command of a pull: its change at once, by the tail table.
 ghost use Rattle.std.specs.Prelude.{◌≡◌, ◌<◌, IfSome, OnOk, OnErr, Some, true, length};
-ghost use Rattle.bump_core.specs.Commands.{Commands, tail_of, is_list_over, pulled_at, pull_to, pull};
+ghost use Rattle.bump_core.specs.Commands.{Commands, tail_of, is_list_over, pulled_at, pull_to, pull, pull_events};
+ghost use Rattle.bump_core.specs.Runs.{one_asks};
 ghost use Rattle.bump_rules.specs.Lists.{IsListed};
 ghost use Rattle.bump_state.specs.State.{head, class, class_of};
 ghost use Rattle.bump_rules.specs.Tables.{segment_of};
@@ -101,6 +102,7 @@ fn pull(parts: &mut Parts, k: u32, tail: Tail, last: u32) -> Result<(), AllocErr
     requires linked { (head (state_of parts.old) last).linked ≡ true }
     ensures ok { OnOk result (state_of parts.new ≡ pull (state_of parts.old) k tail last) }
     ensures err { OnErr result (state_of parts.new ≡ state_of parts.old) }
+    ensures memory { OnErr result (one_asks (state_of parts.old) (pull_events (state_of parts.old) k tail last) ≡ true) }
 {
     if matches!(tail, Tail::Evict) {
         let generation = parts.head(last).generation;

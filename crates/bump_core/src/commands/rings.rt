@@ -1,17 +1,15 @@
 //! The command that closes a ring.
-ghost use Rattle.std.specs.Prelude.{◌≡◌, IfErr};
+ghost use Rattle.std.specs.Prelude.{◌≡◌};
 ghost use Rattle.bump_core.specs.Commands.{Commands};
 ghost use Rattle.bump_state.specs.Views.{state_of};
 ghost use Rattle.bump_rules.specs.declared.commands.Command.TheVariants as command;
-ghost use Rattle.bump_rules.specs.declared.events.Refused.TheVariants.{NotEnabled};
 
 use bump_rules::{Answer, Refused};
 use bump_state::Parts;
 
 /// Closes a worker's ring.
 pub fn call_close(parts: &mut Parts, worker: u32) -> Result<Answer, Refused>
-    ensures command { Commands (state_of parts.old) (command.Close worker) (state_of parts.new) result }
-    ensures memory { IfErr result (λ r. r ≡ NotEnabled) }
+    ensures { Commands (state_of parts.old) (command.Close worker) (state_of parts.new) result }
 {
     parts.close(worker)?;
     Ok(Answer::Done)
