@@ -101,8 +101,13 @@ fn calls_in<N: Name, R: Clock>(
         return Err(AllocError.into());
     };
     prepare_all(alloc, &heads, worker, &mut book, calls)?;
+    time_calls(rt, &mut book, calls)
+}
+
+// Makes the calls of a Book that is ready for them. Beside what they count stands the length of the list in which all items are then.
+fn time_calls<N: Name, R: Clock>(rt: &R, book: &mut Book<N>, calls: Calls) -> io::Result<Spent> {
     let start = Instant::now(rt)?;
-    let mut tally = timed_calls(&mut book, calls.call, calls.times);
+    let mut tally = timed_calls(book, calls.call, calls.times);
     let spent = start.elapsed(rt)?;
     tally.labels = tally
         .labels
@@ -200,6 +205,21 @@ fn number_at(words: &[String], place: usize) -> Option<u32> {
     words.get(place)?.parse::<u32>().ok()
 }
 
+// All that is measured, in the order of the tables.
+fn all_measured(alloc: Global) -> Result<Vec<Measured>, AllocError> {
+    let mut all = Vec::new(alloc);
+    for workload in &WORKLOADS {
+        all.push(Measured::Reads(*workload))?;
+    }
+    for calls in &CALLS {
+        all.push(Measured::Calls(*calls))?;
+    }
+    for moves in &MOVES {
+        all.push(Measured::Moves(*moves))?;
+    }
+    Ok(all)
+}
+
 fn main(rt: HostRuntime) -> io::Result<()> {
     let words = env::args(&rt)?.collect::<Vec<String>>(rt.alloc())?;
     let Some(word) = words.get(1) else {
@@ -207,10 +227,7 @@ fn main(rt: HostRuntime) -> io::Result<()> {
     };
     let passes = number_at(&words, 2).unwrap_or(PASSES);
     let threads = number_at(&words, 3);
-    let reads = WORKLOADS.into_iter().map(Measured::Reads);
-    let calls = CALLS.into_iter().map(Measured::Calls);
-    let moves = MOVES.into_iter().map(Measured::Moves);
-    for measured in reads.chain(calls).chain(moves) {
+    for measured in all_measured(rt.alloc())? {
         if measured.is_wanted(word.as_str(), threads) {
             measured.measure(&rt, rt.alloc(), passes)?;
         }
