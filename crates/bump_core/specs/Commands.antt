@@ -39,10 +39,8 @@ use Rattle.bump_rules.specs.declared.events.Event.TheVariants as event
 use Rattle.bump_rules.specs.declared.events.Refused.{Refused}
 use Rattle.bump_rules.specs.declared.events.Refused.TheVariants.{NotEnabled, OutOfMemory}
 use Rattle.bump_rules.specs.Lives.{life}
-use Rattle.bump_rules.specs.History.{place_of, freed_change}
-use Rattle.bump_rules.specs.Lists.{list_at}
-use Rattle.bump_rules.specs.Tables.{Get, IsStale, IsRefsFull, IsHeld, is_cold, is_over, get_of, ended_of, is_unheld, hit_of, dropped_of, touch_of, outcome_of, pulled_of, pulled_to, segment_of}
-use Rattle.bump_links.specs.Lists.{last_of}
+use Rattle.bump_rules.specs.History.{freed_change}
+use Rattle.bump_rules.specs.Tables.{Get, IsStale, IsRefsFull, IsHeld, is_cold, get_of, ended_of, is_unheld, hit_of, dropped_of, touch_of, outcome_of, pulled_of, pulled_to, segment_of, last_pulled, is_pulled_over}
 use Rattle.bump_state.specs.Sweeps.{sweep_of}
 use Rattle.bump_state.specs.State.{State, WorkerState, chunk, head, class, worker, is_chunk, is_class, is_worker, with_chunk, with_head, with_worker, with_change, with_changes, class_of, is_linked, is_held, has_free_hold, is_open, some_and, is_under_application}
 use Rattle.bump_core.specs.Runs.{one_asks}
@@ -85,14 +83,11 @@ looks_at heads cs = map (λ c. look_of c (ended_of (heads c))) cs
 
 -- the last chunk of the list that a pull looks at
 abbrev pub tail_of : State → ℕ → Tail → Option ℕ
-tail_of s k t = last_of (list_at (class s k).lists (place_of (segment_of t)))
+tail_of s k t = last_pulled t (class s k).lists
 
--- that list has more items than its limit; COLD has none, and an evict looks at none
+-- that list has more items than its limit
 abbrev pub is_list_over : State → ℕ → Tail → Bool
-is_list_over s k tail.Hot = is_over (length (class s k).lists.hot) (class s k).hot_limit
-is_list_over s k tail.Warm = is_over (length (class s k).lists.warm) (class s k).warm_limit
-is_list_over s k tail.Cold = false
-is_list_over s k tail.Evict = false
+is_list_over s k t = is_pulled_over t (class s k).lists (class s k).hot_limit (class s k).warm_limit
 
 -- what a pull does with its item, by the tail table
 abbrev pub pulled_at : State → ℕ → Tail → ℕ → Pulled

@@ -1,16 +1,21 @@
 -- What a World promises of its rings, its accounts, its free chunks, its lists and its lanes' entries, in the words of the headline.
-use Rattle.std.specs.Prelude.{◌≡◌, ℕ, ◌<◌, ◌≤◌, Bool, true, false, ◌&&◌, ◌++◌, length, map}
+use Rattle.std.specs.Prelude.{◌≡◌, ℕ, ◌<◌, ◌≤◌, Bool, true, false, ◌&&◌, ◌++◌, List, Some, length, map, take}
 use Rattle.std.specs.List.{Contains}
 use Rattle.bump_rules.specs.declared.places.Place.{Place}
 use Rattle.bump_rules.specs.declared.items.ItemId.{ItemId}
+use Rattle.bump_rules.specs.declared.events.Event.{Event}
+use Rattle.bump_rules.specs.declared.places.Segment.TheVariants.{Cold, Warm}
 use Rattle.bump_rules.specs.declared.bumps.AppliedBump.{AppliedBump}
+use Rattle.bump_rules.specs.declared.history.Cause.TheVariants.{Bump}
+use Rattle.bump_rules.specs.declared.history.Change.TheVariants.{Moved}
 use Rattle.bump_rules.specs.Totals.{total, how_many}
-use Rattle.bump_rules.specs.Entries.{is_stray, is_move_for, IsTrueEntry}
+use Rattle.bump_rules.specs.Entries.{is_stray, is_move_for, is_moved, ShowsMove, IsTrueEntry}
 use Rattle.bump_rules.specs.History.{is_place}
 use Rattle.bump_rules.specs.Lawful.{bit, Shows}
 use Rattle.bump_links.specs.Lists.{times}
 use Rattle.bump_rules.specs.Lists.{list_at, times_in_all}
 use Rattle.bump_state.specs.Rings.{in_ring}
+use Rattle.bump_core.specs.Runs.{run_of}
 use Rattle.bump_rules.specs.Rings.{aboard, bump_applied, numbered_from, IsRing, IsAccounts}
 use Rattle.bump_state.specs.State.{State, WorkerState, head, class, class_of, worker}
 use Rattle.bump_state.specs.Worlds.{references, owns, stands_in, CountsMoves}
@@ -53,6 +58,10 @@ pub record Headline (s : State) : Type 0 where
   pub moves : (k w n : ℕ) (test : ItemId → Bool) → CountsMoves s k w n test
   -- no two moves are for one bump
   pub named_once : (w n : ℕ) → moves_for s w n ≤ 1
+  -- each such move is shown by its lane: entry n of lane w has the same life and the outcome Moved, or the move is the application in progress
+  pub shown : (k w n : ℕ) (l : ItemId) → k < length s.classes → Contains (class s k).history (Moved l Cold Warm (Bump w n)) → ShowsMove n l (worker s w).applied (worker s w).lane
+  -- no history has a move for a bump of which its lane tells TimeOnly or Gone
+  pub unmoved : (w : ℕ) (a : AppliedBump) → w < length s.workers → Contains (worker s w).applied a → is_moved a.outcome ≡ false → moves_for s w a.number ≡ 0
   -- Each entry of a lane is true. Moved: its class's history has the move of that item for this very bump. Gone: it has the item's
   -- unlinking. TimeOnly: no history has a move for this bump.
   pub entries : (w : ℕ) (a : AppliedBump) → w < length s.workers → Contains (worker s w).applied a → IsTrueEntry (class s (class_of s a.life.chunk)).history w (moves_for s w a.number ≡ 0) a
@@ -60,3 +69,8 @@ pub record Headline (s : State) : Type 0 where
 -- A ring that was closed stays closed, and has accepted nothing since.
 abbrev pub ClosedStay : State → State → Type 0
 ClosedStay old new = (w : ℕ) → (worker old w).is_open ≡ false → ((worker new w).is_open ≡ false) × ((worker new w).sent ≡ (worker old w).sent)
+
+-- The same from each moment of a run on: from the state before it, and from that behind each of its first events. So a ring that
+-- closes within the run accepts nothing from then on.
+abbrev pub ClosedStayFrom : State → List Event → State → Type 0
+ClosedStayFrom old es new = (i : ℕ) (between : State) → run_of old (take i es) ≡ Some between → ClosedStay between new

@@ -38,3 +38,7 @@ received_of s w = (worker s w).received
 
 abbrev pub applied_of : State → ℕ → List AppliedBump
 applied_of s w = (worker s w).applied
+
+-- the limits of HOT and WARM in a class
+abbrev pub limits_of : State → ℕ → ℕ × ℕ
+limits_of s k = ((class s k).hot_limit, (class s k).warm_limit)

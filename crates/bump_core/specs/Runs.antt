@@ -29,6 +29,11 @@ abbrev pub made : List Event → Result Unit (ℕ × Refused) → List Event
 made es (Ok u) = es
 made es (Err (n, refused)) = take n es
 
+-- the events that a step or a command made: all of its own, or none where it was refused
+abbrev pub made_by : {A : Type 0} → List Event → Result A Refused → List Event
+made_by es (Ok answer) = es
+made_by es (Err refused) = []
+
 -- What a run does: it makes the events in order up to the first that is refused, and tells its place. That event was not
 -- enabled in the state that the events before it left; or it was and asks for memory, which was wanting.
 abbrev pub Runs : State → List Event → State → Result Unit (ℕ × Refused) → Type 0

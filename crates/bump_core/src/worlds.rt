@@ -29,13 +29,13 @@ impl Model for World {
 }
 
 impl World {
-    ghost use Rattle.std.specs.Prelude.{◌≡◌, IfErr, IfOk, OnOk, Some, false};
+    ghost use Rattle.std.specs.Prelude.{◌≡◌, [], ◌∷◌, IfErr, IfOk, OnOk, Some, false};
     ghost use Rattle.bump_core.specs.Commands.{Commands, command_asks_for_memory, events_of};
-    ghost use Rattle.bump_core.specs.Headline.{Headline, ClosedStay};
+    ghost use Rattle.bump_core.specs.Headline.{Headline, ClosedStay, ClosedStayFrom};
     ghost use Rattle.bump_rules.specs.declared.events.Refused.TheVariants.{NotEnabled};
     ghost use Rattle.bump_core.specs.Labels.{KeepsLabels};
     ghost use Rattle.bump_state.specs.Opening.{new_state};
-    ghost use Rattle.bump_core.specs.Runs.{Steps, Runs, run_of, made};
+    ghost use Rattle.bump_core.specs.Runs.{Steps, Runs, run_of, made, made_by};
     ghost use Rattle.bump_state.specs.Events.{asks_for_memory};
     ghost use Rattle.bump_state.specs.State.{head, SameSizes};
     ghost use Rattle.bump_core.specs.Readers.{list_of, time_of, label_of, holds_at, accounts_of, sent_of, received_of, applied_of};
@@ -59,6 +59,8 @@ impl World {
         ensures sizes { SameSizes self.old self.new }
         ensures lawful { IsLawful self.new }
         ensures headline { Headline self.new }
+        ensures labels { KeepsLabels self.old (made_by (event ∷ []) result) self.new }
+        ensures closed { ClosedStay self.old self.new }
     {
         step::step(&mut self.parts, event)
     }
@@ -70,7 +72,7 @@ impl World {
         ensures lawful { IsLawful self.new }
         ensures headline { Headline self.new }
         ensures labels { KeepsLabels self.old (made events.now result) self.new }
-        ensures closed { ClosedStay self.old self.new }
+        ensures closed { ClosedStayFrom self.old (made events.now result) self.new }
     {
         let _ = &self.parts;
         for (place, event) in events.iter().enumerate() {
@@ -92,6 +94,8 @@ impl World {
         ensures sizes { SameSizes self.old self.new }
         ensures lawful { IsLawful self.new }
         ensures headline { Headline self.new }
+        ensures labels { KeepsLabels self.old (made_by (events_of self.old command) result) self.new }
+        ensures closed { ClosedStay self.old self.new }
     {
         step::command(&mut self.parts, command)
     }

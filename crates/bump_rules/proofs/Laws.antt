@@ -11,7 +11,7 @@ use Rattle.bump_rules.specs.declared.places.Segment.TheVariants as segment
 use Rattle.bump_rules.specs.declared.places.Place.TheVariants.{Hot, Warm, Cold, Dying, Unused, Retired}
 use Rattle.bump_rules.specs.History.{place_of}
 use Rattle.bump_rules.specs.Lawful.{bit, Shows, IsUsed, Lawful}
-use Rattle.bump_rules.specs.Heads.{newborn, one_more, one_fewer, fetched_head, moved_head, severed_head}
+use Rattle.bump_rules.specs.Heads.{newborn, newborn_in, one_more, one_fewer, fetched_head, moved_head, severed_head}
 
 -- a mark counts at most 1
 pub bit_at_most : (b : Bool) → bit b ≤ 1
@@ -161,19 +161,23 @@ module _ (limit : ℕ) (h : Head) (at : Place) (r x : ℕ → ℕ) (o : Lawful l
     past = o.past;
   }
 
-  -- a new life
-  pub born : at ≡ Unused → 0 < limit → Lawful limit (newborn (h.generation + 1)) Hot r x
-  born free room = let none = none_where_free (ap IsUsed free) in record {
+  -- a new life in a segment
+  pub born_in : (to : Segment) → at ≡ Unused → 0 < limit → Lawful limit (newborn_in to (h.generation + 1)) (place_of to) r x
+  born_in to free room = let none = none_where_free (ap IsUsed free) in record {
     counted = omega (arith, none (h.generation + 1));
     within = omega arith;
     generation = let last = (subst (Shows h) free o.shown).1 in omega (arith, last);
-    shown = (refl, refl);
+    shown = shows_segment (newborn_in to (h.generation + 1)) to refl;
     used = λ g some. absurd (omega (arith, none g));
     active = omega arith;
     fetched = dite (ℕ_discrete (x (h.generation + 1)) 0) (λ e. e) (λ ne. absurd (omega (arith, o.past (h.generation + 1) (omega arith))));
     once = o.once;
     past = λ g some. omega (arith, o.past g some);
   }
+
+  -- which begins in HOT
+  pub born : at ≡ Unused → 0 < limit → Lawful limit (newborn (h.generation + 1)) Hot r x
+  born free room = born_in segment.Hot free room
 
   -- the chunk is unlinked, and its holders stay
   pub severed : h.linked ≡ true → Lawful limit (severed_head h) Dying r x

@@ -1,7 +1,7 @@
 -- The moves for bumps that a history has, and those that a lane tells of, entry by entry: over lists and one lane alone.
-use Rattle.std.proofs.Common.{◌≡◌, ℕ, suc, ◌+◌, ◌<◌, ◌≤◌, Bool, true, false, ◌&&◌, ◌==◌, List, [], ◌∷◌, ◌++◌, map, refl, sym, ap, ◌∙◌, arith, ne_eqb}
+use Rattle.std.proofs.Common.{◌≡◌, ℕ, suc, ◌+◌, ◌<◌, ◌≤◌, Bool, true, false, ◌&&◌, ◌==◌, List, [], ◌∷◌, ◌++◌, map, slice_get, Some, refl, sym, ap, ◌∙◌, subst, arith, ne_eqb, ◌⊎◌, inl, inr}
 use Rattle.std.proofs.Math.Bool.{and-true, and-false}
-use Rattle.std.proofs.lemmas.Bool.{and_from, not_from_false, eqb-true, eq-eqb}
+use Rattle.std.proofs.lemmas.Bool.{and_from, and_parts, cases_lt, not_from_false, eqb-true, eq-eqb}
 use Rattle.std.specs.List.{Contains}
 use Rattle.std.specs.Prelude.{not}
 use Rattle.bump_rules.specs.declared.items.ItemId.{ItemId}
@@ -16,7 +16,10 @@ use Rattle.bump_rules.specs.declared.lanes.Lane.TheVariants as lane
 use Rattle.bump_rules.specs.Tables.{is_cold, is_warm}
 use Rattle.bump_rules.specs.Totals.{how_many}
 use Rattle.bump_rules.specs.Rings.{aboard, bump_applied, numbered_from}
-use Rattle.bump_rules.specs.Entries.{is_any_bump, is_bump, names_bump, is_stray, is_move_for, is_moved, is_told_moved, moving, moves_told}
+use Rattle.bump_rules.specs.Entries.{is_any_bump, is_bump, names_bump, is_stray, is_move_for, is_moved, is_told_moved, moving, moves_told, ShowsMove}
+use Rattle.bump_rules.specs.Lanes.{bump_of, applied_bump}
+use Rattle.bump_rules.specs.declared.bumps.Outcome.{Outcome}
+use Rattle.bump_rules.specs.declared.bumps.Outcome.TheVariants as outcome
 use Rattle.bump_rules.proofs.Counted.{contained_counted}
 use Rattle.bump_rules.proofs.Updates.{total_append, total_same}
 use Rattle.bump_rules.specs.Lawful.{bit}
@@ -162,3 +165,68 @@ module _ (applied : List AppliedBump) (x : Lane) (received : List ItemId) (in_or
     numbered_once a.number 0 received,
     contained_counted (is_told_unmoved a.number) applied a has (and_from (not (is_moved a.outcome)) (a.number == a.number) (not_from_false (is_moved a.outcome) stays) (eq-eqb a.number a.number refl)),
   )
+
+-- Where a move is told.
+
+-- an outcome that is Moved
+moved_from : (o : Outcome) → is_moved o ≡ true → o ≡ outcome.Moved
+moved_from outcome.Moved is = refl
+moved_from outcome.TimeOnly is = absurd (let u : ⊥ = cc in u)
+moved_from outcome.Gone is = absurd (let u : ⊥ = cc in u)
+
+-- A test that one life alone passes.
+module _ (l : ItemId) (test : ItemId → Bool) (only : (j : ItemId) → test j ≡ true → j ≡ l) (n : ℕ) where
+  -- an entry that tells of a move for bump n of the life
+  entry_is : (a : AppliedBump) → is_told_moved test n a ≡ true → a ≡ applied_bump (bump_of n l) outcome.Moved
+  entry_is a told =
+      let parts = and_parts (is_moved a.outcome) ((a.number == n) && test a.life) told in
+      let more = and_parts (a.number == n) (test a.life) parts.1 in
+      ap (λ (k : ℕ). applied_bump (bump_of k a.life) a.outcome) (eqb-true a.number n more.0)
+      ∙ (ap (λ (j : ItemId). applied_bump (bump_of n j) a.outcome) (only a.life more.1)
+      ∙ ap (applied_bump (bump_of n l)) (moved_from a.outcome parts.0))
+
+  -- among entries that are numbered from m it stands at its number
+  entry_at : (m : ℕ) (applied : List AppliedBump) (rest : List Bump) (received : List ItemId) → map bump_applied applied ++ rest ≡ numbered_from m received
+      → 0 < how_many (is_told_moved test n) applied → (k : ℕ) × (n ≡ m + k) × (slice_get applied k ≡ Some (applied_bump (bump_of n l) outcome.Moved))
+  entry_at m [] rest received is some = absurd (omega (arith, some))
+  entry_at m (a ∷ more) rest [] is some = absurd (let u : ⊥ = cc in u)
+  entry_at m (a ∷ more) rest (j ∷ ls) is some = by (is_told_moved test n a) refl (entry_at (suc m) more rest ls)
+    where
+      first : a.number ≡ m
+      first = let e : bump_applied a ≡ bump_of m j = cc in ap (λ (b : Bump). b.number) e
+
+      behind : map bump_applied more ++ rest ≡ numbered_from (suc m) ls
+      behind = cc
+
+      by : (b : Bool) → is_told_moved test n a ≡ b
+          → (map bump_applied more ++ rest ≡ numbered_from (suc m) ls → 0 < how_many (is_told_moved test n) more
+          → (k : ℕ) × (n ≡ suc m + k) × (slice_get more k ≡ Some (applied_bump (bump_of n l) outcome.Moved)))
+          → (k : ℕ) × (n ≡ m + k) × (slice_get (a ∷ more) k ≡ Some (applied_bump (bump_of n l) outcome.Moved))
+      by true told later = let e = entry_is a told in (0, omega (arith, first, ap (λ (x : AppliedBump). x.number) e), ap (λ (x : AppliedBump). Some x) e)
+      by false told later = let k = later behind (omega (arith, some, ap bit told)) in (suc k.0, omega (arith, k.1), k.2)
+
+  -- a lane that has just made the move
+  moving_is : (x : Lane) → 0 < moving test n x → x ≡ lane.Moved (bump_of n l)
+  moving_is lane.Empty some = absurd (omega (arith, some))
+  moving_is (lane.Carrying b) some = absurd (omega (arith, some))
+  moving_is (lane.Tried b) some = absurd (omega (arith, some))
+  moving_is (lane.Cleared b found) some = absurd (omega (arith, some))
+  moving_is (lane.Moved b) some = by ((b.number == n) && test b.life) refl
+    where
+      by : (t : Bool) → ((b.number == n) && test b.life) ≡ t → lane.Moved b ≡ lane.Moved (bump_of n l)
+      by true is =
+          let parts = and_parts (b.number == n) (test b.life) is in
+          ap (λ (k : ℕ). lane.Moved (bump_of k b.life)) (eqb-true b.number n parts.0) ∙ ap (λ (j : ItemId). lane.Moved (bump_of n j)) (only b.life parts.1)
+      by false is = absurd (omega (arith, some, ap bit is))
+
+  -- a lane that tells of a move for bump n of the life shows it
+  pub told_shows : (applied : List AppliedBump) (x : Lane) (received : List ItemId) → map bump_applied applied ++ aboard x ≡ numbered_from 0 received
+      → 0 < moves_told test n applied x → ShowsMove n l applied x
+  told_shows applied x received is some = by (cases_lt 0 (how_many (is_told_moved test n) applied))
+    where
+      by : (0 < how_many (is_told_moved test n) applied) ⊎ (how_many (is_told_moved test n) applied ≤ 0) → ShowsMove n l applied x
+      by (inl told) =
+          let k = entry_at 0 applied (aboard x) received is told in
+          let same : k.0 ≡ n = omega (arith, k.1) in
+          inl (subst (λ (i : ℕ). slice_get applied i ≡ Some (applied_bump (bump_of n l) outcome.Moved)) same k.2)
+      by (inr none) = inr (moving_is x (omega (arith, some, none)))

@@ -4,13 +4,22 @@ use Rattle.std.proofs.lemmas.Bool.{and_from}
 use Rattle.bump_rules.specs.declared.places.Place.TheVariants.{Dying}
 use Rattle.bump_rules.specs.declared.places.Segment.{Segment}
 use Rattle.bump_rules.specs.declared.places.Segment.TheVariants as segment
+use Rattle.bump_rules.specs.declared.items.ItemId.{ItemId}
 use Rattle.bump_rules.specs.declared.history.Change.{Change}
 use Rattle.bump_rules.specs.declared.history.Change.TheVariants as change
-use Rattle.bump_rules.specs.History.{place_of, subject, target, Standing, standing_after, standing_from}
+use Rattle.bump_rules.specs.History.{place_of, subject, target, freed_change, Standing, standing_after, standing_from}
 use Rattle.bump_rules.specs.Lives.{life}
 use Rattle.bump_rules.specs.Totals.{how_many}
 use Rattle.bump_rules.specs.Entries.{is_unlink_of}
 use Rattle.bump_rules.specs.Lawful.{bit}
+
+-- the entry of a chunk that is freed speaks of its life
+pub freed_subject : (l : ItemId) → subject (freed_change l) ≡ l
+freed_subject l = by (eqb l.generation 4294967295)
+  where
+    by : (b : Bool) → subject (cond b (change.Retired l) (change.Swept l)) ≡ l
+    by true = refl
+    by false = refl
 
 -- the list of a segment is not DYING
 segment_not_dying : (to : Segment) → place_of to ≢ Dying

@@ -1,6 +1,6 @@
 -- What the lanes' entries and the histories of the classes say of each other: the moves for bumps, and when an entry of a lane is true.
 -- All of it is counted entry by entry, over histories and over one lane.
-use Rattle.std.specs.Prelude.{ℕ, ◌+◌, ◌<◌, Bool, true, false, not, cond, ◌==◌, ◌&&◌, List}
+use Rattle.std.specs.Prelude.{◌≡◌, ◌⊎◌, ℕ, ◌+◌, ◌<◌, Bool, true, false, not, cond, ◌==◌, ◌&&◌, List, slice_get, Some}
 use Rattle.bump_rules.specs.declared.items.ItemId.{ItemId}
 use Rattle.bump_rules.specs.declared.history.Cause.{Cause}
 use Rattle.bump_rules.specs.declared.history.Cause.TheVariants.{Pull, Bump}
@@ -11,6 +11,7 @@ use Rattle.bump_rules.specs.declared.bumps.Outcome.{Outcome}
 use Rattle.bump_rules.specs.declared.bumps.Outcome.TheVariants as outcome
 use Rattle.bump_rules.specs.declared.lanes.Lane.{Lane}
 use Rattle.bump_rules.specs.declared.lanes.Lane.TheVariants as lane
+use Rattle.bump_rules.specs.Lanes.{bump_of, applied_bump}
 use Rattle.bump_rules.specs.Lives.{is_same}
 use Rattle.bump_rules.specs.Tables.{is_warm, is_cold}
 use Rattle.bump_rules.specs.Totals.{how_many}
@@ -92,6 +93,10 @@ moving test n (lane.Moved b) = cond ((b.number == n) && test b.life) 1 0
 -- how many moves for bump n a lane tells of, by its entries and by how far it is, of items that pass the test
 abbrev pub moves_told : (ItemId → Bool) → ℕ → List AppliedBump → Lane → ℕ
 moves_told test n applied x = how_many (is_told_moved test n) applied + moving test n x
+
+-- Bump n of this life was moved, and its lane shows it: its entry n tells of it, or the move is the application in progress.
+abbrev pub ShowsMove : ℕ → ItemId → List AppliedBump → Lane → Type 0
+ShowsMove n l applied x = (slice_get applied n ≡ Some (applied_bump (bump_of n l) outcome.Moved)) ⊎ (x ≡ lane.Moved (bump_of n l))
 
 -- When an entry of a lane is true.
 

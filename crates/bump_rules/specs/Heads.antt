@@ -8,9 +8,13 @@ use Rattle.bump_rules.specs.declared.items.Head.{Head}
 abbrev pub fresh_head : ℕ → Head
 fresh_head g = record { refs = 0; linked = false; fetched = false; active = false; segment = Hot; generation = g }
 
--- the head of a new life
+-- the head of a new life in a segment
+abbrev pub newborn_in : Segment → ℕ → Head
+newborn_in to g = record { refs = 1; linked = true; fetched = false; active = false; segment = to; generation = g }
+
+-- a life begins in HOT
 abbrev pub newborn : ℕ → Head
-newborn g = record { refs = 1; linked = true; fetched = false; active = false; segment = Hot; generation = g }
+newborn g = newborn_in Hot g
 
 -- a reference more, or fewer
 abbrev pub one_more : Head → Head

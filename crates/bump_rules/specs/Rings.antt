@@ -37,6 +37,10 @@ attempts_of (hand.Trying l) = 1
 attempts_of (hand.InHand l) = 1
 attempts_of (hand.Clearing l) = 0
 
+-- the accounts of a worker that has attempted nothing
+abbrev pub no_accounts : Accounts
+no_accounts = record { attempted = 0; accepted = 0; full = 0; busy = 0; refs = 0 }
+
 -- No worker attempts more bumps than this.
 abbrev pub most_attempts : ℕ
 most_attempts = 4611686018427387903

@@ -1,5 +1,8 @@
 -- The tables: what a get, a hit, an attempt, an applied bump, an end and a pull come to, by the words found.
-use Rattle.std.specs.Prelude.{ℕ, Bool, true, false, not, ◌&&◌, ◌==◌, nat_lt, if◌then◌else◌, Option, None, Some}
+use Rattle.std.specs.Prelude.{ℕ, Bool, true, false, not, ◌&&◌, ◌==◌, nat_lt, if◌then◌else◌, length, Option, None, Some}
+use Rattle.bump_links.specs.Lists.{last_of}
+use Rattle.bump_rules.specs.Places.{place_of}
+use Rattle.bump_rules.specs.Lists.{Lists, list_at}
 use Rattle.bump_rules.specs.declared.places.Segment.{Segment}
 use Rattle.bump_rules.specs.declared.places.Segment.TheVariants as segment
 use Rattle.bump_rules.specs.declared.places.Tail.{Tail}
@@ -49,14 +52,12 @@ is_over size limit = nat_lt limit size
 
 -- whether the segment bits say COLD, or WARM
 abbrev pub is_cold : Segment → Bool
-is_cold segment.Hot = false
-is_cold segment.Warm = false
 is_cold segment.Cold = true
+is_cold _ = false
 
 abbrev pub is_warm : Segment → Bool
-is_warm segment.Hot = false
 is_warm segment.Warm = true
-is_warm segment.Cold = false
+is_warm _ = false
 
 -- whether a hit that found this word by its first step makes the second one
 abbrev pub makes_second : Head → Bool
@@ -134,6 +135,17 @@ segment_of tail.Hot = segment.Hot
 segment_of tail.Warm = segment.Warm
 segment_of tail.Cold = segment.Cold
 segment_of tail.Evict = segment.Cold
+
+-- the last chunk of that list, which a pull looks at
+abbrev pub last_pulled : Tail → Lists → Option ℕ
+last_pulled t lists = last_of (list_at lists (place_of (segment_of t)))
+
+-- whether that list has more items than its limit, by the limits of HOT and WARM: COLD has none, and an evict looks at none
+abbrev pub is_pulled_over : Tail → Lists → ℕ → ℕ → Bool
+is_pulled_over tail.Hot lists hot_limit warm_limit = is_over (length lists.hot) hot_limit
+is_pulled_over tail.Warm lists hot_limit warm_limit = is_over (length lists.warm) warm_limit
+is_pulled_over tail.Cold lists hot_limit warm_limit = false
+is_pulled_over tail.Evict lists hot_limit warm_limit = false
 
 -- a pull may move an item so
 abbrev pub may_move : Segment → Segment → Bool

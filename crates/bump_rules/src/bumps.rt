@@ -5,7 +5,7 @@ use crate::items::ItemId;
 pub const MOST_ATTEMPTS: u64 = 4_611_686_018_427_387_903;
 
 /// A bump on its way.
-#[derive(Clone, Copy)]
+#[derive(Clone, Copy, Debug, PartialEq, Eq)]
 pub struct Bump {
     /// Its number among its worker's accepted bumps, from 0.
     pub number: u64,

@@ -6,7 +6,7 @@ ghost use Rattle.bump_rules.specs.Lawful.{bit};
 use crate::items::ItemId;
 
 /// How far a worker is with an attempted bump.
-#[derive(Clone, Copy)]
+#[derive(Clone, Copy, Debug, PartialEq, Eq)]
 pub enum Hand {
     /// It attempts none.
     Idle,

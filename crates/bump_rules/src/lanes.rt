@@ -7,7 +7,7 @@ use crate::items::{Head, ItemId};
 use crate::places::Segment;
 
 /// How far a lane is with the bump that it carries.
-#[derive(Clone, Copy)]
+#[derive(Clone, Copy, Debug, PartialEq, Eq)]
 pub enum Lane {
     /// No bump is aboard.
     Empty,

@@ -13,7 +13,8 @@ use Rattle.bump_rules.specs.declared.hands.Hand.{Hand}
 use Rattle.bump_rules.specs.declared.hands.Hand.TheVariants as hand
 use Rattle.bump_rules.specs.Heads.{fresh_head}
 use Rattle.bump_rules.specs.History.{subject, target, replay}
-use Rattle.bump_rules.specs.Lists.{Lists, to_front}
+use Rattle.bump_rules.specs.Lists.{Lists, lists_by, to_front}
+use Rattle.bump_rules.specs.Rings.{no_accounts}
 use Rattle.bump_rules.specs.Totals.{total}
 use Rattle.bump_rules.specs.Hands.{is_on}
 use Rattle.bump_rules.specs.Lanes.{applied_life}
@@ -53,10 +54,7 @@ abbrev pub no_chunk : Chunk
 no_chunk = record { head = fresh_head 0; time = 0; label = 0; holds = 0 }
 
 abbrev pub no_class : ClassState
-no_class = record { first = 0; end = 0; fresh = 0; hot_limit = 0; warm_limit = 0; lists = record { hot = []; warm = []; cold = []; dying = []; unused = []; retired = [] }; history = [] }
-
-abbrev pub no_accounts : Accounts
-no_accounts = record { attempted = 0; accepted = 0; full = 0; busy = 0; refs = 0 }
+no_class = record { first = 0; end = 0; fresh = 0; hot_limit = 0; warm_limit = 0; lists = lists_by (λ _. []); history = [] }
 
 -- a worker at the start
 abbrev pub new_worker : WorkerState

@@ -2,7 +2,7 @@
 use bump_rules::Head;
 
 /// What a World keeps of a chunk.
-#[derive(Clone, Copy)]
+#[derive(Clone, Copy, Debug, PartialEq, Eq)]
 pub struct Chunk {
     /// What its head word says.
     pub head: Head,

@@ -8,7 +8,7 @@ use Rattle.bump_rules.specs.declared.commands.Command.{Command}
 use Rattle.bump_rules.specs.declared.commands.Command.TheVariants as command
 use Rattle.bump_state.specs.State.{State, SameSizes}
 use Rattle.bump_state.specs.Worlds.{IsLawful}
-use Rattle.bump_core.specs.Runs.{run_of}
+use Rattle.bump_core.specs.Runs.{run_of, made_by}
 use Rattle.bump_core.specs.Commands.{is_allowed, events_of, command_after, Commands}
 use Rattle.bump_core.proofs.worlds.Sizes.{run_sizes}
 use Rattle.bump_core.proofs.worlds.StaysLawful.{Keeps, run_keeps}
@@ -51,3 +51,8 @@ command_keeps old c new (Err r) k refused = subst Keeps (sym (refused_same old c
 pub command_sizes : (old : State) (c : Command) (new : State) (r : Result Answer Refused) → Keeps old → Commands old c new r → SameSizes old new
 command_sizes old c new (Ok answer) k made = run_sizes old (events_of old c) new (command_events old c new (Ok answer) k made)
 command_sizes old c new (Err r) k refused = subst (SameSizes old) (sym (refused_same old c new r refused)) (refl, refl, refl)
+
+-- a command leaves the state that the events that it made leave
+pub command_runs : (old : State) (c : Command) (new : State) (r : Result Answer Refused) → Keeps old → Commands old c new r → run_of old (made_by (events_of old c) r) ≡ Some new
+command_runs old c new (Ok answer) k made = command_events old c new (Ok answer) k made
+command_runs old c new (Err r) k refused = ap (λ (s : State). Some s) (sym (refused_same old c new r refused))

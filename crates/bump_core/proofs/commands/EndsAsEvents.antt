@@ -35,7 +35,8 @@ use Rattle.bump_core.proofs.events.Runs.{run_step}
 use Rattle.bump_state.proofs.Fronts.{once_at, listed, times_in}
 use Rattle.bump_core.proofs.worlds.StaysLawful.{lawful_after}
 use Rattle.bump_core.proofs.commands.ChangedLists.{class_of_kept, application_kept, no_changes, changes_more}
-use Rattle.bump_core.proofs.commands.FreedChunks.{freed_subject, linked_from}
+use Rattle.bump_core.proofs.commands.FreedChunks.{linked_from}
+use Rattle.bump_rules.proofs.Unlinks.{freed_subject}
 
 -- an end that comes to Freed found nobody who holds the chunk, and else somebody does
 pub ended_freed : (h : Head) → ended_of h ≡ Freed → is_unheld h ≡ true

@@ -15,15 +15,8 @@ use Rattle.bump_core.specs.Commands.{end_of, end_life, freed_by}
 use Rattle.bump_state.specs.Worlds.{IsLawful}
 use Rattle.bump_state.proofs.Enabled.{current_from}
 use Rattle.bump_state.proofs.Fronts.{listed_at}
+use Rattle.bump_rules.proofs.Unlinks.{freed_subject}
 use Rattle.bump_core.proofs.commands.ChangedLists.{two_changes}
-
--- the entry of a chunk that is free speaks of its life
-pub freed_subject : (l : ItemId) → subject (freed_change l) ≡ l
-freed_subject l = by (l.generation == 4294967295)
-  where
-    by : (b : Bool) → subject (if b then change.Retired l else change.Swept l) ≡ l
-    by true = refl
-    by false = refl
 
 -- a linked life is its chunk's, which is in range and linked
 pub linked_from : (s : State) (l : ItemId) → is_linked s l ≡ true → (l.chunk < length s.chunks) × ((head s l.chunk).generation ≡ l.generation) × ((head s l.chunk).linked ≡ true)

@@ -7,7 +7,7 @@ use Rattle.bump_rules.specs.declared.events.Event.{Event}
 use Rattle.bump_rules.specs.declared.events.Reply.{Reply}
 use Rattle.bump_rules.specs.declared.events.Refused.{Refused}
 use Rattle.bump_rules.specs.declared.events.Refused.TheVariants.{NotEnabled, OutOfMemory}
-use Rattle.bump_core.specs.Runs.{Steps, Runs, run_of}
+use Rattle.bump_core.specs.Runs.{Steps, Runs, run_of, made_by}
 use Rattle.bump_state.specs.State.{State}
 use Rattle.bump_state.specs.Events.{is_enabled, asks_for_memory, after}
 
@@ -59,3 +59,8 @@ by_step P old e new (Err r) before behind refused = subst P (sym (refused_same o
 pub by_run : (P : State → Type 0) → ((s : State) → P s → (e : Event) → is_enabled s e ≡ true → P (after s e)) → (s : State) (es : List Event) (t : State) → P s → run_of s es ≡ Some t → P t
 by_run P kept s [] t p ends = let same : s ≡ t = cc in subst P same p
 by_run P kept s (e ∷ es) t p ends = let parts = run_parts s e es t ends in by_run P kept (after s e) es t (kept s p e parts.0) parts.1
+
+-- a step leaves the state that the events that it made leave
+pub step_runs : (old : State) (e : Event) (new : State) (r : Result Reply Refused) → Steps old e new r → run_of old (made_by (e ∷ []) r) ≡ Some new
+step_runs old e new (Ok reply) made = run_step old new e [] made.enabled (sym made.state)
+step_runs old e new (Err r) refused = ap (λ (x : State). Some x) (sym (refused_same old e new r refused))

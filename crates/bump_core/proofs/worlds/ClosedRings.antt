@@ -1,5 +1,5 @@
 -- A ring that was closed stays closed, and accepts nothing.
-use Rattle.std.proofs.Common.{◌≡◌, ℕ, ◌&&◌, not, true, false, List, Some, refl, sym, ap, ◌∙◌, nat_lt}
+use Rattle.std.proofs.Common.{◌≡◌, ℕ, ◌&&◌, not, true, false, List, [], ◌∷◌, ◌++◌, take, drop, take-append-drop, Some, refl, sym, ap, ◌∙◌, subst, nat_lt}
 use Rattle.std.proofs.lemmas.Bool.{and_parts, both_ways}
 use Rattle.std.proofs.lemmas.List.{get_or-set_other}
 use native.Mathlib.Decide.{ℕ_discrete}
@@ -7,13 +7,13 @@ use Rattle.bump_rules.specs.declared.events.Event.{Event}
 use Rattle.bump_rules.specs.declared.events.Event.TheVariants as event
 use Rattle.bump_state.specs.Events.{is_enabled, after, next_chunk, next_bump, ending, waiting, reserve, drop_refs, drop_busy, push, drop_full, unmark, with_label, with_time, link, take_bump, clear_for, move_for, alight}
 use Rattle.bump_rules.specs.Lanes.{carried, tried, applied_now, cleared_active}
-use Rattle.bump_core.specs.Headline.{ClosedStay}
+use Rattle.bump_core.specs.Headline.{ClosedStay, ClosedStayFrom}
 use Rattle.bump_core.specs.Runs.{run_of}
 use Rattle.bump_state.specs.State.{State, WorkerState, head, worker, new_worker, with_worker, is_worker, is_open, some_and}
 use Rattle.bump_rules.specs.Hands.{tried_life, life_in_hand, cleared_life}
 use Rattle.bump_rules.specs.Tables.{is_cold}
 use Rattle.bump_state.proofs.Enabled.{close_from, by_test, by_value}
-use Rattle.bump_core.proofs.events.Runs.{by_run}
+use Rattle.bump_core.proofs.events.Runs.{by_run, run_parts}
 use Rattle.bump_rules.proofs.Updates.{same_read}
 
 -- Rings.
@@ -74,3 +74,12 @@ closed_after s (event.Alight w) enabled = by_value (ClosedStay s) (alight s w) (
 -- a run opens no closed ring, and sends no bump by one
 pub closed_stay : (s : State) (es : List Event) (t : State) → run_of s es ≡ Some t → ClosedStay s t
 closed_stay s es t ends = by_run (ClosedStay s) (λ u stay e enabled. closed_on s u (after u e) stay (closed_after u e enabled)) s es t (closed_here s) ends
+
+-- what ran behind the first events of a run, runs from the state that they left
+run_rest : (s : State) (es fs : List Event) (t u : State) → run_of s (es ++ fs) ≡ Some u → run_of s es ≡ Some t → run_of t fs ≡ Some u
+run_rest s [] fs t u all first = let same : s ≡ t = cc in subst (λ (x : State). run_of x fs ≡ Some u) same all
+run_rest s (e ∷ es) fs t u all first = let whole = run_parts s e (es ++ fs) u all in let part = run_parts s e es t first in run_rest (after s e) es fs t u whole.1 part.1
+
+-- so no ring that is closed at a moment of the run takes a bump from then on
+pub closed_from : (s : State) (es : List Event) (u : State) → run_of s es ≡ Some u → ClosedStayFrom s es u
+closed_from s es u ends i t first = closed_stay t (drop i es) u (run_rest s (take i es) (drop i es) t u (ap (run_of s) (take-append-drop i es) ∙ ends) first)

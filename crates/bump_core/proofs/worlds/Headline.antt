@@ -14,7 +14,7 @@ use Rattle.bump_state.specs.State.{State, WorkerState, class, head, worker}
 use Rattle.bump_state.specs.Worlds.{owns, place, place_in, stands_in, IsLawful}
 use Rattle.bump_state.proofs.LawfulStates.{referred_in_range, referred_used}
 use Rattle.bump_state.proofs.Fronts.{times_in, listed, never_at}
-use Rattle.bump_core.proofs.worlds.TrueEntries.{named_once, true_entry}
+use Rattle.bump_core.proofs.worlds.TrueEntries.{named_once, move_shown, not_named, true_entry}
 use Rattle.bump_state.proofs.Ring.{numbered_append}
 use Rattle.bump_rules.proofs.Standings.{other_place, once_in_places}
 
@@ -55,5 +55,7 @@ headline s o = record {
   causes = λ k within. (o.classes k within).causes;
   moves = o.moves;
   named_once = named_once s o;
+  shown = λ k w n l within has. move_shown s o k w n l has;
+  unmoved = λ w a within has stays. not_named s o w a has stays;
   entries = true_entry s o;
 }

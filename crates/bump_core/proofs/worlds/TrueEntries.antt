@@ -1,13 +1,17 @@
 -- The entries of the lanes of a lawful World are true, and no two moves are for one bump.
 use Rattle.std.proofs.Common.{◌≡◌, ℕ, ◌+◌, ◌<◌, ◌≤◌, ◌≢◌, true, false, ◌&&◌, ◌==◌, map, length, ◌++◌, refl, sym, ap, ◌∙◌, subst, arith, inl, inr, eq-eqb, ne_eqb}
 use Rattle.std.specs.List.{Contains}
-use Rattle.std.proofs.lemmas.Bool.{and_from, cases_lt}
+use Rattle.std.proofs.lemmas.Bool.{and_from, and_parts, cases_lt}
 use Rattle.std.proofs.lemmas.List.{get_or_past}
 use native.Mathlib.Decide.{ℕ_discrete}
+use Rattle.bump_rules.specs.declared.items.ItemId.{ItemId}
+use Rattle.bump_rules.specs.declared.places.Segment.TheVariants as segment
+use Rattle.bump_rules.specs.declared.history.Cause.TheVariants.{Bump as BumpOf}
+use Rattle.bump_rules.specs.declared.history.Change.TheVariants as change
 use Rattle.bump_rules.specs.declared.bumps.AppliedBump.{AppliedBump}
 use Rattle.bump_rules.specs.declared.bumps.Outcome.{Outcome}
 use Rattle.bump_rules.specs.declared.bumps.Outcome.TheVariants as outcome
-use Rattle.bump_rules.specs.Entries.{is_move_for, is_moved, is_gone, is_told_moved, is_told_gone, moves_told, Says, IsTrueEntry}
+use Rattle.bump_rules.specs.Entries.{is_move_for, is_moved, is_gone, is_told_moved, is_told_gone, moves_told, Says, ShowsMove, IsTrueEntry}
 use Rattle.bump_core.specs.Headline.{moves_for}
 use Rattle.bump_rules.specs.Lawful.{bit}
 use Rattle.bump_rules.specs.Lives.{is_same}
@@ -17,8 +21,8 @@ use Rattle.bump_rules.specs.Totals.{how_many}
 use Rattle.bump_state.specs.Worlds.{is_of_class, IsLawful}
 use Rattle.bump_rules.proofs.Counted.{contained_counted, total_of_none, total_at_most_one}
 use Rattle.bump_rules.proofs.Laws.{bit_at_most}
-use Rattle.bump_rules.proofs.ToldMoves.{told_apart, told_below, told_once, told_never}
-use Rattle.bump_state.proofs.LawfulStates.{same_life}
+use Rattle.bump_rules.proofs.ToldMoves.{told_apart, told_below, told_once, told_never, told_shows}
+use Rattle.bump_state.proofs.LawfulStates.{same_life, same_lives}
 
 -- a number is not two numbers
 one_of_two : (n j k : ℕ) → j ≢ k → bit ((n == j) && true) + bit ((n == k) && true) ≤ 1
@@ -60,6 +64,17 @@ module _ (s : State) (o : IsLawful s) where
   pub not_named : (w : ℕ) (a : AppliedBump) → Contains (worker s w).applied a → is_moved a.outcome ≡ false → moves_for s w a.number ≡ 0
   not_named w a has stays = total_of_none (λ (k : ClassState). how_many (is_move_for (λ l. true) w a.number) k.history) no_class s.classes
       (λ i within. omega (arith, moves_in i w a.number, told_never (worker s w).applied (worker s w).lane (worker s w).received (in_order w) a has stays))
+
+  -- the move of a life for a bump, which a history has, is shown by the lane
+  pub move_shown : (k w n : ℕ) (l : ItemId) → Contains (class s k).history (change.Moved l segment.Cold segment.Warm (BumpOf w n)) → ShowsMove n l (worker s w).applied (worker s w).lane
+  move_shown k w n l has = told_shows l (is_of_class s k (is_same l)) only n (worker s w).applied (worker s w).lane (worker s w).received (in_order w) (omega (arith, o.moves k w n (is_same l), counted))
+    where
+      only : (j : ItemId) → is_of_class s k (is_same l) j ≡ true → j ≡ l
+      only j passes = sym (same_lives l j (and_parts (class_of s j.chunk == k) (is_same l j) passes).1)
+
+      counted : 0 < how_many (is_move_for (is_same l) w n) (class s k).history
+      counted = contained_counted (is_move_for (is_same l) w n) (class s k).history _ has
+          (and_from (is_same l l) ((w == w) && (n == n)) (same_life l) (and_from (w == w) (n == n) (eq-eqb w w refl) (eq-eqb n n refl)))
 
   -- where an entry tells of a move, the history of its item's class has it
   told_has_move : (w : ℕ) (a : AppliedBump) → Contains (worker s w).applied a → is_moved a.outcome ≡ true → 0 < how_many (is_move_for (is_same a.life) w a.number) (class s (class_of s a.life.chunk)).history

@@ -1,10 +1,10 @@
 //! What the World tells of itself.
 ghost use Rattle.std.specs.Prelude.{◌≡◌, ◌<◌, All, length};
 ghost use Rattle.bump_links.specs.Lists.{last_of};
-ghost use Rattle.bump_state.specs.State.{head};
+ghost use Rattle.bump_state.specs.State.{head, is_open};
 ghost use Rattle.bump_core.specs.Headline.{Headline};
 ghost use Rattle.bump_state.specs.Worlds.{IsLawful};
-ghost use Rattle.bump_core.specs.Readers.{list_of, history_of, time_of, label_of, holds_at, accounts_of, sent_of, received_of, applied_of};
+ghost use Rattle.bump_core.specs.Readers.{list_of, history_of, time_of, label_of, holds_at, accounts_of, sent_of, received_of, applied_of, limits_of};
 
 use crate::worlds::World;
 use bump_rules::{Accounts, AppliedBump, Change, Head, ItemId, ListedChunks, Place};
@@ -29,6 +29,38 @@ impl World {
         ensures { result ≡ length self.now.workers }
     {
         self.parts.workers.len()
+    }
+
+    /// How many bumps a ring has room for: 1 to 65,536.
+    pub fn capacity(&self) -> u32
+        ensures { result ≡ self.now.capacity }
+    {
+        self.parts.capacity
+    }
+
+    /// The limit of a reference count: 2 to 65,535.
+    pub fn refs_limit(&self) -> u32
+        ensures { result ≡ self.now.refs_limit }
+    {
+        self.parts.refs_limit
+    }
+
+    /// The limits of a class: a pull takes from HOT where it has more items than the first, and from WARM where it has more
+    /// than the second. The class is one of the configuration's.
+    pub fn limits(&self, class: u32) -> (u32, u32)
+        requires { class < length self.now.classes }
+        ensures { result ≡ limits_of self.now class }
+    {
+        let class = &self.parts.classes[class as usize];
+        (class.hot_limit, class.warm_limit)
+    }
+
+    /// Whether a worker's ring is open: it takes bumps, until it is closed. The worker is one of the configuration's.
+    pub fn is_open(&self, worker: u32) -> bool
+        requires { worker < length self.now.workers }
+        ensures { result ≡ is_open self.now worker }
+    {
+        self.parts.is_open(worker)
     }
 
     /// The promise, for whoever holds a World: it is lawful at every moment. Does nothing.

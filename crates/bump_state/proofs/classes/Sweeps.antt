@@ -1,4 +1,5 @@
 -- Several entries at once: the lists follow one after another, and a sweep's are of chunks that stand in DYING.
+use Rattle.bump_rules.proofs.Unlinks.{freed_subject}
 use Rattle.std.proofs.Common.{◌≡◌, ℕ, suc, ◌+◌, ◌<◌, ◌≤◌, Bool, true, false, List, [], ◌∷◌, length, drop, get_or, cond, eqb, ne_eqb, refl, sym, ap, subst, arith}
 use Rattle.std.proofs.lemmas.List.{drop_more}
 use Rattle.bump_rules.specs.declared.items.Head.{Head}
@@ -42,14 +43,6 @@ unheld_within heads (c ∷ cs) = by (is_unheld (heads c)) (unheld_within heads c
 -- a chunk that somebody holds is none of them
 pub unheld_held : (heads : ℕ → Head) (c : ℕ) (cs : List ℕ) → 0 < (heads c).refs → unheld heads (c ∷ cs) ≡ unheld heads cs
 unheld_held heads c cs some = ap (λ b. cond b (c ∷ unheld heads cs) (unheld heads cs)) (ne_eqb (heads c).refs 0 (λ zero. omega (arith, zero, some)))
-
--- the entry of a chunk that is freed speaks of it
-pub freed_subject : (l : ItemId) → subject (freed_change l) ≡ l
-freed_subject l = by (eqb l.generation 4294967295)
-  where
-    by : (b : Bool) → subject (cond b (change.Retired l) (change.Swept l)) ≡ l
-    by true = refl
-    by false = refl
 
 -- what a sweep enters is of chunks that stand in the list that it looks at
 pub swept_listed : (l : Lists) (heads : ℕ → Head) (cs : List ℕ) → ((c : ℕ) → 0 < times c cs → IsListed c l) → AreListed l (swept_of heads cs)

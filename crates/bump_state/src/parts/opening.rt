@@ -49,18 +49,6 @@ fn new_classes(alloc: Global, fresh: u32, configs: &[ClassConfig]) -> Result<Vec
     Ok(classes)
 }
 
-/// How many chunks the classes have together.
-fn count_chunks(configs: &[ClassConfig]) -> u32
-    requires { chunks_of configs.now ≤ MAX_CHUNKS }
-    ensures { result ≡ chunks_of configs.now }
-{
-    let mut count = 0;
-    for config in configs {
-        count += config.chunks;
-    }
-    count
-}
-
 impl Chunk {
     /// A chunk before its first life, whose generation is one more.
     fn fresh(generation: u32) -> Chunk
@@ -94,7 +82,7 @@ impl Parts {
         Ok(Parts {
             refs_limit: config.refs_limit,
             capacity: config.capacity,
-            chunks: vec![in alloc; chunk; count_chunks(classes) as usize]?,
+            chunks: vec![in alloc; chunk; config.chunks() as usize]?,
             classes: new_classes(alloc, fresh, classes)?,
             workers: Workers::new(alloc, config.workers)?,
         })

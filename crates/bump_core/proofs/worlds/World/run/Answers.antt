@@ -1,12 +1,13 @@
 use Rattle.std.proofs.Common.{List, take, subst, arith}
 use Rattle.std.proofs.lemmas.List.{take_all}
 use Rattle.bump_rules.specs.declared.events.Event.{Event}
+use Rattle.bump_core.specs.Headline.{ClosedStayFrom}
 use Rattle.bump_core.specs.Labels.{KeepsLabels}
 use Rattle.std.proofs.lemmas.Option.{slice_get-get_or}
 use Rattle.bump_state.specs.Worlds.{IsLawful}
 use Rattle.bump_core.proofs.worlds.Headline.{headline}
 use Rattle.bump_core.proofs.worlds.Labels.{keeps_labels}
-use Rattle.bump_core.proofs.worlds.ClosedRings.{closed_stay}
+use Rattle.bump_core.proofs.worlds.ClosedRings.{closed_from}
 use Rattle.bump_core.proofs.worlds.StaysLawful.{run_lawful}
 use Rattle.bump_core.proofs.events.Runs.{run_refused, run_more, refused_stays}
 use Rattle.bump_core.proofs.worlds.Sizes.{run_sizes, refused_sizes}
@@ -29,7 +30,7 @@ returns-in-Err-clause-labels c = keeps_labels (take c.loop-place.place c.args.ev
     (refused_stays c.args.self.now (take c.loop-place.place c.args.events.now) c.loop-place.self _ c.step.new.self c.in-Err.refused c.loop-place.invariant c.in-Err.ensures.step)
 
 pub returns-in-Err-clause-closed : goal.returns-in-Err-clause-closed
-returns-in-Err-clause-closed c = closed_stay c.args.self.now (take c.loop-place.place c.args.events.now) c.step.new.self
+returns-in-Err-clause-closed c = closed_from c.args.self.now (take c.loop-place.place c.args.events.now) c.step.new.self
     (refused_stays c.args.self.now (take c.loop-place.place c.args.events.now) c.loop-place.self _ c.step.new.self c.in-Err.refused c.loop-place.invariant c.in-Err.ensures.step)
 
 pub returns-clause-lawful : goal.returns-clause-lawful
@@ -43,4 +44,5 @@ returns-clause-labels c = subst (λ (es : List Event). KeepsLabels c.args.self.n
     (keeps_labels (take c.loop-place.place c.args.events.now) c.args.self.now c.loop-place.self (subst IsLawful c.self.view_is c.self.invariant.0) c.loop-place.invariant)
 
 pub returns-clause-closed : goal.returns-clause-closed
-returns-clause-closed c = closed_stay c.args.self.now (take c.loop-place.place c.args.events.now) c.loop-place.self c.loop-place.invariant
+returns-clause-closed c = subst (λ (es : List Event). ClosedStayFrom c.args.self.now es c.loop-place.self) (take_all c.loop-place.place c.args.events.now (omega arith))
+    (closed_from c.args.self.now (take c.loop-place.place c.args.events.now) c.loop-place.self c.loop-place.invariant)
