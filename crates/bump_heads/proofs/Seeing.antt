@@ -1,6 +1,6 @@
 -- What a class's seat knows of the head that it finds, and what it is after a step: with a lane joined, or without one.
 use Rattle.std.proofs.Common.{◌≡◌, ℕ, ◌+◌, ◌<◌, inl, inr, ◌&&◌, ◌++◌, not, cond, eqb, Bool, true, false, [], ◌∷◌, Option, Some, None, refl, sym, ap, ap₂, ◌∙◌, subst, arith, eq-eqb}
-use Rattle.std.specs.Prelude.{option_map, IfSome}
+use Rattle.std.specs.Prelude.{option_map, IfSome, IsSome}
 use Rattle.atomic_table.specs.Seated.{TableId}
 use Rattle.atomic_table.specs.declared.shared.Seat.{Seat}
 use Rattle.bump_rules.specs.declared.items.Head.{Head}
@@ -18,7 +18,7 @@ use Rattle.bump_rules.specs.declared.places.Place.{Place}
 use Rattle.bump_rules.specs.declared.history.Cause.TheVariants as cause
 use Rattle.bump_rules.specs.declared.history.Change.TheVariants as change
 use Rattle.bump_rules.specs.History.{place_of}
-use Rattle.bump_rules.specs.Lanes.{tried, applied_now, cleared_active, applied_bump}
+use Rattle.bump_rules.specs.Lanes.{carried, tried, applied_now, cleared_active, applied_bump}
 use Rattle.bump_rules.specs.Lawful.{Shows, IsUsed, bit}
 use Rattle.bump_rules.proofs.Laws.{used_in_segment}
 use Rattle.bump_word.specs.Words.{Spells, word_of}
@@ -31,8 +31,8 @@ use Rattle.bump_steps.specs.declared.views.View.{View}
 use Rattle.bump_steps.specs.Views.{aboard_of, refers, owns, standing, evidence}
 use Rattle.bump_steps.specs.Plays.{Sat, Told, Found, on_first, step_of}
 use Rattle.bump_steps.specs.Cuts.{joined, lanes_only, without_lanes}
-use Rattle.bump_steps.specs.Applications.{applying, bump_for, tried_lane, tried_view, moved_stage, moved_lane, moved_for, moved_class, moved_view, life_in, alighted_lane, alighted_view, MayMove, MayAlight}
-use Rattle.bump_heads.specs.Applying.{life_aboard, life_of, IsOf, MayClear, MayShift, IsShown, Ends, shifted_class, Seen, NamesNoBumpTwice, TellsMoves}
+use Rattle.bump_steps.specs.Applications.{applying, bump_for, tried_lane, tried_view, moved_stage, moved_lane, moved_for, moved_class, moved_view, life_in, alighted_lane, alighted_view, MayTry, MayMove, MayAlight}
+use Rattle.bump_heads.specs.Applying.{carried_by, life_aboard, life_of, IsOf, MayClear, MayShift, IsShown, Ends, shifted_class, Seen, NamesNoBumpTwice, TellsMoves}
 use Rattle.bump_readers.specs.Seats.{head_or, listed}
 use Rattle.bump_heads.specs.Seats.{class_me, class_in, lane_in, IsLane, IsInRange, IsClassPart, bump_aboard, no_class, no_lane}
 use Rattle.bump_steps.proofs.Applications.{tried_going, alighted_tells}
@@ -219,6 +219,18 @@ module _ (table : TableId) (number c n : ℕ) (m p : Sat) (v w : ClassView) (is 
 
 -- ---- a lane joins
 
+-- the bump that a lane carries may be looked at by the class that has its chunk
+carries_it : (k : ClassPart) (l : LanePart) (b : Bump) (s : Lane) → l.stage ≡ s → IsSome (carried s) → aboard_of s ≡ Some b → owns b.life.chunk k ≡ true → MayTry b.life.chunk (applying k l)
+carries_it k l b lane.Empty is carries on own = absurd (cc carries)
+carries_it k l b (lane.Carrying d) is carries on own = let same : d ≡ b = cc on in (k, l, b, record { view = refl; stage = is ∙ ap lane.Carrying same; chunk = refl; own = own })
+carries_it k l b (lane.Tried d) is carries on own = absurd (cc carries)
+carries_it k l b (lane.Cleared d f) is carries on own = absurd (cc carries)
+carries_it k l b (lane.Moved d) is carries on own = absurd (cc carries)
+
+fronts : (w : ClassView) (o : Option LanePart) (b : Bump) → IsSome (carried_by o) → bump_aboard o ≡ Some b → owns b.life.chunk w.part ≡ true → MayTry b.life.chunk (class_me (record w { lane = o })).0
+fronts w None b carries on own = absurd (cc on)
+fronts w (Some l) b carries on own = carries_it w.part l b l.stage refl carries on own
+
 module _ (m : Sat) (v w : ClassView) (o : Option (Seat Empty View)) (s : Seat Empty View) (table : TableId) (lane : Option LanePart) (is : m ≡ class_me v) (same : v ≡ w) (alone : w.lane ≡ None) (whole : IsLane table o) (some : o ≡ Some s) (lane_is : lane_in o ≡ lane) where
   -- the two seats together
   pub joined_me : ◌≡◌ {A = Sat} (joined m.0 s.me.0, m.1) (class_me (record w { lane = lane }))
@@ -226,6 +238,12 @@ module _ (m : Sat) (v w : ClassView) (o : Option (Seat Empty View)) (s : Seat Em
       ∙ ap (λ (p : Option LanePart). (joined (class_me (record w { lane = p })).0 s.me.0, [])) alone
       ∙ ap (λ (x : Sat). (joined (class_me (record w { lane = None })).0 x.0, [])) (subst (IsLane table) some whole).0
       ∙ ap (λ (p : Option LanePart). class_me (record w { lane = p })) (sym (ap lane_in some) ∙ lane_is)
+
+  -- what is asked of the look at its head
+  module _ (b : Bump) (aboard : bump_aboard (lane_in o) ≡ Some b) (q : Sat) (joins : q ≡ (joined m.0 s.me.0, m.1)) where
+    pub may_front : IsSome (carried_by lane) → owns (life_aboard lane).chunk w.part ≡ true → MayTry b.life.chunk q.0
+    may_front carries own = let on : bump_aboard lane ≡ Some b = sym (ap bump_aboard lane_is) ∙ aboard in
+        subst (λ (x : Sat). MayTry b.life.chunk x.0) (sym (joins ∙ joined_me)) (fronts w lane b carries on (ap (λ (j : ItemId). owns j.chunk w.part) (sym (ap life_of on)) ∙ own))
 
   module _ (b : Bump) (aboard : bump_aboard (lane_in o) ≡ Some b) (n : ℕ) (h : Head) (spells : Spells n h) (p q : Sat) (joins : q ≡ (joined m.0 s.me.0, m.1)) (told : p ≡ (tried_view b.life.chunk n q.0, q.1)) where
     -- the life of the bump aboard

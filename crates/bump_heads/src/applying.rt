@@ -18,11 +18,12 @@ use bump_steps::head_of;
 
 impl<N: Name> ClassSeat<N> {
     /// Joins the lane's seat, and looks at the head of the item of the bump that it carries: the first step of memcached's
-    /// `lru_bump_async` drain for a bump. No other lane may be joined. The lane is hollow from then on, until `alight`. Answers the
-    /// head that was found.
+    /// `lru_bump_async` drain for a bump. No other lane may be joined, and the bump's chunk is the class's. The lane is hollow from then
+    /// on, until `alight`. Answers the head that was found.
     pub fn try_front(&mut self, lane: &mut LaneSeat<N>) -> Head
         requires alone { self.old.lane ≡ None }
         requires carries { IsSome (carried_by lane.old) }
+        requires own { owns (life_aboard lane.old).chunk self.old.part ≡ true }
         ensures hollow { lane.new ≡ None }
         ensures tried { self.new ≡ record self.old { lane = option_map (tried_lane (life_aboard lane.old).chunk (word_of result)) lane.old } }
         ensures found { Seen self.old.part (life_aboard lane.old) result }

@@ -1,7 +1,7 @@
 //! The heads of a named store.
 ghost use Rattle.std.specs.Prelude.{◌≡◌, ◌<◌};
 ghost use Rattle.bump_rules.specs.declared.configs.Config.{Config as TheConfig};
-ghost use Rattle.bump_steps.specs.Words.{words_id};
+ghost use Rattle.bump_steps.specs.Words.{words_id, config_of};
 
 use bump_readers::{Name, ReaderHeads};
 use bump_steps::Words;
@@ -37,7 +37,7 @@ impl<N: Name> Heads<N> {
     // The words, on which the seats of classes and lanes make their steps.
     pub(crate) fn words(&self) -> &Words
         ensures name { words_id result.now ≡ N.table }
-        ensures config { result.now.table.shared.key ≡ self.now }
+        ensures config { config_of result.now ≡ self.now }
         ensures some { 0 < N.table.words }
     {
         self.readers.words()

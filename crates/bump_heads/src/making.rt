@@ -2,7 +2,7 @@
 ghost use Rattle.std.specs.Prelude.{◌≡◌, ◌≤◌, ◌<◌, ◌-◌, ◌*◌, ◌+◌, [], ◌∷◌, IfOk, None, Some, length, map};
 ghost use Rattle.std.specs.Arc.{arc_value};
 ghost use Rattle.bump_steps.specs.Rule.{opened, class_parts, worker_parts, lane_parts, blank};
-ghost use Rattle.bump_steps.specs.Words.{words_id};
+ghost use Rattle.bump_steps.specs.Words.{words_id, config_of};
 ghost use Rattle.bump_readers.specs.Workers.{worker_seen};
 ghost use Rattle.bump_heads.specs.Making.{BlankView as TheBlankView, class_seen, lane_seen, AreNewClasses, AreEmpty};
 
@@ -25,9 +25,9 @@ pub struct Blank {
 impl Model for Blank {
     ghost Value = { TheBlankView };
 
-    ghost view = { λ b. record { config = b.words.table.shared.key; table = words_id b.words } };
+    ghost view = { λ b. record { config = config_of b.words; table = words_id b.words } };
 
-    ghost invariant = { λ b. (b.seat.table_id ≡ words_id b.words) × (b.seat.me ≡ (opened b.words.table.shared.key, [])) × (0 < (words_id b.words).words) };
+    ghost invariant = { λ b. (b.seat.table_id ≡ words_id b.words) × (b.seat.me ≡ (opened (config_of b.words), [])) × (0 < (words_id b.words).words) };
 }
 
 /// What a store's heads are made of: the heads, and a seat for each class, worker and lane, by number.

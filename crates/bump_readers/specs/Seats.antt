@@ -32,6 +32,10 @@ no_worker = worker_part 0
 abbrev pub hold_me : Option HoldPart → Me Empty View
 hold_me h = (record blank { holds = listed h }, [])
 
+-- the seat of a hold of the life whose reference was given back where this word was found: it has the mark of that alone
+abbrev pub spent_me : ItemId → ℕ → Me Empty View
+spent_me l n = (record blank { returned = record { life = l; word = n } ∷ [] }, [])
+
 -- the view that a hold keeps: none while it is hollow
 abbrev pub hold_views : Option HoldPart → List View
 hold_views None = []

@@ -2,7 +2,7 @@
 ghost use Rattle.std.specs.Prelude.{◌≡◌, ◌*◌, ◌<◌};
 ghost use Rattle.bump_rules.specs.declared.configs.Config.{Config as TheConfig};
 ghost use Rattle.bump_steps.specs.Rule.{chunks as all_chunks};
-ghost use Rattle.bump_steps.specs.Words.{words_id};
+ghost use Rattle.bump_steps.specs.Words.{words_id, config_of};
 
 use crate::names::Name;
 use bump_rules::Config;
@@ -23,16 +23,16 @@ pub struct ReaderHeads<N: Name> {
 impl<N: Name> Model for ReaderHeads<N> {
     ghost Value = { TheConfig };
 
-    ghost view = { λ h. h.words.table.shared.key };
+    ghost view = { λ h. config_of h.words };
 
-    ghost invariant = { λ h. (words_id h.words ≡ N.table) × (0 < N.table.words) × (h.limit ≡ h.words.table.shared.key.refs_limit) × (h.chunks ≡ all_chunks h.words.table.shared.key) };
+    ghost invariant = { λ h. (words_id h.words ≡ N.table) × (0 < N.table.words) × (h.limit ≡ (config_of h.words).refs_limit) × (h.chunks ≡ all_chunks (config_of h.words)) };
 }
 
 impl<N: Name> ReaderHeads<N> {
     /// Words under the name that their table has, of a store with this configuration.
     pub fn new(words: Words, config: &Config) -> ReaderHeads<N>
         requires name { words_id words ≡ N.table }
-        requires config { words.table.shared.key ≡ config.now }
+        requires config { config_of words ≡ config.now }
         requires some { 0 < N.table.words }
         ensures { result ≡ config.now }
     {
@@ -47,7 +47,7 @@ impl<N: Name> ReaderHeads<N> {
     /// The words without their name, on which the seats of classes and lanes make their steps.
     pub fn words(&self) -> &Words
         ensures name { words_id result.now ≡ N.table }
-        ensures config { result.now.table.shared.key ≡ self.now }
+        ensures config { config_of result.now ≡ self.now }
         ensures some { 0 < N.table.words }
     {
         &self.words

@@ -3,8 +3,8 @@ ghost use Rattle.std.specs.Prelude.{◌≡◌, ◌<◌, ◌≤◌, IfOk, IsSome,
 ghost use Rattle.bump_rules.specs.declared.items.Head.{Head as TheHead};
 ghost use Rattle.bump_rules.specs.Lawful.{bit};
 ghost use Rattle.bump_rules.specs.Totals.{total};
-ghost use Rattle.bump_word.specs.Words.{Fits};
-ghost use Rattle.bump_readers.specs.Seats.{hold_me, labels_in};
+ghost use Rattle.bump_word.specs.Words.{Fits, word_of};
+ghost use Rattle.bump_readers.specs.Seats.{spent_me, labels_in};
 ghost use Rattle.bump_steps.specs.Rule.{chunks as all_chunks};
 ghost use Rattle.bump_readers.specs.Taking.{Took, reads, whole_hold};
 ghost use Rattle.bump_steps.specs.Views.{differs};
@@ -18,10 +18,12 @@ use bump_steps::{Seat, TakeRefusal, head_of};
 use std::marker::PhantomData;
 
 impl<N: Name> Hold<N> {
-    // Only a hold whose reference was given back may go: it is hollow, and the seat that it had refers to no life any more.
-    fn forget(self, spent: Seat)
+    // Only a hold whose reference was given back may go: it is hollow, and the seat that it had has the mark of the step that gave back
+    // a reference to its life, and found this head, and nothing else. The head is answered.
+    fn forget(self, spent: Seat, found: Head) -> Head
         requires hollow { self.part ≡ None }
-        requires spent { spent.me ≡ hold_me None }
+        requires spent { spent.me ≡ spent_me self.life (word_of found) }
+        ensures { result ≡ found }
     {
         let Hold {
             badge: _,
@@ -29,6 +31,7 @@ impl<N: Name> Hold<N> {
             of: _,
         } = self;
         drop(spent);
+        found
     }
 }
 
@@ -73,18 +76,18 @@ impl<N: Name> ReaderHeads<N> {
     {
         let mut held = hold;
         let (head, spent) = self.release(&mut held);
-        held.forget(spent);
-        head
+        held.forget(spent, head)
     }
 
-    // The reference is given back, so that the hold is hollow from then on, and its seat, which is answered too, refers to no life.
+    // The reference is given back, so that the hold is hollow from then on. Its seat, which is answered too, has the mark of the step,
+    // which found the head that is answered.
     fn release(&self, hold: &mut Hold<N>) -> (Head, Seat)
         requires whole { IsSome hold.old.part }
         ensures hollow { hold.new ≡ record hold.old { part = None } }
         ensures generation { result.0.generation ≡ hold.old.life.generation }
         ensures counted { 0 < result.0.refs }
         ensures fits { Fits result.0 }
-        ensures spent { result.1.me ≡ hold_me None }
+        ensures spent { result.1.me ≡ spent_me hold.old.life (word_of result.0) }
     {
         let mut seat = hold.seat_out();
         let head = head_of(self.words.give_back(&mut seat, hold.life.chunk));

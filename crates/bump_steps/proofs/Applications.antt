@@ -83,6 +83,7 @@ tried_backed : (c n : ℕ) (v : View) → IsBacked v (tried_view c n v)
 tried_backed c n v = record {
   backs = λ wk e. (by wk e e.outcome, λ more. absurd (let same = on_first_total (claimed_in wk e) (tried_lane c n) (λ l. refl) v.lanes in omega arith));
   even = λ q. let same = on_first_total (settled_in q) (tried_lane c n) (λ l. cond_is (l.worker == q.worker) _ _ (ap (λ (g : ℕ). how_many (is_told_moved q.test q.number) l.applied + g) (tried_going q l.stage))) v.lanes in omega arith;
+  workers = λ w. refl;
   lanes = λ w. let same = on_first_total (λ l. cond (l.worker == w) 1 0) (tried_lane c n) (λ l. refl) v.lanes in omega arith;
   tidy = let same = on_first_total untidy_in (tried_lane c n) (λ l. ap (λ (o : Option Bump). cond (in_order 0 l.applied o) 0 1) (tried_refers l.stage)) v.lanes in omega arith;
 }
@@ -123,6 +124,7 @@ module _ (c n : ℕ) (v : View) where
     backs = λ wk e. (by wk e e.outcome, λ more. absurd (let same = on_first_total (claimed_in wk e) (cleared_lane (not (active_clear n))) (λ l. refl) v.lanes in omega arith));
     even = λ q. let same = on_first_total (settled_in q) (cleared_lane (not (active_clear n))) (λ l. cond_is (l.worker == q.worker) _ _ (ap (λ (g : ℕ). how_many (is_told_moved q.test q.number) l.applied + g) (cleared_going q (not (active_clear n)) l.stage))) v.lanes in
         let same_moves = on_first_total (λ k. how_many (is_move_for q.test q.worker q.number) k.history) (noted_class kind.ClearActive c n v.lanes) (λ k. refl) v.classes in omega arith;
+    workers = λ w. refl;
     lanes = λ w. let same = on_first_total (λ l. cond (l.worker == w) 1 0) (cleared_lane (not (active_clear n))) (λ l. refl) v.lanes in omega arith;
     tidy = let same = on_first_total untidy_in (cleared_lane (not (active_clear n))) (λ l. ap (λ (o : Option Bump). cond (in_order 0 l.applied o) 0 1) (cleared_refers (not (active_clear n)) l.stage)) v.lanes in omega arith;
   }
@@ -149,6 +151,7 @@ module _ (c n : ℕ) (v : View) where
   timed_backed = record {
     backs = λ wk e. (by wk e e.outcome, λ more. absurd (omega arith));
     even = λ q. let same_moves = on_first_total (λ k. how_many (is_move_for q.test q.worker q.number) k.history) (noted_class kind.PutTime c n v.lanes) (λ k. refl) v.classes in omega arith;
+    workers = λ w. refl;
     lanes = λ w. refl;
     tidy = omega arith;
   }
@@ -299,6 +302,7 @@ module _ (key : Config) (slots id c : ℕ) (near : c < chunks key) (k : ClassPar
       (record {
         backs = λ wk e. (shift_shows c k st.0 l refl from to cause.Pull made [] [] (λ d j. refl) wk e e.outcome refl, λ more. absurd (omega arith));
         even = λ q. omega (arith, total_push (λ z. cond (is_move_for q.test q.worker q.number z) 1 0) k.history (change.Moved l from to cause.Pull), ap bit (no_move q.test q.worker q.number (change.Moved l from to cause.Pull) refl));
+        workers = λ w. refl;
         lanes = λ w. refl;
         tidy = omega arith;
       })
@@ -320,6 +324,7 @@ module _ (key : Config) (slots id c : ℕ) (near : c < chunks key) (k : ClassPar
           ap₂ (λ (f g : Segment). bit (q.test b.life && (is_cold_segment f && (is_warm_segment g && ((l.worker == q.worker) && (b.number == q.number)))))) is_cold is_warm,
           even_bits (q.test b.life) (l.worker == q.worker) (b.number == q.number) (how_many (is_told_moved q.test q.number) l.applied),
         );
+        workers = λ w. refl;
         lanes = λ w. refl;
         tidy = omega arith;
       })
@@ -441,6 +446,7 @@ module _ (key : Config) (slots id : ℕ) (k : ClassPart) (l : LanePart) (b : Bum
             (moving_of q l.stage b aboard ∙ ap (λ (x : Bool). cond (x && ((b.number == q.number) && q.test b.life)) 1 0) past),
         ap (λ (t : ℕ). cond (l.worker == q.worker) (t + 0) 0) (applied_is (λ a. cond (is_told_moved q.test q.number a) 1 0)),
       );
+      workers = λ w. refl;
       lanes = λ w. refl;
       tidy = omega (arith, ap {B = ℕ} (λ (x : Bool). cond x 0 1) (ap (in_order 0 l.applied) aboard ∙ sym (order_ends b (record { number = b.number; life = b.life; outcome = out }) refl l.applied 0) ∙ sym (ap (λ (o : Option Bump). in_order 0 (l.applied ++ entry_of out o) None) aboard)));
     }

@@ -79,6 +79,7 @@ module _ (c : ℕ) (k : ClassPart) (own : owns c k ≡ true) (e : Change) (ls : 
   enter_backed = record {
     backs = λ wk d. (by wk d d.outcome, λ more. absurd (omega arith));
     even = λ q. omega (arith, total_push (λ z. bit (is_move_for q.test q.worker q.number z)) k.history e, ap bit (no_move q.test q.worker q.number e quiet));
+    workers = λ w. refl;
     lanes = λ w. refl;
     tidy = omega arith;
   }

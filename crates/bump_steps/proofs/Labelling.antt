@@ -48,6 +48,7 @@ module _ (c y : ℕ) (k : ClassPart) (own : owns c k ≡ true) where
   label_backed = record {
     backs = λ wk d. (by wk d d.outcome, λ more. absurd (omega arith));
     even = λ q. omega arith;
+    workers = λ w. refl;
     lanes = λ w. refl;
     tidy = omega arith;
   }

@@ -37,6 +37,7 @@ module _ (c n : ℕ) (v : View) where
   looked_backed = record {
     backs = λ wk e. (by wk e e.outcome, λ more. absurd (omega arith));
     even = λ q. let same_moves = on_first_total (λ k. how_many (is_move_for q.test q.worker q.number) k.history) (looked c n) (λ k. refl) v.classes in omega arith;
+    workers = λ w. refl;
     lanes = λ w. refl;
     tidy = omega arith;
   }
@@ -63,6 +64,6 @@ module _ (key : Config) (slots id : ℕ) (m : Sat) (c : ℕ) (near : c < chunks 
     m.0,
     (λ u moved. same_sound key.refs_limit n x t u (λ y. let e = moved y in omega arith) o),
     (λ b ne y. refl),
-    record { backs = λ wk e. (omega arith, λ more. absurd (omega arith)); even = λ q. omega arith; lanes = λ w. refl; tidy = omega arith },
+    record { backs = λ wk e. (omega arith, λ more. absurd (omega arith)); even = λ q. omega arith; workers = λ w. refl; lanes = λ w. refl; tidy = omega arith },
     (refl, (o.head, o.spells, tells c key.refs_limit n x m.0 t o a)),
   ))

@@ -41,10 +41,11 @@ on_first_gain f h k gains [] some = absurd (omega (arith, some))
 on_first_gain f h k gains (x ∷ xs) some = omega (arith, gains x)
 
 -- what a worker knows shows no entry, and settles no move
-pub worker_backed : (f : WorkerPart → WorkerPart) (v : View) → IsBacked v (on_worker f v)
-worker_backed f v = record {
+pub worker_backed : (f : WorkerPart → WorkerPart) → ((p : WorkerPart) → (f p).worker ≡ p.worker) → (v : View) → IsBacked v (on_worker f v)
+worker_backed f same v = record {
   backs = λ wk e. (by wk e e.outcome, λ more. absurd (omega arith));
   even = λ q. omega arith;
+  workers = λ n. on_first_total (λ w. cond (w.worker == n) 1 0) f (λ p. ap (λ (w : ℕ). cond (w == n) 1 0) (same p)) v.workers;
   lanes = λ n. refl;
   tidy = omega arith;
 }
@@ -205,7 +206,7 @@ module _ (key : Config) (slots id : ℕ) (m : Sat) (c : ℕ) (near : c < chunks 
     on_worker (fetched_part (life c o.head.generation) o.head) m.0,
     (λ u moves. fetch_sound has n x t o u moves),
     (λ b ne. fetch_apart has n x t o b ne),
-    worker_backed (fetched_part (life c o.head.generation) o.head) m.0,
+    worker_backed (fetched_part (life c o.head.generation) o.head) (λ p. refl) m.0,
     (refl, (o.head, o.spells, (refl, tells c key.refs_limit n x m.0 t o a))),
   ))
 
@@ -228,7 +229,7 @@ module _ (key : Config) (slots id : ℕ) (m : Sat) (c : ℕ) (near : c < chunks 
           hit = o.hit;
         })),
         (λ b ne. quiet_same b (marked_part l o.head) m.0 (marked_quiet b l o.head)),
-        worker_backed (marked_part l o.head) m.0,
+        worker_backed (marked_part l o.head) (λ p. either_way (λ w. w.worker) (not o.head.active && is_cold o.head.segment) l (noted kind.Mark l.chunk (word_of o.head) p) p.worker refl refl) m.0,
         (refl, (o.head, o.spells, (refl, told))),
       ))
 
@@ -249,7 +250,7 @@ module _ (key : Config) (slots id : ℕ) (m : Sat) (c : ℕ) (near : c < chunks 
           hit = o.hit;
         })),
         (λ b ne. quiet_same b (unmarked_part l o.head) m.0 (unmarked_quiet b l o.head)),
-        worker_backed (unmarked_part l o.head) m.0,
+        worker_backed (unmarked_part l o.head) (λ p. refl) m.0,
         (refl, (o.head, o.spells, (refl, tells c key.refs_limit n x m.0 t o a))),
       ))
 
@@ -260,6 +261,6 @@ module _ (key : Config) (slots id : ℕ) (m : Sat) (c : ℕ) (near : c < chunks 
         on_worker (timed_part (life c 0) now) m.0,
         (λ u moves. same_sound key.refs_limit n x t u (same_counts c m.0 (on_worker (timed_part (life c 0) now) m.0) t u (quiet_same c (timed_part (life c 0) now) m.0 (timed_quiet c (life c 0) now)) moves) o),
         (λ b ne. quiet_same b (timed_part (life c 0) now) m.0 (timed_quiet b (life c 0) now)),
-        worker_backed (timed_part (life c 0) now) m.0,
+        worker_backed (timed_part (life c 0) now) (λ p. refl) m.0,
         refl,
       )))

@@ -49,7 +49,7 @@ module _ (v left right : View) (p : Parted v left right) where
 
   -- the rule doesn't notice that a view is cut in two
   pub parts : (key : Config) (id : ℕ) → Splits (Kept key) id v left right
-  parts key id = splits key id v left right parted_counts (λ n a. (p.lanes (claimed_in n a), parted_evidence n a a.outcome)) (λ q. (p.classes (λ k. how_many (is_move_for q.test q.worker q.number) k.history), p.lanes (settled_in q))) (λ n. p.lanes (λ l. cond (eqb l.worker n) 1 0)) (p.lanes untidy_in)
+  parts key id = splits key id v left right parted_counts (λ n a. (p.lanes (claimed_in n a), parted_evidence n a a.outcome)) (λ q. (p.classes (λ k. how_many (is_move_for q.test q.worker q.number) k.history), p.lanes (settled_in q))) (λ n. p.workers (λ w. cond (eqb w.worker n) 1 0)) (λ n. p.lanes (λ l. cond (eqb l.worker n) 1 0)) (p.lanes untidy_in)
 
 -- nothing but a list's own elements, and nothing
 here : {A : Type 0} (xs : List A) → Shared xs xs []
@@ -83,6 +83,7 @@ both_join key id v other w = joins key id v other w (joined v w) blank
     (λ c x. omega (arith, counts c x, nothing c x))
     (λ n a. (omega (arith, total_append (claimed_in n a) v.lanes w.lanes), omega (arith, shows n a a.outcome, shows_nothing n a a.outcome)))
     (λ q. (omega (arith, total_append (λ k. how_many (is_move_for q.test q.worker q.number) k.history) v.classes w.classes), omega (arith, total_append (settled_in q) v.lanes w.lanes)))
+    (λ n. omega (arith, total_append (λ p. cond (eqb p.worker n) 1 0) v.workers w.workers))
     (λ n. omega (arith, total_append (λ l. cond (eqb l.worker n) 1 0) v.lanes w.lanes))
     (omega (arith, total_append untidy_in v.lanes w.lanes))
   where

@@ -23,6 +23,7 @@ use Rattle.bump_word.specs.Layout.{generation_first}
 use Rattle.bump_word.specs.Words.{Spells}
 use Rattle.bump_word.proofs.Steps.{one_more_next, one_less}
 use Rattle.bump_word.proofs.Words.{fields, one_head}
+use Rattle.bump_steps.specs.declared.views.GivenBack.{GivenBack}
 use Rattle.bump_steps.specs.declared.views.HoldPart.{HoldPart}
 use Rattle.bump_steps.specs.declared.views.Kind.{Kind}
 use Rattle.bump_steps.specs.declared.views.Kind.TheVariants as kind
@@ -31,7 +32,7 @@ use Rattle.bump_steps.specs.declared.views.WorkerPart.{WorkerPart}
 use Rattle.bump_steps.specs.Plays.{Sat, on_chunk, behind, on_first, step_of}
 use Rattle.bump_steps.specs.References.{noted_by, looked_view, looked, new_hold, taken_view, taken, HasHold, given_view, given_back, read_hold, read_view, IsLabel, label_read, seen}
 use Rattle.bump_steps.specs.Rule.{Sound, chunks, Kept, blank, HasFittingLimit}
-use Rattle.bump_steps.specs.Views.{Measure, held, named, saw, owners, strays, mislabels, misreads, is_fetch, is_fetch_of, in_hand, misread, differs, weight, tally, claims, evidence, shown_by, moves, settled, lanes_of, untidy, IsBacked}
+use Rattle.bump_steps.specs.Views.{Measure, held, named, saw, owners, strays, mislabels, misreads, is_fetch, is_fetch_of, in_hand, misread, differs, weight, tally, claims, evidence, shown_by, moves, settled, workers_of, lanes_of, untidy, IsBacked}
 use Rattle.bump_steps.proofs.Frame.{Same, Amid, Reaches, on_label, same_sound}
 use Rattle.bump_steps.proofs.StepLemmas.{at_chunk, label_chunk_is, on_first_total, same_counts, one_life, other_life, other_chunk}
 use Rattle.bump_steps.proofs.Told.{tells}
@@ -64,19 +65,24 @@ refs_sound limit n p x c r v w t u moved o spells lawful b = record {
   hit = λ g some. omega (arith, moved (named g), b.first_hits g, o.hit g (omega (arith, some, moved (saw g), b.fetches g)));
 }
 
--- workers' and holds' parts show nothing of entries and of moves
-quiet : (v : View) (ws : List WorkerPart) (hs : List HoldPart) → IsBacked v (record v { workers = ws; holds = hs })
-quiet v ws hs = record {
+-- workers' and holds' parts show nothing of entries and of moves, and so do marks of what was given back
+quiet : (v : View) (ws : List WorkerPart) (hs : List HoldPart) (gs : List GivenBack) → ((n : ℕ) → total (λ w. cond (w.worker == n) 1 0) ws ≡ workers_of n v) → IsBacked v (record v { workers = ws; holds = hs; returned = gs })
+quiet v ws hs gs same = record {
   backs = λ wk a. (by wk a a.outcome, λ more. absurd (omega arith));
   even = λ q. omega arith;
+  workers = same;
   lanes = λ w. refl;
   tidy = omega arith;
 }
   where
-    by : (wk : ℕ) (a : AppliedBump) (o : Outcome) → shown_by o wk a v ≤ shown_by o wk a (record v { workers = ws; holds = hs })
+    by : (wk : ℕ) (a : AppliedBump) (o : Outcome) → shown_by o wk a v ≤ shown_by o wk a (record v { workers = ws; holds = hs; returned = gs })
     by wk a outcome.Moved = omega arith
     by wk a outcome.Gone = omega arith
     by wk a outcome.TimeOnly = omega arith
+
+-- a worker that notes a step keeps its number
+same_workers : (k : Kind) (c n : ℕ) (v : View) (w : ℕ) → total (λ p. cond (p.worker == w) 1 0) (on_first (noted_by k c n) v.workers) ≡ workers_of w v
+same_workers k c n v w = on_first_total (λ p. cond (p.worker == w) 1 0) (noted_by k c n) (λ p. refl) v.workers
 
 module _ (step_kind : Kind) (plain : is_fetch step_kind ≡ false) (c n : ℕ) where
   -- a step that sets no mark is no fetch
@@ -109,7 +115,7 @@ module _ (key : Config) (slots id : ℕ) (m : Sat) (c : ℕ) (near : c < chunks 
     looked_view c n m.0,
     (λ u moved. same_sound key.refs_limit n x t u (same_counts c m.0 (looked_view c n m.0) t u (noted_same kind.Load refl c n m.0 m.0.holds c) moved) o),
     (λ b ne. noted_same kind.Load refl c n m.0 m.0.holds b),
-    quiet m.0 (on_first (noted_by kind.Load c n) m.0.workers) m.0.holds,
+    quiet m.0 (on_first (noted_by kind.Load c n) m.0.workers) m.0.holds m.0.returned (same_workers kind.Load c n m.0),
     told,
   )
 
@@ -136,20 +142,20 @@ module _ (key : Config) (slots id : ℕ) (m : Sat) (c : ℕ) (near : c < chunks 
             (omega (arith, moved (held o.head.generation), same c (held o.head.generation), here))
             (λ j ne. omega (arith, moved (held j), same c (held j), other_life (life c k) j (λ e. ne (e ∙ gen)))))
             (record { first_hits = λ j. same c (named j); fetches = λ j. same c (saw j); owning = same c owners; straying = λ s. same c (strays s); labels = λ y. same c (mislabels y); reads = λ j. omega (arith, same c (misreads j x)) })),
-        apart k hs same,
-        quiet m.0 (on_first (noted_by kind.Take c n) m.0.workers) hs,
+        apart (taken_view c n m.0) k hs same,
+        quiet m.0 (on_first (noted_by kind.Take c n) m.0.workers) hs m.0.returned (same_workers kind.Take c n m.0),
         ((λ _. refl), (λ miss. absurd (miss hit)), (o.head, o.spells, tells c key.refs_limit n x m.0 t o a)),
       )
     where
       -- a new hold counts for its own chunk alone
-      apart : {w : View} (k : ℕ) (hs : List HoldPart) → ((b : ℕ) (y : Measure) → weight b y w ≡ weight b y (record m.0 { holds = new_hold (life c k) ∷ m.0.holds })) → (b : ℕ) → b ≢ c → Same b m.0 w
-      apart k hs same b ne (held j) = omega (arith, same b (held j), other_chunk b j (life c k) ne)
-      apart k hs same b ne (named j) = same b (named j)
-      apart k hs same b ne (saw j) = same b (saw j)
-      apart k hs same b ne owners = same b owners
-      apart k hs same b ne (strays s) = same b (strays s)
-      apart k hs same b ne (mislabels y) = same b (mislabels y)
-      apart k hs same b ne (misreads j y) = omega (arith, same b (misreads j y))
+      apart : (w : View) (k : ℕ) (hs : List HoldPart) → ((b : ℕ) (y : Measure) → weight b y w ≡ weight b y (record m.0 { holds = new_hold (life c k) ∷ m.0.holds })) → (b : ℕ) → b ≢ c → Same b m.0 w
+      apart w k hs same b ne (held j) = omega (arith, same b (held j), other_chunk b j (life c k) ne)
+      apart w k hs same b ne (named j) = same b (named j)
+      apart w k hs same b ne (saw j) = same b (saw j)
+      apart w k hs same b ne owners = same b owners
+      apart w k hs same b ne (strays s) = same b (strays s)
+      apart w k hs same b ne (mislabels y) = same b (mislabels y)
+      apart w k hs same b ne (misreads j y) = omega (arith, same b (misreads j y))
 
   -- the exchange that takes a hold
   pub takes : (g old : ℕ) (h : Head) → Spells old h → get_of key.refs_limit g h ≡ IsHeld → Allows (Kept key) slots id m (3 * c + 9) (λ n. either (eqb n old) (old + 1) n) (on_chunk taken (step slots (3 * c + 9) old (old + 1) none) m)
@@ -175,14 +181,14 @@ module _ (key : Config) (slots id : ℕ) (m : Sat) (c : ℕ) (near : c < chunks 
     unread_there : (b j : ℕ) (more : ℕ) → b ≢ c → one_if (life b j) h.life * more ≡ 0
     unread_there b j more ne = ap (λ (k : ℕ). k * more) (none_there b j ne) ∙ zero-mul more
 
-    fewer : (b : ℕ) → b ≢ c → Same b m.0 (given_view m.0)
-    fewer b ne (held j) = omega (arith, first_term (λ p. one_if (life b j) p.life), none_there b j ne)
-    fewer b ne (named j) = refl
-    fewer b ne (saw j) = refl
-    fewer b ne owners = refl
-    fewer b ne (strays s) = refl
-    fewer b ne (mislabels y) = refl
-    fewer b ne (misreads j y) = omega (arith, first_term (misread b j y), unread_there b j (total (differs y) h.labels) ne)
+    fewer : (n b : ℕ) → b ≢ c → Same b m.0 (given_view n m.0)
+    fewer n b ne (held j) = omega (arith, first_term (λ p. one_if (life b j) p.life), none_there b j ne)
+    fewer n b ne (named j) = refl
+    fewer n b ne (saw j) = refl
+    fewer n b ne owners = refl
+    fewer n b ne (strays s) = refl
+    fewer n b ne (mislabels y) = refl
+    fewer n b ne (misreads j y) = omega (arith, first_term (misread b j y), unread_there b j (total (differs y) h.labels) ne)
 
     -- the hold's life is the chunk's
     is_life : (n x : ℕ) (t : Measure → ℕ) (o : Sound key.refs_limit n x t) → Amid c m.0 t → h.life.generation ≡ o.head.generation
@@ -193,15 +199,15 @@ module _ (key : Config) (slots id : ℕ) (m : Sat) (c : ℕ) (near : c < chunks 
     gives = at_chunk given_back key slots id m c 1 (λ n. (n + (2 ^ 64 - 1)) % 2 ^ 64) near (λ n x t limits o a.
         let g : ℕ = h.life.generation in
         let gen : g ≡ o.head.generation = is_life n x t o a in
-        let mine : weight c (held g) m.0 ≡ 1 + weight c (held g) (given_view m.0) = omega (arith, first_term (λ p. one_if (life c g) p.life), one_here) in
+        let mine : weight c (held g) m.0 ≡ 1 + weight c (held g) (given_view n m.0) = omega (arith, first_term (λ p. one_if (life c g) p.life), one_here) in
         let many : 0 < o.head.refs = omega (arith, o.lawful.counted, a.mine (held g), mine, ap (λ (j : ℕ). t (held j)) gen) in (
-          given_view m.0,
-          (λ u moved. refs_sound key.refs_limit n ((n + (2 ^ 64 - 1)) % 2 ^ 64) x c (o.head.refs - 1) m.0 (given_view m.0) t u moved o (one_less n o.head o.spells many)
+          given_view n m.0,
+          (λ u moved. refs_sound key.refs_limit n ((n + (2 ^ 64 - 1)) % 2 ^ 64) x c (o.head.refs - 1) m.0 (given_view n m.0) t u moved o (one_less n o.head o.spells many)
               (unreferred key.refs_limit o.head o.at (λ j. t (held j)) (λ j. t (named j)) o.lawful (λ j. u (held j)) (subst (λ (j : ℕ). u (held j) + 1 ≡ t (held j)) gen (omega (arith, moved (held g), mine)))
               (λ j ne. omega (arith, moved (held j), first_term (λ p. one_if (life c j) p.life), other_here j (λ e. ne (e ∙ gen)))))
               (record { first_hits = λ j. refl; fetches = λ j. refl; owning = refl; straying = λ s. refl; labels = λ y. refl; reads = λ j. omega (arith, first_term (misread c j x)) })),
-          fewer,
-          quiet m.0 m.0.workers (behind m.0.holds),
+          fewer n,
+          quiet m.0 m.0.workers (behind m.0.holds) (given_view n m.0).returned (λ w. refl),
           (refl, (o.head, o.spells, tells c key.refs_limit n x m.0 t o a)),
         ))
 
@@ -245,7 +251,7 @@ module _ (key : Config) (slots id : ℕ) (m : Sat) (c : ℕ) (near : c < chunks 
             (subst (λ (y : ℕ → ℕ). Lawful key.refs_limit o.head o.at y (λ j. t (named j))) (λ i j. same_where (t (held j)) (u (held j)) (weight c (held j) m.0) (weight c (held j) (read_view x m.0)) (moved (held j)) (held_same j) i) o.lawful)
             (record { first_hits = λ j. refl; fetches = λ j. refl; owning = refl; straying = λ s. refl; labels = λ y. refl; reads = λ j. omega (arith, same (misread c j x) (λ p. ap (λ (k : ℕ). one_if (life c j) p.life * k) (no_difference x p))) })),
         read_apart has.0 has.1 has.2 x,
-        quiet m.0 m.0.workers (on_first (read_hold x) m.0.holds),
+        quiet m.0 m.0.workers (on_first (read_hold x) m.0.holds) m.0.returned (λ w. refl),
         (refl, is_label n x t o a),
       )))
 
@@ -269,6 +275,7 @@ sees key slots c first near s o count small = let e = o.each c near in (
     each = λ b h. same_sound key.refs_limit _ _ (tally s.views b) (tally (s.views ++ blank ∷ []) b) (λ y. omega (arith, total_push (weight b y) s.views blank, nothing b y)) (o.each b h);
     true_entries = λ w a many. let old = o.true_entries w a in omega (arith, total_push (evidence w a) s.views blank, old (omega (arith, many, total_push (claims w a) s.views blank)));
     even_moves = λ q. omega (arith, total_push (moves q) s.views blank, total_push (settled q) s.views blank, o.even_moves q);
+    one_worker = λ n. omega (arith, total_push (workers_of n) s.views blank, o.one_worker n);
     one_lane = λ n. omega (arith, total_push (lanes_of n) s.views blank, o.one_lane n);
     orderly = omega (arith, total_push untidy s.views blank, o.orderly);
   },

@@ -93,6 +93,7 @@ no_named c g key = omega (arith, no_workers (λ w. count_of (life c g) w.hits) (
 no_saw : (c g : ℕ) (key : Config) → weight c (saw g) (opened key) + 0 ≡ 0
 no_saw c g key = omega (arith, no_workers (λ w. how_many (is_fetch_of c g) w.steps) (λ w. refl) 0 key.workers)
 
+-- of the lanes of workers from w on one is of each worker
 none_of : (n w m : ℕ) → n < w → total (λ l. cond (eqb l.worker n) 1 0) (lane_parts w m) ≡ 0
 none_of n w zero h = refl
 none_of n w (suc m) h = omega (arith, ap {B = ℕ} (λ (b : Bool). cond b 1 0) (ne_eqb w n (λ e. omega (arith, h, e))), none_of n (w + 1) m (omega arith))
@@ -100,6 +101,16 @@ none_of n w (suc m) h = omega (arith, ap {B = ℕ} (λ (b : Bool). cond b 1 0) (
 one_of : (n w m : ℕ) → total (λ l. cond (eqb l.worker n) 1 0) (lane_parts w m) ≤ 1
 one_of n w zero = omega arith
 one_of n w (suc m) = dite (ℕ_discrete w n) (λ e. omega (arith, ap {B = ℕ} (λ (b : Bool). cond b 1 0) (eq-eqb w n e), none_of n (w + 1) m (omega arith))) (λ ne. omega (arith, ap {B = ℕ} (λ (b : Bool). cond b 1 0) (ne_eqb w n ne), one_of n (w + 1) m))
+
+-- and the same of workers
+no_worker_of : (n w m : ℕ) → n < w → total (λ p. cond (eqb p.worker n) 1 0) (worker_parts w m) ≡ 0
+no_worker_of n w zero h = refl
+no_worker_of n w (suc m) h = omega (arith, ap {B = ℕ} (λ (b : Bool). cond b 1 0) (ne_eqb w n (λ e. omega (arith, h, e))), no_worker_of n (w + 1) m (omega arith))
+
+one_worker_of : (n w m : ℕ) → total (λ p. cond (eqb p.worker n) 1 0) (worker_parts w m) ≤ 1
+one_worker_of n w zero = omega arith
+one_worker_of n w (suc m) = dite (ℕ_discrete w n) (λ e. omega (arith, ap {B = ℕ} (λ (b : Bool). cond b 1 0) (eq-eqb w n e), no_worker_of n (w + 1) m (omega arith)))
+    (λ ne. omega (arith, ap {B = ℕ} (λ (b : Bool). cond b 1 0) (ne_eqb w n ne), one_worker_of n (w + 1) m))
 
 pub starts : (key : Config) (words : List ℕ) → AreFresh (chunks key) (key.first_generation - 1) words → HasFittingLimit key → (0 < key.first_generation) × (key.first_generation < 2 ^ generation_width) → Kept key (opening words [] (opened key))
 starts key words fresh limits generations = record {
@@ -128,6 +139,7 @@ starts key words fresh limits generations = record {
   };
   true_entries = λ n a many. absurd (omega (arith, many, no_lanes (claimed_in n a) (λ w. cond_none (eqb w n)) 0 key.workers));
   even_moves = λ q. omega (arith, no_classes (λ k. how_many (is_move_for q.test q.worker q.number) k.history) (λ g i at n. refl) (key.first_generation - 1) 0 0 key.classes, no_lanes (settled_in q) (λ w. cond_none (eqb w q.worker)) 0 key.workers);
+  one_worker = λ n. omega (arith, one_worker_of n 0 key.workers);
   one_lane = λ n. omega (arith, one_of n 0 key.workers);
   orderly = omega (arith, no_lanes untidy_in (λ w. refl) 0 key.workers);
 }

@@ -1,5 +1,5 @@
 -- How the heads that a call of `take` found grow, and what it comes to.
-use Rattle.std.proofs.Common.{◌≡◌, ◌≢◌, ℕ, ◌+◌, ◌/◌, ◌^◌, ◌<◌, ◌≤◌, Bool, List, [], ◌∷◌, ◌++◌, length, Option, Some, None, refl, sym, ap, ◌∙◌, arith, eq-eqb, ne_eqb, append_assoc, append-nil, length-append}
+use Rattle.std.proofs.Common.{◌≡◌, ◌≢◌, ℕ, ◌+◌, ◌/◌, ◌^◌, ◌<◌, ◌≤◌, Bool, List, [], ◌∷◌, ◌++◌, length, Option, Some, None, refl, sym, ap, ◌∙◌, subst, arith, eq-eqb, ne_eqb, append_assoc, append-nil, length-append}
 use Rattle.std.specs.Prelude.{if◌then◌else◌}
 use Rattle.bump_rules.specs.declared.items.Head.{Head}
 use Rattle.bump_rules.specs.declared.items.ItemId.{ItemId}
@@ -13,7 +13,7 @@ use Rattle.bump_steps.specs.declared.refusals.TakeRefusal.TheVariants.{Busy}
 use Rattle.bump_steps.specs.declared.views.Kind.TheVariants as kind
 use Rattle.bump_steps.specs.declared.views.OwnStep.{OwnStep}
 use Rattle.bump_steps.specs.declared.views.WorkerPart.{WorkerPart}
-use Rattle.bump_steps.specs.Plays.{Sat, on_first, step_of}
+use Rattle.bump_steps.specs.Plays.{Sat, HasWorker, on_first, step_of}
 use Rattle.bump_steps.specs.References.{new_hold, looked_view, looked, taken_view, taken}
 use Rattle.bump_steps.specs.Tries.{last_found, AreHeads, AreTries, refused_by, refusal_of, loads, takes, with_more, held_by, stepped_view, TookView}
 use Rattle.bump_steps.proofs.Referring.{held_is}
@@ -48,6 +48,11 @@ more_again : (s t : List OwnStep) (ws : List WorkerPart) → on_first (with_more
 more_again s t [] = refl
 more_again s t (w ∷ ws) = ap (λ (l : List OwnStep). record w { steps = l } ∷ ws) (append_assoc w.steps s t)
 
+-- a change of the first element leaves as many
+some_first : {A : Type 0} (f : A → A) (l : List A) → 0 < length l → 0 < length (on_first f l)
+some_first f [] some = some
+some_first f (x ∷ xs) some = some
+
 -- where the get table doesn't refuse, a get is a hold
 pub unrefused : (get : Get) → refused_by get ≡ None → get ≡ IsHeld
 unrefused IsStale is = absurd (cc is)
@@ -61,6 +66,10 @@ pub record Trying (limit : ℕ) (l : ItemId) (before now : Sat) (word failed : �
   pub count : length more ≡ failed
   pub last : word ≡ word_of (last_found first more)
   pub view : now ≡ (stepped_view (loads l.chunk (first ∷ more)) before.0, before.1)
+
+-- the seat still has its worker's part
+pub still_working : (limit : ℕ) (l : ItemId) (before now : Sat) (word failed : ℕ) (first : Head) (more : List Head) → Trying limit l before now word failed first more → HasWorker before.0 → HasWorker now.0
+still_working limit l before now word failed first more y some = subst (λ (m : Sat). HasWorker m.0) (sym y.view) (some_first (with_more (loads l.chunk (first ∷ more))) before.0.workers some)
 
 -- after the load
 pub tries_start : (limit : ℕ) (l : ItemId) (before now : Sat) (word x : ℕ) → looked l.chunk x before word now → (first : Head) × (more : List Head) × Trying limit l before now word 0 first more

@@ -127,6 +127,16 @@ applying k l = record blank { classes = k ∷ []; lanes = l ∷ [] }
 abbrev pub pulling : ClassPart → View
 pulling k = record blank { classes = k ∷ [] }
 
+-- the lane that is joined carries a bump of this chunk, which is the class's
+pub record Fronts (c : ℕ) (v : View) (k : ClassPart) (l : LanePart) (b : Bump) : Type 0 where
+  pub view : v ≡ applying k l
+  pub stage : l.stage ≡ lane.Carrying b
+  pub chunk : b.life.chunk ≡ c
+  pub own : owns c k ≡ true
+
+abbrev pub MayTry : ℕ → View → Type 0
+MayTry c v = (k : ClassPart) × (l : LanePart) × (b : Bump) × Fronts c v k l b
+
 -- the chunk is the class's, and stands in this segment's list
 abbrev pub StandsIn : Segment → ℕ → ClassPart → Type 0
 StandsIn from c k = (owns c k ≡ true) × ((standing k c).0 ≡ place_of from)

@@ -5,7 +5,7 @@ use Rattle.bump_steps.specs.Rule.{blank}
 use Rattle.bump_steps.specs.Plays.{behind, first_of}
 
 abbrev pub joined : View → View → View
-joined v w = record { workers = v.workers ++ w.workers; holds = v.holds ++ w.holds; riders = v.riders ++ w.riders; classes = v.classes ++ w.classes; lanes = v.lanes ++ w.lanes }
+joined v w = record { workers = v.workers ++ w.workers; holds = v.holds ++ w.holds; riders = v.riders ++ w.riders; classes = v.classes ++ w.classes; lanes = v.lanes ++ w.lanes; returned = v.returned ++ w.returned }
 
 abbrev pub without_lanes : View → View
 without_lanes v = record v { lanes = [] }

@@ -1,5 +1,5 @@
 -- What a step tells: of the seat before it, the number found, and the seat after it.
-use Rattle.std.specs.Prelude.{◌≡◌, ℕ, ◌-◌, ◌/◌, ◌<◌, ◌≤◌, true, List, [], ◌∷◌, Option}
+use Rattle.std.specs.Prelude.{◌≡◌, ℕ, ◌-◌, ◌/◌, ◌<◌, ◌≤◌, true, List, [], ◌∷◌, length, Option}
 use Rattle.atomic_table.specs.Table.{Me, Step}
 use Rattle.bump_rules.specs.declared.items.Head.{Head}
 use Rattle.bump_rules.specs.Lawful.{bit, Shows, IsUsed}
@@ -56,6 +56,13 @@ pub record Told (c : ℕ) (v : View) (h : Head) : Type 0 where
   -- the histories of the view name no bump twice, and each move of a bump whose lane is in the view is told by this lane
   pub once : (w n : ℕ) → moves (every w n) v ≤ 1
   pub told : (q : Query) → 0 < lanes_of q.worker v → moves q v ≤ settled q v
+
+-- Each step is noted in the list of a part: a seat that has none makes no such step. The seat has the part of a worker, or of a class.
+abbrev pub HasWorker : View → Type 0
+HasWorker v = 0 < length v.workers
+
+abbrev pub HasClass : View → Type 0
+HasClass v = 0 < length v.classes
 
 -- ---- lists
 

@@ -1,6 +1,6 @@
 -- What a reader's steps on a reference tell: a worker looks at a head word and takes a reference by an exchange, and a hold gives
 -- its reference back, and reads its label. And what is told of a word that is seen without a seat.
-use Rattle.std.specs.Prelude.{◌≡◌, ◌≢◌, ℕ, ◌/◌, ◌^◌, ◌≤◌, [], ◌∷◌, ◌++◌, None}
+use Rattle.std.specs.Prelude.{◌≡◌, ◌≢◌, ℕ, ◌/◌, ◌^◌, ◌≤◌, List, [], ◌∷◌, ◌++◌, None}
 use Rattle.bump_rules.specs.declared.items.Head.{Head}
 use Rattle.bump_rules.specs.declared.items.ItemId.{ItemId}
 use Rattle.bump_rules.specs.Lawful.{bit}
@@ -9,6 +9,7 @@ use Rattle.bump_rules.specs.Tables.{get_of, IsHeld}
 use Rattle.bump_rules.specs.Totals.{total}
 use Rattle.bump_word.specs.Layout.{generation_first}
 use Rattle.bump_word.specs.Words.{Spells}
+use Rattle.bump_steps.specs.declared.views.GivenBack.{GivenBack}
 use Rattle.bump_steps.specs.declared.views.HoldPart.{HoldPart}
 use Rattle.bump_steps.specs.declared.views.Kind.{Kind}
 use Rattle.bump_steps.specs.declared.views.Kind.TheVariants as kind
@@ -49,12 +50,17 @@ MayTake limit l n = (h : Head) × Spells n h × (get_of limit l.generation h ≡
 abbrev pub HasHold : ℕ → View → Type 0
 HasHold c v = (h : HoldPart) × (v.holds ≡ h ∷ behind v.holds) × (h.life.chunk ≡ c)
 
--- the first hold gave its reference back
-abbrev pub given_view : View → View
-given_view v = record v { holds = behind v.holds }
+-- the mark of the first hold: its reference was given back where n was found
+abbrev pub given_by : ℕ → List HoldPart → List GivenBack
+given_by n [] = []
+given_by n (h ∷ hs) = record { life = h.life; word = n } ∷ []
+
+-- the first hold gave its reference back, of which no other step leaves the mark
+abbrev pub given_view : ℕ → View → View
+given_view n v = record v { holds = behind v.holds; returned = v.returned ++ given_by n v.holds }
 
 abbrev pub given_back : Tells
-given_back c x m r n = (n ≡ (given_view m.0, m.1)) × Found r (Told c m.0)
+given_back c x m r n = (n ≡ (given_view r m.0, m.1)) × Found r (Told c m.0)
 
 -- the hold read a label
 abbrev pub read_hold : ℕ → HoldPart → HoldPart

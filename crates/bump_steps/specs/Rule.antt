@@ -19,7 +19,7 @@ use Rattle.bump_steps.specs.declared.views.ClassPart.{ClassPart}
 use Rattle.bump_steps.specs.declared.views.LanePart.{LanePart}
 use Rattle.bump_steps.specs.declared.views.WorkerPart.{WorkerPart}
 use Rattle.bump_steps.specs.declared.views.View.{View}
-use Rattle.bump_steps.specs.Views.{Measure, held, named, saw, owners, strays, mislabels, misreads, tally, claims, evidence, Query, moves, settled, lanes_of, untidy}
+use Rattle.bump_steps.specs.Views.{Measure, held, named, saw, owners, strays, mislabels, misreads, tally, claims, evidence, Query, moves, settled, workers_of, lanes_of, untidy}
 
 -- A chunk is sound: n is its head word, x its label word, and t what all views together count of it.
 pub record Sound (limit n x : ℕ) (t : Measure → ℕ) : Type 0 where
@@ -57,7 +57,8 @@ pub record Kept (key : Config) (s : State Empty View) : Type 0 where
   pub true_entries : (w : ℕ) (a : AppliedBump) → 0 < total (claims w a) s.views → 0 < total (evidence w a) s.views
   -- each move for a bump is told by one entry of a lane, or is in progress there
   pub even_moves : (q : Query) → total (moves q) s.views ≡ total (settled q) s.views
-  -- a worker has one lane, and each lane's bumps are numbered in order
+  -- a worker has one part and one lane, and each lane's bumps are numbered in order
+  pub one_worker : (n : ℕ) → total (workers_of n) s.views ≤ 1
   pub one_lane : (n : ℕ) → total (lanes_of n) s.views ≤ 1
   pub orderly : total untidy s.views ≡ 0
 
@@ -89,7 +90,7 @@ lane_parts w (suc n) = lane_part w ∷ lane_parts (w + 1) n
 
 -- the view that has nothing: what a seat that was joined leaves behind
 abbrev pub blank : View
-blank = record { workers = []; holds = []; riders = []; classes = []; lanes = [] }
+blank = record { workers = []; holds = []; riders = []; classes = []; lanes = []; returned = [] }
 
 abbrev pub opened : Config → View
 opened key = record blank { workers = worker_parts 0 key.workers; classes = class_parts (key.first_generation - 1) 0 0 key.classes; lanes = lane_parts 0 key.workers }

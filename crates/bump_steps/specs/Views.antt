@@ -185,7 +185,11 @@ settled_in q l = cond (l.worker == q.worker) (moves_told q.test q.number l.appli
 abbrev pub settled : Query → View → ℕ
 settled q v = total (settled_in q) v.lanes
 
--- Lanes.
+-- Workers and lanes.
+
+-- how many parts of worker w the view has
+abbrev pub workers_of : ℕ → View → ℕ
+workers_of w v = total (λ p. cond (p.worker == w) 1 0) v.workers
 
 -- how many lanes of worker w the view has
 abbrev pub lanes_of : ℕ → View → ℕ
@@ -208,10 +212,11 @@ untidy_in l = cond (in_order 0 l.applied (aboard_of l.stage)) 0 1
 abbrev pub untidy : View → ℕ
 untidy v = total untidy_in v.lanes
 
--- A view may become another one: what it adds to the entries is shown by what it has, each move is settled, the lanes stay the same ones
--- and stay in order.
+-- A view may become another one: what it adds to the entries is shown by what it has, each move is settled, the workers and the lanes stay
+-- the same ones, and the lanes stay in order.
 pub record IsBacked (v w : View) : Type 0 where
   pub backs : (worker : ℕ) (a : AppliedBump) → (evidence worker a v ≤ evidence worker a w) × (claims worker a v < claims worker a w → 0 < evidence worker a w)
   pub even : (q : Query) → moves q w + settled q v ≡ moves q v + settled q w
+  pub workers : (n : ℕ) → workers_of n w ≡ workers_of n v
   pub lanes : (n : ℕ) → lanes_of n w ≡ lanes_of n v
   pub tidy : untidy w ≤ untidy v

@@ -1,7 +1,12 @@
--- The table of words.
+-- The table of words, as it is named outside: which table it is, and of which configuration.
 use Rattle.atomic_table.specs.Seated.{TableId}
+use Rattle.bump_rules.specs.declared.configs.Config.{Config}
 use Rattle.bump_steps.specs.declared.words.Words.{Words}
 
 -- which table it is
 abbrev pub words_id : Words → TableId
 words_id w = w.table.shared.table_id
+
+-- the configuration with which it was made
+abbrev pub config_of : Words → Config
+config_of w = w.table.shared.key

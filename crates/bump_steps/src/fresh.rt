@@ -2,7 +2,7 @@
 ghost use Rattle.std.specs.Prelude.{ℕ, ◌≡◌, ◌≤◌, ◌<◌, ◌-◌, ◌*◌, ◌^◌, [], IfOk};
 ghost use Rattle.bump_word.specs.Layout.{generation_width};
 ghost use Rattle.bump_steps.specs.Rule.{AreFresh, opened};
-ghost use Rattle.bump_steps.specs.Words.{words_id};
+ghost use Rattle.bump_steps.specs.Words.{words_id, config_of};
 
 use crate::words::{HEAD, Seat, Words};
 use atomic_table::Table;
@@ -31,8 +31,8 @@ fn fresh_words(alloc: Global, chunks: u32, first: u32) -> Result<Vec<u64>, Alloc
 impl Words {
     /// A table for the chunks of the configuration, of which none had a life yet, and the one seat that has every part.
     pub fn fresh(alloc: Global, config: &Config) -> Result<(Words, Seat), AllocError>
-        ensures config { IfOk result (λ p. p.0.table.shared.key ≡ config.now) }
-        ensures seat { IfOk result (λ p. (p.1.table_id ≡ words_id p.0) × (p.1.me ≡ (opened p.0.table.shared.key, []))) }
+        ensures config { IfOk result (λ p. config_of p.0 ≡ config.now) }
+        ensures seat { IfOk result (λ p. (p.1.table_id ≡ words_id p.0) × (p.1.me ≡ (opened (config_of p.0), []))) }
         ensures chunks { IfOk result (λ p. 0 < (words_id p.0).words) }
     {
         let words = fresh_words(alloc, config.chunks(), config.first_generation)?;

@@ -13,5 +13,7 @@ mod words;
 pub use decoding::head_of;
 pub use refusals::{RideRefusal, TakeRefusal};
 pub use rule::Rule;
-pub use views::{ClassPart, Empty, HoldPart, Kind, LanePart, OwnStep, Ride, View, WorkerPart};
+pub use views::{
+    ClassPart, Empty, GivenBack, HoldPart, Kind, LanePart, OwnStep, Ride, View, WorkerPart,
+};
 pub use words::{Seat, Words};

@@ -113,6 +113,16 @@ pub struct HoldPart {
     pub labels: LinkedList<u64>,
 }
 
+/// The mark of a hold's reference that was given back.
+#[derive(Clone, Copy)]
+pub struct GivenBack {
+    /// The life to which it referred.
+    pub life: ItemId,
+
+    /// The head word that the subtraction found.
+    pub word: u64,
+}
+
 /// What a class's seat knows.
 pub struct ClassPart {
     /// The class's number, from 0.
@@ -168,6 +178,9 @@ pub struct View {
 
     /// Lanes' parts.
     pub lanes: LinkedList<LanePart>,
+
+    /// References of holds that it gave back, in order. No sum counts them.
+    pub returned: LinkedList<GivenBack>,
 }
 
 /// What lies in a slot of the table. The table has none.

@@ -27,6 +27,6 @@ pub(crate) const LABEL: usize = HEAD + 2;
 #[derive(Drop)]
 pub struct Words {
     /// The kit's table, which asks the rule of each step.
-    pub table: Table<Empty, View, Config, Rule, Global>,
+    pub(crate) table: Table<Empty, View, Config, Rule, Global>,
     ghost sized: { table.shared.table_id.words ≡ 3 * all_chunks table.shared.key + 9 },
 }

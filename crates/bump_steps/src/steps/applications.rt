@@ -3,8 +3,8 @@ ghost use Rattle.std.specs.Prelude.{ℕ, ◌≡◌, ◌+◌, ◌*◌, ◌<◌, �
 ghost use Rattle.bump_rules.specs.declared.bumps.Outcome.{Outcome as TheOutcome};
 ghost use Rattle.bump_rules.specs.declared.bumps.Outcome.TheVariants.{Gone};
 ghost use Rattle.bump_steps.specs.Words.{words_id};
-ghost use Rattle.bump_steps.specs.Plays.{on_chunk};
-ghost use Rattle.bump_steps.specs.Applications.{tried, cleared, timed, timed_view, moved_on, alighted, MayMove, MayAlight};
+ghost use Rattle.bump_steps.specs.Plays.{on_chunk, HasClass};
+ghost use Rattle.bump_steps.specs.Applications.{tried, cleared, timed, timed_view, moved_on, alighted, MayTry, MayMove, MayAlight};
 ghost use Rattle.bump_rules.specs.declared.places.Segment.{Segment as TheSegment};
 ghost use Rattle.bump_rules.specs.declared.places.Segment.TheVariants.{Hot};
 
@@ -75,7 +75,8 @@ impl<W: Ends> Play<Empty, View> for Alight<W> {
 impl Words {
     /// The head of the bump's item is looked at.
     pub fn try_front(&self, seat: &mut Seat, chunk: u32) -> u64
-        requires { (seat.old.table_id ≡ words_id self.now) × (3 * chunk + 11 < (words_id self.now).words) }
+        requires seat { (seat.old.table_id ≡ words_id self.now) × (3 * chunk + 11 < (words_id self.now).words) }
+        requires may { MayTry chunk seat.old.me.0 }
         ensures same { (seat.new.table_id ≡ seat.old.table_id) × (seat.new.id ≡ seat.old.id) }
         ensures told { tried chunk 0 seat.old.me result seat.new.me }
     {
@@ -86,7 +87,8 @@ impl Words {
 
     /// ACTIVE is cleared, for a pull or for the bump aboard.
     pub fn clear_for(&self, seat: &mut Seat, chunk: u32) -> u64
-        requires { (seat.old.table_id ≡ words_id self.now) × (3 * chunk + 11 < (words_id self.now).words) }
+        requires seat { (seat.old.table_id ≡ words_id self.now) × (3 * chunk + 11 < (words_id self.now).words) }
+        requires class { HasClass seat.old.me.0 }
         ensures same { (seat.new.table_id ≡ seat.old.table_id) × (seat.new.id ≡ seat.old.id) }
         ensures told { cleared chunk ALL_BUT_ACTIVE seat.old.me result seat.new.me }
     {
@@ -97,7 +99,8 @@ impl Words {
 
     /// The time is stored under the class's lock, for a link or for the bump aboard.
     pub fn time_for(&self, seat: &mut Seat, chunk: u32, now: u64)
-        requires { (seat.old.table_id ≡ words_id self.now) × (3 * chunk + 11 < (words_id self.now).words) }
+        requires seat { (seat.old.table_id ≡ words_id self.now) × (3 * chunk + 11 < (words_id self.now).words) }
+        requires class { HasClass seat.old.me.0 }
         ensures same { (seat.new.table_id ≡ seat.old.table_id) × (seat.new.id ≡ seat.old.id) }
         ensures told { seat.new.me ≡ (timed_view chunk now seat.old.me.0, seat.old.me.1) }
     {

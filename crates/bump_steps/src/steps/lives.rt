@@ -1,7 +1,7 @@
 //! The steps of a class's seat that begin and end lives, and its looks at a chunk.
 ghost use Rattle.std.specs.Prelude.{ℕ, ◌≡◌, ◌+◌, ◌*◌, ◌<◌, ◌%◌};
 ghost use Rattle.bump_steps.specs.Words.{words_id};
-ghost use Rattle.bump_steps.specs.Plays.{on_chunk};
+ghost use Rattle.bump_steps.specs.Plays.{on_chunk, HasClass};
 ghost use Rattle.bump_word.specs.Words.{word_of};
 ghost use Rattle.bump_rules.specs.Heads.{newborn};
 ghost use Rattle.bump_steps.specs.Lives.{peeking, looking, storing, beginning, severing, sweeping, labelled, begun, on_part, IsUnused, IsDying, IsLinked, MayBegin};
@@ -50,7 +50,8 @@ impl Play<Empty, View> for Sweep {
 impl Words {
     /// A load that the class's list of steps has not.
     pub fn peek(&self, seat: &mut Seat, chunk: u32) -> u64
-        requires { (seat.old.table_id ≡ words_id self.now) × (3 * chunk + 11 < (words_id self.now).words) }
+        requires seat { (seat.old.table_id ≡ words_id self.now) × (3 * chunk + 11 < (words_id self.now).words) }
+        requires class { HasClass seat.old.me.0 }
         ensures same { (seat.new.table_id ≡ seat.old.table_id) × (seat.new.id ≡ seat.old.id) }
         ensures told { peeking chunk 0 seat.old.me result seat.new.me }
     {
@@ -61,7 +62,8 @@ impl Words {
 
     /// A load of a head by its class.
     pub fn class_look(&self, seat: &mut Seat, chunk: u32) -> u64
-        requires { (seat.old.table_id ≡ words_id self.now) × (3 * chunk + 11 < (words_id self.now).words) }
+        requires seat { (seat.old.table_id ≡ words_id self.now) × (3 * chunk + 11 < (words_id self.now).words) }
+        requires class { HasClass seat.old.me.0 }
         ensures same { (seat.new.table_id ≡ seat.old.table_id) × (seat.new.id ≡ seat.old.id) }
         ensures told { looking chunk 0 seat.old.me result seat.new.me }
     {

@@ -1,8 +1,8 @@
 //! The steps of a worker on the marks of a chunk, and on its time.
-ghost use Rattle.std.specs.Prelude.{ℕ, ◌≡◌, ◌+◌, ◌*◌, ◌<◌, length};
+ghost use Rattle.std.specs.Prelude.{ℕ, ◌≡◌, ◌+◌, ◌*◌, ◌<◌};
 ghost use Rattle.bump_rules.specs.Lives.{life};
 ghost use Rattle.bump_steps.specs.Words.{words_id};
-ghost use Rattle.bump_steps.specs.Plays.{on_chunk};
+ghost use Rattle.bump_steps.specs.Plays.{on_chunk, HasWorker};
 ghost use Rattle.bump_steps.specs.Marks.{fetched, marked, unmarked, timed, on_worker, timed_part, MayMark};
 
 use crate::views::{Empty, View};
@@ -39,7 +39,7 @@ impl Words {
     /// A worker sets FETCHED.
     pub fn mark_fetched(&self, seat: &mut Seat, chunk: u32) -> u64
         requires seat { (seat.old.table_id ≡ words_id self.now) × (3 * chunk + 11 < (words_id self.now).words) }
-        requires worker { 0 < length seat.old.me.0.workers }
+        requires worker { HasWorker seat.old.me.0 }
         ensures same { (seat.new.table_id ≡ seat.old.table_id) × (seat.new.id ≡ seat.old.id) }
         ensures told { fetched chunk FETCHED seat.old.me result seat.new.me }
     {
@@ -62,7 +62,8 @@ impl Words {
 
     /// A worker clears ACTIVE.
     pub fn unmark(&self, seat: &mut Seat, chunk: u32) -> u64
-        requires { (seat.old.table_id ≡ words_id self.now) × (3 * chunk + 11 < (words_id self.now).words) }
+        requires seat { (seat.old.table_id ≡ words_id self.now) × (3 * chunk + 11 < (words_id self.now).words) }
+        requires worker { HasWorker seat.old.me.0 }
         ensures same { (seat.new.table_id ≡ seat.old.table_id) × (seat.new.id ≡ seat.old.id) }
         ensures told { unmarked chunk ALL_BUT_ACTIVE seat.old.me result seat.new.me }
     {
@@ -73,7 +74,8 @@ impl Words {
 
     /// A worker stores the time.
     pub fn set_time(&self, seat: &mut Seat, chunk: u32, now: u64)
-        requires { (seat.old.table_id ≡ words_id self.now) × (3 * chunk + 11 < (words_id self.now).words) }
+        requires seat { (seat.old.table_id ≡ words_id self.now) × (3 * chunk + 11 < (words_id self.now).words) }
+        requires worker { HasWorker seat.old.me.0 }
         ensures same { (seat.new.table_id ≡ seat.old.table_id) × (seat.new.id ≡ seat.old.id) }
         ensures told { seat.new.me ≡ (on_worker (timed_part (life chunk 0) now) seat.old.me.0, seat.old.me.1) }
     {

@@ -2,8 +2,8 @@
 //! label; and loads that need no seat of the caller's.
 ghost use Rattle.std.specs.Prelude.{ℕ, ◌≡◌, ◌+◌, ◌*◌, ◌<◌, List};
 ghost use Rattle.bump_rules.specs.declared.items.Head.{Head as TheHead};
-ghost use Rattle.bump_steps.specs.Words.{words_id};
-ghost use Rattle.bump_steps.specs.Plays.{on_chunk, Found};
+ghost use Rattle.bump_steps.specs.Words.{words_id, config_of};
+ghost use Rattle.bump_steps.specs.Plays.{on_chunk, Found, HasWorker};
 ghost use Rattle.bump_steps.specs.References.{looked, taken, MayTake, HasHold, given_back, label_read, seen, IsSeen};
 ghost use Rattle.bump_steps.specs.Tries.{TookView};
 
@@ -63,7 +63,8 @@ impl<L: Limited> Play<Empty, View> for See<L> {
 impl Words {
     /// A load of a head word, by a worker.
     pub fn look(&self, seat: &mut Seat, chunk: u32) -> u64
-        requires { (seat.old.table_id ≡ words_id self.now) × (3 * chunk + 11 < (words_id self.now).words) }
+        requires seat { (seat.old.table_id ≡ words_id self.now) × (3 * chunk + 11 < (words_id self.now).words) }
+        requires worker { HasWorker seat.old.me.0 }
         ensures same { (seat.new.table_id ≡ seat.old.table_id) × (seat.new.id ≡ seat.old.id) }
         ensures told { looked chunk 0 seat.old.me result seat.new.me }
     {
@@ -75,7 +76,8 @@ impl Words {
     /// The exchange by which a worker takes a hold.
     pub fn try_take(&self, seat: &mut Seat, life: ItemId, word: u64) -> u64
         requires seat { (seat.old.table_id ≡ words_id self.now) × (3 * life.chunk + 11 < (words_id self.now).words) }
-        requires word { MayTake self.now.table.shared.key.refs_limit life word }
+        requires worker { HasWorker seat.old.me.0 }
+        requires word { MayTake (config_of self.now).refs_limit life word }
         ensures same { (seat.new.table_id ≡ seat.old.table_id) × (seat.new.id ≡ seat.old.id) }
         ensures told { taken life.chunk word seat.old.me result seat.new.me }
     {
@@ -91,7 +93,8 @@ impl Words {
     #[inline(always)]
     pub fn take(&self, seat: &mut Seat, life: ItemId, limit: &Count) -> Option<TakeRefusal>
         requires seat { (seat.old.table_id ≡ words_id self.now) × (3 * life.chunk + 11 < (words_id self.now).words) }
-        requires limit { limit.now ≡ self.now.table.shared.key.refs_limit }
+        requires worker { HasWorker seat.old.me.0 }
+        requires limit { limit.now ≡ (config_of self.now).refs_limit }
         ensures same { (seat.new.table_id ≡ seat.old.table_id) × (seat.new.id ≡ seat.old.id) }
         ensures told { (first : TheHead) × (more : List TheHead) × TookView limit.now life seat.old.me seat.new.me result first more }
     {
@@ -136,7 +139,7 @@ impl Words {
 
     fn see_by<L: Limited>(&self, chunk: u32) -> u64
         requires chunk { 3 * chunk + 11 < (words_id self.now).words }
-        requires limit { L.limit ≡ self.now.table.shared.key.refs_limit }
+        requires limit { L.limit ≡ (config_of self.now).refs_limit }
         ensures { Found result (IsSeen L.limit) }
     {
         let (found, _seat) = self
@@ -149,7 +152,7 @@ impl Words {
     /// A load of a head word, without a seat.
     pub fn see(&self, chunk: u32) -> u64
         requires { 3 * chunk + 11 < (words_id self.now).words }
-        ensures { Found result (IsSeen self.now.table.shared.key.refs_limit) }
+        ensures { Found result (IsSeen (config_of self.now).refs_limit) }
     {
         self.see_by::<Brand>(chunk)
     }

@@ -7,7 +7,7 @@ ghost use Rattle.bump_rules.specs.Lives.{life as life_in};
 ghost use Rattle.bump_steps.specs.declared.views.WorkerPart.{WorkerPart as TheWorkerPart};
 ghost use Rattle.bump_steps.specs.declared.views.HoldPart.{HoldPart as TheHoldPart};
 ghost use Rattle.bump_steps.specs.declared.views.Ride.{Ride as TheRide};
-ghost use Rattle.bump_steps.specs.Words.{words_id};
+ghost use Rattle.bump_steps.specs.Words.{words_id, config_of};
 ghost use Rattle.bump_steps.specs.Rule.{blank};
 ghost use Rattle.bump_steps.specs.Riders.{ride_me};
 ghost use Rattle.bump_steps.specs.RideTries.{RodeView};
@@ -84,7 +84,7 @@ impl Words {
     fn look_to_ride_by<W: Attempt>(&self, seat: &mut Seat, limit: Count, life: ItemId) -> u64
         requires seat { (seat.old.table_id ≡ words_id self.now) × (3 * life.chunk + 11 < (words_id self.now).words) }
         requires attempt { (W.limit ≡ limit) × (W.failed ≡ 0) × (W.life ≡ life) }
-        requires limit { limit ≡ self.now.table.shared.key.refs_limit }
+        requires limit { limit ≡ (config_of self.now).refs_limit }
         requires trying { IsOn (Trying life) life seat.old.me.0 }
         ensures same { (seat.new.table_id ≡ seat.old.table_id) × (seat.new.id ≡ seat.old.id) }
         ensures told { looked limit 0 life seat.old.me result seat.new.me }
@@ -97,7 +97,7 @@ impl Words {
     /// A load, of a worker that looks for room for its bump's reference.
     pub fn look_to_ride(&self, seat: &mut Seat, limit: Count, life: ItemId) -> u64
         requires seat { (seat.old.table_id ≡ words_id self.now) × (3 * life.chunk + 11 < (words_id self.now).words) }
-        requires limit { limit ≡ self.now.table.shared.key.refs_limit }
+        requires limit { limit ≡ (config_of self.now).refs_limit }
         requires trying { IsOn (Trying life) life seat.old.me.0 }
         ensures same { (seat.new.table_id ≡ seat.old.table_id) × (seat.new.id ≡ seat.old.id) }
         ensures told { looked limit 0 life seat.old.me result seat.new.me }
@@ -115,7 +115,7 @@ impl Words {
     ) -> u64
         requires seat { (seat.old.table_id ≡ words_id self.now) × (3 * life.chunk + 11 < (words_id self.now).words) }
         requires attempt { (W.limit ≡ limit) × (W.failed ≡ failed) × (W.life ≡ life) }
-        requires limit { limit ≡ self.now.table.shared.key.refs_limit }
+        requires limit { limit ≡ (config_of self.now).refs_limit }
         requires trying { IsOn (Trying life) life seat.old.me.0 }
         requires room { HasRoom limit seen }
         ensures same { (seat.new.table_id ≡ seat.old.table_id) × (seat.new.id ≡ seat.old.id) }
@@ -139,7 +139,7 @@ impl Words {
         failed: u32,
     ) -> u64
         requires seat { (seat.old.table_id ≡ words_id self.now) × (3 * life.chunk + 11 < (words_id self.now).words) }
-        requires limit { limit ≡ self.now.table.shared.key.refs_limit }
+        requires limit { limit ≡ (config_of self.now).refs_limit }
         requires trying { IsOn (Trying life) life seat.old.me.0 }
         requires room { HasRoom limit seen }
         ensures same { (seat.new.table_id ≡ seat.old.table_id) × (seat.new.id ≡ seat.old.id) }
@@ -152,7 +152,7 @@ impl Words {
     #[inline(always)]
     pub fn ride(&self, seat: &mut Seat, limit: &Count, life: ItemId) -> Option<RideRefusal>
         requires seat { (seat.old.table_id ≡ words_id self.now) × (3 * life.chunk + 11 < (words_id self.now).words) }
-        requires limit { limit.now ≡ self.now.table.shared.key.refs_limit }
+        requires limit { limit.now ≡ (config_of self.now).refs_limit }
         requires trying { IsOn (Trying life) life seat.old.me.0 }
         ensures same { (seat.new.table_id ≡ seat.old.table_id) × (seat.new.id ≡ seat.old.id) }
         ensures told { (first : TheHead) × (more : List TheHead) × RodeView limit.now life seat.old.me seat.new.me result first more }

@@ -5,7 +5,7 @@ use Rattle.bump_steps.proofs.Meetings.{meets}
 use Rattle.bump_steps.proofs.words.Words.meet.Goals as goal
 
 pub load-requires : goal.load-requires
-load-requires c = let t = c.args.self.now.table.shared in (c.requires.0, omega (arith, c.requires.1), meets t.key t.table_id.slots c.args.seat.now.id c.args.seat.now.me c.args.chunk (omega (arith, c.args.self.now.sized, c.requires.1)))
+load-requires c = let t = c.args.self.now.table.shared in (c.requires.seat.0, omega (arith, c.requires.seat.1), meets t.key t.table_id.slots c.args.seat.now.id c.args.seat.now.me c.args.chunk (omega (arith, c.args.self.now.sized, c.requires.seat.1)))
 
 pub returns-clause-told : goal.returns-clause-told
 returns-clause-told c = subst (λ (d : ℕ). met d 0 c.args.seat.now.me c.load.result c.load.new.seat.me) (label_chunk_is c.args.chunk) c.load.ensures.2

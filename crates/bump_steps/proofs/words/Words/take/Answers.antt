@@ -1,10 +1,14 @@
 use Rattle.std.proofs.Common.{arith, sym, ◌∙◌, ◌++◌, ◌∷◌, []}
 use Rattle.bump_steps.specs.Tries.{last_found}
-use Rattle.bump_steps.proofs.Tries.{last_fits, goes_on, refuses, takes_it}
+use Rattle.bump_steps.proofs.Tries.{still_working, last_fits, goes_on, refuses, takes_it}
 use Rattle.bump_steps.proofs.words.Words.take.Goals as goal
 
 pub head_of-head-requires : goal.head_of-head-requires
 head_of-head-requires c = let t = c.loop-failed.invariant.tries in (last_found t.0 t.1, (t.2.last, last_fits t.0 t.1 t.2.heads))
+
+pub try_take-found-requires-clause-worker : goal.try_take-found-requires-clause-worker
+try_take-found-requires-clause-worker c = let t = c.loop-failed.invariant.tries in
+    still_working c.args.limit.now c.args.life c.args.seat.now.me c.loop-failed.seat.me c.loop-failed.word c.loop-failed.failed t.0 t.1 t.2 c.requires.worker
 
 pub returns-in-Some-clause-told : goal.returns-in-Some-clause-told
 returns-in-Some-clause-told c = let t = c.loop-failed.invariant.tries in
