@@ -5,6 +5,7 @@ use mathlib.Core.Option.{none}
 use mathlib.Core.Logic.{dite}
 use native.Mathlib.Decide.{ℕ_discrete}
 use Rattle.atomic_table.specs.Table.{step, Allows}
+pub use Rattle.bump_rules.proofs.Unlinks.{freed_subject}
 use Rattle.bump_rules.specs.declared.items.Head.{Head}
 use Rattle.bump_rules.specs.declared.items.ItemId.{ItemId}
 use Rattle.bump_rules.specs.declared.places.Place.{Place}
@@ -115,15 +116,7 @@ linked_in_segment h Dying shows in_it = absurd in_it
 linked_in_segment h Unused shows in_it = absurd in_it
 linked_in_segment h Retired shows in_it = absurd in_it
 
--- the entry of a chunk that is freed is of its life
-pub freed_subject : (l : ItemId) → subject (freed_change l) ≡ l
-freed_subject l = by (l.generation == 4294967295)
-  where
-    by : (b : Bool) → subject (if b then change.Retired l else change.Swept l) ≡ l
-    by true = refl
-    by false = refl
-
--- and names no bump
+-- the entry of a chunk that is freed names no bump
 pub freed_quiet : (l : ItemId) → names_bump (freed_change l) ≡ false
 freed_quiet l = by (l.generation == 4294967295)
   where

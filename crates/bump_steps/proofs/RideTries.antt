@@ -6,6 +6,7 @@ use Rattle.bump_rules.specs.declared.items.ItemId.{ItemId}
 use Rattle.bump_rules.specs.declared.hands.Hand.TheVariants as hand
 use Rattle.bump_word.specs.Words.{Spells, word_of}
 use Rattle.bump_word.proofs.Words.{one_head}
+use Rattle.bump_rules.specs.declared.commands.Dropped.TheVariants as dropped
 use Rattle.bump_steps.specs.declared.refusals.RideRefusal.{RideRefusal}
 use Rattle.bump_steps.specs.declared.refusals.RideRefusal.TheVariants.{RefsFull, Busy}
 use Rattle.bump_steps.specs.declared.views.Kind.TheVariants as kind
@@ -14,7 +15,7 @@ use Rattle.bump_steps.specs.declared.views.WorkerPart.{WorkerPart}
 use Rattle.bump_steps.specs.declared.views.View.{View}
 use Rattle.bump_steps.specs.Plays.{Sat, on_first, step_of}
 use Rattle.bump_steps.specs.Tries.{last_found, AreHeads, AreTries, loads, with_more}
-use Rattle.bump_steps.specs.Rides.{on_worker, found_by, IsHeld, refusal, judged, judged_hand, counted_drop, reserved, looked, took, IsOn, HasRoom}
+use Rattle.bump_steps.specs.Rides.{on_worker, found_by, IsHeld, refused_as, refusal, judged, judged_hand, counted_drop, reserved, looked, took, IsOn, HasRoom}
 use Rattle.bump_steps.specs.RideTries.{AreHeld, why_refused, view_after, RodeView}
 use Rattle.bump_steps.proofs.Tries.{heads_push, tries_push, last_push, last_fits, loads_push}
 
@@ -32,13 +33,13 @@ again f g v = ap (λ (ws : List WorkerPart). record v { workers = ws }) (first_a
 
 -- by fewer than 8 exchanges that failed, a head with room ends nothing, and one without room is refused
 goes : (limit failed : ℕ) (h : Head) → failed < 8 → h.refs < limit → refusal limit failed h ≡ None
-goes limit failed h few room = ap₂ (λ (a b : Bool). if a then Some Busy else (if b then None else Some RefsFull)) (ne_eqb failed 8 (λ e. absurd (omega (arith, e, few)))) (lt-ltb h.refs limit room)
+goes limit failed h few room = ap₂ (λ (a b : Bool). refused_as (if a then Some dropped.Busy else (if b then None else Some dropped.RefsFull))) (ne_eqb failed 8 (λ e. absurd (omega (arith, e, few)))) (lt-ltb h.refs limit room)
 
 full : (limit failed : ℕ) (h : Head) → failed < 8 → limit ≤ h.refs → refusal limit failed h ≡ Some RefsFull
-full limit failed h few none = ap₂ (λ (a b : Bool). if a then Some Busy else (if b then None else Some RefsFull)) (ne_eqb failed 8 (λ e. absurd (omega (arith, e, few)))) (le-ltb h.refs limit none)
+full limit failed h few none = ap₂ (λ (a b : Bool). refused_as (if a then Some dropped.Busy else (if b then None else Some dropped.RefsFull))) (ne_eqb failed 8 (λ e. absurd (omega (arith, e, few)))) (le-ltb h.refs limit none)
 
 busy : (limit failed : ℕ) (h : Head) → failed ≡ 8 → refusal limit failed h ≡ Some Busy
-busy limit failed h all = ap (λ (a : Bool). if a then Some Busy else (if nat_lt h.refs limit then None else Some RefsFull)) (eq-eqb failed 8 all)
+busy limit failed h all = ap (λ (a : Bool). refused_as (if a then Some dropped.Busy else (if nat_lt h.refs limit then None else Some dropped.RefsFull))) (eq-eqb failed 8 all)
 
 -- So many exchanges failed, and the last step found the word.
 pub record Riding (limit : ℕ) (l : ItemId) (before now : Sat) (word failed : ℕ) (first : Head) (more : List Head) : Type 0 where

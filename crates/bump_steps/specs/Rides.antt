@@ -1,10 +1,13 @@
 -- The steps by which a worker takes the reference of a bump, sends it off, has it back and drops it. Those on the head word are made
 -- by the worker's seat with the hold joined to it. They are told what no view has: the limit, the life, and how many exchanges
 -- have failed if this step does.
-use Rattle.std.specs.Prelude.{◌≡◌, ◌≢◌, ℕ, ◌+◌, ◌-◌, ◌<◌, ◌≤◌, ◌==◌, nat_lt, if◌then◌else◌, List, [], ◌∷◌, ◌++◌, Option, Some, None}
+use Rattle.std.specs.Prelude.{◌≡◌, ◌≢◌, ℕ, ◌+◌, ◌-◌, ◌<◌, ◌≤◌, List, [], ◌∷◌, ◌++◌, Option, Some, None}
 use Rattle.bump_rules.specs.declared.items.Head.{Head}
 use Rattle.bump_rules.specs.declared.items.ItemId.{ItemId}
 use Rattle.bump_rules.specs.declared.bumps.Accounts.{Accounts}
+use Rattle.bump_rules.specs.declared.commands.Dropped.{Dropped}
+use Rattle.bump_rules.specs.declared.commands.Dropped.TheVariants as dropped
+use Rattle.bump_rules.specs.Tables.{refused_of}
 use Rattle.bump_rules.specs.declared.hands.Hand.{Hand}
 use Rattle.bump_rules.specs.declared.hands.Hand.TheVariants as hand
 use Rattle.bump_word.specs.Words.{Spells, word_of}
@@ -35,10 +38,17 @@ found_by k l h w = record w { steps = w.steps ++ step_of k l.chunk (word_of h) N
 abbrev pub IsHeld : ℕ → ItemId → Head → Type 0
 IsHeld limit l h = (h.generation ≡ l.generation) × (0 < h.refs) × (h.refs ≤ limit)
 
--- Why an attempt ends at this head, if it does: with the eighth exchange that failed, whatever it found, and before that where the count
--- is at the limit.
+-- The refusals of a reference by their names here. That a ring has no room is found behind it.
+abbrev pub refused_as : Option Dropped → Option RideRefusal
+refused_as None = None
+refused_as (Some dropped.Busy) = Some refused.Busy
+refused_as (Some dropped.RefsFull) = Some refused.RefsFull
+refused_as (Some dropped.Full) = None
+
+-- Why an attempt ends at this head, if it does, by the rule of an attempt: with the eighth exchange that failed, whatever it found, and
+-- before that where the count is at the limit.
 abbrev pub refusal : ℕ → ℕ → Head → Option RideRefusal
-refusal limit failed h = if failed == 8 then Some refused.Busy else (if nat_lt h.refs limit then None else Some refused.RefsFull)
+refusal limit failed h = refused_as (refused_of limit failed h)
 
 -- after a drop ACTIVE is to be cleared, and else the worker goes on to try
 abbrev pub judged_hand : Option RideRefusal → ItemId → Hand

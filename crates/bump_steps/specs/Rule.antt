@@ -5,7 +5,7 @@ use Rattle.bump_rules.specs.declared.places.Place.{Place}
 use Rattle.bump_rules.specs.declared.items.Head.{Head}
 use Rattle.bump_rules.specs.declared.configs.ClassConfig.{ClassConfig}
 use Rattle.bump_rules.specs.declared.configs.Config.{Config}
-use Rattle.bump_rules.specs.declared.bumps.Accounts.{Accounts}
+pub use Rattle.bump_rules.specs.Rings.{no_accounts}
 use Rattle.bump_rules.specs.declared.bumps.AppliedBump.{AppliedBump}
 use Rattle.bump_rules.specs.declared.hands.Hand.TheVariants as hand
 use Rattle.bump_rules.specs.declared.lanes.Lane.TheVariants as lane
@@ -68,9 +68,6 @@ pub record Kept (key : Config) (s : State Empty View) : Type 0 where
 abbrev pub class_parts : ℕ → ℕ → ℕ → List ClassConfig → List ClassPart
 class_parts fresh class first [] = []
 class_parts fresh class first (k ∷ ks) = record { class = class; first = first; count = k.chunks; fresh = fresh; history = []; labels = []; steps = [] } ∷ class_parts fresh (class + 1) (first + k.chunks) ks
-
-abbrev pub no_accounts : Accounts
-no_accounts = record { attempted = 0; accepted = 0; full = 0; busy = 0; refs = 0 }
 
 abbrev pub worker_part : ℕ → WorkerPart
 worker_part w = record { worker = w; hand = hand.Idle; accounts = no_accounts; hits = []; steps = [] }
