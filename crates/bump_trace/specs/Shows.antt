@@ -1,15 +1,11 @@
 -- What is printed of a state: all lists and accounts, and the last line of a worker that closes.
-use Rattle.std.specs.Prelude.{ℕ, List, [], ◌∷◌, ◌++◌, length, codes}
+use Rattle.std.specs.Prelude.{ℕ, List, ◌++◌, length, codes}
 use Rattle.std.specs.List.{flat_map}
 use Rattle.bump_rules.specs.declared.places.Place.{Place}
-use Rattle.bump_rules.specs.declared.places.Place.TheVariants as place
 use Rattle.bump_rules.specs.Lists.{list_at, ascending}
+use Rattle.bump_rules.specs.Places.{all_places}
 use Rattle.bump_state.specs.State.{State, chunk, head, class, worker}
 use Rattle.trace_lines.specs.Text.{chunk_text, list_start, accounts_text, accounts_line, close_start}
-
--- the order in which the lists of a class are printed
-abbrev pub all_places : List Place
-all_places = place.Hot ∷ place.Warm ∷ place.Cold ∷ place.Dying ∷ place.Unused ∷ place.Retired ∷ []
 
 -- a space, and what is told of a chunk of the list
 abbrev pub list_entry : State → Place → ℕ → List ℕ
@@ -19,7 +15,7 @@ list_entry s p c = codes " " ++ chunk_text p c (head s c) (chunk s c).time
 unfoldable pub list_line : State → ℕ → Place → List ℕ
 list_line s k p = let cs = list_at (class s k).lists p in list_start k p (length cs) ++ flat_map (list_entry s p) cs ++ codes "\n"
 
--- the lines of a class
+-- the lines of a class: its lists in the order of all places
 abbrev pub class_lines : State → ℕ → List ℕ
 class_lines s k = flat_map (list_line s k) all_places
 

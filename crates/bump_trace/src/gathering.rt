@@ -7,14 +7,13 @@ ghost use Rattle.bump_trace.specs.Gathering.{Gathers, GathersFault, IsOfWriting}
 ghost use Rattle.trace_lines.specs.Text.{fault_line};
 
 use crate::runs::SimFault;
-use std::io::Write;
-use trace_lines::{Counted, Fault, LineError, put_fault};
+use trace_lines::{Counted, Fault, LineError, Sink, put_fault};
 
 /// How many bytes of text are gathered before they are written.
 pub const ROOM: usize = 65_536;
 
 /// Writes all of the bytes.
-fn write_whole<W: Write>(writer: &mut Counted<W>, bytes: &[u8]) -> Result<(), SimFault>
+fn write_whole<W: Sink>(writer: &mut Counted<W>, bytes: &[u8]) -> Result<(), SimFault>
     ensures ok { OnOk result (Appends (W.contents (inner_of writer.old)) (W.contents (inner_of writer.new)) bytes.now) }
     ensures err { IfErr result (λ e. IsOfWriting (failed_of writer.new) e) }
 {
@@ -30,7 +29,7 @@ fn write_whole<W: Write>(writer: &mut Counted<W>, bytes: &[u8]) -> Result<(), Si
 }
 
 /// Writes what was gathered.
-pub fn flush<W: Write>(writer: &mut Counted<W>, gathered: &mut Vec<u8>) -> Result<(), SimFault>
+pub fn flush<W: Sink>(writer: &mut Counted<W>, gathered: &mut Vec<u8>) -> Result<(), SimFault>
     ensures ok { OnOk result (Appends (W.contents (inner_of writer.old)) (W.contents (inner_of writer.new)) gathered.old.items) }
     ensures none { OnOk result (gathered.new.items ≡ []) }
     ensures err { IfErr result (λ e. IsOfWriting (failed_of writer.new) e) }
@@ -41,7 +40,7 @@ pub fn flush<W: Write>(writer: &mut Counted<W>, gathered: &mut Vec<u8>) -> Resul
 }
 
 /// Puts text behind what was gathered, and writes where that is too much.
-pub fn gather<W: Write>(
+pub fn gather<W: Sink>(
     writer: &mut Counted<W>,
     gathered: &mut Vec<u8>,
     text: &[u8],
@@ -63,7 +62,7 @@ pub fn gather<W: Write>(
 }
 
 /// Gathers the line of a fault.
-pub fn gather_fault<W: Write>(
+pub fn gather_fault<W: Sink>(
     writer: &mut Counted<W>,
     gathered: &mut Vec<u8>,
     text: &mut Vec<u8>,
@@ -79,7 +78,7 @@ pub fn gather_fault<W: Write>(
 }
 
 /// Ends the run at a line that was not run.
-pub fn stop<W: Write>(
+pub fn stop<W: Sink>(
     writer: &mut Counted<W>,
     gathered: &mut Vec<u8>,
     text: &mut Vec<u8>,

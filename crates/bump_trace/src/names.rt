@@ -6,22 +6,24 @@ ghost use Rattle.bump_trace.specs.Names.{no_names, bind, unbind};
 use bump_core::ItemId;
 use std::alloc::{AllocError, Global};
 use std::collections::HashMap;
+use std::hash::RandomState;
 
-/// What each name is bound to. A name is a part of the trace itself.
+/// What each name is bound to. A name is a part of the trace itself, so strangers choose it: it is hashed with keys that they don't
+/// know.
 #[derive(Drop)]
 pub struct Names<'a> {
-    ids: HashMap<&'a [u8], ItemId>,
+    ids: HashMap<&'a [u8], ItemId, RandomState>,
 }
 
 impl<'a> Names<'a> {
     ghost use Rattle.bump_trace.specs.Views.{names_of};
 
     /// No name is bound.
-    pub fn new(alloc: Global) -> Names<'a>
+    pub fn new(alloc: Global, keys: RandomState) -> Names<'a>
         ensures { names_of result ≡ no_names }
     {
         Names {
-            ids: HashMap::new(alloc),
+            ids: HashMap::with_hasher(alloc, keys),
         }
     }
 

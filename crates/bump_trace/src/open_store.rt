@@ -1,13 +1,14 @@
 //! What is done on an open store.
 
-ghost use Rattle.std.specs.Prelude.{◌≡◌, ◌<◌, ◌^◌, true, false, [], IfOk, IfErr, OnOk, Ok};
+ghost use Rattle.std.specs.Prelude.{◌≡◌, ◌<◌, ◌^◌, ◌&&◌, not, true, false, [], IfOk, IfErr, OnOk, Ok};
 ghost use Rattle.bump_core.specs.Commands.{is_allowed, answer_of, command_after};
 ghost use Rattle.bump_rules.specs.declared.commands.Command.TheVariants as command;
 ghost use Rattle.bump_state.specs.State.{is_held, is_open};
 ghost use Rattle.bump_trace.specs.Stages.{Open};
-ghost use Rattle.bump_trace.specs.OpenStore.{answer_by, state_by, get_held, set_said, get_said, hold_said, hit_said, read_said, drop_said, del_said, pull_said, sweep_said, drain_said, close_said, instruction_said, drained_of};
+ghost use Rattle.bump_trace.specs.OpenStore.{answer_by, state_by, get_held, set_said, get_said, hold_said, hit_said, read_said, drop_said, del_said, pull_said, sweep_said, drain_said, close_said, made_by, instruction_said, drained_of};
 ghost use Rattle.bump_trace.specs.Names.{no_names};
 ghost use Rattle.bump_state.specs.Opening.{new_state};
+ghost use Rattle.trace_lines.specs.Lines.{may_follow_par};
 ghost use Rattle.trace_lines.specs.declared.faults.LineError.TheVariants.{Memory};
 
 mod shows;
@@ -15,6 +16,7 @@ mod shows;
 use crate::names::Names;
 use bump_core::{Answer, Command, Config, ItemId, Refused, Tail, World};
 use std::alloc::Global;
+use std::hash::RandomState;
 use trace_lines::{
     Fault, Instruction, LineError, put_bump, put_closed, put_del, put_drain, put_drop, put_get,
     put_get_held, put_hit, put_hold, put_pull, put_read, put_set, put_sweep,
@@ -38,8 +40,12 @@ impl<'a> OpenStore<'a> {
     ghost use Rattle.bump_trace.specs.Views.{store_of, Does, Drains};
     ghost use Rattle.trace_lines.specs.Seen.{seen_instruction};
 
-    /// A new World of this configuration, without names.
-    pub fn new(alloc: Global, config: &Config) -> Result<OpenStore<'a>, LineError>
+    /// A new World of this configuration, without names, which are hashed with these keys.
+    pub fn new(
+        alloc: Global,
+        keys: RandomState,
+        config: &Config,
+    ) -> Result<OpenStore<'a>, LineError>
         ensures new { IfOk result (λ b. store_of b ≡ record { state = new_state config.now; names = no_names; holds = no_names; is_past_par = false }) }
         ensures ready { IfOk result (λ b. IsReady b) }
         ensures holds { IfOk result (λ b. KeepsHolds b) }
@@ -49,8 +55,8 @@ impl<'a> OpenStore<'a> {
         world.promise();
         Ok(OpenStore {
             world,
-            names: Names::new(alloc),
-            holds: Names::new(alloc),
+            names: Names::new(alloc, keys),
+            holds: Names::new(alloc, keys),
             is_past_par: false,
             workers: config.workers,
             classes: config.classes.as_slice().len() as u32,
@@ -415,9 +421,9 @@ impl<'a> OpenStore<'a> {
         Ok(())
     }
 
-    /// Does what a line says.
-    #[tactic(auto, unfolding(crate::specs::OpenStore::instruction_said, crate::specs::OpenStore::par_said))]
-    pub fn run(
+    /// Does what a line says that may stand here.
+    #[tactic(auto, unfolding(crate::specs::OpenStore::par_said))]
+    fn make(
         &mut self,
         now: u64,
         instruction: Instruction<'a>,
@@ -426,13 +432,10 @@ impl<'a> OpenStore<'a> {
         requires ready { IsReady self.old }
         requires holds { KeepsHolds self.old }
         requires empty { out.old.items ≡ [] }
-        ensures said { Does (Open (store_of self.new)) out.new.items result (instruction_said (store_of self.old) now (seen_instruction instruction.entry)) }
+        ensures said { Does (Open (store_of self.new)) out.new.items result (made_by (store_of self.old) now (seen_instruction instruction.entry)) }
         ensures ready { OnOk result (IsReady self.new) }
         ensures holds { OnOk result (KeepsHolds self.new) }
     {
-        if self.is_past_par && !instruction.may_follow_par() {
-            return Err(LineError::Fault(Fault::Order));
-        }
         match instruction {
             Instruction::Set { name, class, label } => self.set(now, name, class, label, out),
             Instruction::Get { worker, name } => self.get(now, worker, name, out),
@@ -451,5 +454,33 @@ impl<'a> OpenStore<'a> {
                 Ok(())
             }
         }
+    }
+
+    /// Whether `par` was read, and the line may not stand behind it.
+    fn is_misplaced(&self, instruction: &Instruction<'a>) -> bool
+        ensures { result ≡ ((store_of self.now).is_past_par && not (may_follow_par (seen_instruction instruction.now))) }
+    {
+        self.is_past_par && !instruction.may_follow_par()
+    }
+
+    /// Does what a line says, where it may stand here.
+    #[tactic(auto, unfolding(crate::specs::OpenStore::instruction_said))]
+    pub fn run(
+        &mut self,
+        now: u64,
+        instruction: Instruction<'a>,
+        out: &mut Vec<u8>,
+    ) -> Result<(), LineError>
+        requires ready { IsReady self.old }
+        requires holds { KeepsHolds self.old }
+        requires empty { out.old.items ≡ [] }
+        ensures said { Does (Open (store_of self.new)) out.new.items result (instruction_said (store_of self.old) now (seen_instruction instruction.entry)) }
+        ensures ready { OnOk result (IsReady self.new) }
+        ensures holds { OnOk result (KeepsHolds self.new) }
+    {
+        if self.is_misplaced(&instruction) {
+            return Err(LineError::Fault(Fault::Order));
+        }
+        self.make(now, instruction, out)
     }
 }

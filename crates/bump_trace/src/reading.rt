@@ -8,8 +8,7 @@ ghost use Rattle.bump_trace.specs.Runs.{most_bytes, most_reads};
 
 use crate::runs::SimFault;
 use std::alloc::Global;
-use std::io::Read;
-use trace_lines::{Counted, is_interruption};
+use trace_lines::{Counted, Source, is_interruption};
 
 /// The most bytes of a trace.
 const MAX_BYTES: usize = 16_777_216;
@@ -18,7 +17,7 @@ const MAX_BYTES: usize = 16_777_216;
 const MAX_READS: u32 = 20_000_000;
 
 /// All that the reader has left. An interrupted read is made again.
-pub fn read_all<R: Read>(alloc: Global, reader: &mut Counted<R>) -> Result<Vec<u8>, SimFault>
+pub fn read_all<R: Source>(alloc: Global, reader: &mut Counted<R>) -> Result<Vec<u8>, SimFault>
     requires { (calls_of reader.old ≡ 0) × (failed_of reader.old ≡ 0) }
     ensures bytes { IfOk result (λ v. Consumes (R.remaining (inner_of reader.old)) (R.remaining (inner_of reader.new)) v.items) }
     ensures end { OnOk result (IsAtEnd (R.remaining (inner_of reader.new))) }

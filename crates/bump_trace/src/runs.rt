@@ -11,9 +11,9 @@ use crate::gathering::{ROOM, flush, gather, gather_fault, stop};
 use crate::reading::read_all;
 use crate::stages::Session;
 use std::alloc::{AllocError, Global};
-use std::io::{Read, Write};
+use std::hash::RandomState;
 use thiserror::Error;
-use trace_lines::Counted;
+use trace_lines::{Counted, Sink, Source};
 
 /// Why a run didn't go to the end of its trace.
 #[derive(Clone, Copy, Debug, PartialEq, Eq, Error)]
@@ -48,8 +48,9 @@ impl From<AllocError> for SimFault {
 }
 
 /// Runs the lines one after another, gathers their text, and says whether there was a fault.
-fn run_lines<W: Write>(
+fn run_lines<W: Sink>(
     alloc: Global,
+    keys: RandomState,
     input: &[u8],
     writer: &mut Counted<W>,
     gathered: &mut Vec<u8>,
@@ -59,7 +60,7 @@ fn run_lines<W: Write>(
     ensures err { IfErr result (λ e. IsOfWriting (failed_of writer.new) e) }
     ensures text { IfOk result (λ is_fault. RunsInto (W.contents (inner_of writer.old)) (W.contents (inner_of writer.new)) gathered.new.items input.now is_fault) }
 {
-    let mut session = Session::new();
+    let mut session = Session::new(keys);
     let mut text = Vec::new(alloc);
     let mut rest = input;
     let mut number = 1u64;
@@ -86,8 +87,9 @@ fn run_lines<W: Write>(
 }
 
 /// Runs the lines, and writes their text before any answer.
-fn run_input<W: Write>(
+fn run_input<W: Sink>(
     alloc: Global,
+    keys: RandomState,
     input: &[u8],
     writer: &mut Counted<W>,
 ) -> Result<bool, SimFault>
@@ -96,7 +98,7 @@ fn run_input<W: Write>(
     ensures text { IfOk result (λ is_fault. RunsInto (W.contents (inner_of writer.old)) (W.contents (inner_of writer.new)) [] input.now is_fault) }
 {
     let mut gathered = Vec::with_capacity(alloc, ROOM)?;
-    match run_lines(alloc, input, writer, &mut gathered) {
+    match run_lines(alloc, keys, input, writer, &mut gathered) {
         Ok(is_fault) => {
             flush(writer, &mut gathered)?;
             Ok(is_fault)
@@ -110,9 +112,11 @@ fn run_input<W: Write>(
 }
 
 /// Runs a trace on a World. The whole trace, of at most 16,777,216 bytes, is read in at most 20,000,000 calls before
-/// anything is written.
-pub fn run_model<R: Read, W: Write>(
+/// anything is written. Names are hashed with these keys: a trace can't be made whose names collide under keys that its maker doesn't
+/// know.
+pub fn run_model<R: Source, W: Sink>(
     alloc: Global,
+    keys: RandomState,
     reader: &mut Counted<R>,
     writer: &mut Counted<W>,
 ) -> Result<(), SimFault>
@@ -124,7 +128,7 @@ pub fn run_model<R: Read, W: Write>(
     ensures text { ModelRuns (R.remaining (inner_of reader.old)) (R.remaining (inner_of reader.new)) (W.contents (inner_of writer.old)) (W.contents (inner_of writer.new)) result }
 {
     let input = read_all(alloc, reader)?;
-    let is_fault = run_input(alloc, &input, writer)?;
+    let is_fault = run_input(alloc, keys, &input, writer)?;
     if is_fault {
         Err(SimFault::Trace)
     } else {

@@ -4,11 +4,12 @@ ghost use Rattle.std.specs.Prelude.{◌≡◌, ◌∷◌, [], IfOk, OnOk, length
 ghost use Rattle.std.specs.Result.{result_err};
 ghost use Rattle.trace_lines.specs.Faults.{fault_of_config};
 ghost use Rattle.bump_trace.specs.Stages.{Before, config_fault, declared, opened};
-ghost use Rattle.bump_trace.specs.Meaning.{effect, step, fault_at_end};
+ghost use Rattle.bump_trace.specs.Meaning.{effect, is_long, is_skipped, step, fault_at_end};
 
 use crate::open_store::OpenStore;
 use bump_core::{ClassConfig, Config, ConfigFault};
 use std::alloc::Global;
+use std::hash::RandomState;
 use std::mem;
 use trace_lines::{Declaration, Fault, Line, LineError, Shape, read, words};
 
@@ -29,6 +30,7 @@ pub enum Stage<'a> {
 #[derive(Drop)]
 pub struct Session<'a> {
     stage: Stage<'a>,
+    keys: RandomState,
 }
 
 /// The fault that a configuration's fault is.
@@ -64,18 +66,36 @@ fn config(shape: Shape, classes: Vec<ClassConfig>) -> Result<Config, Fault>
     }
 }
 
+/// More bytes than a line may have.
+fn is_long(line: &[u8]) -> bool
+    ensures { result ≡ is_long line.now }
+{
+    line.len() > 255
+}
+
+/// A line without bytes, or a comment.
+fn is_skipped(line: &[u8]) -> bool
+    ensures { result ≡ is_skipped line.now }
+{
+    match line {
+        [] => true,
+        [first, ..] => *first == b'#',
+    }
+}
+
 impl<'a> Session<'a> {
     ghost use Rattle.bump_trace.specs.Ready.{IsSettled};
     ghost use Rattle.bump_trace.specs.Views.{stage_of, Does, Opens};
     ghost use Rattle.trace_lines.specs.Seen.{seen_line};
 
-    /// A trace of which no line was run.
-    pub fn new() -> Session<'a>
+    /// A trace of which no line was run, with the keys by which its names are hashed.
+    pub fn new(keys: RandomState) -> Session<'a>
         ensures stage { stage_of result.stage ≡ Before }
         ensures settled { IsSettled result.stage }
     {
         Session {
             stage: Stage::Before,
+            keys,
         }
     }
 
@@ -113,7 +133,7 @@ impl<'a> Session<'a> {
         };
         match config(shape, classes) {
             Ok(config) => {
-                self.stage = Stage::Open(OpenStore::new(alloc, &config)?);
+                self.stage = Stage::Open(OpenStore::new(alloc, self.keys, &config)?);
                 Ok(())
             }
             Err(fault) => Err(LineError::Fault(fault)),
@@ -161,13 +181,10 @@ impl<'a> Session<'a> {
         ensures said { Does (stage_of self.new.stage) out.new.items result (step (stage_of self.old.stage) number line.entry.now) }
         ensures settled { OnOk result (IsSettled self.new.stage) }
     {
-        if line.len() > 255 {
+        if is_long(line) {
             return Err(LineError::Fault(Fault::Long));
         }
-        if line.is_empty() {
-            return Ok(());
-        }
-        if line[0] == b'#' {
+        if is_skipped(line) {
             return Ok(());
         }
         let words = words(alloc, line)?;
@@ -182,13 +199,13 @@ impl<'a> Session<'a> {
     pub fn fault_at_end(self, rest: &[u8]) -> Option<Fault>
         ensures { result ≡ fault_at_end (stage_of self.entry.stage) rest.now }
     {
-        if rest.len() > 255 {
+        if is_long(rest) {
             return Some(Fault::Long);
         }
         if !rest.is_empty() {
             return Some(Fault::Truncated);
         }
-        let Session { stage } = self;
+        let Session { stage, .. } = self;
         match stage {
             Stage::Before => Some(Fault::Order),
             Stage::Classes(shape, classes) => config(shape, classes).err(),

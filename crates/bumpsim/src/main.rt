@@ -11,6 +11,7 @@ use bump_trace::{Counted, SimFault, run_model};
 use command_line::{Refusal, file};
 use std::env;
 use std::fs::File;
+use std::hash::RandomState;
 use std::process::ExitCode;
 
 /// Why the program ends with another status than 0.
@@ -73,9 +74,12 @@ fn run(rt: &HostRuntime) -> u8 {
     let Ok(file) = File::open(rt, path) else {
         return failed(rt, Failure::Run(SimFault::Read));
     };
+    let Ok(keys) = RandomState::new(rt) else {
+        return failed(rt, Failure::Run(SimFault::Read));
+    };
     let mut reader = Counted::new(file);
     let mut writer = Counted::new(std::io::writer(rt));
-    match run_model(rt.alloc(), &mut reader, &mut writer) {
+    match run_model(rt.alloc(), keys, &mut reader, &mut writer) {
         Ok(()) => 0,
         Err(fault) => failed(rt, Failure::Run(fault)),
     }

@@ -2,12 +2,14 @@
 //! what stands on no World.
 #![tactic(auto)]
 
+mod calls;
 mod counted;
 mod faults;
 mod fields;
 mod lines;
 mod text;
 
+pub use calls::{Sink, Source};
 pub use counted::{Counted, is_interruption};
 pub use faults::{Fault, LineError};
 pub use lines::{Declaration, Instruction, Line, Shape, read, words};

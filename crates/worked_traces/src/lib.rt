@@ -1,4 +1,4 @@
-//! Worked traces of the trace language: each as a theorem about its meaning, and as a test of its whole run.
+//! Worked traces of the trace language: most as theorems about their meaning, all as tests of the whole run.
 #![tactic(auto)]
 
 pub mod faults;

@@ -4,7 +4,7 @@ use Rattle.bump_trace.proofs.reading.read_all.Given as goal
 
 abbrev pub invariant-loop : goal.invariant-loop
 invariant-loop g l = record {
-  taken : Consumes (g.R.Read.remaining l.initial.reader.inner) (g.R.Read.remaining l.reader.inner) l.bytes.items;
+  taken : Consumes (g.R.Source.remaining l.initial.reader.inner) (g.R.Source.remaining l.reader.inner) l.bytes.items;
   size : length l.bytes.items ≤ 16777216;
   calls : l.reader.calls ≡ l.counter;
   failed : l.reader.failed ≡ 0;

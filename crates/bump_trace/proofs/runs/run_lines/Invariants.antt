@@ -8,7 +8,7 @@ use Rattle.bump_trace.proofs.runs.run_lines.Given as goal
 -- what was written and gathered, and then the text of the lines that are left, is the whole text
 abbrev pub invariant-loop-line : goal.invariant-loop-line
 invariant-loop-line g l =
-    (sent : List ℕ) × Appends (g.W.Write.contents l.initial.writer.inner) (g.W.Write.contents l.writer.inner) sent
+    (sent : List ℕ) × Appends (g.W.Sink.contents l.initial.writer.inner) (g.W.Sink.contents l.writer.inner) sent
     × (prepend (sent ++ l.gathered.items) (run l.number (parts_of l.rest) (stage_of l.session.stage)) ≡ verdict_of l.input)
     × (l.number + length l.rest ≤ 16777217) × IsSettled l.session.stage × (l.text.items ≡ [])
 

@@ -1,10 +1,11 @@
-use Rattle.std.proofs.Common.{ap, sym, subst}
+use Rattle.std.proofs.Common.{ap, sym, subst, rules}
 use Rattle.bump_state.specs.State.{State}
 use Rattle.bump_trace.specs.Ready.{HoldsStay}
 use Rattle.bump_trace.specs.declared.open_store.OpenStore.{OpenStore}
 use Rattle.bump_trace.proofs.CommandsAtRest.{close_allowed}
 use Rattle.bump_trace.proofs.HoldsOfItems.{stay_drained}
 use Rattle.bump_trace.proofs.HeldNames.{store_still}
+use Rattle.bump_trace.specs.OpenStore.{close_said}
 use Rattle.bump_trace.proofs.open_store.OpenStore.close.Goals as goal
 
 pub command_by-requires-clause-allowed : goal.command_by-requires-clause-allowed
@@ -18,3 +19,7 @@ returns-clause-holds c =
     let drained = c.in_ok-drain_worker.ensures.drained.0 in
     let stay = subst (λ (t : State). HoldsStay b.world t) (sym (ap (λ (x : OpenStore). x.world) drained)) (stay_drained c.args.now c.args.worker b.capacity b.world) in
     store_still d b _ drained stay (store_still b c.args.self.now _ closed.after closed.holds c.requires.holds)
+
+pub returns-clause-said : goal.returns-clause-said
+unfolding close_said
+returns-clause-said c = search rules

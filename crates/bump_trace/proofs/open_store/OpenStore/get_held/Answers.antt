@@ -1,4 +1,4 @@
-use Rattle.std.proofs.Common.{◌≡◌, ◌∙◌, ap, sym, subst, true, arith}
+use Rattle.std.proofs.Common.{◌≡◌, ◌∙◌, ap, sym, subst, true, arith, rules}
 use Rattle.bump_state.specs.State.{State, is_held, is_open}
 use Rattle.bump_trace.specs.declared.open_store.OpenStore.{OpenStore}
 use Rattle.bump_trace.proofs.CommandsAtRest.{touch_allowed, release_allowed, held_after_touch}
@@ -34,3 +34,6 @@ release-requires-clause-allowed c =
 
 pub returns-clause-holds : goal.returns-clause-holds
 returns-clause-holds c = record { each = λ l. omega (arith, c.in_ok-label.ensures.holds.each l, c.in_ok-hit.ensures.holds.each l, c.in_ok-release.ensures.holds.each l) }
+
+pub returns-clause-said : goal.returns-clause-said
+returns-clause-said c = search rules
