@@ -64,8 +64,19 @@ pub record AreHeld (s : State) (holds : Names) : Type 0 where
 abbrev pub KeepsHolds : OpenStore → Type 0
 KeepsHolds b = AreHeld b.world (names_of b.holds)
 
--- a store that is open is ready, and each of its hold names has its hold
+-- What holds of an open store between two lines.
+pub record IsSteady (b : OpenStore) : Type 0 where
+  pub ready : IsReady b
+  pub holds : KeepsHolds b
+
+-- What a line finds: a steady store, and no text yet.
+pub record MayRun (b : OpenStore) (text : List ℕ) : Type 0 where
+  pub ready : IsReady b
+  pub holds : KeepsHolds b
+  pub empty : text ≡ []
+
+-- a store that is open is steady
 abbrev pub IsSettled : Stage → Type 0
 IsSettled stage.Before = Unit {0}
 IsSettled (stage.Classes shape classes) = Unit {0}
-IsSettled (stage.Open store) = IsReady store × KeepsHolds store
+IsSettled (stage.Open store) = IsSteady store

@@ -36,7 +36,7 @@ pub struct OpenStore<'a> {
 }
 
 impl<'a> OpenStore<'a> {
-    ghost use Rattle.bump_trace.specs.Ready.{IsReady, KeepsHolds, HoldsStay, GivesBack, is_release};
+    ghost use Rattle.bump_trace.specs.Ready.{IsReady, KeepsHolds, IsSteady, MayRun, HoldsStay, GivesBack, is_release};
     ghost use Rattle.bump_trace.specs.Views.{store_of, Does, Drains};
     ghost use Rattle.trace_lines.specs.Seen.{seen_instruction};
 
@@ -127,12 +127,9 @@ impl<'a> OpenStore<'a> {
         label: u64,
         out: &mut Vec<u8>,
     ) -> Result<(), LineError>
-        requires ready { IsReady self.old }
-        requires holds { KeepsHolds self.old }
-        requires empty { out.old.items ≡ [] }
+        requires { MayRun self.old out.old.items }
         ensures said { Does (Open (store_of self.new)) out.new.items result (set_said (store_of self.old) now name.entry.now class label) }
-        ensures ready { OnOk result (IsReady self.new) }
-        ensures holds { OnOk result (KeepsHolds self.new) }
+        ensures steady { OnOk result (IsSteady self.new) }
     {
         if class >= self.classes {
             return Err(LineError::Fault(Fault::Class));
@@ -179,12 +176,9 @@ impl<'a> OpenStore<'a> {
         name: &'a [u8],
         out: &mut Vec<u8>,
     ) -> Result<(), LineError>
-        requires ready { IsReady self.old }
-        requires holds { KeepsHolds self.old }
-        requires empty { out.old.items ≡ [] }
+        requires { MayRun self.old out.old.items }
         ensures said { Does (Open (store_of self.new)) out.new.items result (get_said (store_of self.old) now worker name.entry.now) }
-        ensures ready { OnOk result (IsReady self.new) }
-        ensures holds { OnOk result (KeepsHolds self.new) }
+        ensures steady { OnOk result (IsSteady self.new) }
     {
         if worker >= self.workers {
             return Err(LineError::Fault(Fault::Worker));
@@ -211,12 +205,9 @@ impl<'a> OpenStore<'a> {
         hold: &'a [u8],
         out: &mut Vec<u8>,
     ) -> Result<(), LineError>
-        requires ready { IsReady self.old }
-        requires holds { KeepsHolds self.old }
-        requires empty { out.old.items ≡ [] }
+        requires { MayRun self.old out.old.items }
         ensures said { Does (Open (store_of self.new)) out.new.items result (hold_said (store_of self.old) worker name.entry.now hold.entry.now) }
-        ensures ready { OnOk result (IsReady self.new) }
-        ensures holds { OnOk result (KeepsHolds self.new) }
+        ensures steady { OnOk result (IsSteady self.new) }
     {
         if worker >= self.workers {
             return Err(LineError::Fault(Fault::Worker));
@@ -250,12 +241,9 @@ impl<'a> OpenStore<'a> {
         hold: &'a [u8],
         out: &mut Vec<u8>,
     ) -> Result<(), LineError>
-        requires ready { IsReady self.old }
-        requires holds { KeepsHolds self.old }
-        requires empty { out.old.items ≡ [] }
+        requires { MayRun self.old out.old.items }
         ensures said { Does (Open (store_of self.new)) out.new.items result (hit_said (store_of self.old) now worker hold.entry.now) }
-        ensures ready { OnOk result (IsReady self.new) }
-        ensures holds { OnOk result (KeepsHolds self.new) }
+        ensures steady { OnOk result (IsSteady self.new) }
     {
         if worker >= self.workers {
             return Err(LineError::Fault(Fault::Worker));
@@ -271,12 +259,9 @@ impl<'a> OpenStore<'a> {
     /// Reads the label of an item by a hold that is kept.
     #[tactic(auto, unfolding(crate::specs::OpenStore::read_said))]
     fn read(&mut self, hold: &'a [u8], out: &mut Vec<u8>) -> Result<(), LineError>
-        requires ready { IsReady self.old }
-        requires holds { KeepsHolds self.old }
-        requires empty { out.old.items ≡ [] }
+        requires { MayRun self.old out.old.items }
         ensures said { Does (Open (store_of self.new)) out.new.items result (read_said (store_of self.old) hold.entry.now) }
-        ensures ready { OnOk result (IsReady self.new) }
-        ensures holds { OnOk result (KeepsHolds self.new) }
+        ensures steady { OnOk result (IsSteady self.new) }
     {
         let Some(id) = self.holds.get(hold) else {
             return Err(LineError::Fault(Fault::Unbound));
@@ -289,12 +274,9 @@ impl<'a> OpenStore<'a> {
     /// Gives a hold back that is kept: its name is free again.
     #[tactic(auto, unfolding(crate::specs::OpenStore::drop_said))]
     fn drop_hold(&mut self, hold: &'a [u8], out: &mut Vec<u8>) -> Result<(), LineError>
-        requires ready { IsReady self.old }
-        requires holds { KeepsHolds self.old }
-        requires empty { out.old.items ≡ [] }
+        requires { MayRun self.old out.old.items }
         ensures said { Does (Open (store_of self.new)) out.new.items result (drop_said (store_of self.old) hold.entry.now) }
-        ensures ready { OnOk result (IsReady self.new) }
-        ensures holds { OnOk result (KeepsHolds self.new) }
+        ensures steady { OnOk result (IsSteady self.new) }
     {
         let Some(id) = self.holds.get(hold) else {
             return Err(LineError::Fault(Fault::Unbound));
@@ -308,12 +290,9 @@ impl<'a> OpenStore<'a> {
     /// Ends the item that the name is bound to.
     #[tactic(auto, unfolding(crate::specs::OpenStore::del_said))]
     fn del(&mut self, name: &'a [u8], out: &mut Vec<u8>) -> Result<(), LineError>
-        requires ready { IsReady self.old }
-        requires holds { KeepsHolds self.old }
-        requires empty { out.old.items ≡ [] }
+        requires { MayRun self.old out.old.items }
         ensures said { Does (Open (store_of self.new)) out.new.items result (del_said (store_of self.old) name.entry.now) }
-        ensures ready { OnOk result (IsReady self.new) }
-        ensures holds { OnOk result (KeepsHolds self.new) }
+        ensures steady { OnOk result (IsSteady self.new) }
     {
         let Some(id) = self.names.get(name) else {
             return Err(LineError::Fault(Fault::Unbound));
@@ -326,12 +305,9 @@ impl<'a> OpenStore<'a> {
     /// Looks at the last item of a list, and moves it by the tail table.
     #[tactic(auto, unfolding(crate::specs::OpenStore::pull_said))]
     fn pull(&mut self, class: u32, tail: Tail, out: &mut Vec<u8>) -> Result<(), LineError>
-        requires ready { IsReady self.old }
-        requires holds { KeepsHolds self.old }
-        requires empty { out.old.items ≡ [] }
+        requires { MayRun self.old out.old.items }
         ensures said { Does (Open (store_of self.new)) out.new.items result (pull_said (store_of self.old) class tail) }
-        ensures ready { OnOk result (IsReady self.new) }
-        ensures holds { OnOk result (KeepsHolds self.new) }
+        ensures steady { OnOk result (IsSteady self.new) }
     {
         if class >= self.classes {
             return Err(LineError::Fault(Fault::Class));
@@ -344,12 +320,9 @@ impl<'a> OpenStore<'a> {
     /// Frees the ended items of a class that nobody holds any more.
     #[tactic(auto, unfolding(crate::specs::OpenStore::sweep_said))]
     fn sweep(&mut self, class: u32, out: &mut Vec<u8>) -> Result<(), LineError>
-        requires ready { IsReady self.old }
-        requires holds { KeepsHolds self.old }
-        requires empty { out.old.items ≡ [] }
+        requires { MayRun self.old out.old.items }
         ensures said { Does (Open (store_of self.new)) out.new.items result (sweep_said (store_of self.old) class) }
-        ensures ready { OnOk result (IsReady self.new) }
-        ensures holds { OnOk result (KeepsHolds self.new) }
+        ensures steady { OnOk result (IsSteady self.new) }
     {
         if class >= self.classes {
             return Err(LineError::Fault(Fault::Class));
@@ -381,12 +354,9 @@ impl<'a> OpenStore<'a> {
     /// Applies the bumps of all workers, and says how many they were.
     #[tactic(auto, unfolding(crate::specs::OpenStore::drain_said))]
     fn drain(&mut self, now: u64, out: &mut Vec<u8>) -> Result<(), LineError>
-        requires ready { IsReady self.old }
-        requires holds { KeepsHolds self.old }
-        requires empty { out.old.items ≡ [] }
+        requires { MayRun self.old out.old.items }
         ensures said { Does (Open (store_of self.new)) out.new.items result (drain_said (store_of self.old) now) }
-        ensures ready { OnOk result (IsReady self.new) }
-        ensures holds { OnOk result (KeepsHolds self.new) }
+        ensures steady { OnOk result (IsSteady self.new) }
     {
         let mut count = 0u64;
         for worker in 0..self.workers {
@@ -399,12 +369,9 @@ impl<'a> OpenStore<'a> {
     /// Closes a worker's ring, and applies the bumps in it.
     #[tactic(auto, unfolding(crate::specs::OpenStore::close_said))]
     fn close(&mut self, now: u64, worker: u32, out: &mut Vec<u8>) -> Result<(), LineError>
-        requires ready { IsReady self.old }
-        requires holds { KeepsHolds self.old }
-        requires empty { out.old.items ≡ [] }
+        requires { MayRun self.old out.old.items }
         ensures said { Does (Open (store_of self.new)) out.new.items result (close_said (store_of self.old) now worker) }
-        ensures ready { OnOk result (IsReady self.new) }
-        ensures holds { OnOk result (KeepsHolds self.new) }
+        ensures steady { OnOk result (IsSteady self.new) }
     {
         if worker >= self.workers {
             return Err(LineError::Fault(Fault::Worker));
@@ -429,12 +396,9 @@ impl<'a> OpenStore<'a> {
         instruction: Instruction<'a>,
         out: &mut Vec<u8>,
     ) -> Result<(), LineError>
-        requires ready { IsReady self.old }
-        requires holds { KeepsHolds self.old }
-        requires empty { out.old.items ≡ [] }
+        requires { MayRun self.old out.old.items }
         ensures said { Does (Open (store_of self.new)) out.new.items result (made_by (store_of self.old) now (seen_instruction instruction.entry)) }
-        ensures ready { OnOk result (IsReady self.new) }
-        ensures holds { OnOk result (KeepsHolds self.new) }
+        ensures steady { OnOk result (IsSteady self.new) }
     {
         match instruction {
             Instruction::Set { name, class, label } => self.set(now, name, class, label, out),
@@ -471,12 +435,9 @@ impl<'a> OpenStore<'a> {
         instruction: Instruction<'a>,
         out: &mut Vec<u8>,
     ) -> Result<(), LineError>
-        requires ready { IsReady self.old }
-        requires holds { KeepsHolds self.old }
-        requires empty { out.old.items ≡ [] }
+        requires { MayRun self.old out.old.items }
         ensures said { Does (Open (store_of self.new)) out.new.items result (instruction_said (store_of self.old) now (seen_instruction instruction.entry)) }
-        ensures ready { OnOk result (IsReady self.new) }
-        ensures holds { OnOk result (KeepsHolds self.new) }
+        ensures steady { OnOk result (IsSteady self.new) }
     {
         if self.is_misplaced(&instruction) {
             return Err(LineError::Fault(Fault::Order));

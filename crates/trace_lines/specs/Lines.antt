@@ -6,6 +6,8 @@ use Rattle.bump_rules.specs.declared.places.Tail.{Tail}
 use Rattle.trace_lines.specs.Fields.{Kind, U32, U64, Name, Segment, Value, field}
 use Rattle.trace_lines.specs.declared.faults.Fault.{Fault}
 use Rattle.trace_lines.specs.declared.faults.Fault.TheVariants as fault
+use Rattle.trace_lines.specs.declared.keywords.Keyword.{Keyword}
+use Rattle.trace_lines.specs.declared.keywords.Keyword.TheVariants as keyword
 use Rattle.trace_lines.specs.declared.lines.Declaration.{Declaration}
 use Rattle.trace_lines.specs.declared.lines.Declaration.TheVariants.{Store, Class}
 
@@ -44,36 +46,29 @@ abbrev pub LineFrom : List Kind → Type 0
 LineFrom [] = Line
 LineFrom (kind ∷ kinds) = Value kind → LineFrom kinds
 
--- a first word, the kinds of the fields behind it, and the line that it is with such fields
-pub record Row : Type 0 where
-  pub word : List ℕ
-  pub kinds : List Kind
-  pub line : LineFrom kinds
+-- the first words of lines
+abbrev pub keyword_word : Keyword → List ℕ
+keyword_word keyword.Store = codes "store"
+keyword_word keyword.Class = codes "class"
+keyword_word keyword.Set = codes "set"
+keyword_word keyword.Get = codes "get"
+keyword_word keyword.Hold = codes "hold"
+keyword_word keyword.Hit = codes "hit"
+keyword_word keyword.Read = codes "read"
+keyword_word keyword.Drop = codes "drop"
+keyword_word keyword.Del = codes "del"
+keyword_word keyword.Pull = codes "pull"
+keyword_word keyword.Sweep = codes "sweep"
+keyword_word keyword.Drain = codes "drain"
+keyword_word keyword.Close = codes "close"
+keyword_word keyword.Show = codes "show"
+keyword_word keyword.Par = codes "par"
 
--- a row of the table
-abbrev pub row : List ℕ → (kinds : List Kind) → LineFrom kinds → Row
-row word kinds line = record { word = word; kinds = kinds; line = line }
-
--- The table: a row for each line that a trace may have.
-abbrev pub table : List Row
-table =
-    row (codes "store") (U32 ∷ U32 ∷ U32 ∷ U32 ∷ []) (λ workers capacity refs generation.
-    Declares (Store (record { workers = workers; capacity = capacity; refs_limit = refs; first_generation = generation })))
-    ∷ row (codes "class") (U32 ∷ U32 ∷ U32 ∷ []) (λ chunks hot warm. Declares (Class (record { chunks = chunks; hot = hot; warm = warm })))
-    ∷ row (codes "set") (Name ∷ U32 ∷ U64 ∷ []) (λ name class label. Makes (Set name class label))
-    ∷ row (codes "get") (U32 ∷ Name ∷ []) (λ worker name. Makes (Get worker name))
-    ∷ row (codes "hold") (U32 ∷ Name ∷ Name ∷ []) (λ worker name hold. Makes (Hold worker name hold))
-    ∷ row (codes "hit") (U32 ∷ Name ∷ []) (λ worker hold. Makes (Hit worker hold))
-    ∷ row (codes "read") (Name ∷ []) (λ hold. Makes (Read hold))
-    ∷ row (codes "drop") (Name ∷ []) (λ hold. Makes (Drop hold))
-    ∷ row (codes "del") (Name ∷ []) (λ name. Makes (Del name))
-    ∷ row (codes "pull") (U32 ∷ Segment ∷ []) (λ class segment. Makes (Pull class segment))
-    ∷ row (codes "sweep") (U32 ∷ []) (λ class. Makes (Sweep class))
-    ∷ row (codes "drain") [] (Makes Drain)
-    ∷ row (codes "close") (U32 ∷ []) (λ worker. Makes (Close worker))
-    ∷ row (codes "show") [] (Makes Show)
-    ∷ row (codes "par") [] (Makes Par)
-    ∷ []
+-- the first word that these bytes are
+abbrev pub keyword_of : List ℕ → Option Keyword
+keyword_of word = find (λ k. bytes_eq word (keyword_word k)) (
+    keyword.Store ∷ keyword.Class ∷ keyword.Set ∷ keyword.Get ∷ keyword.Hold ∷ keyword.Hit ∷ keyword.Read ∷ keyword.Drop ∷
+    keyword.Del ∷ keyword.Pull ∷ keyword.Sweep ∷ keyword.Drain ∷ keyword.Close ∷ keyword.Show ∷ keyword.Par ∷ [])
 
 -- a line with one more of its fields, or the first fault
 abbrev pub with_field : {A B : Type 0} → Result (A → B) Fault → Result A Fault → Result B Fault
@@ -88,14 +83,37 @@ with_fields [] line [] = line
 with_fields (kind ∷ kinds) line (word ∷ words) = with_fields kinds (with_field line (field kind word)) words
 with_fields kinds line words = Err fault.Count
 
--- COMMAND where there is no row, else the fields by it
-abbrev pub by_row : Option Row → List (List ℕ) → Result Line Fault
-by_row None fields = Err fault.Command
-by_row (Some row) fields = with_fields row.kinds (Ok row.line) fields
+-- the line with these words as its fields
+abbrev pub fields_of : (kinds : List Kind) → LineFrom kinds → List (List ℕ) → Result Line Fault
+fields_of kinds line words = with_fields kinds (Ok line) words
+
+-- The table: a row for each line that a trace may have, with the kinds of its fields, and the line that it is with such fields.
+abbrev pub by_row : Keyword → List (List ℕ) → Result Line Fault
+by_row keyword.Store words = fields_of (U32 ∷ U32 ∷ U32 ∷ U32 ∷ []) (λ workers capacity refs generation.
+    Declares (Store (record { workers = workers; capacity = capacity; refs_limit = refs; first_generation = generation }))) words
+by_row keyword.Class words = fields_of (U32 ∷ U32 ∷ U32 ∷ []) (λ chunks hot warm. Declares (Class (record { chunks = chunks; hot = hot; warm = warm }))) words
+by_row keyword.Set words = fields_of (Name ∷ U32 ∷ U64 ∷ []) (λ name class label. Makes (Set name class label)) words
+by_row keyword.Get words = fields_of (U32 ∷ Name ∷ []) (λ worker name. Makes (Get worker name)) words
+by_row keyword.Hold words = fields_of (U32 ∷ Name ∷ Name ∷ []) (λ worker name hold. Makes (Hold worker name hold)) words
+by_row keyword.Hit words = fields_of (U32 ∷ Name ∷ []) (λ worker hold. Makes (Hit worker hold)) words
+by_row keyword.Read words = fields_of (Name ∷ []) (λ hold. Makes (Read hold)) words
+by_row keyword.Drop words = fields_of (Name ∷ []) (λ hold. Makes (Drop hold)) words
+by_row keyword.Del words = fields_of (Name ∷ []) (λ name. Makes (Del name)) words
+by_row keyword.Pull words = fields_of (U32 ∷ Segment ∷ []) (λ class segment. Makes (Pull class segment)) words
+by_row keyword.Sweep words = fields_of (U32 ∷ []) (λ class. Makes (Sweep class)) words
+by_row keyword.Drain words = fields_of [] (Makes Drain) words
+by_row keyword.Close words = fields_of (U32 ∷ []) (λ worker. Makes (Close worker)) words
+by_row keyword.Show words = fields_of [] (Makes Show) words
+by_row keyword.Par words = fields_of [] (Makes Par) words
+
+-- COMMAND where there is no such first word, else the fields by its row
+abbrev pub by_keyword : Option Keyword → List (List ℕ) → Result Line Fault
+by_keyword None fields = Err fault.Command
+by_keyword (Some keyword) fields = by_row keyword fields
 
 -- what a line says, by the row of its first word
 unfoldable pub line_of : List ℕ → List (List ℕ) → Result Line Fault
-line_of word fields = by_row (find (λ r. bytes_eq word r.word) table) fields
+line_of word fields = by_keyword (keyword_of word) fields
 
 -- The words of a line are what stands between spaces. Two words have exactly one space between them, so another space
 -- makes an empty word.

@@ -34,14 +34,11 @@ flags_text h = if h.fetched then (if h.active then codes "fa" else codes "f") el
 abbrev pub item_text : ℕ → Head → ℕ → List ℕ
 item_text c h time = id_text (life c h.generation) ++ codes ":" ++ decimal h.refs ++ codes ":" ++ flags_text h ++ codes ":" ++ decimal time
 
--- An item of HOT, WARM, COLD or DYING is told whole, a chunk of UNUSED or RETIRED by its number.
+-- A chunk of UNUSED or RETIRED is told by its number, an item of any other list whole.
 abbrev pub chunk_text : Place → ℕ → Head → ℕ → List ℕ
-chunk_text place.Hot c h time = item_text c h time
-chunk_text place.Warm c h time = item_text c h time
-chunk_text place.Cold c h time = item_text c h time
-chunk_text place.Dying c h time = item_text c h time
 chunk_text place.Unused c h time = decimal c
 chunk_text place.Retired c h time = decimal c
+chunk_text _ c h time = item_text c h time
 
 -- the word of a list
 abbrev pub place_word : Place → List ℕ

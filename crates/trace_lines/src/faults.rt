@@ -6,7 +6,7 @@ ghost use Rattle.trace_lines.specs.Faults.{fault_word};
 
 use std::alloc::{AllocError, AllocFailed};
 
-/// What is wrong with a line of a trace, in the order in which it is looked for.
+/// What is wrong with a line of a trace. Which is looked for first, docs/TRACE.md has in eight rows.
 #[derive(Clone, Copy, Debug, PartialEq, Eq)]
 pub enum Fault {
     /// More than 255 bytes before the line feed or the end of the input.

@@ -6,6 +6,7 @@ mod calls;
 mod counted;
 mod faults;
 mod fields;
+mod keywords;
 mod lines;
 mod text;
 

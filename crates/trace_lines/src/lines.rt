@@ -1,11 +1,12 @@
 //! What a line says.
 
-ghost use Rattle.std.specs.Prelude.{◌≡◌, IfOk, map, codes};
-ghost use Rattle.trace_lines.specs.Lines.{split_at_spaces, line_of, line_of_words};
+ghost use Rattle.std.specs.Prelude.{◌≡◌, IfOk, map};
+ghost use Rattle.trace_lines.specs.Lines.{split_at_spaces, by_row, line_of_words};
 ghost use Rattle.trace_lines.specs.Seen.{seen_line, Gives};
 
 use crate::faults::Fault;
 use crate::fields::{name_field, segment_field, u32_field, u64_field};
+use crate::keywords::{Keyword, read_keyword};
 use bump_rules::{ClassConfig, Tail};
 use std::alloc::{AllocError, Global};
 
@@ -172,276 +173,63 @@ pub fn words(alloc: Global, line: &[u8]) -> Result<Vec<&[u8]>, AllocError>
     line.split(|b| *b == b' ').collect(alloc)
 }
 
-#[tactic(auto, unfolding(crate::specs::Lines::line_of))]
-fn store<'a>(fields: &[&'a [u8]]) -> Result<Line<'a>, Fault>
-    ensures { Gives seen_line result (line_of (codes "store") (map (λ w. w.now) fields.now)) }
-{
-    match fields {
-        [workers, capacity, refs_limit, first_generation] => {
-            let workers = u32_field(workers);
-            let capacity = u32_field(capacity);
-            let refs_limit = u32_field(refs_limit);
-            let first_generation = u32_field(first_generation);
-            Ok(Line::Declares(Declaration::Store(Shape {
-                workers: workers?,
-                capacity: capacity?,
-                refs_limit: refs_limit?,
-                first_generation: first_generation?,
-            })))
+/// The line of a first word. Where the words behind it are as many as it has fields, each is read by its kind, from left to right.
+macro_rules! row {
+    ($words:expr => [$($field:ident: $kind:ident),*] $line:expr) => {
+        match $words {
+            [$($field),*] => {
+                $(let $field = $kind($field);)*
+                $(let $field = $field?;)*
+                Ok($line)
+            }
+            _ => Err(Fault::Count),
         }
-        _ => Err(Fault::Count),
-    }
+    };
 }
 
-#[tactic(auto, unfolding(crate::specs::Lines::line_of))]
-fn class<'a>(fields: &[&'a [u8]]) -> Result<Line<'a>, Fault>
-    ensures { Gives seen_line result (line_of (codes "class") (map (λ w. w.now) fields.now)) }
+/// The table of lines: of each first word its fields with their kinds, and the line that it is with such fields.
+fn by_keyword<'a>(keyword: Keyword, words: &[&'a [u8]]) -> Result<Line<'a>, Fault>
+    ensures { Gives seen_line result (by_row keyword (map (λ w. w.now) words.now)) }
 {
-    match fields {
-        [chunks, hot, warm] => {
-            let chunks = u32_field(chunks);
-            let hot = u32_field(hot);
-            let warm = u32_field(warm);
-            Ok(Line::Declares(Declaration::Class(ClassConfig {
-                chunks: chunks?,
-                hot: hot?,
-                warm: warm?,
-            })))
-        }
-        _ => Err(Fault::Count),
-    }
-}
-
-#[tactic(auto, unfolding(crate::specs::Lines::line_of))]
-fn set<'a>(fields: &[&'a [u8]]) -> Result<Line<'a>, Fault>
-    ensures { Gives seen_line result (line_of (codes "set") (map (λ w. w.now) fields.now)) }
-{
-    match fields {
-        [name, class, label] => {
-            let name = name_field(name);
-            let class = u32_field(class);
-            let label = u64_field(label);
-            Ok(Line::Makes(Instruction::Set {
-                name: name?,
-                class: class?,
-                label: label?,
-            }))
-        }
-        _ => Err(Fault::Count),
-    }
-}
-
-#[tactic(auto, unfolding(crate::specs::Lines::line_of))]
-fn get<'a>(fields: &[&'a [u8]]) -> Result<Line<'a>, Fault>
-    ensures { Gives seen_line result (line_of (codes "get") (map (λ w. w.now) fields.now)) }
-{
-    match fields {
-        [worker, name] => {
-            let worker = u32_field(worker);
-            let name = name_field(name);
-            Ok(Line::Makes(Instruction::Get {
-                worker: worker?,
-                name: name?,
-            }))
-        }
-        _ => Err(Fault::Count),
-    }
-}
-
-#[tactic(auto, unfolding(crate::specs::Lines::line_of))]
-fn hold<'a>(fields: &[&'a [u8]]) -> Result<Line<'a>, Fault>
-    ensures { Gives seen_line result (line_of (codes "hold") (map (λ w. w.now) fields.now)) }
-{
-    match fields {
-        [worker, name, hold] => {
-            let worker = u32_field(worker);
-            let name = name_field(name);
-            let hold = name_field(hold);
-            Ok(Line::Makes(Instruction::Hold {
-                worker: worker?,
-                name: name?,
-                hold: hold?,
-            }))
-        }
-        _ => Err(Fault::Count),
-    }
-}
-
-#[tactic(auto, unfolding(crate::specs::Lines::line_of))]
-fn hit<'a>(fields: &[&'a [u8]]) -> Result<Line<'a>, Fault>
-    ensures { Gives seen_line result (line_of (codes "hit") (map (λ w. w.now) fields.now)) }
-{
-    match fields {
-        [worker, hold] => {
-            let worker = u32_field(worker);
-            let hold = name_field(hold);
-            Ok(Line::Makes(Instruction::Hit {
-                worker: worker?,
-                hold: hold?,
-            }))
-        }
-        _ => Err(Fault::Count),
-    }
-}
-
-#[tactic(auto, unfolding(crate::specs::Lines::line_of))]
-fn read_hold<'a>(fields: &[&'a [u8]]) -> Result<Line<'a>, Fault>
-    ensures { Gives seen_line result (line_of (codes "read") (map (λ w. w.now) fields.now)) }
-{
-    match fields {
-        [hold] => {
-            let hold = name_field(hold);
-            Ok(Line::Makes(Instruction::Read { hold: hold? }))
-        }
-        _ => Err(Fault::Count),
-    }
-}
-
-#[tactic(auto, unfolding(crate::specs::Lines::line_of))]
-fn drop_hold<'a>(fields: &[&'a [u8]]) -> Result<Line<'a>, Fault>
-    ensures { Gives seen_line result (line_of (codes "drop") (map (λ w. w.now) fields.now)) }
-{
-    match fields {
-        [hold] => {
-            let hold = name_field(hold);
-            Ok(Line::Makes(Instruction::Drop { hold: hold? }))
-        }
-        _ => Err(Fault::Count),
-    }
-}
-
-#[tactic(auto, unfolding(crate::specs::Lines::line_of))]
-fn del<'a>(fields: &[&'a [u8]]) -> Result<Line<'a>, Fault>
-    ensures { Gives seen_line result (line_of (codes "del") (map (λ w. w.now) fields.now)) }
-{
-    match fields {
-        [name] => {
-            let name = name_field(name);
-            Ok(Line::Makes(Instruction::Del { name: name? }))
-        }
-        _ => Err(Fault::Count),
-    }
-}
-
-#[tactic(auto, unfolding(crate::specs::Lines::line_of))]
-fn pull<'a>(fields: &[&'a [u8]]) -> Result<Line<'a>, Fault>
-    ensures { Gives seen_line result (line_of (codes "pull") (map (λ w. w.now) fields.now)) }
-{
-    match fields {
-        [class, tail] => {
-            let class = u32_field(class);
-            let tail = segment_field(tail);
-            Ok(Line::Makes(Instruction::Pull {
-                class: class?,
-                tail: tail?,
-            }))
-        }
-        _ => Err(Fault::Count),
-    }
-}
-
-#[tactic(auto, unfolding(crate::specs::Lines::line_of))]
-fn sweep<'a>(fields: &[&'a [u8]]) -> Result<Line<'a>, Fault>
-    ensures { Gives seen_line result (line_of (codes "sweep") (map (λ w. w.now) fields.now)) }
-{
-    match fields {
-        [class] => {
-            let class = u32_field(class);
-            Ok(Line::Makes(Instruction::Sweep { class: class? }))
-        }
-        _ => Err(Fault::Count),
-    }
-}
-
-#[tactic(auto, unfolding(crate::specs::Lines::line_of))]
-fn drain<'a>(fields: &[&'a [u8]]) -> Result<Line<'a>, Fault>
-    ensures { Gives seen_line result (line_of (codes "drain") (map (λ w. w.now) fields.now)) }
-{
-    match fields {
-        [] => Ok(Line::Makes(Instruction::Drain)),
-        _ => Err(Fault::Count),
-    }
-}
-
-#[tactic(auto, unfolding(crate::specs::Lines::line_of))]
-fn close<'a>(fields: &[&'a [u8]]) -> Result<Line<'a>, Fault>
-    ensures { Gives seen_line result (line_of (codes "close") (map (λ w. w.now) fields.now)) }
-{
-    match fields {
-        [worker] => {
-            let worker = u32_field(worker);
-            Ok(Line::Makes(Instruction::Close { worker: worker? }))
-        }
-        _ => Err(Fault::Count),
-    }
-}
-
-#[tactic(auto, unfolding(crate::specs::Lines::line_of))]
-fn par<'a>(fields: &[&'a [u8]]) -> Result<Line<'a>, Fault>
-    ensures { Gives seen_line result (line_of (codes "par") (map (λ w. w.now) fields.now)) }
-{
-    match fields {
-        [] => Ok(Line::Makes(Instruction::Par)),
-        _ => Err(Fault::Count),
-    }
-}
-
-#[tactic(auto, unfolding(crate::specs::Lines::line_of))]
-fn show<'a>(fields: &[&'a [u8]]) -> Result<Line<'a>, Fault>
-    ensures { Gives seen_line result (line_of (codes "show") (map (λ w. w.now) fields.now)) }
-{
-    match fields {
-        [] => Ok(Line::Makes(Instruction::Show)),
-        _ => Err(Fault::Count),
-    }
-}
-
-#[tactic(auto, unfolding(crate::specs::Lines::line_of))]
-fn by_first_word<'a>(word: &[u8], fields: &[&'a [u8]]) -> Result<Line<'a>, Fault>
-    ensures { Gives seen_line result (line_of word.now (map (λ w. w.now) fields.now)) }
-{
-    if word == b"store".as_slice() {
-        store(fields)
-    } else if word == b"class".as_slice() {
-        class(fields)
-    } else if word == b"set".as_slice() {
-        set(fields)
-    } else if word == b"get".as_slice() {
-        get(fields)
-    } else if word == b"hold".as_slice() {
-        hold(fields)
-    } else if word == b"hit".as_slice() {
-        hit(fields)
-    } else if word == b"read".as_slice() {
-        read_hold(fields)
-    } else if word == b"drop".as_slice() {
-        drop_hold(fields)
-    } else if word == b"del".as_slice() {
-        del(fields)
-    } else if word == b"pull".as_slice() {
-        pull(fields)
-    } else if word == b"sweep".as_slice() {
-        sweep(fields)
-    } else if word == b"drain".as_slice() {
-        drain(fields)
-    } else if word == b"close".as_slice() {
-        close(fields)
-    } else if word == b"show".as_slice() {
-        show(fields)
-    } else if word == b"par".as_slice() {
-        par(fields)
-    } else {
-        Err(Fault::Command)
+    match keyword {
+        Keyword::Store =>
+            row!(words => [workers: u32_field, capacity: u32_field, refs_limit: u32_field, first_generation: u32_field]
+            Line::Declares(Declaration::Store(Shape { workers, capacity, refs_limit, first_generation }))),
+        Keyword::Class => row!(words => [chunks: u32_field, hot: u32_field, warm: u32_field]
+            Line::Declares(Declaration::Class(ClassConfig { chunks, hot, warm }))),
+        Keyword::Set => row!(words => [name: name_field, class: u32_field, label: u64_field]
+            Line::Makes(Instruction::Set { name, class, label })),
+        Keyword::Get =>
+            row!(words => [worker: u32_field, name: name_field] Line::Makes(Instruction::Get { worker, name })),
+        Keyword::Hold => row!(words => [worker: u32_field, name: name_field, hold: name_field]
+            Line::Makes(Instruction::Hold { worker, name, hold })),
+        Keyword::Hit =>
+            row!(words => [worker: u32_field, hold: name_field] Line::Makes(Instruction::Hit { worker, hold })),
+        Keyword::Read => row!(words => [hold: name_field] Line::Makes(Instruction::Read { hold })),
+        Keyword::Drop => row!(words => [hold: name_field] Line::Makes(Instruction::Drop { hold })),
+        Keyword::Del => row!(words => [name: name_field] Line::Makes(Instruction::Del { name })),
+        Keyword::Pull =>
+            row!(words => [class: u32_field, tail: segment_field] Line::Makes(Instruction::Pull { class, tail })),
+        Keyword::Sweep =>
+            row!(words => [class: u32_field] Line::Makes(Instruction::Sweep { class })),
+        Keyword::Drain => row!(words => [] Line::Makes(Instruction::Drain)),
+        Keyword::Close =>
+            row!(words => [worker: u32_field] Line::Makes(Instruction::Close { worker })),
+        Keyword::Show => row!(words => [] Line::Makes(Instruction::Show)),
+        Keyword::Par => row!(words => [] Line::Makes(Instruction::Par)),
     }
 }
 
 /// What a line says, by its words.
-#[tactic(auto, unfolding(crate::specs::Lines::line_of_words))]
+#[tactic(auto, unfolding(crate::specs::Lines::line_of_words, crate::specs::Lines::line_of))]
 pub fn read<'a>(words: &[&'a [u8]]) -> Result<Line<'a>, Fault>
     ensures { Gives seen_line result (line_of_words (map (λ w. w.now) words.now)) }
 {
     match words {
         [] => Err(Fault::Command),
-        [word, fields @ ..] => by_first_word(word, fields),
+        [word, fields @ ..] => match read_keyword(word) {
+            Some(keyword) => by_keyword(keyword, fields),
+            None => Err(Fault::Command),
+        },
     }
 }

@@ -62,7 +62,7 @@ pub fn put_chunk(
 {
     match place {
         Place::Unused | Place::Retired => put_number(out, u64::from(chunk)),
-        Place::Hot | Place::Warm | Place::Cold | Place::Dying => put_item(out, chunk, head, time),
+        _ => put_item(out, chunk, head, time),
     }
 }
 

@@ -1,4 +1,5 @@
-//! Worked traces of the trace language: most as theorems about their meaning, all as tests of the whole run.
+//! Worked traces of the trace language: theorems about what some traces mean (`runs`, `faults`), and tests of the whole run on most of
+//! these and on more.
 #![tactic(auto)]
 
 pub mod faults;

@@ -11,14 +11,17 @@ use Rattle.bump_trace.proofs.open_store.OpenStore.close.Goals as goal
 pub command_by-requires-clause-allowed : goal.command_by-requires-clause-allowed
 command_by-requires-clause-allowed c = close_allowed c.args.self.now.world c.args.worker c.requires.ready.rest
 
-pub returns-clause-holds : goal.returns-clause-holds
-returns-clause-holds c =
+pub returns-clause-steady : goal.returns-clause-steady
+returns-clause-steady c =
     let closed = c.in_ok-command_by.ensures in
     let b = c.command_by.new.self in
     let d = c.drain_worker.new.self in
     let drained = c.in_ok-drain_worker.ensures.drained.0 in
     let stay = subst (λ (t : State). HoldsStay b.world t) (sym (ap (λ (x : OpenStore). x.world) drained)) (stay_drained c.args.now c.args.worker b.capacity b.world) in
-    store_still d b _ drained stay (store_still b c.args.self.now _ closed.after closed.holds c.requires.holds)
+    record {
+      ready = c.in_ok-drain_worker.ensures.ready;
+      holds = store_still d b _ drained stay (store_still b c.args.self.now _ closed.after closed.holds c.requires.holds);
+    }
 
 pub returns-clause-said : goal.returns-clause-said
 unfolding close_said

@@ -28,7 +28,9 @@ returns c =
     let all = workers_done c.args.now c.loop-worker.worker c.args.self.now.workers c.loop-worker.count c.loop-worker.self.world c.loop-worker.out.items _ (omega (arith, c.loop-worker-test.false)) drained in
     record {
       said = drain_meant (store_of c.args.self.now) (store_of c.loop-worker.self) c.args.now _ c.loop-worker.count c.loop-worker.out.items c.put_drain.new.out.items c.requires.ready.workers all (ap store_of same) c.in_ok-put_drain.ensures;
-      ready = ready;
-      holds = store_still c.loop-worker.self c.args.self.now _ same
-          (subst (λ (t : State). HoldsStay c.args.self.now.world t) (sym all.same_state) (stay_through c.args.now (ascending 0 c.args.self.now.workers) c.args.self.now.world)) c.requires.holds;
+      steady = record {
+        ready = ready;
+        holds = store_still c.loop-worker.self c.args.self.now _ same
+            (subst (λ (t : State). HoldsStay c.args.self.now.world t) (sym all.same_state) (stay_through c.args.now (ascending 0 c.args.self.now.workers) c.args.self.now.world)) c.requires.holds;
+      };
     }

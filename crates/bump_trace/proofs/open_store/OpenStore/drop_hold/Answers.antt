@@ -18,13 +18,16 @@ release-requires-clause-allowed c =
     let b = c.args.self.now in
     release_allowed b.world c.in-Some.id c.requires.ready.rest (held_by_name b.world (names_of b.holds) c.args.hold.now c.in-Some.id c.requires.ready.lawful c.in-Some.ensures c.requires.holds)
 
-pub returns-clause-holds : goal.returns-clause-holds
-returns-clause-holds c =
+pub returns-clause-steady : goal.returns-clause-steady
+returns-clause-steady c =
     let b = c.args.self.now in
     let released = c.in_ok-release.ensures in
     let names = c.unbind.ensures ∙ ap (λ (x : OpenStore). unbind c.args.hold.now (names_of x.holds)) released.after in
-    subst (λ (n : Names). AreHeld c.release.new.self.world n) (sym names)
-    (held_fewer b.world c.release.new.self.world (names_of b.holds) c.args.hold.now c.in-Some.id c.in-Some.ensures released.holds c.requires.holds)
+    record {
+      ready = search rules;
+      holds = subst (λ (n : Names). AreHeld c.release.new.self.world n) (sym names)
+          (held_fewer b.world c.release.new.self.world (names_of b.holds) c.args.hold.now c.in-Some.id c.in-Some.ensures released.holds c.requires.holds);
+    }
 
 pub returns-clause-said : goal.returns-clause-said
 unfolding drop_said

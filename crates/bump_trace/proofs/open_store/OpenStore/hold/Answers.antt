@@ -14,8 +14,8 @@ use Rattle.bump_trace.proofs.HoldsOfItems.{taken_by}
 use Rattle.bump_trace.proofs.HeldNames.{held_more}
 use Rattle.bump_trace.proofs.open_store.OpenStore.hold.Goals as goal
 
-pub returns-in_ok-put_hold-in-Some-Held-clause-holds : goal.returns-in_ok-put_hold-in-Some-Held-clause-holds
-returns-in_ok-put_hold-in-Some-Held-clause-holds c =
+pub returns-in_ok-put_hold-in-Some-Held-clause-steady : goal.returns-in_ok-put_hold-in-Some-Held-clause-steady
+returns-in_ok-put_hold-in-Some-Held-clause-steady c =
     let b = c.args.self.now in
     let held = c.command_by.new.self in
     let id = c.in-Some.id in
@@ -25,4 +25,7 @@ returns-in_ok-put_hold-in-Some-Held-clause-holds c =
     let more = subst (λ (t : State). (l : ItemId) → holds_of b.world l + one_if l id ≤ holds_of t l) (sym (ap (λ (x : OpenStore). x.world) took.after))
     (taken_by b.world c.args.worker id is) in
     let names = c.in_ok-bind-in-Some-Held.ensures ∙ ap (λ (x : OpenStore). bind name id (names_of x.holds)) took.after in
-    subst (λ (n : Names). AreHeld held.world n) (sym names) (held_more b.world held.world (names_of b.holds) name id more c.requires.holds)
+    record {
+      ready = search rules;
+      holds = subst (λ (n : Names). AreHeld held.world n) (sym names) (held_more b.world held.world (names_of b.holds) name id more c.requires.holds);
+    }
