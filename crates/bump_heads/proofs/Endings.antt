@@ -87,6 +87,7 @@ module _ (v v₁ : ClassView) (o : Option LanePart) (l : LanePart) (b : Bump) (c
       joined = ap (λ (x : ClassView). x.lane) looked_is;
       aboard = refl;
       chunk = of;
+      own = ap (λ (x : ClassView). owns c x.part) looked_is ∙ own;
       past = refl;
       entry = subst (λ (k : ClassPart). IsShown k looked b Gone) (sym (ap (λ (x : ClassView). x.part) looked_is))
           (unlinked_where_dying b.life.chunk b.life.generation (place.Unused, v.part.fresh) v.part.history (λ e. absurd (cc e)) (ap (λ (d : ℕ). (standing v.part d).0) of ∙ dying_where_unlinked h (standing v.part c).0 stood.0 stood.2 off) (ap (λ (d : ℕ). (standing v.part d).1) of ∙ stood.1));
@@ -111,6 +112,7 @@ module _ (v v₁ : ClassView) (o : Option LanePart) (l : LanePart) (b : Bump) (c
         joined = ap (λ (x : ClassView). x.lane) timed_is;
         aboard = refl;
         chunk = of;
+        own = ap (λ (x : ClassView). owns c x.part) timed_is ∙ own;
         past = refl;
         entry = omega (
           arith,
@@ -142,6 +144,7 @@ module _ (v v₁ : ClassView) (o : Option LanePart) (l : LanePart) (b : Bump) (c
           joined = ap (λ (x : ClassView). x.lane) cleared_is;
           aboard = refl;
           chunk = of;
+          own = ap (λ (x : ClassView). owns c x.part) cleared_is ∙ own;
           past = refl;
           entry = subst (λ (k : ClassPart). IsShown k (record looked { stage = lane.Cleared b found.active }) b TimeOnly) (sym (ap (λ (x : ClassView). x.part) cleared_is)) (omega (
             arith,
@@ -169,6 +172,7 @@ module _ (v v₁ : ClassView) (o : Option LanePart) (l : LanePart) (b : Bump) (c
           joined = ap (λ (x : ClassView). x.lane) (moved_is last v₃ moved);
           aboard = refl;
           chunk = of;
+          own = ap (λ (x : ClassView). owns c x.part) moved_is ∙ own;
           past = refl;
           entry = subst (λ (k : ClassPart). IsShown k (record looked { stage = lane.Moved b }) b Moved) (sym (ap (λ (x : ClassView). x.part) (moved_is last v₃ moved))) (omega (
             arith,

@@ -12,12 +12,14 @@ use Rattle.bump_rules.specs.declared.bumps.Outcome.{Outcome}
 use Rattle.bump_rules.specs.declared.bumps.Outcome.TheVariants as outcome
 use Rattle.bump_rules.specs.declared.lanes.Lane.{Lane}
 use Rattle.bump_rules.specs.declared.lanes.Lane.TheVariants as lane
-use Rattle.bump_rules.specs.Entries.{moves_told}
+use Rattle.bump_rules.specs.Entries.{is_move_for, is_unlink_of, moves_told}
 use Rattle.bump_rules.specs.Tables.{is_cold, is_warm}
 use Rattle.bump_rules.specs.declared.places.Place.{Place}
 use Rattle.bump_rules.specs.declared.history.Cause.TheVariants as cause
 use Rattle.bump_rules.specs.declared.history.Change.TheVariants as change
 use Rattle.bump_rules.specs.History.{place_of}
+use Rattle.bump_rules.specs.Lives.{is_same}
+use Rattle.bump_rules.specs.Totals.{how_many}
 use Rattle.bump_rules.specs.Lanes.{carried, tried, applied_now, cleared_active, applied_bump}
 use Rattle.bump_rules.specs.Lawful.{Shows, IsUsed, bit}
 use Rattle.bump_rules.proofs.Laws.{used_in_segment}
@@ -28,7 +30,7 @@ use Rattle.bump_steps.specs.declared.views.ClassPart.{ClassPart}
 use Rattle.bump_steps.specs.declared.views.LanePart.{LanePart}
 use Rattle.bump_heads.specs.declared.views.ClassView.{ClassView}
 use Rattle.bump_steps.specs.declared.views.View.{View}
-use Rattle.bump_steps.specs.Views.{aboard_of, refers, owns, standing, evidence}
+use Rattle.bump_steps.specs.Views.{aboard_of, refers, owns, standing, shows_time_only, of_owner, evidence}
 use Rattle.bump_steps.specs.Plays.{Sat, Told, Found, on_first, step_of}
 use Rattle.bump_steps.specs.Cuts.{joined, lanes_only, without_lanes}
 use Rattle.bump_steps.specs.Applications.{applying, bump_for, tried_lane, tried_view, moved_stage, moved_lane, moved_for, moved_class, moved_view, life_in, alighted_lane, alighted_view, MayTry, MayMove, MayAlight}
@@ -276,10 +278,10 @@ module _ (m : Sat) (v w : ClassView) (o : Option (Seat Empty View)) (s : Seat Em
 -- ---- a lane is split off
 
 -- an entry that is shown is true of what the two parts have
-shown : (k : ClassPart) (l : LanePart) (b : Bump) (out : Outcome) → IsShown k l b out → 0 < evidence l.worker (applied_bump b out) (applying k l)
-shown k l b outcome.Moved is = omega (arith, is)
-shown k l b outcome.Gone is = omega (arith, is)
-shown k l b outcome.TimeOnly is = omega (arith, is)
+shown : (k : ClassPart) (l : LanePart) (b : Bump) (out : Outcome) → owns b.life.chunk k ≡ true → IsShown k l b out → 0 < evidence l.worker (applied_bump b out) (applying k l)
+shown k l b outcome.Moved own is = let mine : of_owner b.life.chunk (λ j. how_many (is_move_for (is_same b.life) l.worker b.number) j.history) k ≡ how_many (is_move_for (is_same b.life) l.worker b.number) k.history = ap (λ (o : Bool). cond o (how_many (is_move_for (is_same b.life) l.worker b.number) k.history) 0) own in omega (arith, is, mine)
+shown k l b outcome.Gone own is = let mine : of_owner b.life.chunk (λ j. how_many (is_unlink_of b.life) j.history) k ≡ how_many (is_unlink_of b.life) k.history = ap (λ (o : Bool). cond o (how_many (is_unlink_of b.life) k.history) 0) own in omega (arith, is, mine)
+shown k l b outcome.TimeOnly own is = let mine : of_owner b.life.chunk (λ j. how_many (shows_time_only l.worker b.number b.life.chunk) j.steps) k ≡ how_many (shows_time_only l.worker b.number b.life.chunk) k.steps = ap (λ (o : Bool). cond o (how_many (shows_time_only l.worker b.number b.life.chunk) k.steps) 0) own in omega (arith, is, mine)
 
 module _ (m : Sat) (v w : ClassView) (is : m ≡ class_me v) (same : v ≡ w) (c : ℕ) (out : Outcome) (l : LanePart) (b : Bump) (ends : Ends w c out l b) where
   -- the seat is that of the class and of this lane
@@ -287,7 +289,7 @@ module _ (m : Sat) (v w : ClassView) (is : m ≡ class_me v) (same : v ≡ w) (c
   view_is = is ∙ ap class_me same ∙ ap (λ (o : Option LanePart). class_me (record w { lane = o })) ends.joined
 
   pub may_end : MayAlight c out m.0
-  may_end = (w.part, l, b, record { view = ap (λ (x : Sat). x.0) view_is; aboard = aboard_now l.stage b ends.aboard; chunk = ends.chunk; past = ends.past; proof = shown w.part l b out ends.entry })
+  may_end = (w.part, l, b, record { view = ap (λ (x : Sat). x.0) view_is; aboard = aboard_now l.stage b ends.aboard; chunk = ends.chunk; past = ends.past; proof = shown w.part l b out (ap (λ (d : ℕ). owns d w.part) ends.chunk ∙ ends.own) ends.entry })
 
   aboard_is : bump_aboard w.lane ≡ Some b
   aboard_is = ap bump_aboard ends.joined ∙ aboard_now l.stage b ends.aboard

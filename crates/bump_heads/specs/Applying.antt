@@ -82,11 +82,12 @@ ShowsNothing k l b = 0 < how_many (shows_time_only l.worker b.number b.life.chun
 abbrev pub IsShown : ClassPart → LanePart → Bump → Outcome → Type 0
 IsShown k l b o = IsTrueEntry k.history l.worker (ShowsNothing k l b) (applied_bump b o)
 
--- The bump aboard, which is of this chunk, may end with the outcome.
+-- The bump aboard, which is of this chunk of the class, may end with the outcome.
 pub record Ends (v : ClassView) (c : ℕ) (o : Outcome) (l : LanePart) (b : Bump) : Type 0 where
   pub joined : v.lane ≡ Some l
   pub aboard : applied_now l.stage ≡ Some b
   pub chunk : b.life.chunk ≡ c
+  pub own : owns c v.part ≡ true
   -- its item was moved exactly where the outcome is Moved
   pub past : is_past_move l.stage ≡ is_moved o
   pub entry : IsShown v.part l b o

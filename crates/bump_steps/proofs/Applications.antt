@@ -28,14 +28,14 @@ use Rattle.bump_steps.specs.declared.views.OwnStep.{OwnStep}
 use Rattle.bump_steps.specs.declared.views.ClassPart.{ClassPart}
 use Rattle.bump_steps.specs.declared.views.LanePart.{LanePart}
 use Rattle.bump_steps.specs.declared.views.View.{View}
-use Rattle.bump_steps.specs.Views.{refers, aboard_of, Measure, held, named, saw, owners, strays, mislabels, misreads, owns, standing, label_of, weight, evidence, shown_by, claims, claimed_in, settled_in, is_entry, outcome_number, Query, in_order, untidy_in, shows_time_only, active_clear, IsBacked}
+use Rattle.bump_steps.specs.Views.{refers, aboard_of, Measure, held, named, saw, owners, strays, mislabels, misreads, owns, standing, label_of, weight, evidence, shown_by, claims, claimed_in, settled_in, is_entry, outcome_number, Query, in_order, untidy_in, shows_time_only, of_owner, foreign_in, foreign, active_clear, IsBacked}
 use Rattle.bump_steps.specs.Rule.{Sound, chunks, Kept, HasFittingLimit}
 use Rattle.bump_steps.specs.Plays.{Sat, Tells, on_chunk, step_of, Stands}
 use Rattle.bump_steps.specs.Applications.{for_bump, for_first, tried_stage, tried_lane, tried_view, tried, cleared_stage, cleared_view, cleared, noted_class, timed_view, timed, moved_on, alighted_view, alighted, entry_of}
 use Rattle.bump_steps.specs.Applications.{applying, pulling, StandsIn, life_in, cleared_lane, MayMove, is_past_move, Alights, MayAlight}
 use Rattle.bump_rules.specs.declared.places.Segment.{Segment}
 use Rattle.bump_rules.specs.declared.history.Cause.{Cause}
-use Rattle.bump_rules.specs.History.{place_of}
+use Rattle.bump_rules.specs.History.{place_of, subject}
 use Rattle.bump_rules.proofs.ToldMoves.{no_move}
 use Rattle.bump_rules.specs.Tables.{is_cold as is_cold_segment, is_warm as is_warm_segment}
 use Rattle.std.proofs.Common.{inl, inr}
@@ -49,7 +49,7 @@ use Rattle.bump_rules.proofs.Updates.{total_push, total_append}
 use Rattle.bump_rules.proofs.Replay.{standing_push}
 use Rattle.bump_rules.proofs.Standings.{standing_same}
 use Rattle.bump_steps.proofs.Frame.{Same, Amid, Reaches, on_time, same_sound}
-use Rattle.bump_steps.proofs.StepLemmas.{time_chunk_is, at_chunk, on_first_total, on_first_le, same_counts, level, one_life, other_life, other_chunk}
+use Rattle.bump_steps.proofs.StepLemmas.{time_chunk_is, at_chunk, on_first_total, on_first_le, owned_push, same_counts, level, one_life, other_life, other_chunk}
 
 -- ---- looking at the head of the bump's item
 
@@ -83,6 +83,7 @@ tried_backed : (c n : ℕ) (v : View) → IsBacked v (tried_view c n v)
 tried_backed c n v = record {
   backs = λ wk e. (by wk e e.outcome, λ more. absurd (let same = on_first_total (claimed_in wk e) (tried_lane c n) (λ l. refl) v.lanes in omega arith));
   even = λ q. let same = on_first_total (settled_in q) (tried_lane c n) (λ l. cond_is (l.worker == q.worker) _ _ (ap (λ (g : ℕ). how_many (is_told_moved q.test q.number) l.applied + g) (tried_going q l.stage))) v.lanes in omega arith;
+  own = omega arith;
   workers = λ w. refl;
   lanes = λ w. let same = on_first_total (λ l. cond (l.worker == w) 1 0) (tried_lane c n) (λ l. refl) v.lanes in omega arith;
   tidy = let same = on_first_total untidy_in (tried_lane c n) (λ l. ap (λ (o : Option Bump). cond (in_order 0 l.applied o) 0 1) (tried_refers l.stage)) v.lanes in omega arith;
@@ -124,15 +125,16 @@ module _ (c n : ℕ) (v : View) where
     backs = λ wk e. (by wk e e.outcome, λ more. absurd (let same = on_first_total (claimed_in wk e) (cleared_lane (not (active_clear n))) (λ l. refl) v.lanes in omega arith));
     even = λ q. let same = on_first_total (settled_in q) (cleared_lane (not (active_clear n))) (λ l. cond_is (l.worker == q.worker) _ _ (ap (λ (g : ℕ). how_many (is_told_moved q.test q.number) l.applied + g) (cleared_going q (not (active_clear n)) l.stage))) v.lanes in
         let same_moves = on_first_total (λ k. how_many (is_move_for q.test q.worker q.number) k.history) (noted_class kind.ClearActive c n v.lanes) (λ k. refl) v.classes in omega arith;
+    own = let same = on_first_total foreign_in (noted_class kind.ClearActive c n v.lanes) (λ k. refl) v.classes in omega arith;
     workers = λ w. refl;
     lanes = λ w. let same = on_first_total (λ l. cond (l.worker == w) 1 0) (cleared_lane (not (active_clear n))) (λ l. refl) v.lanes in omega arith;
     tidy = let same = on_first_total untidy_in (cleared_lane (not (active_clear n))) (λ l. ap (λ (o : Option Bump). cond (in_order 0 l.applied o) 0 1) (cleared_refers (not (active_clear n)) l.stage)) v.lanes in omega arith;
   }
     where
       by : (wk : ℕ) (e : AppliedBump) (o : Outcome) → shown_by o wk e v ≤ shown_by o wk e (cleared_view c n v)
-      by wk e outcome.Moved = omega (arith, on_first_total (λ k. how_many (is_move_for (is_same e.life) wk e.number) k.history) (noted_class kind.ClearActive c n v.lanes) (λ k. refl) v.classes)
-      by wk e outcome.Gone = omega (arith, on_first_total (λ k. how_many (is_unlink_of e.life) k.history) (noted_class kind.ClearActive c n v.lanes) (λ k. refl) v.classes)
-      by wk e outcome.TimeOnly = let more = on_first_le (λ k. how_many (shows_time_only wk e.number e.life.chunk) k.steps) (noted_class kind.ClearActive c n v.lanes) (λ k. omega (arith, total_push (λ x. cond (shows_time_only wk e.number e.life.chunk x) 1 0) k.steps (step_of kind.ClearActive c n (for_first v.lanes)))) v.classes in
+      by wk e outcome.Moved = omega (arith, on_first_total (of_owner e.life.chunk (λ k. how_many (is_move_for (is_same e.life) wk e.number) k.history)) (noted_class kind.ClearActive c n v.lanes) (λ k. refl) v.classes)
+      by wk e outcome.Gone = omega (arith, on_first_total (of_owner e.life.chunk (λ k. how_many (is_unlink_of e.life) k.history)) (noted_class kind.ClearActive c n v.lanes) (λ k. refl) v.classes)
+      by wk e outcome.TimeOnly = let more = on_first_le (of_owner e.life.chunk (λ k. how_many (shows_time_only wk e.number e.life.chunk) k.steps)) (noted_class kind.ClearActive c n v.lanes) (λ k. owned_push (owns e.life.chunk k) (λ x. cond (shows_time_only wk e.number e.life.chunk x) 1 0) k.steps (step_of kind.ClearActive c n (for_first v.lanes))) v.classes in
           let same = on_first_total (λ l. how_many (shows_time_only wk e.number e.life.chunk) l.steps) (cleared_lane (not (active_clear n))) (λ l. refl) v.lanes in omega arith
 
 -- ---- storing the time
@@ -151,15 +153,16 @@ module _ (c n : ℕ) (v : View) where
   timed_backed = record {
     backs = λ wk e. (by wk e e.outcome, λ more. absurd (omega arith));
     even = λ q. let same_moves = on_first_total (λ k. how_many (is_move_for q.test q.worker q.number) k.history) (noted_class kind.PutTime c n v.lanes) (λ k. refl) v.classes in omega arith;
+    own = let same = on_first_total foreign_in (noted_class kind.PutTime c n v.lanes) (λ k. refl) v.classes in omega arith;
     workers = λ w. refl;
     lanes = λ w. refl;
     tidy = omega arith;
   }
     where
       by : (wk : ℕ) (e : AppliedBump) (o : Outcome) → shown_by o wk e v ≤ shown_by o wk e (timed_view c n v)
-      by wk e outcome.Moved = omega (arith, on_first_total (λ k. how_many (is_move_for (is_same e.life) wk e.number) k.history) (noted_class kind.PutTime c n v.lanes) (λ k. refl) v.classes)
-      by wk e outcome.Gone = omega (arith, on_first_total (λ k. how_many (is_unlink_of e.life) k.history) (noted_class kind.PutTime c n v.lanes) (λ k. refl) v.classes)
-      by wk e outcome.TimeOnly = let more = on_first_le (λ k. how_many (shows_time_only wk e.number e.life.chunk) k.steps) (noted_class kind.PutTime c n v.lanes) (λ k. omega (arith, total_push (λ x. cond (shows_time_only wk e.number e.life.chunk x) 1 0) k.steps (step_of kind.PutTime c n (for_first v.lanes)))) v.classes in omega arith
+      by wk e outcome.Moved = omega (arith, on_first_total (of_owner e.life.chunk (λ k. how_many (is_move_for (is_same e.life) wk e.number) k.history)) (noted_class kind.PutTime c n v.lanes) (λ k. refl) v.classes)
+      by wk e outcome.Gone = omega (arith, on_first_total (of_owner e.life.chunk (λ k. how_many (is_unlink_of e.life) k.history)) (noted_class kind.PutTime c n v.lanes) (λ k. refl) v.classes)
+      by wk e outcome.TimeOnly = let more = on_first_le (of_owner e.life.chunk (λ k. how_many (shows_time_only wk e.number e.life.chunk) k.steps)) (noted_class kind.PutTime c n v.lanes) (λ k. owned_push (owns e.life.chunk k) (λ x. cond (shows_time_only wk e.number e.life.chunk x) 1 0) k.steps (step_of kind.PutTime c n (for_first v.lanes))) v.classes in omega arith
 
 module _ (key : Config) (slots id : ℕ) (m : Sat) (c : ℕ) (near : c < chunks key) where
   pub tries : Allows (Kept key) slots id m (3 * c + 9) (λ n. n) (on_chunk tried (step slots (3 * c + 9) 0 0 none) m)
@@ -268,11 +271,15 @@ module _ (c : ℕ) (k : ClassPart) (own : owns c k ≡ true) (l : ItemId) (of : 
         level_kept : (p q w x : ℕ) → x ≡ w → q + w ≡ p + x → p ≡ q
         level_kept p q w x e m = omega (arith, e, m)
 
+    -- the entry is of the class's own chunk
+    shift_own : foreign went ≤ foreign stood
+    shift_own = omega (arith, total_push (λ z. bit (not (owns (subject z).chunk k))) k.history (change.Moved l from to why), ap (λ (d : ℕ). bit (not (owns d k))) of, ap (λ (b : Bool). bit (not b)) own)
+
     -- what the class shows of entries stays
     shift_shows : (wk : ℕ) (e : AppliedBump) (o : Outcome) → total (λ x. how_many (shows_time_only wk e.number e.life.chunk) x.steps) ms ≡ total (λ x. how_many (shows_time_only wk e.number e.life.chunk) x.steps) ls → shown_by o wk e stood ≤ shown_by o wk e went
-    shift_shows wk e outcome.Moved same = omega (arith, total_push (λ z. cond (is_move_for (is_same e.life) wk e.number z) 1 0) k.history (change.Moved l from to why))
-    shift_shows wk e outcome.Gone same = omega (arith, total_push (λ z. cond (is_unlink_of e.life z) 1 0) k.history (change.Moved l from to why))
-    shift_shows wk e outcome.TimeOnly same = omega (arith, same, total_push (λ z. cond (shows_time_only wk e.number e.life.chunk z) 1 0) k.steps made)
+    shift_shows wk e outcome.Moved same = omega (arith, owned_push (owns e.life.chunk k) (λ z. cond (is_move_for (is_same e.life) wk e.number z) 1 0) k.history (change.Moved l from to why))
+    shift_shows wk e outcome.Gone same = omega (arith, owned_push (owns e.life.chunk k) (λ z. cond (is_unlink_of e.life z) 1 0) k.history (change.Moved l from to why))
+    shift_shows wk e outcome.TimeOnly same = omega (arith, same, owned_push (owns e.life.chunk k) (λ z. cond (shows_time_only wk e.number e.life.chunk z) 1 0) k.steps made)
 
     module _ (key : Config) (slots id : ℕ) (near : c < chunks key) (sl : List (ℕ × Empty)) where
       -- the seat of the class can go on so, where the move is of the life that the chunk has, and evens out
@@ -302,6 +309,7 @@ module _ (key : Config) (slots id c : ℕ) (near : c < chunks key) (k : ClassPar
       (record {
         backs = λ wk e. (shift_shows c k st.0 l refl from to cause.Pull made [] [] (λ d j. refl) wk e e.outcome refl, λ more. absurd (omega arith));
         even = λ q. omega (arith, total_push (λ z. cond (is_move_for q.test q.worker q.number z) 1 0) k.history (change.Moved l from to cause.Pull), ap bit (no_move q.test q.worker q.number (change.Moved l from to cause.Pull) refl));
+        own = shift_own c k st.0 l refl from to cause.Pull made [] [] (λ d j. refl);
         workers = λ w. refl;
         lanes = λ w. refl;
         tidy = omega arith;
@@ -324,6 +332,7 @@ module _ (key : Config) (slots id c : ℕ) (near : c < chunks key) (k : ClassPar
           ap₂ (λ (f g : Segment). bit (q.test b.life && (is_cold_segment f && (is_warm_segment g && ((l.worker == q.worker) && (b.number == q.number)))))) is_cold is_warm,
           even_bits (q.test b.life) (l.worker == q.worker) (b.number == q.number) (how_many (is_told_moved q.test q.number) l.applied),
         );
+        own = shift_own c k st.0 b.life of from to why made ls ms (λ d j. refl);
         workers = λ w. refl;
         lanes = λ w. refl;
         tidy = omega arith;
@@ -446,6 +455,7 @@ module _ (key : Config) (slots id : ℕ) (k : ClassPart) (l : LanePart) (b : Bum
             (moving_of q l.stage b aboard ∙ ap (λ (x : Bool). cond (x && ((b.number == q.number) && q.test b.life)) 1 0) past),
         ap (λ (t : ℕ). cond (l.worker == q.worker) (t + 0) 0) (applied_is (λ a. cond (is_told_moved q.test q.number a) 1 0)),
       );
+      own = omega arith;
       workers = λ w. refl;
       lanes = λ w. refl;
       tidy = omega (arith, ap {B = ℕ} (λ (x : Bool). cond x 0 1) (ap (in_order 0 l.applied) aboard ∙ sym (order_ends b (record { number = b.number; life = b.life; outcome = out }) refl l.applied 0) ∙ sym (ap (λ (o : Option Bump). in_order 0 (l.applied ++ entry_of out o) None) aboard)));

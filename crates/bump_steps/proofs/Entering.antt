@@ -46,7 +46,7 @@ use Rattle.bump_steps.specs.Lives as lives
 use Rattle.bump_steps.proofs.Frame.{Same, Amid, Reaches, on_head, same_sound}
 use Rattle.bump_steps.proofs.LabelLists.{word_begun}
 use Rattle.bump_steps.proofs.Looking.{looked_same, looked_backed}
-use Rattle.bump_steps.proofs.StepLemmas.{chunk_is, at_chunk, same_counts}
+use Rattle.bump_steps.proofs.StepLemmas.{chunk_is, at_chunk, owned_push, same_counts}
 use Rattle.bump_steps.proofs.Told.{at_standing, tells, stands_alone}
 
 -- ---- An entry of a chunk of the class that names no bump, and labels that leave all words.
@@ -80,15 +80,16 @@ module _ (c : ℕ) (k : ClassPart) (own : owns c k ≡ true) (e : Change) (ls : 
   enter_backed = record {
     backs = λ wk d. (by wk d d.outcome, λ more. absurd (omega arith));
     even = λ q. omega (arith, total_push (λ z. bit (is_move_for q.test q.worker q.number z)) k.history e, ap bit (no_move q.test q.worker q.number e quiet));
+    own = omega (arith, total_push (λ z. bit (not (owns (subject z).chunk k))) k.history e, ap (λ (d : ℕ). bit (not (owns d k))) of, ap (λ (b : Bool). bit (not b)) own);
     workers = λ w. refl;
     lanes = λ w. refl;
     tidy = omega arith;
   }
     where
       by : (wk : ℕ) (d : AppliedBump) (o : Outcome) → shown_by o wk d (alone k) ≤ shown_by o wk d (alone (record k { history = k.history ++ e ∷ []; labels = ls; steps = k.steps ++ x ∷ [] }))
-      by wk d outcome.Moved = omega (arith, total_push (λ z. bit (is_move_for (is_same d.life) wk d.number z)) k.history e)
-      by wk d outcome.Gone = omega (arith, total_push (λ z. bit (is_unlink_of d.life z)) k.history e)
-      by wk d outcome.TimeOnly = omega (arith, total_push (λ z. bit (shows_time_only wk d.number d.life.chunk z)) k.steps x)
+      by wk d outcome.Moved = omega (arith, owned_push (owns d.life.chunk k) (λ z. bit (is_move_for (is_same d.life) wk d.number z)) k.history e)
+      by wk d outcome.Gone = omega (arith, owned_push (owns d.life.chunk k) (λ z. bit (is_unlink_of d.life z)) k.history e)
+      by wk d outcome.TimeOnly = omega (arith, owned_push (owns d.life.chunk k) (λ z. bit (shows_time_only wk d.number d.life.chunk z)) k.steps x)
 
   -- the chunk is sound with a head that is lawful there
   pub enter_sound : (limit n p label : ℕ) (t u : Measure → ℕ) → Amid c (alone k) t → ((y : Measure) → u y + weight c y (alone k) ≡ t y + weight c y entering) → (o : Sound limit n label t) (to : Head) → Spells p to → to.generation ≡ (subject e).generation

@@ -13,7 +13,6 @@ use Rattle.bump_rules.specs.History.{Standing}
 use Rattle.bump_rules.specs.Labels.{label_word}
 use Rattle.bump_rules.specs.Lawful.{bit, IsUsed}
 use Rattle.bump_rules.proofs.Laws.{relawful, none_where_free}
-use Rattle.bump_rules.proofs.Updates.{total_push}
 use Rattle.bump_steps.specs.declared.views.Empty.{Empty}
 use Rattle.bump_steps.specs.declared.views.Kind.TheVariants as kind
 use Rattle.bump_steps.specs.declared.views.ClassPart.{ClassPart}
@@ -24,7 +23,7 @@ use Rattle.bump_steps.specs.Plays.{Sat, step_of, Stands}
 use Rattle.bump_steps.specs.Lives.{alone, labelled, on_part, IsUnused, storing}
 use Rattle.bump_steps.proofs.Frame.{Same, on_label}
 use Rattle.bump_steps.proofs.LabelLists.{word_stored}
-use Rattle.bump_steps.proofs.StepLemmas.{label_chunk_is}
+use Rattle.bump_steps.proofs.StepLemmas.{label_chunk_is, owned_push}
 use Rattle.bump_steps.proofs.Told.{at_standing, stands_alone}
 
 module _ (c y : ℕ) (k : ClassPart) (own : owns c k ≡ true) where
@@ -48,6 +47,7 @@ module _ (c y : ℕ) (k : ClassPart) (own : owns c k ≡ true) where
   label_backed = record {
     backs = λ wk d. (by wk d d.outcome, λ more. absurd (omega arith));
     even = λ q. omega arith;
+    own = omega arith;
     workers = λ w. refl;
     lanes = λ w. refl;
     tidy = omega arith;
@@ -56,7 +56,7 @@ module _ (c y : ℕ) (k : ClassPart) (own : owns c k ≡ true) where
       by : (wk : ℕ) (d : AppliedBump) (o : Outcome) → shown_by o wk d (alone k) ≤ shown_by o wk d (alone (labelled c y k))
       by wk d outcome.Moved = omega arith
       by wk d outcome.Gone = omega arith
-      by wk d outcome.TimeOnly = omega (arith, total_push (λ z. bit (shows_time_only wk d.number d.life.chunk z)) k.steps (step_of kind.PutLabel c y None))
+      by wk d outcome.TimeOnly = omega (arith, owned_push (owns d.life.chunk k) (λ z. bit (shows_time_only wk d.number d.life.chunk z)) k.steps (step_of kind.PutLabel c y None))
 
 module _ (key : Config) (slots id c : ℕ) (near : c < chunks key) (sl : List (ℕ × Empty)) (k : ClassPart) (own : owns c k ≡ true) where
   -- the label of a free chunk is stored: nobody has read another

@@ -13,12 +13,12 @@ use Rattle.bump_rules.specs.Totals.{how_many}
 use Rattle.bump_rules.proofs.Updates.{total_push}
 use Rattle.bump_steps.specs.declared.views.Kind.TheVariants as kind
 use Rattle.bump_steps.specs.declared.views.View.{View}
-use Rattle.bump_steps.specs.Views.{held, named, saw, owners, strays, mislabels, misreads, owns, standing, label_of, shown_by, shows_time_only, IsBacked}
+use Rattle.bump_steps.specs.Views.{held, named, saw, owners, strays, mislabels, misreads, owns, standing, label_of, shown_by, shows_time_only, of_owner, foreign_in, IsBacked}
 use Rattle.bump_steps.specs.Rule.{chunks, Kept}
 use Rattle.bump_steps.specs.Plays.{Sat, on_chunk, step_of}
 use Rattle.bump_steps.specs.Lives.{looked, on_part, peeking, looking}
 use Rattle.bump_steps.proofs.Frame.{Same, same_sound}
-use Rattle.bump_steps.proofs.StepLemmas.{at_chunk, on_first_total, on_first_le, same_counts}
+use Rattle.bump_steps.proofs.StepLemmas.{at_chunk, on_first_total, on_first_le, owned_push, same_counts}
 use Rattle.bump_steps.proofs.Told.{tells}
 
 module _ (c n : ℕ) (v : View) where
@@ -37,15 +37,16 @@ module _ (c n : ℕ) (v : View) where
   looked_backed = record {
     backs = λ wk e. (by wk e e.outcome, λ more. absurd (omega arith));
     even = λ q. let same_moves = on_first_total (λ k. how_many (is_move_for q.test q.worker q.number) k.history) (looked c n) (λ k. refl) v.classes in omega arith;
+    own = let same = on_first_total foreign_in (looked c n) (λ k. refl) v.classes in omega arith;
     workers = λ w. refl;
     lanes = λ w. refl;
     tidy = omega arith;
   }
     where
       by : (wk : ℕ) (e : AppliedBump) (o : Outcome) → shown_by o wk e v ≤ shown_by o wk e (on_part (looked c n) v)
-      by wk e outcome.Moved = omega (arith, on_first_total (λ k. how_many (is_move_for (is_same e.life) wk e.number) k.history) (looked c n) (λ k. refl) v.classes)
-      by wk e outcome.Gone = omega (arith, on_first_total (λ k. how_many (is_unlink_of e.life) k.history) (looked c n) (λ k. refl) v.classes)
-      by wk e outcome.TimeOnly = let more = on_first_le (λ k. how_many (shows_time_only wk e.number e.life.chunk) k.steps) (looked c n) (λ k. omega (arith, total_push (λ x. cond (shows_time_only wk e.number e.life.chunk x) 1 0) k.steps (step_of kind.Load c n None))) v.classes in omega arith
+      by wk e outcome.Moved = omega (arith, on_first_total (of_owner e.life.chunk (λ k. how_many (is_move_for (is_same e.life) wk e.number) k.history)) (looked c n) (λ k. refl) v.classes)
+      by wk e outcome.Gone = omega (arith, on_first_total (of_owner e.life.chunk (λ k. how_many (is_unlink_of e.life) k.history)) (looked c n) (λ k. refl) v.classes)
+      by wk e outcome.TimeOnly = let more = on_first_le (of_owner e.life.chunk (λ k. how_many (shows_time_only wk e.number e.life.chunk) k.steps)) (looked c n) (λ k. owned_push (owns e.life.chunk k) (λ x. cond (shows_time_only wk e.number e.life.chunk x) 1 0) k.steps (step_of kind.Load c n None)) v.classes in omega arith
 
 module _ (key : Config) (slots id : ℕ) (m : Sat) (c : ℕ) (near : c < chunks key) where
   -- any class may look at any chunk
@@ -64,6 +65,6 @@ module _ (key : Config) (slots id : ℕ) (m : Sat) (c : ℕ) (near : c < chunks 
     m.0,
     (λ u moved. same_sound key.refs_limit n x t u (λ y. let e = moved y in omega arith) o),
     (λ b ne y. refl),
-    record { backs = λ wk e. (omega arith, λ more. absurd (omega arith)); even = λ q. omega arith; workers = λ w. refl; lanes = λ w. refl; tidy = omega arith },
+    record { backs = λ wk e. (omega arith, λ more. absurd (omega arith)); even = λ q. omega arith; own = omega arith; workers = λ w. refl; lanes = λ w. refl; tidy = omega arith },
     (refl, (o.head, o.spells, tells c key.refs_limit n x m.0 t o a)),
   ))

@@ -11,7 +11,7 @@ use Rattle.bump_rules.specs.History.{is_standing}
 use Rattle.bump_rules.specs.Entries.{is_move_for, is_unlink_of}
 use Rattle.bump_rules.proofs.Updates.{total_append}
 use Rattle.bump_steps.specs.declared.views.View.{View}
-use Rattle.bump_steps.specs.Views.{Measure, held, named, saw, owners, strays, mislabels, misreads, misread, refers, in_hand, is_fetch_of, aboard_of, owns, standing, label_of, weight, shown_by, claimed_in, settled_in, untidy_in, shows_time_only}
+use Rattle.bump_steps.specs.Views.{Measure, held, named, saw, owners, strays, mislabels, misreads, misread, refers, in_hand, is_fetch_of, aboard_of, owns, standing, label_of, weight, shown_by, claimed_in, settled_in, untidy_in, shows_time_only, of_owner, foreign_in}
 use Rattle.bump_steps.specs.Rule.{blank, Kept}
 use Rattle.bump_steps.specs.Cuts.{joined, without_lanes, lanes_only, without_holds, holds_only, without_class, class_only, without_worker, worker_only, without_lane, lane_only}
 use Rattle.bump_steps.specs.Plays.{behind, first_of}
@@ -43,13 +43,13 @@ module _ (v left right : View) (p : Parted v left right) where
 
   -- they show the same of entries
   pub parted_evidence : (n : ℕ) (a : AppliedBump) (o : Outcome) → AddsUp (shown_by o n a) v left right
-  parted_evidence n a outcome.Moved = p.classes (λ k. how_many (is_move_for (is_same a.life) n a.number) k.history)
-  parted_evidence n a outcome.Gone = p.classes (λ k. how_many (is_unlink_of a.life) k.history)
-  parted_evidence n a outcome.TimeOnly = omega (arith, p.classes (λ k. how_many (shows_time_only n a.number a.life.chunk) k.steps), p.lanes (λ l. how_many (shows_time_only n a.number a.life.chunk) l.steps))
+  parted_evidence n a outcome.Moved = p.classes (of_owner a.life.chunk (λ k. how_many (is_move_for (is_same a.life) n a.number) k.history))
+  parted_evidence n a outcome.Gone = p.classes (of_owner a.life.chunk (λ k. how_many (is_unlink_of a.life) k.history))
+  parted_evidence n a outcome.TimeOnly = omega (arith, p.classes (of_owner a.life.chunk (λ k. how_many (shows_time_only n a.number a.life.chunk) k.steps)), p.lanes (λ l. how_many (shows_time_only n a.number a.life.chunk) l.steps))
 
   -- the rule doesn't notice that a view is cut in two
   pub parts : (key : Config) (id : ℕ) → Splits (Kept key) id v left right
-  parts key id = splits key id v left right parted_counts (λ n a. (p.lanes (claimed_in n a), parted_evidence n a a.outcome)) (λ q. (p.classes (λ k. how_many (is_move_for q.test q.worker q.number) k.history), p.lanes (settled_in q))) (λ n. p.workers (λ w. cond (eqb w.worker n) 1 0)) (λ n. p.lanes (λ l. cond (eqb l.worker n) 1 0)) (p.lanes untidy_in)
+  parts key id = splits key id v left right parted_counts (λ n a. (p.lanes (claimed_in n a), parted_evidence n a a.outcome)) (λ q. (p.classes (λ k. how_many (is_move_for q.test q.worker q.number) k.history), p.lanes (settled_in q))) (p.classes foreign_in) (λ n. p.workers (λ w. cond (eqb w.worker n) 1 0)) (λ n. p.lanes (λ l. cond (eqb l.worker n) 1 0)) (p.lanes untidy_in)
 
 -- nothing but a list's own elements, and nothing
 here : {A : Type 0} (xs : List A) → Shared xs xs []
@@ -83,6 +83,7 @@ both_join key id v other w = joins key id v other w (joined v w) blank
     (λ c x. omega (arith, counts c x, nothing c x))
     (λ n a. (omega (arith, total_append (claimed_in n a) v.lanes w.lanes), omega (arith, shows n a a.outcome, shows_nothing n a a.outcome)))
     (λ q. (omega (arith, total_append (λ k. how_many (is_move_for q.test q.worker q.number) k.history) v.classes w.classes), omega (arith, total_append (settled_in q) v.lanes w.lanes)))
+    (omega (arith, total_append foreign_in v.classes w.classes))
     (λ n. omega (arith, total_append (λ p. cond (eqb p.worker n) 1 0) v.workers w.workers))
     (λ n. omega (arith, total_append (λ l. cond (eqb l.worker n) 1 0) v.lanes w.lanes))
     (omega (arith, total_append untidy_in v.lanes w.lanes))

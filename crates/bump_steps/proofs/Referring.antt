@@ -30,9 +30,10 @@ use Rattle.bump_steps.specs.declared.views.Kind.TheVariants as kind
 use Rattle.bump_steps.specs.declared.views.View.{View}
 use Rattle.bump_steps.specs.declared.views.WorkerPart.{WorkerPart}
 use Rattle.bump_steps.specs.Plays.{Sat, on_chunk, behind, on_first, step_of}
-use Rattle.bump_steps.specs.References.{noted_by, looked_view, looked, new_hold, taken_view, taken, HasHold, given_view, given_back, read_hold, read_view, IsLabel, label_read, seen}
+use Rattle.bump_steps.specs.Marks.{noted}
+use Rattle.bump_steps.specs.References.{looked_view, looked, new_hold, taken_view, taken, HasHold, given_view, given_back, read_hold, read_view, IsLabel, label_read, seen}
 use Rattle.bump_steps.specs.Rule.{Sound, chunks, Kept, blank, HasFittingLimit}
-use Rattle.bump_steps.specs.Views.{Measure, held, named, saw, owners, strays, mislabels, misreads, is_fetch, is_fetch_of, in_hand, misread, differs, weight, tally, claims, evidence, shown_by, moves, settled, workers_of, lanes_of, untidy, IsBacked}
+use Rattle.bump_steps.specs.Views.{Measure, held, named, saw, owners, strays, mislabels, misreads, is_fetch, is_fetch_of, in_hand, misread, differs, weight, tally, claims, evidence, shown_by, moves, settled, foreign, workers_of, lanes_of, untidy, IsBacked}
 use Rattle.bump_steps.proofs.Frame.{Same, Amid, Reaches, on_label, same_sound}
 use Rattle.bump_steps.proofs.StepLemmas.{at_chunk, label_chunk_is, on_first_total, same_counts, one_life, other_life, other_chunk}
 use Rattle.bump_steps.proofs.Told.{tells}
@@ -70,6 +71,7 @@ quiet : (v : View) (ws : List WorkerPart) (hs : List HoldPart) (gs : List GivenB
 quiet v ws hs gs same = record {
   backs = λ wk a. (by wk a a.outcome, λ more. absurd (omega arith));
   even = λ q. omega arith;
+  own = omega arith;
   workers = same;
   lanes = λ w. refl;
   tidy = omega arith;
@@ -81,19 +83,19 @@ quiet v ws hs gs same = record {
     by wk a outcome.TimeOnly = omega arith
 
 -- a worker that notes a step keeps its number
-same_workers : (k : Kind) (c n : ℕ) (v : View) (w : ℕ) → total (λ p. cond (p.worker == w) 1 0) (on_first (noted_by k c n) v.workers) ≡ workers_of w v
-same_workers k c n v w = on_first_total (λ p. cond (p.worker == w) 1 0) (noted_by k c n) (λ p. refl) v.workers
+same_workers : (k : Kind) (c n : ℕ) (v : View) (w : ℕ) → total (λ p. cond (p.worker == w) 1 0) (on_first (noted k c n) v.workers) ≡ workers_of w v
+same_workers k c n v w = on_first_total (λ p. cond (p.worker == w) 1 0) (noted k c n) (λ p. refl) v.workers
 
 module _ (step_kind : Kind) (plain : is_fetch step_kind ≡ false) (c n : ℕ) where
   -- a step that sets no mark is no fetch
-  no_fetch : (b g : ℕ) (w : WorkerPart) → how_many (is_fetch_of b g) (noted_by step_kind c n w).steps ≡ how_many (is_fetch_of b g) w.steps
+  no_fetch : (b g : ℕ) (w : WorkerPart) → how_many (is_fetch_of b g) (noted step_kind c n w).steps ≡ how_many (is_fetch_of b g) w.steps
   no_fetch b g w = omega (arith, total_push (λ x. cond (is_fetch_of b g x) 1 0) w.steps (step_of step_kind c n None), ap {B = ℕ} (λ (f : Bool). cond (f && ((c == b) && (n / 2 ^ generation_first == g))) 1 0) plain)
 
   -- so a view counts the same with it
-  noted_same : (v : View) (hs : List HoldPart) (b : ℕ) (y : Measure) → weight b y (record v { workers = on_first (noted_by step_kind c n) v.workers; holds = hs }) ≡ weight b y (record v { holds = hs })
-  noted_same v hs b (held g) = omega (arith, on_first_total (λ w. in_hand b g w.hand) (noted_by step_kind c n) (λ w. refl) v.workers)
-  noted_same v hs b (named g) = on_first_total (λ w. count_of (life b g) w.hits) (noted_by step_kind c n) (λ w. refl) v.workers
-  noted_same v hs b (saw g) = on_first_total (λ w. how_many (is_fetch_of b g) w.steps) (noted_by step_kind c n) (λ w. no_fetch b g w) v.workers
+  noted_same : (v : View) (hs : List HoldPart) (b : ℕ) (y : Measure) → weight b y (record v { workers = on_first (noted step_kind c n) v.workers; holds = hs }) ≡ weight b y (record v { holds = hs })
+  noted_same v hs b (held g) = omega (arith, on_first_total (λ w. in_hand b g w.hand) (noted step_kind c n) (λ w. refl) v.workers)
+  noted_same v hs b (named g) = on_first_total (λ w. count_of (life b g) w.hits) (noted step_kind c n) (λ w. refl) v.workers
+  noted_same v hs b (saw g) = on_first_total (λ w. how_many (is_fetch_of b g) w.steps) (noted step_kind c n) (λ w. no_fetch b g w) v.workers
   noted_same v hs b owners = refl
   noted_same v hs b (strays s) = refl
   noted_same v hs b (mislabels x) = refl
@@ -115,7 +117,7 @@ module _ (key : Config) (slots id : ℕ) (m : Sat) (c : ℕ) (near : c < chunks 
     looked_view c n m.0,
     (λ u moved. same_sound key.refs_limit n x t u (same_counts c m.0 (looked_view c n m.0) t u (noted_same kind.Load refl c n m.0 m.0.holds c) moved) o),
     (λ b ne. noted_same kind.Load refl c n m.0 m.0.holds b),
-    quiet m.0 (on_first (noted_by kind.Load c n) m.0.workers) m.0.holds m.0.returned (same_workers kind.Load c n m.0),
+    quiet m.0 (on_first (noted kind.Load c n) m.0.workers) m.0.holds m.0.returned (same_workers kind.Load c n m.0),
     told,
   )
 
@@ -143,7 +145,7 @@ module _ (key : Config) (slots id : ℕ) (m : Sat) (c : ℕ) (near : c < chunks 
             (λ j ne. omega (arith, moved (held j), same c (held j), other_life (life c k) j (λ e. ne (e ∙ gen)))))
             (record { first_hits = λ j. same c (named j); fetches = λ j. same c (saw j); owning = same c owners; straying = λ s. same c (strays s); labels = λ y. same c (mislabels y); reads = λ j. omega (arith, same c (misreads j x)) })),
         apart (taken_view c n m.0) k hs same,
-        quiet m.0 (on_first (noted_by kind.Take c n) m.0.workers) hs m.0.returned (same_workers kind.Take c n m.0),
+        quiet m.0 (on_first (noted kind.Take c n) m.0.workers) hs m.0.returned (same_workers kind.Take c n m.0),
         ((λ _. refl), (λ miss. absurd (miss hit)), (o.head, o.spells, tells c key.refs_limit n x m.0 t o a)),
       )
     where
@@ -275,6 +277,7 @@ sees key slots c first near s o count small = let e = o.each c near in (
     each = λ b h. same_sound key.refs_limit _ _ (tally s.views b) (tally (s.views ++ blank ∷ []) b) (λ y. omega (arith, total_push (weight b y) s.views blank, nothing b y)) (o.each b h);
     true_entries = λ w a many. let old = o.true_entries w a in omega (arith, total_push (evidence w a) s.views blank, old (omega (arith, many, total_push (claims w a) s.views blank)));
     even_moves = λ q. omega (arith, total_push (moves q) s.views blank, total_push (settled q) s.views blank, o.even_moves q);
+    own_chunks = omega (arith, total_push foreign s.views blank, o.own_chunks);
     one_worker = λ n. omega (arith, total_push (workers_of n) s.views blank, o.one_worker n);
     one_lane = λ n. omega (arith, total_push (lanes_of n) s.views blank, o.one_lane n);
     orderly = omega (arith, total_push untidy s.views blank, o.orderly);

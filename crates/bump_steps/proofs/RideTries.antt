@@ -15,7 +15,8 @@ use Rattle.bump_steps.specs.declared.views.WorkerPart.{WorkerPart}
 use Rattle.bump_steps.specs.declared.views.View.{View}
 use Rattle.bump_steps.specs.Plays.{Sat, on_first, step_of}
 use Rattle.bump_steps.specs.Tries.{last_found, AreHeads, AreTries, loads, with_more}
-use Rattle.bump_steps.specs.Rides.{on_worker, found_by, IsHeld, refused_as, refusal, judged, judged_hand, counted_drop, reserved, looked, took, IsOn, HasRoom}
+use Rattle.bump_steps.specs.Marks.{on_worker}
+use Rattle.bump_steps.specs.Rides.{found_by, IsHeld, refused_as, refusal, judged, judged_hand, counted_drop, reserved, looked, took, IsOn, HasRoom}
 use Rattle.bump_steps.specs.RideTries.{AreHeld, why_refused, view_after, RodeView}
 use Rattle.bump_steps.proofs.Tries.{heads_push, tries_push, last_push, last_fits, loads_push}
 

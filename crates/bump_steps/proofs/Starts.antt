@@ -20,7 +20,7 @@ use Rattle.bump_rules.specs.History.{is_standing}
 use Rattle.bump_rules.specs.Entries.{is_move_for}
 use Rattle.bump_rules.proofs.Standings.{standing_same}
 use Rattle.bump_word.specs.Layout.{generation_width}
-use Rattle.bump_steps.specs.Views.{owns, standing, label_of, held, named, saw, weight, refers, in_hand, is_fetch_of, aboard_of, claimed_in, settled_in, untidy_in}
+use Rattle.bump_steps.specs.Views.{owns, standing, label_of, held, named, saw, weight, refers, in_hand, is_fetch_of, aboard_of, claimed_in, settled_in, foreign_in, untidy_in}
 use Rattle.bump_steps.specs.Rule.{chunks, Kept, class_parts, worker_part, worker_parts, lane_part, lane_parts, opened, AreFresh, HasFittingLimit}
 
 -- there are chunks where there are classes
@@ -139,6 +139,7 @@ starts key words fresh limits generations = record {
   };
   true_entries = λ n a many. absurd (omega (arith, many, no_lanes (claimed_in n a) (λ w. cond_none (eqb w n)) 0 key.workers));
   even_moves = λ q. omega (arith, no_classes (λ k. how_many (is_move_for q.test q.worker q.number) k.history) (λ g i at n. refl) (key.first_generation - 1) 0 0 key.classes, no_lanes (settled_in q) (λ w. cond_none (eqb w q.worker)) 0 key.workers);
+  own_chunks = omega (arith, no_classes foreign_in (λ g i at n. refl) (key.first_generation - 1) 0 0 key.classes);
   one_worker = λ n. omega (arith, one_worker_of n 0 key.workers);
   one_lane = λ n. omega (arith, one_of n 0 key.workers);
   orderly = omega (arith, no_lanes untidy_in (λ w. refl) 0 key.workers);

@@ -1,10 +1,11 @@
 -- What all steps need: the chunk of a word, lists whose first element changes, and how often a life counts.
-use Rattle.std.proofs.Common.{◌-◌, ◌≡◌, ℕ, ◌+◌, ◌*◌, ◌/◌, ◌<◌, ◌≤◌, ◌≢◌, ◌&&◌, eqb, cond, List, [], ◌∷◌, refl, sym, ap, ap₂, subst, arith, eq-eqb, ne_eqb}
+use Rattle.std.proofs.Common.{◌-◌, ◌≡◌, ℕ, ◌+◌, ◌*◌, ◌/◌, ◌<◌, ◌≤◌, ◌≢◌, ◌&&◌, eqb, cond, Bool, true, false, List, [], ◌∷◌, ◌++◌, refl, sym, ap, ap₂, subst, arith, eq-eqb, ne_eqb}
 use Rattle.atomic_table.specs.Table.{Allows}
 use Rattle.bump_rules.specs.declared.configs.Config.{Config}
 use Rattle.bump_rules.specs.declared.items.ItemId.{ItemId}
 use Rattle.bump_rules.specs.Totals.{total}
 use Rattle.bump_rules.specs.Lives.{life, one_if}
+use Rattle.bump_rules.proofs.Updates.{total_push}
 use Rattle.bump_steps.specs.declared.views.View.{View}
 use Rattle.bump_steps.specs.Views.{Measure, weight}
 use Rattle.bump_steps.specs.Rule.{chunks, Kept}
@@ -35,6 +36,15 @@ module _ {A : Type 0} (f : A → ℕ) (h : A → A) where
   pub on_first_le : ((x : A) → f x ≤ f (h x)) → (l : List A) → total f l ≤ total f (on_first h l)
   on_first_le e [] = omega arith
   on_first_le e (x ∷ xs) = omega (arith, e x)
+
+-- what grows, grows for the owner too
+pub owned_le : (own : Bool) (p q : ℕ) → p ≤ q → cond own p 0 ≤ cond own q 0
+owned_le true p q less = less
+owned_le false p q less = omega arith
+
+-- and what a list counts is at most what it counts with one more element
+pub owned_push : {A : Type 0} (own : Bool) (f : A → ℕ) (l : List A) (x : A) → cond own (total f l) 0 ≤ cond own (total f (l ++ x ∷ [])) 0
+owned_push own f l x = owned_le own (total f l) (total f (l ++ x ∷ [])) (omega (arith, total_push f l x))
 
 -- what one view counts as before, all views count as before
 pub same_counts : (c : ℕ) (v w : View) (t u : Measure → ℕ) → Same c v w → ((y : Measure) → u y + weight c y v ≡ t y + weight c y w) → (y : Measure) → u y ≡ t y

@@ -1,6 +1,6 @@
 -- What a reader's steps on a reference tell: a worker looks at a head word and takes a reference by an exchange, and a hold gives
 -- its reference back, and reads its label. And what is told of a word that is seen without a seat.
-use Rattle.std.specs.Prelude.{◌≡◌, ◌≢◌, ℕ, ◌/◌, ◌^◌, ◌≤◌, List, [], ◌∷◌, ◌++◌, None}
+use Rattle.std.specs.Prelude.{◌≡◌, ◌≢◌, ℕ, ◌/◌, ◌^◌, ◌≤◌, List, [], ◌∷◌, ◌++◌}
 use Rattle.bump_rules.specs.declared.items.Head.{Head}
 use Rattle.bump_rules.specs.declared.items.ItemId.{ItemId}
 use Rattle.bump_rules.specs.Lawful.{bit}
@@ -11,21 +11,16 @@ use Rattle.bump_word.specs.Layout.{generation_first}
 use Rattle.bump_word.specs.Words.{Spells}
 use Rattle.bump_steps.specs.declared.views.GivenBack.{GivenBack}
 use Rattle.bump_steps.specs.declared.views.HoldPart.{HoldPart}
-use Rattle.bump_steps.specs.declared.views.Kind.{Kind}
 use Rattle.bump_steps.specs.declared.views.Kind.TheVariants as kind
 use Rattle.bump_steps.specs.declared.views.View.{View}
-use Rattle.bump_steps.specs.declared.views.WorkerPart.{WorkerPart}
-use Rattle.bump_steps.specs.Plays.{Tells, Found, Told, behind, on_first, step_of}
+use Rattle.bump_steps.specs.Plays.{Tells, Found, Told, behind, on_first}
+use Rattle.bump_steps.specs.Marks.{noted, on_worker}
 use Rattle.bump_steps.specs.Rule.{blank}
 use Rattle.bump_steps.specs.Views.{differs}
 
--- the worker has one more step of its own, which is for no bump
-abbrev pub noted_by : Kind → ℕ → ℕ → WorkerPart → WorkerPart
-noted_by kind c n w = record w { steps = w.steps ++ step_of kind c n None ∷ [] }
-
 -- the worker loaded the chunk's head word, and found n
 abbrev pub looked_view : ℕ → ℕ → View → View
-looked_view c n v = record v { workers = on_first (noted_by kind.Load c n) v.workers }
+looked_view c n v = on_worker (noted kind.Load c n) v
 
 abbrev pub looked : Tells
 looked c x m r n = (n ≡ (looked_view c r m.0, m.1)) × Found r (Told c m.0)
@@ -36,7 +31,7 @@ new_hold l = record { life = l; labels = [] }
 
 -- the worker took a reference where it found n: the life is the one whose generation n has
 abbrev pub taken_view : ℕ → ℕ → View → View
-taken_view c n v = record v { workers = on_first (noted_by kind.Take c n) v.workers; holds = new_hold (life c (n / 2 ^ generation_first)) ∷ v.holds }
+taken_view c n v = record v { workers = on_first (noted kind.Take c n) v.workers; holds = new_hold (life c (n / 2 ^ generation_first)) ∷ v.holds }
 
 -- an exchange that finds another word than it expects is a load
 abbrev pub taken : Tells

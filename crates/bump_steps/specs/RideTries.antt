@@ -7,7 +7,8 @@ use Rattle.bump_steps.specs.declared.views.Kind.TheVariants as kind
 use Rattle.bump_steps.specs.declared.views.WorkerPart.{WorkerPart}
 use Rattle.bump_steps.specs.Plays.{Sat}
 use Rattle.bump_steps.specs.Tries.{last_found, AreHeads, AreTries, loads, with_more}
-use Rattle.bump_steps.specs.Rides.{IsHeld, refusal, judged, found_by, reserved, on_worker}
+use Rattle.bump_steps.specs.Marks.{on_worker}
+use Rattle.bump_steps.specs.Rides.{IsHeld, refusal, judged, found_by, reserved}
 
 -- each of them is of the life that the worker holds
 abbrev pub AreHeld : ℕ → ItemId → Head → List Head → Type 0

@@ -21,14 +21,11 @@ use Rattle.bump_steps.specs.declared.refusals.RideRefusal.{RideRefusal}
 use Rattle.bump_steps.specs.declared.refusals.RideRefusal.TheVariants as refused
 use Rattle.bump_steps.specs.Rule.{blank}
 use Rattle.bump_steps.specs.Plays.{Sat, on_first, step_of}
+use Rattle.bump_steps.specs.Marks.{on_worker}
 
 -- a worker, and the hold that is joined to its seat
 abbrev pub touching : WorkerPart → HoldPart → View
 touching w h = record blank { workers = w ∷ []; holds = h ∷ [] }
-
--- a change of the worker's part
-abbrev pub on_worker : (WorkerPart → WorkerPart) → View → View
-on_worker f v = record v { workers = on_first f v.workers }
 
 -- the worker's own step on the chunk of this life, which found this head
 abbrev pub found_by : Kind → ItemId → Head → WorkerPart → WorkerPart

@@ -13,7 +13,7 @@ use Rattle.bump_rules.specs.Hands.{life_in_hand}
 use Rattle.bump_rules.specs.Totals.{total, how_many}
 use Rattle.bump_rules.specs.Lives.{life, is_same, one_if, count_of}
 use Rattle.bump_rules.specs.Labels.{label_word}
-use Rattle.bump_rules.specs.History.{Standing, standing_in, is_standing, is_between}
+use Rattle.bump_rules.specs.History.{Standing, standing_in, is_standing, is_between, subject}
 use Rattle.bump_rules.specs.Entries.{is_move_for, is_unlink_of, moves_told}
 use Rattle.bump_word.specs.Layout.{linked_first, active_first, generation_first}
 use Rattle.bump_rules.specs.declared.places.Segment.TheVariants.{Cold}
@@ -157,11 +157,16 @@ nothing_to_move _ n = false
 abbrev pub shows_time_only : ℕ → ℕ → ℕ → OwnStep → Bool
 shows_time_only w n c x = nothing_to_move x.kind x.word && (is_for w n x.bump && (x.chunk == c))
 
--- how much a view has that shows an entry of worker w's lane to be true, by its outcome
+-- what a class that has the chunk counts; another class counts nothing
+abbrev pub of_owner : ℕ → (ClassPart → ℕ) → ClassPart → ℕ
+of_owner c f k = cond (owns c k) (f k) 0
+
+-- How much a view has that shows an entry of worker w's lane to be true, by its outcome: the history and the steps of the class that has
+-- the entry's chunk, and the lane's own steps.
 abbrev pub shown_by : Outcome → ℕ → AppliedBump → View → ℕ
-shown_by outcome.Moved w a v = total (λ k. how_many (is_move_for (is_same a.life) w a.number) k.history) v.classes
-shown_by outcome.Gone w a v = total (λ k. how_many (is_unlink_of a.life) k.history) v.classes
-shown_by outcome.TimeOnly w a v = total (λ k. how_many (shows_time_only w a.number a.life.chunk) k.steps) v.classes + total (λ l. how_many (shows_time_only w a.number a.life.chunk) l.steps) v.lanes
+shown_by outcome.Moved w a v = total (of_owner a.life.chunk (λ k. how_many (is_move_for (is_same a.life) w a.number) k.history)) v.classes
+shown_by outcome.Gone w a v = total (of_owner a.life.chunk (λ k. how_many (is_unlink_of a.life) k.history)) v.classes
+shown_by outcome.TimeOnly w a v = total (of_owner a.life.chunk (λ k. how_many (shows_time_only w a.number a.life.chunk) k.steps)) v.classes + total (λ l. how_many (shows_time_only w a.number a.life.chunk) l.steps) v.lanes
 
 abbrev pub evidence : ℕ → AppliedBump → View → ℕ
 evidence w a v = shown_by a.outcome w a v
@@ -184,6 +189,15 @@ settled_in q l = cond (l.worker == q.worker) (moves_told q.test q.number l.appli
 
 abbrev pub settled : Query → View → ℕ
 settled q v = total (settled_in q) v.lanes
+
+-- Histories.
+
+-- how many entries of the class's history are of a chunk that isn't the class's
+abbrev pub foreign_in : ClassPart → ℕ
+foreign_in k = how_many (λ e. not (owns (subject e).chunk k)) k.history
+
+abbrev pub foreign : View → ℕ
+foreign v = total foreign_in v.classes
 
 -- Workers and lanes.
 
@@ -212,11 +226,12 @@ untidy_in l = cond (in_order 0 l.applied (aboard_of l.stage)) 0 1
 abbrev pub untidy : View → ℕ
 untidy v = total untidy_in v.lanes
 
--- A view may become another one: what it adds to the entries is shown by what it has, each move is settled, the workers and the lanes stay
--- the same ones, and the lanes stay in order.
+-- A view may become another one: what it adds to the entries is shown by what it has, each move is settled, no entry of a chunk of another
+-- class joins a history, the workers and the lanes stay the same ones, and the lanes stay in order.
 pub record IsBacked (v w : View) : Type 0 where
   pub backs : (worker : ℕ) (a : AppliedBump) → (evidence worker a v ≤ evidence worker a w) × (claims worker a v < claims worker a w → 0 < evidence worker a w)
   pub even : (q : Query) → moves q w + settled q v ≡ moves q v + settled q w
+  pub own : foreign w ≤ foreign v
   pub workers : (n : ℕ) → workers_of n w ≡ workers_of n v
   pub lanes : (n : ℕ) → lanes_of n w ≡ lanes_of n v
   pub tidy : untidy w ≤ untidy v
