@@ -6,7 +6,9 @@ use Rattle.bump_rules.specs.Lawful.{Shows}
 use Rattle.bump_word.specs.Words.{Spells}
 use Rattle.bump_word.proofs.Words.{one_head}
 use Rattle.bump_steps.specs.declared.views.ClassPart.{ClassPart}
+use Rattle.bump_heads.specs.declared.joined.Joined.{Joined}
 use Rattle.bump_heads.specs.declared.views.ClassView.{ClassView}
+use Rattle.bump_heads.specs.Applying.{IsJoined}
 use Rattle.bump_steps.specs.declared.views.LanePart.{LanePart}
 use Rattle.bump_steps.specs.Views.{owns, standing}
 use Rattle.bump_steps.specs.Plays.{Sat, Found, Told}
@@ -48,12 +50,12 @@ module _ (m w : Sat) (v : ClassView) (f : ClassPart → ClassPart) (is : m ≡ c
 pub after_look : (m p w : Sat) (f : ClassPart → ClassPart) → p ≡ m → w ≡ (on_part f p.0, p.1) → w ≡ (on_part f m.0, m.1)
 after_look m p w f same after = after ∙ ap (λ (y : Sat). (on_part f y.0, y.1)) same
 
--- what the class's seat keeps, it keeps by a step on its part that its part keeps
-pub seat_kept : (m w : Sat) (now : ClassView) (f : ClassPart → ClassPart) (table id : TableId) (class : ℕ) → class_in m.0 ≡ now → m ≡ class_me (class_in m.0) → w ≡ (on_part f m.0, m.1) → id ≡ table
-    → IsInRange table (bump_aboard (class_in m.0).lane) → class ≡ (class_in m.0).part.class → IsClassPart table.words (class_in m.0).part
-    → (f now.part).class ≡ now.part.class → (IsClassPart table.words now.part → IsClassPart table.words (f now.part))
-    → (w ≡ class_me (class_in w.0)) × (id ≡ table) × IsInRange table (bump_aboard (class_in w.0).lane) × (class ≡ (class_in w.0).part.class) × IsClassPart table.words (class_in w.0).part
-seat_kept m w now f table id class view_is is after same near mine part class_same keeps =
+-- what the class's seat keeps, it keeps by a step on its part that its part keeps, with what it knows of a lane that is joined
+pub seat_kept : (m w : Sat) (now : ClassView) (f : ClassPart → ClassPart) (table id : TableId) (class : ℕ) (joined : Option Joined) → class_in m.0 ≡ now → m ≡ class_me (class_in m.0) → w ≡ (on_part f m.0, m.1) → id ≡ table
+    → IsInRange table (bump_aboard (class_in m.0).lane) → class ≡ (class_in m.0).part.class → IsClassPart table.words (class_in m.0).part → IsJoined (class_in m.0).part (class_in m.0).lane joined
+    → (f now.part).class ≡ now.part.class → (IsClassPart table.words now.part → IsClassPart table.words (f now.part)) → (IsJoined now.part now.lane joined → IsJoined (f now.part) now.lane joined)
+    → (w ≡ class_me (class_in w.0)) × (id ≡ table) × IsInRange table (bump_aboard (class_in w.0).lane) × (class ≡ (class_in w.0).part.class) × IsClassPart table.words (class_in w.0).part × IsJoined (class_in w.0).part (class_in w.0).lane joined
+seat_kept m w now f table id class joined view_is is after same near mine part lane_kept class_same keeps keeps_lane =
     let me : m ≡ class_me now = is ∙ ap class_me view_is in
     let view : class_in w.0 ≡ record now { part = f now.part } = view_after m w now f me after in (
       whole_after m w now f me after,
@@ -61,6 +63,7 @@ seat_kept m w now f table id class view_is is after same near mine part class_sa
       subst (λ (o : Option LanePart). IsInRange table (bump_aboard o)) (ap (λ (x : ClassView). x.lane) view_is ∙ sym (ap (λ (x : ClassView). x.lane) view)) near,
       mine ∙ ap (λ (x : ClassView). x.part.class) view_is ∙ sym class_same ∙ sym (ap (λ (x : ClassView). x.part.class) view),
       subst (λ (k : ClassPart). IsClassPart table.words k) (sym (ap (λ (x : ClassView). x.part) view)) (keeps (subst (λ (k : ClassPart). IsClassPart table.words k) (ap (λ (x : ClassView). x.part) view_is) part)),
+      subst (λ (x : ClassView). IsJoined x.part x.lane joined) (sym view) (keeps_lane (subst (λ (x : ClassView). IsJoined x.part x.lane joined) view_is lane_kept)),
     )
 
 -- a head that the class's seat finds agrees with the place and the generation of its chunk

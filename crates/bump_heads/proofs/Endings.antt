@@ -1,35 +1,28 @@
 -- How an application goes on: what a caller that has a class's seat and a lane needs for each next step, from what the steps before told.
-use Rattle.std.proofs.Common.{◌≡◌, ℕ, ◌/◌, ◌%◌, ◌^◌, ◌≢◌, ◌&&◌, ◌==◌, not, Bool, true, false, [], ◌∷◌, ◌++◌, Option, None, Some, refl, sym, ap, ap₂, ◌∙◌, subst, arith, eq-eqb, ne_eqb}
+use Rattle.std.proofs.Common.{◌≡◌, ℕ, ◌≢◌, not, Bool, true, false, [], ◌∷◌, ◌++◌, Option, None, Some, refl, sym, ap, ap₂, ◌∙◌, subst, if◌then◌else◌}
 use Rattle.std.specs.Prelude.{option_map}
 use Rattle.bump_rules.specs.declared.items.Head.{Head}
-use Rattle.bump_rules.specs.declared.places.Place.TheVariants as place
 use Rattle.bump_rules.specs.declared.places.Segment.{Segment}
 use Rattle.bump_rules.specs.declared.places.Segment.TheVariants.{Hot, Warm, Cold}
-use Rattle.bump_rules.specs.declared.history.Cause.TheVariants as cause
-use Rattle.bump_rules.specs.declared.history.Change.TheVariants as change
 use Rattle.bump_rules.specs.declared.bumps.Bump.{Bump}
+use Rattle.bump_rules.specs.declared.bumps.Outcome.{Outcome}
 use Rattle.bump_rules.specs.declared.bumps.Outcome.TheVariants.{Moved, TimeOnly, Gone}
 use Rattle.bump_rules.specs.declared.lanes.Lane.{Lane}
 use Rattle.bump_rules.specs.declared.lanes.Lane.TheVariants as lane
-use Rattle.bump_rules.specs.Entries.{is_move_for}
 use Rattle.bump_rules.specs.History.{place_of}
-use Rattle.bump_rules.specs.Lanes.{carried}
-use Rattle.bump_rules.specs.Lawful.{bit, Shows, IsUsed}
-use Rattle.bump_rules.specs.Lives.{is_same}
-use Rattle.bump_rules.proofs.Laws.{dying_where_unlinked, placed_where_linked}
-use Rattle.bump_rules.proofs.Unlinks.{unlinked_where_dying}
-use Rattle.bump_rules.proofs.Updates.{total_push}
-use Rattle.bump_word.specs.Layout.{linked_first, active_first}
-use Rattle.bump_word.specs.Words.{Fits, number_of, word_of, segment_bits}
-use Rattle.bump_word.proofs.Words.{fields, number_one}
+use Rattle.bump_rules.specs.Lanes.{carried, applied_bump, ending_at}
+use Rattle.bump_rules.specs.Lawful.{Shows, IsUsed}
+use Rattle.bump_rules.specs.Tables.{is_cold}
+use Rattle.bump_rules.proofs.Laws.{placed_where_linked}
+use Rattle.bump_word.specs.Words.{Fits, word_of}
 use Rattle.bump_steps.specs.declared.views.Kind.TheVariants as kind
 use Rattle.bump_steps.specs.declared.views.ClassPart.{ClassPart}
 use Rattle.bump_heads.specs.declared.views.ClassView.{ClassView}
 use Rattle.bump_steps.specs.declared.views.LanePart.{LanePart}
-use Rattle.bump_steps.specs.Views.{owns, standing, is_for, linked_elsewhere, active_clear, shows_time_only}
+use Rattle.bump_steps.specs.Views.{owns, standing}
 use Rattle.bump_steps.specs.Plays.{step_of}
 use Rattle.bump_steps.specs.Applications.{tried_lane, noted_class, moved_class}
-use Rattle.bump_heads.specs.Applying.{carried_by, life_aboard, IsOf, MayClear, MayPutTime, MayShift, IsShown, Ends, cleared_class, timed_class, shifted_class, Seen}
+use Rattle.bump_heads.specs.Applying.{carried_by, life_aboard, IsOf, MayClear, MayPutTime, MayShift, LookFound, Ends, cleared_class, timed_class, shifted_class, Seen}
 use Rattle.bump_steps.specs.Lives.{IsInSegment}
 
 -- a lane that carries a bump of the chunk
@@ -44,26 +37,23 @@ carrying c (Some l) is = by l.stage refl is
     by (lane.Cleared b f) at is = absurd is
     by (lane.Moved b) at is = absurd is
 
+-- whose chunk is the class's, where the chunk is
+pub own_aboard : (c : ℕ) (o : Option LanePart) (k : ClassPart) → IsOf c (carried_by o) → owns c k ≡ true → owns (life_aboard o).chunk k ≡ true
+own_aboard c o k is own = let m = carrying c o is in ap (λ (x : Option LanePart). owns (life_aboard x).chunk k) m.2 ∙ ap (λ (d : ℕ). owns d k) m.3 ∙ own
+
 -- the list of a linked item is that of its segment
 linked_in : (s : Segment) → IsInSegment (place_of s)
 linked_in Hot = tt
 linked_in Warm = tt
 linked_in Cold = tt
 
--- the word of a linked head that isn't in COLD
-elsewhere : (h : Head) → Fits h → h.linked ≡ true → h.segment ≢ Cold → linked_elsewhere (word_of h) ≡ true
-elsewhere h fits on other = let f = fields (word_of h) h (refl, fits) in
-    ap₂ (λ (a b : Bool). a && not b) (eq-eqb (word_of h / 2 ^ linked_first % 2) 1 (omega (arith, f.linked, ap bit on))) (ne_eqb (segment_bits (word_of h)) (number_of Cold) (λ e. other (number_one h.segment Cold (sym f.segment ∙ e))))
+-- a segment that isn't COLD
+not_cold : (s : Segment) → s ≢ Cold → is_cold s ≡ false
+not_cold Hot other = refl
+not_cold Warm other = refl
+not_cold Cold other = absurd (other refl)
 
--- the word of a head without ACTIVE
-clear_word : (h : Head) → Fits h → h.active ≡ false → active_clear (word_of h) ≡ true
-clear_word h fits off = eq-eqb (word_of h / 2 ^ active_first % 2) 0 (omega (arith, (fields (word_of h) h (refl, fits)).active, ap bit off))
-
--- a step that was made for the bump, on its chunk
-made_for : (w n c d : ℕ) → c ≡ d → (is_for w n (Some (w, n)) && (c == d)) ≡ true
-made_for w n c d e = ap₂ (λ (a b : Bool). a && b) (ap₂ (λ (a b : Bool). a && b) (eq-eqb w w refl) (eq-eqb n n refl)) (eq-eqb c d e)
-
-module _ (v v₁ : ClassView) (o : Option LanePart) (l : LanePart) (b : Bump) (c : ℕ) (h : Head) (carries : o ≡ Some (record l { stage = lane.Carrying b })) (of : b.life.chunk ≡ c) (after : v₁ ≡ record v { lane = option_map (tried_lane (life_aboard o).chunk (word_of h)) o }) (seen : Seen v.part (life_aboard o) h) (own : owns c v.part ≡ true) where
+module _ (v v₁ : ClassView) (o : Option LanePart) (l : LanePart) (b : Bump) (c : ℕ) (h : Head) (carries : o ≡ Some (record l { stage = lane.Carrying b })) (of : b.life.chunk ≡ c) (after : v₁ ≡ record v { lane = option_map (tried_lane (life_aboard o).chunk (word_of h)) o }) (seen : Seen v.part (life_aboard o) h) (fits : Fits h) (own : owns c v.part ≡ true) where
   -- the lane after the look at the head
   abbrev pub looked : LanePart
   looked = tried_lane c (word_of h) (record l { stage = lane.Carrying b })
@@ -78,21 +68,13 @@ module _ (v v₁ : ClassView) (o : Option LanePart) (l : LanePart) (b : Bump) (c
   stood = subst (λ (d : ℕ). Shows h (standing v.part d).0 × ((standing v.part d).1 ≡ b.life.generation) × IsUsed (standing v.part d).0) of
       ((subst (λ (x : Option LanePart). Seen v.part (life_aboard x) h) carries seen).stands (ap (λ (d : ℕ). owns d v.part) of ∙ own))
 
+  -- what the lane's look found
+  pub look_is : LookFound looked b h
+  look_is = record { before = l.steps; steps = ap (λ (d : ℕ). l.steps ++ step_of kind.Try d (word_of h) (Some (l.worker, b.number)) ∷ []) (sym of); fits = fits }
+
   -- an item that isn't linked is gone
-  pub ends_gone : h.linked ≡ false → (x : LanePart) × (y : Bump) × Ends v₁ c Gone x y
-  ends_gone off = (
-    looked,
-    b,
-    record {
-      joined = ap (λ (x : ClassView). x.lane) looked_is;
-      aboard = refl;
-      chunk = of;
-      own = ap (λ (x : ClassView). owns c x.part) looked_is ∙ own;
-      past = refl;
-      entry = subst (λ (k : ClassPart). IsShown k looked b Gone) (sym (ap (λ (x : ClassView). x.part) looked_is))
-          (unlinked_where_dying b.life.chunk b.life.generation (place.Unused, v.part.fresh) v.part.history (λ e. absurd (cc e)) (ap (λ (d : ℕ). (standing v.part d).0) of ∙ dying_where_unlinked h (standing v.part c).0 stood.0 stood.2 off) (ap (λ (d : ℕ). (standing v.part d).1) of ∙ stood.1));
-    },
-  )
+  pub ends_gone : h.linked ≡ false → (x : LanePart) × (y : Bump) × (g : Head) × (z : Outcome) × Ends v₁ x y g z
+  ends_gone off = (looked, b, h, Gone, record { joined = ap (λ (x : ClassView). x.lane) looked_is; looked = look_is; ending = ap (λ (on : Bool). option_map (applied_bump b) (if not on then Some Gone else (if is_cold h.segment then None else Some TimeOnly))) off })
 
   -- the time of one that is linked may be stored
   pub may_time : h.linked ≡ true → (owns c v₁.part ≡ true) × MayPutTime c (standing v₁.part c).0 v₁.lane
@@ -104,21 +86,16 @@ module _ (v v₁ : ClassView) (o : Option LanePart) (l : LanePart) (b : Bump) (c
     timed_is = timed ∙ ap (timed_class c now) looked_is
 
     -- one that isn't in COLD gets its time only
-    pub ends_elsewhere : Fits h → h.linked ≡ true → h.segment ≢ Cold → (x : LanePart) × (y : Bump) × Ends w₁ c TimeOnly x y
-    ends_elsewhere fits on other = (
+    pub ends_elsewhere : h.linked ≡ true → h.segment ≢ Cold → (x : LanePart) × (y : Bump) × (g : Head) × (z : Outcome) × Ends w₁ x y g z
+    ends_elsewhere on other = (
       looked,
       b,
+      h,
+      TimeOnly,
       record {
         joined = ap (λ (x : ClassView). x.lane) timed_is;
-        aboard = refl;
-        chunk = of;
-        own = ap (λ (x : ClassView). owns c x.part) timed_is ∙ own;
-        past = refl;
-        entry = omega (
-          arith,
-          total_push (λ x. bit (shows_time_only l.worker b.number b.life.chunk x)) l.steps (step_of kind.Try c (word_of h) (Some (l.worker, b.number))),
-          ap bit (ap₂ (λ (p q : Bool). p && q) (elsewhere h fits on other) (made_for l.worker b.number c b.life.chunk (sym of))),
-        );
+        looked = look_is;
+        ending = ap₂ (λ (there cold : Bool). option_map (applied_bump b) (if not there then Some Gone else (if cold then None else Some TimeOnly))) on (not_cold h.segment other);
       },
     )
 
@@ -136,21 +113,16 @@ module _ (v v₁ : ClassView) (o : Option LanePart) (l : LanePart) (b : Bump) (c
       cleared_is = cleared ∙ ap (cleared_class c found) timed_is
 
       -- one without ACTIVE gets its time only
-      pub ends_clear : Fits found → found.active ≡ false → (x : LanePart) × (y : Bump) × Ends v₂ c TimeOnly x y
-      ends_clear fits off = (
+      pub ends_clear : found.active ≡ false → (x : LanePart) × (y : Bump) × (g : Head) × (z : Outcome) × Ends v₂ x y g z
+      ends_clear off = (
         record looked { stage = lane.Cleared b found.active },
         b,
+        h,
+        TimeOnly,
         record {
           joined = ap (λ (x : ClassView). x.lane) cleared_is;
-          aboard = refl;
-          chunk = of;
-          own = ap (λ (x : ClassView). owns c x.part) cleared_is ∙ own;
-          past = refl;
-          entry = subst (λ (k : ClassPart). IsShown k (record looked { stage = lane.Cleared b found.active }) b TimeOnly) (sym (ap (λ (x : ClassView). x.part) cleared_is)) (omega (
-            arith,
-            total_push (λ x. bit (shows_time_only l.worker b.number b.life.chunk x)) (v.part.steps ++ step_of kind.PutTime c now (Some (l.worker, b.number)) ∷ []) (step_of kind.ClearActive c (word_of found) (Some (l.worker, b.number))),
-            ap bit (ap₂ (λ (p q : Bool). p && q) (clear_word found fits off) (made_for l.worker b.number c b.life.chunk (sym of))),
-          ));
+          looked = record { before = look_is.before; steps = look_is.steps; fits = fits };
+          ending = ap (λ (f : Bool). ending_at (λ d. h) (lane.Cleared b f)) off;
         },
       )
 
@@ -164,20 +136,15 @@ module _ (v v₁ : ClassView) (o : Option LanePart) (l : LanePart) (b : Bump) (c
       moved_is last v₃ moved = moved ∙ ap (shifted_class c Cold Warm last) cleared_is
 
       -- and its bump ends as moved
-      pub ends_moved : (last : Head) (v₃ : ClassView) → v₃ ≡ shifted_class c Cold Warm last v₂ → found.active ≡ true → (x : LanePart) × (y : Bump) × Ends v₃ c Moved x y
+      pub ends_moved : (last : Head) (v₃ : ClassView) → v₃ ≡ shifted_class c Cold Warm last v₂ → found.active ≡ true → (x : LanePart) × (y : Bump) × (g : Head) × (z : Outcome) × Ends v₃ x y g z
       ends_moved last v₃ moved some = (
         record looked { stage = lane.Moved b },
         b,
+        h,
+        Moved,
         record {
           joined = ap (λ (x : ClassView). x.lane) (moved_is last v₃ moved);
-          aboard = refl;
-          chunk = of;
-          own = ap (λ (x : ClassView). owns c x.part) moved_is ∙ own;
-          past = refl;
-          entry = subst (λ (k : ClassPart). IsShown k (record looked { stage = lane.Moved b }) b Moved) (sym (ap (λ (x : ClassView). x.part) (moved_is last v₃ moved))) (omega (
-            arith,
-            total_push (λ x. bit (is_move_for (is_same b.life) l.worker b.number x)) v.part.history (change.Moved b.life Cold Warm (cause.Bump l.worker b.number)),
-            ap bit (ap₂ (λ (p q : Bool). p && q) (ap₂ (λ (p q : Bool). p && q) (eq-eqb b.life.chunk b.life.chunk refl) (eq-eqb b.life.generation b.life.generation refl)) (ap₂ (λ (p q : Bool). p && q) (eq-eqb l.worker l.worker refl) (eq-eqb b.number b.number refl))),
-          ));
+          looked = record { before = look_is.before; steps = look_is.steps; fits = fits };
+          ending = refl;
         },
       )

@@ -1,3 +1,4 @@
+pub mod Joining
 pub mod Seeing
 pub mod ClassParts
 pub mod ClassLives

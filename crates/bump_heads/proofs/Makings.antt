@@ -20,10 +20,11 @@ use Rattle.bump_rules.specs.Configs.{chunks_of}
 use Rattle.bump_readers.specs.Seats.{head_or}
 use Rattle.bump_heads.specs.Seats.{class_me, class_in, bump_aboard, IsInRange, IsClassPart, no_lane}
 use Rattle.bump_steps.specs.Riders.{lane_me}
+use Rattle.bump_heads.specs.Applying.{IsJoined}
 use Rattle.bump_heads.specs.Making.{class_seen, lane_seen, AreNewClasses, AreEmpty}
 
 abbrev pub Turn : TableId → Me Empty View → View → ℕ → ℕ → List ClassView → List ClassView → Me Empty View → Me Empty View → Type 0
-Turn table m v i count made all m' p = (p ≡ class_me (class_in p.0)) × IsInRange table (bump_aboard (class_in p.0).lane) × (i ≡ (class_in p.0).part.class) × IsClassPart table.words (class_in p.0).part × (m' ≡ (record v { classes = m'.0.classes }, [])) × (i + 1 + length m'.0.classes ≡ count) × AreNewClasses table.words (i + 1) m'.0.classes × ((made ++ class_in p.0 ∷ []) ++ map class_seen m'.0.classes ≡ all)
+Turn table m v i count made all m' p = (p ≡ class_me (class_in p.0)) × IsInRange table (bump_aboard (class_in p.0).lane) × (i ≡ (class_in p.0).part.class) × IsClassPart table.words (class_in p.0).part × IsJoined (class_in p.0).part (class_in p.0).lane None × (m' ≡ (record v { classes = m'.0.classes }, [])) × (i + 1 + length m'.0.classes ≡ count) × AreNewClasses table.words (i + 1) m'.0.classes × ((made ++ class_in p.0 ∷ []) ++ map class_seen m'.0.classes ≡ all)
 
 -- one turn of the loop over the classes
 pub class_turn : (table : TableId) (m : Me Empty View) (v : View) (i count : ℕ) (made all : List ClassView) (m' p : Me Empty View) → m ≡ (record v { classes = m.0.classes }, []) → i + length m.0.classes ≡ count → i < count → AreNewClasses table.words i m.0.classes → made ++ map class_seen m.0.classes ≡ all → m' ≡ (without_class m.0, m.1) → p ≡ (class_only m.0, [])
@@ -34,7 +35,7 @@ class_turn table m v i count made all m' p rest long more numbers so_far now par
     by : (ks : List ClassPart) → m ≡ (record v { classes = ks }, []) → i + length ks ≡ count → AreNewClasses table.words i ks → made ++ map class_seen ks ≡ all → Turn table m v i count made all (record m.0 { classes = behind m.0.classes }, m.1) (record blank { classes = first_of m.0.classes }, [])
     by [] rest long numbers so_far = absurd (omega (arith, more))
     by (k ∷ ks) rest long numbers so_far = subst (λ (x : Me Empty View). Turn table m v i count made all (record x.0 { classes = behind x.0.classes }, x.1) (record blank { classes = first_of x.0.classes }, [])) (sym rest)
-        (refl, tt, sym numbers.0, numbers.1, refl, omega (arith, long), numbers.2, append_assoc made (class_seen k ∷ []) (map class_seen ks) ∙ so_far)
+        (refl, tt, sym numbers.0, numbers.1, tt, refl, omega (arith, long), numbers.2, append_assoc made (class_seen k ∷ []) (map class_seen ks) ∙ so_far)
 
 -- a lane with nothing aboard is at rest
 rests_empty : (s : Lane) → ◌≡◌ {A = Option Bump} None (aboard_of s) → is_half_made s ≡ false

@@ -28,27 +28,29 @@ use Rattle.bump_steps.specs.declared.views.Empty.{Empty}
 use Rattle.bump_steps.specs.declared.views.Kind.TheVariants as kind
 use Rattle.bump_steps.specs.declared.views.ClassPart.{ClassPart}
 use Rattle.bump_steps.specs.declared.views.LanePart.{LanePart}
+use Rattle.bump_heads.specs.declared.joined.Joined.{Joined}
 use Rattle.bump_heads.specs.declared.views.ClassView.{ClassView}
 use Rattle.bump_steps.specs.declared.views.View.{View}
-use Rattle.bump_steps.specs.Views.{aboard_of, refers, owns, standing, shows_time_only, of_owner, evidence}
+use Rattle.bump_steps.specs.Views.{aboard_of, active_clear, refers, owns, standing, shows_time_only, of_owner, evidence}
 use Rattle.bump_steps.specs.Plays.{Sat, Told, Found, on_first, step_of}
 use Rattle.bump_steps.specs.Cuts.{joined, lanes_only, without_lanes}
-use Rattle.bump_steps.specs.Applications.{applying, bump_for, tried_lane, tried_view, moved_stage, moved_lane, moved_for, moved_class, moved_view, life_in, alighted_lane, alighted_view, MayTry, MayMove, MayAlight}
-use Rattle.bump_heads.specs.Applying.{carried_by, life_aboard, life_of, IsOf, MayClear, MayShift, IsShown, Ends, shifted_class, Seen, NamesNoBumpTwice, TellsMoves}
+use Rattle.bump_steps.specs.Applications.{applying, bump_for, tried_lane, tried_view, cleared_lane, cleared_view, timed_view, noted_class, moved_stage, moved_lane, moved_for, moved_class, moved_view, life_in, alighted_lane, alighted_view, MayTry, MayMove, MayAlight}
+use Rattle.bump_heads.specs.Applying.{life_aboard, life_of, IsOf, MayClear, MayShift, IsShown, IsJoined, carried_by, cleared_joined, moved_joined, shifted_class, cleared_class, timed_class, Seen, NamesNoBumpTwice, TellsMoves}
 use Rattle.bump_readers.specs.Seats.{head_or, listed}
 use Rattle.bump_heads.specs.Seats.{class_me, class_in, lane_in, IsLane, IsInRange, IsClassPart, bump_aboard, no_class, no_lane}
-use Rattle.bump_steps.proofs.Applications.{tried_going, alighted_tells}
-use Rattle.bump_heads.proofs.ClassParts.{entered_part}
+use Rattle.bump_steps.proofs.Applications.{tried_going, tried_refers, cleared_refers, alighted_tells}
+use Rattle.bump_heads.proofs.ClassParts.{entered_part, noted_part}
 use Rattle.bump_heads.proofs.ClassSeats.{class_in_me, found_is}
+use Rattle.bump_heads.proofs.Joining.{active_found, noted_joined, joined_tried, joined_cleared, joined_moved, tried_joined, Ending}
 use Rattle.bump_steps.proofs.Told.{stands_alone}
 use Rattle.bump_steps.proofs.StepLemmas.{one_life}
 
 -- ---- a class's seat as it is seen
 
 -- what a seat's invariant says of the view that it is made of
-pub seen_whole : (words : ℕ) (table : TableId) (number : ℕ) (m : Sat) (v : ClassView) → m ≡ class_me v → IsInRange table (bump_aboard v.lane) → number ≡ v.part.class → IsClassPart words v.part
-    → (m ≡ class_me (class_in m.0)) × IsInRange table (bump_aboard (class_in m.0).lane) × (number ≡ (class_in m.0).part.class) × IsClassPart words (class_in m.0).part
-seen_whole words table number m v is near class part = subst (λ (x : ClassView). (m ≡ class_me x) × IsInRange table (bump_aboard x.lane) × (number ≡ x.part.class) × IsClassPart words x.part) (sym (ap (λ (x : Sat). class_in x.0) is ∙ class_in_me v)) (is, near, class, part)
+pub seen_whole : (words : ℕ) (table : TableId) (number : ℕ) (m : Sat) (v : ClassView) (joined : Option Joined) → m ≡ class_me v → IsInRange table (bump_aboard v.lane) → number ≡ v.part.class → IsClassPart words v.part → IsJoined v.part v.lane joined
+    → (m ≡ class_me (class_in m.0)) × IsInRange table (bump_aboard (class_in m.0).lane) × (number ≡ (class_in m.0).part.class) × IsClassPart words (class_in m.0).part × IsJoined (class_in m.0).part (class_in m.0).lane joined
+seen_whole words table number m v joined is near class part lane = subst (λ (x : ClassView). (m ≡ class_me x) × IsInRange table (bump_aboard x.lane) × (number ≡ x.part.class) × IsClassPart words x.part × IsJoined x.part x.lane joined) (sym (ap (λ (x : Sat). class_in x.0) is ∙ class_in_me v)) (is, near, class, part, lane)
 
 -- and the view is the one that is seen
 pub seen_as : (m : Sat) (v : ClassView) → m ≡ class_me v → class_in m.0 ≡ v
@@ -210,14 +212,40 @@ pub moved_near : (table : TableId) (o : Option LanePart) → IsInRange table (bu
 moved_near table o near = near_as table moved_lane (λ l. moved_refers l.stage) o near
 
 -- what the class's seat is after a move
-module _ (table : TableId) (number c n : ℕ) (m p : Sat) (v w : ClassView) (is : m ≡ class_me v) (same : v ≡ w) (near : IsInRange table (bump_aboard v.lane)) (class : number ≡ v.part.class) (part : IsClassPart table.words v.part) where
+module _ (table : TableId) (number c n : ℕ) (m p : Sat) (v w : ClassView) (is : m ≡ class_me v) (same : v ≡ w) (near : IsInRange table (bump_aboard v.lane)) (class : number ≡ v.part.class) (part : IsClassPart table.words v.part) (joined : Option Joined) (lane : IsJoined v.part v.lane joined) where
   pub shifted_whole : (from to : Segment) (h : Head) → Spells n h → owns c w.part ≡ true → (standing w.part c).0 ≡ place_of from → MayShift c from to w.lane → p ≡ (moved_view from to c n m.0, m.1) → Found n (Told c m.0)
-      → (p ≡ class_me (class_in p.0)) × IsInRange table (bump_aboard (class_in p.0).lane) × (number ≡ (class_in p.0).part.class) × IsClassPart table.words (class_in p.0).part
+      → (p ≡ class_me (class_in p.0)) × IsInRange table (bump_aboard (class_in p.0).lane) × (number ≡ (class_in p.0).part.class) × IsClassPart table.words (class_in p.0).part × IsJoined (class_in p.0).part (class_in p.0).lane (option_map moved_joined joined)
   shifted_whole from to h spells own stands may moved found = let told = told_as m p v w is same n c h spells found in
-      seen_whole table.words table number p (shifted_class c from to h w) (shifted_me m p v w is same n c from to h spells moved)
+      seen_whole table.words table number p (shifted_class c from to h w) (option_map moved_joined joined) (shifted_me m p v w is same n c from to h spells moved)
       (moved_near table w.lane (subst (λ (x : ClassView). IsInRange table (bump_aboard x.lane)) same near))
       (class ∙ ap (λ (x : ClassView). x.part.class) same)
       (shifted_part table.words c (word_of h) from to h w (subst (λ (x : ClassView). IsClassPart table.words x.part) same part) own stands may (own_told w c h own told).1 (life_told w c h (shift_chunk c from to w.lane may) told))
+      (joined_moved c (word_of h) from to w.part w.lane joined may (subst (λ (x : ClassView). IsJoined x.part x.lane joined) same lane))
+
+  -- after ACTIVE was cleared
+  pub cleared_whole : (at : Place) (h : Head) → Spells n h → MayClear c at w.lane → p ≡ (cleared_view c n m.0, m.1)
+      → (p ≡ class_me (class_in p.0)) × IsInRange table (bump_aboard (class_in p.0).lane) × (number ≡ (class_in p.0).part.class) × IsClassPart table.words (class_in p.0).part × IsJoined (class_in p.0).part (class_in p.0).lane (option_map (cleared_joined h.active) joined)
+  cleared_whole at h spells may told =
+      let whole : m ≡ class_me w = is ∙ ap class_me same in
+      let me : p ≡ class_me (cleared_class c h w) = told
+      ∙ ap (λ (x : Sat). (cleared_view c n x.0, x.1)) whole
+      ∙ lane_changed (noted_class kind.ClearActive c n (listed w.lane) w.part) w.lane (cleared_lane (not (active_clear n)))
+      ∙ ap₂ (λ (z : ℕ) (f : Bool). class_me (record { part = noted_class kind.ClearActive c z (listed w.lane) w.part; lane = option_map (cleared_lane f) w.lane })) spells.0 (active_found n h spells) in
+      seen_whole table.words table number p (cleared_class c h w) (option_map (cleared_joined h.active) joined) me
+      (near_as table (cleared_lane h.active) (λ l. cleared_refers h.active l.stage) w.lane (subst (λ (x : ClassView). IsInRange table (bump_aboard x.lane)) same near))
+      (class ∙ ap (λ (x : ClassView). x.part.class) same)
+      (noted_part table.words w.part _ (subst (λ (x : ClassView). IsClassPart table.words x.part) same part))
+      (joined_cleared c at h w.part w.lane joined spells.1 may (subst (λ (x : ClassView). IsJoined x.part x.lane joined) same lane))
+
+  -- after its time was stored
+  pub timed_whole : (now : ℕ) → p ≡ (timed_view c now m.0, m.1)
+      → (p ≡ class_me (class_in p.0)) × IsInRange table (bump_aboard (class_in p.0).lane) × (number ≡ (class_in p.0).part.class) × IsClassPart table.words (class_in p.0).part × IsJoined (class_in p.0).part (class_in p.0).lane joined
+  timed_whole now told =
+      seen_whole table.words table number p (timed_class c now w) joined (told ∙ ap (λ (x : Sat). (timed_view c now x.0, x.1)) (is ∙ ap class_me same))
+      (subst (λ (x : ClassView). IsInRange table (bump_aboard x.lane)) same near)
+      (class ∙ ap (λ (x : ClassView). x.part.class) same)
+      (noted_part table.words w.part _ (subst (λ (x : ClassView). IsClassPart table.words x.part) same part))
+      (noted_joined w.part _ w.lane joined (subst (λ (x : ClassView). IsJoined x.part x.lane joined) same lane))
 
 -- ---- a lane joins
 
@@ -259,6 +287,16 @@ module _ (m : Sat) (v w : ClassView) (o : Option (Seat Empty View)) (s : Seat Em
         ∙ lane_changed w.part lane (tried_lane b.life.chunk n)
         ∙ ap₂ (λ (d z : ℕ). class_me (record w { lane = option_map (tried_lane d z) lane })) (sym (ap (λ (l : ItemId). l.chunk) life_is)) spells.0
 
+    -- it keeps what a class's seat keeps
+    pub tried_whole : (number : ℕ) → number ≡ v.part.class → IsClassPart table.words v.part → IsInRange table (bump_aboard (lane_in o)) → IsSome (carried_by lane) → owns (life_aboard lane).chunk w.part ≡ true → Seen w.part (life_aboard lane) h
+        → (p ≡ class_me (class_in p.0)) × IsInRange table (bump_aboard (class_in p.0).lane) × (number ≡ (class_in p.0).part.class) × IsClassPart table.words (class_in p.0).part × IsJoined (class_in p.0).part (class_in p.0).lane (Some (joined_tried b h))
+    tried_whole number class part near carries own seen =
+        seen_whole table.words table number p (record w { lane = option_map (tried_lane (life_aboard lane).chunk (word_of h)) lane }) (Some (joined_tried b h)) tried_me
+        (near_as table (tried_lane (life_aboard lane).chunk (word_of h)) (λ l. tried_refers l.stage) lane (subst (λ (x : Option LanePart). IsInRange table (bump_aboard x)) lane_is near))
+        (class ∙ ap (λ (x : ClassView). x.part.class) same)
+        (subst (λ (x : ClassView). IsClassPart table.words x.part) same part)
+        (tried_joined h w.part lane b carries (sym (ap bump_aboard lane_is) ∙ aboard) spells.1 seen own)
+
     -- what was told there
     told_here : Found n (Told b.life.chunk q.0) → Told b.life.chunk (class_me (record w { lane = lane })).0 h
     told_here found = subst (λ (x : Sat). Told b.life.chunk x.0 h) (joins ∙ joined_me) (found_is n (Told b.life.chunk q.0) h spells found)
@@ -283,7 +321,7 @@ shown k l b outcome.Moved own is = let mine : of_owner b.life.chunk (λ j. how_m
 shown k l b outcome.Gone own is = let mine : of_owner b.life.chunk (λ j. how_many (is_unlink_of b.life) j.history) k ≡ how_many (is_unlink_of b.life) k.history = ap (λ (o : Bool). cond o (how_many (is_unlink_of b.life) k.history) 0) own in omega (arith, is, mine)
 shown k l b outcome.TimeOnly own is = let mine : of_owner b.life.chunk (λ j. how_many (shows_time_only l.worker b.number b.life.chunk) j.steps) k ≡ how_many (shows_time_only l.worker b.number b.life.chunk) k.steps = ap (λ (o : Bool). cond o (how_many (shows_time_only l.worker b.number b.life.chunk) k.steps) 0) own in omega (arith, is, mine)
 
-module _ (m : Sat) (v w : ClassView) (is : m ≡ class_me v) (same : v ≡ w) (c : ℕ) (out : Outcome) (l : LanePart) (b : Bump) (ends : Ends w c out l b) where
+module _ (m : Sat) (v w : ClassView) (is : m ≡ class_me v) (same : v ≡ w) (c : ℕ) (out : Outcome) (l : LanePart) (b : Bump) (ends : Ending w c out l b) where
   -- the seat is that of the class and of this lane
   view_is : m ≡ (applying w.part l, [])
   view_is = is ∙ ap class_me same ∙ ap (λ (o : Option LanePart). class_me (record w { lane = o })) ends.joined

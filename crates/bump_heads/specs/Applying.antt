@@ -1,6 +1,6 @@
 -- The steps under a class's lock, as the contracts of the class's seat tell them: without a lane they are made for a link or a pull, and
 -- with a lane joined for the bump aboard it.
-use Rattle.std.specs.Prelude.{◌≡◌, ℕ, ◌+◌, ◌<◌, ◌≤◌, Bool, true, Option, Some, None, option_map}
+use Rattle.std.specs.Prelude.{◌≡◌, ℕ, ◌+◌, ◌<◌, ◌≤◌, Bool, true, List, [], ◌∷◌, ◌++◌, Option, Some, None, option_map}
 use Rattle.bump_rules.specs.declared.items.Head.{Head}
 use Rattle.bump_rules.specs.declared.items.ItemId.{ItemId}
 use Rattle.bump_rules.specs.declared.places.Place.{Place}
@@ -11,21 +11,24 @@ use Rattle.bump_rules.specs.declared.bumps.Bump.{Bump}
 use Rattle.bump_rules.specs.declared.bumps.Outcome.{Outcome}
 use Rattle.bump_rules.specs.declared.lanes.Lane.{Lane}
 use Rattle.bump_rules.specs.declared.lanes.Lane.TheVariants as lane
-use Rattle.bump_rules.specs.Entries.{is_moved, is_move_for, moves_told, IsTrueEntry}
-use Rattle.bump_rules.specs.Lanes.{carried, tried, applied_now, cleared_active, applied_bump}
+use Rattle.bump_rules.specs.Entries.{is_move_for, moves_told, IsTrueEntry}
+use Rattle.bump_rules.specs.Lanes.{carried, tried, applied_now, cleared_active, applied_bump, ending_at}
 use Rattle.bump_rules.specs.Lawful.{Shows, IsUsed}
 use Rattle.bump_rules.specs.Lives.{life}
 use Rattle.bump_rules.specs.Tables.{may_move}
 use Rattle.bump_rules.specs.Totals.{how_many}
-use Rattle.bump_word.specs.Words.{word_of}
+use Rattle.bump_word.specs.Words.{word_of, Fits}
 use Rattle.bump_steps.specs.declared.views.Kind.{Kind}
 use Rattle.bump_steps.specs.declared.views.Kind.TheVariants as kind
 use Rattle.bump_steps.specs.declared.views.ClassPart.{ClassPart}
+use Rattle.bump_steps.specs.declared.views.OwnStep.{OwnStep}
+use Rattle.bump_heads.specs.declared.joined.Joined.{Joined}
 use Rattle.bump_heads.specs.declared.views.ClassView.{ClassView}
 use Rattle.bump_steps.specs.declared.views.LanePart.{LanePart}
 use Rattle.bump_steps.specs.Views.{owns, standing, shows_time_only}
 use Rattle.bump_steps.specs.Lives.{IsInSegment}
-use Rattle.bump_steps.specs.Applications.{is_past_move, cleared_lane, moved_lane, noted_class, moved_class}
+use Rattle.bump_steps.specs.Plays.{step_of}
+use Rattle.bump_steps.specs.Applications.{cleared_stage, moved_stage, cleared_lane, moved_lane, noted_class, moved_class}
 use Rattle.bump_readers.specs.Seats.{listed}
 use Rattle.bump_heads.specs.Seats.{bump_aboard}
 
@@ -46,10 +49,6 @@ life_aboard o = life_of (bump_aboard o)
 abbrev pub stage_of : Option LanePart → Lane
 stage_of None = lane.Empty
 stage_of (Some l) = l.stage
-
-abbrev pub worker_of : Option LanePart → ℕ
-worker_of None = 0
-worker_of (Some l) = l.worker
 
 -- there is such a bump, and it is of this chunk
 abbrev pub IsOf : ℕ → Option Bump → Type 0
@@ -82,15 +81,46 @@ ShowsNothing k l b = 0 < how_many (shows_time_only l.worker b.number b.life.chun
 abbrev pub IsShown : ClassPart → LanePart → Bump → Outcome → Type 0
 IsShown k l b o = IsTrueEntry k.history l.worker (ShowsNothing k l b) (applied_bump b o)
 
--- The bump aboard, which is of this chunk of the class, may end with the outcome.
-pub record Ends (v : ClassView) (c : ℕ) (o : Outcome) (l : LanePart) (b : Bump) : Type 0 where
+-- ---- how a bump ends
+
+-- the lane's last step was made for this bump, on its chunk: the look at the head of its item, which found this one
+pub record LookFound (l : LanePart) (b : Bump) (h : Head) : Type 0 where
+  pub before : List OwnStep
+  pub steps : l.steps ≡ before ++ step_of kind.Try b.life.chunk (word_of h) (Some (l.worker, b.number)) ∷ []
+  pub fits : Fits h
+
+-- The bump aboard the joined lane may end, and with this outcome, by how far the lane is and the head that its look found: it isn't linked;
+-- or it is linked, but not in COLD; or ACTIVE was cleared and not found; or the item was moved.
+pub record Ends (v : ClassView) (l : LanePart) (b : Bump) (h : Head) (o : Outcome) : Type 0 where
   pub joined : v.lane ≡ Some l
-  pub aboard : applied_now l.stage ≡ Some b
-  pub chunk : b.life.chunk ≡ c
-  pub own : owns c v.part ≡ true
-  -- its item was moved exactly where the outcome is Moved
-  pub past : is_past_move l.stage ≡ is_moved o
-  pub entry : IsShown v.part l b o
+  pub looked : LookFound l b h
+  pub ending : ending_at (λ c. h) l.stage ≡ Some (applied_bump b o)
+
+-- how far the lane is once ACTIVE was cleared, and once its item was moved
+abbrev pub cleared_joined : Bool → Joined → Joined
+cleared_joined active j = record j { stage = cleared_stage active j.stage }
+
+abbrev pub moved_joined : Joined → Joined
+moved_joined j = record j { stage = moved_stage j.stage }
+
+-- What a class's seat keeps of a lane that is joined to it.
+pub record Joins (k : ClassPart) (l : LanePart) (j : Joined) : Type 0 where
+  -- it knows how far the lane is with its bump, and what the lane's look found
+  pub stage : j.stage ≡ l.stage
+  pub bump : Bump
+  pub aboard : applied_now l.stage ≡ Some bump
+  -- whose chunk is the class's
+  pub own : owns bump.life.chunk k ≡ true
+  pub looked : LookFound l bump j.found
+  -- whatever the bump may end with is true
+  pub entry : (b : Bump) (o : Outcome) → ending_at (λ c. j.found) l.stage ≡ Some (applied_bump b o) → IsShown k l b o
+
+-- of the lane, if one is joined
+abbrev pub IsJoined : ClassPart → Option LanePart → Option Joined → Type 0
+IsJoined k None None = Unit {0}
+IsJoined k None (Some j) = ⊥
+IsJoined k (Some l) None = ⊥
+IsJoined k (Some l) (Some j) = Joins k l j
 
 -- ---- what a step leaves
 

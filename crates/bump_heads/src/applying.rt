@@ -2,6 +2,8 @@
 //! lane's seat joins the class's, which makes the steps, and is split off again.
 ghost use Rattle.std.specs.Prelude.{◌≡◌, None, Some, IsSome, IfSome, option_map, true};
 ghost use Rattle.bump_rules.specs.declared.bumps.Bump.{Bump as TheBump};
+ghost use Rattle.bump_rules.specs.declared.bumps.Outcome.{Outcome as TheOutcome};
+ghost use Rattle.bump_rules.specs.declared.items.Head.{Head as TheHead};
 ghost use Rattle.bump_rules.specs.History.{place_of};
 ghost use Rattle.bump_rules.specs.Lawful.{Shows};
 ghost use Rattle.bump_word.specs.Words.{word_of, Fits};
@@ -9,17 +11,42 @@ ghost use Rattle.bump_steps.specs.declared.views.LanePart.{LanePart as TheLanePa
 ghost use Rattle.bump_steps.specs.Views.{aboard_of, owns, standing};
 ghost use Rattle.bump_steps.specs.Applications.{alighted_lane, tried_lane};
 ghost use Rattle.bump_heads.specs.Seats.{bump_aboard};
-ghost use Rattle.bump_heads.specs.Applying.{carried_by, life_aboard, MayClear, MayPutTime, MayShift, IsShown, Ends, cleared_class, timed_class, shifted_class, Seen, NamesNoBumpTwice, TellsMoves};
+ghost use Rattle.bump_heads.specs.Applying.{carried_by, cleared_joined, life_aboard, moved_joined, MayClear, MayPutTime, MayShift, IsShown, Ends, cleared_class, timed_class, shifted_class, Seen, NamesNoBumpTwice, TellsMoves};
 
+use crate::joined::Joined;
 use crate::seats::{ClassSeat, LaneSeat};
 use bump_readers::Name;
-use bump_rules::{Head, Outcome, Segment};
+use bump_rules::{Head, Lane, Outcome, Segment};
 use bump_steps::head_of;
 
+// ACTIVE of the item of the lane's bump was cleared: whether it was found.
+fn with_clearing(joined: Option<Joined>, active: bool) -> Option<Joined>
+    ensures { result ≡ option_map (cleared_joined active) joined }
+{
+    let joined = joined?;
+    let stage = match joined.stage {
+        Lane::Tried(bump) => Lane::Cleared(bump, active),
+        stage => stage,
+    };
+    Some(Joined { stage, ..joined })
+}
+
+// The item of the lane's bump was moved.
+fn with_move(joined: Option<Joined>) -> Option<Joined>
+    ensures { result ≡ option_map moved_joined joined }
+{
+    let joined = joined?;
+    let stage = match joined.stage {
+        Lane::Cleared(bump, _) => Lane::Moved(bump),
+        stage => stage,
+    };
+    Some(Joined { stage, ..joined })
+}
+
 impl<N: Name> ClassSeat<N> {
-    /// Joins the lane's seat, and looks at the head of the item of the bump that it carries: the first step of memcached's
-    /// `lru_bump_async` drain for a bump. No other lane may be joined, and the bump's chunk is the class's. The lane is hollow from then
-    /// on, until `alight`. Answers the head that was found.
+    /// Joins the lane's seat, and looks at the head of the item of the bump that it carries, whose chunk is the class's: the first step
+    /// of memcached's `lru_bump_async` drain for a bump. No other lane may be joined. The lane is hollow from then on, until `alight`.
+    /// Answers the head that was found.
     pub fn try_front(&mut self, lane: &mut LaneSeat<N>) -> Head
         requires alone { self.old.lane ≡ None }
         requires carries { IsSome (carried_by lane.old) }
@@ -45,7 +72,12 @@ impl<N: Name> ClassSeat<N> {
             .heads
             .words()
             .try_front(&mut self.seat, bump.life.chunk);
-        head_of(word)
+        let found = head_of(word);
+        self.joined = Some(Joined {
+            stage: Lane::Tried(bump),
+            found,
+        });
+        found
     }
 
     /// Clears ACTIVE of the chunk, which is the class's, by one and (memcached's `ITEM_ACTIVE` in `lru_pull_tail`). Without a lane it is
@@ -61,7 +93,9 @@ impl<N: Name> ClassSeat<N> {
         ensures fits { Fits result }
     {
         let word = self.heads.words().clear_for(&mut self.seat, chunk);
-        head_of(word)
+        let found = head_of(word);
+        self.joined = with_clearing(self.joined, found.active);
+        found
     }
 
     /// Stores the time of the chunk, which is the class's (memcached's `it->time` under the lock). Without a lane it is a link's
@@ -92,30 +126,44 @@ impl<N: Name> ClassSeat<N> {
             .heads
             .words()
             .change_segment(&mut self.seat, chunk, from, to);
+        self.joined = with_move(self.joined);
         head_of(word)
     }
 
-    /// Gives back the reference of the bump aboard, which is of this chunk, writes its entry with this outcome, and gives the lane, which
-    /// is hollow, its seat back. The lane looked at the item; the outcome is Moved exactly where the item was moved, and the entry is true
-    /// by the class's history and the steps that were made for this bump. Answers the head that was found.
-    pub fn alight(&mut self, lane: &mut LaneSeat<N>, chunk: u32, outcome: Outcome) -> Head
+    /// Ends the bump aboard: gives back its reference, writes its entry, and gives the lane, which is hollow, its seat back. Answers the
+    /// outcome, and the head that was found. By the head that the lane's look found the outcome is
+    /// 1. Gone, where the item wasn't linked;
+    /// 2. TimeOnly, where it was linked, but not in COLD;
+    /// 3. TimeOnly, where ACTIVE was cleared and hadn't been set;
+    /// 4. Moved, where it had been set, and the item was moved.
+    ///
+    /// It is called in these four cases alone.
+    pub fn alight(&mut self, lane: &mut LaneSeat<N>) -> (Outcome, Head)
         requires hollow { lane.old ≡ None }
-        requires ends { (l : TheLanePart) × (b : TheBump) × Ends self.old chunk outcome l b }
+        requires ends { (l : TheLanePart) × (b : TheBump) × (h : TheHead) × (o : TheOutcome) × Ends self.old l b h o }
+        ensures outcome { (l : TheLanePart) × (b : TheBump) × (h : TheHead) × Ends self.old l b h result.0 }
         ensures class { self.new ≡ record self.old { lane = None } }
-        ensures lane { lane.new ≡ option_map (alighted_lane outcome chunk (word_of result)) self.old.lane }
-        ensures found { Seen self.old.part (life_aboard self.old.lane) result }
-        ensures fits { Fits result }
+        ensures lane { lane.new ≡ option_map (alighted_lane result.0 (life_aboard self.old.lane).chunk (word_of result.1)) self.old.lane }
+        ensures found { Seen self.old.part (life_aboard self.old.lane) result.1 }
+        ensures fits { Fits result.1 }
 
         // The entry that was written is true.
-        ensures entry { IfSome self.old.lane (λ l. IfSome (aboard_of l.stage) (λ b. IsShown self.new.part l b outcome)) }
+        ensures entry { IfSome self.old.lane (λ l. IfSome (aboard_of l.stage) (λ b. IsShown self.new.part l b result.0)) }
 
         // No bump is named twice by the history of the class, and each move for a bump of this lane is told by an entry of it.
         ensures once { NamesNoBumpTwice self.new.part }
         ensures moves { IfSome lane.new (TellsMoves self.new.part) }
     {
+        let Some(joined) = self.joined.take() else {
+            unreachable!()
+        };
+        let Some(entry) = joined.stage.ending(joined.found) else {
+            unreachable!()
+        };
+        let (chunk, outcome) = (entry.life.chunk, entry.outcome);
         let word = self.heads.words().alight(&mut self.seat, chunk, outcome);
         let part = self.heads.words().part_lanes(&mut self.seat);
         lane.seat = Some(part);
-        head_of(word)
+        (outcome, head_of(word))
     }
 }

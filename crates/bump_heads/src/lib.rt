@@ -4,6 +4,7 @@
 mod applying;
 mod boarding;
 mod heads;
+mod joined;
 mod linking;
 mod making;
 mod meeting;

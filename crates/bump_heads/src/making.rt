@@ -66,6 +66,7 @@ fn part_classes<N: Name>(
         seats.push(ClassSeat {
             seat: part,
             class,
+            joined: None,
             heads: Arc::try_clone(heads)?,
             of: PhantomData,
         })?;

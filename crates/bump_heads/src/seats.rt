@@ -3,10 +3,11 @@ ghost use Rattle.std.specs.Prelude.{◌≡◌, ◌*◌, ◌<◌, ◌+◌, [], �
 ghost use Rattle.bump_heads.specs.declared.views.ClassView.{ClassView as TheClassView};
 ghost use Rattle.bump_steps.specs.declared.views.LanePart.{LanePart as TheLanePart};
 ghost use Rattle.bump_rules.specs.Lanes.{is_half_made};
-ghost use Rattle.bump_heads.specs.Applying.{carried_by, stage_of};
+ghost use Rattle.bump_heads.specs.Applying.{carried_by, stage_of, IsJoined};
 ghost use Rattle.bump_heads.specs.Seats.{IsLane, lane_in, class_in, class_me, bump_aboard, IsInRange, IsClassPart};
 
 use crate::heads::Heads;
+use crate::joined::Joined;
 use bump_readers::Name;
 use bump_rules::Bump;
 use bump_steps::Seat;
@@ -14,11 +15,13 @@ use std::alloc::Global;
 use std::marker::{Model, PhantomData};
 use std::sync::Arc;
 
-/// A class's seat: its part, and that of the lane that is joined to it for an application.
+/// A class's seat: its part, and that of the lane that is joined to it for an application. It knows how far that lane is, so that
+/// `alight` can tell what came out.
 #[derive(Drop)]
 pub struct ClassSeat<N: Name> {
     pub(crate) seat: Seat,
     pub(crate) class: u32,
+    pub(crate) joined: Option<Joined>,
     pub(crate) heads: Arc<Heads<N>, Global>,
     pub(crate) of: PhantomData<N>,
 }
@@ -28,7 +31,7 @@ impl<N: Name> Model for ClassSeat<N> {
 
     ghost view = { λ s. class_in s.seat.me.0 };
 
-    ghost invariant = { λ s. (s.seat.me ≡ class_me (class_in s.seat.me.0)) × (s.seat.table_id ≡ N.table) × IsInRange N.table (bump_aboard (class_in s.seat.me.0).lane) × (s.class ≡ (class_in s.seat.me.0).part.class) × IsClassPart N.table.words (class_in s.seat.me.0).part };
+    ghost invariant = { λ s. (s.seat.me ≡ class_me (class_in s.seat.me.0)) × (s.seat.table_id ≡ N.table) × IsInRange N.table (bump_aboard (class_in s.seat.me.0).lane) × (s.class ≡ (class_in s.seat.me.0).part.class) × IsClassPart N.table.words (class_in s.seat.me.0).part × IsJoined (class_in s.seat.me.0).part (class_in s.seat.me.0).lane s.joined };
 }
 
 impl<N: Name> ClassSeat<N> {

@@ -1,7 +1,6 @@
 //! One life in COLD whose bump is applied: its item is moved, has its time stored only, or is gone.
-ghost use Rattle.std.specs.Prelude.{◌≡◌, ◌∷◌, [], IfOk, IsSome, None, true};
+ghost use Rattle.std.specs.Prelude.{◌≡◌, ◌∷◌, [], IfOk, IsSome, None, true, false};
 ghost use Rattle.std.specs.Arc.{arc_value};
-ghost use Rattle.bump_rules.specs.declared.bumps.Outcome.TheVariants as outcome;
 ghost use Rattle.bump_rules.specs.declared.places.Place.TheVariants as place;
 ghost use Rattle.bump_rules.specs.Lives.{life as life_of};
 ghost use Rattle.bump_heads.specs.Applying.{IsOf, carried_by};
@@ -29,10 +28,11 @@ struct Applied {
     outcome: Outcome,
 }
 
-// An application that didn't move the item.
-fn unmoved(tried: Head, cleared: Option<Head>, last: Head, outcome: Outcome) -> Applied
-    ensures { result.outcome ≡ outcome }
+// An application that didn't move the item, by what its end answered.
+fn unmoved(tried: Head, cleared: Option<Head>, ended: (Outcome, Head)) -> Applied
+    ensures { result.tried ≡ tried }
 {
+    let (outcome, last) = ended;
     Applied {
         tried,
         cleared,
@@ -54,30 +54,31 @@ fn apply_front<N: Name>(
     requires carries { IsOf chunk (carried_by lane.old) }
     ensures alone { class.new.lane ≡ None }
     ensures whole { IsSome lane.new }
-    ensures gone { result.outcome ≡ outcome.Gone → class.new.part ≡ class.old.part }
+    ensures gone { result.tried.linked ≡ false → class.new.part ≡ class.old.part }
 {
     let tried = class.try_front(lane);
     if !tried.linked {
-        let last = class.alight(lane, chunk, Outcome::Gone);
-        return unmoved(tried, None, last, Outcome::Gone);
+        let ended = class.alight(lane);
+        return unmoved(tried, None, ended);
     }
     class.put_time(chunk, now);
     if !matches!(tried.segment, Segment::Cold) {
-        let last = class.alight(lane, chunk, Outcome::TimeOnly);
-        return unmoved(tried, None, last, Outcome::TimeOnly);
+        let ended = class.alight(lane);
+        return unmoved(tried, None, ended);
     }
     let cleared = class.clear_active(chunk);
     if !cleared.active {
-        let last = class.alight(lane, chunk, Outcome::TimeOnly);
-        return unmoved(tried, Some(cleared), last, Outcome::TimeOnly);
+        let ended = class.alight(lane);
+        return unmoved(tried, Some(cleared), ended);
     }
     let moved = class.change_segment(chunk, Segment::Cold, Segment::Warm);
+    let (outcome, last) = class.alight(lane);
     Applied {
         tried,
         cleared: Some(cleared),
         moved: Some(moved),
-        last: class.alight(lane, chunk, Outcome::Moved),
-        outcome: Outcome::Moved,
+        last,
+        outcome,
     }
 }
 
@@ -256,7 +257,8 @@ fn unlink_in<N: Name>(
         (found, None, None)
     );
     assert_eq!(rt; applied.last, found);
-    assert!(rt; matches!(applied.outcome, Outcome::Gone));
+    assert_eq!(rt; applied.outcome, Outcome::Gone);
+    assert!(rt; !applied.tried.linked);
     let free = head(0, "fa", Segment::Cold, 1);
     assert_eq!(rt; store.heads.see(0), (free, 1));
     assert_eq!(rt; store.class.seen_unheld(0), free);

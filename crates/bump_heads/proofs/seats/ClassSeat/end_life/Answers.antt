@@ -5,11 +5,12 @@ use Rattle.bump_steps.specs.Views.{standing}
 use Rattle.bump_steps.specs.Lives.{severed}
 use Rattle.bump_steps.proofs.Entering.{linked_in_segment}
 use Rattle.bump_heads.proofs.ClassLives.{keeps_severed}
+use Rattle.bump_heads.proofs.Joining.{alone_joined}
 use Rattle.bump_heads.proofs.ClassSeats.{seat_kept, found_is, agrees}
 use Rattle.bump_heads.proofs.seats.ClassSeat.end_life.Goals as goal
 
 pub invariant_of-self : goal.invariant_of-self
-invariant_of-self g c = seat_kept c.self.inside.seat.me c.sever.new.seat.me c.args.self.now (severed c.args.chunk c.sever.result) g.N.Name.table c.sever.new.seat.table_id c.self.inside.class c.self.view_is c.self.invariant.0 c.sever.ensures.told.0 (c.sever.ensures.same.0 ∙ c.self.invariant.1) c.self.invariant.2 c.self.invariant.3 c.self.invariant.4 refl (λ o. keeps_severed g.N.Name.table.words c.args.self.now.part o c.args.chunk c.sever.result c.requires.own c.requires.linked)
+invariant_of-self g c = seat_kept c.self.inside.seat.me c.sever.new.seat.me c.args.self.now (severed c.args.chunk c.sever.result) g.N.Name.table c.sever.new.seat.table_id c.self.inside.class c.self.inside.joined c.self.view_is c.self.invariant.0 c.sever.ensures.told.0 (c.sever.ensures.same.0 ∙ c.self.invariant.1) c.self.invariant.2 c.self.invariant.3 c.self.invariant.4 c.self.invariant.5 refl (λ o. keeps_severed g.N.Name.table.words c.args.self.now.part o c.args.chunk c.sever.result c.requires.own c.requires.linked) (λ o. alone_joined c.args.self.now.part (severed c.args.chunk c.sever.result c.args.self.now.part) c.args.self.now.lane c.self.inside.joined c.requires.alone o)
 
 pub returns-clause-agrees : goal.returns-clause-agrees
 returns-clause-agrees g c = (let h = c.head_of.result in let told = found_is c.sever.result (λ x. Told c.args.chunk c.self.inside.seat.me.0 x × (bit x.linked ≤ x.refs)) h c.head_of.ensures c.sever.ensures.told.1 in agrees c.args.chunk c.self.inside.seat.me c.args.self.now h c.self.view_is c.self.invariant.0 c.requires.own told.0).0

@@ -10,6 +10,7 @@ use Rattle.bump_steps.specs.Views.{label_of}
 use Rattle.bump_heads.specs.declared.views.ClassView.{ClassView}
 use Rattle.bump_heads.specs.Seats.{class_me, IsClassPart}
 use Rattle.bump_heads.proofs.ClassLives.{keeps_begun, begun_label}
+use Rattle.bump_heads.proofs.Joining.{alone_joined}
 use Rattle.bump_heads.proofs.ClassSeats.{seat_kept, finds, alone_is, after_look, view_after}
 use Rattle.bump_heads.proofs.seats.ClassSeat.open_life.Goals as goal
 
@@ -25,7 +26,7 @@ begin-requires-clause-may g c = let gen = (finds c.args.chunk c.peek.result c.se
 
 pub invariant_of-self : goal.invariant_of-self
 invariant_of-self g c = let n : ℕ = c.head_of-found.result.generation + 1 in let word : ℕ = word_of (newborn n) in let gen = (finds c.args.chunk c.peek.result c.self.inside.seat.me c.args.self.now c.head_of-found.result c.self.view_is c.self.invariant.0 c.requires.own c.head_of-found.ensures c.peek.ensures.told.1).1 in
-    seat_kept c.self.inside.seat.me c.begin.new.seat.me c.args.self.now (begun c.args.chunk n word) g.N.Name.table c.begin.new.seat.table_id c.self.inside.class c.self.view_is c.self.invariant.0 (after_look c.self.inside.seat.me c.peek.new.seat.me c.begin.new.seat.me (begun c.args.chunk n word) c.peek.ensures.told.0 c.begin.ensures.told) (c.begin.ensures.same.0 ∙ c.peek.ensures.same.0 ∙ c.self.invariant.1) c.self.invariant.2 c.self.invariant.3 c.self.invariant.4 refl (λ o. subst (λ (j : ℕ). IsClassPart g.N.Name.table.words (begun c.args.chunk (j + 1) word c.args.self.now.part)) (sym gen) (keeps_begun g.N.Name.table.words c.args.self.now.part o c.args.chunk word c.requires.own))
+    seat_kept c.self.inside.seat.me c.begin.new.seat.me c.args.self.now (begun c.args.chunk n word) g.N.Name.table c.begin.new.seat.table_id c.self.inside.class c.self.inside.joined c.self.view_is c.self.invariant.0 (after_look c.self.inside.seat.me c.peek.new.seat.me c.begin.new.seat.me (begun c.args.chunk n word) c.peek.ensures.told.0 c.begin.ensures.told) (c.begin.ensures.same.0 ∙ c.peek.ensures.same.0 ∙ c.self.invariant.1) c.self.invariant.2 c.self.invariant.3 c.self.invariant.4 c.self.invariant.5 refl (λ o. subst (λ (j : ℕ). IsClassPart g.N.Name.table.words (begun c.args.chunk (j + 1) word c.args.self.now.part)) (sym gen) (keeps_begun g.N.Name.table.words c.args.self.now.part o c.args.chunk word c.requires.own)) (λ o. alone_joined c.args.self.now.part (begun c.args.chunk n word c.args.self.now.part) c.args.self.now.lane c.self.inside.joined c.requires.alone o)
 
 pub returns-clause-next : goal.returns-clause-next
 returns-clause-next g c = ap (λ (j : ℕ). life c.args.chunk (j + 1)) (finds c.args.chunk c.peek.result c.self.inside.seat.me c.args.self.now c.head_of-found.result c.self.view_is c.self.invariant.0 c.requires.own c.head_of-found.ensures c.peek.ensures.told.1).1

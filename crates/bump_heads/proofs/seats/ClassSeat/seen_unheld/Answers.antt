@@ -6,11 +6,12 @@ use Rattle.bump_word.proofs.Words.{fields}
 use Rattle.bump_steps.specs.Lives.{seen}
 use Rattle.bump_heads.specs.Seats.{class_me}
 use Rattle.bump_heads.proofs.ClassLives.{keeps_seen, class_seen}
+use Rattle.bump_heads.proofs.Joining.{alone_joined}
 use Rattle.bump_heads.proofs.ClassSeats.{view_after, seat_kept, finds}
 use Rattle.bump_heads.proofs.seats.ClassSeat.seen_unheld.Goals as goal
 
 pub invariant_of-self : goal.invariant_of-self
-invariant_of-self g c = seat_kept c.self.inside.seat.me c.sweep.new.seat.me c.args.self.now (seen c.args.chunk (c.sweep.result % 2 ^ refs_width) c.sweep.result) g.N.Name.table c.sweep.new.seat.table_id c.self.inside.class c.self.view_is c.self.invariant.0 c.sweep.ensures.told.0 (c.sweep.ensures.same.0 ∙ c.self.invariant.1) c.self.invariant.2 c.self.invariant.3 c.self.invariant.4 (class_seen c.args.chunk (c.sweep.result % 2 ^ refs_width) c.sweep.result c.args.self.now.part) (λ o. keeps_seen g.N.Name.table.words c.args.self.now.part o c.args.chunk (c.sweep.result % 2 ^ refs_width) c.sweep.result c.requires.own)
+invariant_of-self g c = seat_kept c.self.inside.seat.me c.sweep.new.seat.me c.args.self.now (seen c.args.chunk (c.sweep.result % 2 ^ refs_width) c.sweep.result) g.N.Name.table c.sweep.new.seat.table_id c.self.inside.class c.self.inside.joined c.self.view_is c.self.invariant.0 c.sweep.ensures.told.0 (c.sweep.ensures.same.0 ∙ c.self.invariant.1) c.self.invariant.2 c.self.invariant.3 c.self.invariant.4 c.self.invariant.5 (class_seen c.args.chunk (c.sweep.result % 2 ^ refs_width) c.sweep.result c.args.self.now.part) (λ o. keeps_seen g.N.Name.table.words c.args.self.now.part o c.args.chunk (c.sweep.result % 2 ^ refs_width) c.sweep.result c.requires.own) (λ o. alone_joined c.args.self.now.part (seen c.args.chunk (c.sweep.result % 2 ^ refs_width) c.sweep.result c.args.self.now.part) c.args.self.now.lane c.self.inside.joined c.requires.alone o)
 
 pub returns-clause-unlinked : goal.returns-clause-unlinked
 returns-clause-unlinked g c = subst (λ (p : Place). Shows c.head_of.result p) c.requires.dying (finds c.args.chunk c.sweep.result c.self.inside.seat.me c.args.self.now c.head_of.result c.self.view_is c.self.invariant.0 c.requires.own c.head_of.ensures c.sweep.ensures.told.1).0
