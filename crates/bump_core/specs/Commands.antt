@@ -1,5 +1,5 @@
 -- Commands: what each answers and leaves, by the tables and in one go, and the events that it is made of.
-use Rattle.std.specs.Prelude.{◌≡◌, ℕ, ◌+◌, Bool, true, false, not, ◌==◌, ◌&&◌, ◌||◌, nat_lt, List, [], ◌∷◌, ◌++◌, length, map, Option, None, Some, Result, Ok, Err, if◌then◌else◌}
+use Rattle.std.specs.Prelude.{◌≡◌, ℕ, ◌+◌, Bool, true, false, not, ◌==◌, ◌&&◌, ◌||◌, nat_lt, List, [], ◌∷◌, ◌++◌, length, map, is_none, Option, None, Some, Result, Ok, Err, if◌then◌else◌}
 use Rattle.std.specs.Option.{option_map_or}
 use Rattle.std.specs.List.{list_any}
 use Rattle.bump_rules.specs.declared.places.Segment.{Segment}
@@ -42,12 +42,12 @@ use Rattle.bump_rules.specs.Lives.{life}
 use Rattle.bump_rules.specs.History.{freed_change}
 use Rattle.bump_rules.specs.Tables.{Get, IsStale, IsRefsFull, IsHeld, is_cold, get_of, ended_of, is_unheld, hit_of, dropped_of, touch_of, outcome_of, pulled_of, pulled_to, segment_of, last_pulled, is_pulled_over}
 use Rattle.bump_state.specs.Sweeps.{sweep_of}
-use Rattle.bump_state.specs.State.{State, WorkerState, chunk, head, class, worker, is_chunk, is_class, is_worker, with_chunk, with_head, with_worker, with_change, with_changes, class_of, is_linked, is_held, has_free_hold, is_open, some_and, is_under_application}
+use Rattle.bump_state.specs.State.{State, WorkerState, chunk, head, class, worker, is_chunk, is_class, is_worker, with_chunk, with_head, with_worker, with_change, with_changes, class_of, is_linked, is_held, has_free_hold, is_open}
 use Rattle.bump_core.specs.Runs.{one_asks}
 use Rattle.bump_rules.specs.Hands.{is_idle}
 use Rattle.bump_rules.specs.Rings.{most_attempts}
 use Rattle.bump_rules.specs.Heads.{newborn, one_more, one_fewer, fetched_head, active_head, severed_head}
-use Rattle.bump_state.specs.Events.{is_under_limit, next_chunk, next_life, waiting, next_bump, with_hold, without_hold, unlink, close}
+use Rattle.bump_state.specs.Events.{is_at_rest, is_under_limit, next_chunk, next_life, waiting, next_bump, with_hold, without_hold, unlink, close}
 use Rattle.bump_rules.specs.Lanes.{bump_of, applied_bump, is_half_made}
 
 -- Ends.
@@ -228,17 +228,17 @@ apply_bump s w now b =
 -- Each command.
 
 -- A command is refused where a number is out of range, a worker's ring is closed, a life has no free hold (a hit, a release)
--- or none (a label), or another command is half made in its way.
+-- or none (a label), or another command is half made in its way. What would change nothing of a class waits for no lane.
 abbrev pub is_allowed : State → Command → Bool
-is_allowed s (command.Link k x now) = is_class s k && (not (some_and (λ c. true) (next_chunk s k)) || not (is_under_application s k))
-is_allowed s (command.Unlink l) = not (is_linked s l) || not (is_under_application s (class_of s l.chunk))
-is_allowed s (command.Sweep k) = is_class s k && (not (list_any (λ c. is_unheld (head s c)) (class s k).lists.dying) || not (is_under_application s k))
-is_allowed s (command.Pull k t) = is_class s k && (not (some_and (λ c. true) (tail_of s k t)) || not (is_under_application s k))
+is_allowed s (command.Link k x now) = is_class s k && (is_none (next_chunk s k) || is_at_rest s k)
+is_allowed s (command.Unlink l) = not (is_linked s l) || is_at_rest s (class_of s l.chunk)
+is_allowed s (command.Sweep k) = is_class s k && (not (list_any (λ c. is_unheld (head s c)) (class s k).lists.dying) || is_at_rest s k)
+is_allowed s (command.Pull k t) = is_class s k && (is_none (tail_of s k t) || is_at_rest s k)
 is_allowed s (command.Take w l) = is_open s w
 is_allowed s (command.Touch w l now) = is_open s w && (has_free_hold s l && (is_exhausted s w || is_idle (worker s w).hand))
 is_allowed s (command.Label l) = is_held s l
 is_allowed s (command.Release l) = has_free_hold s l
-is_allowed s (command.Next w now) = is_worker s w && (not (is_half_made (worker s w).lane) && not (some_and (λ b. is_under_application s (class_of s b.life.chunk)) (bump_next (worker s w))))
+is_allowed s (command.Next w now) = is_worker s w && (not (is_half_made (worker s w).lane) && option_map_or (λ b. is_at_rest s (class_of s b.life.chunk)) (bump_next (worker s w)) true)
 is_allowed s (command.Close w) = is_open s w && is_idle (worker s w).hand
 
 -- what an unlink answers

@@ -1,9 +1,10 @@
 -- What the tests of the events say, and what holds of a state that a test or a value decides.
-use Rattle.std.proofs.Common.{eq-eqb, ◌≡◌, ℕ, ◌<◌, Bool, true, false, ◌&&◌, not, nat_lt, ◌==◌, length, Option, None, Some, if◌then◌else◌, refl, sym, ap, subst, ◌∙◌}
-use Rattle.std.proofs.lemmas.Bool.{and_parts, ltb-true, not-true, eqb-true, false≢true}
+use Rattle.std.proofs.Common.{eq-eqb, ◌≡◌, ℕ, ◌<◌, ◌≤◌, ◌⊎◌, inl, inr, Bool, true, false, ◌&&◌, not, nat_lt, ◌==◌, length, Option, None, Some, if◌then◌else◌, refl, sym, ap, subst, ◌∙◌}
+use Rattle.std.proofs.lemmas.Bool.{and_parts, cases_lt, ltb-true, not-true, eqb-true, false≢true}
 use Rattle.std.proofs.lemmas.List.Folds.{list_any_at}
+use Rattle.std.proofs.lemmas.List.{get_or_past}
 use Rattle.std.specs.Option.{option_map_or}
-use Rattle.std.specs.Prelude.{option_map}
+use Rattle.std.specs.Prelude.{is_some, option_map}
 use Rattle.bump_rules.specs.declared.items.Head.{Head}
 use Rattle.bump_rules.specs.declared.bumps.AppliedBump.{AppliedBump}
 use Rattle.bump_rules.specs.declared.bumps.Outcome.{Outcome}
@@ -21,7 +22,7 @@ use Rattle.bump_rules.specs.Rings.{bump_applied}
 use Rattle.bump_rules.specs.Tables.{is_cold, is_unheld, may_move}
 use Rattle.bump_state.specs.Events.{is_enabled, is_class_at_rest, is_dying, next_chunk, may_hit}
 use Rattle.bump_rules.specs.Lanes.{applied_bump, outcome_tried, ending_at, carried, tried, applied_now, cleared_active, is_empty, applied_life}
-use Rattle.bump_state.specs.State.{is_class, State, chunk, head, class, worker, is_chunk, is_current, is_linked, has_free_hold, is_open, is_worker, workers_on, some_and, applies_in, class_of, is_under_application, new_worker}
+use Rattle.bump_state.specs.State.{is_class, State, WorkerState, chunk, head, class, worker, is_chunk, is_current, is_linked, has_free_hold, is_open, is_worker, workers_on, some_and, applies_in, class_of, is_under_application, new_worker}
 use Rattle.bump_rules.specs.Hands.{tried_life, life_in_hand, cleared_life, is_idle}
 use Rattle.bump_state.specs.Worlds.{IsLawful}
 use Rattle.bump_links.specs.Lists.{times}
@@ -30,6 +31,19 @@ use Rattle.bump_links.specs.Lists.{times}
 pub some_and_parts : {A : Type 0} (test : A → Bool) (o : Option A) → some_and test o ≡ true → (x : A) × (o ≡ Some x) × (test x ≡ true)
 some_and_parts test None h = absurd (false≢true h)
 some_and_parts test (Some x) h = (x, refl, h)
+
+-- a value that there is
+pub some_from : {A : Type 0} (o : Option A) → is_some o ≡ true → (x : A) × (o ≡ Some x)
+some_from None h = absurd (false≢true h)
+some_from (Some x) h = (x, refl)
+
+-- A worker of which something is told is there: past the end each is as at the start.
+pub worker_there : {A : Type 0} (s : State) (w : ℕ) (told : WorkerState → Option A) (x : A) → told new_worker ≡ None → told (worker s w) ≡ Some x → w < length s.workers
+worker_there s w told x none some = by (cases_lt w (length s.workers))
+  where
+    by : (w < length s.workers) ⊎ (length s.workers ≤ w) → w < length s.workers
+    by (inl within) = within
+    by (inr past) = let e : None ≡ Some x = sym none ∙ (ap told (sym (get_or_past s.workers w new_worker past)) ∙ some) in absurd (let u : ⊥ = cc in u)
 
 -- where a change is made by a value that there is, it is made
 pub lawful_by_some : {A : Type 0} (change : A → State) (s : State) (o : Option A) (x : A) → o ≡ Some x → IsLawful (change x) → IsLawful (option_map_or change o s)
@@ -164,9 +178,9 @@ applied_by_ending heads (lane.Cleared b false) a is = let same : applied_bump b 
 applied_by_ending heads (lane.Moved b) a is = let same : applied_bump b outcome.Moved ≡ a = cc in ap (λ (z : AppliedBump). Some (bump_applied z)) same
 
 -- a class at rest whose next item may be labelled, timed or linked: it exists, and has a front of UNUSED
-pub next_from : (s : State) (k : ℕ) → (is_class_at_rest s k && some_and (λ c. true) (next_chunk s k)) ≡ true → (c : ℕ) × (k < length s.classes) × (next_chunk s k ≡ Some c)
-next_from s k enabled = let both = and_parts (is_class_at_rest s k) (some_and (λ c. true) (next_chunk s k)) enabled in
-    let found = some_and_parts (λ (c : ℕ). true) (next_chunk s k) both.1 in
+pub next_from : (s : State) (k : ℕ) → (is_class_at_rest s k && is_some (next_chunk s k)) ≡ true → (c : ℕ) × (k < length s.classes) × (next_chunk s k ≡ Some c)
+next_from s k enabled = let both = and_parts (is_class_at_rest s k) (is_some (next_chunk s k)) enabled in
+    let found = some_from (next_chunk s k) both.1 in
     (found.0, ltb-true k (length s.classes) (and_parts (is_class s k) (not (is_under_application s k)) both.0).0, found.1)
 
 -- a chunk that may be moved by a pull: it is in range and linked, and no lane applies a bump of its class
@@ -177,9 +191,8 @@ move_from s c to enabled = let both = and_parts (is_chunk s c) ((head s c).linke
 
 -- a lane that found ACTIVE, and may move its item
 pub move_for_from : (s : State) (w : ℕ) → is_enabled s (event.MoveFor w) ≡ true → (b : Bump) × (w < length s.workers) × (cleared_active (worker s w).lane ≡ Some b)
-move_for_from s w enabled = let both = and_parts (is_worker s w) (some_and (λ b. true) (cleared_active (worker s w).lane)) enabled in
-    let found = some_and_parts (λ (b : Bump). true) (cleared_active (worker s w).lane) both.1 in
-    (found.0, worker_from s w both.0, found.1)
+move_for_from s w enabled = let found = some_from (cleared_active (worker s w).lane) enabled in
+    (found.0, worker_there s w (λ x. cleared_active x.lane) found.0 refl found.1, found.1)
 
 -- a life that may be unlinked: its chunk is in range, has its generation and is linked, and no lane applies a bump of its class
 pub unlink_from : (s : State) (l : ItemId) → is_enabled s (event.Unlink l) ≡ true

@@ -1,5 +1,5 @@
 -- Events: when each is enabled, the state after it, its reply, and what an answer tells of that.
-use Rattle.std.specs.Prelude.{◌≡◌, ℕ, ◌+◌, ◌-◌, Bool, true, false, not, ◌&&◌, nat_lt, [], ◌∷◌, ◌++◌, length, slice_get, Option, Result, Ok, Err, if◌then◌else◌}
+use Rattle.std.specs.Prelude.{◌≡◌, ℕ, ◌+◌, ◌-◌, Bool, true, false, not, ◌&&◌, nat_lt, [], ◌∷◌, ◌++◌, length, slice_get, is_some, Option, Result, Ok, Err, if◌then◌else◌}
 use Rattle.std.specs.Option.{option_map_or}
 use Rattle.bump_rules.specs.Heads.{newborn, one_more, one_fewer, fetched_head, active_head, cleared_head, moved_head, severed_head}
 use Rattle.bump_rules.specs.declared.places.Segment.{Segment}
@@ -35,9 +35,13 @@ is_under_limit s c = nat_lt (head s c).refs s.refs_limit
 abbrev pub may_hit : State → ℕ → ItemId → Bool
 may_hit s w l = is_open s w && (is_idle (worker s w).hand && has_free_hold s l)
 
--- no lane applies a bump of this class, which exists
+-- no lane applies a bump of this class
+abbrev pub is_at_rest : State → ℕ → Bool
+is_at_rest s k = not (is_under_application s k)
+
+-- the same of a class that exists
 abbrev pub is_class_at_rest : State → ℕ → Bool
-is_class_at_rest s k = is_class s k && not (is_under_application s k)
+is_class_at_rest s k = is_class s k && is_at_rest s k
 
 -- the chunk that the next link of a class takes: the front of UNUSED
 abbrev pub next_chunk : State → ℕ → Option ℕ
@@ -55,38 +59,39 @@ waiting x = length x.sent - length x.received
 abbrev pub next_bump : WorkerState → Option ItemId
 next_bump x = slice_get x.sent (length x.received)
 
--- the same of a worker's lane
+-- the bump that a worker's lane may end, and what with
 abbrev pub ending : State → ℕ → Option AppliedBump
 ending s w = ending_at (head s) (worker s w).lane
 
--- When an event is enabled. Numbers out of range name nothing, and no event is enabled of them.
+-- When an event is enabled. Numbers out of range name nothing, and no event is enabled of them: a worker that isn't there has nothing in
+-- its hand, its ring and its lane.
 abbrev pub is_enabled : State → Event → Bool
 is_enabled s (event.Load c) = is_chunk s c
 is_enabled s (event.Take w l) = is_open s w && (is_linked s l && is_under_limit s l.chunk)
 is_enabled s (event.Fetch w l) = may_hit s w l
 is_enabled s (event.Mark w l) = may_hit s w l && ((head s l.chunk).fetched && nat_lt (worker s w).accounts.attempted most_attempts)
-is_enabled s (event.Reserve w) = is_worker s w && some_and (λ l. is_under_limit s l.chunk) (tried_life (worker s w).hand)
-is_enabled s (event.DropRefs w) = is_worker s w && some_and (λ l. not (is_under_limit s l.chunk)) (tried_life (worker s w).hand)
-is_enabled s (event.DropBusy w) = is_worker s w && some_and (λ l. true) (tried_life (worker s w).hand)
-is_enabled s (event.Push w) = is_open s w && some_and (λ l. nat_lt (waiting (worker s w)) s.capacity) (life_in_hand (worker s w).hand)
-is_enabled s (event.DropFull w) = is_worker s w && some_and (λ l. not (nat_lt (length (worker s w).sent) s.capacity)) (life_in_hand (worker s w).hand)
-is_enabled s (event.Unmark w) = is_worker s w && some_and (λ l. true) (cleared_life (worker s w).hand)
+is_enabled s (event.Reserve w) = some_and (λ l. is_under_limit s l.chunk) (tried_life (worker s w).hand)
+is_enabled s (event.DropRefs w) = some_and (λ l. not (is_under_limit s l.chunk)) (tried_life (worker s w).hand)
+is_enabled s (event.DropBusy w) = is_some (tried_life (worker s w).hand)
+is_enabled s (event.Push w) = is_open s w && (is_some (life_in_hand (worker s w).hand) && nat_lt (waiting (worker s w)) s.capacity)
+is_enabled s (event.DropFull w) = is_some (life_in_hand (worker s w).hand) && not (nat_lt (length (worker s w).sent) s.capacity)
+is_enabled s (event.Unmark w) = is_some (cleared_life (worker s w).hand)
 is_enabled s (event.Close w) = is_open s w && is_idle (worker s w).hand
 is_enabled s (event.StoreTime l t) = is_held s l
 is_enabled s (event.Release l) = has_free_hold s l
-is_enabled s (event.PutLabel k x) = is_class_at_rest s k && some_and (λ c. true) (next_chunk s k)
-is_enabled s (event.PutTime k t) = is_class_at_rest s k && some_and (λ c. true) (next_chunk s k)
-is_enabled s (event.Link k) = is_class_at_rest s k && some_and (λ c. true) (next_chunk s k)
-is_enabled s (event.Unlink l) = is_linked s l && not (is_under_application s (class_of s l.chunk))
-is_enabled s (event.Sweep c) = is_chunk s c && (is_dying s c && (is_unheld (head s c) && not (is_under_application s (class_of s c))))
-is_enabled s (event.ClearActive c) = is_chunk s c && ((head s c).linked && not (is_under_application s (class_of s c)))
-is_enabled s (event.Move c to) = is_chunk s c && ((head s c).linked && (may_move (head s c).segment to && not (is_under_application s (class_of s c))))
-is_enabled s (event.TakeBump w) = is_worker s w && (is_empty (worker s w).lane && nat_lt (length (worker s w).received) (length (worker s w).sent))
-is_enabled s (event.Try w) = is_worker s w && some_and (λ b. not (is_under_application s (class_of s b.life.chunk))) (carried (worker s w).lane)
-is_enabled s (event.BumpTime w t) = is_worker s w && some_and (λ b. (head s b.life.chunk).linked) (applied_now (worker s w).lane)
-is_enabled s (event.ClearFor w) = is_worker s w && some_and (λ b. (head s b.life.chunk).linked && is_cold (head s b.life.chunk).segment) (tried (worker s w).lane)
-is_enabled s (event.MoveFor w) = is_worker s w && some_and (λ b. true) (cleared_active (worker s w).lane)
-is_enabled s (event.Alight w) = is_worker s w && some_and (λ a. true) (ending s w)
+is_enabled s (event.PutLabel k x) = is_class_at_rest s k && is_some (next_chunk s k)
+is_enabled s (event.PutTime k t) = is_class_at_rest s k && is_some (next_chunk s k)
+is_enabled s (event.Link k) = is_class_at_rest s k && is_some (next_chunk s k)
+is_enabled s (event.Unlink l) = is_linked s l && is_at_rest s (class_of s l.chunk)
+is_enabled s (event.Sweep c) = is_chunk s c && (is_dying s c && (is_unheld (head s c) && is_at_rest s (class_of s c)))
+is_enabled s (event.ClearActive c) = is_chunk s c && ((head s c).linked && is_at_rest s (class_of s c))
+is_enabled s (event.Move c to) = is_chunk s c && ((head s c).linked && (may_move (head s c).segment to && is_at_rest s (class_of s c)))
+is_enabled s (event.TakeBump w) = is_empty (worker s w).lane && nat_lt (length (worker s w).received) (length (worker s w).sent)
+is_enabled s (event.Try w) = some_and (λ b. is_at_rest s (class_of s b.life.chunk)) (carried (worker s w).lane)
+is_enabled s (event.BumpTime w t) = some_and (λ b. (head s b.life.chunk).linked) (applied_now (worker s w).lane)
+is_enabled s (event.ClearFor w) = some_and (λ b. (head s b.life.chunk).linked && is_cold (head s b.life.chunk).segment) (tried (worker s w).lane)
+is_enabled s (event.MoveFor w) = is_some (cleared_active (worker s w).lane)
+is_enabled s (event.Alight w) = is_some (ending s w)
 
 -- An event that only reads or writes what is there asks for no memory. The others may: for an entry of a history, a bump, or a first
 -- hit, which is one only where FETCHED was clear.

@@ -198,19 +198,19 @@ close_allowed s w r = close_bar _ _ (ap is_idle (resting_at s w r).idle)
 pub release_allowed : (s : State) (l : ItemId) → IsAtRest s → is_held s l ≡ true → is_allowed s (command.Release l) ≡ true
 release_allowed s l r h = free_hold s l r ∙ h
 
--- no value passes a test that all fail
-some_none : {A : Type 0} (test : A → Bool) (o : Option A) → ((x : A) → test x ≡ false) → some_and test o ≡ false
-some_none test None h = refl
-some_none test (Some x) h = h x
+-- a value that there may be passes a test that all pass
+each_passes : {A : Type 0} (test : A → Bool) (o : Option A) → ((x : A) → test x ≡ true) → option_map_or test o true ≡ true
+each_passes test None h = refl
+each_passes test (Some x) h = h x
 
 -- nothing stands in the way
-next_bar : (a b c : Bool) → a ≡ true → b ≡ false → c ≡ false → a && (not b && not c) ≡ true
+next_bar : (a b c : Bool) → a ≡ true → b ≡ false → c ≡ true → a && (not b && c) ≡ true
 next_bar a b c p q t = rw (p, q, t) refl
 
 -- the next bump of a worker that is there may be applied
 pub next_allowed : (s : State) (w now : ℕ) → IsAtRest s → is_worker s w ≡ true → is_allowed s (command.Next w now) ≡ true
 next_allowed s w now r e =
-    next_bar _ _ _ e (ap is_half_made (resting_at s w r).empty) (some_none _ (bump_next (worker s w)) (λ b. none_applied s (class_of s b.life.chunk) r))
+    next_bar _ _ _ e (ap is_half_made (resting_at s w r).empty) (each_passes _ (bump_next (worker s w)) (λ b. ap not (none_applied s (class_of s b.life.chunk) r)))
 
 -- A hold that was taken is there, and a hit leaves it.
 held_with : (s : State) (l : ItemId) (x : Chunk) → is_current s l ≡ true → x.head.generation ≡ (head s l.chunk).generation → 0 < x.holds → is_held (with_chunk s l.chunk x) l ≡ true

@@ -95,7 +95,7 @@ idle_lane x (lane.Cleared b found) h f = cc
 idle_lane x (lane.Moved b) h f = cc
 
 -- a lane that an allowed Next finds has no bump half applied
-none_half_made : (a b c : Bool) → a && (not b && not c) ≡ true → b ≡ false
+none_half_made : (a b c : Bool) → a && (not b && c) ≡ true → b ≡ false
 none_half_made a false c h = refl
 none_half_made true true c h = cc
 none_half_made false true c h = cc

@@ -2,6 +2,7 @@
 use Rattle.std.proofs.Common.{◌≡◌, ℕ, ◌+◌, ◌-◌, ◌<◌, ◌≤◌, ltb, eqb, Bool, true, false, not, ◌&&◌, ◌||◌, List, [], ◌∷◌, ◌++◌, length, slice_set, Some, None, if◌then◌else◌, refl, sym, ap, ◌∙◌, arith, ◌⊎◌, inl, inr, eq-eqb}
 use Rattle.std.proofs.lemmas.Bool.{and_parts, and_from, ltb-true, lt-ltb, le-ltb, cases_lt, both_ways, cond-true, cond-false, and_right}
 use Rattle.std.specs.Option.{option_map_or}
+use Rattle.std.specs.Prelude.{is_some, Option}
 use Rattle.std.proofs.lemmas.List.{get_or-set_same, length-set, set-get_or, set-set}
 use Rattle.bump_rules.specs.declared.items.ItemId.{ItemId}
 use Rattle.bump_rules.specs.declared.items.Head.{Head}
@@ -47,7 +48,7 @@ module _ (s : State) (l : ItemId) (w : ℕ) (c_in : l.chunk < length s.chunks) (
   reserve_step is under =
       let life : tried_life (worker t w).hand ≡ Some l = ap tried_life (hand_at ∙ is) in
       run_step t _ (event.Reserve w) es
-      (and_from _ _ (is_worker_at s l.chunk w c_in w_in ks x y) (ap (some_and (λ (m : ItemId). is_under_limit t m.chunk)) life ∙ (under_at ∙ under)))
+      (ap (some_and (λ (m : ItemId). is_under_limit t m.chunk)) life ∙ (under_at ∙ under))
       (ap (λ o. option_map_or (reserve t w) o t) life
       ∙ on_both s l.chunk w c_in w_in ks x y (λ a. record a { head = one_more a.head }) (λ a b. record b { hand = hand.InHand l }))
 
@@ -57,7 +58,7 @@ module _ (s : State) (l : ItemId) (w : ℕ) (c_in : l.chunk < length s.chunks) (
   drop_refs_step is over =
       let life : tried_life (worker t w).hand ≡ Some l = ap tried_life (hand_at ∙ is) in
       run_step t _ (event.DropRefs w) es
-      (and_from _ _ (is_worker_at s l.chunk w c_in w_in ks x y) (ap (some_and (λ (m : ItemId). not (is_under_limit t m.chunk))) life ∙ ap not (under_at ∙ over)))
+      (ap (some_and (λ (m : ItemId). not (is_under_limit t m.chunk))) life ∙ ap not (under_at ∙ over))
       (ap (λ o. option_map_or (drop_refs t w) o t) life
       ∙ on_worker s l.chunk w c_in w_in ks x y (λ b. record b { hand = hand.Clearing l; accounts = record b.accounts { refs = b.accounts.refs + 1 } }))
 
@@ -69,7 +70,7 @@ module _ (s : State) (l : ItemId) (w : ℕ) (c_in : l.chunk < length s.chunks) (
       let read = worker_at s l.chunk w c_in w_in ks x y in
       run_step t _ (event.Push w) es
       (and_from _ _ (and_from _ _ (is_worker_at s l.chunk w c_in w_in ks x y) (ap (λ (z : WorkerState). z.is_open) read ∙ takes))
-      (ap (some_and (λ (m : ItemId). ltb (waiting (worker t w)) s.capacity)) life ∙ (ap (λ (z : WorkerState). ltb (waiting z) s.capacity) read ∙ room)))
+      (and_from _ _ (ap (λ (o : Option ItemId). is_some o) life) (ap (λ (z : WorkerState). ltb (waiting z) s.capacity) read ∙ room)))
       (ap (λ o. option_map_or (push t w) o t) life
       ∙ on_worker s l.chunk w c_in w_in ks x y (λ b. record b { hand = hand.Idle; accounts = record b.accounts { accepted = b.accounts.accepted + 1 }; sent = b.sent ++ l ∷ [] }))
 
@@ -79,8 +80,8 @@ module _ (s : State) (l : ItemId) (w : ℕ) (c_in : l.chunk < length s.chunks) (
   drop_full_step is full =
       let life : life_in_hand (worker t w).hand ≡ Some l = ap life_in_hand (hand_at ∙ is) in
       run_step t _ (event.DropFull w) es
-      (and_from _ _ (is_worker_at s l.chunk w c_in w_in ks x y)
-      (ap (some_and (λ (m : ItemId). not (ltb (length (worker t w).sent) s.capacity))) life ∙ (ap (λ (z : WorkerState). not (ltb (length z.sent) s.capacity)) (worker_at s l.chunk w c_in w_in ks x y) ∙ ap not full)))
+      (and_from _ _ (ap (λ (o : Option ItemId). is_some o) life)
+      (ap (λ (z : WorkerState). not (ltb (length z.sent) s.capacity)) (worker_at s l.chunk w c_in w_in ks x y) ∙ ap not full))
       (ap (λ o. option_map_or (drop_full t w) o t) life
       ∙ on_both s l.chunk w c_in w_in ks x y (λ a. record a { head = one_fewer a.head }) (λ a b. record b { hand = hand.Clearing l; accounts = record b.accounts { full = b.accounts.full + 1 } }))
 
@@ -89,7 +90,7 @@ module _ (s : State) (l : ItemId) (w : ℕ) (c_in : l.chunk < length s.chunks) (
   unmark_step is =
       let life : cleared_life (worker t w).hand ≡ Some l = ap cleared_life (hand_at ∙ is) in
       run_step t _ (event.Unmark w) es
-      (and_from _ _ (is_worker_at s l.chunk w c_in w_in ks x y) (ap (some_and (λ (m : ItemId). true)) life))
+      (ap (λ (o : Option ItemId). is_some o) life)
       (ap (λ o. option_map_or (unmark t w) o t) life
       ∙ on_both s l.chunk w c_in w_in ks x y (λ a. record a { head = cleared_head a.head }) (λ a b. record b { hand = hand.Idle }))
 

@@ -1,4 +1,5 @@
 -- Applying a bump is its events.
+use Rattle.std.specs.Prelude.{is_some}
 use Rattle.std.proofs.Common.{◌≡◌, ℕ, ◌<◌, Bool, true, false, not, ◌&&◌, List, [], ◌∷◌, ◌++◌, length, slice_set, Option, Some, None, if◌then◌else◌, refl, sym, ap, ◌∙◌, subst, arith}
 use Rattle.std.proofs.lemmas.Bool.{and_parts, and_from, ltb-true, lt-ltb, both_ways, not-true}
 use Rattle.std.proofs.lemmas.Option.{slice_get_within}
@@ -55,7 +56,7 @@ module _ (s : State) (b : Bump) (w : ℕ) (c_in : b.life.chunk < length s.chunks
   try_step is rest =
       let bump : carried (worker t w).lane ≡ Some b = ap carried (lane_at ∙ is) in
       run_step t _ (event.Try w) es
-      (and_from _ _ (is_worker_at s b.life.chunk w c_in w_in ks x y) (ap (some_and (λ (a : Bump). not (is_under_application t (class_of t a.life.chunk)))) bump ∙ ap not rest))
+      (ap (some_and (λ (a : Bump). not (is_under_application t (class_of t a.life.chunk)))) bump ∙ ap not rest)
       (ap (λ m. option_map_or (λ (a : Bump). with_lane t w (lane.Tried a)) m t) bump
       ∙ on_worker s b.life.chunk w c_in w_in ks x y (λ z. record z { lane = lane.Tried b }))
 
@@ -65,8 +66,7 @@ module _ (s : State) (b : Bump) (w : ℕ) (c_in : b.life.chunk < length s.chunks
   time_step now is on =
       let bump : applied_now (worker t w).lane ≡ Some b = ap applied_now lane_at ∙ is in
       run_step t _ (event.BumpTime w now) es
-      (and_from _ _ (is_worker_at s b.life.chunk w c_in w_in ks x y)
-      (ap (some_and (λ (a : Bump). (head t a.life.chunk).linked)) bump ∙ (ap (λ (z : Chunk). z.head.linked) (chunk_at s b.life.chunk w c_in w_in ks x y) ∙ on)))
+      (ap (some_and (λ (a : Bump). (head t a.life.chunk).linked)) bump ∙ (ap (λ (z : Chunk). z.head.linked) (chunk_at s b.life.chunk w c_in w_in ks x y) ∙ on))
       (ap (λ m. option_map_or (λ (a : Bump). with_time t a.life.chunk now) m t) bump
       ∙ on_chunk s b.life.chunk w c_in w_in ks x y (λ z. record z { time = now }))
 
@@ -76,9 +76,8 @@ module _ (s : State) (b : Bump) (w : ℕ) (c_in : b.life.chunk < length s.chunks
   clear_step is on cold =
       let bump : tried (worker t w).lane ≡ Some b = ap tried (lane_at ∙ is) in
       run_step t _ (event.ClearFor w) es
-      (and_from _ _ (is_worker_at s b.life.chunk w c_in w_in ks x y)
       (ap (some_and (λ (a : Bump). (head t a.life.chunk).linked && is_cold (head t a.life.chunk).segment)) bump
-      ∙ (ap (λ (z : Chunk). z.head.linked && is_cold z.head.segment) (chunk_at s b.life.chunk w c_in w_in ks x y) ∙ and_from _ _ on cold)))
+      ∙ (ap (λ (z : Chunk). z.head.linked && is_cold z.head.segment) (chunk_at s b.life.chunk w c_in w_in ks x y) ∙ and_from _ _ on cold))
       (ap (λ m. option_map_or (clear_for t w) m t) bump
       ∙ on_both s b.life.chunk w c_in w_in ks x y (λ z. record z { head = cleared_head z.head }) (λ a z. record z { lane = lane.Cleared b a.head.active }))
 
@@ -92,7 +91,7 @@ module _ (s : State) (b : Bump) (w : ℕ) (c_in : b.life.chunk < length s.chunks
   move_step is =
       let bump : cleared_active (worker t w).lane ≡ Some b = ap cleared_active (lane_at ∙ is) in
       run_step t _ (event.MoveFor w) es
-      (and_from _ _ (is_worker_at s b.life.chunk w c_in w_in ks x y) (ap (some_and (λ (a : Bump). true)) bump))
+      (ap (λ (o : Option Bump). is_some o) bump)
       (ap (λ m. option_map_or (move_for t w) m t) bump
       ∙ ap (λ u. with_change u (class_from ks b.life.chunk) entry) (on_both s b.life.chunk w c_in w_in ks x y (λ z. record z { head = moved_head segment.Warm z.head }) (λ a z. record z { lane = lane.Moved b })))
 
@@ -102,7 +101,7 @@ module _ (s : State) (b : Bump) (w : ℕ) (c_in : b.life.chunk < length s.chunks
   alight_step out ends =
       let comes : ending t w ≡ Some (applied_bump b out) = ap (ending_at (head t)) lane_at ∙ ends (head t) (ap (λ (z : Chunk). z.head) (chunk_at s b.life.chunk w c_in w_in ks x y)) in
       run_step t _ (event.Alight w) es
-      (and_from _ _ (is_worker_at s b.life.chunk w c_in w_in ks x y) (ap (some_and (λ (a : AppliedBump). true)) comes))
+      (ap (λ (o : Option AppliedBump). is_some o) comes)
       (ap (λ m. option_map_or (alight t w) m t) comes
       ∙ on_both s b.life.chunk w c_in w_in ks x y (λ z. record z { head = one_fewer z.head }) (λ a z. record z { lane = lane.Empty; applied = z.applied ++ applied_bump b out ∷ [] }))
 
@@ -226,10 +225,10 @@ laned s w r l = record (worker s w) { received = r; lane = l }
 pub next_made : (s : State) → IsLawful s → (w now : ℕ) → is_allowed s (command.Next w now) ≡ true → run_of s (events_of s (command.Next w now)) ≡ Some (command_after s (command.Next w now))
 next_made s o w now allowed = by (worker s w).lane refl
   where
-    both : (is_worker s w ≡ true) × ((not (is_half_made (worker s w).lane) && not (some_and (λ b. is_under_application s (class_of s b.life.chunk)) (bump_next (worker s w)))) ≡ true)
+    both : (is_worker s w ≡ true) × ((not (is_half_made (worker s w).lane) && option_map_or (λ b. not (is_under_application s (class_of s b.life.chunk))) (bump_next (worker s w)) true) ≡ true)
     both = and_parts _ _ allowed
 
-    more : (not (is_half_made (worker s w).lane) ≡ true) × (not (some_and (λ b. is_under_application s (class_of s b.life.chunk)) (bump_next (worker s w))) ≡ true)
+    more : (not (is_half_made (worker s w).lane) ≡ true) × (option_map_or (λ b. not (is_under_application s (class_of s b.life.chunk))) (bump_next (worker s w)) true ≡ true)
     more = and_parts _ _ both.1
 
     w_in : w < length s.workers
@@ -237,7 +236,7 @@ next_made s o w now allowed = by (worker s w).lane refl
 
     -- no lane applies a bump of the class of the next one
     rests : (b : Bump) → bump_next (worker s w) ≡ Some b → is_under_application s (class_of s b.life.chunk) ≡ false
-    rests b is = not-true _ (ap (λ m. not (some_and (λ (a : Bump). is_under_application s (class_of s a.life.chunk)) m)) (sym is) ∙ more.1)
+    rests b is = not-true _ (ap (λ m. option_map_or (λ (a : Bump). not (is_under_application s (class_of s a.life.chunk))) m true) (sym is) ∙ more.1)
 
     -- the bump that the lane carries is applied
     ends : (b : Bump) (r : List ItemId) → bump_next (worker s w) ≡ Some b → 0 < references s b.life.chunk b.life.generation
@@ -265,7 +264,7 @@ next_made s o w now allowed = by (worker s w).lane refl
         let b = bump_of (length (worker s w).received) l in
         let some = in_ring_referred s o w l w_in (omega (arith, ap (count_of l) (next_in_ring (worker s w) l next), one_if_same l)) in
         let r = (worker s w).received ++ l ∷ [] in
-        let enabled : is_enabled s (event.TakeBump w) ≡ true = and_from _ _ both.0 (and_from _ _ (ap is_empty is) (lt-ltb _ _ (slice_get_within (worker s w).sent (length (worker s w).received) l next))) in
+        let enabled : is_enabled s (event.TakeBump w) ≡ true = and_from _ _ (ap is_empty is) (lt-ltb _ _ (slice_get_within (worker s w).sent (length (worker s w).received) l next)) in
         let takes : after s (event.TakeBump w) ≡ at s l.chunk w s.classes (chunk s l.chunk) (laned s w r (lane.Carrying b)) =
         ap (λ m. option_map_or (take_bump s w) m s) next ∙ ap (λ cs. with_worker (record s { chunks = cs }) w (laned s w r (lane.Carrying b))) (sym (set-get_or s.chunks l.chunk no_chunk)) in
         ap (λ m. run_of s (take_events w m ++ apply_events (head s l.chunk) w now l.chunk)) is

@@ -1,4 +1,5 @@
 -- The command of a link is its events.
+use Rattle.std.specs.Prelude.{is_some, is_none}
 use Rattle.std.proofs.Common.{◌≡◌, ℕ, ◌+◌, ◌<◌, true, not, ◌&&◌, ◌||◌, [], ◌∷◌, length, slice_set, Option, Some, None, refl, sym, ap, ◌∙◌}
 use Rattle.std.proofs.lemmas.Bool.{and_parts, and_from, ltb-true}
 use Rattle.std.specs.Option.{option_map_or}
@@ -18,10 +19,10 @@ use Rattle.bump_state.proofs.Fronts.{next_front}
 use Rattle.bump_core.proofs.events.Runs.{run_step}
 
 -- a command that finds an item in its class finds the class at rest
-pub at_rest : (s : State) (k c : ℕ) (m : Option ℕ) → m ≡ Some c → (is_class s k && (not (some_and (λ d. true) m) || not (is_under_application s k))) ≡ true
+pub at_rest : (s : State) (k c : ℕ) (m : Option ℕ) → m ≡ Some c → (is_class s k && (is_none m || not (is_under_application s k))) ≡ true
     → (k < length s.classes) × (is_class_at_rest s k ≡ true) × (not (is_under_application s k) ≡ true)
-at_rest s k c m is allowed = let both = and_parts (is_class s k) (not (some_and (λ d. true) m) || not (is_under_application s k)) allowed in
-    let rest : not (is_under_application s k) ≡ true = ap (λ o. not (some_and (λ (d : ℕ). true) o) || not (is_under_application s k)) (sym is) ∙ both.1 in
+at_rest s k c m is allowed = let both = and_parts (is_class s k) (is_none m || not (is_under_application s k)) allowed in
+    let rest : not (is_under_application s k) ≡ true = ap (λ (o : Option ℕ). is_none o || not (is_under_application s k)) (sym is) ∙ both.1 in
     (ltb-true k (length s.classes) both.0, and_from (is_class s k) (not (is_under_application s k)) both.0 rest, rest)
 
 -- a link stores the label and the time, and begins the life
@@ -32,7 +33,7 @@ link_made s o k x now allowed = by (next_chunk s k) refl
     linked c is =
         let found = at_rest s k c (next_chunk s k) is allowed in
         let c_in = (next_front s o k c found.0 is).1 in
-        let enabled : (is_class_at_rest s k && some_and (λ (c : ℕ). true) (next_chunk s k)) ≡ true = and_from _ _ found.1 (ap (some_and (λ (c : ℕ). true)) is) in
+        let enabled : (is_class_at_rest s k && is_some (next_chunk s k)) ≡ true = and_from _ _ found.1 (ap (λ (o : Option ℕ). is_some o) is) in
         let z = chunk s c in
         let y : Chunk = record z { label = x } in
         let t = with_label s c x in

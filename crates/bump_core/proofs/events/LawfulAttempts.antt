@@ -1,4 +1,5 @@
 -- An attempted bump leaves a lawful state lawful: its reference, its push, and how it is dropped.
+use Rattle.std.specs.Prelude.{◌&&◌, is_some}
 use Rattle.std.proofs.Common.{◌≡◌, ℕ, ◌+◌, ◌<◌, true, false, not, nat_lt, [], ◌∷◌, ◌++◌, length, refl, sym, ap, ◌∙◌, arith, append_assoc, length-append, length-drop}
 use Rattle.std.proofs.lemmas.Bool.{and_parts, ltb-true}
 use Rattle.bump_rules.specs.declared.items.ItemId.{ItemId}
@@ -19,7 +20,7 @@ use Rattle.bump_state.proofs.Ring.{in_ring_push}
 use Rattle.bump_rules.proofs.Updates.{count_push}
 use Rattle.bump_state.proofs.LawfulStates.{one_if_elsewhere, one_if_at, one_if_not_at, referred_used, tried_referred, tried_in_range, tried_current, in_hand_in_range, in_hand_current, cleared_in_range, received_within}
 use Rattle.bump_core.proofs.worlds.Frames.{worker_lawful, waits_kept, both_marked, both_unreferred, both_lawful_off_lane, references_after, first_hits_after, alone_kept, tells_kept}
-use Rattle.bump_state.proofs.Enabled.{some_and_parts, lawful_by_some, trying_from, in_hand_from, clearing_from, worker_from}
+use Rattle.bump_state.proofs.Enabled.{some_and_parts, some_from, worker_there, lawful_by_some, trying_from, in_hand_from, clearing_from, worker_from}
 
 -- under the limit the attempted bump gets its reference
 pub reserve_lawful : (s : State) (w : ℕ) (l : ItemId) → IsLawful s → w < length s.workers → (worker s w).hand ≡ hand.Trying l → (head s l.chunk).refs < s.refs_limit → IsLawful (reserve s w l)
@@ -154,42 +155,38 @@ unmark_lawful s w l o inside is = both_marked s l.chunk false w y o (cleared_in_
 
 -- the attempted bump gets its reference
 pub after_reserve : (s : State) (w : ℕ) → IsLawful s → is_enabled s (event.Reserve w) ≡ true → IsLawful (after s (event.Reserve w))
-after_reserve s w o enabled = let parts = and_parts (is_worker s w) (some_and (λ l. is_under_limit s l.chunk) (tried_life (worker s w).hand)) enabled in
-    let found = some_and_parts (λ l. is_under_limit s l.chunk) (tried_life (worker s w).hand) parts.1 in
+after_reserve s w o enabled = let found = some_and_parts (λ l. is_under_limit s l.chunk) (tried_life (worker s w).hand) enabled in
     lawful_by_some (reserve s w) s (tried_life (worker s w).hand) found.0 found.1
-    (reserve_lawful s w found.0 o (worker_from s w parts.0) (trying_from (worker s w).hand found.0 found.1) (ltb-true (head s found.0.chunk).refs s.refs_limit found.2))
+    (reserve_lawful s w found.0 o (worker_there s w (λ x. tried_life x.hand) found.0 refl found.1) (trying_from (worker s w).hand found.0 found.1) (ltb-true (head s found.0.chunk).refs s.refs_limit found.2))
 
 -- the attempted bump is dropped at the limit
 pub after_drop_refs : (s : State) (w : ℕ) → IsLawful s → is_enabled s (event.DropRefs w) ≡ true → IsLawful (after s (event.DropRefs w))
-after_drop_refs s w o enabled = let parts = and_parts (is_worker s w) (some_and (λ l. not (is_under_limit s l.chunk)) (tried_life (worker s w).hand)) enabled in
-    let found = some_and_parts (λ l. not (is_under_limit s l.chunk)) (tried_life (worker s w).hand) parts.1 in
+after_drop_refs s w o enabled = let found = some_and_parts (λ l. not (is_under_limit s l.chunk)) (tried_life (worker s w).hand) enabled in
     lawful_by_some (drop_refs s w) s (tried_life (worker s w).hand) found.0 found.1
-    (drop_refs_lawful s w found.0 o (worker_from s w parts.0) (trying_from (worker s w).hand found.0 found.1))
+    (drop_refs_lawful s w found.0 o (worker_there s w (λ x. tried_life x.hand) found.0 refl found.1) (trying_from (worker s w).hand found.0 found.1))
 
 -- the attempted bump is dropped for other threads
 pub after_drop_busy : (s : State) (w : ℕ) → IsLawful s → is_enabled s (event.DropBusy w) ≡ true → IsLawful (after s (event.DropBusy w))
-after_drop_busy s w o enabled = let parts = and_parts (is_worker s w) (some_and (λ l. true) (tried_life (worker s w).hand)) enabled in
-    let found = some_and_parts (λ l. true) (tried_life (worker s w).hand) parts.1 in
+after_drop_busy s w o enabled = let found = some_from (tried_life (worker s w).hand) enabled in
     lawful_by_some (drop_busy s w) s (tried_life (worker s w).hand) found.0 found.1
-    (drop_busy_lawful s w found.0 o (worker_from s w parts.0) (trying_from (worker s w).hand found.0 found.1))
+    (drop_busy_lawful s w found.0 o (worker_there s w (λ x. tried_life x.hand) found.0 refl found.1) (trying_from (worker s w).hand found.0 found.1))
 
 -- the ring takes the bump
 pub after_push : (s : State) (w : ℕ) → IsLawful s → is_enabled s (event.Push w) ≡ true → IsLawful (after s (event.Push w))
-after_push s w o enabled = let parts = and_parts (is_open s w) (some_and (λ l. nat_lt (waiting (worker s w)) s.capacity) (life_in_hand (worker s w).hand)) enabled in
-    let found = some_and_parts (λ l. nat_lt (waiting (worker s w)) s.capacity) (life_in_hand (worker s w).hand) parts.1 in
+after_push s w o enabled = let parts = and_parts (is_open s w) (is_some (life_in_hand (worker s w).hand) && nat_lt (waiting (worker s w)) s.capacity) enabled in
+    let more = and_parts (is_some (life_in_hand (worker s w).hand)) (nat_lt (waiting (worker s w)) s.capacity) parts.1 in
+    let found = some_from (life_in_hand (worker s w).hand) more.0 in
     lawful_by_some (push s w) s (life_in_hand (worker s w).hand) found.0 found.1
-    (push_lawful s w found.0 o (worker_from s w (and_parts (is_worker s w) (worker s w).is_open parts.0).0) (in_hand_from (worker s w).hand found.0 found.1) (ltb-true (waiting (worker s w)) s.capacity found.2))
+    (push_lawful s w found.0 o (worker_from s w (and_parts (is_worker s w) (worker s w).is_open parts.0).0) (in_hand_from (worker s w).hand found.0 found.1) (ltb-true (waiting (worker s w)) s.capacity more.1))
 
 -- the bump is dropped for want of room
 pub after_drop_full : (s : State) (w : ℕ) → IsLawful s → is_enabled s (event.DropFull w) ≡ true → IsLawful (after s (event.DropFull w))
-after_drop_full s w o enabled = let parts = and_parts (is_worker s w) (some_and (λ l. not (nat_lt (length (worker s w).sent) s.capacity)) (life_in_hand (worker s w).hand)) enabled in
-    let found = some_and_parts (λ l. not (nat_lt (length (worker s w).sent) s.capacity)) (life_in_hand (worker s w).hand) parts.1 in
+after_drop_full s w o enabled = let found = some_from (life_in_hand (worker s w).hand) (and_parts (is_some (life_in_hand (worker s w).hand)) (not (nat_lt (length (worker s w).sent) s.capacity)) enabled).0 in
     lawful_by_some (drop_full s w) s (life_in_hand (worker s w).hand) found.0 found.1
-    (drop_full_lawful s w found.0 o (worker_from s w parts.0) (in_hand_from (worker s w).hand found.0 found.1))
+    (drop_full_lawful s w found.0 o (worker_there s w (λ x. life_in_hand x.hand) found.0 refl found.1) (in_hand_from (worker s w).hand found.0 found.1))
 
 -- after a drop ACTIVE is cleared
 pub after_unmark : (s : State) (w : ℕ) → IsLawful s → is_enabled s (event.Unmark w) ≡ true → IsLawful (after s (event.Unmark w))
-after_unmark s w o enabled = let parts = and_parts (is_worker s w) (some_and (λ l. true) (cleared_life (worker s w).hand)) enabled in
-    let found = some_and_parts (λ l. true) (cleared_life (worker s w).hand) parts.1 in
+after_unmark s w o enabled = let found = some_from (cleared_life (worker s w).hand) enabled in
     lawful_by_some (unmark s w) s (cleared_life (worker s w).hand) found.0 found.1
-    (unmark_lawful s w found.0 o (worker_from s w parts.0) (clearing_from (worker s w).hand found.0 found.1))
+    (unmark_lawful s w found.0 o (worker_there s w (λ x. cleared_life x.hand) found.0 refl found.1) (clearing_from (worker s w).hand found.0 found.1))

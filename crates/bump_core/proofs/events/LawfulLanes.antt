@@ -20,7 +20,7 @@ use Rattle.bump_state.specs.Rings.{in_ring, IsWorker}
 use Rattle.bump_rules.specs.Rings.{aboard, bump_applied}
 use Rattle.bump_state.specs.State.{State, WorkerState, chunk, head, class, worker, class_of, with_head, is_worker, some_and, is_under_application, new_worker}
 use Rattle.bump_rules.specs.Hands.{is_on}
-use Rattle.bump_rules.specs.Lanes.{applied_life, bump_of, carried, tried, applied_now, is_empty, cleared_active}
+use Rattle.bump_rules.specs.Lanes.{ending_at, applied_life, bump_of, carried, tried, applied_now, is_empty, cleared_active}
 use Rattle.bump_rules.specs.Heads.{cleared_head, moved_head}
 use Rattle.bump_state.specs.Events.{with_time, next_bump, ending, is_enabled, after, take_bump, with_lane, clear_for, alight, move_for}
 use Rattle.bump_state.specs.Worlds.{aboard_of, bumps_of, WaitsToMove, is_of_class, WasUnlinked, IsLawful, place, references, first_hits_of}
@@ -32,7 +32,7 @@ use Rattle.bump_rules.proofs.Updates.{total_kept}
 use Rattle.bump_rules.proofs.Counted.{how_many_push}
 use Rattle.bump_rules.proofs.Endings.{told_by_ending, gone_by_ending}
 use Rattle.bump_rules.proofs.ToldMoves.{tests_turned}
-use Rattle.bump_state.proofs.Enabled.{some_and_parts, lawful_by_some, empty_from, carrying_from, tried_from, cold_from, applied_from, worker_from, none_applies, applied_by_ending, move_for_from, cleared_from}
+use Rattle.bump_state.proofs.Enabled.{some_and_parts, some_from, worker_there, lawful_by_some, empty_from, carrying_from, tried_from, cold_from, applied_from, worker_from, none_applies, applied_by_ending, move_for_from, cleared_from}
 use Rattle.bump_rules.specs.declared.history.Change.{Change}
 use Rattle.bump_rules.specs.declared.history.Change.TheVariants as change
 use Rattle.bump_rules.specs.declared.history.Cause.TheVariants.{Bump as BumpOf}
@@ -168,40 +168,35 @@ alight_lawful s w a o inside ends = both_unreferred s a.life w (record (worker s
 
 -- a lane takes the next bump
 pub after_take_bump : (s : State) (w : ℕ) → IsLawful s → is_enabled s (event.TakeBump w) ≡ true → IsLawful (after s (event.TakeBump w))
-after_take_bump s w o enabled = let parts = and_parts (is_worker s w) (is_empty (worker s w).lane && nat_lt (length (worker s w).received) (length (worker s w).sent)) enabled in
-    let more = and_parts (is_empty (worker s w).lane) (nat_lt (length (worker s w).received) (length (worker s w).sent)) parts.1 in
+after_take_bump s w o enabled = let more = and_parts (is_empty (worker s w).lane) (nat_lt (length (worker s w).received) (length (worker s w).sent)) enabled in
     let l : ItemId = slice_index_or (worker s w).sent (length (worker s w).received) (life 0 0) in
     let next : next_bump (worker s w) ≡ Some l = slice_get-get_or (worker s w).sent (length (worker s w).received) (life 0 0) (ltb-true (length (worker s w).received) (length (worker s w).sent) more.1) in
     lawful_by_some (take_bump s w) s (next_bump (worker s w)) l next
-    (take_bump_lawful s w l o (worker_from s w parts.0) (empty_from (worker s w).lane more.0) next)
+    (take_bump_lawful s w l o (worker_there s w next_bump l refl next) (empty_from (worker s w).lane more.0) next)
 
 -- the lane looks at the item of its bump
 pub after_try : (s : State) (w : ℕ) → IsLawful s → is_enabled s (event.Try w) ≡ true → IsLawful (after s (event.Try w))
-after_try s w o enabled = let parts = and_parts (is_worker s w) (some_and (λ b. not (is_under_application s (class_of s b.life.chunk))) (carried (worker s w).lane)) enabled in
-    let found = some_and_parts (λ (b : Bump). not (is_under_application s (class_of s b.life.chunk))) (carried (worker s w).lane) parts.1 in
+after_try s w o enabled = let found = some_and_parts (λ (b : Bump). not (is_under_application s (class_of s b.life.chunk))) (carried (worker s w).lane) enabled in
     lawful_by_some (λ b. with_lane s w (lane.Tried b)) s (carried (worker s w).lane) found.0 found.1
-    (try_lawful s w found.0 o (worker_from s w parts.0) (carrying_from (worker s w).lane found.0 found.1) (not-true (is_under_application s (class_of s found.0.life.chunk)) found.2))
+    (try_lawful s w found.0 o (worker_there s w (λ x. carried x.lane) found.0 refl found.1) (carrying_from (worker s w).lane found.0 found.1) (not-true (is_under_application s (class_of s found.0.life.chunk)) found.2))
 
 -- the lane stores the time
 pub after_bump_time : (s : State) (w t : ℕ) → IsLawful s → is_enabled s (event.BumpTime w t) ≡ true → IsLawful (after s (event.BumpTime w t))
-after_bump_time s w t o enabled = let parts = and_parts (is_worker s w) (some_and (λ b. (head s b.life.chunk).linked) (applied_now (worker s w).lane)) enabled in
-    let found = some_and_parts (λ (b : Bump). (head s b.life.chunk).linked) (applied_now (worker s w).lane) parts.1 in
+after_bump_time s w t o enabled = let found = some_and_parts (λ (b : Bump). (head s b.life.chunk).linked) (applied_now (worker s w).lane) enabled in
     lawful_by_some (λ b. with_time s b.life.chunk t) s (applied_now (worker s w).lane) found.0 found.1 (time_lawful s found.0.life.chunk t o)
 
 -- the lane clears ACTIVE
 pub after_clear_for : (s : State) (w : ℕ) → IsLawful s → is_enabled s (event.ClearFor w) ≡ true → IsLawful (after s (event.ClearFor w))
-after_clear_for s w o enabled = let parts = and_parts (is_worker s w) (some_and (λ b. (head s b.life.chunk).linked && is_cold (head s b.life.chunk).segment) (tried (worker s w).lane)) enabled in
-    let found = some_and_parts (λ (b : Bump). (head s b.life.chunk).linked && is_cold (head s b.life.chunk).segment) (tried (worker s w).lane) parts.1 in
+after_clear_for s w o enabled = let found = some_and_parts (λ (b : Bump). (head s b.life.chunk).linked && is_cold (head s b.life.chunk).segment) (tried (worker s w).lane) enabled in
     let head_says = and_parts (head s found.0.life.chunk).linked (is_cold (head s found.0.life.chunk).segment) found.2 in
     lawful_by_some (clear_for s w) s (tried (worker s w).lane) found.0 found.1
-    (clear_for_lawful s w found.0 o (worker_from s w parts.0) (tried_from (worker s w).lane found.0 found.1) head_says.0 (cold_from (head s found.0.life.chunk).segment head_says.1))
+    (clear_for_lawful s w found.0 o (worker_there s w (λ x. tried x.lane) found.0 refl found.1) (tried_from (worker s w).lane found.0 found.1) head_says.0 (cold_from (head s found.0.life.chunk).segment head_says.1))
 
 -- the lane gives the bump's reference back
 pub after_alight : (s : State) (w : ℕ) → IsLawful s → is_enabled s (event.Alight w) ≡ true → IsLawful (after s (event.Alight w))
-after_alight s w o enabled = let parts = and_parts (is_worker s w) (some_and (λ a. true) (ending s w)) enabled in
-    let found = some_and_parts (λ (a : AppliedBump). true) (ending s w) parts.1 in
+after_alight s w o enabled = let found = some_from (ending s w) enabled in
     lawful_by_some (alight s w) s (ending s w) found.0 found.1
-    (alight_lawful s w found.0 o (worker_from s w parts.0) found.1)
+    (alight_lawful s w found.0 o (worker_there s w (λ x. ending_at (head s) x.lane) found.0 refl found.1) found.1)
 
 -- a lane that moved its item does not wait to move it
 two_lanes : (s : State) (v w : ℕ) (a b : Bump) → v ≡ w → (worker s v).lane ≡ lane.Cleared a true → (worker s w).lane ≡ lane.Moved b → ⊥

@@ -1,5 +1,6 @@
 -- A ring that was closed stays closed, and accepts nothing.
 use Rattle.std.proofs.Common.{◌≡◌, ℕ, ◌&&◌, not, true, false, List, [], ◌∷◌, ◌++◌, take, drop, take-append-drop, Some, refl, sym, ap, ◌∙◌, subst, nat_lt}
+use Rattle.std.specs.Prelude.{is_some}
 use Rattle.std.proofs.lemmas.Bool.{and_parts, both_ways}
 use Rattle.std.proofs.lemmas.List.{get_or-set_other}
 use native.Mathlib.Decide.{ℕ_discrete}
@@ -49,7 +50,7 @@ closed_after s (event.Reserve w) enabled = by_value (ClosedStay s) (reserve s w)
 closed_after s (event.DropRefs w) enabled = by_value (ClosedStay s) (drop_refs s w) (tried_life (worker s w).hand) s (λ l is. closed_worked s w _ refl refl) (closed_here s)
 closed_after s (event.DropBusy w) enabled = by_value (ClosedStay s) (drop_busy s w) (tried_life (worker s w).hand) s (λ l is. closed_worked s w _ refl refl) (closed_here s)
 closed_after s (event.Push w) enabled = by_value (ClosedStay s) (push s w) (life_in_hand (worker s w).hand) s
-    (λ l is. closed_else s w _ (and_parts (is_worker s w) (worker s w).is_open (and_parts (is_open s w) (some_and (λ l. nat_lt (waiting (worker s w)) s.capacity) (life_in_hand (worker s w).hand)) enabled).0).1) (closed_here s)
+    (λ l is. closed_else s w _ (and_parts (is_worker s w) (worker s w).is_open (and_parts (is_open s w) (is_some (life_in_hand (worker s w).hand) && nat_lt (waiting (worker s w)) s.capacity) enabled).0).1) (closed_here s)
 closed_after s (event.DropFull w) enabled = by_value (ClosedStay s) (drop_full s w) (life_in_hand (worker s w).hand) s (λ l is. closed_worked s w _ refl refl) (closed_here s)
 closed_after s (event.Unmark w) enabled = by_value (ClosedStay s) (unmark s w) (cleared_life (worker s w).hand) s (λ l is. closed_worked s w _ refl refl) (closed_here s)
 closed_after s (event.Close w) enabled = closed_else s w _ (close_from s w enabled).1
