@@ -1,4 +1,4 @@
-use Rattle.std.proofs.Common.{◌∙◌, ap}
+use Rattle.std.proofs.Common.{◌∙◌, ap, rules}
 use Rattle.bump_rules.specs.declared.commands.Command.TheVariants as command
 use Rattle.example_cache.specs.Cache.{named}
 use Rattle.example_cache.specs.declared.cache.Cache.{Cache}
@@ -22,3 +22,6 @@ returns-in_default c =
       kept = ap (λ u. let x : Cache = record c.args.self.now { world = u } in x) (made.after ∙ take_left s w id (λ h. c.in_default.not-Held (made.answer ∙ h)));
       sizes = made.sizes;
     }
+
+pub returns-in-RefsFull-clause-refusal : goal.returns-in-RefsFull-clause-refusal
+returns-in-RefsFull-clause-refusal c = search rules

@@ -1,0 +1,11 @@
+use Rattle.std.proofs.Common.{rules}
+use Rattle.example_cache.proofs.cache.Cache.release.Goals as goal
+
+pub returns-in_err-made-clause-refusal : goal.returns-in_err-made-clause-refusal
+returns-in_err-made-clause-refusal c = search rules
+
+pub returns-clause-refusal : goal.returns-clause-refusal
+returns-clause-refusal c = search rules
+
+pub returns-clause-after : goal.returns-clause-after
+returns-clause-after c = search rules
