@@ -15,10 +15,10 @@ use Rattle.bump_rules.specs.declared.lanes.Lane.TheVariants as lane
 use Rattle.bump_rules.specs.declared.bumps.AppliedBump.{AppliedBump}
 use Rattle.bump_rules.specs.declared.bumps.Outcome.{Outcome}
 use Rattle.bump_rules.specs.declared.bumps.Outcome.TheVariants as outcome
-use Rattle.bump_rules.specs.Lawful.{bit, Shows, Lawful}
+use Rattle.bump_rules.specs.Lawful.{bit, Shows, IsUsed, Lawful}
 use Rattle.bump_rules.specs.Totals.{total}
 use Rattle.bump_rules.specs.History.{Standing, is_standing}
-use Rattle.bump_rules.proofs.Laws.{unreferred, marked, moved, in_segment}
+use Rattle.bump_rules.proofs.Laws.{unreferred, marked, moved, in_segment, used_in_segment}
 use Rattle.bump_word.specs.Layout.{active_first}
 use Rattle.bump_word.specs.Words.{Spells, segment_change}
 use Rattle.bump_word.proofs.Steps.{one_less, clear_active, change_segment}
@@ -48,6 +48,7 @@ use Rattle.bump_rules.specs.Totals.{how_many}
 use Rattle.bump_rules.proofs.Updates.{total_push, total_append}
 use Rattle.bump_rules.proofs.Replay.{standing_push}
 use Rattle.bump_rules.proofs.Standings.{standing_same}
+use Rattle.bump_steps.proofs.LifeLabels.{have_on_first, noted_labels, entered_labels}
 use Rattle.bump_steps.proofs.Frame.{Same, Amid, Reaches, on_time, same_sound}
 use Rattle.bump_steps.proofs.StepLemmas.{time_chunk_is, at_chunk, on_first_total, on_first_le, owned_push, same_counts, level, one_life, other_life, other_chunk}
 
@@ -84,6 +85,7 @@ tried_backed c n v = record {
   backs = λ wk e. (by wk e e.outcome, λ more. absurd (let same = on_first_total (claimed_in wk e) (tried_lane c n) (λ l. refl) v.lanes in omega arith));
   even = λ q. let same = on_first_total (settled_in q) (tried_lane c n) (λ l. cond_is (l.worker == q.worker) _ _ (ap (λ (g : ℕ). how_many (is_told_moved q.test q.number) l.applied + g) (tried_going q l.stage))) v.lanes in omega arith;
   own = omega arith;
+  labels = λ have. have;
   workers = λ w. refl;
   lanes = λ w. let same = on_first_total (λ l. cond (l.worker == w) 1 0) (tried_lane c n) (λ l. refl) v.lanes in omega arith;
   tidy = let same = on_first_total untidy_in (tried_lane c n) (λ l. ap (λ (o : Option Bump). cond (in_order 0 l.applied o) 0 1) (tried_refers l.stage)) v.lanes in omega arith;
@@ -126,6 +128,7 @@ module _ (c n : ℕ) (v : View) where
     even = λ q. let same = on_first_total (settled_in q) (cleared_lane (not (active_clear n))) (λ l. cond_is (l.worker == q.worker) _ _ (ap (λ (g : ℕ). how_many (is_told_moved q.test q.number) l.applied + g) (cleared_going q (not (active_clear n)) l.stage))) v.lanes in
         let same_moves = on_first_total (λ k. how_many (is_move_for q.test q.worker q.number) k.history) (noted_class kind.ClearActive c n v.lanes) (λ k. refl) v.classes in omega arith;
     own = let same = on_first_total foreign_in (noted_class kind.ClearActive c n v.lanes) (λ k. refl) v.classes in omega arith;
+    labels = have_on_first (noted_class kind.ClearActive c n v.lanes) (λ k p. noted_labels k (noted_class kind.ClearActive c n v.lanes k).steps p) v.classes;
     workers = λ w. refl;
     lanes = λ w. let same = on_first_total (λ l. cond (l.worker == w) 1 0) (cleared_lane (not (active_clear n))) (λ l. refl) v.lanes in omega arith;
     tidy = let same = on_first_total untidy_in (cleared_lane (not (active_clear n))) (λ l. ap (λ (o : Option Bump). cond (in_order 0 l.applied o) 0 1) (cleared_refers (not (active_clear n)) l.stage)) v.lanes in omega arith;
@@ -154,6 +157,7 @@ module _ (c n : ℕ) (v : View) where
     backs = λ wk e. (by wk e e.outcome, λ more. absurd (omega arith));
     even = λ q. let same_moves = on_first_total (λ k. how_many (is_move_for q.test q.worker q.number) k.history) (noted_class kind.PutTime c n v.lanes) (λ k. refl) v.classes in omega arith;
     own = let same = on_first_total foreign_in (noted_class kind.PutTime c n v.lanes) (λ k. refl) v.classes in omega arith;
+    labels = have_on_first (noted_class kind.PutTime c n v.lanes) (λ k p. noted_labels k (noted_class kind.PutTime c n v.lanes k).steps p) v.classes;
     workers = λ w. refl;
     lanes = λ w. refl;
     tidy = omega arith;
@@ -310,6 +314,7 @@ module _ (key : Config) (slots id c : ℕ) (near : c < chunks key) (k : ClassPar
         backs = λ wk e. (shift_shows c k st.0 l refl from to cause.Pull made [] [] (λ d j. refl) wk e e.outcome refl, λ more. absurd (omega arith));
         even = λ q. omega (arith, total_push (λ z. cond (is_move_for q.test q.worker q.number z) 1 0) k.history (change.Moved l from to cause.Pull), ap bit (no_move q.test q.worker q.number (change.Moved l from to cause.Pull) refl));
         own = shift_own c k st.0 l refl from to cause.Pull made [] [] (λ d j. refl);
+        labels = λ have. (entered_labels k (change.Moved l from to cause.Pull) (k.steps ++ made ∷ []) have.0 refl (λ used. subst IsUsed (sym st.1) (used_in_segment from)), tt);
         workers = λ w. refl;
         lanes = λ w. refl;
         tidy = omega arith;
@@ -322,6 +327,9 @@ module _ (key : Config) (slots id c : ℕ) (near : c < chunks key) (k : ClassPar
   shifts l b of is_cold is_warm x = at_chunk (moved_on from to) key slots id (applying k (record l { stage = lane.Cleared b true }), sl) c x (λ n. bit_xor n (segment_change from to)) near (λ n y t limits o a.
       let why : Cause = cause.Bump l.worker b.number in let made : OwnStep = step_of kind.Move c n (Some (l.worker, b.number)) in
       let ls : List LanePart = record l { stage = lane.Cleared b true } ∷ [] in let ms : List LanePart = record l { stage = lane.Moved b } ∷ [] in
+      let v : View = applying k (record l { stage = lane.Cleared b true }) in
+      let here = at_standing c key.refs_limit n y v t o a (standing k c) (stands_alone c v k refl st.0) in
+      let live : b.life.generation ≡ (standing k b.life.chunk).1 = (o.lawful.used b.life.generation (omega (arith, a.mine (held b.life.generation), one_life b.life, ap (λ (d : ℕ). one_if (life d b.life.generation) b.life) of))).0 ∙ ap (λ (s : Standing). s.1) here ∙ ap (λ (d : ℕ). (standing k d).1) (sym of) in
       shift_goes c k st.0 b.life of from to why made ls ms (λ d j. refl) key slots id near sl (moved_on from to) x (standing k c) refl st.1
       (λ n y t o a gen. (o.lawful.used b.life.generation (omega (arith, a.mine (held b.life.generation), one_life b.life, ap (λ (d : ℕ). one_if (life d b.life.generation) b.life) of))).0 ∙ gen)
       (record {
@@ -333,6 +341,7 @@ module _ (key : Config) (slots id c : ℕ) (near : c < chunks key) (k : ClassPar
           even_bits (q.test b.life) (l.worker == q.worker) (b.number == q.number) (how_many (is_told_moved q.test q.number) l.applied),
         );
         own = shift_own c k st.0 b.life of from to why made ls ms (λ d j. refl);
+        labels = λ have. (entered_labels k (change.Moved b.life from to why) (k.steps ++ made ∷ []) have.0 live (λ used. subst IsUsed (sym (ap (λ (d : ℕ). (standing k d).0) of ∙ st.1)) (used_in_segment from)), tt);
         workers = λ w. refl;
         lanes = λ w. refl;
         tidy = omega arith;
@@ -456,6 +465,7 @@ module _ (key : Config) (slots id : ℕ) (k : ClassPart) (l : LanePart) (b : Bum
         ap (λ (t : ℕ). cond (l.worker == q.worker) (t + 0) 0) (applied_is (λ a. cond (is_told_moved q.test q.number a) 1 0)),
       );
       own = omega arith;
+      labels = λ have. have;
       workers = λ w. refl;
       lanes = λ w. refl;
       tidy = omega (arith, ap {B = ℕ} (λ (x : Bool). cond x 0 1) (ap (in_order 0 l.applied) aboard ∙ sym (order_ends b (record { number = b.number; life = b.life; outcome = out }) refl l.applied 0) ∙ sym (ap (λ (o : Option Bump). in_order 0 (l.applied ++ entry_of out o) None) aboard)));

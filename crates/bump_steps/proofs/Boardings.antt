@@ -43,4 +43,4 @@ module _ (l : LanePart) (r : Ride) where
   same_evidence n a outcome.TimeOnly = omega arith
 
   pub boards : (key : Config) (id other : ℕ) → Joins (Kept key) id waiting other riding (board_both waiting riding) blank
-  boards key id other = joins key id waiting other riding (board_both waiting riding) blank even (λ n a. (omega arith, same_evidence n a a.outcome)) (λ q. (omega arith, omega arith)) refl (λ n. refl) (λ n. refl) (omega (arith, ap {B = ℕ} (λ (x : Bool). cond x 0 1) (order_boards (record { number = length l.applied; life = r.life }) l.applied 0 (omega arith))))
+  boards key id other = joins key id waiting other riding (board_both waiting riding) blank even (λ n a. (omega arith, same_evidence n a a.outcome)) (λ q. (omega arith, omega arith)) refl (λ have more. (tt, tt)) (λ n. refl) (λ n. refl) (omega (arith, ap {B = ℕ} (λ (x : Bool). cond x 0 1) (order_boards (record { number = length l.applied; life = r.life }) l.applied 0 (omega arith))))

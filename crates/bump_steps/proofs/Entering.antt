@@ -38,13 +38,14 @@ use Rattle.bump_steps.specs.declared.views.Kind.TheVariants as kind
 use Rattle.bump_steps.specs.declared.views.OwnStep.{OwnStep}
 use Rattle.bump_steps.specs.declared.views.ClassPart.{ClassPart}
 use Rattle.bump_steps.specs.declared.views.View.{View}
-use Rattle.bump_steps.specs.Views.{Measure, held, named, saw, owners, strays, mislabels, misreads, owns, standing, label_of, weight, shown_by, shows_time_only, IsBacked}
+use Rattle.bump_steps.specs.Views.{Measure, held, named, saw, owners, strays, mislabels, misreads, owns, standing, label_of, weight, shown_by, shows_time_only, HasLabels, IsBacked}
 use Rattle.bump_steps.specs.Rule.{Sound, chunks, Kept}
 use Rattle.bump_steps.specs.Plays.{Sat, on_chunk, step_of, Stands}
 use Rattle.bump_steps.specs.Lives.{alone, looked, begun, freed, seen, IsInSegment, StandsAt, IsLinked, IsDying, MayBegin, on_part, beginning, severing, sweeping}
 use Rattle.bump_steps.specs.Lives as lives
 use Rattle.bump_steps.proofs.Frame.{Same, Amid, Reaches, on_head, same_sound}
 use Rattle.bump_steps.proofs.LabelLists.{word_begun}
+use Rattle.bump_steps.proofs.LifeLabels.{entered_labels, begun_labels}
 use Rattle.bump_steps.proofs.Looking.{looked_same, looked_backed}
 use Rattle.bump_steps.proofs.StepLemmas.{chunk_is, at_chunk, owned_push, same_counts}
 use Rattle.bump_steps.proofs.Told.{at_standing, tells, stands_alone}
@@ -76,11 +77,12 @@ module _ (c : ℕ) (k : ClassPart) (own : owns c k ≡ true) (e : Change) (ls : 
   no_stray = ap₂ (λ (o same : Bool). bit (o && not same) + 0) own (standing_same _ _ (standing_push c (Unused, k.fresh) k.history e ∙ ap (λ o. cond o (target e, (subject e).generation) (standing k c)) (eq-eqb (subject e).chunk c of)))
 
   -- the entry shows what was shown, and no move
-  pub enter_backed : IsBacked (alone k) entering
-  enter_backed = record {
+  pub enter_backed : (HasLabels k → HasLabels (record k { history = k.history ++ e ∷ []; labels = ls; steps = k.steps ++ x ∷ [] })) → IsBacked (alone k) entering
+  enter_backed keeps = record {
     backs = λ wk d. (by wk d d.outcome, λ more. absurd (omega arith));
     even = λ q. omega (arith, total_push (λ z. bit (is_move_for q.test q.worker q.number z)) k.history e, ap bit (no_move q.test q.worker q.number e quiet));
     own = omega (arith, total_push (λ z. bit (not (owns (subject z).chunk k))) k.history e, ap (λ (d : ℕ). bit (not (owns d k))) of, ap (λ (b : Bool). bit (not b)) own);
+    labels = λ have. (keeps have.0, tt);
     workers = λ w. refl;
     lanes = λ w. refl;
     tidy = omega arith;
@@ -116,6 +118,23 @@ linked_in_segment h Cold shows in_it = shows.0
 linked_in_segment h Dying shows in_it = absurd in_it
 linked_in_segment h Unused shows in_it = absurd in_it
 linked_in_segment h Retired shows in_it = absurd in_it
+
+-- and isn't free
+pub used_in_place : (at : Place) → IsInSegment at → IsUsed at
+used_in_place Hot in_it = tt
+used_in_place Warm in_it = tt
+used_in_place Cold in_it = tt
+used_in_place Dying in_it = tt
+used_in_place Unused in_it = absurd in_it
+used_in_place Retired in_it = absurd in_it
+
+-- no chunk is freed to a place of chunks in use
+pub freed_unused : (l : ItemId) → IsUsed (target (freed_change l)) → ⊥
+freed_unused l = by (l.generation == 4294967295)
+  where
+    by : (b : Bool) → IsUsed (target (if b then change.Retired l else change.Swept l)) → ⊥
+    by true used = used
+    by false used = used
 
 -- the entry of a chunk that is freed names no bump
 pub freed_quiet : (l : ItemId) → names_bump (freed_change l) ≡ false
@@ -159,7 +178,7 @@ module _ (key : Config) (slots id c : ℕ) (near : c < chunks key) (sl : List (�
             (a.readers (o.head.generation + 1) label (none_where_free key.refs_limit o.head o.at (λ g. t (held g)) (λ g. t (named g)) o.lawful (ap IsUsed place) (o.head.generation + 1)))
             (born key.refs_limit o.head o.at (λ g. t (held g)) (λ g. t (named g)) o.lawful place limits.0)),
         enter_apart c k own e ls x refl refl same,
-        enter_backed c k own e ls x refl refl same,
+        enter_backed c k own e ls x refl refl same (λ p. begun_labels c (new / 2 ^ generation_first) new k p (sym here ∙ ap (λ (g : ℕ). g + 1) gen)),
         refl,
       )))
 
@@ -176,7 +195,7 @@ module _ (key : Config) (slots id c : ℕ) (near : c < chunks key) (sl : List (�
         (λ u moves. enter_sound c k own e k.labels x refl refl (λ b. refl) key.refs_limit n ((n + (2 ^ 64 - (2 ^ linked_first + 1))) % 2 ^ 64) label t u a moves o (severed_head o.head) (unlink n o.head o.spells (on, omega (arith, many, ap bit on))) gen o.read
             (severed key.refs_limit o.head o.at (λ g. t (held g)) (λ g. t (named g)) o.lawful on)),
         enter_apart c k own e k.labels x refl refl (λ b. refl),
-        enter_backed c k own e k.labels x refl refl (λ b. refl),
+        enter_backed c k own e k.labels x refl refl (λ b. refl) (λ p. entered_labels k e (k.steps ++ x ∷ []) p refl (λ used. used_in_place (standing k c).0 in_it)),
         (refl, (o.head, o.spells, (tells c key.refs_limit n label (alone k) t o a, many))),
       ))
 
@@ -205,7 +224,7 @@ module _ (key : Config) (slots id c : ℕ) (near : c < chunks key) (sl : List (�
             (λ u moves. enter_sound c k own e k.labels x of (freed_quiet l) (λ b. refl) key.refs_limit n n label t u a moves o o.head o.spells (gen ∙ sym (ap (λ (j : ItemId). j.generation) (freed_subject l))) o.read
                 (ended key.refs_limit o.head o.at (λ g. t (held g)) (λ g. t (named g)) o.lawful (target e) place zero_refs (freed_shows o.head l (subst (Shows o.head) place o.lawful.shown) o.lawful.generation gen))),
             enter_apart c k own e k.labels x of (freed_quiet l) (λ b. refl),
-            enter_backed c k own e k.labels x of (freed_quiet l) (λ b. refl),
+            enter_backed c k own e k.labels x of (freed_quiet l) (λ b. refl) (λ p. entered_labels k e (k.steps ++ x ∷ []) p (subst (λ (j : ItemId). j.generation ≡ (standing k j.chunk).1) (sym (freed_subject l)) refl) (λ used. absurd (freed_unused l used))),
             (ap (λ (b : Bool). (on_part (λ j. if b then freed c n j else looked c n j) (alone k), sl)) (sym is), (o.head, o.spells, tells c key.refs_limit n label (alone k) t o a)),
           )
 

@@ -14,10 +14,11 @@ use Rattle.bump_rules.specs.declared.bumps.AppliedBump.{AppliedBump}
 use Rattle.bump_rules.specs.Lives.{life, one_if}
 use Rattle.bump_rules.proofs.Updates.{total_append, total_below}
 use Rattle.bump_steps.specs.declared.views.View.{View}
-use Rattle.bump_steps.specs.Views.{Measure, held, owners, strays, mislabels, misreads, misread, differs, owns, standing, label_of, weight, tally, claims, evidence, Query, moves, settled, foreign, workers_of, lanes_of, untidy, IsBacked}
+use Rattle.bump_steps.specs.Views.{Measure, held, owners, strays, mislabels, misreads, misread, differs, owns, standing, label_of, weight, tally, claims, evidence, Query, moves, settled, foreign, HaveLabels, workers_of, lanes_of, untidy, IsBacked}
 use Rattle.bump_steps.specs.Rule.{Sound, SoundAt, chunks, Kept, HasFittingLimit}
 use Rattle.bump_steps.specs.Plays.{every}
 use Rattle.bump_steps.proofs.Once.{settled_once, settled_here}
+use Rattle.bump_steps.proofs.LifeLabels.{labelled_at, labelled_beside, labelled_set, labelled_push}
 use Rattle.bump_steps.proofs.Sums.{total-set, none_where_none, term_le, others_le}
 
 abbrev pub Sat : Type 0
@@ -101,6 +102,7 @@ module _ (key : Config) (s : State Empty View) (o : Kept key s) (homes : List (O
     true_entries = backed s.views i v w me back o.true_entries;
     even_moves = λ q. omega (arith, total-set (moves q) s.views i v w me, total-set (settled q) s.views i v w me, back.even q, o.even_moves q);
     own_chunks = omega (arith, total-set foreign s.views i v w me, back.own, o.own_chunks);
+    own_labels = labelled_set s.views i v w me o.own_labels (back.labels (labelled_at s.views i v me o.own_labels));
     one_worker = λ n. omega (arith, total-set (workers_of n) s.views i v w me, back.workers n, o.one_worker n);
     one_lane = λ n. omega (arith, total-set (lanes_of n) s.views i v w me, back.lanes n, o.one_lane n);
     orderly = omega (arith, total-set untidy s.views i v w me, back.tidy, o.orderly);
@@ -154,14 +156,15 @@ same_sound limit n x t u e o = subst (Sound limit n x) (λ i y. sym (e y) i) o
 abbrev pub AddsUp : (View → ℕ) → View → View → View → Type 0
 AddsUp f v left right = f left + f right ≡ f v
 
-pub splits : (key : Config) (id : ℕ) (v left right : View) → ((c : ℕ) (x : Measure) → AddsUp (weight c x) v left right) → ((n : ℕ) (e : AppliedBump) → AddsUp (claims n e) v left right × AddsUp (evidence n e) v left right) → ((q : Query) → AddsUp (moves q) v left right × AddsUp (settled q) v left right) → AddsUp foreign v left right → ((n : ℕ) → AddsUp (workers_of n) v left right) → ((n : ℕ) → AddsUp (lanes_of n) v left right) → AddsUp untidy v left right → Splits (Kept key) id v left right
-splits key id v left right even entries rides owned workers lanes tidy s o me = record {
+pub splits : (key : Config) (id : ℕ) (v left right : View) → ((c : ℕ) (x : Measure) → AddsUp (weight c x) v left right) → ((n : ℕ) (e : AppliedBump) → AddsUp (claims n e) v left right × AddsUp (evidence n e) v left right) → ((q : Query) → AddsUp (moves q) v left right × AddsUp (settled q) v left right) → AddsUp foreign v left right → (HaveLabels v.classes → HaveLabels left.classes × HaveLabels right.classes) → ((n : ℕ) → AddsUp (workers_of n) v left right) → ((n : ℕ) → AddsUp (lanes_of n) v left right) → AddsUp untidy v left right → Splits (Kept key) id v left right
+splits key id v left right even entries rides owned labels workers lanes tidy s o me = record {
   wide = o.wide;
   small = o.small;
   each = λ c near. same_sound key.refs_limit (get_or s.words (3 * c + 9) 0) (get_or s.words (3 * c + 11) 0) (tally s.views c) (tally (set s.views id left ++ right ∷ []) c) (λ x. keep (weight c x) (even c x)) (o.each c near);
   true_entries = λ n e many. let old = o.true_entries n e in omega (arith, keep (claims n e) (entries n e).0, keep (evidence n e) (entries n e).1, old (omega (arith, keep (claims n e) (entries n e).0)));
   even_moves = λ q. omega (arith, keep (moves q) (rides q).0, keep (settled q) (rides q).1, o.even_moves q);
   own_chunks = omega (arith, keep foreign owned, o.own_chunks);
+  own_labels = let have = labels (labelled_at s.views id v me o.own_labels) in labelled_push (set s.views id left) right (labelled_set s.views id v left me o.own_labels have.0) have.1;
   one_worker = λ n. omega (arith, keep (workers_of n) (workers n), o.one_worker n);
   one_lane = λ n. omega (arith, keep (lanes_of n) (lanes n), o.one_lane n);
   orderly = omega (arith, keep untidy tidy, o.orderly);
@@ -172,14 +175,15 @@ splits key id v left right even entries rides owned workers lanes tidy s o me = 
 
 pub joins : (key : Config) (id : ℕ) (v : View) (other : ℕ) (w both spent : View) → ((c : ℕ) (x : Measure) → weight c x both + weight c x spent ≡ weight c x v + weight c x w)
     → ((n : ℕ) (e : AppliedBump) → (claims n e both + claims n e spent ≡ claims n e v + claims n e w) × (evidence n e both + evidence n e spent ≡ evidence n e v + evidence n e w))
-    → ((q : Query) → (moves q both + moves q spent ≡ moves q v + moves q w) × (settled q both + settled q spent ≡ settled q v + settled q w)) → foreign both + foreign spent ≡ foreign v + foreign w → ((n : ℕ) → workers_of n both + workers_of n spent ≡ workers_of n v + workers_of n w) → ((n : ℕ) → lanes_of n both + lanes_of n spent ≡ lanes_of n v + lanes_of n w) → untidy both + untidy spent ≡ untidy v + untidy w → Joins (Kept key) id v other w both spent
-joins key id v other w both spent even entries rides owned workers lanes tidy s o me apart them = record {
+    → ((q : Query) → (moves q both + moves q spent ≡ moves q v + moves q w) × (settled q both + settled q spent ≡ settled q v + settled q w)) → foreign both + foreign spent ≡ foreign v + foreign w → (HaveLabels v.classes → HaveLabels w.classes → HaveLabels both.classes × HaveLabels spent.classes) → ((n : ℕ) → workers_of n both + workers_of n spent ≡ workers_of n v + workers_of n w) → ((n : ℕ) → lanes_of n both + lanes_of n spent ≡ lanes_of n v + lanes_of n w) → untidy both + untidy spent ≡ untidy v + untidy w → Joins (Kept key) id v other w both spent
+joins key id v other w both spent even entries rides owned labels workers lanes tidy s o me apart them = record {
   wide = o.wide;
   small = o.small;
   each = λ c near. same_sound key.refs_limit (get_or s.words (3 * c + 9) 0) (get_or s.words (3 * c + 11) 0) (tally s.views c) (tally (set (set s.views id both) other spent) c) (λ x. keep (weight c x) (even c x)) (o.each c near);
   true_entries = λ n e many. let old = o.true_entries n e in omega (arith, keep (evidence n e) (entries n e).1, old (omega (arith, keep (claims n e) (entries n e).0)));
   even_moves = λ q. omega (arith, keep (moves q) (rides q).0, keep (settled q) (rides q).1, o.even_moves q);
   own_chunks = omega (arith, keep foreign owned, o.own_chunks);
+  own_labels = let have = labels (labelled_at s.views id v me o.own_labels) (labelled_beside s.views id other both w apart them o.own_labels) in labelled_set (set s.views id both) other w spent them (labelled_set s.views id v both me o.own_labels have.0) have.1;
   one_worker = λ n. omega (arith, keep (workers_of n) (workers n), o.one_worker n);
   one_lane = λ n. omega (arith, keep (lanes_of n) (lanes n), o.one_lane n);
   orderly = omega (arith, keep untidy tidy, o.orderly);

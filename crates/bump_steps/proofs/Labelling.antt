@@ -23,6 +23,7 @@ use Rattle.bump_steps.specs.Plays.{Sat, step_of, Stands}
 use Rattle.bump_steps.specs.Lives.{alone, labelled, on_part, IsUnused, storing}
 use Rattle.bump_steps.proofs.Frame.{Same, on_label}
 use Rattle.bump_steps.proofs.LabelLists.{word_stored}
+use Rattle.bump_steps.proofs.LifeLabels.{stored_labels}
 use Rattle.bump_steps.proofs.StepLemmas.{label_chunk_is, owned_push}
 use Rattle.bump_steps.proofs.Told.{at_standing, stands_alone}
 
@@ -43,11 +44,12 @@ module _ (c y : ℕ) (k : ClassPart) (own : owns c k ≡ true) where
       ∙ (ap (λ (l : ℕ). bit (not (eqb l y)) + 0) (word_stored c 0 k.labels c y ∙ ap (λ (o : Bool). if o then y else label_of k c) (eq-eqb c c refl)) ∙ ap (λ (o : Bool). bit (not o) + 0) (eq-eqb y y refl))
 
   -- what was shown is shown, and no move
-  label_backed : IsBacked (alone k) (alone (labelled c y k))
-  label_backed = record {
+  label_backed : (standing k c).0 ≡ Unused → IsBacked (alone k) (alone (labelled c y k))
+  label_backed unused = record {
     backs = λ wk d. (by wk d d.outcome, λ more. absurd (omega arith));
     even = λ q. omega arith;
     own = omega arith;
+    labels = λ have. (stored_labels c y k have.0 unused, tt);
     workers = λ w. refl;
     lanes = λ w. refl;
     tidy = omega arith;
@@ -79,7 +81,7 @@ module _ (key : Config) (slots id c : ℕ) (near : c < chunks key) (sl : List (�
           hit = λ j some. omega (arith, moves (named j), o.hit j (omega (arith, some, moves (saw j))));
         }),
         label_apart c y k own,
-        label_backed c y k own,
+        label_backed c y k own unused,
         refl,
       )))
 

@@ -1,11 +1,12 @@
 pub mod Decoded
 pub mod Sums
 pub mod Once
+pub mod LabelLists
+pub mod LifeLabels
 pub mod Frame
 pub mod StepLemmas
 pub mod Told
 pub mod Moves
-pub mod LabelLists
 pub mod Looking
 pub mod Entering
 pub mod Labelling

@@ -17,6 +17,7 @@ use Rattle.bump_steps.specs.Views.{held, named, saw, owners, strays, mislabels, 
 use Rattle.bump_steps.specs.Rule.{chunks, Kept}
 use Rattle.bump_steps.specs.Plays.{Sat, on_chunk, step_of}
 use Rattle.bump_steps.specs.Lives.{looked, on_part, peeking, looking}
+use Rattle.bump_steps.proofs.LifeLabels.{have_on_first, noted_labels}
 use Rattle.bump_steps.proofs.Frame.{Same, same_sound}
 use Rattle.bump_steps.proofs.StepLemmas.{at_chunk, on_first_total, on_first_le, owned_push, same_counts}
 use Rattle.bump_steps.proofs.Told.{tells}
@@ -38,6 +39,7 @@ module _ (c n : ℕ) (v : View) where
     backs = λ wk e. (by wk e e.outcome, λ more. absurd (omega arith));
     even = λ q. let same_moves = on_first_total (λ k. how_many (is_move_for q.test q.worker q.number) k.history) (looked c n) (λ k. refl) v.classes in omega arith;
     own = let same = on_first_total foreign_in (looked c n) (λ k. refl) v.classes in omega arith;
+    labels = have_on_first (looked c n) (λ k p. noted_labels k (looked c n k).steps p) v.classes;
     workers = λ w. refl;
     lanes = λ w. refl;
     tidy = omega arith;
@@ -65,6 +67,6 @@ module _ (key : Config) (slots id : ℕ) (m : Sat) (c : ℕ) (near : c < chunks 
     m.0,
     (λ u moved. same_sound key.refs_limit n x t u (λ y. let e = moved y in omega arith) o),
     (λ b ne y. refl),
-    record { backs = λ wk e. (omega arith, λ more. absurd (omega arith)); even = λ q. omega arith; own = omega arith; workers = λ w. refl; lanes = λ w. refl; tidy = omega arith },
+    record { backs = λ wk e. (omega arith, λ more. absurd (omega arith)); even = λ q. omega arith; own = omega arith; labels = λ have. have; workers = λ w. refl; lanes = λ w. refl; tidy = omega arith },
     (refl, (o.head, o.spells, tells c key.refs_limit n x m.0 t o a)),
   ))

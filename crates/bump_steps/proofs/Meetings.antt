@@ -62,6 +62,6 @@ meets key slots id m c near = subst (λ (d : ℕ). Allows (Kept key) slots id m 
       m.0,
       (λ u moved. same_sound key.refs_limit n x t u (λ y. let e = moved y in omega arith) o),
       (λ b ne y. refl),
-      record { backs = λ n e. (omega arith, λ more. absurd (omega arith)); even = λ q. omega arith; own = omega arith; workers = λ w. refl; lanes = λ w. refl; tidy = omega arith },
+      record { backs = λ n e. (omega arith, λ more. absurd (omega arith)); even = λ q. omega arith; own = omega arith; labels = λ have. have; workers = λ w. refl; lanes = λ w. refl; tidy = omega arith },
       (refl, met_labels c key.refs_limit n x m.0 t o a),
     )))

@@ -34,6 +34,7 @@ use Rattle.bump_steps.specs.Marks.{noted}
 use Rattle.bump_steps.specs.References.{looked_view, looked, new_hold, taken_view, taken, HasHold, given_view, given_back, read_hold, read_view, IsLabel, label_read, seen}
 use Rattle.bump_steps.specs.Rule.{Sound, chunks, Kept, blank, HasFittingLimit}
 use Rattle.bump_steps.specs.Views.{Measure, held, named, saw, owners, strays, mislabels, misreads, is_fetch, is_fetch_of, in_hand, misread, differs, weight, tally, claims, evidence, shown_by, moves, settled, foreign, workers_of, lanes_of, untidy, IsBacked}
+use Rattle.bump_steps.proofs.LifeLabels.{labelled_push}
 use Rattle.bump_steps.proofs.Frame.{Same, Amid, Reaches, on_label, same_sound}
 use Rattle.bump_steps.proofs.StepLemmas.{at_chunk, label_chunk_is, on_first_total, same_counts, one_life, other_life, other_chunk}
 use Rattle.bump_steps.proofs.Told.{tells}
@@ -72,6 +73,7 @@ quiet v ws hs gs same = record {
   backs = λ wk a. (by wk a a.outcome, λ more. absurd (omega arith));
   even = λ q. omega arith;
   own = omega arith;
+  labels = λ have. have;
   workers = same;
   lanes = λ w. refl;
   tidy = omega arith;
@@ -278,6 +280,7 @@ sees key slots c first near s o count small = let e = o.each c near in (
     true_entries = λ w a many. let old = o.true_entries w a in omega (arith, total_push (evidence w a) s.views blank, old (omega (arith, many, total_push (claims w a) s.views blank)));
     even_moves = λ q. omega (arith, total_push (moves q) s.views blank, total_push (settled q) s.views blank, o.even_moves q);
     own_chunks = omega (arith, total_push foreign s.views blank, o.own_chunks);
+    own_labels = labelled_push s.views blank o.own_labels tt;
     one_worker = λ n. omega (arith, total_push (workers_of n) s.views blank, o.one_worker n);
     one_lane = λ n. omega (arith, total_push (lanes_of n) s.views blank, o.one_lane n);
     orderly = omega (arith, total_push untidy s.views blank, o.orderly);

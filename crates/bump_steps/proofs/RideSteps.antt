@@ -67,7 +67,7 @@ module _ (p : WorkerPart) (q : HoldPart) (l : ItemId) where
 
     -- a worker's step shows nothing of applied bumps
     quiet : IsBacked (with_hold s p.accounts p.steps) (with_hold z a (p.steps ++ x ∷ []))
-    quiet = record { backs = λ w e. (by w e e.outcome, λ more. absurd (omega arith)); even = λ y. omega arith; own = omega arith; workers = λ w. refl; lanes = λ w. refl; tidy = omega arith }
+    quiet = record { backs = λ w e. (by w e e.outcome, λ more. absurd (omega arith)); even = λ y. omega arith; own = omega arith; labels = λ have. have; workers = λ w. refl; lanes = λ w. refl; tidy = omega arith }
       where
         by : (w : ℕ) (e : AppliedBump) (o : Outcome) → shown_by o w e (with_hold s p.accounts p.steps) ≤ shown_by o w e (with_hold z a (p.steps ++ x ∷ []))
         by w e outcome.Moved = omega arith

@@ -20,7 +20,7 @@ use Rattle.bump_rules.specs.History.{is_standing}
 use Rattle.bump_rules.specs.Entries.{is_move_for}
 use Rattle.bump_rules.proofs.Standings.{standing_same}
 use Rattle.bump_word.specs.Layout.{generation_width}
-use Rattle.bump_steps.specs.Views.{owns, standing, label_of, held, named, saw, weight, refers, in_hand, is_fetch_of, aboard_of, claimed_in, settled_in, foreign_in, untidy_in}
+use Rattle.bump_steps.specs.Views.{owns, standing, label_of, held, named, saw, weight, refers, in_hand, is_fetch_of, aboard_of, claimed_in, settled_in, foreign_in, HaveLabels, untidy_in}
 use Rattle.bump_steps.specs.Rule.{chunks, Kept, class_parts, worker_part, worker_parts, lane_part, lane_parts, opened, AreFresh, HasFittingLimit}
 
 -- there are chunks where there are classes
@@ -93,6 +93,11 @@ no_named c g key = omega (arith, no_workers (λ w. count_of (life c g) w.hits) (
 no_saw : (c g : ℕ) (key : Config) → weight c (saw g) (opened key) + 0 ≡ 0
 no_saw c g key = omega (arith, no_workers (λ w. how_many (is_fetch_of c g) w.steps) (λ w. refl) 0 key.workers)
 
+-- no chunk of a new class is in use, and no life has begun
+fresh_labels : (g i at : ℕ) (ks : List ClassConfig) → HaveLabels (class_parts g i at ks)
+fresh_labels g i at [] = tt
+fresh_labels g i at (k ∷ ks) = (record { labelled = λ c own used. absurd used; unbegun = λ c j later. refl }, fresh_labels g (i + 1) (at + k.chunks) ks)
+
 -- of the lanes of workers from w on one is of each worker
 none_of : (n w m : ℕ) → n < w → total (λ l. cond (eqb l.worker n) 1 0) (lane_parts w m) ≡ 0
 none_of n w zero h = refl
@@ -140,6 +145,7 @@ starts key words fresh limits generations = record {
   true_entries = λ n a many. absurd (omega (arith, many, no_lanes (claimed_in n a) (λ w. cond_none (eqb w n)) 0 key.workers));
   even_moves = λ q. omega (arith, no_classes (λ k. how_many (is_move_for q.test q.worker q.number) k.history) (λ g i at n. refl) (key.first_generation - 1) 0 0 key.classes, no_lanes (settled_in q) (λ w. cond_none (eqb w q.worker)) 0 key.workers);
   own_chunks = omega (arith, no_classes foreign_in (λ g i at n. refl) (key.first_generation - 1) 0 0 key.classes);
+  own_labels = (fresh_labels (key.first_generation - 1) 0 0 key.classes, tt);
   one_worker = λ n. omega (arith, one_worker_of n 0 key.workers);
   one_lane = λ n. omega (arith, one_of n 0 key.workers);
   orderly = omega (arith, no_lanes untidy_in (λ w. refl) 0 key.workers);

@@ -19,7 +19,7 @@ use Rattle.bump_steps.specs.declared.views.ClassPart.{ClassPart}
 use Rattle.bump_steps.specs.declared.views.LanePart.{LanePart}
 use Rattle.bump_steps.specs.declared.views.WorkerPart.{WorkerPart}
 use Rattle.bump_steps.specs.declared.views.View.{View}
-use Rattle.bump_steps.specs.Views.{Measure, held, named, saw, owners, strays, mislabels, misreads, tally, claims, evidence, Query, moves, settled, foreign, workers_of, lanes_of, untidy}
+use Rattle.bump_steps.specs.Views.{Measure, held, named, saw, owners, strays, mislabels, misreads, tally, claims, evidence, Query, moves, settled, foreign, AreLabelled, workers_of, lanes_of, untidy}
 
 -- A chunk is sound: n is its head word, x its label word, and t what all views together count of it.
 pub record Sound (limit n x : ℕ) (t : Measure → ℕ) : Type 0 where
@@ -59,6 +59,8 @@ pub record Kept (key : Config) (s : State Empty View) : Type 0 where
   pub even_moves : (q : Query) → total (moves q) s.views ≡ total (settled q) s.views
   -- a class's history speaks of its own chunks alone
   pub own_chunks : total foreign s.views ≡ 0
+  -- and has the label of each life
+  pub own_labels : AreLabelled s.views
   -- a worker has one part and one lane, and each lane's bumps are numbered in order
   pub one_worker : (n : ℕ) → total (workers_of n) s.views ≤ 1
   pub one_lane : (n : ℕ) → total (lanes_of n) s.views ≤ 1

@@ -12,7 +12,8 @@ use Rattle.bump_rules.specs.declared.lanes.Lane.TheVariants as lane
 use Rattle.bump_rules.specs.Hands.{life_in_hand}
 use Rattle.bump_rules.specs.Totals.{total, how_many}
 use Rattle.bump_rules.specs.Lives.{life, is_same, one_if, count_of}
-use Rattle.bump_rules.specs.Labels.{label_word}
+use Rattle.bump_rules.specs.Labels.{label_word, label_of_life}
+use Rattle.bump_rules.specs.Lawful.{IsUsed}
 use Rattle.bump_rules.specs.History.{Standing, standing_in, is_standing, is_between, subject}
 use Rattle.bump_rules.specs.Entries.{is_move_for, is_unlink_of, moves_told}
 use Rattle.bump_word.specs.Layout.{linked_first, active_first, generation_first}
@@ -199,6 +200,21 @@ foreign_in k = how_many (λ e. not (owns (subject e).chunk k)) k.history
 abbrev pub foreign : View → ℕ
 foreign v = total foreign_in v.classes
 
+-- What a class's part has of labels: each of its chunks that isn't free has its life's label, the last one that was stored for the chunk,
+-- and no life to come has begun.
+pub record HasLabels (k : ClassPart) : Type 0 where
+  pub labelled : (c : ℕ) → owns c k ≡ true → IsUsed (standing k c).0 → label_of_life (life c (standing k c).1) 0 k.labels ≡ Some (label_of k c)
+  pub unbegun : (c g : ℕ) → (standing k c).1 < g → label_of_life (life c g) 0 k.labels ≡ None
+
+abbrev pub HaveLabels : List ClassPart → Type 0
+HaveLabels [] = Unit {0}
+HaveLabels (k ∷ ks) = HasLabels k × HaveLabels ks
+
+-- so have all parts of these views
+abbrev pub AreLabelled : List View → Type 0
+AreLabelled [] = Unit {0}
+AreLabelled (v ∷ vs) = HaveLabels v.classes × AreLabelled vs
+
 -- Workers and lanes.
 
 -- how many parts of worker w the view has
@@ -227,11 +243,12 @@ abbrev pub untidy : View → ℕ
 untidy v = total untidy_in v.lanes
 
 -- A view may become another one: what it adds to the entries is shown by what it has, each move is settled, no entry of a chunk of another
--- class joins a history, the workers and the lanes stay the same ones, and the lanes stay in order.
+-- class joins a history, lives have their labels, the workers and the lanes stay the same ones, and the lanes stay in order.
 pub record IsBacked (v w : View) : Type 0 where
   pub backs : (worker : ℕ) (a : AppliedBump) → (evidence worker a v ≤ evidence worker a w) × (claims worker a v < claims worker a w → 0 < evidence worker a w)
   pub even : (q : Query) → moves q w + settled q v ≡ moves q v + settled q w
   pub own : foreign w ≤ foreign v
+  pub labels : HaveLabels v.classes → HaveLabels w.classes
   pub workers : (n : ℕ) → workers_of n w ≡ workers_of n v
   pub lanes : (n : ℕ) → lanes_of n w ≡ lanes_of n v
   pub tidy : untidy w ≤ untidy v

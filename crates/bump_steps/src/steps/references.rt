@@ -113,7 +113,8 @@ impl Words {
         Some(TakeRefusal::Busy)
     }
 
-    /// The subtraction by which a hold gives its reference back.
+    /// The subtraction by which a hold gives its reference back. Its seat has no list of steps, and keeps the mark of it.
+    /// `drop_full` is the same step of a worker, for the reference of a bump.
     pub fn give_back(&self, seat: &mut Seat, chunk: u32) -> u64
         requires seat { (seat.old.table_id ≡ words_id self.now) × (3 * chunk + 11 < (words_id self.now).words) }
         requires hold { HasHold chunk seat.old.me.0 }

@@ -184,7 +184,8 @@ impl Words {
             .fetch_sub::<DropFull<W>>(seat, 3 * life.chunk as usize + HEAD, ONE_REFERENCE)
     }
 
-    /// The subtraction that gives the reference of a bump back which found no room.
+    /// The subtraction that gives the reference of a bump back which found no room: the same step as `give_back`, noted by the
+    /// worker.
     pub fn drop_full(&self, seat: &mut Seat, life: ItemId) -> u64
         requires seat { (seat.old.table_id ≡ words_id self.now) × (3 * life.chunk + 11 < (words_id self.now).words) }
         requires in_hand { IsOn (InHand life) life seat.old.me.0 }
