@@ -17,7 +17,7 @@ WorkerTurn table m v i count made all m' p = (p ≡ worker_me (worker_in p.0)) �
 
 -- a new worker has no account of bumps, and no attempt under way
 new_part : (n : ℕ) → IsWorkerPart (worker_part n)
-new_part n = record { accepted = refl; attempted = refl; most = omega arith }
+new_part n = record { accounts = record { accepted = refl; attempted = refl; most = omega arith }; attempts = refl }
 
 -- one turn of the loop over the workers
 pub worker_turn : (table : TableId) (m : Me Empty View) (v : View) (i count : ℕ) (made all : List WorkerView) (m' p : Me Empty View) → m ≡ (record v { workers = m.0.workers }, []) → i + length m.0.workers ≡ count → i < count → AreNewWorkers i m.0.workers → made ++ map worker_seen m.0.workers ≡ all → m' ≡ (without_worker m.0, m.1) → p ≡ (worker_only m.0, [])

@@ -1,4 +1,5 @@
 pub mod Naming
+pub mod Attempts
 pub mod Seats
 pub mod Workers
 pub mod Taking

@@ -10,6 +10,7 @@ use Rattle.bump_steps.specs.declared.views.HoldPart.{HoldPart}
 use Rattle.bump_steps.specs.declared.views.View.{View}
 use Rattle.bump_readers.specs.declared.views.WorkerView.{WorkerView}
 use Rattle.bump_steps.specs.Rule.{blank, worker_part}
+use Rattle.bump_readers.specs.Attempts.{attempts_in}
 
 abbrev pub head_or : {A : Type 0} → A → List A → A
 head_or d [] = d
@@ -72,6 +73,9 @@ abbrev pub IsLifeInRange : TableId → Option ItemId → Type 0
 IsLifeInRange table None = Unit {0}
 IsLifeInRange table (Some l) = 3 * l.chunk + 11 < table.words
 
--- What each worker's part keeps: accepted and dropped bumps, and the attempt under way, add up to those attempted.
-abbrev pub IsWorkerPart : WorkerPart → Type 0
-IsWorkerPart w = IsAccounts w.accounts w.accounts.accepted w.hand
+-- What each worker's part keeps of its accounts.
+pub record IsWorkerPart (w : WorkerPart) : Type 0 where
+  -- accepted and dropped bumps, and the attempt under way, add up to those attempted
+  pub accounts : IsAccounts w.accounts w.accounts.accepted w.hand
+  -- and attempted are as many as the worker's own steps that set ACTIVE where they found it clear in COLD
+  pub attempts : w.accounts.attempted ≡ attempts_in w.steps

@@ -1,6 +1,8 @@
 //! Workers' seats. Contracts see plain data.
 ghost use Rattle.std.specs.Prelude.{◌≡◌, ◌<◌, [], IfOk, length, map};
 ghost use Rattle.bump_readers.specs.declared.views.WorkerView.{WorkerView as TheWorkerView};
+ghost use Rattle.bump_rules.specs.Rings.{IsAccounts};
+ghost use Rattle.bump_readers.specs.Attempts.{attempts_in};
 ghost use Rattle.bump_readers.specs.Seats.{worker_in, worker_me, held_life, IsLifeInRange, IsWorkerPart};
 ghost use Rattle.bump_readers.specs.Workers.{worker_seen, AreNewWorkers};
 
@@ -27,6 +29,16 @@ impl<N: Name> Model for WorkerSeat<N> {
 }
 
 impl<N: Name> WorkerSeat<N> {
+    /// What every worker's seat keeps of its accounts: accepted and dropped bumps, and the attempt under way, add up to those attempted;
+    /// and attempted are as many as the steps that the worker itself made that set ACTIVE of an item, and found it clear and the item in
+    /// COLD.
+    pub fn promise(&self)
+        ensures accounts { IsAccounts self.now.part.accounts self.now.part.accounts.accepted self.now.part.hand }
+        ensures attempts { self.now.part.accounts.attempted ≡ attempts_in self.now.part.steps }
+    {
+        let _worker = &self.worker;
+    }
+
     /// The worker's number, from 0.
     pub fn worker(&self) -> u32
         ensures { result ≡ self.now.part.worker }
