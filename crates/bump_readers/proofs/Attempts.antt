@@ -74,7 +74,8 @@ cold_as segment.Cold = refl
 -- a step that set ACTIVE is an attempt by the head that it found
 mark_attempts : (c : ℕ) (h : Head) → Fits h → is_attempt (step_of kind.Mark c (word_of h) None) ≡ (not h.active && is_cold h.segment)
 mark_attempts c h fits = let f = fields (word_of h) h (refl, fits) in
-    ap₂ (λ (p q : Bool). p && q) (ap (λ (k : ℕ). k == 0) f.active ∙ clear_as h.active) (ap (λ (k : ℕ). k == number_of segment.Cold) f.segment ∙ cold_as h.segment)
+    ap₂ (λ (p q : Bool). p && q) (ap (λ (k : ℕ). k == 0) f.active ∙ clear_as h.active)
+    (ap (λ (k : ℕ). k == number_of segment.Cold) f.segment ∙ cold_as h.segment)
 
 -- ---- parts
 
@@ -83,7 +84,8 @@ pub more_kept : (p : WorkerPart) (xs : List OwnStep) → attempts_in xs ≡ 0 �
 more_kept p xs none is = record { accounts = is.accounts; attempts = omega (arith, is.attempts, none, attempts_append p.steps xs) }
 
 -- the steps by which a reference is taken for a hold, or isn't
-pub take_kept : (limit : ℕ) (l : ItemId) (first : Head) (more : List Head) (p : WorkerPart) → IsWorkerPart p → IsWorkerPart (with_more (steps_of limit l first more) p)
+pub take_kept : (limit : ℕ) (l : ItemId) (first : Head) (more : List Head) (p : WorkerPart) → IsWorkerPart p
+    → IsWorkerPart (with_more (steps_of limit l first more) p)
 take_kept limit l first more p is = more_kept p (steps_of limit l first more) (omega (
   arith,
   attempts_append (loads l.chunk (first ∷ more)) (takes l.chunk (refusal_of limit l.generation first more) (last_found first more)),
@@ -93,11 +95,17 @@ take_kept limit l first more p is = more_kept p (steps_of limit l first more) (o
 
 -- FETCHED was set
 pub fetch_kept : (l : ItemId) (h : Head) (p : WorkerPart) → IsWorkerPart p → IsWorkerPart (fetched_part l h p)
-fetch_kept l h p is = record { accounts = is.accounts; attempts = omega (arith, is.attempts, attempts_push p.steps (step_of kind.Fetch l.chunk (word_of h) None)) }
+fetch_kept l h p is = record {
+  accounts = is.accounts;
+  attempts = omega (arith, is.attempts, attempts_push p.steps (step_of kind.Fetch l.chunk (word_of h) None));
+}
 
 -- the time was stored
 pub time_kept : (l : ItemId) (now : ℕ) (p : WorkerPart) → IsWorkerPart p → IsWorkerPart (timed_part l now p)
-time_kept l now p is = record { accounts = is.accounts; attempts = omega (arith, is.attempts, attempts_push p.steps (step_of kind.StoreTime l.chunk now None)) }
+time_kept l now p is = record {
+  accounts = is.accounts;
+  attempts = omega (arith, is.attempts, attempts_push p.steps (step_of kind.StoreTime l.chunk now None));
+}
 
 -- ACTIVE was cleared after a drop
 pub unmark_kept : (l : ItemId) (h : Head) (p : WorkerPart) → p.hand ≡ hand.Clearing l → IsWorkerPart p → IsWorkerPart (unmarked_part l h p)
@@ -111,10 +119,12 @@ unmark_kept l h p clearing is = record {
 }
 
 -- ACTIVE was set: one more attempt, exactly where the step is one
-pub mark_kept : (l : ItemId) (h : Head) (p : WorkerPart) → Fits h → p.hand ≡ hand.Idle → p.accounts.attempted < most_attempts → IsWorkerPart p → IsWorkerPart (marked_part l h p)
+pub mark_kept : (l : ItemId) (h : Head) (p : WorkerPart) → Fits h → p.hand ≡ hand.Idle → p.accounts.attempted < most_attempts
+    → IsWorkerPart p → IsWorkerPart (marked_part l h p)
 mark_kept l h p fits idle few is = by (not h.active && is_cold h.segment) (mark_attempts l.chunk h fits)
   where
-    by : (b : Bool) → is_attempt (step_of kind.Mark l.chunk (word_of h) None) ≡ b → IsWorkerPart (if b then attempting l (noted kind.Mark l.chunk (word_of h) p) else noted kind.Mark l.chunk (word_of h) p)
+    by : (b : Bool) → is_attempt (step_of kind.Mark l.chunk (word_of h) None) ≡ b
+        → IsWorkerPart (if b then attempting l (noted kind.Mark l.chunk (word_of h) p) else noted kind.Mark l.chunk (word_of h) p)
     by true attempt = record {
       accounts = record {
         accepted = refl;
@@ -123,13 +133,23 @@ mark_kept l h p fits idle few is = by (not h.active && is_cold h.segment) (mark_
       };
       attempts = omega (arith, is.attempts, attempts_push p.steps (step_of kind.Mark l.chunk (word_of h) None), ap bit attempt);
     }
-    by false attempt = record { accounts = is.accounts; attempts = omega (arith, is.attempts, attempts_push p.steps (step_of kind.Mark l.chunk (word_of h) None), ap bit attempt) }
+    by false attempt = record {
+      accounts = is.accounts;
+      attempts = omega (arith, is.attempts, attempts_push p.steps (step_of kind.Mark l.chunk (word_of h) None), ap bit attempt);
+    }
 
 -- the reference of a bump was taken and sent off, or the bump dropped
-pub ride_kept : (o : Option RideRefusal) (l : ItemId) (h : Head) (c : ℕ) (hs : List Head) (p : WorkerPart) → p.hand ≡ hand.Trying l → IsWorkerPart p → IsWorkerPart (part_after o l h (with_more (loads c hs) p))
+pub ride_kept : (o : Option RideRefusal) (l : ItemId) (h : Head) (c : ℕ) (hs : List Head) (p : WorkerPart) → p.hand ≡ hand.Trying l
+    → IsWorkerPart p → IsWorkerPart (part_after o l h (with_more (loads c hs) p))
 ride_kept None l h c hs p trying is = record {
   accounts = record { accepted = refl; attempted = omega (arith, is.accounts.attempted, ap attempts_of trying); most = is.accounts.most };
-  attempts = omega (arith, is.attempts, attempts_append p.steps (loads c hs), no_load c hs, attempts_push (p.steps ++ loads c hs) (step_of kind.Reserve l.chunk (word_of h) None));
+  attempts = omega (
+    arith,
+    is.attempts,
+    attempts_append p.steps (loads c hs),
+    no_load c hs,
+    attempts_push (p.steps ++ loads c hs) (step_of kind.Reserve l.chunk (word_of h) None),
+  );
 }
 ride_kept (Some refused.RefsFull) l h c hs p trying is = record {
   accounts = record { accepted = refl; attempted = omega (arith, is.accounts.attempted, ap attempts_of trying); most = is.accounts.most };
@@ -141,14 +161,16 @@ ride_kept (Some refused.Busy) l h c hs p trying is = record {
 }
 
 -- a bump came back
-pub back_kept : (r : Ride) (p : WorkerPart) → p.hand ≡ hand.Idle → r.number + 1 ≡ p.accounts.accepted → IsWorkerPart p → IsWorkerPart (returned r p)
+pub back_kept : (r : Ride) (p : WorkerPart) → p.hand ≡ hand.Idle → r.number + 1 ≡ p.accounts.accepted → IsWorkerPart p
+    → IsWorkerPart (returned r p)
 back_kept r p idle last is = record {
   accounts = record { accepted = refl; attempted = omega (arith, is.accounts.attempted, ap attempts_of idle, last); most = is.accounts.most };
   attempts = is.attempts;
 }
 
 -- a bump was dropped for want of room
-pub full_kept : (l : ItemId) (h : Head) (p : WorkerPart) → p.hand ≡ hand.InHand l → IsWorkerPart p → IsWorkerPart (dropped_full l (found_by kind.Release l h p))
+pub full_kept : (l : ItemId) (h : Head) (p : WorkerPart) → p.hand ≡ hand.InHand l → IsWorkerPart p
+    → IsWorkerPart (dropped_full l (found_by kind.Release l h p))
 full_kept l h p in_hand is = record {
   accounts = record { accepted = refl; attempted = omega (arith, is.accounts.attempted, ap attempts_of in_hand); most = is.accounts.most };
   attempts = omega (arith, is.attempts, attempts_push p.steps (step_of kind.Release l.chunk (word_of h) None));
@@ -158,24 +180,33 @@ full_kept l h p in_hand is = record {
 
 -- what a worker's seat of this table and number keeps
 abbrev pub IsWhole : TableId → ℕ → TableId → Me Empty View → Type 0
-IsWhole table number id m = (m ≡ worker_me (worker_in m.0)) × (id ≡ table) × (number ≡ (worker_in m.0).part.worker) × IsLifeInRange table (held_life (worker_in m.0).hold) × IsWorkerPart (worker_in m.0).part
+IsWhole table number id m = (m ≡ worker_me (worker_in m.0)) × (id ≡ table) × (number ≡ (worker_in m.0).part.worker)
+    × IsLifeInRange table (held_life (worker_in m.0).hold) × IsWorkerPart (worker_in m.0).part
 
 -- what a seat's invariant says of the view that it is made of
-pub whole_seat : (table : TableId) (number : ℕ) (id : TableId) (m : Me Empty View) (v : WorkerView) → m ≡ worker_me v → id ≡ table → number ≡ v.part.worker → IsLifeInRange table (held_life v.hold) → IsWorkerPart v.part → IsWhole table number id m
-whole_seat table number id m v is named own near part = subst (λ (x : WorkerView). (m ≡ worker_me x) × (id ≡ table) × (number ≡ x.part.worker) × IsLifeInRange table (held_life x.hold) × IsWorkerPart x.part) (sym (worker_seen m v is)) (is, named, own, near, part)
+pub whole_seat : (table : TableId) (number : ℕ) (id : TableId) (m : Me Empty View) (v : WorkerView) → m ≡ worker_me v → id ≡ table
+    → number ≡ v.part.worker → IsLifeInRange table (held_life v.hold) → IsWorkerPart v.part → IsWhole table number id m
+whole_seat table number id m v is named own near part = subst (λ (x : WorkerView). (m ≡ worker_me x) × (id ≡ table)
+    × (number ≡ x.part.worker) × IsLifeInRange table (held_life x.hold) × IsWorkerPart x.part) (sym (worker_seen m v is))
+    (is, named, own, near, part)
 
 -- a seat that is seen as w keeps what it does, where its view is x now
-pub changed_seat : (table : TableId) (number : ℕ) (id id₁ : TableId) (m m₁ : Me Empty View) (w x : WorkerView) → IsWhole table number id m → worker_in m.0 ≡ w → id₁ ≡ id → m₁ ≡ worker_me x → x.part.worker ≡ w.part.worker
-    → (IsLifeInRange table (held_life w.hold) → IsLifeInRange table (held_life x.hold)) → (IsWorkerPart w.part → IsWorkerPart x.part) → IsWhole table number id₁ m₁
+pub changed_seat : (table : TableId) (number : ℕ) (id id₁ : TableId) (m m₁ : Me Empty View) (w x : WorkerView) → IsWhole table number id m
+    → worker_in m.0 ≡ w → id₁ ≡ id → m₁ ≡ worker_me x → x.part.worker ≡ w.part.worker
+    → (IsLifeInRange table (held_life w.hold) → IsLifeInRange table (held_life x.hold)) → (IsWorkerPart w.part → IsWorkerPart x.part)
+    → IsWhole table number id₁ m₁
 changed_seat table number id id₁ m m₁ w x whole same other is own near part =
-    let seen : (number ≡ w.part.worker) × IsLifeInRange table (held_life w.hold) × IsWorkerPart w.part = subst (λ (y : WorkerView). (number ≡ y.part.worker) × IsLifeInRange table (held_life y.hold) × IsWorkerPart y.part) same (whole.2, whole.3, whole.4) in
+    let seen : (number ≡ w.part.worker) × IsLifeInRange table (held_life w.hold) × IsWorkerPart w.part = subst
+    (λ (y : WorkerView). (number ≡ y.part.worker) × IsLifeInRange table (held_life y.hold) × IsWorkerPart y.part) same
+    (whole.2, whole.3, whole.4) in
     whole_seat table number id₁ m₁ x is (other ∙ whole.1) (seen.0 ∙ sym own) (near seen.1) (part seen.2)
 
 -- a step that set ACTIVE leaves the worker's number
 pub mark_worker : (l : ItemId) (h : Head) (p : WorkerPart) → (marked_part l h p).worker ≡ p.worker
 mark_worker l h p = by (not h.active && is_cold h.segment)
   where
-    by : (b : Bool) → (if b then attempting l (noted kind.Mark l.chunk (word_of h) p) else noted kind.Mark l.chunk (word_of h) p).worker ≡ p.worker
+    by : (b : Bool)
+        → (if b then attempting l (noted kind.Mark l.chunk (word_of h) p) else noted kind.Mark l.chunk (word_of h) p).worker ≡ p.worker
     by true = refl
     by false = refl
 
@@ -184,52 +215,78 @@ abbrev with_holds : WorkerPart → List HoldPart → Me Empty View
 with_holds p hs = (record blank { workers = p ∷ []; holds = hs }, [])
 
 -- a hold of a life of the table is in its range
-hold_near : (table : TableId) (l : ItemId) (o : Option HoldPart) → IsHoldOf l o → 3 * l.chunk + 11 < table.words → IsLifeInRange table (held_life o)
+hold_near : (table : TableId) (l : ItemId) (o : Option HoldPart) → IsHoldOf l o → 3 * l.chunk + 11 < table.words
+    → IsLifeInRange table (held_life o)
 hold_near table l None of near = tt
 hold_near table l (Some h) of near = omega (arith, near, ap (λ (x : ItemId). x.chunk) of)
 
-module _ (table : TableId) (number : ℕ) (id id₁ : TableId) (m m₁ : Me Empty View) (w : WorkerView) (whole : IsWhole table number id m) (same : worker_in m.0 ≡ w) (other : id₁ ≡ id) where
+module _ (table : TableId) (number : ℕ) (id id₁ : TableId) (m m₁ : Me Empty View) (w : WorkerView) (whole : IsWhole table number id m)
+    (same : worker_in m.0 ≡ w) (other : id₁ ≡ id) where
   -- the seat before is that of the view
   before_is : m ≡ worker_me w
   before_is = whole.0 ∙ ap worker_me same
 
   -- the worker's part alone changes
-  pub stepped_seat : (f : WorkerPart → WorkerPart) → m₁ ≡ (on_worker f m.0, m.1) → (f w.part).worker ≡ w.part.worker → (IsWorkerPart w.part → IsWorkerPart (f w.part)) → IsWhole table number id₁ m₁
-  stepped_seat f told own part = changed_seat table number id id₁ m m₁ w (record w { part = f w.part }) whole same other (told ∙ ap (λ (x : Me Empty View). (on_worker f x.0, x.1)) before_is) own (λ near. near) part
+  pub stepped_seat : (f : WorkerPart → WorkerPart) → m₁ ≡ (on_worker f m.0, m.1) → (f w.part).worker ≡ w.part.worker
+      → (IsWorkerPart w.part → IsWorkerPart (f w.part)) → IsWhole table number id₁ m₁
+  stepped_seat f told own part = changed_seat table number id id₁ m m₁ w (record w { part = f w.part }) whole same other
+      (told ∙ ap (λ (x : Me Empty View). (on_worker f x.0, x.1)) before_is) own (λ near. near) part
 
   -- a hold is joined, or split off
-  pub joined_seat : (p : Me Empty View) (l : ItemId) (o : Option HoldPart) → w.hold ≡ None → p ≡ hold_me o → IsHoldOf l o → 3 * l.chunk + 11 < table.words → m₁ ≡ (joined m.0 p.0, m.1) → IsWhole table number id₁ m₁
+  pub joined_seat : (p : Me Empty View) (l : ItemId) (o : Option HoldPart) → w.hold ≡ None → p ≡ hold_me o → IsHoldOf l o
+      → 3 * l.chunk + 11 < table.words → m₁ ≡ (joined m.0 p.0, m.1) → IsWhole table number id₁ m₁
   joined_seat p l o alone hold of near told = changed_seat table number id id₁ m m₁ w (record w { hold = o }) whole same other
-      (told ∙ ap₂ (λ (x y : Me Empty View). (joined x.0 y.0, x.1)) before_is hold ∙ ap (λ (h : Option HoldPart). with_holds w.part (listed h ++ listed o)) alone) refl (λ was. hold_near table l o of near) (λ part. part)
+      (told ∙ ap₂ (λ (x y : Me Empty View). (joined x.0 y.0, x.1)) before_is hold
+      ∙ ap (λ (h : Option HoldPart). with_holds w.part (listed h ++ listed o)) alone) refl (λ was. hold_near table l o of near)
+      (λ part. part)
 
   pub parted_seat : m₁ ≡ (without_holds m.0, m.1) → IsWhole table number id₁ m₁
-  parted_seat told = changed_seat table number id id₁ m m₁ w (record w { hold = None }) whole same other (told ∙ ap (λ (x : Me Empty View). (without_holds x.0, x.1)) before_is) refl (λ was. tt) (λ part. part)
+  parted_seat told = changed_seat table number id id₁ m m₁ w (record w { hold = None }) whole same other
+      (told ∙ ap (λ (x : Me Empty View). (without_holds x.0, x.1)) before_is) refl (λ was. tt) (λ part. part)
 
   -- no reference is taken for a hold, or one that is split off
-  pub refused_seat : (limit : ℕ) (l : ItemId) (answered : Option TakeRefusal) (r : TakeRefusal) (first : Head) (more : List Head) → w.hold ≡ None → TookView limit l m m₁ answered first more → answered ≡ Some r → IsWhole table number id₁ m₁
-  refused_seat limit l answered r first more alone took is = changed_seat table number id id₁ m m₁ w (record { part = with_more (steps_of limit l first more) w.part; hold = None }) whole same other
-      (took.steps ∙ ap (λ (x : Me Empty View). (took_view limit l first more x.0, x.1)) before_is ∙ ap₂ (λ (h : Option HoldPart) (q : Option TakeRefusal). with_holds (with_more (steps_of limit l first more) w.part) (held_by q l (listed h))) alone (sym took.answer ∙ is))
+  pub refused_seat : (limit : ℕ) (l : ItemId) (answered : Option TakeRefusal) (r : TakeRefusal) (first : Head) (more : List Head)
+      → w.hold ≡ None → TookView limit l m m₁ answered first more → answered ≡ Some r → IsWhole table number id₁ m₁
+  refused_seat limit l answered r first more alone took is = changed_seat table number id id₁ m m₁ w
+      (record { part = with_more (steps_of limit l first more) w.part; hold = None }) whole same other
+      (took.steps ∙ ap (λ (x : Me Empty View). (took_view limit l first more x.0, x.1)) before_is
+      ∙ ap₂ (λ (h : Option HoldPart) (q : Option TakeRefusal). with_holds (with_more (steps_of limit l first more) w.part)
+      (held_by q l (listed h))) alone (sym took.answer ∙ is))
       refl (λ was. tt) (take_kept limit l first more w.part)
 
-  pub held_seat : (limit : ℕ) (l : ItemId) (answered : Option TakeRefusal) (first : Head) (more : List Head) (p : Me Empty View) → TookView limit l m p answered first more → m₁ ≡ (without_holds p.0, p.1) → IsWhole table number id₁ m₁
-  held_seat limit l answered first more p took told = changed_seat table number id id₁ m m₁ w (record { part = with_more (steps_of limit l first more) w.part; hold = None }) whole same other
-      (told ∙ ap (λ (x : Me Empty View). (without_holds x.0, x.1)) (took.steps ∙ ap (λ (x : Me Empty View). (took_view limit l first more x.0, x.1)) before_is)) refl (λ was. tt) (take_kept limit l first more w.part)
+  pub held_seat : (limit : ℕ) (l : ItemId) (answered : Option TakeRefusal) (first : Head) (more : List Head) (p : Me Empty View)
+      → TookView limit l m p answered first more → m₁ ≡ (without_holds p.0, p.1) → IsWhole table number id₁ m₁
+  held_seat limit l answered first more p took told = changed_seat table number id id₁ m m₁ w
+      (record { part = with_more (steps_of limit l first more) w.part; hold = None }) whole same other
+      (told ∙ ap (λ (x : Me Empty View). (without_holds x.0, x.1)) (took.steps
+      ∙ ap (λ (x : Me Empty View). (took_view limit l first more x.0, x.1)) before_is)) refl (λ was. tt)
+      (take_kept limit l first more w.part)
 
   -- a bump is dropped, sent off, or comes back
-  pub dropped_seat : (limit : ℕ) (l : ItemId) (answered : Option RideRefusal) (r : RideRefusal) (first : Head) (more : List Head) → w.part.hand ≡ hand.Trying l → RodeView limit l m m₁ answered first more → answered ≡ Some r → IsWhole table number id₁ m₁
+  pub dropped_seat : (limit : ℕ) (l : ItemId) (answered : Option RideRefusal) (r : RideRefusal) (first : Head) (more : List Head)
+      → w.part.hand ≡ hand.Trying l → RodeView limit l m m₁ answered first more → answered ≡ Some r → IsWhole table number id₁ m₁
   dropped_seat limit l answered r first more trying rode is =
       let refused : why_refused limit first more ≡ Some r = sym rode.answer ∙ is in
-      let after : Option RideRefusal → WorkerPart = λ o. view_after o l (last_found first more) (with_more (loads l.chunk (first ∷ more)) w.part) in
-      stepped_seat (λ p. view_after (why_refused limit first more) l (last_found first more) (with_more (loads l.chunk (first ∷ more)) p)) rode.view (ap (λ (o : Option RideRefusal). (after o).worker) refused)
-      (λ part. subst (λ (o : Option RideRefusal). IsWorkerPart (after o)) (sym refused) (ride_kept (Some r) l (last_found first more) l.chunk (first ∷ more) w.part trying part))
+      let after : Option RideRefusal → WorkerPart = λ o. view_after o l (last_found first more)
+      (with_more (loads l.chunk (first ∷ more)) w.part) in
+      stepped_seat (λ p. view_after (why_refused limit first more) l (last_found first more) (with_more (loads l.chunk (first ∷ more)) p))
+      rode.view (ap (λ (o : Option RideRefusal). (after o).worker) refused)
+      (λ part. subst (λ (o : Option RideRefusal). IsWorkerPart (after o)) (sym refused)
+      (ride_kept (Some r) l (last_found first more) l.chunk (first ∷ more) w.part trying part))
 
-  pub sent_seat : (limit : ℕ) (l : ItemId) (answered : Option RideRefusal) (first : Head) (more : List Head) (p : Me Empty View) → w.part.hand ≡ hand.Trying l → RodeView limit l m p answered first more → answered ≡ None → m₁ ≡ (without_ride p.0, p.1) → IsWhole table number id₁ m₁
+  pub sent_seat : (limit : ℕ) (l : ItemId) (answered : Option RideRefusal) (first : Head) (more : List Head) (p : Me Empty View)
+      → w.part.hand ≡ hand.Trying l → RodeView limit l m p answered first more → answered ≡ None → m₁ ≡ (without_ride p.0, p.1)
+      → IsWhole table number id₁ m₁
   sent_seat limit l answered first more p trying rode is told =
-      let after : Option RideRefusal → WorkerPart → WorkerPart = λ o q. view_after o l (last_found first more) (with_more (loads l.chunk (first ∷ more)) q) in
+      let after : Option RideRefusal → WorkerPart → WorkerPart = λ o q. view_after o l (last_found first more)
+      (with_more (loads l.chunk (first ∷ more)) q) in
       changed_seat table number id id₁ m m₁ w (record w { part = sent (after None w.part) }) whole same other
-      (told ∙ ap (λ (x : Me Empty View). (without_ride x.0, x.1)) (rode.view ∙ ap (λ (x : Me Empty View). (on_worker (after (why_refused limit first more)) x.0, x.1)) before_is) ∙ ap (λ (o : Option RideRefusal). worker_me (record w { part = sent (after o w.part) })) (sym rode.answer ∙ is))
+      (told ∙ ap (λ (x : Me Empty View). (without_ride x.0, x.1)) (rode.view
+      ∙ ap (λ (x : Me Empty View). (on_worker (after (why_refused limit first more)) x.0, x.1)) before_is)
+      ∙ ap (λ (o : Option RideRefusal). worker_me (record w { part = sent (after o w.part) })) (sym rode.answer ∙ is))
       refl (λ near. near) (ride_kept None l (last_found first more) l.chunk (first ∷ more) w.part trying)
 
-  pub back_seat : (r : Ride) (p : Me Empty View) → w.part.hand ≡ hand.Idle → r.number + 1 ≡ w.part.accounts.accepted → p ≡ ride_me r → m₁ ≡ (return_both m.0 p.0, m.1) → IsWhole table number id₁ m₁
+  pub back_seat : (r : Ride) (p : Me Empty View) → w.part.hand ≡ hand.Idle → r.number + 1 ≡ w.part.accounts.accepted → p ≡ ride_me r
+      → m₁ ≡ (return_both m.0 p.0, m.1) → IsWhole table number id₁ m₁
   back_seat r p idle last rider told = changed_seat table number id id₁ m m₁ w (record w { part = returned r w.part }) whole same other
       (told ∙ ap₂ (λ (x y : Me Empty View). (return_both x.0 y.0, x.1)) before_is rider) refl (λ near. near) (back_kept r w.part idle last)

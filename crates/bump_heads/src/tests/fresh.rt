@@ -23,6 +23,7 @@ fn look_at<N: Name>(rt: &impl Abort, heads: &Heads<N>, worker: &mut WorkerSeat<N
     assert_eq!(rt; refusal(heads, worker, life_of(0, generation + 1)), stale);
     assert_eq!(rt; (heads.chunks(), heads.refs_limit()), (2, 4));
     assert_eq!(rt; worker.worker(), 0);
+    worker.promise();
 }
 
 fn run_in<N: Name>(

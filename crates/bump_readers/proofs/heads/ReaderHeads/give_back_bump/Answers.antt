@@ -14,4 +14,8 @@ pub returns-clause-counted : goal.returns-clause-counted
 returns-clause-counted g c = search rules
 
 pub invariant_of-worker : goal.invariant_of-worker
-invariant_of-worker g c = let t = c.drop_full.ensures.told in stepped_seat g.N.Name.table c.worker.inside.worker c.worker.inside.seat.table_id c.drop_full.new.seat.table_id c.worker.inside.seat.me c.drop_full.new.seat.me c.args.worker.now c.worker.invariant (cc c.worker.view_is) c.drop_full.ensures.same.0 (λ w. dropped_full c.args.life (found_by Release c.args.life t.0 w)) t.4 refl (full_kept c.args.life t.0 c.args.worker.now.part c.requires.in_hand)
+invariant_of-worker g c = let t = c.drop_full.ensures.told in
+    stepped_seat g.N.Name.table c.worker.inside.worker c.worker.inside.seat.table_id c.drop_full.new.seat.table_id c.worker.inside.seat.me
+    c.drop_full.new.seat.me c.args.worker.now c.worker.invariant (cc c.worker.view_is) c.drop_full.ensures.same.0
+    (λ w. dropped_full c.args.life (found_by Release c.args.life t.0 w)) t.4 refl
+    (full_kept c.args.life t.0 c.args.worker.now.part c.requires.in_hand)

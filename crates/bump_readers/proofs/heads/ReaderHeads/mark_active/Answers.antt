@@ -25,5 +25,11 @@ pub returns-clause-tries : goal.returns-clause-tries
 returns-clause-tries g c = tries_after c.args.worker.now c.args.life c.head_of.result c.mark_active.new.seat.me (touched (2 ^ active_first) marked_part c.worker.inside.seat.me c.mark_active.new.seat.me (worker_in c.worker.inside.seat.me.0) c.args.worker.now c.args.life (2 ^ active_first) c.mark_active.result c.head_of.result c.worker.invariant.0 (cc c.worker.view_is) c.requires.held c.mark_active.ensures.told c.head_of.ensures) c.requires.idle
 
 pub invariant_of-worker : goal.invariant_of-worker
-invariant_of-worker g c = let t = touched (2 ^ active_first) marked_part c.worker.inside.seat.me c.mark_active.new.seat.me (worker_in c.worker.inside.seat.me.0) c.args.worker.now c.args.life (2 ^ active_first) c.mark_active.result c.head_of.result c.worker.invariant.0 (cc c.worker.view_is) c.requires.held c.mark_active.ensures.told c.head_of.ensures in
-    changed_seat g.N.Name.table c.worker.inside.worker c.worker.inside.seat.table_id c.mark_active.new.seat.table_id c.worker.inside.seat.me c.mark_active.new.seat.me c.args.worker.now (record c.args.worker.now { part = marked_part c.args.life c.head_of.result c.args.worker.now.part }) c.worker.invariant (cc c.worker.view_is) c.mark_active.ensures.same.0 t.view (mark_worker c.args.life c.head_of.result c.args.worker.now.part) (λ near. near) (mark_kept c.args.life c.head_of.result c.args.worker.now.part t.fits.1 c.requires.idle c.requires.attempts)
+invariant_of-worker g c = let t = touched (2 ^ active_first) marked_part c.worker.inside.seat.me c.mark_active.new.seat.me
+    (worker_in c.worker.inside.seat.me.0) c.args.worker.now c.args.life (2 ^ active_first) c.mark_active.result c.head_of.result
+    c.worker.invariant.0 (cc c.worker.view_is) c.requires.held c.mark_active.ensures.told c.head_of.ensures in
+    changed_seat g.N.Name.table c.worker.inside.worker c.worker.inside.seat.table_id c.mark_active.new.seat.table_id
+    c.worker.inside.seat.me c.mark_active.new.seat.me c.args.worker.now
+    (record c.args.worker.now { part = marked_part c.args.life c.head_of.result c.args.worker.now.part }) c.worker.invariant
+    (cc c.worker.view_is) c.mark_active.ensures.same.0 t.view (mark_worker c.args.life c.head_of.result c.args.worker.now.part)
+    (λ near. near) (mark_kept c.args.life c.head_of.result c.args.worker.now.part t.fits.1 c.requires.idle c.requires.attempts)

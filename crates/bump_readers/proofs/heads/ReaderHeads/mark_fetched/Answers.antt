@@ -28,5 +28,11 @@ pub returns-clause-noted : goal.returns-clause-noted
 returns-clause-noted g c = let t = touched (2 ^ fetched_first) fetched_part c.worker.inside.seat.me c.mark_fetched.new.seat.me (worker_in c.worker.inside.seat.me.0) c.args.worker.now c.args.life (2 ^ fetched_first) c.mark_fetched.result c.head_of.result c.worker.invariant.0 (cc c.worker.view_is) c.requires.held c.mark_fetched.ensures.told c.head_of.ensures in noted_after c.args.worker.now c.args.life c.head_of.result c.mark_fetched.new.seat.me t
 
 pub invariant_of-worker : goal.invariant_of-worker
-invariant_of-worker g c = let t = touched (2 ^ fetched_first) fetched_part c.worker.inside.seat.me c.mark_fetched.new.seat.me (worker_in c.worker.inside.seat.me.0) c.args.worker.now c.args.life (2 ^ fetched_first) c.mark_fetched.result c.head_of.result c.worker.invariant.0 (cc c.worker.view_is) c.requires.held c.mark_fetched.ensures.told c.head_of.ensures in
-    changed_seat g.N.Name.table c.worker.inside.worker c.worker.inside.seat.table_id c.mark_fetched.new.seat.table_id c.worker.inside.seat.me c.mark_fetched.new.seat.me c.args.worker.now (record c.args.worker.now { part = fetched_part c.args.life c.head_of.result c.args.worker.now.part }) c.worker.invariant (cc c.worker.view_is) c.mark_fetched.ensures.same.0 t.view (refl) (λ near. near) (fetch_kept c.args.life c.head_of.result c.args.worker.now.part)
+invariant_of-worker g c = let t = touched (2 ^ fetched_first) fetched_part c.worker.inside.seat.me c.mark_fetched.new.seat.me
+    (worker_in c.worker.inside.seat.me.0) c.args.worker.now c.args.life (2 ^ fetched_first) c.mark_fetched.result c.head_of.result
+    c.worker.invariant.0 (cc c.worker.view_is) c.requires.held c.mark_fetched.ensures.told c.head_of.ensures in
+    changed_seat g.N.Name.table c.worker.inside.worker c.worker.inside.seat.table_id c.mark_fetched.new.seat.table_id
+    c.worker.inside.seat.me c.mark_fetched.new.seat.me c.args.worker.now
+    (record c.args.worker.now { part = fetched_part c.args.life c.head_of.result c.args.worker.now.part }) c.worker.invariant
+    (cc c.worker.view_is) c.mark_fetched.ensures.same.0 t.view (refl) (λ near. near)
+    (fetch_kept c.args.life c.head_of.result c.args.worker.now.part)

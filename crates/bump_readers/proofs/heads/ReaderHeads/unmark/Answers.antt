@@ -19,5 +19,11 @@ pub returns-clause-idle : goal.returns-clause-idle
 returns-clause-idle g c = idle_after c.args.worker.now c.args.life c.head_of.result c.unmark.new.seat.me (touched (2 ^ 64 - 1 - 2 ^ active_first) unmarked_part c.worker.inside.seat.me c.unmark.new.seat.me (worker_in c.worker.inside.seat.me.0) c.args.worker.now c.args.life (2 ^ 64 - 1 - 2 ^ active_first) c.unmark.result c.head_of.result c.worker.invariant.0 (cc c.worker.view_is) c.requires.held c.unmark.ensures.told c.head_of.ensures) c.requires.clearing
 
 pub invariant_of-worker : goal.invariant_of-worker
-invariant_of-worker g c = let t = touched (2 ^ 64 - 1 - 2 ^ active_first) unmarked_part c.worker.inside.seat.me c.unmark.new.seat.me (worker_in c.worker.inside.seat.me.0) c.args.worker.now c.args.life (2 ^ 64 - 1 - 2 ^ active_first) c.unmark.result c.head_of.result c.worker.invariant.0 (cc c.worker.view_is) c.requires.held c.unmark.ensures.told c.head_of.ensures in
-    changed_seat g.N.Name.table c.worker.inside.worker c.worker.inside.seat.table_id c.unmark.new.seat.table_id c.worker.inside.seat.me c.unmark.new.seat.me c.args.worker.now (record c.args.worker.now { part = unmarked_part c.args.life c.head_of.result c.args.worker.now.part }) c.worker.invariant (cc c.worker.view_is) c.unmark.ensures.same.0 t.view (refl) (λ near. near) (unmark_kept c.args.life c.head_of.result c.args.worker.now.part c.requires.clearing)
+invariant_of-worker g c = let t = touched (2 ^ 64 - 1 - 2 ^ active_first) unmarked_part c.worker.inside.seat.me c.unmark.new.seat.me
+    (worker_in c.worker.inside.seat.me.0) c.args.worker.now c.args.life (2 ^ 64 - 1 - 2 ^ active_first) c.unmark.result
+    c.head_of.result c.worker.invariant.0 (cc c.worker.view_is) c.requires.held c.unmark.ensures.told c.head_of.ensures in
+    changed_seat g.N.Name.table c.worker.inside.worker c.worker.inside.seat.table_id c.unmark.new.seat.table_id c.worker.inside.seat.me
+    c.unmark.new.seat.me c.args.worker.now (record c.args.worker.now
+    { part = unmarked_part c.args.life c.head_of.result c.args.worker.now.part }) c.worker.invariant (cc c.worker.view_is)
+    c.unmark.ensures.same.0 t.view (refl) (λ near. near) (unmark_kept c.args.life c.head_of.result c.args.worker.now.part
+    c.requires.clearing)
