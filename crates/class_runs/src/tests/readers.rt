@@ -89,6 +89,35 @@ pub fn touch<N: Name>(
     tell(rt, world, Command::Release { id: item });
 }
 
+/// Both get two hits of an item of COLD that nobody hit yet, so that it is ACTIVE and its bump waits. The bump's reference stays.
+pub fn touch_cold<N: Name>(
+    rt: &impl Abort,
+    heads: &Heads<N>,
+    worker: &mut WorkerSeat<N>,
+    world: &mut World,
+    item: ItemId,
+)
+    requires idle { worker.old.part.hand ≡ Idle }
+    requires alone { worker.old.hold ≡ None }
+    requires fresh { worker.old.part.accounts ≡ no_accounts }
+{
+    let mut hold = taken(rt, heads, worker, item);
+    heads.hold_in(worker, &mut hold);
+    heads.mark_fetched(worker, item);
+    let found = heads.mark_active(worker, item);
+    assert!(rt; !found.active);
+    assert!(rt; matches!(found.segment, Segment::Cold));
+    heads.ride(worker, item, 0).expect(rt, "there is room");
+    let_out(heads, worker, &mut hold);
+    heads.give_back(hold);
+    let (worker, id) = (0, item);
+    tell(rt, world, Command::Take { worker, id });
+    for now in 3..5 {
+        tell(rt, world, Command::Touch { worker, id, now });
+    }
+    tell(rt, world, Command::Release { id });
+}
+
 /// A hold that is kept is given back, or one of the item is taken and kept, if it is linked.
 pub fn turn<N: Name>(
     rt: &impl Abort,

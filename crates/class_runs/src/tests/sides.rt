@@ -61,9 +61,9 @@ fn seen<N: Name>(book: &mut Book<N>, chunk: u32) -> Option<(Head, u64)> {
     Some(book.see(chunk))
 }
 
-/// Both have the same lists, heads and times.
+/// Both have the same lists, heads and times; the class is the World's second one, behind 3 chunks.
 pub fn expect_same<N: Name>(rt: &impl Abort, alloc: Global, book: &mut Book<N>, world: &World) {
-    assert!(rt; world.classes() == 1);
+    assert!(rt; world.classes() == 2);
     let places = [
         Place::Hot,
         Place::Warm,
@@ -75,15 +75,14 @@ pub fn expect_same<N: Name>(rt: &impl Abort, alloc: Global, book: &mut Book<N>, 
     for place in places.iter() {
         let chunks = book.walk(alloc, *place).expect(rt, "there is memory");
         let told: Vec<u32> = world
-            .list(0, *place)
+            .list(1, *place)
             .collect(alloc)
             .expect(rt, "there is memory");
         assert_eq!(rt; chunks.as_slice(), told.as_slice(), "in {place:?}");
     }
+    // A chunk of the other class is none of the Book's.
     for chunk in 0..world.chunks() {
-        assert_eq!(rt;
-            seen(book, chunk),
-            Some((world.head(chunk), world.time(chunk)))
-        );
+        let told = (world.head(chunk), world.time(chunk));
+        assert_eq!(rt; seen(book, chunk), (chunk >= 3).then_some(told));
     }
 }
