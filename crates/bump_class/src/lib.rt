@@ -12,6 +12,3 @@ mod sweeping;
 pub use books::Book;
 pub use ending::UnlinkRefusal;
 pub use linking::LinkRefusal;
-
-#[cfg(test)]
-mod tests;

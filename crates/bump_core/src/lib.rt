@@ -13,6 +13,3 @@ pub use bump_rules::{
 };
 pub use bump_state::Chunk;
 pub use worlds::{OutOfMemory, World};
-
-#[cfg(test)]
-mod tests;

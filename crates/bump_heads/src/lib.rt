@@ -20,6 +20,3 @@ pub use heads::Heads;
 pub use making::{Blank, HeadParts};
 pub use seats::{ClassSeat, LaneSeat};
 pub use views::ClassView;
-
-#[cfg(test)]
-mod tests;

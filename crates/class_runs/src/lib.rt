@@ -1,5 +1,7 @@
-//! A run of a Book beside a World that gets the same commands, as a test.
+//! Runs of a class, as tests: the worked calls of a Book with their answers, and a Book beside a World that gets the same commands.
 #![tactic(auto)]
 
+#[cfg(test)]
+mod books;
 #[cfg(test)]
 mod tests;

@@ -1,0 +1,10 @@
+//! What no clause says: worked calls with their answers, and that calls succeed.
+use bump_class::{Book, LinkRefusal, UnlinkRefusal};
+
+mod calls;
+mod ends;
+mod pulls;
+mod readers;
+mod refused_memory;
+mod rows;
+mod scenes;

@@ -1,0 +1,15 @@
+//! What no clause says: that calls succeed, and known answers.
+use bump_heads::{
+    Blank, ClassSeat, HeadParts, Heads, Hold, LaneSeat, Name, RideRefusal, Rider, TakeRefusal,
+    WorkerSeat,
+};
+
+mod applications;
+mod bumps;
+mod fresh;
+mod keeping;
+mod lives;
+mod refusals;
+mod refused_memory;
+mod stores;
+mod threads;
