@@ -27,6 +27,3 @@ pub use labels::LabelStep;
 pub use lanes::Lane;
 pub use places::{Place, Segment, Tail};
 pub use tables::MOST_EXCHANGES;
-
-#[cfg(test)]
-mod tests;

@@ -1,5 +1,7 @@
-//! Runs of a World, as tests: known answers of its events and commands, and the allocations that they refuse.
+//! Runs of a World, as tests: known answers of its events and commands, the allocations that they refuse, and what its types answer.
 #![tactic(auto)]
 
+#[cfg(test)]
+mod rules;
 #[cfg(test)]
 mod tests;

@@ -1,5 +1,5 @@
-//! What no clause says: known answers, and that calls succeed.
-use super::*;
+//! What no clause says of the types that a World is made of: known answers, and that calls succeed.
+use bump_rules::{ClassConfig, ClassLists, Config, ConfigFault, Place, Refused};
 use std::alloc::AllocError;
 use std::test::Fail;
 
