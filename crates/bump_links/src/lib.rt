@@ -9,8 +9,6 @@ ghost use Rattle.bump_links.specs.Lists.{list_at, moved_to_front, all_in_first, 
 
 mod ascending;
 mod chain;
-#[cfg(test)]
-mod tests;
 
 use ascending::{ascending_nodes, first_headers};
 use chain::{Header, Node, put_front, unlink};

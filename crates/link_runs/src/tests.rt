@@ -2,7 +2,7 @@
 
 ghost use Rattle.std.specs.Prelude.{◌≡◌, ◌<◌, length};
 
-use super::Links;
+use bump_links::Links;
 use std::alloc::Global;
 use std::process::Abort;
 use std::test::Fail;
