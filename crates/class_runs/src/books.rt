@@ -4,7 +4,6 @@ use bump_class::{Book, LinkRefusal, UnlinkRefusal};
 mod calls;
 mod ends;
 mod pulls;
-mod readers;
 mod refused_memory;
 mod rows;
 mod scenes;

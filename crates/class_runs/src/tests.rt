@@ -4,20 +4,20 @@ ghost use Rattle.std.specs.Prelude.{◌≡◌, ◌≤◌, IfSome, IfOk, [], ◌�
 ghost use Rattle.bump_readers.specs.Workers.{worker_seen};
 ghost use Rattle.bump_steps.specs.Rule.{worker_part};
 
-mod readers;
 mod sides;
+mod turns;
 
 use bump_class::Book;
 use bump_core::World;
 use bump_heads::{Blank, HeadParts, Heads, Name, WorkerSeat};
 use bump_rules::{ClassConfig, Command, Config, ItemId, Place, Tail};
-use readers::{touch, touch_cold, turn};
 use sides::{command, expect_same, is_hit_in_place, item};
 use std::alloc::{AllocError, Global};
 use std::marker::Brand;
 use std::process::Abort;
 use std::sync::Arc;
 use std::test::Fail;
+use turns::{touch, touch_cold, turn};
 
 /// The first class, which gets no command: 3 chunks.
 const OTHER: ClassConfig = ClassConfig {

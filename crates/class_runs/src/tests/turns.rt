@@ -1,42 +1,15 @@
-//! A reader: a hit of an item that is not in COLD, and a hold that is kept for a while.
+//! A reader's turns, which a World gets too: a hit of an item, and a hold that is kept for a while.
 ghost use Rattle.std.specs.Prelude.{◌≡◌, None, Some, IfSome};
 ghost use Rattle.bump_rules.specs.declared.hands.Hand.TheVariants.{Idle};
 ghost use Rattle.bump_readers.specs.Taking.{whole_hold};
 ghost use Rattle.bump_steps.specs.References.{new_hold};
 ghost use Rattle.bump_steps.specs.Rule.{no_accounts};
 
+use crate::readers::{hit_cold, let_out, taken};
 use bump_core::World;
 use bump_heads::{Heads, Hold, Name, WorkerSeat};
 use bump_rules::{Command, ItemId, Segment};
 use std::process::Abort;
-
-/// Takes a hold of an item, which is linked.
-fn taken<N: Name>(
-    rt: &impl Abort,
-    heads: &Heads<N>,
-    worker: &mut WorkerSeat<N>,
-    item: ItemId,
-) -> Hold<N>
-    requires alone { worker.old.hold ≡ None }
-    ensures hold { result ≡ whole_hold item }
-    ensures alone { worker.new.hold ≡ None }
-    ensures hand { worker.new.part.hand ≡ worker.old.part.hand }
-    ensures accounts { worker.new.part.accounts ≡ worker.old.part.accounts }
-{
-    assert!(rt; item.chunk < heads.chunks());
-    heads.take(worker, item).expect(rt, "it is linked")
-}
-
-/// Splits a hold that read no label off the worker's seat, to which it was joined.
-fn let_out<N: Name>(heads: &Heads<N>, worker: &mut WorkerSeat<N>, hold: &mut Hold<N>)
-    requires idle { worker.old.part.hand ≡ Idle }
-    requires joined { worker.old.hold ≡ Some (new_hold hold.old.life) }
-    requires hollow { hold.old.part ≡ None }
-    ensures worker { worker.new ≡ record worker.old { hold = None } }
-    ensures hold { hold.new ≡ whole_hold hold.old.life }
-{
-    heads.hold_out(worker, hold);
-}
 
 /// The World makes a reader's command.
 fn tell(rt: &impl Abort, world: &mut World, command: Command) {
@@ -101,15 +74,7 @@ pub fn touch_cold<N: Name>(
     requires alone { worker.old.hold ≡ None }
     requires fresh { worker.old.part.accounts ≡ no_accounts }
 {
-    let mut hold = taken(rt, heads, worker, item);
-    heads.hold_in(worker, &mut hold);
-    heads.mark_fetched(worker, item);
-    let found = heads.mark_active(worker, item);
-    assert!(rt; !found.active);
-    assert!(rt; matches!(found.segment, Segment::Cold));
-    heads.ride(worker, item, 0).expect(rt, "there is room");
-    let_out(heads, worker, &mut hold);
-    heads.give_back(hold);
+    hit_cold(rt, heads, worker, item);
     let (worker, id) = (0, item);
     tell(rt, world, Command::Take { worker, id });
     for now in 3..5 {

@@ -3,7 +3,7 @@ use Rattle.bump_steps.specs.References.{new_hold}
 use Rattle.bump_steps.specs.declared.views.HoldPart.{HoldPart}
 use Rattle.bump_readers.specs.declared.views.HoldView.{HoldView}
 use Rattle.bump_readers.specs.declared.views.WorkerView.{WorkerView}
-use Rattle.class_runs.proofs.books.readers.hit_cold.Goals as goal
+use Rattle.class_runs.proofs.readers.hit_cold.Goals as goal
 
 pub ride-requires-clause-held : goal.ride-requires-clause-held
 ride-requires-clause-held g c =
