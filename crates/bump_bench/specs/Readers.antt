@@ -8,11 +8,12 @@ use Rattle.bump_readers.specs.declared.views.WorkerView.{WorkerView}
 use Rattle.bump_steps.specs.References.{new_hold}
 
 -- the counts are the seat's, and it has this in its hand and this hold joined to it
-pub record Stands (h : Hand) (joined : Option HoldPart) (w : WorkerView) (attempted accepted : ℕ) : Type 0 where
-  pub handed : w.part.hand ≡ h
-  pub held : w.hold ≡ joined
-  pub tried : w.part.accounts.attempted ≡ attempted
-  pub sent : w.part.accounts.accepted ≡ accepted
+pub record Stands (so_far : Hand) (joined : Option HoldPart) (seat : WorkerView) (attempted accepted : ℕ) : Type 0
+  where
+    pub handed : seat.part.hand ≡ so_far
+    pub held : seat.hold ≡ joined
+    pub tried : seat.part.accounts.attempted ≡ attempted
+    pub sent : seat.part.accounts.accepted ≡ accepted
 
 -- between two hits
 abbrev pub IsReady : WorkerView → ℕ → ℕ → Type 0
@@ -20,12 +21,12 @@ IsReady = Stands hand.Idle None
 
 -- a hold of the life is joined, and no bump is attempted
 abbrev pub IsTouching : ItemId → WorkerView → ℕ → ℕ → Type 0
-IsTouching l = Stands hand.Idle (Some (new_hold l))
+IsTouching item = Stands hand.Idle (Some (new_hold item))
 
 -- a bump of the life is attempted
 abbrev pub IsTrying : ItemId → WorkerView → ℕ → ℕ → Type 0
-IsTrying l = Stands (hand.Trying l) (Some (new_hold l))
+IsTrying item = Stands (hand.Trying item) (Some (new_hold item))
 
 -- a bump of the life was dropped
 abbrev pub IsDropping : ItemId → WorkerView → ℕ → ℕ → Type 0
-IsDropping l = Stands (hand.Clearing l) (Some (new_hold l))
+IsDropping item = Stands (hand.Clearing item) (Some (new_hold item))

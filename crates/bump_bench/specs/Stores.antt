@@ -7,11 +7,11 @@ use Rattle.bump_heads.specs.Linking.{place_of_chunk}
 
 -- each chunk from this one on is free
 abbrev pub AreUnused : ℕ → ClassPart → Type 0
-AreUnused from k = (c : ℕ) → from ≤ c → place_of_chunk k c ≡ Unused
+AreUnused from class = (c : ℕ) → from ≤ c → place_of_chunk class c ≡ Unused
 
 -- the one class of a store of so many chunks, of which those from this one on are free
-pub record IsLinking (chunks from : ℕ) (v : ClassView) : Type 0 where
-  pub alone : v.lane ≡ None
-  pub first : v.part.first ≡ 0
-  pub count : v.part.count ≡ chunks
-  pub free : AreUnused from v.part
+pub record IsLinking (chunks from : ℕ) (seat : ClassView) : Type 0 where
+  pub alone : seat.lane ≡ None
+  pub first : seat.part.first ≡ 0
+  pub count : seat.part.count ≡ chunks
+  pub free : AreUnused from seat.part

@@ -1,4 +1,5 @@
-//! The lists of one class and its seat on the words of the store in one value, which whoever has the class's lock may change.
+//! The lists of one class and its seat on the words of the store in one value, which whoever has the class's lock may
+//! change.
 #![tactic(auto)]
 
 mod books;

@@ -4,14 +4,14 @@ use Rattle.std.proofs.lemmas.Bool.{cases_lt, and_from, lt-ltb, eq-eqb}
 use Rattle.bump_rules.specs.declared.items.ItemId.{ItemId}
 use Rattle.bump_state.specs.Events.{next_chunk}
 use Rattle.bump_rules.specs.Lives.{life}
-use Rattle.bump_state.specs.State.{State, chunk, is_held}
+use Rattle.bump_state.specs.State.{State, chunk_at, is_held}
 use Rattle.bump_state.specs.Worlds.{IsLawful, holds_of}
 use Rattle.bump_state.proofs.LawfulStates.{referred_in_range, referred_used}
 use Rattle.bump_state.proofs.Fronts.{next_front}
 pub use Rattle.bump_state.proofs.LawfulStates.{held_by, held_at, held_else, held_current, holds_counted, one_if_same, one_if_cases}
 
 -- nobody holds a life of the chunk that is linked next
-pub unheld_next : (s : State) → IsLawful s → (k c g : ℕ) → k < length s.classes → next_chunk s k ≡ Some c → held_by (chunk s c) g ≡ 0
+pub unheld_next : (s : State) → IsLawful s → (k c g : ℕ) → k < length s.classes → next_chunk s k ≡ Some c → held_by (chunk_at s c) g ≡ 0
 unheld_next s o k c g within is = elim (cases_lt 0 (holds_of s (life c g))) [
   | inl some ↦ absurd (let used = referred_used s o c g (omega (arith, some, holds_counted s (life c g))) in let free = (next_front s o k c within is).2 in rw free at used)
   | inr none ↦ omega (arith, none)

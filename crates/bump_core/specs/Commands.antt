@@ -2,6 +2,7 @@
 use Rattle.std.specs.Prelude.{◌≡◌, ℕ, ◌+◌, Bool, true, false, not, ◌==◌, ◌&&◌, ◌||◌, nat_lt, List, [], ◌∷◌, ◌++◌, length, map, is_none, Option, None, Some, Result, Ok, Err, if◌then◌else◌}
 use Rattle.std.specs.Option.{option_map_or}
 use Rattle.std.specs.List.{list_any}
+use Rattle.bump_rules.specs.declared.places.Limits.{Limits}
 use Rattle.bump_rules.specs.declared.places.Segment.{Segment}
 use Rattle.bump_rules.specs.declared.places.Segment.TheVariants as segment
 use Rattle.bump_rules.specs.declared.places.Tail.{Tail}
@@ -32,6 +33,8 @@ use Rattle.bump_rules.specs.declared.commands.Hit.{Hit}
 use Rattle.bump_rules.specs.declared.commands.Hit.TheVariants.{First as IsFirst, Already as IsAlready, Marked as IsMarked, Attempts}
 use Rattle.bump_rules.specs.declared.commands.Dropped.{Dropped}
 use Rattle.bump_rules.specs.declared.commands.Dropped.TheVariants.{Full, Busy, RefsFull}
+use Rattle.bump_rules.specs.declared.commands.Room.{Room}
+use Rattle.bump_rules.specs.declared.commands.Room.TheVariants.{Known, Unknown}
 use Rattle.bump_rules.specs.declared.commands.Pulled.{Pulled}
 use Rattle.bump_rules.specs.declared.commands.Pulled.TheVariants as pulled
 use Rattle.bump_rules.specs.declared.events.Event.{Event}
@@ -40,9 +43,9 @@ use Rattle.bump_rules.specs.declared.events.Refused.{Refused}
 use Rattle.bump_rules.specs.declared.events.Refused.TheVariants.{NotEnabled, OutOfMemory}
 use Rattle.bump_rules.specs.Lives.{life}
 use Rattle.bump_rules.specs.History.{freed_change}
-use Rattle.bump_rules.specs.Tables.{Get, IsStale, IsRefsFull, IsHeld, is_cold, get_of, ended_of, is_unheld, hit_of, dropped_of, touch_of, outcome_of, pulled_of, pulled_to, segment_of, last_pulled, is_pulled_over}
+use Rattle.bump_rules.specs.Tables.{Get, IsStale, IsRefsFull, IsHeld, is_cold, get_of, ended_of, is_unheld, hit_of, dropped_of, touch_of, outcome_of, pulled_of, pulled_to, segment_of, last_pulled}
 use Rattle.bump_state.specs.Sweeps.{sweep_of}
-use Rattle.bump_state.specs.State.{State, WorkerState, chunk, head, class, worker, is_chunk, is_class, is_worker, with_chunk, with_head, with_worker, with_change, with_changes, class_of, is_linked, is_held, has_free_hold, is_open}
+use Rattle.bump_state.specs.State.{State, ClassState, WorkerState, chunk_at, head_at, class_at, worker_at, is_chunk, is_class, is_worker, with_chunk, with_head, with_worker, with_change, with_changes, class_of, is_linked, is_held, has_free_hold, is_open}
 use Rattle.bump_core.specs.Runs.{one_asks}
 use Rattle.bump_rules.specs.Hands.{is_idle}
 use Rattle.bump_rules.specs.Rings.{most_attempts}
@@ -53,59 +56,66 @@ use Rattle.bump_rules.specs.Lanes.{bump_of, applied_bump, is_half_made}
 -- Ends.
 
 -- what the end of a life comes to that is linked: its link's reference is given back first
-abbrev pub end_of : State → ItemId → Ended
-end_of s l = ended_of (severed_head (head s l.chunk))
+abbrev pub unlinked_as : State → ItemId → Ended
+unlinked_as state item = ended_of (severed_head (head_at state item.chunk))
 
 -- an unlinked life's chunk is free where its end came to that
 abbrev pub freed_by : State → ItemId → Ended → State
-freed_by s l Freed = with_change s (class_of s l.chunk) (freed_change l)
-freed_by s l Deferred = s
+freed_by state item Freed = with_change state (class_of state item.chunk) (freed_change item)
+freed_by state item Deferred = state
 
 -- a linked life ends
-abbrev pub end_life : State → ItemId → State
-end_life s l = freed_by (unlink s l) l (end_of s l)
+abbrev pub unlink_item : State → ItemId → State
+unlink_item state item = freed_by (unlink state item) item (unlinked_as state item)
 
 -- the look behind an end: a load, which is a sweep where it finds no reference
 abbrev pub look_of : ℕ → Ended → Event
-look_of c Freed = event.Sweep c
-look_of c Deferred = event.Load c
+look_of chunk Freed = event.Sweep chunk
+look_of chunk Deferred = event.Load chunk
 
-abbrev pub end_events : State → ItemId → List Event
-end_events s l = event.Unlink l ∷ look_of l.chunk (end_of s l) ∷ []
+abbrev pub unlink_events : State → ItemId → List Event
+unlink_events state item = event.Unlink item ∷ look_of item.chunk (unlinked_as state item) ∷ []
 
 -- Sweeps.
 
 -- each of these chunks is looked at once
 abbrev pub looks_at : (ℕ → Head) → List ℕ → List Event
-looks_at heads cs = map (λ c. look_of c (ended_of (heads c))) cs
+looks_at heads chunks = map (λ chunk. look_of chunk (ended_of (heads chunk))) chunks
 
 -- Pulls.
 
 -- the last chunk of the list that a pull looks at
-abbrev pub tail_of : State → ℕ → Tail → Option ℕ
-tail_of s k t = last_pulled t (class s k).lists
+abbrev pub last_pulled_in : State → ℕ → Tail → Option ℕ
+last_pulled_in state class from = last_pulled from (class_at state class).lists
 
--- that list has more items than its limit
-abbrev pub is_list_over : State → ℕ → Tail → Bool
-is_list_over s k t = is_pulled_over t (class s k).lists (class s k).hot_limit (class s k).warm_limit
+-- the limits of HOT and WARM in a class
+abbrev pub limits_in : ClassState → Limits
+limits_in class = record { hot = class.hot_limit; warm = class.warm_limit }
 
 -- what a pull does with its item, by the tail table
 abbrev pub pulled_at : State → ℕ → Tail → ℕ → Pulled
-pulled_at s k t c = let l = life c (head s c).generation in pulled_of t (head s c).active (is_list_over s k t) (end_of s l) l
+pulled_at state class from chunk =
+    let head = head_at state chunk in
+    let item = life chunk head.generation in
+    let here = class_at state class in
+    pulled_of from head here.lists (limits_in here) (unlinked_as state item) item
 
 -- the item goes to the front of a segment without ACTIVE, or nothing happens
 abbrev pub pull_to : State → ℕ → Tail → ℕ → Option Segment → State
-pull_to s k t c None = s
-pull_to s k t c (Some to) =
-    let h = head s c in
-    with_change (with_head s c (record h { active = false; segment = to })) k (change.Moved (life c h.generation) (segment_of t) to Pull)
+pull_to state class from chunk None = state
+pull_to state class from chunk (Some to) =
+    let head = head_at state chunk in
+    let moved = with_head state chunk (record head { active = false; segment = to }) in
+    with_change moved class (change.Moved (life chunk head.generation) (segment_of from) to Pull)
 
 -- a pull moves its item by the tail table, and an evict ends it
 abbrev pub pull : State → ℕ → Tail → ℕ → State
-pull s k tail.Hot c = pull_to s k tail.Hot c (pulled_to (pulled_at s k tail.Hot c))
-pull s k tail.Warm c = pull_to s k tail.Warm c (pulled_to (pulled_at s k tail.Warm c))
-pull s k tail.Cold c = pull_to s k tail.Cold c (pulled_to (pulled_at s k tail.Cold c))
-pull s k tail.Evict c = end_life s (life c (head s c).generation)
+pull state class tail.Hot chunk = pull_to state class tail.Hot chunk (pulled_to (pulled_at state class tail.Hot chunk))
+pull state class tail.Warm chunk =
+    pull_to state class tail.Warm chunk (pulled_to (pulled_at state class tail.Warm chunk))
+pull state class tail.Cold chunk =
+    pull_to state class tail.Cold chunk (pulled_to (pulled_at state class tail.Cold chunk))
+pull state class tail.Evict chunk = unlink_item state (life chunk (head_at state chunk).generation)
 
 -- Holds.
 
@@ -117,222 +127,299 @@ get_answer IsHeld = answer.Held
 
 -- what a get of this life comes to, by the word that stands there
 abbrev pub get_at : State → ItemId → Get
-get_at s l = get_of s.refs_limit l.generation (head s l.chunk)
+get_at state item = get_of state.refs_limit item.generation (head_at state item.chunk)
 
 -- a hold is taken where the get comes to that
 abbrev pub held_by_get : State → ItemId → Get → State
-held_by_get s l IsStale = s
-held_by_get s l IsRefsFull = s
-held_by_get s l IsHeld = with_hold s l.chunk
+held_by_get state item IsStale = state
+held_by_get state item IsRefsFull = state
+held_by_get state item IsHeld = with_hold state item.chunk
 
 -- its events, after the load
 abbrev pub get_events : ℕ → ItemId → Get → List Event
-get_events w l IsStale = []
-get_events w l IsRefsFull = []
-get_events w l IsHeld = event.Take w l ∷ []
+get_events worker item IsStale = []
+get_events worker item IsRefsFull = []
+get_events worker item IsHeld = event.Take worker item ∷ []
 
 -- Hits.
 
 -- The head that the second step of a hit finds is the first one's with FETCHED.
 abbrev pub hit_at : State → ItemId → Hit
-hit_at s l = hit_of (head s l.chunk) (fetched_head (head s l.chunk))
+hit_at state item = hit_of (head_at state item.chunk) (fetched_head (head_at state item.chunk))
+
+-- a worker's ring shows room where fewer bumps wait in it than it has room for
+abbrev pub room_at : State → ℕ → Room
+room_at state worker = if nat_lt (waiting (worker_at state worker)) state.capacity then Known else Unknown
 
 -- why a bump that a hit attempts is dropped, if it is: no exchange fails where nobody else makes a step
 abbrev pub dropped_at : State → ℕ → ItemId → Option Dropped
-dropped_at s w l = dropped_of s.refs_limit 0 (head s l.chunk) (nat_lt (waiting (worker s w)) s.capacity)
+dropped_at state worker item = dropped_of state.refs_limit 0 (head_at state item.chunk) (room_at state worker)
 
 -- the accounts after an attempt
 abbrev pub counted : Accounts → Option Dropped → Accounts
-counted a None = record a { attempted = a.attempted + 1; accepted = a.accepted + 1 }
-counted a (Some Full) = record a { attempted = a.attempted + 1; full = a.full + 1 }
-counted a (Some Busy) = record a { attempted = a.attempted + 1; busy = a.busy + 1 }
-counted a (Some RefsFull) = record a { attempted = a.attempted + 1; refs = a.refs + 1 }
+counted accounts None = record accounts { attempted = accounts.attempted + 1; accepted = accounts.accepted + 1 }
+counted accounts (Some Full) = record accounts { attempted = accounts.attempted + 1; full = accounts.full + 1 }
+counted accounts (Some Busy) = record accounts { attempted = accounts.attempted + 1; busy = accounts.busy + 1 }
+counted accounts (Some RefsFull) = record accounts { attempted = accounts.attempted + 1; refs = accounts.refs + 1 }
 
 -- an attempt: the bump is queued with a reference of its own, or dropped, which leaves the head as it was
 abbrev pub attempt : State → ℕ → ItemId → Option Dropped → State
-attempt s w l None =
-    let x = worker s w in
-    with_worker (with_head s l.chunk (one_more (active_head (head s l.chunk)))) w (record x { accounts = counted x.accounts None; sent = x.sent ++ l ∷ [] })
-attempt s w l (Some d) = let x = worker s w in with_worker s w (record x { accounts = counted x.accounts (Some d) })
+attempt state worker item None =
+    let old = worker_at state worker in
+    let held = with_head state item.chunk (one_more (active_head (head_at state item.chunk))) in
+    with_worker held worker (record old { accounts = counted old.accounts None; sent = old.sent ++ item ∷ [] })
+attempt state worker item (Some dropped) =
+    let old = worker_at state worker in
+    with_worker state worker (record old { accounts = counted old.accounts (Some dropped) })
 
 -- a hit, by the hit table
 abbrev pub hit : State → ℕ → ItemId → ℕ → Hit → State
-hit s w l now IsFirst = let x = worker s w in with_worker (with_head s l.chunk (fetched_head (head s l.chunk))) w (record x { first_hits = x.first_hits ++ l ∷ [] })
-hit s w l now IsAlready = s
-hit s w l now IsMarked = with_chunk s l.chunk (record (chunk s l.chunk) { head = active_head (head s l.chunk); time = now })
-hit s w l now Attempts = attempt s w l (dropped_at s w l)
+hit state worker item now IsFirst =
+    let old = worker_at state worker in
+    let fetched = with_head state item.chunk (fetched_head (head_at state item.chunk)) in
+    with_worker fetched worker (record old { first_hits = old.first_hits ++ item ∷ [] })
+hit state worker item now IsAlready = state
+hit state worker item now IsMarked =
+    let old = chunk_at state item.chunk in
+    with_chunk state item.chunk (record old { head = active_head old.head; time = now })
+hit state worker item now Attempts = attempt state worker item (dropped_at state worker item)
 
 -- what a hit answers: a bump gets the number of those sent before it
 abbrev pub hit_answer : State → ℕ → ItemId → Hit → Touch
-hit_answer s w l h = touch_of h (dropped_at s w l) (length (worker s w).sent)
+hit_answer state worker item comes =
+    touch_of comes (dropped_at state worker item) (length (worker_at state worker).sent)
 
 -- the worker has attempted as many bumps as any may
 abbrev pub is_exhausted : State → ℕ → Bool
-is_exhausted s w = (worker s w).accounts.attempted == most_attempts
+is_exhausted state worker = (worker_at state worker).accounts.attempted == most_attempts
 
 -- Bumps.
 
 -- the bump that a lane applies next: the one aboard, or else the first that waits
 abbrev pub bump_next : WorkerState → Option Bump
-bump_next x = by x.lane
+bump_next worker = by worker.lane
   where
     by : Lane → Option Bump
-    by lane.Empty = option_map_or (λ l. Some (bump_of (length x.received) l)) (next_bump x) None
-    by (lane.Carrying b) = Some b
+    by lane.Empty = option_map_or (λ item. Some (bump_of (length worker.received) item)) (next_bump worker) None
+    by (lane.Carrying bump) = Some bump
     by _ = None
 
 -- what applying a bump comes to, by the update table: the clearing step finds ACTIVE as it stands
 abbrev pub outcome_next : State → Bump → Outcome
-outcome_next s b = outcome_of (head s b.life.chunk) (head s b.life.chunk)
+outcome_next state bump = outcome_of (head_at state bump.life.chunk) (head_at state bump.life.chunk)
 
 -- what the end of an unlinked life comes to when a bump's reference is given back
-abbrev pub ended_at : State → ℕ → Ended
-ended_at s c = ended_of (one_fewer (head s c))
+abbrev pub gone_as : State → ℕ → Ended
+gone_as state chunk = ended_of (one_fewer (head_at state chunk))
 
 abbrev pub applied_as : State → Bump → Outcome → Applied
-applied_as s b outcome.Moved = applied.Moved
-applied_as s b outcome.TimeOnly = applied.TimeOnly
-applied_as s b outcome.Gone = applied.Gone (ended_at s b.life.chunk)
+applied_as state bump outcome.Moved = applied.Moved
+applied_as state bump outcome.TimeOnly = applied.TimeOnly
+applied_as state bump outcome.Gone = applied.Gone (gone_as state bump.life.chunk)
 
-abbrev pub entry_of : State → Bump → Entry
-entry_of s b = record { number = b.number; life = b.life; applied = applied_as s b (outcome_next s b) }
+abbrev pub entry_next : State → Bump → Entry
+entry_next state bump =
+    record { number = bump.number; life = bump.life; applied = applied_as state bump (outcome_next state bump) }
 
 -- the chunk of a bump when it was applied: the time is stored unless it was gone, ACTIVE is clear and the segment WARM
 -- where it was moved, and the bump's reference is given back
 abbrev pub bumped_chunk : Chunk → ℕ → Outcome → Chunk
-bumped_chunk x now outcome.Moved = record x { head = record (one_fewer x.head) { active = false; segment = segment.Warm }; time = now }
-bumped_chunk x now outcome.TimeOnly = record x { head = one_fewer x.head; time = now }
-bumped_chunk x now outcome.Gone = record x { head = one_fewer x.head }
+bumped_chunk old now outcome.Moved =
+    record old { head = record (one_fewer old.head) { active = false; segment = segment.Warm }; time = now }
+bumped_chunk old now outcome.TimeOnly = record old { head = one_fewer old.head; time = now }
+bumped_chunk old now outcome.Gone = record old { head = one_fewer old.head }
 
 -- the worker's ring and lane when a bump was applied
 abbrev pub bumped_worker : WorkerState → Bump → Outcome → WorkerState
-bumped_worker x b o = record x { received = by x.lane; lane = lane.Empty; applied = x.applied ++ applied_bump b o ∷ [] }
+bumped_worker old bump became =
+    record old { received = by old.lane; lane = lane.Empty; applied = old.applied ++ applied_bump bump became ∷ [] }
   where
     by : Lane → List ItemId
-    by lane.Empty = x.received ++ b.life ∷ []
-    by _ = x.received
+    by lane.Empty = old.received ++ bump.life ∷ []
+    by _ = old.received
 
--- The lists of its class: a bump that moves its item enters the history, and so does the end of an item that was gone and
--- has no other holder.
+-- The lists of its class: a bump that moves its item enters the history, and so does the end of an item that was gone
+-- and has no other holder.
 abbrev pub bumped_lists : State → ℕ → Bump → Outcome → Ended → State
-bumped_lists s w b outcome.Moved ended = with_change s (class_of s b.life.chunk) (change.Moved b.life segment.Cold segment.Warm (BumpOf w b.number))
-bumped_lists s w b outcome.TimeOnly ended = s
-bumped_lists s w b outcome.Gone ended = freed_by s b.life ended
+bumped_lists state worker bump outcome.Moved ended =
+    let entry = change.Moved bump.life segment.Cold segment.Warm (BumpOf worker bump.number) in
+    with_change state (class_of state bump.life.chunk) entry
+bumped_lists state worker bump outcome.TimeOnly ended = state
+bumped_lists state worker bump outcome.Gone ended = freed_by state bump.life ended
 
 abbrev pub apply_bump : State → ℕ → ℕ → Bump → State
-apply_bump s w now b =
-    let c = b.life.chunk in
-    let o = outcome_next s b in
-    bumped_lists (with_worker (with_chunk s c (bumped_chunk (chunk s c) now o)) w (bumped_worker (worker s w) b o)) w b o (ended_at s c)
+apply_bump state worker now bump =
+    let chunk = bump.life.chunk in
+    let became = outcome_next state bump in
+    let stored = with_chunk state chunk (bumped_chunk (chunk_at state chunk) now became) in
+    let alighted = with_worker stored worker (bumped_worker (worker_at state worker) bump became) in
+    bumped_lists alighted worker bump became (gone_as state chunk)
 
 -- Each command.
 
--- A command is refused where a number is out of range, a worker's ring is closed, a life has no free hold (a hit, a release)
--- or none (a label), or another command is half made in its way. What would change nothing of a class waits for no lane.
+-- nobody holds one of the chunks in a class's DYING
+abbrev pub frees_some : State → ℕ → Bool
+frees_some state class = list_any (λ chunk. is_unheld (head_at state chunk)) (class_at state class).lists.dying
+
+-- no lane applies a bump of the class of this one
+abbrev pub may_apply : State → Bump → Bool
+may_apply state bump = is_at_rest state (class_of state bump.life.chunk)
+
+-- A command is refused where a number is out of range, a worker's ring is closed, a life has no free hold (a hit, a
+-- release) or none (a label), or another command is half made in its way. What would change nothing of a class waits
+-- for no lane.
 abbrev pub is_allowed : State → Command → Bool
-is_allowed s (command.Link k x now) = is_class s k && (is_none (next_chunk s k) || is_at_rest s k)
-is_allowed s (command.Unlink l) = not (is_linked s l) || is_at_rest s (class_of s l.chunk)
-is_allowed s (command.Sweep k) = is_class s k && (not (list_any (λ c. is_unheld (head s c)) (class s k).lists.dying) || is_at_rest s k)
-is_allowed s (command.Pull k t) = is_class s k && (is_none (tail_of s k t) || is_at_rest s k)
-is_allowed s (command.Take w l) = is_open s w
-is_allowed s (command.Touch w l now) = is_open s w && (has_free_hold s l && (is_exhausted s w || is_idle (worker s w).hand))
-is_allowed s (command.Label l) = is_held s l
-is_allowed s (command.Release l) = has_free_hold s l
-is_allowed s (command.Next w now) = is_worker s w && (not (is_half_made (worker s w).lane) && option_map_or (λ b. is_at_rest s (class_of s b.life.chunk)) (bump_next (worker s w)) true)
-is_allowed s (command.Close w) = is_open s w && is_idle (worker s w).hand
+is_allowed state (command.Link class label now) =
+    is_class state class && (is_none (next_chunk state class) || is_at_rest state class)
+is_allowed state (command.Unlink item) = not (is_linked state item) || is_at_rest state (class_of state item.chunk)
+is_allowed state (command.Sweep class) =
+    is_class state class && (not (frees_some state class) || is_at_rest state class)
+is_allowed state (command.Pull class from) =
+    is_class state class && (is_none (last_pulled_in state class from) || is_at_rest state class)
+is_allowed state (command.Take worker item) = is_open state worker
+is_allowed state (command.Touch worker item now) =
+    is_open state worker
+    && (has_free_hold state item && (is_exhausted state worker || is_idle (worker_at state worker).hand))
+is_allowed state (command.Label item) = is_held state item
+is_allowed state (command.Release item) = has_free_hold state item
+is_allowed state (command.Next worker now) =
+    let applies = worker_at state worker in
+    is_worker state worker
+    && (not (is_half_made applies.lane) && option_map_or (may_apply state) (bump_next applies) true)
+is_allowed state (command.Close worker) = is_open state worker && is_idle (worker_at state worker).hand
 
 -- what an unlink answers
 abbrev pub unlink_answer : State → ItemId → Answer
-unlink_answer s l = if not (is_chunk s l.chunk) then answer.NoSuchChunk else (if is_linked s l then answer.Ended (end_of s l) else answer.NotLinked)
+unlink_answer state item =
+    if not (is_chunk state item.chunk) then answer.NoSuchChunk
+    else (if is_linked state item then answer.Ended (unlinked_as state item) else answer.NotLinked)
 
 -- What a command answers.
 abbrev pub answer_of : State → Command → Answer
-answer_of s (command.Link k x now) = option_map_or (λ c. answer.Linked (next_life s c)) (next_chunk s k) answer.NoFreeChunk
-answer_of s (command.Unlink l) = unlink_answer s l
-answer_of s (command.Sweep k) = answer.Swept (length (sweep_of s k))
-answer_of s (command.Pull k t) = answer.Pulled (option_map_or (pulled_at s k t) (tail_of s k t) pulled.Empty)
-answer_of s (command.Take w l) = if is_chunk s l.chunk then get_answer (get_at s l) else answer.NoSuchChunk
-answer_of s (command.Touch w l now) = answer.Touched (if is_exhausted s w then touch.Exhausted else hit_answer s w l (hit_at s l))
-answer_of s (command.Label l) = answer.Label (chunk s l.chunk).label
-answer_of s (command.Release l) = answer.Done
-answer_of s (command.Next w now) = option_map_or (λ b. answer.Bumped (entry_of s b)) (bump_next (worker s w)) answer.Nothing
-answer_of s (command.Close w) = answer.Done
+answer_of state (command.Link class label now) =
+    option_map_or (λ chunk. answer.Linked (next_life state chunk)) (next_chunk state class) answer.NoFreeChunk
+answer_of state (command.Unlink item) = unlink_answer state item
+answer_of state (command.Sweep class) = answer.Swept (length (sweep_of state class))
+answer_of state (command.Pull class from) =
+    answer.Pulled (option_map_or (pulled_at state class from) (last_pulled_in state class from) pulled.Empty)
+answer_of state (command.Take worker item) =
+    if is_chunk state item.chunk then get_answer (get_at state item) else answer.NoSuchChunk
+answer_of state (command.Touch worker item now) =
+    answer.Touched
+    (if is_exhausted state worker then touch.Exhausted else hit_answer state worker item (hit_at state item))
+answer_of state (command.Label item) = answer.Label (chunk_at state item.chunk).label
+answer_of state (command.Release item) = answer.Done
+answer_of state (command.Next worker now) =
+    option_map_or (λ bump. answer.Bumped (entry_next state bump)) (bump_next (worker_at state worker)) answer.Nothing
+answer_of state (command.Close worker) = answer.Done
 
 -- a link stores the label, the time and the head, and the chunk enters HOT
 abbrev pub link_labelled : State → ℕ → ℕ → ℕ → ℕ → State
-link_labelled s k x now c = with_change (with_chunk s c (record (chunk s c) { head = newborn ((head s c).generation + 1); time = now; label = x })) k (change.Linked (next_life s c))
+link_labelled state class label now chunk =
+    let old = chunk_at state chunk in
+    let head = newborn (old.head.generation + 1) in
+    let stored = with_chunk state chunk (record old { head = head; time = now; label = label }) in
+    with_change stored class (change.Linked (next_life state chunk))
 
 -- The state that a command leaves.
 abbrev pub command_after : State → Command → State
-command_after s (command.Link k x now) = option_map_or (link_labelled s k x now) (next_chunk s k) s
-command_after s (command.Unlink l) = if is_linked s l then end_life s l else s
-command_after s (command.Sweep k) = with_changes s k (sweep_of s k)
-command_after s (command.Pull k t) = option_map_or (pull s k t) (tail_of s k t) s
-command_after s (command.Take w l) = if is_chunk s l.chunk then held_by_get s l (get_at s l) else s
-command_after s (command.Touch w l now) = if is_exhausted s w then s else hit s w l now (hit_at s l)
-command_after s (command.Label l) = s
-command_after s (command.Release l) = without_hold s l.chunk
-command_after s (command.Next w now) = option_map_or (apply_bump s w now) (bump_next (worker s w)) s
-command_after s (command.Close w) = close s w
+command_after state (command.Link class label now) =
+    option_map_or (link_labelled state class label now) (next_chunk state class) state
+command_after state (command.Unlink item) = if is_linked state item then unlink_item state item else state
+command_after state (command.Sweep class) = with_changes state class (sweep_of state class)
+command_after state (command.Pull class from) =
+    option_map_or (pull state class from) (last_pulled_in state class from) state
+command_after state (command.Take worker item) =
+    if is_chunk state item.chunk then held_by_get state item (get_at state item) else state
+command_after state (command.Touch worker item now) =
+    if is_exhausted state worker then state else hit state worker item now (hit_at state item)
+command_after state (command.Label item) = state
+command_after state (command.Release item) = without_hold state item.chunk
+command_after state (command.Next worker now) =
+    option_map_or (apply_bump state worker now) (bump_next (worker_at state worker)) state
+command_after state (command.Close worker) = close state worker
 
 -- The events of each command.
 
 abbrev pub move_events : ℕ → Option Segment → List Event
-move_events c None = []
-move_events c (Some to) = event.Move c to ∷ []
+move_events chunk None = []
+move_events chunk (Some to) = event.Move chunk to ∷ []
 
 -- a pull clears ACTIVE and moves its item by the tail table; an evict's events are those of an end
 abbrev pub pull_events : State → ℕ → Tail → ℕ → List Event
-pull_events s k tail.Hot c = event.ClearActive c ∷ move_events c (pulled_to (pulled_at s k tail.Hot c))
-pull_events s k tail.Warm c = event.ClearActive c ∷ move_events c (pulled_to (pulled_at s k tail.Warm c))
-pull_events s k tail.Cold c = event.ClearActive c ∷ move_events c (pulled_to (pulled_at s k tail.Cold c))
-pull_events s k tail.Evict c = end_events s (life c (head s c).generation)
+pull_events state class tail.Hot chunk =
+    event.ClearActive chunk ∷ move_events chunk (pulled_to (pulled_at state class tail.Hot chunk))
+pull_events state class tail.Warm chunk =
+    event.ClearActive chunk ∷ move_events chunk (pulled_to (pulled_at state class tail.Warm chunk))
+pull_events state class tail.Cold chunk =
+    event.ClearActive chunk ∷ move_events chunk (pulled_to (pulled_at state class tail.Cold chunk))
+pull_events state class tail.Evict chunk = unlink_events state (life chunk (head_at state chunk).generation)
 
 abbrev pub attempt_events : ℕ → Option Dropped → List Event
-attempt_events w None = event.Reserve w ∷ event.Push w ∷ []
-attempt_events w (Some RefsFull) = event.DropRefs w ∷ event.Unmark w ∷ []
-attempt_events w (Some Full) = event.Reserve w ∷ event.DropFull w ∷ event.Unmark w ∷ []
-attempt_events w (Some Busy) = event.DropBusy w ∷ event.Unmark w ∷ []
+attempt_events worker None = event.Reserve worker ∷ event.Push worker ∷ []
+attempt_events worker (Some RefsFull) = event.DropRefs worker ∷ event.Unmark worker ∷ []
+attempt_events worker (Some Full) = event.Reserve worker ∷ event.DropFull worker ∷ event.Unmark worker ∷ []
+attempt_events worker (Some Busy) = event.DropBusy worker ∷ event.Unmark worker ∷ []
 
 abbrev pub hit_events : State → ℕ → ItemId → ℕ → Hit → List Event
-hit_events s w l now IsFirst = event.Fetch w l ∷ []
-hit_events s w l now IsAlready = event.Fetch w l ∷ []
-hit_events s w l now IsMarked = event.Fetch w l ∷ event.Mark w l ∷ event.StoreTime l now ∷ []
-hit_events s w l now Attempts = event.Fetch w l ∷ event.Mark w l ∷ attempt_events w (dropped_at s w l)
+hit_events state worker item now IsFirst = event.Fetch worker item ∷ []
+hit_events state worker item now IsAlready = event.Fetch worker item ∷ []
+hit_events state worker item now IsMarked =
+    event.Fetch worker item ∷ event.Mark worker item ∷ event.StoreTime item now ∷ []
+hit_events state worker item now Attempts =
+    event.Fetch worker item ∷ event.Mark worker item ∷ attempt_events worker (dropped_at state worker item)
 
 -- a lane that carries no bump takes the next one
 abbrev pub take_events : ℕ → Lane → List Event
-take_events w lane.Empty = event.TakeBump w ∷ []
-take_events w _ = []
+take_events worker lane.Empty = event.TakeBump worker ∷ []
+take_events worker _ = []
 
 -- The steps of the update table: a cold item's ACTIVE is cleared, and where it was set the item is moved. After an item
 -- that was gone its head is looked at once more, which is a sweep where nobody holds it any more.
 abbrev pub apply_events : Head → ℕ → ℕ → ℕ → List Event
-apply_events h w now c =
-    if not h.linked then event.Try w ∷ event.Alight w ∷ look_of c (ended_of (one_fewer h)) ∷ []
-    else (if not (is_cold h.segment) then event.Try w ∷ event.BumpTime w now ∷ event.Alight w ∷ []
-    else (if h.active then event.Try w ∷ event.BumpTime w now ∷ event.ClearFor w ∷ event.MoveFor w ∷ event.Alight w ∷ []
-    else event.Try w ∷ event.BumpTime w now ∷ event.ClearFor w ∷ event.Alight w ∷ []))
+apply_events head worker now chunk =
+    if not head.linked
+    then event.Try worker ∷ event.Alight worker ∷ look_of chunk (ended_of (one_fewer head)) ∷ []
+    else (if not (is_cold head.segment)
+    then event.Try worker ∷ event.BumpTime worker now ∷ event.Alight worker ∷ []
+    else (if head.active
+    then event.Try worker ∷ event.BumpTime worker now ∷ event.ClearFor worker ∷ event.MoveFor worker
+    ∷ event.Alight worker ∷ []
+    else event.Try worker ∷ event.BumpTime worker now ∷ event.ClearFor worker ∷ event.Alight worker ∷ []))
+
+-- the next bump is taken where none is aboard, and then applied
+abbrev pub next_events : State → ℕ → ℕ → Bump → List Event
+next_events state worker now bump =
+    take_events worker (worker_at state worker).lane
+    ++ apply_events (head_at state bump.life.chunk) worker now bump.life.chunk
 
 abbrev pub events_of : State → Command → List Event
-events_of s (command.Link k x now) = option_map_or (λ c. event.PutLabel k x ∷ event.PutTime k now ∷ event.Link k ∷ []) (next_chunk s k) []
-events_of s (command.Unlink l) = if is_linked s l then end_events s l else []
-events_of s (command.Sweep k) = looks_at (head s) (class s k).lists.dying
-events_of s (command.Pull k t) = option_map_or (pull_events s k t) (tail_of s k t) []
-events_of s (command.Take w l) = if is_chunk s l.chunk then event.Load l.chunk ∷ get_events w l (get_at s l) else []
-events_of s (command.Touch w l now) = if is_exhausted s w then [] else hit_events s w l now (hit_at s l)
-events_of s (command.Label l) = event.Load l.chunk ∷ []
-events_of s (command.Release l) = event.Release l ∷ []
-events_of s (command.Next w now) = option_map_or (λ b. take_events w (worker s w).lane ++ apply_events (head s b.life.chunk) w now b.life.chunk) (bump_next (worker s w)) []
-events_of s (command.Close w) = event.Close w ∷ []
+events_of state (command.Link class label now) =
+    option_map_or (λ _. event.PutLabel class label ∷ event.PutTime class now ∷ event.Link class ∷ [])
+    (next_chunk state class) []
+events_of state (command.Unlink item) = if is_linked state item then unlink_events state item else []
+events_of state (command.Sweep class) = looks_at (head_at state) (class_at state class).lists.dying
+events_of state (command.Pull class from) =
+    option_map_or (pull_events state class from) (last_pulled_in state class from) []
+events_of state (command.Take worker item) =
+    if is_chunk state item.chunk then event.Load item.chunk ∷ get_events worker item (get_at state item) else []
+events_of state (command.Touch worker item now) =
+    if is_exhausted state worker then [] else hit_events state worker item now (hit_at state item)
+events_of state (command.Label item) = event.Load item.chunk ∷ []
+events_of state (command.Release item) = event.Release item ∷ []
+events_of state (command.Next worker now) =
+    option_map_or (next_events state worker now) (bump_next (worker_at state worker)) []
+events_of state (command.Close worker) = event.Close worker ∷ []
 
 -- A command asks for memory where one of its events does.
 abbrev pub command_asks_for_memory : State → Command → Bool
-command_asks_for_memory s c = one_asks s (events_of s c)
+command_asks_for_memory state call = one_asks state (events_of state call)
 
--- What a command does: where it is allowed it answers and leaves what the tables say, else it refuses. Want of memory is the
--- last refusal: only a command that is allowed and asks for memory meets it. A refusal changes nothing.
+-- What a command does: where it is allowed it answers and leaves what the tables say, else it refuses. Want of memory
+-- is the last refusal: only a command that is allowed and asks for memory meets it. A refusal changes nothing.
 abbrev pub Commands : State → Command → State → Result Answer Refused → Type 0
-Commands old c new (Ok answer) = (is_allowed old c ≡ true) × (new ≡ command_after old c) × (answer ≡ answer_of old c)
-Commands old c new (Err NotEnabled) = (is_allowed old c ≡ false) × (new ≡ old)
-Commands old c new (Err OutOfMemory) = (is_allowed old c ≡ true) × (new ≡ old) × (command_asks_for_memory old c ≡ true)
+Commands old call new (Ok answer) =
+    (is_allowed old call ≡ true) × (new ≡ command_after old call) × (answer ≡ answer_of old call)
+Commands old call new (Err NotEnabled) = (is_allowed old call ≡ false) × (new ≡ old)
+Commands old call new (Err OutOfMemory) =
+    (is_allowed old call ≡ true) × (new ≡ old) × (command_asks_for_memory old call ≡ true)

@@ -6,7 +6,7 @@ use Rattle.bump_rules.specs.declared.events.Event.TheVariants as event
 use Rattle.bump_state.specs.Events.{after, next_chunk, next_life}
 use Rattle.bump_rules.specs.Lawful.{IsUsed}
 use Rattle.bump_rules.specs.Lives.{life}
-use Rattle.bump_state.specs.State.{State, chunk, head}
+use Rattle.bump_state.specs.State.{State, chunk_at, head_at}
 use Rattle.bump_state.specs.Worlds.{place}
 use Rattle.bump_rules.specs.declared.labels.LabelStep.{LabelStep}
 use Rattle.bump_rules.specs.declared.labels.LabelStep.TheVariants.{Stored, Begun}
@@ -14,28 +14,31 @@ use Rattle.bump_rules.specs.Labels.{label_of_life}
 
 -- what an event does about labels
 abbrev pub label_steps_of : State → Event → List LabelStep
-label_steps_of s (event.PutLabel k x) = option_map_or (λ c. Stored c x ∷ []) (next_chunk s k) []
-label_steps_of s (event.Link k) = option_map_or (λ c. Begun (next_life s c) ∷ []) (next_chunk s k) []
-label_steps_of s _ = []
+label_steps_of state (event.PutLabel class label) =
+    option_map_or (λ chunk. Stored chunk label ∷ []) (next_chunk state class) []
+label_steps_of state (event.Link class) =
+    option_map_or (λ chunk. Begun (next_life state chunk) ∷ []) (next_chunk state class) []
+label_steps_of state _ = []
 
 -- what the events of a run do about labels, in order
 abbrev pub label_steps : State → List Event → List LabelStep
-label_steps s [] = []
-label_steps s (e ∷ es) = label_steps_of s e ++ label_steps (after s e) es
+label_steps state [] = []
+label_steps state (next ∷ rest) = label_steps_of state next ++ label_steps (after state next) rest
 
 -- the chunk was in use in its life of this generation, with this label
-pub record WasLabelled (s : State) (c g x : ℕ) : Type 0 where
-  pub generation : (head s c).generation ≡ g
-  pub used : IsUsed (place s c)
-  pub label : (chunk s c).label ≡ x
+pub record WasLabelled (state : State) (chunk lived labelled : ℕ) : Type 0 where
+  pub generation : (head_at state chunk).generation ≡ lived
+  pub used : IsUsed (place state chunk)
+  pub label : (chunk_at state chunk).label ≡ labelled
 
 -- the life that now stands at a chunk began with these steps, with this label; or it had it before
 abbrev pub IsLabel : State → ℕ → ℕ → ℕ → Option ℕ → Type 0
-IsLabel s c g x (Some y) = x ≡ y
-IsLabel s c g x None = WasLabelled s c g x
+IsLabel state chunk generation label (Some began_with) = label ≡ began_with
+IsLabel state chunk generation label None = WasLabelled state chunk generation label
 
 -- Each chunk in use has its life's label in its label word.
 abbrev pub KeepsLabels : State → List Event → State → Type 0
-KeepsLabels old es new =
-    (c : ℕ) → IsUsed (place new c)
-    → IsLabel old c (head new c).generation (chunk new c).label (label_of_life (life c (head new c).generation) (chunk old c).label (label_steps old es))
+KeepsLabels old events new =
+    (chunk : ℕ) → IsUsed (place new chunk)
+    → IsLabel old chunk (head_at new chunk).generation (chunk_at new chunk).label
+    (label_of_life (life chunk (head_at new chunk).generation) (chunk_at old chunk).label (label_steps old events))

@@ -7,36 +7,41 @@ use Rattle.bump_rules.specs.declared.events.Refused.TheVariants.{NotEnabled, Out
 use Rattle.bump_state.specs.State.{State}
 use Rattle.bump_state.specs.Events.{IsEnabledBy, is_enabled, asks_for_memory, after, reply_of}
 
--- What a step does: where the event is enabled it makes it and answers its reply, else it refuses. A refusal changes nothing.
-pub record Steps (old : State) (e : Event) (new : State) (result : Result Reply Refused) : Type 0 where
-  pub enabled : IsEnabledBy (is_enabled old e) result
-  pub state : OnOk result (new ≡ after old e)
-  pub reply : IfOk result (λ r. r ≡ reply_of old e)
+-- What a step does: where the event is enabled it makes it and answers its reply, else it refuses. A refusal changes
+-- nothing.
+pub record Steps (old : State) (event : Event) (new : State) (result : Result Reply Refused) : Type 0 where
+  pub enabled : IsEnabledBy (is_enabled old event) result
+  pub state : OnOk result (new ≡ after old event)
+  pub reply : IfOk result (λ answered. answered ≡ reply_of old event)
   pub unchanged : OnErr result (new ≡ old)
 
 -- the state after all events in order, where each is enabled in its turn
 abbrev pub run_of : State → List Event → Option State
-run_of s [] = Some s
-run_of s (e ∷ es) = if is_enabled s e then run_of (after s e) es else None
+run_of state [] = Some state
+run_of state (next ∷ rest) = if is_enabled state next then run_of (after state next) rest else None
 
 -- one of the events asks for memory, each in the state that those before it left
 abbrev pub one_asks : State → List Event → Bool
-one_asks s [] = false
-one_asks s (e ∷ es) = asks_for_memory s e || one_asks (after s e) es
+one_asks state [] = false
+one_asks state (next ∷ rest) = asks_for_memory state next || one_asks (after state next) rest
 
 -- the events that a run made: all, or those before the refused one
 abbrev pub made : List Event → Result Unit (ℕ × Refused) → List Event
-made es (Ok u) = es
-made es (Err (n, refused)) = take n es
+made events (Ok unit) = events
+made events (Err (place, refused)) = take place events
 
 -- the events that a step or a command made: all of its own, or none where it was refused
 abbrev pub made_by : {A : Type 0} → List Event → Result A Refused → List Event
-made_by es (Ok answer) = es
-made_by es (Err refused) = []
+made_by events (Ok answer) = events
+made_by events (Err refused) = []
 
--- What a run does: it makes the events in order up to the first that is refused, and tells its place. That event was not
--- enabled in the state that the events before it left; or it was and asks for memory, which was wanting.
+-- What a run does: it makes the events in order up to the first that is refused, and tells its place. That event was
+-- not enabled in the state that the events before it left; or it was and asks for memory, which was wanting.
 abbrev pub Runs : State → List Event → State → Result Unit (ℕ × Refused) → Type 0
-Runs old es new (Ok u) = run_of old es ≡ Some new
-Runs old es new (Err (n, NotEnabled)) = (run_of old (take n es) ≡ Some new) × (e : Event) × (slice_get es n ≡ Some e) × (is_enabled new e ≡ false)
-Runs old es new (Err (n, OutOfMemory)) = (run_of old (take n es) ≡ Some new) × (e : Event) × (slice_get es n ≡ Some e) × (is_enabled new e ≡ true) × (asks_for_memory new e ≡ true)
+Runs old events new (Ok unit) = run_of old events ≡ Some new
+Runs old events new (Err (place, NotEnabled)) =
+    (run_of old (take place events) ≡ Some new) × (event : Event) × (slice_get events place ≡ Some event)
+    × (is_enabled new event ≡ false)
+Runs old events new (Err (place, OutOfMemory)) =
+    (run_of old (take place events) ≡ Some new) × (event : Event) × (slice_get events place ≡ Some event)
+    × (is_enabled new event ≡ true) × (asks_for_memory new event ≡ true)

@@ -37,7 +37,7 @@ impl World {
     ghost use Rattle.bump_state.specs.Opening.{new_state};
     ghost use Rattle.bump_core.specs.Runs.{Steps, Runs, run_of, made, made_by};
     ghost use Rattle.bump_state.specs.Events.{asks_for_memory};
-    ghost use Rattle.bump_state.specs.State.{head, SameSizes};
+    ghost use Rattle.bump_state.specs.State.{head_at, SameSizes};
     ghost use Rattle.bump_core.specs.Readers.{list_of, time_of, label_of, holds_at, accounts_of, sent_of, received_of, applied_of};
     ghost use Rattle.bump_state.specs.Worlds.{IsLawful};
 

@@ -13,15 +13,16 @@ use Rattle.bump_steps.specs.declared.views.LanePart.{LanePart}
 use Rattle.bump_steps.specs.Views.{owns, standing}
 use Rattle.bump_steps.specs.Plays.{Sat, Found, Told}
 use Rattle.bump_readers.specs.Seats.{listed, first}
-use Rattle.bump_heads.specs.Seats.{class_in, class_me, bump_aboard, IsInRange, IsClassPart}
-use Rattle.bump_steps.specs.Lives.{alone, on_part}
+use Rattle.bump_heads.specs.Seats.{class_in, class_me, aboard_lane, IsInRange, IsClassPart}
+use Rattle.bump_steps.specs.Lives.{alone, on_class}
 use Rattle.bump_steps.proofs.Told.{stands_alone}
 
 -- a seat's parts are read back
 pub class_in_me : (x : ClassView) → class_in (class_me x).0 ≡ x
 class_in_me x = by x.lane
   where
-    by : (o : Option LanePart) → ◌≡◌ {A = ClassView} (record { part = x.part; lane = first (listed o) }) (record { part = x.part; lane = o })
+    by : (o : Option LanePart) → ◌≡◌ {A = ClassView} (record { part = x.part; lane = first (listed o) })
+        (record { part = x.part; lane = o })
     by None = refl
     by (Some l) = refl
 
@@ -31,12 +32,14 @@ found_is n P h spells found = subst P (one_head n found.0 h found.1 spells) foun
 
 -- a seat to which no lane is joined
 pub alone_is : (m : Sat) (v : ClassView) → m ≡ class_me v → v.lane ≡ None → m.0 ≡ alone v.part
-alone_is m v is no_lane = ap (λ (y : Sat). y.0) is ∙ ap (λ (o : Option LanePart). (class_me (record { part = v.part; lane = o })).0) no_lane
+alone_is m v is no_lane = ap (λ (y : Sat). y.0) is
+    ∙ ap (λ (o : Option LanePart). (class_me (record { part = v.part; lane = o })).0) no_lane
 
-module _ (m w : Sat) (v : ClassView) (f : ClassPart → ClassPart) (is : m ≡ class_me v) (after : w ≡ (on_part f m.0, m.1)) where
+module _ (m w : Sat) (v : ClassView) (f : ClassPart → ClassPart) (is : m ≡ class_me v)
+    (after : w ≡ (on_class f m.0, m.1)) where
   -- the seat after a step on its part
   pub me_after : w ≡ class_me (record v { part = f v.part })
-  me_after = after ∙ ap (λ (y : Sat). (on_part f y.0, y.1)) is
+  me_after = after ∙ ap (λ (y : Sat). (on_class f y.0, y.1)) is
 
   -- is seen with its new part
   pub view_after : class_in w.0 ≡ record v { part = f v.part }
@@ -47,29 +50,48 @@ module _ (m w : Sat) (v : ClassView) (f : ClassPart → ClassPart) (is : m ≡ c
   whole_after = me_after ∙ ap class_me (sym view_after)
 
 -- a look before the step that leaves the seat as it was
-pub after_look : (m p w : Sat) (f : ClassPart → ClassPart) → p ≡ m → w ≡ (on_part f p.0, p.1) → w ≡ (on_part f m.0, m.1)
-after_look m p w f same after = after ∙ ap (λ (y : Sat). (on_part f y.0, y.1)) same
+pub after_unlisted_load : (m p w : Sat) (f : ClassPart → ClassPart) → p ≡ m → w ≡ (on_class f p.0, p.1)
+    → w ≡ (on_class f m.0, m.1)
+after_unlisted_load m p w f same after = after ∙ ap (λ (y : Sat). (on_class f y.0, y.1)) same
 
--- what the class's seat keeps, it keeps by a step on its part that its part keeps, with what it knows of a lane that is joined
-pub seat_kept : (m w : Sat) (now : ClassView) (f : ClassPart → ClassPart) (table id : TableId) (class : ℕ) (joined : Option Joined) → class_in m.0 ≡ now → m ≡ class_me (class_in m.0) → w ≡ (on_part f m.0, m.1) → id ≡ table
-    → IsInRange table (bump_aboard (class_in m.0).lane) → class ≡ (class_in m.0).part.class → IsClassPart table.words (class_in m.0).part → IsJoined (class_in m.0).part (class_in m.0).lane joined
-    → (f now.part).class ≡ now.part.class → (IsClassPart table.words now.part → IsClassPart table.words (f now.part)) → (IsJoined now.part now.lane joined → IsJoined (f now.part) now.lane joined)
-    → (w ≡ class_me (class_in w.0)) × (id ≡ table) × IsInRange table (bump_aboard (class_in w.0).lane) × (class ≡ (class_in w.0).part.class) × IsClassPart table.words (class_in w.0).part × IsJoined (class_in w.0).part (class_in w.0).lane joined
+-- what the class's seat keeps, it keeps by a step on its part that its part keeps, with what it knows of a lane that
+-- is joined
+pub seat_kept : (m w : Sat) (now : ClassView) (f : ClassPart → ClassPart) (table id : TableId) (class : ℕ)
+    (joined : Option Joined) → class_in m.0 ≡ now → m ≡ class_me (class_in m.0) → w ≡ (on_class f m.0, m.1)
+    → id ≡ table
+    → IsInRange table (aboard_lane (class_in m.0).lane) → class ≡ (class_in m.0).part.class → IsClassPart table.words
+    (class_in m.0).part → IsJoined (class_in m.0).part (class_in m.0).lane joined
+    → (f now.part).class ≡ now.part.class → (IsClassPart table.words now.part → IsClassPart table.words (f now.part))
+    → (IsJoined now.part now.lane joined → IsJoined (f now.part) now.lane joined)
+    → (w ≡ class_me (class_in w.0)) × (id ≡ table) × IsInRange table (aboard_lane (class_in w.0).lane)
+    × (class ≡ (class_in w.0).part.class) × IsClassPart table.words (class_in w.0).part
+    × IsJoined (class_in w.0).part (class_in w.0).lane joined
 seat_kept m w now f table id class joined view_is is after same near mine part lane_kept class_same keeps keeps_lane =
     let me : m ≡ class_me now = is ∙ ap class_me view_is in
     let view : class_in w.0 ≡ record now { part = f now.part } = view_after m w now f me after in (
       whole_after m w now f me after,
       same,
-      subst (λ (o : Option LanePart). IsInRange table (bump_aboard o)) (ap (λ (x : ClassView). x.lane) view_is ∙ sym (ap (λ (x : ClassView). x.lane) view)) near,
-      mine ∙ ap (λ (x : ClassView). x.part.class) view_is ∙ sym class_same ∙ sym (ap (λ (x : ClassView). x.part.class) view),
-      subst (λ (k : ClassPart). IsClassPart table.words k) (sym (ap (λ (x : ClassView). x.part) view)) (keeps (subst (λ (k : ClassPart). IsClassPart table.words k) (ap (λ (x : ClassView). x.part) view_is) part)),
-      subst (λ (x : ClassView). IsJoined x.part x.lane joined) (sym view) (keeps_lane (subst (λ (x : ClassView). IsJoined x.part x.lane joined) view_is lane_kept)),
+      subst (λ (o : Option LanePart). IsInRange table (aboard_lane o)) (ap (λ (x : ClassView). x.lane) view_is
+          ∙ sym (ap (λ (x : ClassView). x.lane) view)) near,
+      mine ∙ ap (λ (x : ClassView). x.part.class) view_is ∙ sym class_same
+          ∙ sym (ap (λ (x : ClassView). x.part.class) view),
+      subst (λ (k : ClassPart). IsClassPart table.words k) (sym (ap (λ (x : ClassView). x.part) view))
+          (keeps (subst (λ (k : ClassPart). IsClassPart table.words k) (ap (λ (x : ClassView). x.part) view_is)
+          part)),
+      subst (λ (x : ClassView). IsJoined x.part x.lane joined) (sym view)
+          (keeps_lane (subst (λ (x : ClassView). IsJoined x.part x.lane joined) view_is lane_kept)),
     )
 
 -- a head that the class's seat finds agrees with the place and the generation of its chunk
-pub agrees : (c : ℕ) (m : Sat) (now : ClassView) (h : Head) → class_in m.0 ≡ now → m ≡ class_me (class_in m.0) → owns c now.part ≡ true → Told c m.0 h → Shows h (standing now.part c).0 × (h.generation ≡ (standing now.part c).1)
-agrees c m now h view_is is own told = told.stood (standing now.part c) (stands_alone c m.0 now.part (ap (λ (y : Sat). y.0.classes) (is ∙ ap class_me view_is)) own)
+pub agrees : (c : ℕ) (m : Sat) (now : ClassView) (h : Head) → class_in m.0 ≡ now → m ≡ class_me (class_in m.0)
+    → owns c now.part ≡ true → Told c m.0 h → Shows h (standing now.part c).0
+    × (h.generation ≡ (standing now.part c).1)
+agrees c m now h view_is is own told = told.stood (standing now.part c)
+    (stands_alone c m.0 now.part (ap (λ (y : Sat). y.0.classes) (is ∙ ap class_me view_is)) own)
 
 -- and so does the Head that is answered for it
-pub finds : (c n : ℕ) (m : Sat) (now : ClassView) (h : Head) → class_in m.0 ≡ now → m ≡ class_me (class_in m.0) → owns c now.part ≡ true → Spells n h → Found n (Told c m.0) → Shows h (standing now.part c).0 × (h.generation ≡ (standing now.part c).1)
-finds c n m now h view_is is own spells found = agrees c m now h view_is is own (found_is n (Told c m.0) h spells found)
+pub finds : (c n : ℕ) (m : Sat) (now : ClassView) (h : Head) → class_in m.0 ≡ now → m ≡ class_me (class_in m.0)
+    → owns c now.part ≡ true → Spells n h → Found n (Told c m.0) → Shows h (standing now.part c).0
+    × (h.generation ≡ (standing now.part c).1)
+finds c n m now h view_is is own spells found = agrees c m now h view_is is own
+    (found_is n (Told c m.0) h spells found)

@@ -1,4 +1,5 @@
--- How an application goes on: what a caller that has a class's seat and a lane needs for each next step, from what the steps before told.
+-- How an application goes on: what a caller that has a class's seat and a lane needs for each next step, from what
+-- the steps before told.
 use Rattle.std.proofs.Common.{◌≡◌, ℕ, ◌≢◌, not, Bool, true, false, [], ◌∷◌, ◌++◌, Option, None, Some, refl, sym, ap, ap₂, ◌∙◌, subst, if◌then◌else◌}
 use Rattle.std.specs.Prelude.{option_map}
 use Rattle.bump_rules.specs.declared.items.Head.{Head}
@@ -21,16 +22,18 @@ use Rattle.bump_heads.specs.declared.views.ClassView.{ClassView}
 use Rattle.bump_steps.specs.declared.views.LanePart.{LanePart}
 use Rattle.bump_steps.specs.Views.{owns, standing}
 use Rattle.bump_steps.specs.Plays.{step_of}
-use Rattle.bump_steps.specs.Applications.{tried_lane, noted_class, moved_class}
-use Rattle.bump_heads.specs.Applying.{carried_by, life_aboard, IsOf, MayClear, MayPutTime, MayShift, LookFound, Ends, cleared_class, timed_class, shifted_class, Seen}
+use Rattle.bump_steps.specs.Applications.{lane_after_try, noted_class, class_after_move}
+use Rattle.bump_heads.specs.Applying.{carried_by, life_aboard, IsOf, MayClearActive, MayPutTime, MayChangeSegment, TryFound, EndsAs, seat_after_clear_active, seat_after_put_time, seat_after_move, FoundOfBump}
 use Rattle.bump_steps.specs.Lives.{IsInSegment}
 
 -- a lane that carries a bump of the chunk
-pub carrying : (c : ℕ) (o : Option LanePart) → IsOf c (carried_by o) → (l : LanePart) × (b : Bump) × (o ≡ Some (record l { stage = lane.Carrying b })) × (b.life.chunk ≡ c)
+pub carrying : (c : ℕ) (o : Option LanePart) → IsOf c (carried_by o) → (l : LanePart) × (b : Bump)
+    × (o ≡ Some (record l { stage = lane.Carrying b })) × (b.life.chunk ≡ c)
 carrying c None is = absurd is
 carrying c (Some l) is = by l.stage refl is
   where
-    by : (s : Lane) → l.stage ≡ s → IsOf c (carried s) → (m : LanePart) × (b : Bump) × (Some l ≡ Some (record m { stage = lane.Carrying b })) × (b.life.chunk ≡ c)
+    by : (s : Lane) → l.stage ≡ s → IsOf c (carried s) → (m : LanePart) × (b : Bump)
+        × (Some l ≡ Some (record m { stage = lane.Carrying b })) × (b.life.chunk ≡ c)
     by lane.Empty at is = absurd is
     by (lane.Carrying b) at is = (l, b, ap (λ (s : Lane). Some (record l { stage = s })) at, is)
     by (lane.Tried b) at is = absurd is
@@ -38,8 +41,10 @@ carrying c (Some l) is = by l.stage refl is
     by (lane.Moved b) at is = absurd is
 
 -- whose chunk is the class's, where the chunk is
-pub own_aboard : (c : ℕ) (o : Option LanePart) (k : ClassPart) → IsOf c (carried_by o) → owns c k ≡ true → owns (life_aboard o).chunk k ≡ true
-own_aboard c o k is own = let m = carrying c o is in ap (λ (x : Option LanePart). owns (life_aboard x).chunk k) m.2 ∙ ap (λ (d : ℕ). owns d k) m.3 ∙ own
+pub own_aboard : (c : ℕ) (o : Option LanePart) (k : ClassPart) → IsOf c (carried_by o) → owns c k ≡ true
+    → owns (life_aboard o).chunk k ≡ true
+own_aboard c o k is own = let m = carrying c o is in ap (λ (x : Option LanePart). owns (life_aboard x).chunk k) m.2
+    ∙ ap (λ (d : ℕ). owns d k) m.3 ∙ own
 
 -- the list of a linked item is that of its segment
 linked_in : (s : Segment) → IsInSegment (place_of s)
@@ -53,98 +58,161 @@ not_cold Hot other = refl
 not_cold Warm other = refl
 not_cold Cold other = absurd (other refl)
 
-module _ (v v₁ : ClassView) (o : Option LanePart) (l : LanePart) (b : Bump) (c : ℕ) (h : Head) (carries : o ≡ Some (record l { stage = lane.Carrying b })) (of : b.life.chunk ≡ c) (after : v₁ ≡ record v { lane = option_map (tried_lane (life_aboard o).chunk (word_of h)) o }) (seen : Seen v.part (life_aboard o) h) (fits : Fits h) (own : owns c v.part ≡ true) where
+module _ (v v₁ : ClassView) (o : Option LanePart) (l : LanePart) (b : Bump) (c : ℕ) (h : Head)
+    (carries : o ≡ Some (record l { stage = lane.Carrying b })) (of : b.life.chunk ≡ c)
+    (after : v₁ ≡ record v { lane = option_map (lane_after_try (life_aboard o).chunk (word_of h)) o })
+    (seen : FoundOfBump v.part (life_aboard o) h) (fits : Fits h) (own : owns c v.part ≡ true) where
   -- the lane after the look at the head
-  abbrev pub looked : LanePart
-  looked = tried_lane c (word_of h) (record l { stage = lane.Carrying b })
+  abbrev pub lane_tried : LanePart
+  lane_tried = lane_after_try c (word_of h) (record l { stage = lane.Carrying b })
 
-  pub looked_is : v₁ ≡ record { part = v.part; lane = Some looked }
-  looked_is = after
-      ∙ ap (λ (x : Option LanePart). record v { lane = option_map (tried_lane (life_aboard x).chunk (word_of h)) x }) carries
-      ∙ ap (λ (d : ℕ). record v { lane = Some (tried_lane d (word_of h) (record l { stage = lane.Carrying b })) }) of
+  pub tried_is : v₁ ≡ record { part = v.part; lane = Some lane_tried }
+  tried_is = after
+      ∙ ap (λ (x : Option LanePart). record v {
+        lane = option_map (lane_after_try (life_aboard x).chunk (word_of h))
+            x;
+      }) carries
+      ∙ ap (λ (d : ℕ). record v { lane = Some (lane_after_try d (word_of h) (record l { stage = lane.Carrying b })) })
+      of
 
   -- where the chunk stands, by the head that was found
-  pub stood : Shows h (standing v.part c).0 × ((standing v.part c).1 ≡ b.life.generation) × IsUsed (standing v.part c).0
-  stood = subst (λ (d : ℕ). Shows h (standing v.part d).0 × ((standing v.part d).1 ≡ b.life.generation) × IsUsed (standing v.part d).0) of
-      ((subst (λ (x : Option LanePart). Seen v.part (life_aboard x) h) carries seen).stands (ap (λ (d : ℕ). owns d v.part) of ∙ own))
+  pub stood : Shows h (standing v.part c).0 × ((standing v.part c).1 ≡ b.life.generation)
+      × IsUsed (standing v.part c).0
+  stood = subst (λ (d : ℕ). Shows h (standing v.part d).0 × ((standing v.part d).1 ≡ b.life.generation)
+      × IsUsed (standing v.part d).0) of
+      ((subst (λ (x : Option LanePart). FoundOfBump v.part (life_aboard x) h) carries seen).stands
+      (ap (λ (d : ℕ). owns d v.part) of ∙ own))
 
   -- what the lane's look found
-  pub look_is : LookFound looked b h
-  look_is = record { before = l.steps; steps = ap (λ (d : ℕ). l.steps ++ step_of kind.Try d (word_of h) (Some (l.worker, b.number)) ∷ []) (sym of); fits = fits }
+  pub try_found : TryFound lane_tried b h
+  try_found = record {
+    before = l.steps;
+    steps =
+        ap (λ (d : ℕ). l.steps ++ step_of kind.Try d (word_of h) (Some (l.worker, b.number)) ∷ []) (sym of);
+    fits =
+        fits;
+  }
 
   -- an item that isn't linked is gone
-  pub ends_gone : h.linked ≡ false → (x : LanePart) × (y : Bump) × (g : Head) × (z : Outcome) × Ends v₁ x y g z
-  ends_gone off = (looked, b, h, Gone, record { joined = ap (λ (x : ClassView). x.lane) looked_is; looked = look_is; ending = ap (λ (on : Bool). option_map (applied_bump b) (if not on then Some Gone else (if is_cold h.segment then None else Some TimeOnly))) off })
+  pub ends_gone : h.linked ≡ false → (x : LanePart) × (y : Bump) × (g : Head) × (z : Outcome) × EndsAs v₁ x y g z
+  ends_gone off = (
+    lane_tried,
+    b,
+    h,
+    Gone,
+    record {
+      joined = ap (λ (x : ClassView). x.lane) tried_is;
+      found_by_try =
+          try_found;
+      ending = ap (λ (on : Bool). option_map (applied_bump b)
+          (if not on then Some Gone else (if is_cold h.segment then None else Some TimeOnly))) off;
+    },
+  )
 
   -- the time of one that is linked may be stored
-  pub may_time : h.linked ≡ true → (owns c v₁.part ≡ true) × MayPutTime c (standing v₁.part c).0 v₁.lane
-  may_time on = subst (λ (x : ClassView). (owns c x.part ≡ true) × MayPutTime c (standing x.part c).0 x.lane) (sym looked_is)
-      (own, (subst IsInSegment (sym (placed_where_linked h (standing v.part c).0 stood.0 on)) (linked_in h.segment), of))
+  pub may_put_time : h.linked ≡ true → (owns c v₁.part ≡ true) × MayPutTime c (standing v₁.part c).0 v₁.lane
+  may_put_time on = subst (λ (x : ClassView). (owns c x.part ≡ true) × MayPutTime c (standing x.part c).0 x.lane)
+      (sym tried_is) (
+        own,
+        (
+          subst IsInSegment (sym (placed_where_linked h (standing v.part c).0 stood.0 on)) (linked_in h.segment),
+          of,
+        ),
+      )
 
-  module _ (now : ℕ) (w₁ : ClassView) (timed : w₁ ≡ timed_class c now v₁) where
-    pub timed_is : w₁ ≡ record { part = noted_class kind.PutTime c now (looked ∷ []) v.part; lane = Some looked }
-    timed_is = timed ∙ ap (timed_class c now) looked_is
+  module _ (now : ℕ) (w₁ : ClassView) (timed : w₁ ≡ seat_after_put_time c now v₁) where
+    pub put_time_is : w₁ ≡ record {
+      part = noted_class kind.PutTime c now (lane_tried ∷ []) v.part;
+      lane =
+          Some lane_tried;
+    }
+    put_time_is = timed ∙ ap (seat_after_put_time c now) tried_is
 
     -- one that isn't in COLD gets its time only
-    pub ends_elsewhere : h.linked ≡ true → h.segment ≢ Cold → (x : LanePart) × (y : Bump) × (g : Head) × (z : Outcome) × Ends w₁ x y g z
+    pub ends_elsewhere : h.linked ≡ true → h.segment ≢ Cold → (x : LanePart) × (y : Bump) × (g : Head) × (z : Outcome)
+        × EndsAs w₁ x y g z
     ends_elsewhere on other = (
-      looked,
+      lane_tried,
       b,
       h,
       TimeOnly,
       record {
-        joined = ap (λ (x : ClassView). x.lane) timed_is;
-        looked = look_is;
-        ending = ap₂ (λ (there cold : Bool). option_map (applied_bump b) (if not there then Some Gone else (if cold then None else Some TimeOnly))) on (not_cold h.segment other);
+        joined = ap (λ (x : ClassView). x.lane) put_time_is;
+        found_by_try = try_found;
+        ending = ap₂ (λ (there cold : Bool). option_map (applied_bump b)
+            (if not there then Some Gone else (if cold then None else Some TimeOnly))) on (not_cold h.segment other);
       },
     )
 
     -- ACTIVE of one in COLD may be cleared
-    pub may_clear : h.linked ≡ true → h.segment ≡ Cold → (owns c w₁.part ≡ true) × MayClear c (standing w₁.part c).0 w₁.lane
-    may_clear on cold = subst (λ (x : ClassView). (owns c x.part ≡ true) × MayClear c (standing x.part c).0 x.lane) (sym timed_is)
+    pub may_clear_active : h.linked ≡ true → h.segment ≡ Cold → (owns c w₁.part ≡ true)
+        × MayClearActive c (standing w₁.part c).0 w₁.lane
+    may_clear_active on cold =
+        subst (λ (x : ClassView). (owns c x.part ≡ true) × MayClearActive c (standing x.part c).0 x.lane)
+        (sym put_time_is)
         (own, (placed_where_linked h (standing v.part c).0 stood.0 on ∙ ap place_of cold, of))
 
-    module _ (found : Head) (v₂ : ClassView) (cleared : v₂ ≡ cleared_class c found w₁) where
+    module _ (found : Head) (v₂ : ClassView) (cleared : v₂ ≡ seat_after_clear_active c found w₁) where
       -- the class after the clearing
       abbrev pub cleared_part : ClassPart
-      cleared_part = noted_class kind.ClearActive c (word_of found) (looked ∷ []) (noted_class kind.PutTime c now (looked ∷ []) v.part)
+      cleared_part = noted_class kind.ClearActive c (word_of found) (lane_tried ∷ [])
+          (noted_class kind.PutTime c now (lane_tried ∷ []) v.part)
 
-      pub cleared_is : v₂ ≡ record { part = cleared_part; lane = Some (record looked { stage = lane.Cleared b found.active }) }
-      cleared_is = cleared ∙ ap (cleared_class c found) timed_is
+      pub clear_active_is : v₂ ≡ record {
+        part = cleared_part;
+        lane =
+            Some (record lane_tried { stage = lane.Cleared b found.active });
+      }
+      clear_active_is = cleared ∙ ap (seat_after_clear_active c found) put_time_is
 
       -- one without ACTIVE gets its time only
-      pub ends_clear : found.active ≡ false → (x : LanePart) × (y : Bump) × (g : Head) × (z : Outcome) × Ends v₂ x y g z
+      pub ends_clear : found.active ≡ false → (x : LanePart) × (y : Bump) × (g : Head) × (z : Outcome)
+          × EndsAs v₂ x y g z
       ends_clear off = (
-        record looked { stage = lane.Cleared b found.active },
+        record lane_tried { stage = lane.Cleared b found.active },
         b,
         h,
         TimeOnly,
         record {
-          joined = ap (λ (x : ClassView). x.lane) cleared_is;
-          looked = record { before = look_is.before; steps = look_is.steps; fits = fits };
+          joined = ap (λ (x : ClassView). x.lane) clear_active_is;
+          found_by_try = record { before = try_found.before; steps = try_found.steps; fits = fits };
           ending = ap (λ (f : Bool). ending_at (λ d. h) (lane.Cleared b f)) off;
         },
       )
 
       -- one with ACTIVE may be moved
-      pub may_move_on : h.linked ≡ true → h.segment ≡ Cold → found.active ≡ true → (owns c v₂.part ≡ true) × ((standing v₂.part c).0 ≡ place_of Cold) × MayShift c Cold Warm v₂.lane
-      may_move_on on cold some = subst (λ (x : ClassView). (owns c x.part ≡ true) × ((standing x.part c).0 ≡ place_of Cold) × MayShift c Cold Warm x.lane) (sym cleared_is)
-          (own, placed_where_linked h (standing v.part c).0 stood.0 on ∙ ap place_of cold, subst (λ (f : Bool). MayShift c Cold Warm (Some (record looked { stage = lane.Cleared b f }))) (sym some) (refl, refl, of))
+      pub may_move_on : h.linked ≡ true → h.segment ≡ Cold → found.active ≡ true → (owns c v₂.part ≡ true)
+          × ((standing v₂.part c).0 ≡ place_of Cold) × MayChangeSegment c Cold Warm v₂.lane
+      may_move_on on cold some =
+          subst (λ (x : ClassView). (owns c x.part ≡ true) × ((standing x.part c).0 ≡ place_of Cold)
+          × MayChangeSegment c Cold Warm x.lane) (sym clear_active_is) (
+            own,
+            placed_where_linked h (standing v.part c).0 stood.0 on ∙ ap place_of cold,
+            subst (λ (f : Bool). MayChangeSegment c Cold Warm
+                (Some (record lane_tried { stage = lane.Cleared b f }))) (sym some) (refl, refl, of),
+          )
 
       -- the class after the move
-      pub moved_is : (last : Head) (v₃ : ClassView) → v₃ ≡ shifted_class c Cold Warm last v₂ → v₃ ≡ record { part = moved_class Cold Warm c (word_of last) (record looked { stage = lane.Cleared b found.active } ∷ []) cleared_part; lane = Some (record looked { stage = lane.Moved b }) }
-      moved_is last v₃ moved = moved ∙ ap (shifted_class c Cold Warm last) cleared_is
+      pub moved_is : (last : Head) (v₃ : ClassView) → v₃ ≡ seat_after_move c Cold Warm last v₂
+          → v₃ ≡ record {
+            part = class_after_move Cold Warm c (word_of last)
+                (record lane_tried { stage = lane.Cleared b found.active } ∷ []) cleared_part;
+            lane =
+                Some (record lane_tried { stage = lane.Moved b });
+          }
+      moved_is last v₃ moved = moved ∙ ap (seat_after_move c Cold Warm last) clear_active_is
 
       -- and its bump ends as moved
-      pub ends_moved : (last : Head) (v₃ : ClassView) → v₃ ≡ shifted_class c Cold Warm last v₂ → found.active ≡ true → (x : LanePart) × (y : Bump) × (g : Head) × (z : Outcome) × Ends v₃ x y g z
+      pub ends_moved : (last : Head) (v₃ : ClassView) → v₃ ≡ seat_after_move c Cold Warm last v₂ → found.active ≡ true
+          → (x : LanePart) × (y : Bump) × (g : Head) × (z : Outcome) × EndsAs v₃ x y g z
       ends_moved last v₃ moved some = (
-        record looked { stage = lane.Moved b },
+        record lane_tried { stage = lane.Moved b },
         b,
         h,
         Moved,
         record {
           joined = ap (λ (x : ClassView). x.lane) (moved_is last v₃ moved);
-          looked = record { before = look_is.before; steps = look_is.steps; fits = fits };
+          found_by_try = record { before = try_found.before; steps = try_found.steps; fits = fits };
           ending = refl;
         },
       )

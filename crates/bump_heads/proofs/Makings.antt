@@ -10,7 +10,7 @@ use Rattle.bump_steps.specs.declared.views.ClassPart.{ClassPart}
 use Rattle.bump_steps.specs.declared.views.LanePart.{LanePart}
 use Rattle.bump_heads.specs.declared.views.ClassView.{ClassView}
 use Rattle.bump_steps.specs.declared.views.View.{View}
-use Rattle.bump_steps.specs.Views.{aboard_of}
+use Rattle.bump_steps.specs.Views.{bump_aboard}
 use Rattle.bump_rules.specs.declared.configs.ClassConfig.{ClassConfig}
 use Rattle.bump_steps.specs.Rule.{blank, class_parts, lane_parts}
 use Rattle.bump_steps.specs.Cuts.{without_class, class_only, without_lane, lane_only}
@@ -18,45 +18,90 @@ use Rattle.bump_steps.specs.Plays.{behind, first_of}
 use Rattle.atomic_table.specs.Seated.{TableId}
 use Rattle.bump_rules.specs.Configs.{chunks_of}
 use Rattle.bump_readers.specs.Seats.{head_or}
-use Rattle.bump_heads.specs.Seats.{class_me, class_in, bump_aboard, IsInRange, IsClassPart, no_lane}
+use Rattle.bump_heads.specs.Seats.{class_me, class_in, aboard_lane, IsInRange, IsClassPart, no_lane}
 use Rattle.bump_steps.specs.Riders.{lane_me}
 use Rattle.bump_heads.specs.Applying.{IsJoined}
 use Rattle.bump_heads.specs.Making.{class_seen, lane_seen, AreNewClasses, AreEmpty}
 
-abbrev pub Turn : TableId → Me Empty View → View → ℕ → ℕ → List ClassView → List ClassView → Me Empty View → Me Empty View → Type 0
-Turn table m v i count made all m' p = (p ≡ class_me (class_in p.0)) × IsInRange table (bump_aboard (class_in p.0).lane) × (i ≡ (class_in p.0).part.class) × IsClassPart table.words (class_in p.0).part × IsJoined (class_in p.0).part (class_in p.0).lane None × (m' ≡ (record v { classes = m'.0.classes }, [])) × (i + 1 + length m'.0.classes ≡ count) × AreNewClasses table.words (i + 1) m'.0.classes × ((made ++ class_in p.0 ∷ []) ++ map class_seen m'.0.classes ≡ all)
+abbrev pub Turn : TableId → Me Empty View → View → ℕ → ℕ → List ClassView → List ClassView → Me Empty View
+    → Me Empty View → Type 0
+Turn table m v i count made all m' p = (p ≡ class_me (class_in p.0))
+    × IsInRange table (aboard_lane (class_in p.0).lane) × (i ≡ (class_in p.0).part.class) × IsClassPart table.words
+    (class_in p.0).part × IsJoined (class_in p.0).part (class_in p.0).lane None
+    × (m' ≡ (record v { classes = m'.0.classes }, [])) × (i + 1 + length m'.0.classes ≡ count)
+    × AreNewClasses table.words (i + 1) m'.0.classes
+    × ((made ++ class_in p.0 ∷ []) ++ map class_seen m'.0.classes ≡ all)
 
 -- one turn of the loop over the classes
-pub class_turn : (table : TableId) (m : Me Empty View) (v : View) (i count : ℕ) (made all : List ClassView) (m' p : Me Empty View) → m ≡ (record v { classes = m.0.classes }, []) → i + length m.0.classes ≡ count → i < count → AreNewClasses table.words i m.0.classes → made ++ map class_seen m.0.classes ≡ all → m' ≡ (without_class m.0, m.1) → p ≡ (class_only m.0, [])
+pub class_turn : (table : TableId) (m : Me Empty View) (v : View) (i count : ℕ) (made all : List ClassView)
+    (m' p : Me Empty View) → m ≡ (record v { classes = m.0.classes }, []) → i + length m.0.classes ≡ count → i < count
+    → AreNewClasses table.words i m.0.classes → made ++ map class_seen m.0.classes ≡ all
+    → m' ≡ (without_class m.0, m.1) → p ≡ (class_only m.0, [])
     → Turn table m v i count made all m' p
 class_turn table m v i count made all m' p rest long more numbers so_far now part =
-    subst (λ (x : Me Empty View × Me Empty View). Turn table m v i count made all x.0 x.1) (λ j. (sym now j, sym part j)) (by m.0.classes rest long numbers so_far)
+    subst (λ (x : Me Empty View × Me Empty View). Turn table m v i count made all x.0 x.1)
+    (λ j. (sym now j, sym part j)) (by m.0.classes rest long numbers so_far)
   where
-    by : (ks : List ClassPart) → m ≡ (record v { classes = ks }, []) → i + length ks ≡ count → AreNewClasses table.words i ks → made ++ map class_seen ks ≡ all → Turn table m v i count made all (record m.0 { classes = behind m.0.classes }, m.1) (record blank { classes = first_of m.0.classes }, [])
+    by : (ks : List ClassPart) → m ≡ (record v { classes = ks }, []) → i + length ks ≡ count
+        → AreNewClasses table.words i ks → made ++ map class_seen ks ≡ all → Turn table m v i count made all
+        (record m.0 { classes = behind m.0.classes }, m.1) (record blank { classes = first_of m.0.classes }, [])
     by [] rest long numbers so_far = absurd (omega (arith, more))
-    by (k ∷ ks) rest long numbers so_far = subst (λ (x : Me Empty View). Turn table m v i count made all (record x.0 { classes = behind x.0.classes }, x.1) (record blank { classes = first_of x.0.classes }, [])) (sym rest)
-        (refl, tt, sym numbers.0, numbers.1, tt, refl, omega (arith, long), numbers.2, append_assoc made (class_seen k ∷ []) (map class_seen ks) ∙ so_far)
+    by (k ∷ ks) rest long numbers so_far =
+        subst (λ (x : Me Empty View). Turn table m v i count made all (
+          record x.0 { classes = behind x.0.classes },
+          x.1,
+        ) (record blank { classes = first_of x.0.classes }, [])) (sym rest) (
+          refl,
+          tt,
+          sym numbers.0,
+          numbers.1,
+          tt,
+          refl,
+          omega (arith, long),
+          numbers.2,
+          append_assoc made (class_seen k ∷ []) (map class_seen ks) ∙ so_far,
+        )
 
 -- a lane with nothing aboard is at rest
-rests_empty : (s : Lane) → ◌≡◌ {A = Option Bump} None (aboard_of s) → is_half_made s ≡ false
+rests_empty : (s : Lane) → ◌≡◌ {A = Option Bump} None (bump_aboard s) → is_half_made s ≡ false
 rests_empty lane.Empty none = refl
 rests_empty (lane.Carrying b) none = absurd (cc none)
 rests_empty (lane.Tried b) none = absurd (cc none)
 rests_empty (lane.Cleared b f) none = absurd (cc none)
 rests_empty (lane.Moved b) none = absurd (cc none)
 
-abbrev pub LaneTurn : Me Empty View → View → ℕ → ℕ → List (Option LanePart) → List (Option LanePart) → Me Empty View → Me Empty View → Type 0
-LaneTurn m v i count made all m' p = (p ≡ lane_me (head_or no_lane p.0.lanes)) × (◌≡◌ {A = Option Bump} None (aboard_of (head_or no_lane p.0.lanes).stage)) × (is_half_made (head_or no_lane p.0.lanes).stage ≡ false) × (m' ≡ (record v { lanes = m'.0.lanes }, [])) × (i + 1 + length m'.0.lanes ≡ count) × AreEmpty m'.0.lanes × ((made ++ lane_seen (head_or no_lane p.0.lanes) ∷ []) ++ map lane_seen m'.0.lanes ≡ all)
+abbrev pub LaneTurn : Me Empty View → View → ℕ → ℕ → List (Option LanePart) → List (Option LanePart) → Me Empty View
+    → Me Empty View → Type 0
+LaneTurn m v i count made all m' p = (p ≡ lane_me (head_or no_lane p.0.lanes))
+    × (◌≡◌ {A = Option Bump} None (bump_aboard (head_or no_lane p.0.lanes).stage))
+    × (is_half_made (head_or no_lane p.0.lanes).stage ≡ false) × (m' ≡ (record v { lanes = m'.0.lanes }, []))
+    × (i + 1 + length m'.0.lanes ≡ count) × AreEmpty m'.0.lanes
+    × ((made ++ lane_seen (head_or no_lane p.0.lanes) ∷ []) ++ map lane_seen m'.0.lanes ≡ all)
 
-pub lane_turn : (m : Me Empty View) (v : View) (i count : ℕ) (made all : List (Option LanePart)) (m' p : Me Empty View) → m ≡ (record v { lanes = m.0.lanes }, []) → i + length m.0.lanes ≡ count → i < count → AreEmpty m.0.lanes → made ++ map lane_seen m.0.lanes ≡ all → m' ≡ (without_lane m.0, m.1) → p ≡ (lane_only m.0, [])
+pub lane_turn : (m : Me Empty View) (v : View) (i count : ℕ) (made all : List (Option LanePart))
+    (m' p : Me Empty View) → m ≡ (record v { lanes = m.0.lanes }, []) → i + length m.0.lanes ≡ count → i < count
+    → AreEmpty m.0.lanes → made ++ map lane_seen m.0.lanes ≡ all → m' ≡ (without_lane m.0, m.1)
+    → p ≡ (lane_only m.0, [])
     → LaneTurn m v i count made all m' p
 lane_turn m v i count made all m' p rest long more empty so_far now part =
-    subst (λ (x : Me Empty View × Me Empty View). LaneTurn m v i count made all x.0 x.1) (λ j. (sym now j, sym part j)) (by m.0.lanes rest long empty so_far)
+    subst (λ (x : Me Empty View × Me Empty View). LaneTurn m v i count made all x.0 x.1)
+    (λ j. (sym now j, sym part j)) (by m.0.lanes rest long empty so_far)
   where
-    by : (ks : List LanePart) → m ≡ (record v { lanes = ks }, []) → i + length ks ≡ count → AreEmpty ks → made ++ map lane_seen ks ≡ all → LaneTurn m v i count made all (record m.0 { lanes = behind m.0.lanes }, m.1) (record blank { lanes = first_of m.0.lanes }, [])
+    by : (ks : List LanePart) → m ≡ (record v { lanes = ks }, []) → i + length ks ≡ count → AreEmpty ks
+        → made ++ map lane_seen ks ≡ all → LaneTurn m v i count made all
+        (record m.0 { lanes = behind m.0.lanes }, m.1) (record blank { lanes = first_of m.0.lanes }, [])
     by [] rest long empty so_far = absurd (omega (arith, more))
-    by (k ∷ ks) rest long empty so_far = subst (λ (x : Me Empty View). LaneTurn m v i count made all (record x.0 { lanes = behind x.0.lanes }, x.1) (record blank { lanes = first_of x.0.lanes }, [])) (sym rest)
-        (refl, sym empty.0, rests_empty k.stage (sym empty.0), refl, omega (arith, long), empty.1, append_assoc made (lane_seen k ∷ []) (map lane_seen ks) ∙ so_far)
+    by (k ∷ ks) rest long empty so_far =
+        subst (λ (x : Me Empty View). LaneTurn m v i count made all (record x.0 { lanes = behind x.0.lanes }, x.1)
+        (record blank { lanes = first_of x.0.lanes }, [])) (sym rest) (
+          refl,
+          sym empty.0,
+          rests_empty k.stage (sym empty.0),
+          refl,
+          omega (arith, long),
+          empty.1,
+          append_assoc made (lane_seen k ∷ []) (map lane_seen ks) ∙ so_far,
+        )
 
 -- ---- the parts of a first seat
 
@@ -64,7 +109,8 @@ pub length_classes : (f i at : ℕ) (ks : List ClassConfig) → length (class_pa
 length_classes f i at [] = refl
 length_classes f i at (k ∷ ks) = omega (arith, length_classes f (i + 1) (at + k.chunks) ks)
 
-pub new_classes : (words f i at : ℕ) (ks : List ClassConfig) → words ≡ 3 * (at + chunks_of ks) + 9 → AreNewClasses words i (class_parts f i at ks)
+pub new_classes : (words f i at : ℕ) (ks : List ClassConfig) → words ≡ 3 * (at + chunks_of ks) + 9
+    → AreNewClasses words i (class_parts f i at ks)
 new_classes words f i at [] all = tt
 new_classes words f i at (k ∷ ks) all = (
   refl,

@@ -1,4 +1,5 @@
--- What a class's seat knows of the head that it finds, and what it is after a step: with a lane joined, or without one.
+-- What a class's seat knows of the head that it finds, and what it is after a step: with a lane joined, or without
+-- one.
 use Rattle.std.proofs.Common.{◌≡◌, ℕ, ◌+◌, ◌<◌, inl, inr, ◌&&◌, ◌++◌, not, cond, eqb, Bool, true, false, [], ◌∷◌, Option, Some, None, refl, sym, ap, ap₂, ◌∙◌, subst, arith, eq-eqb}
 use Rattle.std.specs.Prelude.{option_map, IfSome, IsSome}
 use Rattle.atomic_table.specs.Seated.{TableId}
@@ -31,14 +32,14 @@ use Rattle.bump_steps.specs.declared.views.LanePart.{LanePart}
 use Rattle.bump_heads.specs.declared.joined.Joined.{Joined}
 use Rattle.bump_heads.specs.declared.views.ClassView.{ClassView}
 use Rattle.bump_steps.specs.declared.views.View.{View}
-use Rattle.bump_steps.specs.Views.{aboard_of, active_clear, refers, owns, standing, shows_time_only, of_owner, evidence}
+use Rattle.bump_steps.specs.Views.{bump_aboard, active_clear, refers, owns, standing, shows_time_only, of_owner, evidence}
 use Rattle.bump_steps.specs.Plays.{Sat, Told, Found, on_first, step_of}
 use Rattle.bump_steps.specs.Cuts.{joined, lanes_only, without_lanes}
-use Rattle.bump_steps.specs.Applications.{applying, bump_for, tried_lane, tried_view, cleared_lane, cleared_view, timed_view, noted_class, moved_stage, moved_lane, moved_for, moved_class, moved_view, life_in, alighted_lane, alighted_view, MayTry, MayMove, MayAlight}
-use Rattle.bump_heads.specs.Applying.{life_aboard, life_of, IsOf, MayClear, MayShift, IsShown, IsJoined, carried_by, cleared_joined, moved_joined, shifted_class, cleared_class, timed_class, Seen, NamesNoBumpTwice, TellsMoves}
+use Rattle.bump_steps.specs.Applications.{applying, bump_for, lane_after_try, view_after_try, lane_after_clear_active, view_after_clear_active, view_after_put_time, noted_class, stage_after_move, lane_after_move, change_of_move_for, class_after_move, view_after_move, life_in, lane_after_alight, view_after_alight, MayTry, MayMove, MayAlight}
+use Rattle.bump_heads.specs.Applying.{life_aboard, life_of, IsOf, MayClearActive, MayChangeSegment, IsShown, IsJoined, carried_by, joined_after_clear_active, joined_after_move, seat_after_move, seat_after_clear_active, seat_after_put_time, FoundOfBump, NamesNoBumpTwice, TellsMoves}
 use Rattle.bump_readers.specs.Seats.{head_or, listed}
-use Rattle.bump_heads.specs.Seats.{class_me, class_in, lane_in, IsLane, IsInRange, IsClassPart, bump_aboard, no_class, no_lane}
-use Rattle.bump_steps.proofs.Applications.{tried_going, tried_refers, cleared_refers, alighted_tells}
+use Rattle.bump_heads.specs.Seats.{class_me, class_in, lane_in, IsLane, IsInRange, IsClassPart, aboard_lane, no_class, no_lane}
+use Rattle.bump_steps.proofs.Applications.{try_going, try_refers, clear_active_refers, alight_refers}
 use Rattle.bump_heads.proofs.ClassParts.{entered_part, noted_part}
 use Rattle.bump_heads.proofs.ClassSeats.{class_in_me, found_is}
 use Rattle.bump_heads.proofs.Joining.{active_found, noted_joined, joined_tried, joined_cleared, joined_moved, tried_joined, Ending}
@@ -48,16 +49,25 @@ use Rattle.bump_steps.proofs.StepLemmas.{one_life}
 -- ---- a class's seat as it is seen
 
 -- what a seat's invariant says of the view that it is made of
-pub seen_whole : (words : ℕ) (table : TableId) (number : ℕ) (m : Sat) (v : ClassView) (joined : Option Joined) → m ≡ class_me v → IsInRange table (bump_aboard v.lane) → number ≡ v.part.class → IsClassPart words v.part → IsJoined v.part v.lane joined
-    → (m ≡ class_me (class_in m.0)) × IsInRange table (bump_aboard (class_in m.0).lane) × (number ≡ (class_in m.0).part.class) × IsClassPart words (class_in m.0).part × IsJoined (class_in m.0).part (class_in m.0).lane joined
-seen_whole words table number m v joined is near class part lane = subst (λ (x : ClassView). (m ≡ class_me x) × IsInRange table (bump_aboard x.lane) × (number ≡ x.part.class) × IsClassPart words x.part × IsJoined x.part x.lane joined) (sym (ap (λ (x : Sat). class_in x.0) is ∙ class_in_me v)) (is, near, class, part, lane)
+pub seen_whole : (words : ℕ) (table : TableId) (number : ℕ) (m : Sat) (v : ClassView) (joined : Option Joined)
+    → m ≡ class_me v → IsInRange table (aboard_lane v.lane) → number ≡ v.part.class → IsClassPart words v.part
+    → IsJoined v.part v.lane joined
+    → (m ≡ class_me (class_in m.0)) × IsInRange table (aboard_lane (class_in m.0).lane)
+    × (number ≡ (class_in m.0).part.class) × IsClassPart words (class_in m.0).part × IsJoined (class_in m.0).part
+    (class_in m.0).lane joined
+seen_whole words table number m v joined is near class part lane =
+    subst (λ (x : ClassView). (m ≡ class_me x) × IsInRange table (aboard_lane x.lane) × (number ≡ x.part.class)
+    × IsClassPart words x.part × IsJoined x.part x.lane joined)
+    (sym (ap (λ (x : Sat). class_in x.0) is ∙ class_in_me v)) (is, near, class, part, lane)
 
 -- and the view is the one that is seen
 pub seen_as : (m : Sat) (v : ClassView) → m ≡ class_me v → class_in m.0 ≡ v
 seen_as m v is = ap (λ (x : Sat). class_in x.0) is ∙ class_in_me v
 
 -- the seat of a class whose lane, if one is joined, changes
-lane_changed : (k : ClassPart) (o : Option LanePart) (f : LanePart → LanePart) → ◌≡◌ {A = Sat} (record (class_me (record { part = k; lane = o })).0 { lanes = on_first f (listed o) }, []) (class_me (record { part = k; lane = option_map f o }))
+lane_changed : (k : ClassPart) (o : Option LanePart) (f : LanePart → LanePart)
+    → ◌≡◌ {A = Sat} (record (class_me (record { part = k; lane = o })).0 { lanes = on_first f (listed o) }, [])
+    (class_me (record { part = k; lane = option_map f o }))
 lane_changed k None f = refl
 lane_changed k (Some l) f = refl
 
@@ -71,17 +81,23 @@ module _ (m p : Sat) (v w : ClassView) (is : m ≡ class_me v) (same : v ≡ w) 
   told_as h spells found = subst (λ (x : Sat). Told c x.0 h) whole_as (found_is n (Told c m.0) h spells found)
 
   -- after a move
-  pub shifted_me : (from to : Segment) (h : Head) → Spells n h → p ≡ (moved_view from to c n m.0, m.1) → p ≡ class_me (shifted_class c from to h w)
-  shifted_me from to h spells told = told
-      ∙ ap (λ (x : Sat). (moved_view from to c n x.0, x.1)) whole_as
-      ∙ lane_changed (moved_class from to c n (listed w.lane) w.part) w.lane moved_lane
-      ∙ ap (λ (z : ℕ). class_me (record { part = moved_class from to c z (listed w.lane) w.part; lane = option_map moved_lane w.lane })) spells.0
+  pub move_me : (from to : Segment) (h : Head) → Spells n h → p ≡ (view_after_move from to c n m.0, m.1)
+      → p ≡ class_me (seat_after_move c from to h w)
+  move_me from to h spells told = told
+      ∙ ap (λ (x : Sat). (view_after_move from to c n x.0, x.1)) whole_as
+      ∙ lane_changed (class_after_move from to c n (listed w.lane) w.part) w.lane lane_after_move
+      ∙ ap (λ (z : ℕ). class_me
+      (record {
+        part = class_after_move from to c z (listed w.lane) w.part;
+        lane =
+            option_map lane_after_move w.lane;
+      })) spells.0
 
 -- ---- the bump aboard
 
 module _ (c : ℕ) where
   -- a bump at one stage is aboard
-  of_tried : (s : Lane) → IsOf c (tried s) → IsOf c (aboard_of s)
+  of_tried : (s : Lane) → IsOf c (tried s) → IsOf c (bump_aboard s)
   of_tried lane.Empty is = absurd is
   of_tried (lane.Carrying b) is = absurd is
   of_tried (lane.Tried b) is = is
@@ -98,24 +114,25 @@ module _ (c : ℕ) where
 
   -- the bump aboard a lane that is joined is of the chunk
   abbrev pub IsOfChunk : Option LanePart → Type 0
-  IsOfChunk o = IfSome (bump_aboard o) (λ b. b.life.chunk ≡ c)
+  IsOfChunk o = IfSome (aboard_lane o) (λ b. b.life.chunk ≡ c)
 
-  pub clear_chunk : (at : Place) (o : Option LanePart) → MayClear c at o → IsOfChunk o
-  clear_chunk at None may = tt
-  clear_chunk at (Some l) may = by l.stage (of_tried l.stage may.1)
+  pub clear_active_chunk : (at : Place) (o : Option LanePart) → MayClearActive c at o → IsOfChunk o
+  clear_active_chunk at None may = tt
+  clear_active_chunk at (Some l) may = by l.stage (of_tried l.stage may.1)
     where
-      by : (s : Lane) → IsOf c (aboard_of s) → IfSome (aboard_of s) (λ b. b.life.chunk ≡ c)
+      by : (s : Lane) → IsOf c (bump_aboard s) → IfSome (bump_aboard s) (λ b. b.life.chunk ≡ c)
       by lane.Empty is = tt
       by (lane.Carrying b) is = is
       by (lane.Tried b) is = is
       by (lane.Cleared b f) is = is
       by (lane.Moved b) is = is
 
-  pub shift_chunk : (from to : Segment) (o : Option LanePart) → MayShift c from to o → IsOfChunk o
-  shift_chunk from to None may = tt
-  shift_chunk from to (Some l) may = let b = of_active l.stage may.2 in subst (λ (s : Lane). IfSome (aboard_of s) (λ d. d.life.chunk ≡ c)) (sym b.1) b.2
+  pub change_segment_chunk : (from to : Segment) (o : Option LanePart) → MayChangeSegment c from to o → IsOfChunk o
+  change_segment_chunk from to None may = tt
+  change_segment_chunk from to (Some l) may = let b = of_active l.stage may.2 in
+      subst (λ (s : Lane). IfSome (bump_aboard s) (λ d. d.life.chunk ≡ c)) (sym b.1) b.2
 
-aboard_now : (s : Lane) (b : Bump) → applied_now s ≡ Some b → aboard_of s ≡ Some b
+aboard_now : (s : Lane) (b : Bump) → applied_now s ≡ Some b → bump_aboard s ≡ Some b
 aboard_now lane.Empty b is = absurd (cc is)
 aboard_now (lane.Carrying d) b is = absurd (cc is)
 aboard_now (lane.Tried d) b is = is
@@ -124,38 +141,54 @@ aboard_now (lane.Moved d) b is = is
 
 -- ---- what is told of the head found
 
-sees : (k : ClassPart) (l : LanePart) (b : Bump) (h : Head) → aboard_of l.stage ≡ Some b → Told b.life.chunk (applying k l) h → Seen k b.life h
-sees k l b h is told =
-    let some : 0 < refers b.life.chunk b.life.generation (aboard_of l.stage) + 0 = omega (arith, ap (refers b.life.chunk b.life.generation) is, one_life b.life) in
+finds_of_bump : (k : ClassPart) (l : LanePart) (b : Bump) (h : Head) → bump_aboard l.stage ≡ Some b
+    → Told b.life.chunk (applying k l) h → FoundOfBump k b.life h
+finds_of_bump k l b h is told =
+    let some : 0 < refers b.life.chunk b.life.generation (bump_aboard l.stage) + 0 =
+    omega (arith, ap (refers b.life.chunk b.life.generation) is, one_life b.life) in
     let gen : b.life.generation ≡ h.generation = told.held b.life.generation (omega (arith, some)) in record {
       generation = sym gen;
       counted = omega (arith, some, told.many b.life.generation);
-      stands = λ own. let st = stands_alone b.life.chunk (applying k l) k refl own in let s = told.stood (standing k b.life.chunk) st in (s.0, sym s.1 ∙ sym gen, told.busy b.life.generation (omega (arith, some)) (standing k b.life.chunk) st);
+      stands = λ own. let st = stands_alone b.life.chunk (applying k l) k refl own in let s =
+          told.stood (standing k b.life.chunk) st in
+          (s.0, sym s.1 ∙ sym gen, told.in_use b.life.generation (omega (arith, some)) (standing k b.life.chunk) st);
     }
 
 -- of the bump aboard a lane that is joined
-pub seen_class : (v : ClassView) (b : Bump) (h : Head) → bump_aboard v.lane ≡ Some b → Told b.life.chunk (class_me v).0 h → Seen v.part (life_aboard v.lane) h
-seen_class v b h is told = subst (λ (x : ItemId). Seen v.part x h) (sym (ap life_of is)) (by v.lane is told)
+pub found_of_bump : (v : ClassView) (b : Bump) (h : Head) → aboard_lane v.lane ≡ Some b
+    → Told b.life.chunk (class_me v).0 h → FoundOfBump v.part (life_aboard v.lane) h
+found_of_bump v b h is told = subst (λ (x : ItemId). FoundOfBump v.part x h) (sym (ap life_of is)) (by v.lane is told)
   where
-    by : (o : Option LanePart) → bump_aboard o ≡ Some b → Told b.life.chunk (class_me (record { part = v.part; lane = o })).0 h → Seen v.part b.life h
+    by : (o : Option LanePart) → aboard_lane o ≡ Some b
+        → Told b.life.chunk (class_me (record { part = v.part; lane = o })).0 h → FoundOfBump v.part b.life h
     by None is told = absurd (cc is)
-    by (Some l) is told = sees v.part l b h is told
+    by (Some l) is told = finds_of_bump v.part l b h is told
 
 -- of the class's own chunk
-pub own_told : (v : ClassView) (c : ℕ) (h : Head) → owns c v.part ≡ true → Told c (class_me v).0 h → Shows h (standing v.part c).0 × (h.generation ≡ (standing v.part c).1)
+pub own_told : (v : ClassView) (c : ℕ) (h : Head) → owns c v.part ≡ true → Told c (class_me v).0 h
+    → Shows h (standing v.part c).0 × (h.generation ≡ (standing v.part c).1)
 own_told v c h own told = told.stood (standing v.part c) (stands_alone c (class_me v).0 v.part refl own)
 
 -- of a bump's life
-pub life_told : (v : ClassView) (c : ℕ) (h : Head) → IsOfChunk c v.lane → Told c (class_me v).0 h → IfSome (bump_aboard v.lane) (λ b. b.life.generation ≡ h.generation)
+pub life_told : (v : ClassView) (c : ℕ) (h : Head) → IsOfChunk c v.lane → Told c (class_me v).0 h
+    → IfSome (aboard_lane v.lane) (λ b. b.life.generation ≡ h.generation)
 life_told v c h of told = by v.lane of told
   where
-    at : (l : LanePart) (o : Option Bump) → aboard_of l.stage ≡ o → IfSome o (λ b. b.life.chunk ≡ c) → Told c (applying v.part l) h → IfSome o (λ b. b.life.generation ≡ h.generation)
+    at : (l : LanePart) (o : Option Bump) → bump_aboard l.stage ≡ o → IfSome o (λ b. b.life.chunk ≡ c)
+        → Told c (applying v.part l) h → IfSome o (λ b. b.life.generation ≡ h.generation)
     at l None is of told = tt
-    at l (Some b) is of told = told.held b.life.generation (omega (arith, ap (refers c b.life.generation) is, one_life b.life, ap (λ (d : ℕ). refers d b.life.generation (Some b)) of))
+    at l (Some b) is of told = told.held b.life.generation
+        (omega (
+          arith,
+          ap (refers c b.life.generation) is,
+          one_life b.life,
+          ap (λ (d : ℕ). refers d b.life.generation (Some b)) of,
+        ))
 
-    by : (o : Option LanePart) → IsOfChunk c o → Told c (class_me (record { part = v.part; lane = o })).0 h → IfSome (bump_aboard o) (λ b. b.life.generation ≡ h.generation)
+    by : (o : Option LanePart) → IsOfChunk c o → Told c (class_me (record { part = v.part; lane = o })).0 h
+        → IfSome (aboard_lane o) (λ b. b.life.generation ≡ h.generation)
     by None of told = tt
-    by (Some l) of told = at l (aboard_of l.stage) refl of told
+    by (Some l) of told = at l (bump_aboard l.stage) refl of told
 
 -- of moves
 pub once_told : (v : ClassView) (c : ℕ) (h : Head) → Told c (class_me v).0 h → NamesNoBumpTwice v.part
@@ -163,86 +196,153 @@ once_told v c h told = λ w n. omega (arith, told.once w n)
 
 pub moves_told_by : (k : ClassPart) (l : LanePart) (c : ℕ) (h : Head) → Told c (applying k l) h → TellsMoves k l
 moves_told_by k l c h told = λ test n. let mine : eqb l.worker l.worker ≡ true = eq-eqb l.worker l.worker refl in
-    omega (arith, told.told (record { test = test; worker = l.worker; number = n }) (omega (arith, ap bit mine)), ap (λ (b : Bool). cond b (moves_told test n l.applied l.stage) 0) mine)
+    omega (
+      arith,
+      told.told (record { test = test; worker = l.worker; number = n }) (omega (arith, ap bit mine)),
+      ap (λ (b : Bool). cond b (moves_told test n l.applied l.stage) 0) mine,
+    )
 
 -- ---- what a move keeps
 
 -- the entry of a move is of the chunk, in the life that it has, and no stray one
-pub shifted_part : (words c n : ℕ) (from to : Segment) (h : Head) (v : ClassView) → IsClassPart words v.part → owns c v.part ≡ true → (standing v.part c).0 ≡ place_of from → MayShift c from to v.lane → h.generation ≡ (standing v.part c).1 → IfSome (bump_aboard v.lane) (λ b. b.life.generation ≡ h.generation)
-    → IsClassPart words (moved_class from to c n (listed v.lane) v.part)
-shifted_part words c n from to h v part own stands may gen lives = by v.lane may lives
+pub move_keeps : (words c n : ℕ) (from to : Segment) (h : Head) (v : ClassView) → IsClassPart words v.part
+    → owns c v.part ≡ true → (standing v.part c).0 ≡ place_of from → MayChangeSegment c from to v.lane
+    → h.generation ≡ (standing v.part c).1 → IfSome (aboard_lane v.lane) (λ b. b.life.generation ≡ h.generation)
+    → IsClassPart words (class_after_move from to c n (listed v.lane) v.part)
+move_keeps words c n from to h v part own stands may gen lives = by v.lane may lives
   where
     used : IsUsed (place_of to) → IsUsed (standing v.part c).0
     used there = subst IsUsed (sym stands) (used_in_segment from)
 
-    for_bump : (l : LanePart) (b : Bump) → aboard_of l.stage ≡ Some b → b.life.chunk ≡ c → from ≡ Cold → to ≡ Warm → b.life.generation ≡ h.generation → IsClassPart words (moved_class from to c n (l ∷ []) v.part)
+    for_bump : (l : LanePart) (b : Bump) → bump_aboard l.stage ≡ Some b → b.life.chunk ≡ c → from ≡ Cold → to ≡ Warm
+        → b.life.generation ≡ h.generation → IsClassPart words (class_after_move from to c n (l ∷ []) v.part)
     for_bump l b is of cold warm same_life = subst
-        (λ (o : Option Bump). IsClassPart words (record v.part { history = v.part.history ++ moved_for (life_in v.part c) from to l.worker o ∷ []; steps = v.part.steps ++ step_of kind.Move c n (bump_for l.worker o) ∷ [] }))
+        (λ (o : Option Bump). IsClassPart words
+        (record v.part {
+          history = v.part.history ++ change_of_move_for (life_in v.part c) from to l.worker o
+              ∷ [];
+          steps = v.part.steps ++ step_of kind.Move c n (bump_for l.worker o) ∷ [];
+        }))
         (sym is)
-        (entered_part words v.part (change.Moved b.life from to (cause.Bump l.worker b.number)) (v.part.steps ++ step_of kind.Move c n (Some (l.worker, b.number)) ∷ []) part (ap (λ (d : ℕ). owns d v.part) of ∙ own)
-        (same_life ∙ gen ∙ ap (λ (d : ℕ). (standing v.part d).1) (sym of)) (ap₂ (λ (f t : Segment). not (is_cold f && is_warm t)) cold warm) (λ there. subst (λ (d : ℕ). IsUsed (standing v.part d).0) (sym of) (used there)))
+        (entered_part words v.part (change.Moved b.life from to (cause.Bump l.worker b.number))
+        (v.part.steps ++ step_of kind.Move c n (Some (l.worker, b.number)) ∷ []) part
+        (ap (λ (d : ℕ). owns d v.part) of ∙ own)
+        (same_life ∙ gen ∙ ap (λ (d : ℕ). (standing v.part d).1) (sym of))
+        (ap₂ (λ (f t : Segment). not (is_cold f && is_warm t)) cold warm)
+        (λ there. subst (λ (d : ℕ). IsUsed (standing v.part d).0) (sym of) (used there)))
 
-    by : (o : Option LanePart) → MayShift c from to o → IfSome (bump_aboard o) (λ b. b.life.generation ≡ h.generation) → IsClassPart words (moved_class from to c n (listed o) v.part)
-    by None may lives = entered_part words v.part (change.Moved (life_in v.part c) from to cause.Pull) (v.part.steps ++ step_of kind.Move c n None ∷ []) part own refl refl used
-    by (Some l) may lives = let b = of_active c l.stage may.2 in let is : aboard_of l.stage ≡ Some b.0 = ap aboard_of b.1 in
-        for_bump l b.0 is b.2 may.0 may.1 (subst (λ (x : Option Bump). IfSome x (λ d. d.life.generation ≡ h.generation)) is lives)
+    by : (o : Option LanePart) → MayChangeSegment c from to o
+        → IfSome (aboard_lane o) (λ b. b.life.generation ≡ h.generation)
+        → IsClassPart words (class_after_move from to c n (listed o) v.part)
+    by None may lives = entered_part words v.part (change.Moved (life_in v.part c) from to cause.Pull)
+        (v.part.steps ++ step_of kind.Move c n None ∷ []) part own refl refl used
+    by (Some l) may lives = let b = of_active c l.stage may.2 in let is : bump_aboard l.stage ≡ Some b.0 =
+        ap bump_aboard b.1 in
+        for_bump l b.0 is b.2 may.0 may.1
+        (subst (λ (x : Option Bump). IfSome x (λ d. d.life.generation ≡ h.generation)) is lives)
 
 -- what is asked of the step of a move
-pub may_shift : (from to : Segment) (c : ℕ) (m : Sat) (v w : ClassView) → m ≡ class_me v → v ≡ w → owns c w.part ≡ true → (standing w.part c).0 ≡ place_of from → MayShift c from to w.lane → MayMove from to c m.0
-may_shift from to c m v w is same own stands may = subst (λ (x : Sat). MayMove from to c x.0) (sym (is ∙ ap class_me same)) (by w.lane may)
+pub may_change_segment : (from to : Segment) (c : ℕ) (m : Sat) (v w : ClassView) → m ≡ class_me v → v ≡ w
+    → owns c w.part ≡ true → (standing w.part c).0 ≡ place_of from → MayChangeSegment c from to w.lane
+    → MayMove from to c m.0
+may_change_segment from to c m v w is same own stands may = subst (λ (x : Sat). MayMove from to c x.0)
+    (sym (is ∙ ap class_me same)) (by w.lane may)
   where
-    by : (o : Option LanePart) → MayShift c from to o → MayMove from to c (class_me (record { part = w.part; lane = o })).0
+    by : (o : Option LanePart) → MayChangeSegment c from to o
+        → MayMove from to c (class_me (record { part = w.part; lane = o })).0
     by None may = inl (w.part, record { view = refl; stands = (own, stands) })
-    by (Some l) may = let b = of_active c l.stage may.2 in inr (w.part, l, b.0, record { view = refl; stage = b.1; chunk = b.2; stands = (own, stands); from_cold = may.0; to_warm = may.1 })
+    by (Some l) may = let b = of_active c l.stage may.2 in
+        inr (
+          w.part,
+          l,
+          b.0,
+          record {
+            view = refl;
+            stage = b.1;
+            chunk = b.2;
+            stands = (own, stands);
+            from_cold =
+                may.0;
+            to_warm = may.1;
+          },
+        )
 
 -- ---- the bump aboard stays in range
 
-moved_refers : (s : Lane) → aboard_of (moved_stage s) ≡ aboard_of s
-moved_refers lane.Empty = refl
-moved_refers (lane.Carrying b) = refl
-moved_refers (lane.Tried b) = refl
-moved_refers (lane.Cleared b f) = refl
-moved_refers (lane.Moved b) = refl
+move_refers : (s : Lane) → bump_aboard (stage_after_move s) ≡ bump_aboard s
+move_refers lane.Empty = refl
+move_refers (lane.Carrying b) = refl
+move_refers (lane.Tried b) = refl
+move_refers (lane.Cleared b f) = refl
+move_refers (lane.Moved b) = refl
 
-near_as : (table : TableId) (f : LanePart → LanePart) → ((l : LanePart) → aboard_of (f l).stage ≡ aboard_of l.stage) → (o : Option LanePart) → IsInRange table (bump_aboard o) → IsInRange table (bump_aboard (option_map f o))
+near_as : (table : TableId) (f : LanePart → LanePart)
+    → ((l : LanePart) → bump_aboard (f l).stage ≡ bump_aboard l.stage) → (o : Option LanePart)
+    → IsInRange table (aboard_lane o) → IsInRange table (aboard_lane (option_map f o))
 near_as table f same None near = near
 near_as table f same (Some l) near = subst (IsInRange table) (sym (same l)) near
 
-pub moved_near : (table : TableId) (o : Option LanePart) → IsInRange table (bump_aboard o) → IsInRange table (bump_aboard (option_map moved_lane o))
-moved_near table o near = near_as table moved_lane (λ l. moved_refers l.stage) o near
+pub move_near : (table : TableId) (o : Option LanePart) → IsInRange table (aboard_lane o)
+    → IsInRange table (aboard_lane (option_map lane_after_move o))
+move_near table o near = near_as table lane_after_move (λ l. move_refers l.stage) o near
 
 -- what the class's seat is after a move
-module _ (table : TableId) (number c n : ℕ) (m p : Sat) (v w : ClassView) (is : m ≡ class_me v) (same : v ≡ w) (near : IsInRange table (bump_aboard v.lane)) (class : number ≡ v.part.class) (part : IsClassPart table.words v.part) (joined : Option Joined) (lane : IsJoined v.part v.lane joined) where
-  pub shifted_whole : (from to : Segment) (h : Head) → Spells n h → owns c w.part ≡ true → (standing w.part c).0 ≡ place_of from → MayShift c from to w.lane → p ≡ (moved_view from to c n m.0, m.1) → Found n (Told c m.0)
-      → (p ≡ class_me (class_in p.0)) × IsInRange table (bump_aboard (class_in p.0).lane) × (number ≡ (class_in p.0).part.class) × IsClassPart table.words (class_in p.0).part × IsJoined (class_in p.0).part (class_in p.0).lane (option_map moved_joined joined)
+module _ (table : TableId) (number c n : ℕ) (m p : Sat) (v w : ClassView) (is : m ≡ class_me v) (same : v ≡ w)
+    (near : IsInRange table (aboard_lane v.lane)) (class : number ≡ v.part.class)
+    (part : IsClassPart table.words v.part) (joined : Option Joined) (lane : IsJoined v.part v.lane joined) where
+  pub shifted_whole : (from to : Segment) (h : Head) → Spells n h → owns c w.part ≡ true
+      → (standing w.part c).0 ≡ place_of from → MayChangeSegment c from to w.lane
+      → p ≡ (view_after_move from to c n m.0, m.1) → Found n (Told c m.0)
+      → (p ≡ class_me (class_in p.0)) × IsInRange table (aboard_lane (class_in p.0).lane)
+      × (number ≡ (class_in p.0).part.class) × IsClassPart table.words (class_in p.0).part
+      × IsJoined (class_in p.0).part (class_in p.0).lane (option_map joined_after_move joined)
   shifted_whole from to h spells own stands may moved found = let told = told_as m p v w is same n c h spells found in
-      seen_whole table.words table number p (shifted_class c from to h w) (option_map moved_joined joined) (shifted_me m p v w is same n c from to h spells moved)
-      (moved_near table w.lane (subst (λ (x : ClassView). IsInRange table (bump_aboard x.lane)) same near))
+      seen_whole table.words table number p (seat_after_move c from to h w) (option_map joined_after_move joined)
+      (move_me m p v w is same n c from to h spells moved)
+      (move_near table w.lane (subst (λ (x : ClassView). IsInRange table (aboard_lane x.lane)) same near))
       (class ∙ ap (λ (x : ClassView). x.part.class) same)
-      (shifted_part table.words c (word_of h) from to h w (subst (λ (x : ClassView). IsClassPart table.words x.part) same part) own stands may (own_told w c h own told).1 (life_told w c h (shift_chunk c from to w.lane may) told))
-      (joined_moved c (word_of h) from to w.part w.lane joined may (subst (λ (x : ClassView). IsJoined x.part x.lane joined) same lane))
+      (move_keeps table.words c (word_of h) from to h w
+      (subst (λ (x : ClassView). IsClassPart table.words x.part) same part) own stands may
+      (own_told w c h own told).1 (life_told w c h (change_segment_chunk c from to w.lane may) told))
+      (joined_moved c (word_of h) from to w.part w.lane joined may
+      (subst (λ (x : ClassView). IsJoined x.part x.lane joined) same lane))
 
   -- after ACTIVE was cleared
-  pub cleared_whole : (at : Place) (h : Head) → Spells n h → MayClear c at w.lane → p ≡ (cleared_view c n m.0, m.1)
-      → (p ≡ class_me (class_in p.0)) × IsInRange table (bump_aboard (class_in p.0).lane) × (number ≡ (class_in p.0).part.class) × IsClassPart table.words (class_in p.0).part × IsJoined (class_in p.0).part (class_in p.0).lane (option_map (cleared_joined h.active) joined)
+  pub cleared_whole : (at : Place) (h : Head) → Spells n h → MayClearActive c at w.lane
+      → p ≡ (view_after_clear_active c n m.0, m.1)
+      → (p ≡ class_me (class_in p.0)) × IsInRange table (aboard_lane (class_in p.0).lane)
+      × (number ≡ (class_in p.0).part.class) × IsClassPart table.words (class_in p.0).part
+      × IsJoined (class_in p.0).part (class_in p.0).lane (option_map (joined_after_clear_active h.active) joined)
   cleared_whole at h spells may told =
       let whole : m ≡ class_me w = is ∙ ap class_me same in
-      let me : p ≡ class_me (cleared_class c h w) = told
-      ∙ ap (λ (x : Sat). (cleared_view c n x.0, x.1)) whole
-      ∙ lane_changed (noted_class kind.ClearActive c n (listed w.lane) w.part) w.lane (cleared_lane (not (active_clear n)))
-      ∙ ap₂ (λ (z : ℕ) (f : Bool). class_me (record { part = noted_class kind.ClearActive c z (listed w.lane) w.part; lane = option_map (cleared_lane f) w.lane })) spells.0 (active_found n h spells) in
-      seen_whole table.words table number p (cleared_class c h w) (option_map (cleared_joined h.active) joined) me
-      (near_as table (cleared_lane h.active) (λ l. cleared_refers h.active l.stage) w.lane (subst (λ (x : ClassView). IsInRange table (bump_aboard x.lane)) same near))
+      let me : p ≡ class_me (seat_after_clear_active c h w) = told
+      ∙ ap (λ (x : Sat). (view_after_clear_active c n x.0, x.1)) whole
+      ∙ lane_changed (noted_class kind.ClearActive c n (listed w.lane) w.part) w.lane
+      (lane_after_clear_active (not (active_clear n)))
+      ∙ ap₂ (λ (z : ℕ) (f : Bool). class_me
+      (record {
+        part = noted_class kind.ClearActive c z (listed w.lane) w.part;
+        lane =
+            option_map (lane_after_clear_active f) w.lane;
+      })) spells.0 (active_found n h spells) in
+      seen_whole table.words table number p (seat_after_clear_active c h w)
+      (option_map (joined_after_clear_active h.active) joined) me
+      (near_as table (lane_after_clear_active h.active) (λ l. clear_active_refers h.active l.stage) w.lane
+      (subst (λ (x : ClassView). IsInRange table (aboard_lane x.lane)) same near))
       (class ∙ ap (λ (x : ClassView). x.part.class) same)
       (noted_part table.words w.part _ (subst (λ (x : ClassView). IsClassPart table.words x.part) same part))
-      (joined_cleared c at h w.part w.lane joined spells.1 may (subst (λ (x : ClassView). IsJoined x.part x.lane joined) same lane))
+      (joined_cleared c at h w.part w.lane joined spells.1 may
+      (subst (λ (x : ClassView). IsJoined x.part x.lane joined) same lane))
 
   -- after its time was stored
-  pub timed_whole : (now : ℕ) → p ≡ (timed_view c now m.0, m.1)
-      → (p ≡ class_me (class_in p.0)) × IsInRange table (bump_aboard (class_in p.0).lane) × (number ≡ (class_in p.0).part.class) × IsClassPart table.words (class_in p.0).part × IsJoined (class_in p.0).part (class_in p.0).lane joined
+  pub timed_whole : (now : ℕ) → p ≡ (view_after_put_time c now m.0, m.1)
+      → (p ≡ class_me (class_in p.0)) × IsInRange table (aboard_lane (class_in p.0).lane)
+      × (number ≡ (class_in p.0).part.class) × IsClassPart table.words (class_in p.0).part
+      × IsJoined (class_in p.0).part (class_in p.0).lane joined
   timed_whole now told =
-      seen_whole table.words table number p (timed_class c now w) joined (told ∙ ap (λ (x : Sat). (timed_view c now x.0, x.1)) (is ∙ ap class_me same))
-      (subst (λ (x : ClassView). IsInRange table (bump_aboard x.lane)) same near)
+      seen_whole table.words table number p (seat_after_put_time c now w) joined
+      (told ∙ ap (λ (x : Sat). (view_after_put_time c now x.0, x.1)) (is ∙ ap class_me same))
+      (subst (λ (x : ClassView). IsInRange table (aboard_lane x.lane)) same near)
       (class ∙ ap (λ (x : ClassView). x.part.class) same)
       (noted_part table.words w.part _ (subst (λ (x : ClassView). IsClassPart table.words x.part) same part))
       (noted_joined w.part _ w.lane joined (subst (λ (x : ClassView). IsJoined x.part x.lane joined) same lane))
@@ -250,18 +350,23 @@ module _ (table : TableId) (number c n : ℕ) (m p : Sat) (v w : ClassView) (is 
 -- ---- a lane joins
 
 -- the bump that a lane carries may be looked at by the class that has its chunk
-carries_it : (k : ClassPart) (l : LanePart) (b : Bump) (s : Lane) → l.stage ≡ s → IsSome (carried s) → aboard_of s ≡ Some b → owns b.life.chunk k ≡ true → MayTry b.life.chunk (applying k l)
+carries_it : (k : ClassPart) (l : LanePart) (b : Bump) (s : Lane) → l.stage ≡ s → IsSome (carried s)
+    → bump_aboard s ≡ Some b → owns b.life.chunk k ≡ true → MayTry b.life.chunk (applying k l)
 carries_it k l b lane.Empty is carries on own = absurd (cc carries)
-carries_it k l b (lane.Carrying d) is carries on own = let same : d ≡ b = cc on in (k, l, b, record { view = refl; stage = is ∙ ap lane.Carrying same; chunk = refl; own = own })
+carries_it k l b (lane.Carrying d) is carries on own = let same : d ≡ b = cc on in
+    (k, l, b, record { view = refl; stage = is ∙ ap lane.Carrying same; chunk = refl; own = own })
 carries_it k l b (lane.Tried d) is carries on own = absurd (cc carries)
 carries_it k l b (lane.Cleared d f) is carries on own = absurd (cc carries)
 carries_it k l b (lane.Moved d) is carries on own = absurd (cc carries)
 
-fronts : (w : ClassView) (o : Option LanePart) (b : Bump) → IsSome (carried_by o) → bump_aboard o ≡ Some b → owns b.life.chunk w.part ≡ true → MayTry b.life.chunk (class_me (record w { lane = o })).0
+fronts : (w : ClassView) (o : Option LanePart) (b : Bump) → IsSome (carried_by o) → aboard_lane o ≡ Some b
+    → owns b.life.chunk w.part ≡ true → MayTry b.life.chunk (class_me (record w { lane = o })).0
 fronts w None b carries on own = absurd (cc on)
 fronts w (Some l) b carries on own = carries_it w.part l b l.stage refl carries on own
 
-module _ (m : Sat) (v w : ClassView) (o : Option (Seat Empty View)) (s : Seat Empty View) (table : TableId) (lane : Option LanePart) (is : m ≡ class_me v) (same : v ≡ w) (alone : w.lane ≡ None) (whole : IsLane table o) (some : o ≡ Some s) (lane_is : lane_in o ≡ lane) where
+module _ (m : Sat) (v w : ClassView) (o : Option (Seat Empty View)) (s : Seat Empty View) (table : TableId)
+    (lane : Option LanePart) (is : m ≡ class_me v) (same : v ≡ w) (alone : w.lane ≡ None) (whole : IsLane table o)
+    (some : o ≡ Some s) (lane_is : lane_in o ≡ lane) where
   -- the two seats together
   pub joined_me : ◌≡◌ {A = Sat} (joined m.0 s.me.0, m.1) (class_me (record w { lane = lane }))
   joined_me = ap (λ (x : Sat). (joined x.0 s.me.0, x.1)) (is ∙ ap class_me same)
@@ -270,87 +375,150 @@ module _ (m : Sat) (v w : ClassView) (o : Option (Seat Empty View)) (s : Seat Em
       ∙ ap (λ (p : Option LanePart). class_me (record w { lane = p })) (sym (ap lane_in some) ∙ lane_is)
 
   -- what is asked of the look at its head
-  module _ (b : Bump) (aboard : bump_aboard (lane_in o) ≡ Some b) (q : Sat) (joins : q ≡ (joined m.0 s.me.0, m.1)) where
-    pub may_front : IsSome (carried_by lane) → owns (life_aboard lane).chunk w.part ≡ true → MayTry b.life.chunk q.0
-    may_front carries own = let on : bump_aboard lane ≡ Some b = sym (ap bump_aboard lane_is) ∙ aboard in
-        subst (λ (x : Sat). MayTry b.life.chunk x.0) (sym (joins ∙ joined_me)) (fronts w lane b carries on (ap (λ (j : ItemId). owns j.chunk w.part) (sym (ap life_of on)) ∙ own))
+  module _ (b : Bump) (aboard : aboard_lane (lane_in o) ≡ Some b) (q : Sat) (joins : q ≡ (joined m.0 s.me.0, m.1))
+    where
+      pub may_front : IsSome (carried_by lane) → owns (life_aboard lane).chunk w.part ≡ true → MayTry b.life.chunk q.0
+      may_front carries own = let on : aboard_lane lane ≡ Some b = sym (ap aboard_lane lane_is) ∙ aboard in
+          subst (λ (x : Sat). MayTry b.life.chunk x.0) (sym (joins ∙ joined_me))
+          (fronts w lane b carries on (ap (λ (j : ItemId). owns j.chunk w.part) (sym (ap life_of on)) ∙ own))
 
-  module _ (b : Bump) (aboard : bump_aboard (lane_in o) ≡ Some b) (n : ℕ) (h : Head) (spells : Spells n h) (p q : Sat) (joins : q ≡ (joined m.0 s.me.0, m.1)) (told : p ≡ (tried_view b.life.chunk n q.0, q.1)) where
+  module _ (b : Bump) (aboard : aboard_lane (lane_in o) ≡ Some b) (n : ℕ) (h : Head) (spells : Spells n h) (p q : Sat)
+      (joins : q ≡ (joined m.0 s.me.0, m.1)) (told : p ≡ (view_after_try b.life.chunk n q.0, q.1)) where
     -- the life of the bump aboard
     life_is : life_aboard lane ≡ b.life
-    life_is = ap life_of (sym (ap bump_aboard lane_is) ∙ aboard)
+    life_is = ap life_of (sym (ap aboard_lane lane_is) ∙ aboard)
 
     -- after the look at its head
-    pub tried_me : p ≡ class_me (record w { lane = option_map (tried_lane (life_aboard lane).chunk (word_of h)) lane })
+    pub tried_me : p ≡ class_me
+        (record w { lane = option_map (lane_after_try (life_aboard lane).chunk (word_of h)) lane })
     tried_me = told
-        ∙ ap (λ (x : Sat). (tried_view b.life.chunk n x.0, x.1)) (joins ∙ joined_me)
-        ∙ lane_changed w.part lane (tried_lane b.life.chunk n)
-        ∙ ap₂ (λ (d z : ℕ). class_me (record w { lane = option_map (tried_lane d z) lane })) (sym (ap (λ (l : ItemId). l.chunk) life_is)) spells.0
+        ∙ ap (λ (x : Sat). (view_after_try b.life.chunk n x.0, x.1)) (joins ∙ joined_me)
+        ∙ lane_changed w.part lane (lane_after_try b.life.chunk n)
+        ∙ ap₂ (λ (d z : ℕ). class_me (record w { lane = option_map (lane_after_try d z) lane }))
+        (sym (ap (λ (l : ItemId). l.chunk) life_is)) spells.0
 
     -- it keeps what a class's seat keeps
-    pub tried_whole : (number : ℕ) → number ≡ v.part.class → IsClassPart table.words v.part → IsInRange table (bump_aboard (lane_in o)) → IsSome (carried_by lane) → owns (life_aboard lane).chunk w.part ≡ true → Seen w.part (life_aboard lane) h
-        → (p ≡ class_me (class_in p.0)) × IsInRange table (bump_aboard (class_in p.0).lane) × (number ≡ (class_in p.0).part.class) × IsClassPart table.words (class_in p.0).part × IsJoined (class_in p.0).part (class_in p.0).lane (Some (joined_tried b h))
+    pub tried_whole : (number : ℕ) → number ≡ v.part.class → IsClassPart table.words v.part
+        → IsInRange table (aboard_lane (lane_in o)) → IsSome (carried_by lane) → owns (life_aboard lane).chunk w.part
+        ≡ true → FoundOfBump w.part (life_aboard lane) h
+        → (p ≡ class_me (class_in p.0)) × IsInRange table (aboard_lane (class_in p.0).lane)
+        × (number ≡ (class_in p.0).part.class) × IsClassPart table.words (class_in p.0).part
+        × IsJoined (class_in p.0).part (class_in p.0).lane (Some (joined_tried b h))
     tried_whole number class part near carries own seen =
-        seen_whole table.words table number p (record w { lane = option_map (tried_lane (life_aboard lane).chunk (word_of h)) lane }) (Some (joined_tried b h)) tried_me
-        (near_as table (tried_lane (life_aboard lane).chunk (word_of h)) (λ l. tried_refers l.stage) lane (subst (λ (x : Option LanePart). IsInRange table (bump_aboard x)) lane_is near))
+        seen_whole table.words table number p
+        (record w { lane = option_map (lane_after_try (life_aboard lane).chunk (word_of h)) lane })
+        (Some (joined_tried b h)) tried_me
+        (near_as table (lane_after_try (life_aboard lane).chunk (word_of h)) (λ l. try_refers l.stage) lane
+        (subst (λ (x : Option LanePart). IsInRange table (aboard_lane x)) lane_is near))
         (class ∙ ap (λ (x : ClassView). x.part.class) same)
         (subst (λ (x : ClassView). IsClassPart table.words x.part) same part)
-        (tried_joined h w.part lane b carries (sym (ap bump_aboard lane_is) ∙ aboard) spells.1 seen own)
+        (tried_joined h w.part lane b carries (sym (ap aboard_lane lane_is) ∙ aboard) spells.1 seen own)
 
     -- what was told there
     told_here : Found n (Told b.life.chunk q.0) → Told b.life.chunk (class_me (record w { lane = lane })).0 h
-    told_here found = subst (λ (x : Sat). Told b.life.chunk x.0 h) (joins ∙ joined_me) (found_is n (Told b.life.chunk q.0) h spells found)
+    told_here found = subst (λ (x : Sat). Told b.life.chunk x.0 h) (joins ∙ joined_me)
+        (found_is n (Told b.life.chunk q.0) h spells found)
 
-    pub tried_seen : Found n (Told b.life.chunk q.0) → Seen w.part (life_aboard lane) h
-    tried_seen found = seen_class (record w { lane = lane }) b h (sym (ap bump_aboard lane_is) ∙ aboard) (told_here found)
+    pub tried_seen : Found n (Told b.life.chunk q.0) → FoundOfBump w.part (life_aboard lane) h
+    tried_seen found = found_of_bump (record w { lane = lane }) b h (sym (ap aboard_lane lane_is) ∙ aboard)
+        (told_here found)
 
-    tried_moves : (x : Option LanePart) → Told b.life.chunk (class_me (record w { lane = x })).0 h → (d z : ℕ) → IfSome (option_map (tried_lane d z) x) (TellsMoves w.part)
+    tried_moves : (x : Option LanePart) → Told b.life.chunk (class_me (record w { lane = x })).0 h → (d z : ℕ)
+        → IfSome (option_map (lane_after_try d z) x) (TellsMoves w.part)
     tried_moves None t d z = tt
-    tried_moves (Some l) t d z = λ test i. omega (arith, moves_told_by w.part l b.life.chunk h t test i, tried_going (record { test = test; worker = 0; number = i }) l.stage)
+    tried_moves (Some l) t d z = λ test i. omega (
+      arith,
+      moves_told_by w.part l b.life.chunk h t test i,
+      try_going (record { test = test; worker = 0; number = i }) l.stage,
+    )
 
     -- of moves for bumps
-    pub tried_told : Found n (Told b.life.chunk q.0) → NamesNoBumpTwice (class_in p.0).part × IfSome (class_in p.0).lane (TellsMoves (class_in p.0).part)
-    tried_told found = subst (λ (x : ClassView). NamesNoBumpTwice x.part × IfSome x.lane (TellsMoves x.part)) (sym (seen_as p _ tried_me))
-        (once_told (record w { lane = lane }) b.life.chunk h (told_here found), tried_moves lane (told_here found) (life_aboard lane).chunk (word_of h))
+    pub tried_told : Found n (Told b.life.chunk q.0) → NamesNoBumpTwice (class_in p.0).part
+        × IfSome (class_in p.0).lane (TellsMoves (class_in p.0).part)
+    tried_told found = subst (λ (x : ClassView). NamesNoBumpTwice x.part × IfSome x.lane (TellsMoves x.part))
+        (sym (seen_as p _ tried_me)) (
+          once_told (record w { lane = lane }) b.life.chunk h (told_here found),
+          tried_moves lane (told_here found)
+              (life_aboard lane).chunk (word_of h),
+        )
 
 -- ---- a lane is split off
 
 -- an entry that is shown is true of what the two parts have
-shown : (k : ClassPart) (l : LanePart) (b : Bump) (out : Outcome) → owns b.life.chunk k ≡ true → IsShown k l b out → 0 < evidence l.worker (applied_bump b out) (applying k l)
-shown k l b outcome.Moved own is = let mine : of_owner b.life.chunk (λ j. how_many (is_move_for (is_same b.life) l.worker b.number) j.history) k ≡ how_many (is_move_for (is_same b.life) l.worker b.number) k.history = ap (λ (o : Bool). cond o (how_many (is_move_for (is_same b.life) l.worker b.number) k.history) 0) own in omega (arith, is, mine)
-shown k l b outcome.Gone own is = let mine : of_owner b.life.chunk (λ j. how_many (is_unlink_of b.life) j.history) k ≡ how_many (is_unlink_of b.life) k.history = ap (λ (o : Bool). cond o (how_many (is_unlink_of b.life) k.history) 0) own in omega (arith, is, mine)
-shown k l b outcome.TimeOnly own is = let mine : of_owner b.life.chunk (λ j. how_many (shows_time_only l.worker b.number b.life.chunk) j.steps) k ≡ how_many (shows_time_only l.worker b.number b.life.chunk) k.steps = ap (λ (o : Bool). cond o (how_many (shows_time_only l.worker b.number b.life.chunk) k.steps) 0) own in omega (arith, is, mine)
+shown : (k : ClassPart) (l : LanePart) (b : Bump) (out : Outcome) → owns b.life.chunk k ≡ true → IsShown k l b out
+    → 0 < evidence l.worker (applied_bump b out) (applying k l)
+shown k l b outcome.Moved own is = let mine : of_owner b.life.chunk
+    (λ j. how_many (is_move_for (is_same b.life) l.worker b.number) j.history) k ≡ how_many
+    (is_move_for (is_same b.life) l.worker b.number) k.history =
+    ap (λ (o : Bool). cond o (how_many (is_move_for (is_same b.life) l.worker b.number) k.history) 0) own in
+    omega (arith, is, mine)
+shown k l b outcome.Gone own is = let mine : of_owner b.life.chunk (λ j. how_many (is_unlink_of b.life) j.history) k
+    ≡ how_many (is_unlink_of b.life) k.history =
+    ap (λ (o : Bool). cond o (how_many (is_unlink_of b.life) k.history) 0) own in omega (arith, is, mine)
+shown k l b outcome.TimeOnly own is = let mine : of_owner b.life.chunk
+    (λ j. how_many (shows_time_only l.worker b.number b.life.chunk) j.steps) k ≡ how_many
+    (shows_time_only l.worker b.number b.life.chunk) k.steps =
+    ap (λ (o : Bool). cond o (how_many (shows_time_only l.worker b.number b.life.chunk) k.steps) 0) own in
+    omega (arith, is, mine)
 
-module _ (m : Sat) (v w : ClassView) (is : m ≡ class_me v) (same : v ≡ w) (c : ℕ) (out : Outcome) (l : LanePart) (b : Bump) (ends : Ending w c out l b) where
+module _ (m : Sat) (v w : ClassView) (is : m ≡ class_me v) (same : v ≡ w) (c : ℕ) (out : Outcome) (l : LanePart)
+    (b : Bump) (ends : Ending w c out l b) where
   -- the seat is that of the class and of this lane
   view_is : m ≡ (applying w.part l, [])
   view_is = is ∙ ap class_me same ∙ ap (λ (o : Option LanePart). class_me (record w { lane = o })) ends.joined
 
   pub may_end : MayAlight c out m.0
-  may_end = (w.part, l, b, record { view = ap (λ (x : Sat). x.0) view_is; aboard = aboard_now l.stage b ends.aboard; chunk = ends.chunk; past = ends.past; proof = shown w.part l b out (ap (λ (d : ℕ). owns d w.part) ends.chunk ∙ ends.own) ends.entry })
+  may_end = (
+    w.part,
+    l,
+    b,
+    record {
+      view = ap (λ (x : Sat). x.0) view_is;
+      aboard = aboard_now l.stage b ends.aboard;
+      chunk = ends.chunk;
+      past = ends.past;
+      proof = shown w.part l b out (ap (λ (d : ℕ). owns d w.part) ends.chunk
+          ∙ ends.own) ends.entry;
+    },
+  )
 
-  aboard_is : bump_aboard w.lane ≡ Some b
-  aboard_is = ap bump_aboard ends.joined ∙ aboard_now l.stage b ends.aboard
+  aboard_is : aboard_lane w.lane ≡ Some b
+  aboard_is = ap aboard_lane ends.joined ∙ aboard_now l.stage b ends.aboard
 
   module _ (n : ℕ) (h : Head) (spells : Spells n h) where
     told_there : Found n (Told c m.0) → Told c (applying w.part l) h
     told_there found = subst (λ (x : Sat). Told c x.0 h) view_is (found_is n (Told c m.0) h spells found)
 
-    pub alighted_seen : Found n (Told c m.0) → Seen w.part (life_aboard w.lane) h
-    alighted_seen found = seen_class w b h aboard_is (subst (λ (x : ℕ × Option LanePart). Told x.0 (class_me (record w { lane = x.1 })).0 h) (λ i. (sym ends.chunk i, sym ends.joined i)) (told_there found))
+    pub alighted_seen : Found n (Told c m.0) → FoundOfBump w.part (life_aboard w.lane) h
+    alighted_seen found = found_of_bump w b h aboard_is
+        (subst (λ (x : ℕ × Option LanePart). Told x.0 (class_me (record w { lane = x.1 })).0 h)
+        (λ i. (sym ends.chunk i, sym ends.joined i)) (told_there found))
 
-    module _ (r p q : Sat) (told : q ≡ (alighted_view out c n m.0, m.1)) (rest : r ≡ (without_lanes q.0, q.1)) (parts : p ≡ (lanes_only q.0, [])) where
+    module _ (r p q : Sat) (told : q ≡ (view_after_alight out c n m.0, m.1)) (rest : r ≡ (without_lanes q.0, q.1))
+        (parts : p ≡ (lanes_only q.0, [])) where
       -- what the lane gets back
-      back_is : Some (head_or no_lane p.0.lanes) ≡ Some (alighted_lane out c (word_of h) l)
-      back_is = ap (λ (x : Sat). Some (head_or no_lane x.0.lanes)) (parts ∙ ap (λ (x : Sat). (lanes_only x.0, [])) (told ∙ ap (λ (x : Sat). (alighted_view out c n x.0, x.1)) view_is)) ∙ ap (λ (z : ℕ). Some (alighted_lane out c z l)) spells.0
+      back_is : Some (head_or no_lane p.0.lanes) ≡ Some (lane_after_alight out c (word_of h) l)
+      back_is = ap (λ (x : Sat). Some (head_or no_lane x.0.lanes))
+          (parts ∙ ap (λ (x : Sat). (lanes_only x.0, []))
+          (told ∙ ap (λ (x : Sat). (view_after_alight out c n x.0, x.1)) view_is))
+          ∙ ap (λ (z : ℕ). Some (lane_after_alight out c z l)) spells.0
 
       -- the class is as before
       part_is : head_or no_class r.0.classes ≡ w.part
-      part_is = ap (λ (x : Sat). head_or no_class x.0.classes) (rest ∙ ap (λ (x : Sat). (without_lanes x.0, x.1)) (told ∙ ap (λ (x : Sat). (alighted_view out c n x.0, x.1)) view_is))
+      part_is = ap (λ (x : Sat). head_or no_class x.0.classes)
+          (rest ∙ ap (λ (x : Sat). (without_lanes x.0, x.1))
+          (told ∙ ap (λ (x : Sat). (view_after_alight out c n x.0, x.1)) view_is))
 
       -- of moves for bumps
-      pub alighted_told : Found n (Told c m.0) → NamesNoBumpTwice (head_or no_class r.0.classes) × TellsMoves (head_or no_class r.0.classes) (head_or no_lane p.0.lanes)
-      alighted_told found = subst (λ (k : ClassPart). NamesNoBumpTwice k × TellsMoves k (head_or no_lane p.0.lanes)) (sym part_is) (
-        once_told (record w { lane = Some l }) c h (told_there found),
-        subst (λ (x : Option LanePart). IfSome x (TellsMoves w.part)) (sym back_is) (λ test i. omega (arith, moves_told_by w.part l c h (told_there found) test i, alighted_tells test i l b out (aboard_now l.stage b ends.aboard) ends.past)),
-      )
+      pub alighted_told : Found n (Told c m.0) → NamesNoBumpTwice (head_or no_class r.0.classes)
+          × TellsMoves (head_or no_class r.0.classes) (head_or no_lane p.0.lanes)
+      alighted_told found = subst (λ (k : ClassPart). NamesNoBumpTwice k × TellsMoves k (head_or no_lane p.0.lanes))
+          (sym part_is) (
+            once_told (record w { lane = Some l }) c h (told_there found),
+            subst (λ (x : Option LanePart). IfSome x (TellsMoves w.part)) (sym back_is)
+                (λ test i. omega (
+                  arith,
+                  moves_told_by w.part l c h (told_there found) test i,
+                  alight_refers test i l b out (aboard_now l.stage b ends.aboard) ends.past,
+                )),
+          )

@@ -14,17 +14,18 @@ pub record BlankView : Type 0 where
 
 -- parts of which nothing else is joined
 abbrev pub class_seen : ClassPart → ClassView
-class_seen k = record { part = k; lane = None }
+class_seen class = record { part = class; lane = None }
 
 abbrev pub lane_seen : LanePart → Option LanePart
-lane_seen l = Some l
+lane_seen this_lane = Some this_lane
 
 -- new classes of a table with so many words, numbered from c on
 abbrev pub AreNewClasses : ℕ → ℕ → List ClassPart → Type 0
-AreNewClasses words c [] = Unit {0}
-AreNewClasses words c (k ∷ ks) = (k.class ≡ c) × IsClassPart words k × AreNewClasses words (c + 1) ks
+AreNewClasses words number [] = Unit {0}
+AreNewClasses words number (class ∷ ks) = (class.class ≡ number) × IsClassPart words class
+    × AreNewClasses words (number + 1) ks
 
 -- lanes with nothing aboard
 abbrev pub AreEmpty : List LanePart → Type 0
 AreEmpty [] = Unit {0}
-AreEmpty (l ∷ ls) = (Rattle.bump_steps.specs.Views.aboard_of l.stage ≡ None) × AreEmpty ls
+AreEmpty (this_lane ∷ ls) = (Rattle.bump_steps.specs.Views.bump_aboard this_lane.stage ≡ None) × AreEmpty ls

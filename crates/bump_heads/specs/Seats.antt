@@ -11,15 +11,16 @@ use Rattle.bump_rules.specs.Totals.{how_many}
 use Rattle.bump_rules.specs.Entries.{is_stray}
 use Rattle.bump_rules.specs.History.{AreBetween}
 use Rattle.bump_rules.specs.Labels.{label_of_life}
-use Rattle.bump_steps.specs.Views.{label_of}
+use Rattle.bump_steps.specs.Views.{last_label}
 use Rattle.bump_steps.specs.Riders.{lane_me}
 use Rattle.bump_steps.specs.declared.views.Empty.{Empty}
 use Rattle.bump_steps.specs.declared.views.ClassPart.{ClassPart}
 use Rattle.bump_steps.specs.declared.views.LanePart.{LanePart}
 use Rattle.bump_heads.specs.declared.views.ClassView.{ClassView}
 use Rattle.bump_steps.specs.declared.views.View.{View}
-use Rattle.bump_steps.specs.Views.{aboard_of, owns, standing}
+use Rattle.bump_steps.specs.Views.{bump_aboard, owns, standing}
 use Rattle.bump_steps.specs.Rule.{blank, lane_part}
+use Rattle.bump_steps.specs.Words.{HasChunk}
 use Rattle.bump_readers.specs.Seats.{head_or, first, listed}
 
 -- parts of seats that have none
@@ -33,37 +34,39 @@ no_class = record { class = 0; first = 0; count = 0; fresh = 0; history = []; la
 
 abbrev pub lane_in : Option (Seat Empty View) → Option LanePart
 lane_in None = None
-lane_in (Some s) = Some (head_or no_lane s.me.0.lanes)
+lane_in (Some seat) = Some (head_or no_lane seat.me.0.lanes)
 
 -- a lane's seat, if it isn't hollow, has its part alone, and no bump that is half applied
 abbrev pub IsLane : TableId → Option (Seat Empty View) → Type 0
 IsLane table None = Unit {0}
-IsLane table (Some s) = (s.me ≡ lane_me (head_or no_lane s.me.0.lanes)) × (s.table_id ≡ table) × (is_half_made (head_or no_lane s.me.0.lanes).stage ≡ false)
+IsLane table (Some seat) = (seat.me ≡ lane_me (head_or no_lane seat.me.0.lanes)) × (seat.table_id ≡ table)
+    × (is_half_made (head_or no_lane seat.me.0.lanes).stage ≡ false)
 
-abbrev pub bump_aboard : Option LanePart → Option Bump
-bump_aboard None = None
-bump_aboard (Some l) = aboard_of l.stage
+abbrev pub aboard_lane : Option LanePart → Option Bump
+aboard_lane None = None
+aboard_lane (Some this_lane) = bump_aboard this_lane.stage
 
 abbrev pub IsInRange : TableId → Option Bump → Type 0
 IsInRange table None = Unit {0}
-IsInRange table (Some b) = 3 * b.life.chunk + 11 < table.words
+IsInRange table (Some bump) = HasChunk table bump.life.chunk
 
 -- ---- classes
 
 abbrev pub class_in : View → ClassView
-class_in v = record { part = head_or no_class v.classes; lane = first v.lanes }
+class_in view = record { part = head_or no_class view.classes; lane = first view.lanes }
 
 abbrev pub class_me : ClassView → Me Empty View
-class_me v = (record blank { classes = v.part ∷ []; lanes = listed v.lane }, [])
+class_me seat = (record blank { classes = seat.part ∷ []; lanes = listed seat.lane }, [])
 
 -- What each class's part keeps.
-pub record IsClassPart (words : ℕ) (k : ClassPart) : Type 0 where
+pub record IsClassPart (words : ℕ) (class : ClassPart) : Type 0 where
   -- its chunks are among the table's
-  pub within : 3 * (k.first + k.count) + 9 ≤ words
+  pub within : 3 * (class.first + class.count) + 9 ≤ words
   -- its history speaks of its own chunks alone, and its moves for bumps are from COLD to WARM
-  pub between : AreBetween k.first (k.first + k.count) k.history
-  pub causes : how_many is_stray k.history ≡ 0
+  pub between : AreBetween class.first (class.first + class.count) class.history
+  pub causes : how_many is_stray class.history ≡ 0
   -- a chunk that is not free has its life's label, which was stored before the life began
-  pub labelled : (c : ℕ) → owns c k ≡ true → IsUsed (standing k c).0 → label_of_life (life c (standing k c).1) 0 k.labels ≡ Some (label_of k c)
+  pub labelled : (c : ℕ) → owns c class ≡ true → IsUsed (standing class c).0
+      → label_of_life (life c (standing class c).1) 0 class.labels ≡ Some (last_label class c)
   -- and no life to come has begun
-  pub unbegun : (c g : ℕ) → (standing k c).1 < g → label_of_life (life c g) 0 k.labels ≡ None
+  pub unbegun : (c g : ℕ) → (standing class c).1 < g → label_of_life (life c g) 0 class.labels ≡ None

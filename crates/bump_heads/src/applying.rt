@@ -1,5 +1,5 @@
-//! The steps under a class's lock that change no list but by a move: those of a link or a pull, and those of an application, for which a
-//! lane's seat joins the class's, which makes the steps, and is split off again.
+//! The steps under a class's lock that change no list but by a move: those of a link or a pull, and those of an
+//! application, for which a lane's seat joins the class's, which makes the steps, and is split off again.
 ghost use Rattle.std.specs.Prelude.{◌≡◌, None, Some, IsSome, IfSome, option_map, true};
 ghost use Rattle.bump_rules.specs.declared.bumps.Bump.{Bump as TheBump};
 ghost use Rattle.bump_rules.specs.declared.bumps.Outcome.{Outcome as TheOutcome};
@@ -8,10 +8,10 @@ ghost use Rattle.bump_rules.specs.History.{place_of};
 ghost use Rattle.bump_rules.specs.Lawful.{Shows};
 ghost use Rattle.bump_word.specs.Words.{word_of, Fits};
 ghost use Rattle.bump_steps.specs.declared.views.LanePart.{LanePart as TheLanePart};
-ghost use Rattle.bump_steps.specs.Views.{aboard_of, owns, standing};
-ghost use Rattle.bump_steps.specs.Applications.{alighted_lane, tried_lane};
-ghost use Rattle.bump_heads.specs.Seats.{bump_aboard};
-ghost use Rattle.bump_heads.specs.Applying.{carried_by, cleared_joined, life_aboard, moved_joined, MayClear, MayPutTime, MayShift, IsShown, Ends, cleared_class, timed_class, shifted_class, Seen, NamesNoBumpTwice, TellsMoves};
+ghost use Rattle.bump_steps.specs.Views.{bump_aboard, owns, standing};
+ghost use Rattle.bump_steps.specs.Applications.{lane_after_alight, lane_after_try};
+ghost use Rattle.bump_heads.specs.Seats.{aboard_lane};
+ghost use Rattle.bump_heads.specs.Applying.{carried_by, joined_after_clear_active, life_aboard, joined_after_move, MayClearActive, MayPutTime, MayChangeSegment, IsShown, EndsAs, seat_after_clear_active, seat_after_put_time, seat_after_move, FoundOfBump, NamesNoBumpTwice, TellsMoves};
 
 use crate::joined::Joined;
 use crate::seats::{ClassSeat, LaneSeat};
@@ -21,7 +21,7 @@ use bump_steps::head_of;
 
 // ACTIVE of the item of the lane's bump was cleared: whether it was found.
 fn with_clearing(joined: Option<Joined>, active: bool) -> Option<Joined>
-    ensures { result ≡ option_map (cleared_joined active) joined }
+    ensures { result ≡ option_map (joined_after_clear_active active) joined }
 {
     let joined = joined?;
     let stage = match joined.stage {
@@ -33,7 +33,7 @@ fn with_clearing(joined: Option<Joined>, active: bool) -> Option<Joined>
 
 // The item of the lane's bump was moved.
 fn with_move(joined: Option<Joined>) -> Option<Joined>
-    ensures { result ≡ option_map moved_joined joined }
+    ensures { result ≡ option_map joined_after_move joined }
 {
     let joined = joined?;
     let stage = match joined.stage {
@@ -44,19 +44,20 @@ fn with_move(joined: Option<Joined>) -> Option<Joined>
 }
 
 impl<N: Name> ClassSeat<N> {
-    /// Joins the lane's seat, and looks at the head of the item of the bump that it carries, whose chunk is the class's: the first step
-    /// of memcached's `lru_bump_async` drain for a bump. No other lane may be joined. The lane is hollow from then on, until `alight`.
-    /// Answers the head that was found.
+    /// Joins the lane's seat, and looks at the head of the item of the bump that it carries, whose chunk is the
+    /// class's: the first step of memcached's `lru_bump_async` drain for a bump. No other lane may be joined. The
+    /// lane is hollow from then on, until `alight`. Answers the head that was found.
     pub fn try_front(&mut self, lane: &mut LaneSeat<N>) -> Head
         requires alone { self.old.lane ≡ None }
         requires carries { IsSome (carried_by lane.old) }
         requires own { owns (life_aboard lane.old).chunk self.old.part ≡ true }
         ensures hollow { lane.new ≡ None }
-        ensures tried { self.new ≡ record self.old { lane = option_map (tried_lane (life_aboard lane.old).chunk (word_of result)) lane.old } }
-        ensures found { Seen self.old.part (life_aboard lane.old) result }
+        ensures tried { self.new ≡ record self.old { lane = option_map (lane_after_try (life_aboard lane.old).chunk (word_of result)) lane.old } }
+        ensures found { FoundOfBump self.old.part (life_aboard lane.old) result }
         ensures fits { Fits result }
 
-        // No bump is named twice by the history of the class, and each move for a bump of this lane is told by the lane.
+        // No bump is named twice by the history of the class, and each move for a bump of this lane is told by the
+        // lane.
         ensures once { NamesNoBumpTwice self.new.part }
         ensures moves { IfSome self.new.lane (TellsMoves self.new.part) }
     {
@@ -80,46 +81,48 @@ impl<N: Name> ClassSeat<N> {
         found
     }
 
-    /// Clears ACTIVE of the chunk, which is the class's, by one and (memcached's `ITEM_ACTIVE` in `lru_pull_tail`). Without a lane it is
-    /// a pull's step, and the chunk stands in HOT, WARM or COLD; with a lane joined it is made for its bump, which is of this chunk, in
-    /// COLD, and at whose head the lane looked. Answers the head that was found.
+    /// Clears ACTIVE of the chunk, which is the class's, by one and (memcached's `ITEM_ACTIVE` in `lru_pull_tail`).
+    /// Without a lane it is a pull's step, and the chunk stands in HOT, WARM or COLD; with a lane joined it is made
+    /// for its bump, which is of this chunk, in COLD, and at whose head the lane looked. Answers the head that was
+    /// found.
     pub fn clear_active(&mut self, chunk: u32) -> Head
         requires own { owns chunk self.old.part ≡ true }
-        requires may { MayClear chunk (standing self.old.part chunk).0 self.old.lane }
-        ensures cleared { self.new ≡ cleared_class chunk result self.old }
+        requires may { MayClearActive chunk (standing self.old.part chunk).0 self.old.lane }
+        ensures cleared { self.new ≡ seat_after_clear_active chunk result self.old }
         ensures shows { Shows result (standing self.old.part chunk).0 }
         ensures generation { result.generation ≡ (standing self.old.part chunk).1 }
-        ensures life { IfSome (bump_aboard self.old.lane) (λ b. b.life.generation ≡ result.generation) }
+        ensures life { IfSome (aboard_lane self.old.lane) (λ b. b.life.generation ≡ result.generation) }
         ensures fits { Fits result }
     {
-        let word = self.heads.words().clear_for(&mut self.seat, chunk);
+        let word = self.heads.words().clear_active(&mut self.seat, chunk);
         let found = head_of(word);
         self.joined = with_clearing(self.joined, found.active);
         found
     }
 
-    /// Stores the time of the chunk, which is the class's (memcached's `it->time` under the lock). Without a lane it is a link's
-    /// step, and the chunk stands in UNUSED; with a lane joined it is made for its bump, which is of this chunk, at whose head the lane
-    /// looked, and whose item is linked.
+    /// Stores the time of the chunk, which is the class's (memcached's `it->time` under the lock). Without a lane it
+    /// is a link's step, and the chunk stands in UNUSED; with a lane joined it is made for its bump, which is of this
+    /// chunk, at whose head the lane looked, and whose item is linked.
     pub fn put_time(&mut self, chunk: u32, now: u64)
         requires own { owns chunk self.old.part ≡ true }
         requires may { MayPutTime chunk (standing self.old.part chunk).0 self.old.lane }
-        ensures timed { self.new ≡ timed_class chunk now self.old }
+        ensures timed { self.new ≡ seat_after_put_time chunk now self.old }
     {
-        self.heads.words().time_for(&mut self.seat, chunk, now);
+        self.heads.words().put_time(&mut self.seat, chunk, now);
     }
 
-    /// Moves the chunk, which is the class's, from the segment in whose list it stands to another one, or to the front of its own, by
-    /// one exclusive or (memcached's `it->slabs_clsid` with its LRU bits). Without a lane it is a pull's step; with a lane joined it is
-    /// made for its bump, which is of this chunk, from COLD to WARM, after ACTIVE was found and cleared. Answers the head that was found.
+    /// Moves the chunk, which is the class's, from the segment in whose list it stands to another one, or to the
+    /// front of its own, by one exclusive or (memcached's `it->slabs_clsid` with its LRU bits). Without a lane it is
+    /// a pull's step; with a lane joined it is made for its bump, which is of this chunk, from COLD to WARM, after
+    /// ACTIVE was found and cleared. Answers the head that was found.
     pub fn change_segment(&mut self, chunk: u32, from: Segment, to: Segment) -> Head
         requires own { owns chunk self.old.part ≡ true }
         requires stands { (standing self.old.part chunk).0 ≡ place_of from }
-        requires may { MayShift chunk from to self.old.lane }
-        ensures moved { self.new ≡ shifted_class chunk from to result self.old }
+        requires may { MayChangeSegment chunk from to self.old.lane }
+        ensures moved { self.new ≡ seat_after_move chunk from to result self.old }
         ensures shows { Shows result (place_of from) }
         ensures generation { result.generation ≡ (standing self.old.part chunk).1 }
-        ensures life { IfSome (bump_aboard self.old.lane) (λ b. b.life.generation ≡ result.generation) }
+        ensures life { IfSome (aboard_lane self.old.lane) (λ b. b.life.generation ≡ result.generation) }
         ensures fits { Fits result }
     {
         let word = self
@@ -130,8 +133,9 @@ impl<N: Name> ClassSeat<N> {
         head_of(word)
     }
 
-    /// Ends the bump aboard: gives back its reference, writes its entry, and gives the lane, which is hollow, its seat back. Answers the
-    /// outcome, and the head that was found. By the head that the lane's look found the outcome is
+    /// Ends the bump aboard: gives back its reference, writes its entry, and gives the lane, which is hollow, its
+    /// seat back. Answers the outcome, and the head that was found. By the head that the lane's look found the
+    /// outcome is
     /// 1. Gone, where the item wasn't linked;
     /// 2. TimeOnly, where it was linked, but not in COLD;
     /// 3. TimeOnly, where ACTIVE was cleared and hadn't been set;
@@ -140,17 +144,18 @@ impl<N: Name> ClassSeat<N> {
     /// It is called in these four cases alone.
     pub fn alight(&mut self, lane: &mut LaneSeat<N>) -> (Outcome, Head)
         requires hollow { lane.old ≡ None }
-        requires ends { (l : TheLanePart) × (b : TheBump) × (h : TheHead) × (o : TheOutcome) × Ends self.old l b h o }
-        ensures outcome { (l : TheLanePart) × (b : TheBump) × (h : TheHead) × Ends self.old l b h result.0 }
+        requires ends { (l : TheLanePart) × (b : TheBump) × (h : TheHead) × (o : TheOutcome) × EndsAs self.old l b h o }
+        ensures outcome { (l : TheLanePart) × (b : TheBump) × (h : TheHead) × EndsAs self.old l b h result.0 }
         ensures class { self.new ≡ record self.old { lane = None } }
-        ensures lane { lane.new ≡ option_map (alighted_lane result.0 (life_aboard self.old.lane).chunk (word_of result.1)) self.old.lane }
-        ensures found { Seen self.old.part (life_aboard self.old.lane) result.1 }
+        ensures lane { lane.new ≡ option_map (lane_after_alight result.0 (life_aboard self.old.lane).chunk (word_of result.1)) self.old.lane }
+        ensures found { FoundOfBump self.old.part (life_aboard self.old.lane) result.1 }
         ensures fits { Fits result.1 }
 
         // The entry that was written is true.
-        ensures entry { IfSome self.old.lane (λ l. IfSome (aboard_of l.stage) (λ b. IsShown self.new.part l b result.0)) }
+        ensures entry { IfSome self.old.lane (λ l. IfSome (bump_aboard l.stage) (λ b. IsShown self.new.part l b result.0)) }
 
-        // No bump is named twice by the history of the class, and each move for a bump of this lane is told by an entry of it.
+        // No bump is named twice by the history of the class, and each move for a bump of this lane is told by an
+        // entry of it.
         ensures once { NamesNoBumpTwice self.new.part }
         ensures moves { IfSome lane.new (TellsMoves self.new.part) }
     {

@@ -8,8 +8,8 @@ use bump_steps::Words;
 use std::marker::Model;
 use std::ops::Deref;
 
-/// The words of all chunks of a store: head, time and label. All threads share them, and seats alone change them. What readers do with
-/// them are the calls of `ReaderHeads`, to which it derefs.
+/// The words of all chunks of a store: head, time and label. All threads share them, and seats alone change them.
+/// What readers do with them are the calls of `ReaderHeads`, to which it derefs.
 #[derive(Drop)]
 pub struct Heads<N: Name> {
     pub(crate) readers: ReaderHeads<N>,

@@ -1,13 +1,13 @@
 //! Lives begin and end under their class's lock: labels, links, unlinks, and the chunks that nobody holds any more.
-ghost use Rattle.std.specs.Prelude.{◌≡◌, ◌+◌, ◌*◌, ◌<◌, ◌≤◌, None, Some, true, false};
+ghost use Rattle.std.specs.Prelude.{◌≡◌, ◌+◌, ◌<◌, ◌≤◌, None, Some, true, false};
 ghost use Rattle.bump_rules.specs.declared.places.Place.TheVariants.{Dying, Unused};
 ghost use Rattle.bump_rules.specs.Labels.{label_of_life};
 ghost use Rattle.bump_rules.specs.Lawful.{bit, Shows};
 ghost use Rattle.bump_rules.specs.Lives.{life};
-ghost use Rattle.bump_word.specs.Words.{Fits};
-ghost use Rattle.bump_steps.specs.Views.{owns, label_of};
-ghost use Rattle.bump_steps.specs.Lives.{labelled, IsInSegment};
-ghost use Rattle.bump_heads.specs.Linking.{place_of_chunk, generation_of_chunk, with_look, with_life, without_life, with_sight};
+ghost use Rattle.bump_word.specs.Words.{Fits, word_of};
+ghost use Rattle.bump_steps.specs.Views.{owns, last_label};
+ghost use Rattle.bump_steps.specs.Lives.{class_after_load, class_after_put_label, class_after_sweep_or_load, class_after_unlink, IsInSegment};
+ghost use Rattle.bump_heads.specs.Linking.{place_of_chunk, generation_of_chunk, class_after_open_life};
 
 use crate::seats::ClassSeat;
 use bump_readers::Name;
@@ -15,84 +15,91 @@ use bump_rules::{Head, ItemId};
 use bump_steps::head_of;
 
 impl<N: Name> ClassSeat<N> {
-    /// Looks at the head of a chunk of the class, by one load. It agrees with the list in which the class has the chunk: in HOT, WARM
-    /// and COLD it is linked and has this segment, elsewhere it is not linked; and it has the chunk's generation.
+    /// Looks at the head of a chunk of the class, by one load. It agrees with the list in which the class has the
+    /// chunk: in HOT, WARM and COLD it is linked and has this segment, elsewhere it is not linked; and it has the
+    /// chunk's generation.
     pub fn look(&mut self, chunk: u32) -> Head
         requires own { owns chunk self.old.part ≡ true }
-        ensures looked { self.new ≡ record self.old { part = with_look chunk result self.old.part } }
+        ensures looked { self.new ≡ record self.old { part = class_after_load chunk (word_of result) self.old.part } }
         ensures fits { Fits result }
         ensures agrees { Shows result (place_of_chunk self.old.part chunk) }
         ensures generation { result.generation ≡ generation_of_chunk self.old.part chunk }
         ensures marks { bit result.active ≤ bit result.fetched }
     {
-        head_of(self.heads.words().class_look(&mut self.seat, chunk))
+        head_of(self.heads.words().look(&mut self.seat, chunk))
     }
 
-    /// The time of a chunk of the class, by one load. Nothing is promised of it, and the load is no step of the class's list.
+    /// The time of a chunk of the class, by one load. Nothing is promised of it, and the load is no step of the
+    /// class's list.
     pub fn see_time(&self, chunk: u32) -> u64
         requires own { owns chunk self.now.part ≡ true }
     {
         self.heads.words().see_time(chunk)
     }
 
-    /// Stores the label of a chunk, by one store: a number that says what the chunk's next life is, and that each reader who holds
-    /// this life reads. The chunk must be in UNUSED, where nobody holds it. In memcached it is what `do_item_alloc` writes into the
-    /// item before `do_item_link`.
+    /// Stores the label of a chunk, by one store: a number that says what the chunk's next life is, and that each
+    /// reader who holds this life reads. The chunk must be in UNUSED, where nobody holds it. In memcached it is what
+    /// `do_item_alloc` writes into the item before `do_item_link`.
     pub fn put_label(&mut self, chunk: u32, label: u64)
         requires alone { self.old.lane ≡ None }
         requires own { owns chunk self.old.part ≡ true }
         requires unused { place_of_chunk self.old.part chunk ≡ Unused }
-        ensures labelled { self.new ≡ record self.old { part = labelled chunk label self.old.part } }
+        ensures labelled { self.new ≡ record self.old { part = class_after_put_label chunk label self.old.part } }
     {
         self.heads.words().put_label(&mut self.seat, chunk, label);
     }
 
-    /// Begins the next life of a chunk, in HOT, by one store of its head: linked, with the one reference of the link, and without
-    /// marks (memcached's `do_item_link`). The chunk must be in UNUSED, so it has a generation to come. Its label is the last one that
-    /// was stored for the chunk. Answers the life. A load before the store finds the generation; it is no step of the class's list.
+    /// Begins the next life of a chunk, in HOT, by one store of its head: linked, with the one reference of the link,
+    /// and without marks (memcached's `do_item_link`). The chunk must be in UNUSED, so it has a generation to come.
+    /// Its label is the last one that was stored for the chunk. Answers the life. A load before the store finds the
+    /// generation; it is no step of the class's list.
     pub fn open_life(&mut self, chunk: u32) -> ItemId
         requires alone { self.old.lane ≡ None }
         requires own { owns chunk self.old.part ≡ true }
         requires unused { place_of_chunk self.old.part chunk ≡ Unused }
         ensures next { result ≡ life chunk (generation_of_chunk self.old.part chunk + 1) }
-        ensures begun { self.new ≡ record self.old { part = with_life result self.old.part } }
-        ensures label { label_of_life result 0 self.new.part.labels ≡ Some (label_of self.old.part chunk) }
+        ensures opened { self.new ≡ record self.old { part = class_after_open_life result self.old.part } }
+        ensures label { label_of_life result 0 self.new.part.labels ≡ Some (last_label self.old.part chunk) }
     {
         let found = head_of(self.heads.words().peek(&mut self.seat, chunk));
         let generation = found.generation + 1;
-        self.heads.words().begin(&mut self.seat, chunk, generation);
+        self.heads
+            .words()
+            .open_life(&mut self.seat, chunk, generation);
         ItemId { chunk, generation }
     }
 
-    /// Ends the life of a chunk of HOT, WARM or COLD, by one subtraction that clears LINKED and gives back the link's reference
-    /// (memcached's `do_item_unlink`, which clears `ITEM_LINKED` and calls `do_item_remove`). The chunk is DYING from then on. Answers
-    /// the head before: linked, with the segment of the chunk's list and its generation, and with the link's reference at least.
+    /// Ends the life of a chunk of HOT, WARM or COLD, by one subtraction that clears LINKED and gives back the link's
+    /// reference (memcached's `do_item_unlink`, which clears `ITEM_LINKED` and calls `do_item_remove`). The chunk is
+    /// DYING from then on. Answers the head before: linked, with the segment of the chunk's list and its generation,
+    /// and with the link's reference at least.
     pub fn end_life(&mut self, chunk: u32) -> Head
         requires alone { self.old.lane ≡ None }
         requires own { owns chunk self.old.part ≡ true }
         requires linked { IsInSegment (place_of_chunk self.old.part chunk) }
-        ensures ended { self.new ≡ record self.old { part = without_life chunk result self.old.part } }
+        ensures ended { self.new ≡ record self.old { part = class_after_unlink chunk (word_of result) self.old.part } }
         ensures fits { Fits result }
         ensures agrees { Shows result (place_of_chunk self.old.part chunk) }
         ensures generation { result.generation ≡ generation_of_chunk self.old.part chunk }
         ensures counted { 0 < result.refs }
         ensures marks { bit result.active ≤ bit result.fetched }
     {
-        head_of(self.heads.words().sever(&mut self.seat, chunk))
+        head_of(self.heads.words().end_life(&mut self.seat, chunk))
     }
 
-    /// Looks whether a DYING chunk is still held, by one load. Where the head has no reference the chunk is free: it goes to UNUSED, or
-    /// to RETIRED after its last generation, 4,294,967,295. Else it stays DYING. Answers the head, which is not linked and has the
-    /// chunk's generation. In memcached whoever gives back the last reference frees the item (`do_item_remove`); here its class does.
+    /// Looks whether a DYING chunk is still held, by one load. Where the head has no reference the chunk is free: it
+    /// goes to UNUSED, or to RETIRED after its last generation, 4,294,967,295. Else it stays DYING. Answers the head,
+    /// which is not linked and has the chunk's generation. In memcached whoever gives back the last reference frees
+    /// the item (`do_item_remove`); here its class does.
     pub fn seen_unheld(&mut self, chunk: u32) -> Head
         requires alone { self.old.lane ≡ None }
         requires own { owns chunk self.old.part ≡ true }
         requires dying { place_of_chunk self.old.part chunk ≡ Dying }
-        ensures seen { self.new ≡ record self.old { part = with_sight chunk result self.old.part } }
+        ensures seen { self.new ≡ record self.old { part = class_after_sweep_or_load chunk result.refs (word_of result) self.old.part } }
         ensures fits { Fits result }
         ensures unlinked { result.linked ≡ false }
         ensures generation { result.generation ≡ generation_of_chunk self.old.part chunk }
     {
-        head_of(self.heads.words().sweep(&mut self.seat, chunk))
+        head_of(self.heads.words().seen_unheld(&mut self.seat, chunk))
     }
 }

@@ -1,5 +1,5 @@
 //! A table whose chunks had no life yet, and the seats of its classes, workers and lanes.
-ghost use Rattle.std.specs.Prelude.{◌≡◌, ◌≤◌, ◌<◌, ◌-◌, ◌*◌, ◌+◌, [], ◌∷◌, IfOk, None, Some, length, map};
+ghost use Rattle.std.specs.Prelude.{◌≡◌, ◌<◌, ◌-◌, [], IfOk, None, Some, length, map};
 ghost use Rattle.std.specs.Arc.{arc_value};
 ghost use Rattle.bump_steps.specs.Rule.{opened, class_parts, worker_parts, lane_parts, blank};
 ghost use Rattle.bump_steps.specs.Words.{words_id, config_of};

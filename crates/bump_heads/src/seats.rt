@@ -1,10 +1,10 @@
 //! The seats of classes and lanes of a named store. Contracts see plain data.
-ghost use Rattle.std.specs.Prelude.{◌≡◌, ◌*◌, ◌<◌, ◌+◌, [], ◌∷◌, None, Option as TheOption, is_some, false};
+ghost use Rattle.std.specs.Prelude.{◌≡◌, Option as TheOption, is_some, false};
 ghost use Rattle.bump_heads.specs.declared.views.ClassView.{ClassView as TheClassView};
 ghost use Rattle.bump_steps.specs.declared.views.LanePart.{LanePart as TheLanePart};
 ghost use Rattle.bump_rules.specs.Lanes.{is_half_made};
 ghost use Rattle.bump_heads.specs.Applying.{carried_by, stage_of, IsJoined};
-ghost use Rattle.bump_heads.specs.Seats.{IsLane, lane_in, class_in, class_me, bump_aboard, IsInRange, IsClassPart};
+ghost use Rattle.bump_heads.specs.Seats.{IsLane, lane_in, class_in, class_me, aboard_lane, IsInRange, IsClassPart};
 
 use crate::heads::Heads;
 use crate::joined::Joined;
@@ -15,8 +15,8 @@ use std::alloc::Global;
 use std::marker::{Model, PhantomData};
 use std::sync::Arc;
 
-/// A class's seat: its part, and that of the lane that is joined to it for an application. It knows how far that lane is, so that
-/// `alight` can tell what came out.
+/// A class's seat: its part, and that of the lane that is joined to it for an application. It knows how far that lane
+/// is, so that `alight` can tell what came out.
 #[derive(Drop)]
 pub struct ClassSeat<N: Name> {
     pub(crate) seat: Seat,
@@ -31,7 +31,7 @@ impl<N: Name> Model for ClassSeat<N> {
 
     ghost view = { λ s. class_in s.seat.me.0 };
 
-    ghost invariant = { λ s. (s.seat.me ≡ class_me (class_in s.seat.me.0)) × (s.seat.table_id ≡ N.table) × IsInRange N.table (bump_aboard (class_in s.seat.me.0).lane) × (s.class ≡ (class_in s.seat.me.0).part.class) × IsClassPart N.table.words (class_in s.seat.me.0).part × IsJoined (class_in s.seat.me.0).part (class_in s.seat.me.0).lane s.joined };
+    ghost invariant = { λ s. (s.seat.me ≡ class_me (class_in s.seat.me.0)) × (s.seat.table_id ≡ N.table) × IsInRange N.table (aboard_lane (class_in s.seat.me.0).lane) × (s.class ≡ (class_in s.seat.me.0).part.class) × IsClassPart N.table.words (class_in s.seat.me.0).part × IsJoined (class_in s.seat.me.0).part (class_in s.seat.me.0).lane s.joined };
 }
 
 impl<N: Name> ClassSeat<N> {
@@ -43,8 +43,8 @@ impl<N: Name> ClassSeat<N> {
     }
 }
 
-/// A lane's seat: its part, or None while it is hollow, joined to a class's seat. While it is whole no application is in progress: a
-/// bump aboard is one at which nobody looked yet.
+/// A lane's seat: its part, or None while it is hollow, joined to a class's seat. While it is whole no application is
+/// in progress: a bump aboard is one at which nobody looked yet.
 #[derive(Drop)]
 pub struct LaneSeat<N: Name> {
     pub(crate) seat: Option<Seat>,
@@ -58,7 +58,7 @@ impl<N: Name> Model for LaneSeat<N> {
 
     ghost view = { λ l. lane_in l.seat };
 
-    ghost invariant = { λ l. IsLane N.table l.seat × (l.aboard ≡ bump_aboard (lane_in l.seat)) × IsInRange N.table l.aboard };
+    ghost invariant = { λ l. IsLane N.table l.seat × (l.aboard ≡ aboard_lane (lane_in l.seat)) × IsInRange N.table l.aboard };
 }
 
 impl<N: Name> LaneSeat<N> {
@@ -72,7 +72,7 @@ impl<N: Name> LaneSeat<N> {
 
     /// The bump aboard, if the lane is whole and one is.
     pub fn aboard(&self) -> Option<Bump>
-        ensures aboard { result ≡ bump_aboard self.now }
+        ensures aboard { result ≡ aboard_lane self.now }
         ensures carried { result ≡ carried_by self.now }
     {
         self.aboard

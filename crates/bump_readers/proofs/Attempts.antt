@@ -1,8 +1,11 @@
--- What a worker's part keeps of its accounts over each change: attempted bumps are its steps that found ACTIVE clear in COLD. And the
+-- What a worker's part keeps of its accounts over each change: attempted bumps are its steps that found ACTIVE clear
+-- in COLD. And the
 -- whole invariant of its seat, by the view that the seat is made of.
 use Rattle.std.proofs.Common.{◌≡◌, ℕ, ◌+◌, ◌*◌, ◌<◌, ◌&&◌, ◌==◌, cond, not, Bool, true, false, List, [], ◌∷◌, ◌++◌, Option, Some, None, refl, sym, ap, ap₂, ◌∙◌, subst, arith, if◌then◌else◌}
 use Rattle.atomic_table.specs.Table.{Me}
 use Rattle.atomic_table.specs.Seated.{TableId}
+use Rattle.bump_rules.specs.declared.commands.Dropped.{Dropped}
+use Rattle.bump_rules.specs.declared.commands.Dropped.TheVariants as dropped
 use Rattle.bump_rules.specs.declared.hands.Hand.{Hand}
 use Rattle.bump_rules.specs.declared.hands.Hand.TheVariants as hand
 use Rattle.bump_rules.specs.declared.items.Head.{Head}
@@ -16,8 +19,6 @@ use Rattle.bump_rules.proofs.Counted.{how_many_push}
 use Rattle.bump_rules.proofs.Updates.{total_append}
 use Rattle.bump_word.specs.Words.{Fits, number_of, word_of}
 use Rattle.bump_word.proofs.Words.{fields}
-use Rattle.bump_steps.specs.declared.refusals.RideRefusal.{RideRefusal}
-use Rattle.bump_steps.specs.declared.refusals.RideRefusal.TheVariants as refused
 use Rattle.bump_steps.specs.declared.refusals.TakeRefusal.{TakeRefusal}
 use Rattle.bump_steps.specs.declared.views.Empty.{Empty}
 use Rattle.bump_steps.specs.declared.views.HoldPart.{HoldPart}
@@ -27,18 +28,17 @@ use Rattle.bump_steps.specs.declared.views.Ride.{Ride}
 use Rattle.bump_steps.specs.declared.views.View.{View}
 use Rattle.bump_steps.specs.declared.views.WorkerPart.{WorkerPart}
 use Rattle.bump_steps.specs.Cuts.{joined, without_holds}
-use Rattle.bump_steps.specs.Marks.{attempting, done, fetched_part, marked_part, noted, on_worker, timed_part, trying, unmarked_part}
+use Rattle.bump_steps.specs.Marks.{attempting, done, worker_after_fetch, worker_after_mark, noted, on_worker, worker_after_store_time, trying, worker_after_unmark}
 use Rattle.bump_steps.specs.Plays.{step_of}
-use Rattle.bump_steps.specs.RideTries.{RodeView, view_after, why_refused}
 use Rattle.bump_steps.specs.Riders.{ride_me}
-use Rattle.bump_steps.specs.Rides.{dropped_full, found_by, return_both, returned, sent, without_ride}
+use Rattle.bump_steps.specs.Rides.{judged, return_both, returned, sent, without_ride, worker_after_release}
 use Rattle.bump_steps.specs.Rule.{blank}
-use Rattle.bump_steps.specs.Tries.{TookView, held_by, last_found, loads, refusal_of, steps_of, takes, took_view, with_more}
+use Rattle.bump_steps.specs.Tries.{drop_of, held_by, last_found, loads, refusal_of, reserved_or_dropped, steps_of, takes, view_after_attempt, with_more, worker_after_attempt}
 use Rattle.bump_readers.specs.declared.views.WorkerView.{WorkerView}
 use Rattle.bump_readers.specs.Attempts.{is_attempt, attempts_in}
-use Rattle.bump_readers.specs.Riding.{part_after}
+use Rattle.bump_readers.specs.Riding.{sent_unless}
 use Rattle.bump_readers.specs.Seats.{IsHoldOf, IsLifeInRange, IsWorkerPart, held_life, hold_me, listed, worker_in, worker_me}
-use Rattle.bump_readers.proofs.Touches.{worker_seen}
+use Rattle.bump_readers.proofs.Touches.{worker_read_back}
 
 -- ---- steps
 
@@ -47,7 +47,8 @@ attempts_append : (xs ys : List OwnStep) → attempts_in (xs ++ ys) ≡ attempts
 attempts_append xs ys = total_append (λ x. cond (is_attempt x) 1 0) xs ys
 
 -- one more step
-attempts_push : (xs : List OwnStep) (x : OwnStep) → attempts_in (xs ++ x ∷ []) ≡ attempts_in xs + cond (is_attempt x) 1 0
+attempts_push : (xs : List OwnStep) (x : OwnStep) → attempts_in (xs ++ x ∷ []) ≡ attempts_in xs + cond (is_attempt x)
+    1 0
 attempts_push xs x = how_many_push is_attempt xs x
 
 -- loads attempt nothing
@@ -72,7 +73,8 @@ cold_as segment.Warm = refl
 cold_as segment.Cold = refl
 
 -- a step that set ACTIVE is an attempt by the head that it found
-mark_attempts : (c : ℕ) (h : Head) → Fits h → is_attempt (step_of kind.Mark c (word_of h) None) ≡ (not h.active && is_cold h.segment)
+mark_attempts : (c : ℕ) (h : Head) → Fits h → is_attempt (step_of kind.Mark c (word_of h) None)
+    ≡ (not h.active && is_cold h.segment)
 mark_attempts c h fits = let f = fields (word_of h) h (refl, fits) in
     ap₂ (λ (p q : Bool). p && q) (ap (λ (k : ℕ). k == 0) f.active ∙ clear_as h.active)
     (ap (λ (k : ℕ). k == number_of segment.Cold) f.segment ∙ cold_as h.segment)
@@ -80,69 +82,134 @@ mark_attempts c h fits = let f = fields (word_of h) h (refl, fits) in
 -- ---- parts
 
 -- steps that attempt nothing leave the accounts
-pub more_kept : (p : WorkerPart) (xs : List OwnStep) → attempts_in xs ≡ 0 → IsWorkerPart p → IsWorkerPart (with_more xs p)
-more_kept p xs none is = record { accounts = is.accounts; attempts = omega (arith, is.attempts, none, attempts_append p.steps xs) }
+pub more_kept : (p : WorkerPart) (xs : List OwnStep) → attempts_in xs ≡ 0 → IsWorkerPart p
+    → IsWorkerPart (with_more xs p)
+more_kept p xs none is =
+    record { accounts = is.accounts; attempts = omega (arith, is.attempts, none, attempts_append p.steps xs) }
 
 -- the steps by which a reference is taken for a hold, or isn't
 pub take_kept : (limit : ℕ) (l : ItemId) (first : Head) (more : List Head) (p : WorkerPart) → IsWorkerPart p
     → IsWorkerPart (with_more (steps_of limit l first more) p)
 take_kept limit l first more p is = more_kept p (steps_of limit l first more) (omega (
   arith,
-  attempts_append (loads l.chunk (first ∷ more)) (takes l.chunk (refusal_of limit l.generation first more) (last_found first more)),
+  attempts_append (loads l.chunk (first ∷ more))
+      (takes l.chunk (refusal_of limit l first more) (last_found first more)),
   no_load l.chunk (first ∷ more),
-  no_take l.chunk (refusal_of limit l.generation first more) (last_found first more),
+  no_take l.chunk (refusal_of limit l first more) (last_found first more),
 )) is
 
 -- FETCHED was set
-pub fetch_kept : (l : ItemId) (h : Head) (p : WorkerPart) → IsWorkerPart p → IsWorkerPart (fetched_part l h p)
+pub fetch_kept : (l : ItemId) (h : Head) (p : WorkerPart) → IsWorkerPart p → IsWorkerPart (worker_after_fetch l h p)
 fetch_kept l h p is = record {
   accounts = is.accounts;
   attempts = omega (arith, is.attempts, attempts_push p.steps (step_of kind.Fetch l.chunk (word_of h) None));
 }
 
 -- the time was stored
-pub time_kept : (l : ItemId) (now : ℕ) (p : WorkerPart) → IsWorkerPart p → IsWorkerPart (timed_part l now p)
+pub time_kept : (l : ItemId) (now : ℕ) (p : WorkerPart) → IsWorkerPart p
+    → IsWorkerPart (worker_after_store_time l now p)
 time_kept l now p is = record {
   accounts = is.accounts;
   attempts = omega (arith, is.attempts, attempts_push p.steps (step_of kind.StoreTime l.chunk now None));
 }
 
 -- ACTIVE was cleared after a drop
-pub unmark_kept : (l : ItemId) (h : Head) (p : WorkerPart) → p.hand ≡ hand.Clearing l → IsWorkerPart p → IsWorkerPart (unmarked_part l h p)
+pub unmark_kept : (l : ItemId) (h : Head) (p : WorkerPart) → p.hand ≡ hand.Clearing l → IsWorkerPart p
+    → IsWorkerPart (worker_after_unmark l h p)
 unmark_kept l h p clearing is = record {
   accounts = record {
     accepted = refl;
-    attempted = omega (arith, is.accounts.attempted, ap attempts_of clearing, ap (λ (s : Hand). attempts_of (done s)) clearing);
+    attempted = omega (
+      arith,
+      is.accounts.attempted,
+      ap attempts_of clearing,
+      ap (λ (s : Hand). attempts_of (done s))
+          clearing,
+    );
     most = is.accounts.most;
   };
   attempts = omega (arith, is.attempts, attempts_push p.steps (step_of kind.Unmark l.chunk (word_of h) None));
 }
 
 -- ACTIVE was set: one more attempt, exactly where the step is one
-pub mark_kept : (l : ItemId) (h : Head) (p : WorkerPart) → Fits h → p.hand ≡ hand.Idle → p.accounts.attempted < most_attempts
-    → IsWorkerPart p → IsWorkerPart (marked_part l h p)
+pub mark_kept : (l : ItemId) (h : Head) (p : WorkerPart) → Fits h → p.hand ≡ hand.Idle
+    → p.accounts.attempted < most_attempts
+    → IsWorkerPart p → IsWorkerPart (worker_after_mark l h p)
 mark_kept l h p fits idle few is = by (not h.active && is_cold h.segment) (mark_attempts l.chunk h fits)
   where
     by : (b : Bool) → is_attempt (step_of kind.Mark l.chunk (word_of h) None) ≡ b
-        → IsWorkerPart (if b then attempting l (noted kind.Mark l.chunk (word_of h) p) else noted kind.Mark l.chunk (word_of h) p)
+        → IsWorkerPart (if b then attempting l (noted kind.Mark l.chunk (word_of h) p) else noted kind.Mark l.chunk
+        (word_of h) p)
     by true attempt = record {
       accounts = record {
         accepted = refl;
-        attempted = omega (arith, is.accounts.attempted, ap attempts_of idle, ap (λ (s : Hand). attempts_of (trying l s)) idle);
+        attempted = omega (
+          arith,
+          is.accounts.attempted,
+          ap attempts_of idle,
+          ap (λ (s : Hand). attempts_of (trying l s)) idle,
+        );
         most = omega (arith, few);
       };
-      attempts = omega (arith, is.attempts, attempts_push p.steps (step_of kind.Mark l.chunk (word_of h) None), ap bit attempt);
+      attempts = omega (
+        arith,
+        is.attempts,
+        attempts_push p.steps (step_of kind.Mark l.chunk (word_of h) None),
+        ap bit attempt,
+      );
     }
     by false attempt = record {
       accounts = is.accounts;
-      attempts = omega (arith, is.attempts, attempts_push p.steps (step_of kind.Mark l.chunk (word_of h) None), ap bit attempt);
+      attempts = omega (
+        arith,
+        is.attempts,
+        attempts_push p.steps (step_of kind.Mark l.chunk (word_of h) None),
+        ap bit attempt,
+      );
     }
 
+-- a bump is dropped, by its attempt or for want of room
+drop_kept : (d : Dropped) (l : ItemId) (p : WorkerPart) → attempts_of p.hand ≡ 1 → IsWorkerPart p
+    → IsWorkerPart (judged (Some d) l p)
+drop_kept dropped.RefsFull l p trying is = record {
+  accounts = record {
+    accepted = refl;
+    attempted = omega (arith, is.accounts.attempted, trying);
+    most =
+        is.accounts.most;
+  };
+  attempts = is.attempts;
+}
+drop_kept dropped.Busy l p trying is = record {
+  accounts = record {
+    accepted = refl;
+    attempted = omega (arith, is.accounts.attempted, trying);
+    most =
+        is.accounts.most;
+  };
+  attempts = is.attempts;
+}
+drop_kept dropped.Full l p trying is = record {
+  accounts = record {
+    accepted = refl;
+    attempted = omega (arith, is.accounts.attempted, trying);
+    most =
+        is.accounts.most;
+  };
+  attempts = is.attempts;
+}
+
 -- the reference of a bump was taken and sent off, or the bump dropped
-pub ride_kept : (o : Option RideRefusal) (l : ItemId) (h : Head) (c : ℕ) (hs : List Head) (p : WorkerPart) → p.hand ≡ hand.Trying l
-    → IsWorkerPart p → IsWorkerPart (part_after o l h (with_more (loads c hs) p))
+pub ride_kept : (o : Option Dropped) (l : ItemId) (h : Head) (c : ℕ) (hs : List Head) (p : WorkerPart)
+    → p.hand ≡ hand.Trying l
+    → IsWorkerPart p → IsWorkerPart (sent_unless o (reserved_or_dropped o l h (with_more (loads c hs) p)))
 ride_kept None l h c hs p trying is = record {
-  accounts = record { accepted = refl; attempted = omega (arith, is.accounts.attempted, ap attempts_of trying); most = is.accounts.most };
+  accounts = record {
+    accepted = refl;
+    attempted = omega (arith, is.accounts.attempted, ap attempts_of trying);
+    most =
+        is.accounts.most;
+  };
   attempts = omega (
     arith,
     is.attempts,
@@ -151,30 +218,29 @@ ride_kept None l h c hs p trying is = record {
     attempts_push (p.steps ++ loads c hs) (step_of kind.Reserve l.chunk (word_of h) None),
   );
 }
-ride_kept (Some refused.RefsFull) l h c hs p trying is = record {
-  accounts = record { accepted = refl; attempted = omega (arith, is.accounts.attempted, ap attempts_of trying); most = is.accounts.most };
-  attempts = omega (arith, is.attempts, attempts_append p.steps (loads c hs), no_load c hs);
-}
-ride_kept (Some refused.Busy) l h c hs p trying is = record {
-  accounts = record { accepted = refl; attempted = omega (arith, is.accounts.attempted, ap attempts_of trying); most = is.accounts.most };
-  attempts = omega (arith, is.attempts, attempts_append p.steps (loads c hs), no_load c hs);
-}
+ride_kept (Some d) l h c hs p trying is = drop_kept d l (with_more (loads c hs) p) (ap attempts_of trying)
+    (more_kept p (loads c hs) (no_load c hs) is)
 
 -- a bump came back
 pub back_kept : (r : Ride) (p : WorkerPart) → p.hand ≡ hand.Idle → r.number + 1 ≡ p.accounts.accepted → IsWorkerPart p
     → IsWorkerPart (returned r p)
 back_kept r p idle last is = record {
-  accounts = record { accepted = refl; attempted = omega (arith, is.accounts.attempted, ap attempts_of idle, last); most = is.accounts.most };
+  accounts = record {
+    accepted = refl;
+    attempted = omega (arith, is.accounts.attempted, ap attempts_of idle, last);
+    most = is.accounts.most;
+  };
   attempts = is.attempts;
 }
 
 -- a bump was dropped for want of room
 pub full_kept : (l : ItemId) (h : Head) (p : WorkerPart) → p.hand ≡ hand.InHand l → IsWorkerPart p
-    → IsWorkerPart (dropped_full l (found_by kind.Release l h p))
-full_kept l h p in_hand is = record {
-  accounts = record { accepted = refl; attempted = omega (arith, is.accounts.attempted, ap attempts_of in_hand); most = is.accounts.most };
-  attempts = omega (arith, is.attempts, attempts_push p.steps (step_of kind.Release l.chunk (word_of h) None));
-}
+    → IsWorkerPart (worker_after_release l h p)
+full_kept l h p in_hand is = drop_kept dropped.Full l (noted kind.Release l.chunk (word_of h) p)
+    (ap attempts_of in_hand) (record {
+      accounts = is.accounts;
+      attempts = omega (arith, is.attempts, attempts_push p.steps (step_of kind.Release l.chunk (word_of h) None));
+    })
 
 -- ---- seats
 
@@ -184,16 +250,21 @@ IsWhole table number id m = (m ≡ worker_me (worker_in m.0)) × (id ≡ table) 
     × IsLifeInRange table (held_life (worker_in m.0).hold) × IsWorkerPart (worker_in m.0).part
 
 -- what a seat's invariant says of the view that it is made of
-pub whole_seat : (table : TableId) (number : ℕ) (id : TableId) (m : Me Empty View) (v : WorkerView) → m ≡ worker_me v → id ≡ table
-    → number ≡ v.part.worker → IsLifeInRange table (held_life v.hold) → IsWorkerPart v.part → IsWhole table number id m
+pub whole_seat : (table : TableId) (number : ℕ) (id : TableId) (m : Me Empty View) (v : WorkerView) → m ≡ worker_me v
+    → id ≡ table
+    → number ≡ v.part.worker → IsLifeInRange table (held_life v.hold) → IsWorkerPart v.part
+    → IsWhole table number id m
 whole_seat table number id m v is named own near part = subst (λ (x : WorkerView). (m ≡ worker_me x) × (id ≡ table)
-    × (number ≡ x.part.worker) × IsLifeInRange table (held_life x.hold) × IsWorkerPart x.part) (sym (worker_seen m v is))
+    × (number ≡ x.part.worker) × IsLifeInRange table (held_life x.hold) × IsWorkerPart x.part)
+    (sym (worker_read_back m v is))
     (is, named, own, near, part)
 
 -- a seat that is seen as w keeps what it does, where its view is x now
-pub changed_seat : (table : TableId) (number : ℕ) (id id₁ : TableId) (m m₁ : Me Empty View) (w x : WorkerView) → IsWhole table number id m
+pub changed_seat : (table : TableId) (number : ℕ) (id id₁ : TableId) (m m₁ : Me Empty View) (w x : WorkerView)
+    → IsWhole table number id m
     → worker_in m.0 ≡ w → id₁ ≡ id → m₁ ≡ worker_me x → x.part.worker ≡ w.part.worker
-    → (IsLifeInRange table (held_life w.hold) → IsLifeInRange table (held_life x.hold)) → (IsWorkerPart w.part → IsWorkerPart x.part)
+    → (IsLifeInRange table (held_life w.hold) → IsLifeInRange table (held_life x.hold))
+    → (IsWorkerPart w.part → IsWorkerPart x.part)
     → IsWhole table number id₁ m₁
 changed_seat table number id id₁ m m₁ w x whole same other is own near part =
     let seen : (number ≡ w.part.worker) × IsLifeInRange table (held_life w.hold) × IsWorkerPart w.part = subst
@@ -202,11 +273,12 @@ changed_seat table number id id₁ m m₁ w x whole same other is own near part 
     whole_seat table number id₁ m₁ x is (other ∙ whole.1) (seen.0 ∙ sym own) (near seen.1) (part seen.2)
 
 -- a step that set ACTIVE leaves the worker's number
-pub mark_worker : (l : ItemId) (h : Head) (p : WorkerPart) → (marked_part l h p).worker ≡ p.worker
+pub mark_worker : (l : ItemId) (h : Head) (p : WorkerPart) → (worker_after_mark l h p).worker ≡ p.worker
 mark_worker l h p = by (not h.active && is_cold h.segment)
   where
     by : (b : Bool)
-        → (if b then attempting l (noted kind.Mark l.chunk (word_of h) p) else noted kind.Mark l.chunk (word_of h) p).worker ≡ p.worker
+        → (if b then attempting l (noted kind.Mark l.chunk (word_of h) p) else noted kind.Mark l.chunk (word_of h)
+        p).worker ≡ p.worker
     by true = refl
     by false = refl
 
@@ -220,7 +292,8 @@ hold_near : (table : TableId) (l : ItemId) (o : Option HoldPart) → IsHoldOf l 
 hold_near table l None of near = tt
 hold_near table l (Some h) of near = omega (arith, near, ap (λ (x : ItemId). x.chunk) of)
 
-module _ (table : TableId) (number : ℕ) (id id₁ : TableId) (m m₁ : Me Empty View) (w : WorkerView) (whole : IsWhole table number id m)
+module _ (table : TableId) (number : ℕ) (id id₁ : TableId) (m m₁ : Me Empty View) (w : WorkerView)
+    (whole : IsWhole table number id m)
     (same : worker_in m.0 ≡ w) (other : id₁ ≡ id) where
   -- the seat before is that of the view
   before_is : m ≡ worker_me w
@@ -229,15 +302,19 @@ module _ (table : TableId) (number : ℕ) (id id₁ : TableId) (m m₁ : Me Empt
   -- the worker's part alone changes
   pub stepped_seat : (f : WorkerPart → WorkerPart) → m₁ ≡ (on_worker f m.0, m.1) → (f w.part).worker ≡ w.part.worker
       → (IsWorkerPart w.part → IsWorkerPart (f w.part)) → IsWhole table number id₁ m₁
-  stepped_seat f told own part = changed_seat table number id id₁ m m₁ w (record w { part = f w.part }) whole same other
+  stepped_seat f told own part = changed_seat table number id id₁ m m₁ w (record w { part = f w.part }) whole same
+      other
       (told ∙ ap (λ (x : Me Empty View). (on_worker f x.0, x.1)) before_is) own (λ near. near) part
 
   -- a hold is joined, or split off
-  pub joined_seat : (p : Me Empty View) (l : ItemId) (o : Option HoldPart) → w.hold ≡ None → p ≡ hold_me o → IsHoldOf l o
+  pub joined_seat : (p : Me Empty View) (l : ItemId) (o : Option HoldPart) → w.hold ≡ None → p ≡ hold_me o
+      → IsHoldOf l o
       → 3 * l.chunk + 11 < table.words → m₁ ≡ (joined m.0 p.0, m.1) → IsWhole table number id₁ m₁
-  joined_seat p l o alone hold of near told = changed_seat table number id id₁ m m₁ w (record w { hold = o }) whole same other
+  joined_seat p l o alone hold of near told = changed_seat table number id id₁ m m₁ w (record w { hold = o }) whole
+      same other
       (told ∙ ap₂ (λ (x y : Me Empty View). (joined x.0 y.0, x.1)) before_is hold
-      ∙ ap (λ (h : Option HoldPart). with_holds w.part (listed h ++ listed o)) alone) refl (λ was. hold_near table l o of near)
+      ∙ ap (λ (h : Option HoldPart). with_holds w.part (listed h ++ listed o)) alone) refl
+      (λ was. hold_near table l o of near)
       (λ part. part)
 
   pub parted_seat : m₁ ≡ (without_holds m.0, m.1) → IsWhole table number id₁ m₁
@@ -245,48 +322,57 @@ module _ (table : TableId) (number : ℕ) (id id₁ : TableId) (m m₁ : Me Empt
       (told ∙ ap (λ (x : Me Empty View). (without_holds x.0, x.1)) before_is) refl (λ was. tt) (λ part. part)
 
   -- no reference is taken for a hold, or one that is split off
-  pub refused_seat : (limit : ℕ) (l : ItemId) (answered : Option TakeRefusal) (r : TakeRefusal) (first : Head) (more : List Head)
-      → w.hold ≡ None → TookView limit l m m₁ answered first more → answered ≡ Some r → IsWhole table number id₁ m₁
-  refused_seat limit l answered r first more alone took is = changed_seat table number id id₁ m m₁ w
+  pub refused_seat : (limit : ℕ) (l : ItemId) (answered : Option TakeRefusal) (r : TakeRefusal) (first : Head)
+      (more : List Head)
+      → w.hold ≡ None → m₁ ≡ (view_after_attempt limit l first more m.0, m.1) → answered ≡ refusal_of limit l first
+      more
+      → answered ≡ Some r → IsWhole table number id₁ m₁
+  refused_seat limit l answered r first more alone view answer is = changed_seat table number id id₁ m m₁ w
       (record { part = with_more (steps_of limit l first more) w.part; hold = None }) whole same other
-      (took.steps ∙ ap (λ (x : Me Empty View). (took_view limit l first more x.0, x.1)) before_is
-      ∙ ap₂ (λ (h : Option HoldPart) (q : Option TakeRefusal). with_holds (with_more (steps_of limit l first more) w.part)
-      (held_by q l (listed h))) alone (sym took.answer ∙ is))
+      (view ∙ ap (λ (x : Me Empty View). (view_after_attempt limit l first more x.0, x.1)) before_is
+      ∙ ap₂ (λ (h : Option HoldPart) (q : Option TakeRefusal). with_holds
+      (with_more (steps_of limit l first more) w.part)
+      (held_by q l (listed h))) alone (sym answer ∙ is))
       refl (λ was. tt) (take_kept limit l first more w.part)
 
-  pub held_seat : (limit : ℕ) (l : ItemId) (answered : Option TakeRefusal) (first : Head) (more : List Head) (p : Me Empty View)
-      → TookView limit l m p answered first more → m₁ ≡ (without_holds p.0, p.1) → IsWhole table number id₁ m₁
-  held_seat limit l answered first more p took told = changed_seat table number id id₁ m m₁ w
+  pub held_seat : (limit : ℕ) (l : ItemId) (first : Head) (more : List Head) (p : Me Empty View)
+      → p ≡ (view_after_attempt limit l first more m.0, m.1) → m₁ ≡ (without_holds p.0, p.1)
+      → IsWhole table number id₁ m₁
+  held_seat limit l first more p view told = changed_seat table number id id₁ m m₁ w
       (record { part = with_more (steps_of limit l first more) w.part; hold = None }) whole same other
-      (told ∙ ap (λ (x : Me Empty View). (without_holds x.0, x.1)) (took.steps
-      ∙ ap (λ (x : Me Empty View). (took_view limit l first more x.0, x.1)) before_is)) refl (λ was. tt)
+      (told ∙ ap (λ (x : Me Empty View). (without_holds x.0, x.1)) (view
+      ∙ ap (λ (x : Me Empty View). (view_after_attempt limit l first more x.0, x.1)) before_is)) refl (λ was. tt)
       (take_kept limit l first more w.part)
 
   -- a bump is dropped, sent off, or comes back
-  pub dropped_seat : (limit : ℕ) (l : ItemId) (answered : Option RideRefusal) (r : RideRefusal) (first : Head) (more : List Head)
-      → w.part.hand ≡ hand.Trying l → RodeView limit l m m₁ answered first more → answered ≡ Some r → IsWhole table number id₁ m₁
-  dropped_seat limit l answered r first more trying rode is =
-      let refused : why_refused limit first more ≡ Some r = sym rode.answer ∙ is in
-      let after : Option RideRefusal → WorkerPart = λ o. view_after o l (last_found first more)
-      (with_more (loads l.chunk (first ∷ more)) w.part) in
-      stepped_seat (λ p. view_after (why_refused limit first more) l (last_found first more) (with_more (loads l.chunk (first ∷ more)) p))
-      rode.view (ap (λ (o : Option RideRefusal). (after o).worker) refused)
-      (λ part. subst (λ (o : Option RideRefusal). IsWorkerPart (after o)) (sym refused)
-      (ride_kept (Some r) l (last_found first more) l.chunk (first ∷ more) w.part trying part))
-
-  pub sent_seat : (limit : ℕ) (l : ItemId) (answered : Option RideRefusal) (first : Head) (more : List Head) (p : Me Empty View)
-      → w.part.hand ≡ hand.Trying l → RodeView limit l m p answered first more → answered ≡ None → m₁ ≡ (without_ride p.0, p.1)
+  pub dropped_seat : (limit : ℕ) (l : ItemId) (d : Dropped) (first : Head) (more : List Head)
+      → w.part.hand ≡ hand.Trying l
+      → m₁ ≡ (on_worker (worker_after_attempt limit l first more) m.0, m.1) → drop_of limit first more ≡ Some d
       → IsWhole table number id₁ m₁
-  sent_seat limit l answered first more p trying rode is told =
-      let after : Option RideRefusal → WorkerPart → WorkerPart = λ o q. view_after o l (last_found first more)
+  dropped_seat limit l d first more trying view is =
+      let after : Option Dropped → WorkerPart = λ o. reserved_or_dropped o l (last_found first more)
+      (with_more (loads l.chunk (first ∷ more)) w.part) in
+      stepped_seat (worker_after_attempt limit l first more) view (ap (λ (o : Option Dropped). (after o).worker) is)
+      (λ part. subst (λ (o : Option Dropped). IsWorkerPart (after o)) (sym is)
+      (ride_kept (Some d) l (last_found first more) l.chunk (first ∷ more) w.part trying part))
+
+  pub sent_seat : (limit : ℕ) (l : ItemId) (first : Head) (more : List Head) (p : Me Empty View)
+      → w.part.hand ≡ hand.Trying l
+      → p ≡ (on_worker (worker_after_attempt limit l first more) m.0, m.1) → drop_of limit first more ≡ None
+      → m₁ ≡ (without_ride p.0, p.1) → IsWhole table number id₁ m₁
+  sent_seat limit l first more p trying view is told =
+      let after : Option Dropped → WorkerPart → WorkerPart = λ o q. reserved_or_dropped o l (last_found first more)
       (with_more (loads l.chunk (first ∷ more)) q) in
       changed_seat table number id id₁ m m₁ w (record w { part = sent (after None w.part) }) whole same other
-      (told ∙ ap (λ (x : Me Empty View). (without_ride x.0, x.1)) (rode.view
-      ∙ ap (λ (x : Me Empty View). (on_worker (after (why_refused limit first more)) x.0, x.1)) before_is)
-      ∙ ap (λ (o : Option RideRefusal). worker_me (record w { part = sent (after o w.part) })) (sym rode.answer ∙ is))
+      (told ∙ ap (λ (x : Me Empty View). (without_ride x.0, x.1)) (view
+      ∙ ap (λ (x : Me Empty View). (on_worker (after (drop_of limit first more)) x.0, x.1)) before_is)
+      ∙ ap (λ (o : Option Dropped). worker_me (record w { part = sent (after o w.part) })) is)
       refl (λ near. near) (ride_kept None l (last_found first more) l.chunk (first ∷ more) w.part trying)
 
-  pub back_seat : (r : Ride) (p : Me Empty View) → w.part.hand ≡ hand.Idle → r.number + 1 ≡ w.part.accounts.accepted → p ≡ ride_me r
+  pub back_seat : (r : Ride) (p : Me Empty View) → w.part.hand ≡ hand.Idle → r.number + 1 ≡ w.part.accounts.accepted
+      → p ≡ ride_me r
       → m₁ ≡ (return_both m.0 p.0, m.1) → IsWhole table number id₁ m₁
-  back_seat r p idle last rider told = changed_seat table number id id₁ m m₁ w (record w { part = returned r w.part }) whole same other
-      (told ∙ ap₂ (λ (x y : Me Empty View). (return_both x.0 y.0, x.1)) before_is rider) refl (λ near. near) (back_kept r w.part idle last)
+  back_seat r p idle last rider told = changed_seat table number id id₁ m m₁ w (record w { part = returned r w.part })
+      whole same other
+      (told ∙ ap₂ (λ (x y : Me Empty View). (return_both x.0 y.0, x.1)) before_is rider) refl (λ near. near)
+      (back_kept r w.part idle last)

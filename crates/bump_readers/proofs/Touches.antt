@@ -21,7 +21,7 @@ use Rattle.bump_steps.specs.declared.views.View.{View}
 use Rattle.bump_steps.specs.Views.{held, is_life_of, is_fetch_of, weight}
 use Rattle.bump_steps.specs.Plays.{Told, step_of}
 use Rattle.bump_readers.specs.Seats.{worker_in, worker_me, held_life, first, listed}
-use Rattle.bump_steps.specs.Marks.{on_worker, noted, hits_after, fetched_part, trying, attempting, marked_part, done, unmarked_part, changed_by, MayMark}
+use Rattle.bump_steps.specs.Marks.{on_worker, noted, hits_after, worker_after_fetch, trying, attempting, worker_after_mark, done, worker_after_unmark, changed_by, MayMark}
 use Rattle.bump_readers.specs.Touching.{fetches_of}
 use Rattle.bump_steps.proofs.Marking.{is_its_fetch}
 use Rattle.bump_steps.proofs.StepLemmas.{one_life}
@@ -36,19 +36,23 @@ worker_back : (v : WorkerView) → worker_in (worker_me v).0 ≡ v
 worker_back v = ap (λ (o : Option HoldPart). record v { hold = o }) (first_listed v.hold)
 
 -- the view after is what the seat says
-pub worker_seen : (m : Me Empty View) (v : WorkerView) → m ≡ worker_me v → worker_in m.0 ≡ v
-worker_seen m v is = ap (λ (x : Me Empty View). worker_in x.0) is ∙ worker_back v
+pub worker_read_back : (m : Me Empty View) (v : WorkerView) → m ≡ worker_me v → worker_in m.0 ≡ v
+worker_read_back m v is = ap (λ (x : Me Empty View). worker_in x.0) is ∙ worker_back v
 
 -- a joined hold is a reference
-pub refers : (v : WorkerView) (l : ItemId) → held_life v.hold ≡ Some l → 0 < weight l.chunk (held l.generation) (worker_me v).0
+pub refers : (v : WorkerView) (l : ItemId) → held_life v.hold ≡ Some l → 0 < weight l.chunk (held l.generation)
+    (worker_me v).0
 refers v l holds = by v.hold holds
   where
-    by : (o : Option HoldPart) → held_life o ≡ Some l → 0 < weight l.chunk (held l.generation) (worker_me (record v { hold = o })).0
+    by : (o : Option HoldPart) → held_life o ≡ Some l → 0 < weight l.chunk (held l.generation)
+        (worker_me (record v { hold = o })).0
     by None e = absurd (cc e)
-    by (Some h) e = let one : one_if (life l.chunk l.generation) h.life ≡ 1 = ap (is_life_of l.chunk l.generation) e ∙ one_life l in omega (arith, one)
+    by (Some h) e = let one : one_if (life l.chunk l.generation) h.life ≡ 1 = ap (is_life_of l.chunk l.generation) e
+        ∙ one_life l in omega (arith, one)
 
 -- what the worker knows of the head found, and its view after a step
-pub record Touched (change : ItemId → Head → WorkerPart → WorkerPart) (v : WorkerView) (l : ItemId) (h : Head) (m : Me Empty View) : Type 0 where
+pub record Touched (change : ItemId → Head → WorkerPart → WorkerPart) (v : WorkerView) (l : ItemId) (h : Head)
+    (m : Me Empty View) : Type 0 where
   pub view : m ≡ worker_me (record v { part = change l h v.part })
   pub fits : Spells (word_of h) h
   pub generation : h.generation ≡ l.generation
@@ -57,62 +61,82 @@ pub record Touched (change : ItemId → Head → WorkerPart → WorkerPart) (v :
   pub saw : 0 < fetches_of l v.part → h.fetched ≡ true
 
 -- a step of a worker's seat with a hold
-pub touched : (operand : ℕ) (change : ItemId → Head → WorkerPart → WorkerPart) (m m₁ : Me Empty View) (v w : WorkerView) (l : ItemId) (x r : ℕ) (h : Head) → m ≡ worker_me v → v ≡ w → held_life w.hold ≡ Some l → changed_by operand change l.chunk x m r m₁ → Spells r h → Touched change w l h m₁
+pub touched : (operand : ℕ) (change : ItemId → Head → WorkerPart → WorkerPart) (m m₁ : Me Empty View)
+    (v w : WorkerView) (l : ItemId) (x r : ℕ) (h : Head) → m ≡ worker_me v → v ≡ w → held_life w.hold ≡ Some l
+    → changed_by operand change l.chunk x m r m₁ → Spells r h → Touched change w l h m₁
 touched operand change m m₁ v w l x r h is same holds told spells =
     let f = told.1 in
     let g : Head = f.0 in
     let e : g ≡ h = one_head r g h f.1 spells in
     let now : m ≡ worker_me w = is ∙ ap worker_me same in
-    let knows : Told l.chunk (worker_me w).0 h = subst (λ (y : Me Empty View × Head). Told l.chunk y.0.0 y.1) (λ i. (now i, e i)) f.2.1 in
+    let knows : Told l.chunk (worker_me w).0 h = subst (λ (y : Me Empty View × Head). Told l.chunk y.0.0 y.1)
+    (λ i. (now i, e i)) f.2.1 in
     let some = refers w l holds in
     let gen : h.generation ≡ l.generation = sym (knows.held l.generation some) in
-    let stepped : ◌≡◌ {A = Me Empty View} (on_worker (change (life l.chunk g.generation) g) m.0, m.1) (worker_me (record w { part = change (life l.chunk h.generation) h w.part })) = λ i. (on_worker (change (life l.chunk (e i).generation) (e i)) (now i).0, (now i).1) in record {
+    let stepped : ◌≡◌ {A = Me Empty View} (on_worker (change (life l.chunk g.generation) g) m.0, m.1)
+    (worker_me (record w { part = change (life l.chunk h.generation) h w.part })) =
+    λ i. (on_worker (change (life l.chunk (e i).generation) (e i)) (now i).0, (now i).1) in record {
       view = f.2.0 ∙ stepped ∙ ap (λ (k : ℕ). worker_me (record w { part = change (life l.chunk k) h w.part })) gen;
       fits = (refl, spells.1);
       generation = gen;
       count = omega (arith, some, knows.many l.generation);
       hit = subst (λ (k : ℕ). count_of (life l.chunk k) w.part.hits ≤ bit h.fetched) gen (omega (arith, knows.hit));
-      saw = λ many. knows.saw (subst (λ (k : ℕ). 0 < how_many (is_fetch_of l.chunk k) w.part.steps + 0) (sym gen) (omega (arith, many)));
+      saw = λ many. knows.saw (subst (λ (k : ℕ). 0 < how_many (is_fetch_of l.chunk k) w.part.steps + 0) (sym gen)
+          (omega (arith, many)));
     }
 
 -- a worker that has a hold, and fetched its life, may mark it
-pub may_mark : (m : Me Empty View) (v w : WorkerView) (l : ItemId) → m ≡ worker_me v → v ≡ w → held_life w.hold ≡ Some l → 0 < fetches_of l w.part → MayMark l.chunk m.0
-may_mark m v w l is same holds many = subst (λ (x : Me Empty View). MayMark l.chunk x.0) (sym (is ∙ ap worker_me same)) (l.generation, refers w l holds, omega (arith, many))
+pub may_mark : (m : Me Empty View) (v w : WorkerView) (l : ItemId) → m ≡ worker_me v → v ≡ w
+    → held_life w.hold ≡ Some l → 0 < fetches_of l w.part → MayMark l.chunk m.0
+may_mark m v w l is same holds many = subst (λ (x : Me Empty View). MayMark l.chunk x.0)
+    (sym (is ∙ ap worker_me same)) (l.generation, refers w l holds, omega (arith, many))
 
 -- a life is a first hit where FETCHED was clear, and named already where it was set
-pub first_hit : (l : ItemId) (h : Head) (hits : List ItemId) → count_of l hits ≤ bit h.fetched → h.fetched ≡ false → count_of l hits ≡ 0
+pub first_hit : (l : ItemId) (h : Head) (hits : List ItemId) → count_of l hits ≤ bit h.fetched → h.fetched ≡ false
+    → count_of l hits ≡ 0
 first_hit l h hits below clear = omega (arith, below, ap bit clear)
 
-pub named_hit : (l : ItemId) (h : Head) (hits : List ItemId) → count_of l hits ≤ bit h.fetched → 0 < count_of l hits → h.fetched ≡ true
+pub named_hit : (l : ItemId) (h : Head) (hits : List ItemId) → count_of l hits ≤ bit h.fetched → 0 < count_of l hits
+    → h.fetched ≡ true
 named_hit l h hits below many = bit_some h.fetched (omega (arith, below, many))
 
 -- a list that names a life at most where FETCHED is set names it at most once when the fetch is noted
-named_once : (l : ItemId) (f : Bool) (hits : List ItemId) → count_of l hits ≤ bit f → count_of l (hits_after f l hits) ≤ 1
+named_once : (l : ItemId) (f : Bool) (hits : List ItemId) → count_of l hits ≤ bit f → count_of l (hits_after f l hits)
+    ≤ 1
 named_once l true hits below = omega (arith, below)
 named_once l false hits below = omega (arith, below, count_push l l hits, one_life l)
 
 -- and is named once after the fetch
-pub once_after : (v : WorkerView) (l : ItemId) (h : Head) (m : Me Empty View) → Touched fetched_part v l h m → count_of l (worker_in m.0).part.hits ≤ 1
-once_after v l h m t = subst (λ (x : Me Empty View). count_of l (worker_in x.0).part.hits ≤ 1) (sym t.view) (named_once l h.fetched v.part.hits t.hit)
+pub once_after : (v : WorkerView) (l : ItemId) (h : Head) (m : Me Empty View) → Touched worker_after_fetch v l h m
+    → count_of l (worker_in m.0).part.hits ≤ 1
+once_after v l h m t = subst (λ (x : Me Empty View). count_of l (worker_in x.0).part.hits ≤ 1) (sym t.view)
+    (named_once l h.fetched v.part.hits t.hit)
 
 -- a fetch is one of the life's fetches
-has_fetch : (l : ItemId) (h : Head) (p : WorkerPart) → Spells (word_of h) h → h.generation ≡ l.generation → 0 < fetches_of l (fetched_part l h p)
+has_fetch : (l : ItemId) (h : Head) (p : WorkerPart) → Spells (word_of h) h → h.generation ≡ l.generation
+    → 0 < fetches_of l (worker_after_fetch l h p)
 has_fetch l h p fits gen = omega (
   arith,
-  total_push (λ x. cond (is_fetch_of l.chunk l.generation x) 1 0) p.steps (step_of kind.Fetch l.chunk (word_of h) None),
+  total_push (λ x. cond (is_fetch_of l.chunk l.generation x) 1 0) p.steps
+      (step_of kind.Fetch l.chunk (word_of h) None),
   is_its_fetch l.chunk (word_of h) l.generation ((fields (word_of h) h fits).generation ∙ gen) l.generation,
   one_life l,
 )
 
 -- a worker that made a fetch has it in its steps
-pub noted_after : (v : WorkerView) (l : ItemId) (h : Head) (m : Me Empty View) → Touched fetched_part v l h m → 0 < fetches_of l (worker_in m.0).part
-noted_after v l h m t = subst (λ (x : Me Empty View). 0 < fetches_of l (worker_in x.0).part) (sym t.view) (has_fetch l h v.part t.fits t.generation)
+pub noted_after : (v : WorkerView) (l : ItemId) (h : Head) (m : Me Empty View) → Touched worker_after_fetch v l h m
+    → 0 < fetches_of l (worker_in m.0).part
+noted_after v l h m t = subst (λ (x : Me Empty View). 0 < fetches_of l (worker_in x.0).part) (sym t.view)
+    (has_fetch l h v.part t.fits t.generation)
 
 -- a worker that was Idle tries where ACTIVE was clear in COLD
-pub tries_after : (v : WorkerView) (l : ItemId) (h : Head) (m : Me Empty View) → Touched marked_part v l h m → v.part.hand ≡ hand.Idle → (not h.active && is_cold h.segment) ≡ true → (worker_in m.0).part.hand ≡ hand.Trying l
+pub tries_after : (v : WorkerView) (l : ItemId) (h : Head) (m : Me Empty View) → Touched worker_after_mark v l h m
+    → v.part.hand ≡ hand.Idle → (not h.active && is_cold h.segment) ≡ true → (worker_in m.0).part.hand ≡ hand.Trying l
 tries_after v l h m t idle attempts = ap (λ (x : Me Empty View). (worker_in x.0).part.hand) t.view
-    ∙ ap (λ (b : Bool). (if b then attempting l (noted kind.Mark l.chunk (word_of h) v.part) else noted kind.Mark l.chunk (word_of h) v.part).hand) attempts ∙ ap (trying l) idle
+    ∙ ap (λ (b : Bool). (if b then attempting l (noted kind.Mark l.chunk (word_of h) v.part) else noted kind.Mark
+    l.chunk (word_of h) v.part).hand) attempts ∙ ap (trying l) idle
 
 -- one that was to clear ACTIVE is Idle
-pub idle_after : (v : WorkerView) (l : ItemId) (h : Head) (m : Me Empty View) → Touched unmarked_part v l h m → v.part.hand ≡ hand.Clearing l → (worker_in m.0).part.hand ≡ hand.Idle
+pub idle_after : (v : WorkerView) (l : ItemId) (h : Head) (m : Me Empty View) → Touched worker_after_unmark v l h m
+    → v.part.hand ≡ hand.Clearing l → (worker_in m.0).part.hand ≡ hand.Idle
 idle_after v l h m t clearing = ap (λ (x : Me Empty View). (worker_in x.0).part.hand) t.view ∙ ap done clearing

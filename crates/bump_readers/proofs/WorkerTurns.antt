@@ -12,23 +12,45 @@ use Rattle.bump_readers.specs.declared.views.WorkerView.{WorkerView}
 use Rattle.bump_readers.specs.Seats.{worker_me, worker_in, held_life, IsLifeInRange, IsWorkerPart}
 use Rattle.bump_readers.specs.Workers.{worker_seen, AreNewWorkers}
 
-abbrev pub WorkerTurn : TableId → Me Empty View → View → ℕ → ℕ → List WorkerView → List WorkerView → Me Empty View → Me Empty View → Type 0
-WorkerTurn table m v i count made all m' p = (p ≡ worker_me (worker_in p.0)) × (i ≡ (worker_in p.0).part.worker) × IsLifeInRange table (held_life (worker_in p.0).hold) × IsWorkerPart (worker_in p.0).part × (m' ≡ (record v { workers = m'.0.workers }, [])) × (i + 1 + length m'.0.workers ≡ count) × AreNewWorkers (i + 1) m'.0.workers × ((made ++ worker_in p.0 ∷ []) ++ map worker_seen m'.0.workers ≡ all)
+abbrev pub WorkerTurn : TableId → Me Empty View → View → ℕ → ℕ → List WorkerView → List WorkerView → Me Empty View
+    → Me Empty View → Type 0
+WorkerTurn table m v i count made all m' p = (p ≡ worker_me (worker_in p.0)) × (i ≡ (worker_in p.0).part.worker)
+    × IsLifeInRange table (held_life (worker_in p.0).hold) × IsWorkerPart (worker_in p.0).part
+    × (m' ≡ (record v { workers = m'.0.workers }, [])) × (i + 1 + length m'.0.workers ≡ count)
+    × AreNewWorkers (i + 1) m'.0.workers × ((made ++ worker_in p.0 ∷ []) ++ map worker_seen m'.0.workers ≡ all)
 
 -- a new worker has no account of bumps, and no attempt under way
 new_part : (n : ℕ) → IsWorkerPart (worker_part n)
 new_part n = record { accounts = record { accepted = refl; attempted = refl; most = omega arith }; attempts = refl }
 
 -- one turn of the loop over the workers
-pub worker_turn : (table : TableId) (m : Me Empty View) (v : View) (i count : ℕ) (made all : List WorkerView) (m' p : Me Empty View) → m ≡ (record v { workers = m.0.workers }, []) → i + length m.0.workers ≡ count → i < count → AreNewWorkers i m.0.workers → made ++ map worker_seen m.0.workers ≡ all → m' ≡ (without_worker m.0, m.1) → p ≡ (worker_only m.0, [])
+pub worker_turn : (table : TableId) (m : Me Empty View) (v : View) (i count : ℕ) (made all : List WorkerView)
+    (m' p : Me Empty View) → m ≡ (record v { workers = m.0.workers }, []) → i + length m.0.workers ≡ count → i < count
+    → AreNewWorkers i m.0.workers → made ++ map worker_seen m.0.workers ≡ all → m' ≡ (without_worker m.0, m.1)
+    → p ≡ (worker_only m.0, [])
     → WorkerTurn table m v i count made all m' p
 worker_turn table m v i count made all m' p rest long more numbers so_far now part =
-    subst (λ (x : Me Empty View × Me Empty View). WorkerTurn table m v i count made all x.0 x.1) (λ j. (sym now j, sym part j)) (by m.0.workers rest long numbers so_far)
+    subst (λ (x : Me Empty View × Me Empty View). WorkerTurn table m v i count made all x.0 x.1)
+    (λ j. (sym now j, sym part j)) (by m.0.workers rest long numbers so_far)
   where
-    by : (ks : List WorkerPart) → m ≡ (record v { workers = ks }, []) → i + length ks ≡ count → AreNewWorkers i ks → made ++ map worker_seen ks ≡ all → WorkerTurn table m v i count made all (record m.0 { workers = behind m.0.workers }, m.1) (record blank { workers = first_of m.0.workers }, [])
+    by : (ks : List WorkerPart) → m ≡ (record v { workers = ks }, []) → i + length ks ≡ count → AreNewWorkers i ks
+        → made ++ map worker_seen ks ≡ all → WorkerTurn table m v i count made all
+        (record m.0 { workers = behind m.0.workers }, m.1) (record blank { workers = first_of m.0.workers }, [])
     by [] rest long numbers so_far = absurd (omega (arith, more))
-    by (k ∷ ks) rest long numbers so_far = subst (λ (x : Me Empty View). WorkerTurn table m v i count made all (record x.0 { workers = behind x.0.workers }, x.1) (record blank { workers = first_of x.0.workers }, [])) (sym rest)
-        (refl, sym (ap (λ (w : WorkerPart). w.worker) numbers.0), tt, subst IsWorkerPart (sym numbers.0) (new_part i), refl, omega (arith, long), numbers.1, append_assoc made (worker_seen k ∷ []) (map worker_seen ks) ∙ so_far)
+    by (k ∷ ks) rest long numbers so_far =
+        subst (λ (x : Me Empty View). WorkerTurn table m v i count made all
+        (record x.0 { workers = behind x.0.workers }, x.1) (record blank { workers = first_of x.0.workers }, []))
+        (sym rest) (
+          refl,
+          sym (ap (λ (w : WorkerPart). w.worker) numbers.0),
+          tt,
+          subst IsWorkerPart (sym numbers.0) (new_part i),
+          refl,
+          omega (arith, long),
+          numbers.1,
+          append_assoc made (worker_seen k ∷ []) (map worker_seen ks)
+              ∙ so_far,
+        )
 
 pub new_workers : (w n : ℕ) → AreNewWorkers w (worker_parts w n)
 new_workers w zero = tt

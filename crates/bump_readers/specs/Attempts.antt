@@ -15,7 +15,7 @@ is_mark _ = false
 
 -- the step set ACTIVE, and the word that it found has ACTIVE clear, and the segment bits of COLD: a bump is attempted
 abbrev pub is_attempt : OwnStep → Bool
-is_attempt x = is_mark x.kind && (active_clear x.word && (segment_bits x.word == number_of Cold))
+is_attempt step = is_mark step.kind && (active_clear step.word && (segment_bits step.word == number_of Cold))
 
 -- how many of these steps attempted a bump
 abbrev pub attempts_in : List OwnStep → ℕ

@@ -7,4 +7,4 @@ use Rattle.bump_steps.specs.Views.{is_fetch_of}
 
 -- how often the worker set FETCHED of the life, or found it set
 abbrev pub fetches_of : ItemId → WorkerPart → ℕ
-fetches_of l p = how_many (is_fetch_of l.chunk l.generation) p.steps
+fetches_of item worker = how_many (is_fetch_of item.chunk item.generation) worker.steps

@@ -1,5 +1,5 @@
 //! The words of a named store, as readers use them.
-ghost use Rattle.std.specs.Prelude.{◌≡◌, ◌*◌, ◌<◌};
+ghost use Rattle.std.specs.Prelude.{◌≡◌, ◌<◌};
 ghost use Rattle.bump_rules.specs.declared.configs.Config.{Config as TheConfig};
 ghost use Rattle.bump_steps.specs.Rule.{chunks as all_chunks};
 ghost use Rattle.bump_steps.specs.Words.{words_id, config_of};

@@ -1,7 +1,8 @@
 //! Holds: references that readers have.
-ghost use Rattle.std.specs.Prelude.{◌≡◌, ◌*◌, ◌<◌, ◌+◌, IsSome, None, Some};
+ghost use Rattle.std.specs.Prelude.{◌≡◌, IsSome, None, Some};
 ghost use Rattle.bump_readers.specs.declared.views.HoldView.{HoldView as TheHoldView};
 ghost use Rattle.bump_readers.specs.Seats.{IsHoldOf, hold_in_views, hold_views, hold_me};
+ghost use Rattle.bump_steps.specs.Words.{HasChunk};
 ghost use Rattle.bump_steps.specs.declared.views.HoldPart.{HoldPart as TheHoldPart};
 
 use crate::names::Name;
@@ -10,9 +11,9 @@ use bump_rules::ItemId;
 use bump_steps::{Seat, View};
 use std::marker::{Model, PhantomData};
 
-/// A reference to a life, which a reader has. While there is one, the chunk isn't free and keeps the life's generation. It may go to
-/// another thread, and it must be spent, by `give_back`. It is hollow while its part is joined to a worker's seat, for a touch: that stands in
-/// proofs alone.
+/// A reference to a life, which a reader has. While there is one, the chunk isn't free and keeps the life's
+/// generation. It may go to another thread, and it must be spent, by `give_back`. It is hollow while its part is
+/// joined to a worker's seat, for a touch: that stands in proofs alone.
 pub struct Hold<N: Name> {
     pub(crate) badge: Badge<View>,
     pub(crate) life: ItemId,
@@ -24,7 +25,7 @@ impl<N: Name> Model for Hold<N> {
 
     ghost view = { λ h. record { life = h.life; part = hold_in_views h.badge.views } };
 
-    ghost invariant = { λ h. (h.badge.views ≡ hold_views (hold_in_views h.badge.views)) × (IsSome (hold_in_views h.badge.views) → h.badge.table_id ≡ N.table) × IsHoldOf h.life (hold_in_views h.badge.views) × (3 * h.life.chunk + 11 < N.table.words) };
+    ghost invariant = { λ h. (h.badge.views ≡ hold_views (hold_in_views h.badge.views)) × (IsSome (hold_in_views h.badge.views) → h.badge.table_id ≡ N.table) × IsHoldOf h.life (hold_in_views h.badge.views) × HasChunk N.table h.life.chunk };
 }
 
 impl<N: Name> Hold<N> {
@@ -41,7 +42,7 @@ impl<N: Name> Hold<N> {
         ensures hollow { self.new ≡ record self.old { part = None } }
         ensures seat { (result.me ≡ hold_me self.old.part) × (result.table_id ≡ N.table) }
         ensures life { IsHoldOf self.old.life self.old.part }
-        ensures chunk { 3 * self.old.life.chunk + 11 < N.table.words }
+        ensures chunk { HasChunk N.table self.old.life.chunk }
     {
         std::mem::replace(&mut self.badge, Badge::blank()).into_seat()
     }

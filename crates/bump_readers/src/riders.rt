@@ -1,5 +1,6 @@
 //! Bumps' references that travel.
-ghost use Rattle.std.specs.Prelude.{◌≡◌, ◌*◌, ◌<◌, ◌+◌};
+ghost use Rattle.std.specs.Prelude.{◌≡◌, ◌<◌};
+ghost use Rattle.bump_steps.specs.Words.{HasChunk};
 ghost use Rattle.bump_steps.specs.declared.views.Ride.{Ride as TheRide};
 ghost use Rattle.bump_steps.specs.Riders.{ride_me};
 
@@ -21,7 +22,7 @@ impl<N: Name> Model for Rider<N> {
 
     ghost view = { λ r. r.ride };
 
-    ghost invariant = { λ r. (r.seat.me ≡ ride_me r.ride) × (r.seat.table_id ≡ N.table) × (3 * r.ride.life.chunk + 11 < N.table.words) × (r.ride.number < 4611686018427387903) };
+    ghost invariant = { λ r. (r.seat.me ≡ ride_me r.ride) × (r.seat.table_id ≡ N.table) × HasChunk N.table r.ride.life.chunk × (r.ride.number < 4611686018427387903) };
 }
 
 impl<N: Name> Rider<N> {
@@ -52,7 +53,7 @@ impl<N: Name> Rider<N> {
         ensures ride { result.1 ≡ self }
         ensures seat { result.0.me ≡ ride_me self }
         ensures table { result.0.table_id ≡ N.table }
-        ensures chunk { 3 * self.life.chunk + 11 < N.table.words }
+        ensures chunk { HasChunk N.table self.life.chunk }
         ensures number { self.number < 4611686018427387903 }
     {
         let Rider { seat, ride, of: _ } = self;

@@ -1,11 +1,10 @@
 //! The reference of a bump: taken by a worker, and sent off, had back or dropped.
-ghost use Rattle.std.specs.Prelude.{◌≡◌, ◌+◌, ◌<◌, ◌≤◌, Some, List, IfOk, OnOk, OnErr};
+ghost use Rattle.std.specs.Prelude.{◌≡◌, ◌+◌, ◌≤◌, Some, List, IfOk, OnOk, OnErr};
 ghost use Rattle.bump_rules.specs.declared.hands.Hand.TheVariants.{Idle, Trying, InHand, Clearing};
 ghost use Rattle.bump_rules.specs.declared.items.Head.{Head as TheHead};
 ghost use Rattle.bump_word.specs.Words.{Fits};
 ghost use Rattle.bump_steps.specs.declared.views.HoldPart.{HoldPart as TheHoldPart};
-ghost use Rattle.bump_steps.specs.declared.views.Kind.TheVariants.{Release};
-ghost use Rattle.bump_steps.specs.Rides.{found_by, dropped_full, returned};
+ghost use Rattle.bump_steps.specs.Rides.{worker_after_release, returned};
 ghost use Rattle.bump_readers.specs.Riding.{Rode, ride_of};
 
 use crate::heads::ReaderHeads;
@@ -17,18 +16,21 @@ use bump_steps::{Ride, RideRefusal, head_of};
 use std::marker::PhantomData;
 
 impl<N: Name> ReaderHeads<N> {
-    /// Takes the reference of a bump, and sends it off as a rider, as memcached's `lru_bump_async`, which counts the item's reference up
-    /// before it queues the bump. The worker tries to bump the life, and has a whole hold of it joined to its seat. The number is that of
-    /// the bumps of the worker that were accepted before, below 4,611,686,018,427,387,903: those in rings count, and so do riders.
+    /// Takes the reference of a bump, and sends it off as a rider, as memcached's `lru_bump_async`, which counts the
+    /// item's reference up before it queues the bump. The worker tries to bump the life, and has a whole hold of it
+    /// joined to its seat. The number is that of the bumps of the worker that were accepted before, below
+    /// 4,611,686,018,427,387,903: those in rings count, and so do riders.
     ///
-    /// It makes one load and at most 8 exchanges. Each exchange expects the word that the step before it found, and fails where another
-    /// thread changed it since. The hold keeps the life, so only the count is looked at. By the word that was found last the answer is
+    /// It makes one load and at most 8 exchanges. Each exchange expects the word that the step before it found, and
+    /// fails where another thread changed it since. The hold keeps the life, so only the count is looked at. By the
+    /// word that was found last the answer is
     /// 1. RefsFull, where its reference count is at the limit;
     /// 2. a rider, where the exchange found that word again.
     ///
-    /// Busy is answered where 8 exchanges failed, whatever the last of them found. A refusal changes no word. It is the drop of the bump,
-    /// made by the step that found no room, or by the last exchange: the worker counts it as one of its kind, and is to clear ACTIVE by
-    /// `unmark`. With a rider the worker is idle, and counts the bump as accepted.
+    /// Busy is answered where 8 exchanges failed, whatever the last of them found. A refusal changes no word. It is
+    /// the drop of the bump, made by the step that found no room, or by the last exchange: the worker counts it as
+    /// one of its kind, and is to clear ACTIVE by `unmark`. With a rider the worker is idle, and counts the bump as
+    /// accepted.
     #[inline(always)]
     pub fn ride(
         &self,
@@ -39,7 +41,7 @@ impl<N: Name> ReaderHeads<N> {
         requires held { (h : TheHoldPart) × (worker.old.hold ≡ Some h) × (h.life ≡ life) }
         requires trying { worker.old.part.hand ≡ Trying life }
         requires next { number ≡ worker.old.part.accounts.accepted }
-        ensures rode { (first : TheHead) × (more : List TheHead) × Rode self.now.refs_limit life number worker.old worker.new result first more }
+        ensures rode { (first : TheHead) × (more : List TheHead) × Rode self.now.refs_limit life worker.old worker.new result first more }
         ensures rider { IfOk result (λ r. r ≡ ride_of worker.old number life) }
         ensures idle { OnOk result (worker.new.part.hand ≡ Idle) }
         ensures dropped { OnErr result (worker.new.part.hand ≡ Clearing life) }
@@ -60,9 +62,9 @@ impl<N: Name> ReaderHeads<N> {
         })
     }
 
-    /// The rider comes back to its own worker, whose ring has no room for it. It is the last one that was sent off; the worker is idle, and
-    /// has a whole hold of the rider's life joined to its seat. The reference is in its hand again, and the bump no longer counts as
-    /// accepted, so that the next one gets its number. No word is changed.
+    /// The rider comes back to its own worker, whose ring has no room for it. It is the last one that was sent off;
+    /// the worker is idle, and has a whole hold of the rider's life joined to its seat. The reference is in its hand
+    /// again, and the bump no longer counts as accepted, so that the next one gets its number. No word is changed.
     pub fn rider_back(&self, worker: &mut WorkerSeat<N>, rider: Rider<N>)
         requires held { (h : TheHoldPart) × (worker.old.hold ≡ Some h) × (h.life ≡ rider.life) }
         requires idle { worker.old.part.hand ≡ Idle }
@@ -75,21 +77,21 @@ impl<N: Name> ReaderHeads<N> {
             ride: _,
             of: _,
         } = rider;
-        self.words.ride_back(&mut worker.seat, part);
+        self.words.rider_back(&mut worker.seat, part);
     }
 
-    /// Gives the reference in the worker's hand back by one subtraction, since its ring had no room, as memcached's `lru_bump_async` does
-    /// where the bump buffer is full. It answers the head before it: of the life, and with a count of at least 2, for the hold and the
-    /// bump. The worker has a whole hold of the life joined to its seat. It counts the bump as dropped for want of room, and is to clear
-    /// ACTIVE by `unmark`.
+    /// Gives the reference in the worker's hand back by one subtraction, since its ring had no room, as memcached's
+    /// `lru_bump_async` does where the bump buffer is full. It answers the head before it: of the life, and with a
+    /// count of at least 2, for the hold and the bump. The worker has a whole hold of the life joined to its seat. It
+    /// counts the bump as dropped for want of room, and is to clear ACTIVE by `unmark`.
     pub fn give_back_bump(&self, worker: &mut WorkerSeat<N>, life: ItemId) -> Head
         requires held { (h : TheHoldPart) × (worker.old.hold ≡ Some h) × (h.life ≡ life) }
         requires in_hand { worker.old.part.hand ≡ InHand life }
-        ensures worker { worker.new ≡ record worker.old { part = dropped_full life (found_by Release life result worker.old.part) } }
+        ensures worker { worker.new ≡ record worker.old { part = worker_after_release life result worker.old.part } }
         ensures generation { result.generation ≡ life.generation }
         ensures counted { 2 ≤ result.refs }
         ensures fits { Fits result }
     {
-        head_of(self.words.drop_full(&mut worker.seat, life))
+        head_of(self.words.give_back_bump(&mut worker.seat, life))
     }
 }

@@ -1,12 +1,13 @@
 //! References that readers have: taken, given back, and what a hold and a caller without a seat may read.
-ghost use Rattle.std.specs.Prelude.{◌≡◌, ◌<◌, ◌≤◌, IfOk, IsSome, None, List};
+ghost use Rattle.std.specs.Prelude.{◌≡◌, ◌<◌, ◌≤◌, IfOk, IsSome, None, List, option_map};
 ghost use Rattle.bump_rules.specs.declared.items.Head.{Head as TheHead};
 ghost use Rattle.bump_rules.specs.Lawful.{bit};
 ghost use Rattle.bump_rules.specs.Totals.{total};
 ghost use Rattle.bump_word.specs.Words.{Fits, word_of};
 ghost use Rattle.bump_readers.specs.Seats.{spent_me, labels_in};
 ghost use Rattle.bump_steps.specs.Rule.{chunks as all_chunks};
-ghost use Rattle.bump_readers.specs.Taking.{Took, reads, whole_hold};
+ghost use Rattle.bump_readers.specs.Taking.{Took, whole_hold};
+ghost use Rattle.bump_steps.specs.References.{hold_after_label_load};
 ghost use Rattle.bump_steps.specs.Views.{differs};
 
 use crate::heads::ReaderHeads;
@@ -18,8 +19,8 @@ use bump_steps::{Seat, TakeRefusal, head_of};
 use std::marker::PhantomData;
 
 impl<N: Name> Hold<N> {
-    // Only a hold whose reference was given back may go: it is hollow, and the seat that it had has the mark of the step that gave back
-    // a reference to its life, and found this head, and nothing else. The head is answered.
+    // Only a hold whose reference was given back may go: it is hollow, and the seat that it had has the mark of the
+    // step that gave back a reference to its life, and found this head, and nothing else. The head is answered.
     fn forget(self, spent: Seat, found: Head) -> Head
         requires hollow { self.part ≡ None }
         requires spent { spent.me ≡ spent_me self.life (word_of found) }
@@ -36,17 +37,17 @@ impl<N: Name> Hold<N> {
 }
 
 impl<N: Name> ReaderHeads<N> {
-    /// Takes a reference to the life, as memcached's `refcount_incr` in `do_item_get`. The worker's seat has no hold joined, and the
-    /// chunk is one of the store's.
+    /// Takes a reference to the life, as memcached's `refcount_incr` in `do_item_get`. The worker's seat has no hold
+    /// joined, and the chunk is one of the store's.
     ///
-    /// It makes one load and at most 8 exchanges. Each exchange expects the word that the step before it found, and fails where another
-    /// thread changed it since. By the word that was found last the answer is
+    /// It makes one load and at most 8 exchanges. Each exchange expects the word that the step before it found, and
+    /// fails where another thread changed it since. By the word that was found last the answer is
     /// 1. Stale, where the chunk isn't linked or has another generation than the life;
     /// 2. RefsFull, where its reference count is at the limit;
     /// 3. a hold, where the exchange found that word again.
     ///
-    /// Busy is answered where 8 exchanges failed, whatever the last of them found. A refusal changes nothing: all that is new to the
-    /// worker is the list of its steps, of which none changed a word.
+    /// Busy is answered where 8 exchanges failed, whatever the last of them found. A refusal changes nothing: all
+    /// that is new to the worker is the list of its steps, of which none changed a word.
     #[inline(always)]
     pub fn take(&self, worker: &mut WorkerSeat<N>, life: ItemId) -> Result<Hold<N>, TakeRefusal>
         requires alone { worker.old.hold ≡ None }
@@ -66,8 +67,9 @@ impl<N: Name> ReaderHeads<N> {
         })
     }
 
-    /// Gives the hold's reference back by one subtraction, as memcached's `refcount_decr` in `do_item_remove`, and answers the head
-    /// before it: of the hold's life, and with a count of at least 1. The hold is whole. Its chunk may become free from then on.
+    /// Gives the hold's reference back by one subtraction, as memcached's `refcount_decr` in `do_item_remove`, and
+    /// answers the head before it: of the hold's life, and with a count of at least 1. The hold is whole. Its chunk
+    /// may become free from then on.
     pub fn give_back(&self, hold: Hold<N>) -> Head
         requires whole { IsSome hold.part }
         ensures generation { result.generation ≡ hold.life.generation }
@@ -79,8 +81,8 @@ impl<N: Name> ReaderHeads<N> {
         held.forget(spent, head)
     }
 
-    // The reference is given back, so that the hold is hollow from then on. Its seat, which is answered too, has the mark of the step,
-    // which found the head that is answered.
+    // The reference is given back, so that the hold is hollow from then on. Its seat, which is answered too, has the
+    // mark of the step, which found the head that is answered.
     fn release(&self, hold: &mut Hold<N>) -> (Head, Seat)
         requires whole { IsSome hold.old.part }
         ensures hollow { hold.new ≡ record hold.old { part = None } }
@@ -94,21 +96,22 @@ impl<N: Name> ReaderHeads<N> {
         (head, seat)
     }
 
-    /// The chunk's label, by one load: a number that was stored before the hold's life began, as memcached's key and value of an item
-    /// are. The hold is whole, and its view keeps the label. It is each label that this hold read before.
+    /// The chunk's label, by one load: a number that was stored before the hold's life began, as memcached's key and
+    /// value of an item are. The hold is whole, and its view keeps the label. It is each label that this hold read
+    /// before.
     pub fn label_of(&self, hold: &mut Hold<N>) -> u64
         requires whole { IsSome hold.old.part }
-        ensures read { hold.new ≡ record hold.old { part = reads result hold.old.part } }
+        ensures read { hold.new ≡ record hold.old { part = option_map (hold_after_label_load result) hold.old.part } }
         ensures same { total (differs result) (labels_in hold.old.part) ≡ 0 }
     {
         let mut seat = hold.seat_out();
-        let label = self.words.read_label(&mut seat, hold.life.chunk);
+        let label = self.words.label_of(&mut seat, hold.life.chunk);
         hold.seat_in(seat);
         label
     }
 
-    /// The head and the time of a chunk of the store, by two loads, between which other threads may change both. No seat is needed. Of
-    /// the time nothing is promised.
+    /// The head and the time of a chunk of the store, by two loads, between which other threads may change both. No
+    /// seat is needed. Of the time nothing is promised.
     pub fn see(&self, chunk: u32) -> (Head, u64)
         requires chunk { chunk < all_chunks self.now }
         ensures limit { result.0.refs ≤ self.now.refs_limit }

@@ -1,5 +1,6 @@
-//! A touch: a hold is joined to a worker's seat, the worker leaves marks and a time on its item, and the hold is split off again.
-ghost use Rattle.std.specs.Prelude.{◌≡◌, ◌+◌, ◌<◌, ◌≤◌, ◌&&◌, not, None, Some, IsSome, true, false};
+//! A touch: a hold is joined to a worker's seat, the worker leaves marks and a time on its item, and the hold is
+//! split off again.
+ghost use Rattle.std.specs.Prelude.{◌≡◌, ◌<◌, ◌≤◌, ◌&&◌, not, None, Some, IsSome, true, false};
 ghost use Rattle.bump_rules.specs.declared.hands.Hand.TheVariants as hand;
 ghost use Rattle.bump_rules.specs.Lives.{count_of};
 ghost use Rattle.bump_rules.specs.Rings.{most_attempts};
@@ -7,7 +8,7 @@ ghost use Rattle.bump_rules.specs.Tables.{is_cold};
 ghost use Rattle.bump_word.specs.Words.{Fits};
 ghost use Rattle.bump_steps.specs.declared.views.HoldPart.{HoldPart as TheHoldPart};
 ghost use Rattle.bump_readers.specs.Seats.{held_life};
-ghost use Rattle.bump_steps.specs.Marks.{fetched_part, marked_part, unmarked_part, timed_part};
+ghost use Rattle.bump_steps.specs.Marks.{worker_after_fetch, worker_after_mark, worker_after_unmark, worker_after_store_time};
 ghost use Rattle.bump_readers.specs.Touching.{fetches_of};
 
 use crate::heads::ReaderHeads;
@@ -18,8 +19,8 @@ use bump_rules::{Head, ItemId};
 use bump_steps::head_of;
 
 impl<N: Name> ReaderHeads<N> {
-    /// Joins the hold to the worker's seat, for a touch: the worker must be Idle and have no other hold. From then on the worker makes
-    /// the steps of the touch, and the hold is hollow until `hold_out`.
+    /// Joins the hold to the worker's seat, for a touch: the worker must be Idle and have no other hold. From then on
+    /// the worker makes the steps of the touch, and the hold is hollow until `hold_out`.
     pub fn hold_in(&self, worker: &mut WorkerSeat<N>, hold: &mut Hold<N>)
         requires idle { worker.old.part.hand ≡ hand.Idle }
         requires alone { worker.old.hold ≡ None }
@@ -30,8 +31,8 @@ impl<N: Name> ReaderHeads<N> {
         self.words.join(&mut worker.seat, hold.seat_out());
     }
 
-    /// Splits the hold off again: it must be the one that was joined, and the worker must be Idle, since an attempted bump needs the
-    /// hold until it is over.
+    /// Splits the hold off again: it must be the one that was joined, and the worker must be Idle, since an attempted
+    /// bump needs the hold until it is over.
     pub fn hold_out(&self, worker: &mut WorkerSeat<N>, hold: &mut Hold<N>)
         requires idle { worker.old.part.hand ≡ hand.Idle }
         requires hollow { hold.old.part ≡ None }
@@ -42,15 +43,15 @@ impl<N: Name> ReaderHeads<N> {
         hold.seat_in(self.words.part_holds(&mut worker.seat));
     }
 
-    /// Sets FETCHED (memcached's `ITEM_FETCHED`, in `do_item_bump`) of the item that the joined hold holds, by one step on its head
-    /// word, and answers the head that the step found. The worker must be Idle.
+    /// Sets FETCHED (memcached's `ITEM_FETCHED`, in `do_item_bump`) of the item that the joined hold holds, by one
+    /// step on its head word, and answers the head that the step found. The worker must be Idle.
     ///
-    /// Where FETCHED was clear this is the first hit of the item: its life joins the worker's list of first hits, which had not named it.
-    /// No life is named twice, whichever worker hits it.
+    /// Where FETCHED was clear this is the first hit of the item: its life joins the worker's list of first hits,
+    /// which had not named it. No life is named twice, whichever worker hits it.
     pub fn mark_fetched(&self, worker: &mut WorkerSeat<N>, life: ItemId) -> Head
         requires idle { worker.old.part.hand ≡ hand.Idle }
         requires held { held_life worker.old.hold ≡ Some life }
-        ensures worker { worker.new ≡ record worker.old { part = fetched_part life result worker.old.part } }
+        ensures worker { worker.new ≡ record worker.old { part = worker_after_fetch life result worker.old.part } }
         ensures fits { Fits result }
         ensures generation { result.generation ≡ life.generation }
         ensures count { 0 < result.refs }
@@ -62,17 +63,18 @@ impl<N: Name> ReaderHeads<N> {
         head_of(self.words.mark_fetched(&mut worker.seat, life.chunk))
     }
 
-    /// Sets ACTIVE (memcached's `ITEM_ACTIVE`, in `do_item_bump`) of the item that the joined hold holds, by one step on its head word,
-    /// and answers the head that the step found. The worker must be Idle, it must have set FETCHED of the item before, by
-    /// `mark_fetched`, and it must have attempted fewer than 4,611,686,018,427,387,903 bumps.
+    /// Sets ACTIVE (memcached's `ITEM_ACTIVE`, in `do_item_bump`) of the item that the joined hold holds, by one step
+    /// on its head word, and answers the head that the step found. The worker must be Idle, it must have set FETCHED
+    /// of the item before, by `mark_fetched`, and it must have attempted fewer than 4,611,686,018,427,387,903 bumps.
     ///
-    /// Where ACTIVE was clear and the item in COLD the worker attempts a bump from then on: it tries to take a reference for it.
+    /// Where ACTIVE was clear and the item in COLD the worker attempts a bump from then on: it tries to take a
+    /// reference for it.
     pub fn mark_active(&self, worker: &mut WorkerSeat<N>, life: ItemId) -> Head
         requires idle { worker.old.part.hand ≡ hand.Idle }
         requires held { held_life worker.old.hold ≡ Some life }
         requires fetched { 0 < fetches_of life worker.old.part }
         requires attempts { worker.old.part.accounts.attempted < most_attempts }
-        ensures worker { worker.new ≡ record worker.old { part = marked_part life result worker.old.part } }
+        ensures worker { worker.new ≡ record worker.old { part = worker_after_mark life result worker.old.part } }
         ensures fits { Fits result }
         ensures tries { (not result.active && is_cold result.segment) ≡ true → worker.new.part.hand ≡ hand.Trying life }
         ensures generation { result.generation ≡ life.generation }
@@ -82,13 +84,13 @@ impl<N: Name> ReaderHeads<N> {
         head_of(self.words.mark_active(&mut worker.seat, life.chunk))
     }
 
-    /// Clears ACTIVE of the item that the joined hold holds (memcached's `do_item_bump`, where `lru_bump_async` found no room), by one
-    /// step on its head word, and answers the head that the step found. FETCHED stays. The worker must have dropped a bump of the
-    /// item; it is Idle from then on. So one more hit attempts the bump again.
+    /// Clears ACTIVE of the item that the joined hold holds (memcached's `do_item_bump`, where `lru_bump_async` found
+    /// no room), by one step on its head word, and answers the head that the step found. FETCHED stays. The worker
+    /// must have dropped a bump of the item; it is Idle from then on. So one more hit attempts the bump again.
     pub fn unmark(&self, worker: &mut WorkerSeat<N>, life: ItemId) -> Head
         requires clearing { worker.old.part.hand ≡ hand.Clearing life }
         requires held { held_life worker.old.hold ≡ Some life }
-        ensures worker { worker.new ≡ record worker.old { part = unmarked_part life result worker.old.part } }
+        ensures worker { worker.new ≡ record worker.old { part = worker_after_unmark life result worker.old.part } }
         ensures fits { Fits result }
         ensures idle { worker.new.part.hand ≡ hand.Idle }
         ensures generation { result.generation ≡ life.generation }
@@ -98,11 +100,11 @@ impl<N: Name> ReaderHeads<N> {
         head_of(self.words.unmark(&mut worker.seat, life.chunk))
     }
 
-    /// Stores the time of the item that the joined hold holds (memcached's `it->time`, in `do_item_bump`), by one step on its time
-    /// word: `now`, any number.
+    /// Stores the time of the item that the joined hold holds (memcached's `it->time`, in `do_item_bump`), by one
+    /// step on its time word: `now`, any number.
     pub fn set_time(&self, worker: &mut WorkerSeat<N>, life: ItemId, now: u64)
         requires held { held_life worker.old.hold ≡ Some life }
-        ensures worker { worker.new ≡ record worker.old { part = timed_part life now worker.old.part } }
+        ensures worker { worker.new ≡ record worker.old { part = worker_after_store_time life now worker.old.part } }
     {
         self.words.set_time(&mut worker.seat, life.chunk, now);
     }

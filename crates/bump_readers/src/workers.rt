@@ -1,5 +1,5 @@
 //! Workers' seats. Contracts see plain data.
-ghost use Rattle.std.specs.Prelude.{◌≡◌, ◌<◌, [], IfOk, length, map};
+ghost use Rattle.std.specs.Prelude.{◌≡◌, [], IfOk, length, map};
 ghost use Rattle.bump_readers.specs.declared.views.WorkerView.{WorkerView as TheWorkerView};
 ghost use Rattle.bump_rules.specs.Rings.{IsAccounts};
 ghost use Rattle.bump_readers.specs.Attempts.{attempts_in};
@@ -29,9 +29,9 @@ impl<N: Name> Model for WorkerSeat<N> {
 }
 
 impl<N: Name> WorkerSeat<N> {
-    /// What every worker's seat keeps of its accounts: accepted and dropped bumps, and the attempt under way, add up to those attempted;
-    /// and attempted are as many as the steps that the worker itself made that set ACTIVE of an item, and found it clear and the item in
-    /// COLD.
+    /// What every worker's seat keeps of its accounts: accepted and dropped bumps, and the attempt under way, add up
+    /// to those attempted; and attempted are as many as the steps that the worker itself made that set ACTIVE of an
+    /// item, and found it clear and the item in COLD.
     pub fn promise(&self)
         ensures accounts { IsAccounts self.now.part.accounts self.now.part.accounts.accepted self.now.part.hand }
         ensures attempts { self.now.part.accounts.attempted ≡ attempts_in self.now.part.steps }
@@ -48,8 +48,9 @@ impl<N: Name> WorkerSeat<N> {
 }
 
 impl<N: Name> ReaderHeads<N> {
-    /// Cuts the parts of all workers off a seat of the store's table, which has so many new ones: a seat for each, by number. Nothing else
-    /// of the seat changes. It is refused only for want of memory, and parts that were cut off by then are gone.
+    /// Cuts the parts of all workers off a seat of the store's table, which has so many new ones: a seat for each, by
+    /// number. Nothing else of the seat changes. It is refused only for want of memory, and parts that were cut off
+    /// by then are gone.
     pub fn part_workers(
         &self,
         alloc: Global,

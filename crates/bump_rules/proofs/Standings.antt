@@ -1,5 +1,5 @@
 -- Equality tests of places and of standings.
-use Rattle.std.proofs.Common.{◌≡◌, ℕ, ◌+◌, ◌≢◌, ◌&&◌, get_or, eqb, true, false, refl, sym, ap, ap₂, ◌∙◌, eq-eqb, ne_eqb, eqb-true}
+use Rattle.std.proofs.Common.{◌≡◌, ℕ, ◌≢◌, ◌&&◌, get_or, eqb, true, false, refl, sym, ap, ap₂, ◌∙◌, eq-eqb, ne_eqb, eqb-true}
 use Rattle.std.proofs.lemmas.Bool.{and_parts}
 use Rattle.bump_rules.specs.declared.places.Place.{Place}
 use Rattle.bump_rules.specs.declared.places.Place.TheVariants.{Hot, Warm, Cold, Dying, Unused, Retired}

@@ -8,15 +8,15 @@ use Rattle.bump_rules.specs.Totals.{total}
 
 -- the number is within these bounds
 abbrev pub is_within : ℕ → ℕ → ℕ → Bool
-is_within least most n = nat_le least n && nat_le n most
+is_within least most number = nat_le least number && nat_le number most
 
 -- how many chunks the classes have together
 abbrev pub chunks_of : List ClassConfig → ℕ
-chunks_of classes = total (λ k. k.chunks) classes
+chunks_of classes = total (λ config. config.chunks) classes
 
 -- a class has no chunks, or all together have too many
 abbrev pub have_wrong_chunks : List ClassConfig → Bool
-have_wrong_chunks classes = list_any (λ k. k.chunks == 0) classes || nat_lt 1000000 (chunks_of classes)
+have_wrong_chunks classes = list_any (λ config. config.chunks == 0) classes || nat_lt 1000000 (chunks_of classes)
 
 -- the greatest limit of references: the greatest reference count of a head word
 abbrev pub most_refs : ℕ
@@ -34,12 +34,13 @@ has_fault workers capacity limit generation classes Chunks = have_wrong_chunks c
 -- the first fault that holds, in the order in which they are looked for
 abbrev pub first_fault : ℕ → ℕ → ℕ → ℕ → List ClassConfig → Option ConfigFault
 first_fault workers capacity limit generation classes =
-    find (has_fault workers capacity limit generation classes) (Workers ∷ Capacity ∷ RefsLimit ∷ Generation ∷ Classes ∷ Chunks ∷ [])
+    find (has_fault workers capacity limit generation classes)
+    (Workers ∷ Capacity ∷ RefsLimit ∷ Generation ∷ Classes ∷ Chunks ∷ [])
 
 -- each class has a chunk or more
 abbrev pub HaveChunks : List ClassConfig → Type 0
 HaveChunks [] = Unit {0}
-HaveChunks (k ∷ ks) = (0 < k.chunks) × HaveChunks ks
+HaveChunks (config ∷ configs) = (0 < config.chunks) × HaveChunks configs
 
 -- the bounds of a configuration without faults
 pub record Bounds (workers capacity limit generation : ℕ) (classes : List ClassConfig) : Type 0 where

@@ -1,9 +1,8 @@
--- The history of a class, whose chunks are from first on and below end: where it leaves a chunk, and which lists it leaves.
+-- The history of a class, whose chunks are from first on and below end: where it leaves a chunk, and which lists it
+-- leaves.
 use Rattle.std.specs.Prelude.{◌≡◌, ℕ, ◌-◌, Bool, true, cond, ◌==◌, ◌&&◌, nat_le, nat_lt, List, [], ◌∷◌, if◌then◌else◌}
-use Rattle.bump_rules.specs.declared.places.Segment.{Segment}
-use Rattle.bump_rules.specs.declared.places.Segment.TheVariants as segment
 use Rattle.bump_rules.specs.declared.places.Place.{Place}
-use Rattle.bump_rules.specs.declared.places.Place.TheVariants.{Hot, Warm, Cold, Dying, Unused, Retired}
+use Rattle.bump_rules.specs.declared.places.Place.TheVariants.{Hot, Dying, Unused, Retired}
 use Rattle.bump_rules.specs.declared.items.ItemId.{ItemId}
 use Rattle.bump_rules.specs.declared.history.Change.{Change}
 use Rattle.bump_rules.specs.declared.history.Change.TheVariants as change
@@ -28,7 +27,7 @@ target (change.Retired life) = Retired
 
 -- the entry of a chunk that is found without holders: it is UNUSED again, or RETIRED after the last generation
 abbrev pub freed_change : ItemId → Change
-freed_change l = if l.generation == 4294967295 then change.Retired l else change.Swept l
+freed_change life = if life.generation == 4294967295 then change.Retired life else change.Swept life
 
 -- where a chunk stands: its place, and its generation
 abbrev pub Standing : Type 0
@@ -36,39 +35,41 @@ Standing = Place × ℕ
 
 -- whether two standings are one
 abbrev pub is_standing : Standing → Standing → Bool
-is_standing a b = is_place a.0 b.0 && (a.1 == b.1)
+is_standing one other = is_place one.0 other.0 && (one.1 == other.1)
 
--- where chunk c stands after an entry
+-- where a chunk stands after an entry
 abbrev pub standing_after : ℕ → Standing → Change → Standing
-standing_after c at e = cond ((subject e).chunk == c) (target e, (subject e).generation) at
+standing_after chunk at entry = cond ((subject entry).chunk == chunk) (target entry, (subject entry).generation) at
 
 -- where a history leaves a chunk: the last entry that speaks of it decides
 abbrev pub standing_from : ℕ → Standing → List Change → Standing
-standing_from c at [] = at
-standing_from c at (e ∷ es) = standing_from c (standing_after c at e) es
+standing_from chunk at [] = at
+standing_from chunk at (entry ∷ entries) = standing_from chunk (standing_after chunk at entry) entries
 
--- where the history of a class leaves chunk c: each chunk begins in UNUSED, fresh, with the generation before its first life
+-- where the history of a class leaves a chunk: each chunk begins in UNUSED, fresh, with the generation before its
+-- first life
 abbrev pub standing_in : ℕ → List Change → ℕ → Standing
-standing_in fresh history c = standing_from c (Unused, fresh) history
+standing_in fresh history chunk = standing_from chunk (Unused, fresh) history
 
 -- the chunk is one of the class's
 abbrev pub is_between : ℕ → ℕ → ℕ → Bool
-is_between first end c = nat_le first c && nat_lt c end
+is_between first end chunk = nat_le first chunk && nat_lt chunk end
 
 -- each entry of a history is of a chunk of the class
 abbrev pub AreBetween : ℕ → ℕ → List Change → Type 0
 AreBetween first end [] = Unit {0}
-AreBetween first end (e ∷ es) = (is_between first end (subject e).chunk ≡ true) × AreBetween first end es
+AreBetween first end (entry ∷ entries) =
+    (is_between first end (subject entry).chunk ≡ true) × AreBetween first end entries
 
 -- each entry is of a chunk that stands in one of the lists
 abbrev pub AreListed : Lists → List Change → Type 0
-AreListed l [] = Unit {0}
-AreListed l (e ∷ es) = IsListed (subject e).chunk l × AreListed l es
+AreListed lists [] = Unit {0}
+AreListed lists (entry ∷ entries) = IsListed (subject entry).chunk lists × AreListed lists entries
 
 -- the lists that a history leaves: one move to the front per entry
 abbrev pub replay : Lists → List Change → Lists
-replay l [] = l
-replay l (e ∷ es) = replay (to_front (subject e).chunk (target e) l) es
+replay lists [] = lists
+replay lists (entry ∷ entries) = replay (to_front (subject entry).chunk (target entry) lists) entries
 
 -- the lists that the history of a class leaves
 abbrev pub replayed : ℕ → ℕ → List Change → Lists

@@ -5,14 +5,15 @@ use Rattle.bump_rules.specs.declared.labels.LabelStep.{LabelStep}
 use Rattle.bump_rules.specs.declared.labels.LabelStep.TheVariants.{Stored, Begun}
 use Rattle.bump_rules.specs.Lives.{is_same}
 
--- the life's label, if it began with these steps; before them its chunk's label word was x
+-- the life's label, if it began with these steps; before them its chunk's label word was this label
 abbrev pub label_of_life : ItemId → ℕ → List LabelStep → Option ℕ
-label_of_life l x [] = None
-label_of_life l x (Stored c y ∷ steps) = label_of_life l (if c == l.chunk then y else x) steps
-label_of_life l x (Begun m ∷ steps) = if is_same l m then Some x else label_of_life l x steps
+label_of_life item label [] = None
+label_of_life item label (Stored chunk stored ∷ steps) =
+    label_of_life item (if chunk == item.chunk then stored else label) steps
+label_of_life item label (Begun life ∷ steps) = if is_same item life then Some label else label_of_life item label steps
 
--- the label word of chunk c after these steps; before them it was x
+-- the label word of a chunk after these steps; before them it was this label
 abbrev pub label_word : ℕ → ℕ → List LabelStep → ℕ
-label_word c x [] = x
-label_word c x (Stored d y ∷ steps) = label_word c (if d == c then y else x) steps
-label_word c x (Begun m ∷ steps) = label_word c x steps
+label_word chunk label [] = label
+label_word chunk label (Stored other stored ∷ steps) = label_word chunk (if other == chunk then stored else label) steps
+label_word chunk label (Begun life ∷ steps) = label_word chunk label steps

@@ -12,28 +12,28 @@ use Rattle.bump_rules.specs.Tables.{is_cold}
 
 -- the bump aboard a lane, by how far the lane is
 abbrev pub carried : Lane → Option Bump
-carried (lane.Carrying b) = Some b
+carried (lane.Carrying bump) = Some bump
 carried _ = None
 
 abbrev pub tried : Lane → Option Bump
-tried (lane.Tried b) = Some b
+tried (lane.Tried bump) = Some bump
 tried _ = None
 
 abbrev pub applied_now : Lane → Option Bump
-applied_now (lane.Tried b) = Some b
-applied_now (lane.Cleared b found) = Some b
-applied_now (lane.Moved b) = Some b
+applied_now (lane.Tried bump) = Some bump
+applied_now (lane.Cleared bump found) = Some bump
+applied_now (lane.Moved bump) = Some bump
 applied_now _ = None
 
 -- the life on which a lane works under the class lock, if it does
 abbrev pub applied_life : Lane → Option ItemId
-applied_life (lane.Tried b) = Some b.life
-applied_life (lane.Cleared b found) = Some b.life
-applied_life (lane.Moved b) = Some b.life
+applied_life (lane.Tried bump) = Some bump.life
+applied_life (lane.Cleared bump found) = Some bump.life
+applied_life (lane.Moved bump) = Some bump.life
 applied_life _ = None
 
 abbrev pub cleared_active : Lane → Option Bump
-cleared_active (lane.Cleared b true) = Some b
+cleared_active (lane.Cleared bump true) = Some bump
 cleared_active _ = None
 
 abbrev pub is_empty : Lane → Bool
@@ -43,26 +43,27 @@ is_empty _ = false
 -- a lane with a bump that is half applied
 abbrev pub is_half_made : Lane → Bool
 is_half_made lane.Empty = false
-is_half_made (lane.Carrying b) = false
+is_half_made (lane.Carrying bump) = false
 is_half_made _ = true
 
 abbrev pub bump_of : ℕ → ItemId → Bump
-bump_of n l = record { number = n; life = l }
+bump_of number life = record { number = number; life = life }
 
 -- a bump, and what became of it
 abbrev pub applied_bump : Bump → Outcome → AppliedBump
-applied_bump b o = record { number = b.number; life = b.life; outcome = o }
+applied_bump bump became = record { number = bump.number; life = bump.life; outcome = became }
 
 -- what a lane may end its bump with when it looked at the head of the bump's item
 abbrev pub outcome_tried : Head → Option Outcome
-outcome_tried found = if not found.linked then Some outcome.Gone else (if is_cold found.segment then None else Some outcome.TimeOnly)
+outcome_tried found =
+    if not found.linked then Some outcome.Gone else (if is_cold found.segment then None else Some outcome.TimeOnly)
 
--- The bump that a lane may end, and what with, by how far the lane is and the heads of all chunks: it looked at an item that it
--- has nothing to move of, or found ACTIVE clear, or moved the item.
+-- The bump that a lane may end, and what with, by how far the lane is and the heads of all chunks: it looked at an
+-- item that it has nothing to move of, or found ACTIVE clear, or moved the item.
 abbrev pub ending_at : (ℕ → Head) → Lane → Option AppliedBump
 ending_at heads lane.Empty = None
-ending_at heads (lane.Carrying b) = None
-ending_at heads (lane.Tried b) = option_map (applied_bump b) (outcome_tried (heads b.life.chunk))
-ending_at heads (lane.Cleared b true) = None
-ending_at heads (lane.Cleared b false) = Some (applied_bump b outcome.TimeOnly)
-ending_at heads (lane.Moved b) = Some (applied_bump b outcome.Moved)
+ending_at heads (lane.Carrying bump) = None
+ending_at heads (lane.Tried bump) = option_map (applied_bump bump) (outcome_tried (heads bump.life.chunk))
+ending_at heads (lane.Cleared bump true) = None
+ending_at heads (lane.Cleared bump false) = Some (applied_bump bump outcome.TimeOnly)
+ending_at heads (lane.Moved bump) = Some (applied_bump bump outcome.Moved)

@@ -18,41 +18,49 @@ pub record Lists : Type 0 where
 
 -- the list at a place
 abbrev pub list_at : Lists → Place → List ℕ
-list_at l Hot = l.hot
-list_at l Warm = l.warm
-list_at l Cold = l.cold
-list_at l Dying = l.dying
-list_at l Unused = l.unused
-list_at l Retired = l.retired
+list_at lists Hot = lists.hot
+list_at lists Warm = lists.warm
+list_at lists Cold = lists.cold
+list_at lists Dying = lists.dying
+list_at lists Unused = lists.unused
+list_at lists Retired = lists.retired
 
--- the lists that have at each place what f gives for it
+-- the lists that have at each place what this gives for it
 abbrev pub lists_by : (Place → List ℕ) → Lists
-lists_by f = record { hot = f Hot; warm = f Warm; cold = f Cold; dying = f Dying; unused = f Unused; retired = f Retired }
+lists_by each = record {
+  hot = each Hot;
+  warm = each Warm;
+  cold = each Cold;
+  dying = each Dying;
+  unused = each Unused;
+  retired = each Retired;
+}
 
 -- all lists without the chunk
 abbrev pub all_without : ℕ → Lists → Lists
-all_without c l = lists_by (λ q. without c (list_at l q))
+all_without chunk lists = lists_by (λ place. without chunk (list_at lists place))
 
 -- the chunk is put before the list at the place
 abbrev pub put_before : ℕ → Place → Lists → Lists
-put_before c p l = lists_by (λ q. cond (is_place p q) (c ∷ list_at l q) (list_at l q))
+put_before chunk place lists =
+    lists_by (λ other. cond (is_place place other) (chunk ∷ list_at lists other) (list_at lists other))
 
 -- A move to the front: the chunk is removed from its one list, and then put before the list at the place.
 abbrev pub to_front : ℕ → Place → Lists → Lists
-to_front c p l = put_before c p (all_without c l)
+to_front chunk place lists = put_before chunk place (all_without chunk lists)
 
--- n chunks from the first on, ascending
+-- so many chunks from the first on, ascending
 abbrev pub ascending : ℕ → ℕ → List ℕ
 ascending = range_with_len
 
 -- at the start all chunks of a class stand in UNUSED, ascending
 abbrev pub opening : ℕ → ℕ → Lists
-opening first n = lists_by (λ q. cond (is_place Unused q) (ascending first n) [])
+opening first count = lists_by (λ place. cond (is_place Unused place) (ascending first count) [])
 
 -- the chunk stands in one of the lists
 abbrev pub IsListed : ℕ → Lists → Type 0
-IsListed c l = (p : Place) × (0 < times c (list_at l p))
+IsListed chunk lists = (place : Place) × (0 < times chunk (list_at lists place))
 
 -- how often a chunk stands in the lists of a class
 abbrev pub times_in_all : ℕ → Lists → ℕ
-times_in_all c l = total (λ p. times c (list_at l p)) all_places
+times_in_all chunk lists = total (λ place. times chunk (list_at lists place)) all_places

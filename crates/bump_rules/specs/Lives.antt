@@ -5,16 +5,16 @@ use Rattle.bump_rules.specs.Totals.{total}
 
 -- the life of a chunk with a generation
 abbrev pub life : ℕ → ℕ → ItemId
-life c g = record { chunk = c; generation = g }
+life chunk generation = record { chunk = chunk; generation = generation }
 
 -- whether two lives are one
 abbrev pub is_same : ItemId → ItemId → Bool
-is_same a b = (a.chunk == b.chunk) && (a.generation == b.generation)
+is_same one other = (one.chunk == other.chunk) && (one.generation == other.generation)
 
 -- 1 for this life, 0 for another
 abbrev pub one_if : ItemId → ItemId → ℕ
-one_if a b = cond (is_same a b) 1 0
+one_if one other = cond (is_same one other) 1 0
 
 -- how often a list names a life
 abbrev pub count_of : ItemId → List ItemId → ℕ
-count_of a lives = total (one_if a) lives
+count_of item lives = total (one_if item) lives

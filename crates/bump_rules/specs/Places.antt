@@ -22,7 +22,7 @@ place_number Retired = 5
 
 -- whether two places are one
 abbrev pub is_place : Place → Place → Bool
-is_place p q = place_number p == place_number q
+is_place place other = place_number place == place_number other
 
 -- all places, each at its number
 abbrev pub all_places : List Place

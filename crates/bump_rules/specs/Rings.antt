@@ -16,26 +16,27 @@ left_of sent received = drop (length received) sent
 -- the bump aboard a lane, if any
 abbrev pub aboard : Lane → List Bump
 aboard lane.Empty = []
-aboard (lane.Carrying b) = b ∷ []
-aboard (lane.Tried b) = b ∷ []
-aboard (lane.Cleared b found) = b ∷ []
-aboard (lane.Moved b) = b ∷ []
+aboard (lane.Carrying bump) = bump ∷ []
+aboard (lane.Tried bump) = bump ∷ []
+aboard (lane.Cleared bump found) = bump ∷ []
+aboard (lane.Moved bump) = bump ∷ []
 
 -- an applied bump, without what became of it
 abbrev pub bump_applied : AppliedBump → Bump
-bump_applied a = record { number = a.number; life = a.life }
+bump_applied entry = record { number = entry.number; life = entry.life }
 
--- lives as bumps, numbered from n
+-- lives as bumps, numbered from this number on
 abbrev pub numbered_from : ℕ → List ItemId → List Bump
-numbered_from n [] = []
-numbered_from n (l ∷ ls) = record { number = n; life = l } ∷ numbered_from (suc n) ls
+numbered_from number [] = []
+numbered_from number (life ∷ lives) = record { number = number; life = life } ∷ numbered_from (suc number) lives
 
--- 1 while an attempt is under way that is not yet counted as accepted or dropped; after a drop only ACTIVE is still to be cleared
+-- 1 while an attempt is under way that is not yet counted as accepted or dropped; after a drop only ACTIVE is still
+-- to be cleared
 abbrev pub attempts_of : Hand → ℕ
 attempts_of hand.Idle = 0
-attempts_of (hand.Trying l) = 1
-attempts_of (hand.InHand l) = 1
-attempts_of (hand.Clearing l) = 0
+attempts_of (hand.Trying life) = 1
+attempts_of (hand.InHand life) = 1
+attempts_of (hand.Clearing life) = 0
 
 -- the accounts of a worker that has attempted nothing
 abbrev pub no_accounts : Accounts
@@ -53,10 +54,11 @@ pub record IsRing (capacity : ℕ) (sent received : List ItemId) : Type 0 where
   pub room : length (left_of sent received) ≤ capacity
 
 -- lawful accounts of a worker, by how many bumps its ring accepted and how far it is with an attempt
-pub record IsAccounts (a : Accounts) (sent : ℕ) (h : Hand) : Type 0 where
+pub record IsAccounts (accounts : Accounts) (sent : ℕ) (progress : Hand) : Type 0 where
   -- accepted bumps are those sent
-  pub accepted : a.accepted ≡ sent
+  pub accepted : accounts.accepted ≡ sent
   -- accepted and dropped bumps, and the attempt under way, add up to those attempted
-  pub attempted : a.attempted ≡ a.accepted + a.full + a.busy + a.refs + attempts_of h
+  pub attempted : accounts.attempted
+      ≡ accounts.accepted + accounts.full + accounts.busy + accounts.refs + attempts_of progress
   -- and no worker attempts more than may be
-  pub most : a.attempted ≤ most_attempts
+  pub most : accounts.attempted ≤ most_attempts

@@ -8,12 +8,12 @@ use Rattle.bump_rules.specs.Tables.{is_unheld}
 
 -- the chunks of a list that nobody holds, by the heads of all chunks
 abbrev pub unheld : (ℕ → Head) → List ℕ → List ℕ
-unheld heads cs = filter (λ c. is_unheld (heads c)) cs
+unheld heads chunks = filter (λ chunk. is_unheld (heads chunk)) chunks
 
 -- what the sweep of these chunks enters into the history
 abbrev pub swept_changes : (ℕ → Head) → List ℕ → List Change
-swept_changes heads cs = map (λ c. freed_change (life c (heads c).generation)) cs
+swept_changes heads chunks = map (λ chunk. freed_change (life chunk (heads chunk).generation)) chunks
 
 -- what a sweep of this list enters: those that nobody holds, front to back as the list stands
 abbrev pub swept_of : (ℕ → Head) → List ℕ → List Change
-swept_of heads cs = swept_changes heads (unheld heads cs)
+swept_of heads chunks = swept_changes heads (unheld heads chunks)

@@ -51,6 +51,16 @@ pub enum Dropped {
     RefsFull,
 }
 
+/// Whether a worker's ring shows room for one more bump.
+#[derive(Clone, Copy, Debug, PartialEq, Eq)]
+pub enum Room {
+    /// It shows room: it takes the bump.
+    Known,
+
+    /// It shows none: the bump is dropped.
+    Unknown,
+}
+
 /// What the steps of a hit come to, by the hit table.
 #[derive(Clone, Copy, Debug, PartialEq, Eq)]
 pub enum Hit {

@@ -17,7 +17,7 @@ mod tables;
 
 pub use bumps::{Accounts, Applied, AppliedBump, Bump, Ended, Entry, MOST_ATTEMPTS, Outcome};
 pub use class_lists::{ClassLists, ListedChunks};
-pub use commands::{Answer, Command, Dropped, Hit, Pulled, Touch};
+pub use commands::{Answer, Command, Dropped, Hit, Pulled, Room, Touch};
 pub use configs::{ClassConfig, Classes, Config, ConfigFault, MAX_CHUNKS, MAX_REFS};
 pub use events::{Event, Refused, Reply};
 pub use hands::Hand;
@@ -25,5 +25,5 @@ pub use history::{Cause, Change};
 pub use items::{Head, ItemId};
 pub use labels::LabelStep;
 pub use lanes::Lane;
-pub use places::{Place, Segment, Tail};
+pub use places::{Limits, Place, Segment, Tail};
 pub use tables::MOST_EXCHANGES;

@@ -31,6 +31,16 @@ pub enum Tail {
     Evict,
 }
 
+/// The limits of a class: a pull takes an item that isn't ACTIVE from a list that has more items. COLD has no limit.
+#[derive(Clone, Copy, Debug, PartialEq, Eq)]
+pub struct Limits {
+    /// How many items HOT may have: any number.
+    pub hot: u32,
+
+    /// How many items WARM may have: any number.
+    pub warm: u32,
+}
+
 /// One of the six lists of a class. A chunk stands in exactly one of them at every moment.
 #[derive(Clone, Copy, Debug, PartialEq, Eq)]
 pub enum Place {

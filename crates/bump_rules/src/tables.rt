@@ -3,9 +3,10 @@ ghost use Rattle.std.specs.Prelude.{◌≡◌};
 ghost use Rattle.bump_rules.specs.Tables.{dropped_of, ended_of, hit_of, makes_second, may_move, most_exchanges, outcome_of, pulled_of, pulled_to, refused_of, segment_of, touch_of};
 
 use crate::bumps::{Ended, Outcome};
-use crate::commands::{Dropped, Hit, Pulled, Touch};
+use crate::class_lists::ClassLists;
+use crate::commands::{Dropped, Hit, Pulled, Room, Touch};
 use crate::items::{Head, ItemId};
-use crate::places::{Segment, Tail};
+use crate::places::{Limits, Place, Segment, Tail};
 
 /// After so many exchanges that failed no more are tried.
 pub const MOST_EXCHANGES: u32 = 8;
@@ -48,15 +49,15 @@ impl Head {
         Some(Dropped::RefsFull)
     }
 
-    /// The rule of an attempt: why a bump is dropped, if it is, by the same and by whether the ring has room.
-    pub fn dropped(self, limit: u32, failed: u32, has_room: bool) -> Option<Dropped>
-        ensures { result ≡ dropped_of limit failed self has_room }
+    /// The rule of an attempt: why a bump is dropped, if it is, by the same and by the ring's room.
+    pub fn dropped(self, limit: u32, failed: u32, room: Room) -> Option<Dropped>
+        ensures { result ≡ dropped_of limit failed self room }
     {
-        let refused = self.refused(limit, failed);
-        if refused.is_none() && !has_room {
-            return Some(Dropped::Full);
+        match (self.refused(limit, failed), room) {
+            (Some(dropped), _) => Some(dropped),
+            (None, Room::Known) => None,
+            (None, Room::Unknown) => Some(Dropped::Full),
         }
-        refused
     }
 
     /// The update table: what applying a bump comes to, by the head that was found when it was looked at, and by the head that
@@ -124,19 +125,29 @@ impl Tail {
         }
     }
 
-    /// The tail table: what a pull does with the last item of the list, by ACTIVE, by whether the list has more items than its
-    /// limit, and by what the item's end comes to.
-    pub fn pulled(self, active: bool, over: bool, ended: Ended, id: ItemId) -> Pulled
-        ensures { result ≡ pulled_of self active over ended id }
+    /// The tail table: what a pull does with the last item of its list, by the head that was found of it, by the lists as
+    /// they stand, by the limits of HOT and WARM, and by what the item's end comes to, which counts for an evict alone.
+    pub fn pulled(
+        self,
+        found: Head,
+        lists: &ClassLists,
+        limits: Limits,
+        ended: Ended,
+        id: ItemId,
+    ) -> Pulled
+        ensures { result ≡ pulled_of self found lists.now limits ended id }
     {
         match self {
+            Tail::Hot if found.active => Pulled::Warm(id),
+            Tail::Hot if lists.len(Place::Hot) > limits.hot => Pulled::Cold(id),
+            Tail::Hot => Pulled::Stay(id),
+            Tail::Warm if found.active => Pulled::Again(id),
+            Tail::Warm if lists.len(Place::Warm) > limits.warm => Pulled::Cold(id),
+            Tail::Warm => Pulled::Stay(id),
+            Tail::Cold if found.active => Pulled::Warm(id),
+            Tail::Cold => Pulled::Stay(id),
             Tail::Evict if matches!(ended, Ended::Freed) => Pulled::Freed(id),
             Tail::Evict => Pulled::Deferred(id),
-            Tail::Hot if active => Pulled::Warm(id),
-            Tail::Warm if active => Pulled::Again(id),
-            Tail::Cold if active => Pulled::Warm(id),
-            Tail::Hot | Tail::Warm if over => Pulled::Cold(id),
-            _ => Pulled::Stay(id),
         }
     }
 }

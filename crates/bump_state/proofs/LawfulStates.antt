@@ -16,10 +16,10 @@ use Rattle.bump_rules.specs.Lawful.{bit, Shows, IsUsed}
 use Rattle.bump_rules.specs.Lives.{life, is_same, one_if, count_of}
 use Rattle.bump_state.specs.Rings.{in_ring}
 use Rattle.bump_rules.specs.Rings.{attempts_of}
-use Rattle.bump_state.specs.State.{State, chunk, head, worker, class_of, no_class, new_worker}
+use Rattle.bump_state.specs.State.{State, chunk_at, head_at, worker_at, class_of, no_class, new_worker}
 use Rattle.bump_rules.specs.Hands.{is_on}
 use Rattle.bump_rules.specs.Lanes.{applied_life}
-use Rattle.bump_state.specs.Worlds.{holds_of, in_hand_of, aboard_of, bumps_of, references, first_hits_of, place_in, place, WaitsToMove, IsLawful}
+use Rattle.bump_state.specs.Worlds.{holds_of, in_hand_of, in_lane_of, bumps_of, references, first_hits_of, place_in, place, WaitsToMove, IsLawful}
 use Rattle.bump_state.proofs.Tiles.{class_out}
 use Rattle.bump_rules.proofs.Laws.{used_where_linked, none_where_free}
 use Rattle.bump_rules.proofs.Updates.{term_within}
@@ -64,7 +64,7 @@ same_lives l m e = let both = and_parts (eqb l.chunk m.chunk) (eqb l.generation 
     λ i. life (chunks i) (generations i)
 
 -- a lane that applies a bump has it aboard
-applied_counts : (x : Lane) (l : ItemId) → applied_life x ≡ Some l → 0 < aboard_of l x
+applied_counts : (x : Lane) (l : ItemId) → applied_life x ≡ Some l → 0 < in_lane_of l x
 applied_counts lane.Empty l is = absurd (let u : ⊥ = cc in u)
 applied_counts (lane.Carrying b) l is = absurd (let u : ⊥ = cc in u)
 applied_counts (lane.Tried b) l is = let same : b.life ≡ l = cc in omega (arith, ap (one_if l) same, one_if_same l)
@@ -100,15 +100,15 @@ pub held_else : (x : Chunk) (g : ℕ) → g ≢ x.head.generation → held_by x 
 held_else x g other = ap (λ b. cond b x.holds 0) (ne_eqb x.head.generation g (λ e. other (sym e)))
 
 -- a life with holds is its chunk's, and all the chunk's holds are of it
-pub held_current : (s : State) (l : ItemId) → 0 < holds_of s l → ((head s l.chunk).generation ≡ l.generation) × (holds_of s l ≡ (chunk s l.chunk).holds)
-held_current s l some = dite (ℕ_discrete l.generation (head s l.chunk).generation) (λ e. (sym e, held_at (chunk s l.chunk) l.generation (sym e))) (λ ne. absurd (omega (arith, held_else (chunk s l.chunk) l.generation ne)))
+pub held_current : (s : State) (l : ItemId) → 0 < holds_of s l → ((head_at s l.chunk).generation ≡ l.generation) × (holds_of s l ≡ (chunk_at s l.chunk).holds)
+held_current s l some = dite (ℕ_discrete l.generation (head_at s l.chunk).generation) (λ e. (sym e, held_at (chunk_at s l.chunk) l.generation (sym e))) (λ ne. absurd (omega (arith, held_else (chunk_at s l.chunk) l.generation ne)))
 
 -- the holds of a life are references to it
 pub holds_counted : (s : State) (l : ItemId) → holds_of s l ≤ references s l.chunk l.generation
 holds_counted s l = omega arith
 
 -- and so are the bumps of each worker
-pub bumps_counted : (s : State) (l : ItemId) (w : ℕ) → w < length s.workers → bumps_of l (worker s w) ≤ references s l.chunk l.generation
+pub bumps_counted : (s : State) (l : ItemId) (w : ℕ) → w < length s.workers → bumps_of l (worker_at s w) ≤ references s l.chunk l.generation
 bumps_counted s l w within = omega (arith, term_within (bumps_of l) s.workers w new_worker within)
 
 module _ (s : State) (o : IsLawful s) where
@@ -117,7 +117,7 @@ module _ (s : State) (o : IsLawful s) where
   referred_in_range c g some = used_in_range s o c ((o.chunks c).used g some).1
 
   -- the life is its chunk's
-  pub referred_current : (c g : ℕ) → 0 < references s c g → g ≡ (head s c).generation
+  pub referred_current : (c g : ℕ) → 0 < references s c g → g ≡ (head_at s c).generation
   referred_current c g some = ((o.chunks c).used g some).0
 
   -- the chunk isn't free
@@ -125,105 +125,105 @@ module _ (s : State) (o : IsLawful s) where
   referred_used c g some = ((o.chunks c).used g some).1
 
   -- and its count isn't 0
-  pub referred_refs : (c g : ℕ) → 0 < references s c g → 0 < (head s c).refs
+  pub referred_refs : (c g : ℕ) → 0 < references s c g → 0 < (head_at s c).refs
   referred_refs c g some = omega (arith, (o.chunks c).counted, ap (references s c) (referred_current c g some))
 
   -- a chunk has no more holds than its count
-  pub holds_within : (c : ℕ) → (chunk s c).holds ≤ (head s c).refs
-  holds_within c = omega (arith, (o.chunks c).counted, held_here (chunk s c))
+  pub holds_within : (c : ℕ) → (chunk_at s c).holds ≤ (head_at s c).refs
+  holds_within c = omega (arith, (o.chunks c).counted, held_here (chunk_at s c))
 
   -- and the count is at most the limit
-  pub refs_within : (c : ℕ) → (head s c).refs ≤ s.refs_limit
+  pub refs_within : (c : ℕ) → (head_at s c).refs ≤ s.refs_limit
   refs_within c = (o.chunks c).within
 
   -- a linked chunk has a count above its holds
-  pub linked_above_holds : (c : ℕ) → (head s c).linked ≡ true → (chunk s c).holds < (head s c).refs
-  linked_above_holds c on = omega (arith, (o.chunks c).counted, held_here (chunk s c), ap bit on)
+  pub linked_above_holds : (c : ℕ) → (head_at s c).linked ≡ true → (chunk_at s c).holds < (head_at s c).refs
+  linked_above_holds c on = omega (arith, (o.chunks c).counted, held_here (chunk_at s c), ap bit on)
 
   -- a linked chunk is in range
-  pub linked_in_range : (c : ℕ) → (head s c).linked ≡ true → c < length s.chunks
-  linked_in_range c on = used_in_range s o c (used_where_linked (head s c) (place s c) (o.chunks c).shown on)
+  pub linked_in_range : (c : ℕ) → (head_at s c).linked ≡ true → c < length s.chunks
+  linked_in_range c on = used_in_range s o c (used_where_linked (head_at s c) (place s c) (o.chunks c).shown on)
 
   -- an item that a lane is to move is linked, and in COLD
-  pub waiting_linked : (w : ℕ) (b : Bump) → w < length s.workers → (worker s w).lane ≡ lane.Cleared b true → ((head s b.life.chunk).linked ≡ true) × ((head s b.life.chunk).segment ≡ segment.Cold)
+  pub waiting_linked : (w : ℕ) (b : Bump) → w < length s.workers → (worker_at s w).lane ≡ lane.Cleared b true → ((head_at s b.life.chunk).linked ≡ true) × ((head_at s b.life.chunk).segment ≡ segment.Cold)
   waiting_linked w b within is = subst (WaitsToMove s) is (o.waits w within)
 
   -- Lives in a worker's hand.
 
   -- a life that a worker is on has a hold
-  pub on_held : (w : ℕ) (l : ItemId) → w < length s.workers → 0 < is_on l (worker s w).hand → 0 < holds_of s l
+  pub on_held : (w : ℕ) (l : ItemId) → w < length s.workers → 0 < is_on l (worker_at s w).hand → 0 < holds_of s l
   on_held w l within some = omega (arith, o.hands l, term_within (λ x. is_on l x.hand) s.workers w new_worker within)
 
   -- and so references
-  pub on_referred : (w : ℕ) (l : ItemId) → w < length s.workers → 0 < is_on l (worker s w).hand → 0 < references s l.chunk l.generation
+  pub on_referred : (w : ℕ) (l : ItemId) → w < length s.workers → 0 < is_on l (worker_at s w).hand → 0 < references s l.chunk l.generation
   on_referred w l within some = omega (arith, on_held w l within some)
 
   -- a worker is on the life of which it tries to take a reference
-  trying_on : (w : ℕ) (l : ItemId) → (worker s w).hand ≡ hand.Trying l → 0 < is_on l (worker s w).hand
+  trying_on : (w : ℕ) (l : ItemId) → (worker_at s w).hand ≡ hand.Trying l → 0 < is_on l (worker_at s w).hand
   trying_on w l is = omega (arith, ap (is_on l) is, one_if_same l)
 
   -- on the life to which it has a reference
-  in_hand_on : (w : ℕ) (l : ItemId) → (worker s w).hand ≡ hand.InHand l → 0 < is_on l (worker s w).hand
+  in_hand_on : (w : ℕ) (l : ItemId) → (worker_at s w).hand ≡ hand.InHand l → 0 < is_on l (worker_at s w).hand
   in_hand_on w l is = omega (arith, ap (is_on l) is, one_if_same l)
 
   -- and on the life whose ACTIVE it is to clear
-  clearing_on : (w : ℕ) (l : ItemId) → (worker s w).hand ≡ hand.Clearing l → 0 < is_on l (worker s w).hand
+  clearing_on : (w : ℕ) (l : ItemId) → (worker_at s w).hand ≡ hand.Clearing l → 0 < is_on l (worker_at s w).hand
   clearing_on w l is = omega (arith, ap (is_on l) is, one_if_same l)
 
   -- a life of which a worker tries to take a reference has a hold
-  pub tried_held : (w : ℕ) (l : ItemId) → w < length s.workers → (worker s w).hand ≡ hand.Trying l → 0 < holds_of s l
+  pub tried_held : (w : ℕ) (l : ItemId) → w < length s.workers → (worker_at s w).hand ≡ hand.Trying l → 0 < holds_of s l
   tried_held w l within is = on_held w l within (trying_on w l is)
 
   -- and so references
-  pub tried_referred : (w : ℕ) (l : ItemId) → w < length s.workers → (worker s w).hand ≡ hand.Trying l → 0 < references s l.chunk l.generation
+  pub tried_referred : (w : ℕ) (l : ItemId) → w < length s.workers → (worker_at s w).hand ≡ hand.Trying l → 0 < references s l.chunk l.generation
   tried_referred w l within is = on_referred w l within (trying_on w l is)
 
   -- its chunk is in range
-  pub tried_in_range : (w : ℕ) (l : ItemId) → w < length s.workers → (worker s w).hand ≡ hand.Trying l → l.chunk < length s.chunks
+  pub tried_in_range : (w : ℕ) (l : ItemId) → w < length s.workers → (worker_at s w).hand ≡ hand.Trying l → l.chunk < length s.chunks
   tried_in_range w l within is = referred_in_range l.chunk l.generation (tried_referred w l within is)
 
   -- and it is its chunk's
-  pub tried_current : (w : ℕ) (l : ItemId) → w < length s.workers → (worker s w).hand ≡ hand.Trying l → l.generation ≡ (head s l.chunk).generation
+  pub tried_current : (w : ℕ) (l : ItemId) → w < length s.workers → (worker_at s w).hand ≡ hand.Trying l → l.generation ≡ (head_at s l.chunk).generation
   tried_current w l within is = referred_current l.chunk l.generation (tried_referred w l within is)
 
   -- a life with a reference in a worker's hand has a hold
-  pub in_hand_held : (w : ℕ) (l : ItemId) → w < length s.workers → (worker s w).hand ≡ hand.InHand l → 0 < holds_of s l
+  pub in_hand_held : (w : ℕ) (l : ItemId) → w < length s.workers → (worker_at s w).hand ≡ hand.InHand l → 0 < holds_of s l
   in_hand_held w l within is = on_held w l within (in_hand_on w l is)
 
   -- and so references
-  pub in_hand_referred : (w : ℕ) (l : ItemId) → w < length s.workers → (worker s w).hand ≡ hand.InHand l → 0 < references s l.chunk l.generation
+  pub in_hand_referred : (w : ℕ) (l : ItemId) → w < length s.workers → (worker_at s w).hand ≡ hand.InHand l → 0 < references s l.chunk l.generation
   in_hand_referred w l within is = on_referred w l within (in_hand_on w l is)
 
   -- its chunk is in range
-  pub in_hand_in_range : (w : ℕ) (l : ItemId) → w < length s.workers → (worker s w).hand ≡ hand.InHand l → l.chunk < length s.chunks
+  pub in_hand_in_range : (w : ℕ) (l : ItemId) → w < length s.workers → (worker_at s w).hand ≡ hand.InHand l → l.chunk < length s.chunks
   in_hand_in_range w l within is = referred_in_range l.chunk l.generation (in_hand_referred w l within is)
 
   -- and it is its chunk's
-  pub in_hand_current : (w : ℕ) (l : ItemId) → w < length s.workers → (worker s w).hand ≡ hand.InHand l → l.generation ≡ (head s l.chunk).generation
+  pub in_hand_current : (w : ℕ) (l : ItemId) → w < length s.workers → (worker_at s w).hand ≡ hand.InHand l → l.generation ≡ (head_at s l.chunk).generation
   in_hand_current w l within is = referred_current l.chunk l.generation (in_hand_referred w l within is)
 
   -- a life whose ACTIVE a worker is to clear has a hold
-  pub cleared_held : (w : ℕ) (l : ItemId) → w < length s.workers → (worker s w).hand ≡ hand.Clearing l → 0 < holds_of s l
+  pub cleared_held : (w : ℕ) (l : ItemId) → w < length s.workers → (worker_at s w).hand ≡ hand.Clearing l → 0 < holds_of s l
   cleared_held w l within is = on_held w l within (clearing_on w l is)
 
   -- and so references
-  pub cleared_referred : (w : ℕ) (l : ItemId) → w < length s.workers → (worker s w).hand ≡ hand.Clearing l → 0 < references s l.chunk l.generation
+  pub cleared_referred : (w : ℕ) (l : ItemId) → w < length s.workers → (worker_at s w).hand ≡ hand.Clearing l → 0 < references s l.chunk l.generation
   cleared_referred w l within is = on_referred w l within (clearing_on w l is)
 
   -- its chunk is in range
-  pub cleared_in_range : (w : ℕ) (l : ItemId) → w < length s.workers → (worker s w).hand ≡ hand.Clearing l → l.chunk < length s.chunks
+  pub cleared_in_range : (w : ℕ) (l : ItemId) → w < length s.workers → (worker_at s w).hand ≡ hand.Clearing l → l.chunk < length s.chunks
   cleared_in_range w l within is = referred_in_range l.chunk l.generation (cleared_referred w l within is)
 
   -- and it is its chunk's
-  pub cleared_current : (w : ℕ) (l : ItemId) → w < length s.workers → (worker s w).hand ≡ hand.Clearing l → l.generation ≡ (head s l.chunk).generation
+  pub cleared_current : (w : ℕ) (l : ItemId) → w < length s.workers → (worker_at s w).hand ≡ hand.Clearing l → l.generation ≡ (head_at s l.chunk).generation
   cleared_current w l within is = referred_current l.chunk l.generation (cleared_referred w l within is)
 
   -- the count of a chunk with a reference in a worker's hand is above its holds
-  pub in_hand_above_holds : (w : ℕ) (l : ItemId) → w < length s.workers → (worker s w).hand ≡ hand.InHand l → (chunk s l.chunk).holds < (head s l.chunk).refs
+  pub in_hand_above_holds : (w : ℕ) (l : ItemId) → w < length s.workers → (worker_at s w).hand ≡ hand.InHand l → (chunk_at s l.chunk).holds < (head_at s l.chunk).refs
   in_hand_above_holds w l within is = omega (
     arith,
     (o.chunks l.chunk).counted,
-    held_here (chunk s l.chunk),
+    held_here (chunk_at s l.chunk),
     ap (references s l.chunk) (in_hand_current w l within is),
     ap (λ g. holds_of s (life l.chunk g)) (in_hand_current w l within is),
     term_within (bumps_of l) s.workers w new_worker within,
@@ -234,103 +234,103 @@ module _ (s : State) (o : IsLawful s) where
   -- Bumps in a ring or in a lane.
 
   -- a life with a bump in a ring has references
-  pub in_ring_referred : (w : ℕ) (l : ItemId) → w < length s.workers → 0 < count_of l (in_ring (worker s w)) → 0 < references s l.chunk l.generation
+  pub in_ring_referred : (w : ℕ) (l : ItemId) → w < length s.workers → 0 < count_of l (in_ring (worker_at s w)) → 0 < references s l.chunk l.generation
   in_ring_referred w l within some = omega (arith, bumps_counted s l w within)
 
   -- its chunk is in range
-  pub in_ring_in_range : (w : ℕ) (l : ItemId) → w < length s.workers → 0 < count_of l (in_ring (worker s w)) → l.chunk < length s.chunks
+  pub in_ring_in_range : (w : ℕ) (l : ItemId) → w < length s.workers → 0 < count_of l (in_ring (worker_at s w)) → l.chunk < length s.chunks
   in_ring_in_range w l within some = referred_in_range l.chunk l.generation (in_ring_referred w l within some)
 
   -- and it is its chunk's
-  pub in_ring_current : (w : ℕ) (l : ItemId) → w < length s.workers → 0 < count_of l (in_ring (worker s w)) → l.generation ≡ (head s l.chunk).generation
+  pub in_ring_current : (w : ℕ) (l : ItemId) → w < length s.workers → 0 < count_of l (in_ring (worker_at s w)) → l.generation ≡ (head_at s l.chunk).generation
   in_ring_current w l within some = referred_current l.chunk l.generation (in_ring_referred w l within some)
 
   -- a life with a bump aboard a lane has references
-  pub aboard_referred : (w : ℕ) (l : ItemId) → w < length s.workers → 0 < aboard_of l (worker s w).lane → 0 < references s l.chunk l.generation
+  pub aboard_referred : (w : ℕ) (l : ItemId) → w < length s.workers → 0 < in_lane_of l (worker_at s w).lane → 0 < references s l.chunk l.generation
   aboard_referred w l within some = omega (arith, bumps_counted s l w within)
 
   -- its chunk is in range
-  pub aboard_in_range : (w : ℕ) (l : ItemId) → w < length s.workers → 0 < aboard_of l (worker s w).lane → l.chunk < length s.chunks
+  pub aboard_in_range : (w : ℕ) (l : ItemId) → w < length s.workers → 0 < in_lane_of l (worker_at s w).lane → l.chunk < length s.chunks
   aboard_in_range w l within some = referred_in_range l.chunk l.generation (aboard_referred w l within some)
 
   -- it is its chunk's
-  pub aboard_current : (w : ℕ) (l : ItemId) → w < length s.workers → 0 < aboard_of l (worker s w).lane → l.generation ≡ (head s l.chunk).generation
+  pub aboard_current : (w : ℕ) (l : ItemId) → w < length s.workers → 0 < in_lane_of l (worker_at s w).lane → l.generation ≡ (head_at s l.chunk).generation
   aboard_current w l within some = referred_current l.chunk l.generation (aboard_referred w l within some)
 
   -- the count of its chunk is above the holds
-  pub aboard_above_holds : (w : ℕ) (l : ItemId) → w < length s.workers → 0 < aboard_of l (worker s w).lane → (chunk s l.chunk).holds < (head s l.chunk).refs
+  pub aboard_above_holds : (w : ℕ) (l : ItemId) → w < length s.workers → 0 < in_lane_of l (worker_at s w).lane → (chunk_at s l.chunk).holds < (head_at s l.chunk).refs
   aboard_above_holds w l within some = omega (
     arith,
     (o.chunks l.chunk).counted,
-    held_here (chunk s l.chunk),
+    held_here (chunk_at s l.chunk),
     ap (references s l.chunk) (aboard_current w l within some),
     ap (λ g. holds_of s (life l.chunk g)) (aboard_current w l within some),
     term_within (bumps_of l) s.workers w new_worker within,
   )
 
   -- a lane that applies a bump has it aboard
-  pub applied_aboard : (w : ℕ) (l : ItemId) → applied_life (worker s w).lane ≡ Some l → 0 < aboard_of l (worker s w).lane
-  applied_aboard w l is = applied_counts (worker s w).lane l is
+  pub applied_aboard : (w : ℕ) (l : ItemId) → applied_life (worker_at s w).lane ≡ Some l → 0 < in_lane_of l (worker_at s w).lane
+  applied_aboard w l is = applied_counts (worker_at s w).lane l is
 
   -- the chunk of a bump that is applied is in range
-  pub applied_in_range : (w : ℕ) (l : ItemId) → w < length s.workers → applied_life (worker s w).lane ≡ Some l → l.chunk < length s.chunks
+  pub applied_in_range : (w : ℕ) (l : ItemId) → w < length s.workers → applied_life (worker_at s w).lane ≡ Some l → l.chunk < length s.chunks
   applied_in_range w l within is = aboard_in_range w l within (applied_aboard w l is)
 
   -- by how far the lane is: the chunk of its bump is in range
-  pub carrying_in_range : (w : ℕ) (b : Bump) → w < length s.workers → (worker s w).lane ≡ lane.Carrying b → b.life.chunk < length s.chunks
-  carrying_in_range w b within is = aboard_in_range w b.life within (omega (arith, ap (aboard_of b.life) is, one_if_same b.life))
+  pub carrying_in_range : (w : ℕ) (b : Bump) → w < length s.workers → (worker_at s w).lane ≡ lane.Carrying b → b.life.chunk < length s.chunks
+  carrying_in_range w b within is = aboard_in_range w b.life within (omega (arith, ap (in_lane_of b.life) is, one_if_same b.life))
 
   -- where it looked at the item
-  pub looked_in_range : (w : ℕ) (b : Bump) → w < length s.workers → (worker s w).lane ≡ lane.Tried b → b.life.chunk < length s.chunks
-  looked_in_range w b within is = aboard_in_range w b.life within (omega (arith, ap (aboard_of b.life) is, one_if_same b.life))
+  pub looked_in_range : (w : ℕ) (b : Bump) → w < length s.workers → (worker_at s w).lane ≡ lane.Tried b → b.life.chunk < length s.chunks
+  looked_in_range w b within is = aboard_in_range w b.life within (omega (arith, ap (in_lane_of b.life) is, one_if_same b.life))
 
   -- where it cleared ACTIVE
-  pub unmarked_in_range : (w : ℕ) (b : Bump) (found : Bool) → w < length s.workers → (worker s w).lane ≡ lane.Cleared b found → b.life.chunk < length s.chunks
-  unmarked_in_range w b found within is = aboard_in_range w b.life within (omega (arith, ap (aboard_of b.life) is, one_if_same b.life))
+  pub unmarked_in_range : (w : ℕ) (b : Bump) (found : Bool) → w < length s.workers → (worker_at s w).lane ≡ lane.Cleared b found → b.life.chunk < length s.chunks
+  unmarked_in_range w b found within is = aboard_in_range w b.life within (omega (arith, ap (in_lane_of b.life) is, one_if_same b.life))
 
   -- and where it moved the item
-  pub moved_in_range : (w : ℕ) (b : Bump) → w < length s.workers → (worker s w).lane ≡ lane.Moved b → b.life.chunk < length s.chunks
-  moved_in_range w b within is = aboard_in_range w b.life within (omega (arith, ap (aboard_of b.life) is, one_if_same b.life))
+  pub moved_in_range : (w : ℕ) (b : Bump) → w < length s.workers → (worker_at s w).lane ≡ lane.Moved b → b.life.chunk < length s.chunks
+  moved_in_range w b within is = aboard_in_range w b.life within (omega (arith, ap (in_lane_of b.life) is, one_if_same b.life))
 
   -- Free chunks.
 
   -- no life of a chunk in UNUSED has references
   pub unused_unreferred : (c : ℕ) → place s c ≡ Unused → (g : ℕ) → references s c g ≡ 0
-  unused_unreferred c is = none_where_free s.refs_limit (head s c) (place s c) (references s c) (first_hits_of s c) (o.chunks c) (ap IsUsed is)
+  unused_unreferred c is = none_where_free s.refs_limit (head_at s c) (place s c) (references s c) (first_hits_of s c) (o.chunks c) (ap IsUsed is)
 
   -- its head isn't linked, and has not the last generation
-  pub unused_shown : (c : ℕ) → place s c ≡ Unused → ((head s c).linked ≡ false) × ((head s c).generation < 4294967295)
-  unused_shown c is = subst (Shows (head s c)) is (o.chunks c).shown
+  pub unused_shown : (c : ℕ) → place s c ≡ Unused → ((head_at s c).linked ≡ false) × ((head_at s c).generation < 4294967295)
+  unused_shown c is = subst (Shows (head_at s c)) is (o.chunks c).shown
 
   -- its count is 0
-  pub unused_refs : (c : ℕ) → place s c ≡ Unused → (head s c).refs ≡ 0
-  unused_refs c is = omega (arith, (o.chunks c).counted, unused_unreferred c is (head s c).generation, ap bit (unused_shown c is).0)
+  pub unused_refs : (c : ℕ) → place s c ≡ Unused → (head_at s c).refs ≡ 0
+  unused_refs c is = omega (arith, (o.chunks c).counted, unused_unreferred c is (head_at s c).generation, ap bit (unused_shown c is).0)
 
   -- and it has no holds
-  pub unused_holds : (c : ℕ) → place s c ≡ Unused → (chunk s c).holds ≡ 0
+  pub unused_holds : (c : ℕ) → place s c ≡ Unused → (chunk_at s c).holds ≡ 0
   unused_holds c is = omega (arith, holds_within c, unused_refs c is)
 
   -- A worker's accounts.
 
   -- while an attempt is under way the attempted are one more than the accepted and the dropped
-  pub counts_under_way : (w : ℕ) → w < length s.workers → attempts_of (worker s w).hand ≡ 1
-      → (worker s w).accounts.accepted + (worker s w).accounts.full + (worker s w).accounts.busy + (worker s w).accounts.refs + 1 ≡ (worker s w).accounts.attempted
+  pub counts_under_way : (w : ℕ) → w < length s.workers → attempts_of (worker_at s w).hand ≡ 1
+      → (worker_at s w).accounts.accepted + (worker_at s w).accounts.full + (worker_at s w).accounts.busy + (worker_at s w).accounts.refs + 1 ≡ (worker_at s w).accounts.attempted
   counts_under_way w within one = omega (arith, (o.workers w within).accounts.attempted)
 
   -- so it is while the worker tries to take a reference
-  pub tried_under_way : (w : ℕ) (l : ItemId) → w < length s.workers → (worker s w).hand ≡ hand.Trying l
-      → (worker s w).accounts.accepted + (worker s w).accounts.full + (worker s w).accounts.busy + (worker s w).accounts.refs + 1 ≡ (worker s w).accounts.attempted
+  pub tried_under_way : (w : ℕ) (l : ItemId) → w < length s.workers → (worker_at s w).hand ≡ hand.Trying l
+      → (worker_at s w).accounts.accepted + (worker_at s w).accounts.full + (worker_at s w).accounts.busy + (worker_at s w).accounts.refs + 1 ≡ (worker_at s w).accounts.attempted
   tried_under_way w l within is = counts_under_way w within (ap attempts_of is)
 
   -- and while it has the reference in its hand
-  pub in_hand_under_way : (w : ℕ) (l : ItemId) → w < length s.workers → (worker s w).hand ≡ hand.InHand l
-      → (worker s w).accounts.accepted + (worker s w).accounts.full + (worker s w).accounts.busy + (worker s w).accounts.refs + 1 ≡ (worker s w).accounts.attempted
+  pub in_hand_under_way : (w : ℕ) (l : ItemId) → w < length s.workers → (worker_at s w).hand ≡ hand.InHand l
+      → (worker_at s w).accounts.accepted + (worker_at s w).accounts.full + (worker_at s w).accounts.busy + (worker_at s w).accounts.refs + 1 ≡ (worker_at s w).accounts.attempted
   in_hand_under_way w l within is = counts_under_way w within (ap attempts_of is)
 
   -- a lane received no more than was sent
-  pub received_within : (w : ℕ) → w < length s.workers → length (worker s w).received ≤ length (worker s w).sent
-  received_within w within = omega (arith, ap length (o.workers w within).ring.prefix, length-append (worker s w).received (in_ring (worker s w)))
+  pub received_within : (w : ℕ) → w < length s.workers → length (worker_at s w).received ≤ length (worker_at s w).sent
+  received_within w within = omega (arith, ap length (o.workers w within).ring.prefix, length-append (worker_at s w).received (in_ring (worker_at s w)))
 
   -- no more were sent than attempted
-  pub sent_within : (w : ℕ) → w < length s.workers → length (worker s w).sent ≤ (worker s w).accounts.attempted
+  pub sent_within : (w : ℕ) → w < length s.workers → length (worker_at s w).sent ≤ (worker_at s w).accounts.attempted
   sent_within w within = omega (arith, (o.workers w within).accounts.accepted, (o.workers w within).accounts.attempted)

@@ -1,7 +1,7 @@
 -- Which class has a chunk.
 use Rattle.std.proofs.Common.{◌≡◌, ℕ, zero, suc, ◌<◌, ◌≤◌, cond, leb, ltb, true, List, [], ◌∷◌, length, slice_index_or, slice_set, refl, sym, ap, ◌∙◌, subst, arith, ⊎_elim}
 use Rattle.std.proofs.lemmas.Bool.{and_parts, and_from, ltb-true, leb-true, lt-ltb, le-ltb, le-leb, cases_lt, cond-true, cond-false}
-use Rattle.bump_state.specs.State.{State, ClassState, class, no_class, class_from, class_of}
+use Rattle.bump_state.specs.State.{State, ClassState, class_at, no_class, class_from, class_of}
 use Rattle.bump_state.specs.Worlds.{owns, Tiles}
 
 -- the chunk of a class is from its first on and below its end
@@ -70,15 +70,15 @@ module _ (s : State) (tiles : Tiles 0 s.classes (length s.chunks)) where
   class_within c in_range = (class_found 0 s.classes (length s.chunks) c tiles (omega arith) in_range).0
 
   -- and its class has it
-  pub class_owns : (c : ℕ) → c < length s.chunks → owns (class s (class_of s c)) c ≡ true
+  pub class_owns : (c : ℕ) → c < length s.chunks → owns (class_at s (class_of s c)) c ≡ true
   class_owns c in_range = (class_found 0 s.classes (length s.chunks) c tiles (omega arith) in_range).1
 
   -- a chunk that a class has is of that class
-  pub owner : (k c : ℕ) → k < length s.classes → owns (class s k) c ≡ true → class_of s c ≡ k
+  pub owner : (k c : ℕ) → k < length s.classes → owns (class_at s k) c ≡ true → class_of s c ≡ k
   owner k c within own = (class_is 0 s.classes (length s.chunks) k c tiles within own).0
 
   -- and is in range
-  pub owned_in_range : (k c : ℕ) → k < length s.classes → owns (class s k) c ≡ true → c < length s.chunks
+  pub owned_in_range : (k c : ℕ) → k < length s.classes → owns (class_at s k) c ≡ true → c < length s.chunks
   owned_in_range k c within own = (class_is 0 s.classes (length s.chunks) k c tiles within own).2
 
   -- a number past the chunks is of no class

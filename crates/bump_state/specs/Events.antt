@@ -4,6 +4,7 @@ use Rattle.std.specs.Option.{option_map_or}
 use Rattle.bump_rules.specs.Heads.{newborn, one_more, one_fewer, fetched_head, active_head, cleared_head, moved_head, severed_head}
 use Rattle.bump_rules.specs.declared.places.Segment.{Segment}
 use Rattle.bump_rules.specs.declared.places.Segment.TheVariants as segment
+use Rattle.bump_rules.specs.declared.items.Head.{Head}
 use Rattle.bump_rules.specs.declared.items.ItemId.{ItemId}
 use Rattle.bump_rules.specs.declared.history.Cause.TheVariants.{Pull, Bump as BumpOf}
 use Rattle.bump_rules.specs.declared.history.Change.TheVariants as change
@@ -23,245 +24,339 @@ use Rattle.bump_rules.specs.Tables.{is_cold, is_unheld, may_move}
 use Rattle.bump_rules.specs.Rings.{most_attempts}
 use Rattle.bump_links.specs.Lists.{first_of, times}
 use Rattle.bump_rules.specs.History.{freed_change}
-use Rattle.bump_state.specs.State.{State, WorkerState, chunk, head, class, worker, is_chunk, is_class, is_worker, with_chunk, with_head, with_worker, with_change, class_of, is_linked, is_held, has_free_hold, is_open, some_and, is_under_application}
+use Rattle.bump_state.specs.State.{State, WorkerState, chunk_at, head_at, class_at, worker_at, is_chunk, is_class, is_worker, with_chunk, with_head, with_worker, with_change, class_of, is_linked, is_held, has_free_hold, is_open, some_and, is_under_application}
 use Rattle.bump_rules.specs.Hands.{tried_life, life_in_hand, cleared_life, is_idle}
 use Rattle.bump_rules.specs.Lanes.{carried, tried, applied_now, cleared_active, is_empty, bump_of, ending_at}
 
 -- the count is under the limit
 abbrev pub is_under_limit : State → ℕ → Bool
-is_under_limit s c = nat_lt (head s c).refs s.refs_limit
+is_under_limit state chunk = nat_lt (head_at state chunk).refs state.refs_limit
 
 -- the worker may begin a step of a hit: its ring is open, it is Idle, and the life has a hold that no other worker uses
 abbrev pub may_hit : State → ℕ → ItemId → Bool
-may_hit s w l = is_open s w && (is_idle (worker s w).hand && has_free_hold s l)
+may_hit state worker item = is_open state worker && (is_idle (worker_at state worker).hand && has_free_hold state item)
 
 -- no lane applies a bump of this class
 abbrev pub is_at_rest : State → ℕ → Bool
-is_at_rest s k = not (is_under_application s k)
+is_at_rest state class = not (is_under_application state class)
 
 -- the same of a class that exists
 abbrev pub is_class_at_rest : State → ℕ → Bool
-is_class_at_rest s k = is_class s k && is_at_rest s k
+is_class_at_rest state class = is_class state class && is_at_rest state class
 
 -- the chunk that the next link of a class takes: the front of UNUSED
 abbrev pub next_chunk : State → ℕ → Option ℕ
-next_chunk s k = first_of (class s k).lists.unused
+next_chunk state class = first_of (class_at state class).lists.unused
 
 -- the chunk stands in its class's DYING
 abbrev pub is_dying : State → ℕ → Bool
-is_dying s c = nat_lt 0 (times c (class s (class_of s c)).lists.dying)
+is_dying state chunk = nat_lt 0 (times chunk (class_at state (class_of state chunk)).lists.dying)
 
 -- bumps that the lane has not taken yet
 abbrev pub waiting : WorkerState → ℕ
-waiting x = length x.sent - length x.received
+waiting worker = length worker.sent - length worker.received
 
 -- the next bump that the lane takes
 abbrev pub next_bump : WorkerState → Option ItemId
-next_bump x = slice_get x.sent (length x.received)
+next_bump worker = slice_get worker.sent (length worker.received)
+
+-- the head is of a linked item in COLD
+abbrev pub is_in_cold : Head → Bool
+is_in_cold head = head.linked && is_cold head.segment
 
 -- the bump that a worker's lane may end, and what with
 abbrev pub ending : State → ℕ → Option AppliedBump
-ending s w = ending_at (head s) (worker s w).lane
+ending state worker = ending_at (head_at state) (worker_at state worker).lane
 
--- When an event is enabled. Numbers out of range name nothing, and no event is enabled of them: a worker that isn't there has nothing in
--- its hand, its ring and its lane.
+-- When an event is enabled. Numbers out of range name nothing, and no event is enabled of them: a worker that isn't
+-- there has nothing in its hand, its ring and its lane, and a chunk that isn't there is neither linked nor DYING.
 abbrev pub is_enabled : State → Event → Bool
-is_enabled s (event.Load c) = is_chunk s c
-is_enabled s (event.Take w l) = is_open s w && (is_linked s l && is_under_limit s l.chunk)
-is_enabled s (event.Fetch w l) = may_hit s w l
-is_enabled s (event.Mark w l) = may_hit s w l && ((head s l.chunk).fetched && nat_lt (worker s w).accounts.attempted most_attempts)
-is_enabled s (event.Reserve w) = some_and (λ l. is_under_limit s l.chunk) (tried_life (worker s w).hand)
-is_enabled s (event.DropRefs w) = some_and (λ l. not (is_under_limit s l.chunk)) (tried_life (worker s w).hand)
-is_enabled s (event.DropBusy w) = is_some (tried_life (worker s w).hand)
-is_enabled s (event.Push w) = is_open s w && (is_some (life_in_hand (worker s w).hand) && nat_lt (waiting (worker s w)) s.capacity)
-is_enabled s (event.DropFull w) = is_some (life_in_hand (worker s w).hand) && not (nat_lt (length (worker s w).sent) s.capacity)
-is_enabled s (event.Unmark w) = is_some (cleared_life (worker s w).hand)
-is_enabled s (event.Close w) = is_open s w && is_idle (worker s w).hand
-is_enabled s (event.StoreTime l t) = is_held s l
-is_enabled s (event.Release l) = has_free_hold s l
-is_enabled s (event.PutLabel k x) = is_class_at_rest s k && is_some (next_chunk s k)
-is_enabled s (event.PutTime k t) = is_class_at_rest s k && is_some (next_chunk s k)
-is_enabled s (event.Link k) = is_class_at_rest s k && is_some (next_chunk s k)
-is_enabled s (event.Unlink l) = is_linked s l && is_at_rest s (class_of s l.chunk)
-is_enabled s (event.Sweep c) = is_chunk s c && (is_dying s c && (is_unheld (head s c) && is_at_rest s (class_of s c)))
-is_enabled s (event.ClearActive c) = is_chunk s c && ((head s c).linked && is_at_rest s (class_of s c))
-is_enabled s (event.Move c to) = is_chunk s c && ((head s c).linked && (may_move (head s c).segment to && is_at_rest s (class_of s c)))
-is_enabled s (event.TakeBump w) = is_empty (worker s w).lane && nat_lt (length (worker s w).received) (length (worker s w).sent)
-is_enabled s (event.Try w) = some_and (λ b. is_at_rest s (class_of s b.life.chunk)) (carried (worker s w).lane)
-is_enabled s (event.BumpTime w t) = some_and (λ b. (head s b.life.chunk).linked) (applied_now (worker s w).lane)
-is_enabled s (event.ClearFor w) = some_and (λ b. (head s b.life.chunk).linked && is_cold (head s b.life.chunk).segment) (tried (worker s w).lane)
-is_enabled s (event.MoveFor w) = is_some (cleared_active (worker s w).lane)
-is_enabled s (event.Alight w) = is_some (ending s w)
+is_enabled state (event.Load chunk) = is_chunk state chunk
+is_enabled state (event.Take worker item) =
+    is_open state worker && (is_linked state item && is_under_limit state item.chunk)
+is_enabled state (event.Fetch worker item) = may_hit state worker item
+is_enabled state (event.Mark worker item) =
+    may_hit state worker item
+    && ((head_at state item.chunk).fetched && nat_lt (worker_at state worker).accounts.attempted most_attempts)
+is_enabled state (event.Reserve worker) =
+    some_and (λ item. is_under_limit state item.chunk) (tried_life (worker_at state worker).hand)
+is_enabled state (event.DropRefs worker) =
+    some_and (λ item. not (is_under_limit state item.chunk)) (tried_life (worker_at state worker).hand)
+is_enabled state (event.DropBusy worker) = is_some (tried_life (worker_at state worker).hand)
+is_enabled state (event.Push worker) =
+    is_open state worker
+    && (is_some (life_in_hand (worker_at state worker).hand)
+    && nat_lt (waiting (worker_at state worker)) state.capacity)
+is_enabled state (event.DropFull worker) =
+    is_some (life_in_hand (worker_at state worker).hand)
+    && not (nat_lt (length (worker_at state worker).sent) state.capacity)
+is_enabled state (event.Unmark worker) = is_some (cleared_life (worker_at state worker).hand)
+is_enabled state (event.Close worker) = is_open state worker && is_idle (worker_at state worker).hand
+is_enabled state (event.StoreTime item time) = is_held state item
+is_enabled state (event.Release item) = has_free_hold state item
+is_enabled state (event.PutLabel class label) = is_class_at_rest state class && is_some (next_chunk state class)
+is_enabled state (event.PutTime class time) = is_class_at_rest state class && is_some (next_chunk state class)
+is_enabled state (event.Link class) = is_class_at_rest state class && is_some (next_chunk state class)
+is_enabled state (event.Unlink item) = is_linked state item && is_at_rest state (class_of state item.chunk)
+is_enabled state (event.Sweep chunk) =
+    is_dying state chunk && (is_unheld (head_at state chunk) && is_at_rest state (class_of state chunk))
+is_enabled state (event.ClearActive chunk) =
+    (head_at state chunk).linked && is_at_rest state (class_of state chunk)
+is_enabled state (event.Move chunk to) =
+    (head_at state chunk).linked
+    && (may_move (head_at state chunk).segment to && is_at_rest state (class_of state chunk))
+is_enabled state (event.TakeBump worker) =
+    is_empty (worker_at state worker).lane
+    && nat_lt (length (worker_at state worker).received) (length (worker_at state worker).sent)
+is_enabled state (event.Try worker) =
+    some_and (λ bump. is_at_rest state (class_of state bump.life.chunk)) (carried (worker_at state worker).lane)
+is_enabled state (event.BumpTime worker time) =
+    some_and (λ bump. (head_at state bump.life.chunk).linked) (applied_now (worker_at state worker).lane)
+is_enabled state (event.ClearFor worker) =
+    some_and (λ bump. is_in_cold (head_at state bump.life.chunk)) (tried (worker_at state worker).lane)
+is_enabled state (event.MoveFor worker) = is_some (cleared_active (worker_at state worker).lane)
+is_enabled state (event.Alight worker) = is_some (ending state worker)
 
--- An event that only reads or writes what is there asks for no memory. The others may: for an entry of a history, a bump, or a first
--- hit, which is one only where FETCHED was clear.
+-- An event that only reads or writes what is there asks for no memory. The others may: for an entry of a history, a
+-- bump, or a first hit, which is one only where FETCHED was clear.
 abbrev pub asks_for_memory : State → Event → Bool
-asks_for_memory s (event.Fetch w l) = not (head s l.chunk).fetched
-asks_for_memory s (event.Push w) = true
-asks_for_memory s (event.Link k) = true
-asks_for_memory s (event.Unlink l) = true
-asks_for_memory s (event.Sweep c) = true
-asks_for_memory s (event.Move c to) = true
-asks_for_memory s (event.MoveFor w) = true
-asks_for_memory s (event.Alight w) = true
-asks_for_memory s _ = false
+asks_for_memory state (event.Fetch worker item) = not (head_at state item.chunk).fetched
+asks_for_memory state (event.Push worker) = true
+asks_for_memory state (event.Link class) = true
+asks_for_memory state (event.Unlink item) = true
+asks_for_memory state (event.Sweep chunk) = true
+asks_for_memory state (event.Move chunk to) = true
+asks_for_memory state (event.MoveFor worker) = true
+asks_for_memory state (event.Alight worker) = true
+asks_for_memory state _ = false
 
 -- The changes that the events make, by the chunk, worker or class that they concern.
 
 -- a hold more, or fewer
 abbrev pub with_hold : State → ℕ → State
-with_hold s c = let x = chunk s c in with_chunk s c (record x { head = one_more x.head; holds = x.holds + 1 })
+with_hold state chunk =
+    let old = chunk_at state chunk in
+    with_chunk state chunk (record old { head = one_more old.head; holds = old.holds + 1 })
 
 abbrev pub without_hold : State → ℕ → State
-without_hold s c = let x = chunk s c in with_chunk s c (record x { head = one_fewer x.head; holds = x.holds - 1 })
+without_hold state chunk =
+    let old = chunk_at state chunk in
+    with_chunk state chunk (record old { head = one_fewer old.head; holds = old.holds - 1 })
 
 abbrev pub with_time : State → ℕ → ℕ → State
-with_time s c t = with_chunk s c (record (chunk s c) { time = t })
+with_time state chunk time = with_chunk state chunk (record (chunk_at state chunk) { time = time })
 
 abbrev pub with_label : State → ℕ → ℕ → State
-with_label s c x = with_chunk s c (record (chunk s c) { label = x })
+with_label state chunk label = with_chunk state chunk (record (chunk_at state chunk) { label = label })
 
 -- FETCHED is set, and where it was clear the life joins the worker's first hits
 abbrev pub fetch : State → ℕ → ItemId → State
-fetch s w l =
-    let x = worker s w in
-    let t = with_head s l.chunk (fetched_head (head s l.chunk)) in
-    if (head s l.chunk).fetched then t else with_worker t w (record x { first_hits = x.first_hits ++ l ∷ [] })
+fetch state worker item =
+    let old = worker_at state worker in
+    let fetched = with_head state item.chunk (fetched_head (head_at state item.chunk)) in
+    if (head_at state item.chunk).fetched then fetched
+    else with_worker fetched worker (record old { first_hits = old.first_hits ++ item ∷ [] })
 
 -- ACTIVE is set, and where it was clear in COLD a bump is attempted
 abbrev pub mark : State → ℕ → ItemId → State
-mark s w l =
-    let x = worker s w in
-    let h = head s l.chunk in
-    let t = with_head s l.chunk (active_head h) in
-    if not h.active && is_cold h.segment then with_worker t w (record x { hand = hand.Trying l; accounts = record x.accounts { attempted = x.accounts.attempted + 1 } }) else t
+mark state worker item =
+    let old = worker_at state worker in
+    let head = head_at state item.chunk in
+    let marked = with_head state item.chunk (active_head head) in
+    if not head.active && is_cold head.segment
+    then with_worker marked worker (record old {
+      hand = hand.Trying item;
+      accounts = record old.accounts { attempted = old.accounts.attempted + 1 };
+    })
+    else marked
 
 abbrev pub reserve : State → ℕ → ItemId → State
-reserve s w l = with_worker (with_head s l.chunk (one_more (head s l.chunk))) w (record (worker s w) { hand = hand.InHand l })
+reserve state worker item =
+    let reserved = with_head state item.chunk (one_more (head_at state item.chunk)) in
+    with_worker reserved worker (record (worker_at state worker) { hand = hand.InHand item })
 
 abbrev pub drop_refs : State → ℕ → ItemId → State
-drop_refs s w l = let x = worker s w in with_worker s w (record x { hand = hand.Clearing l; accounts = record x.accounts { refs = x.accounts.refs + 1 } })
+drop_refs state worker item =
+    let old = worker_at state worker in
+    with_worker state worker (record old {
+      hand = hand.Clearing item;
+      accounts = record old.accounts { refs = old.accounts.refs + 1 };
+    })
 
 abbrev pub drop_busy : State → ℕ → ItemId → State
-drop_busy s w l = let x = worker s w in with_worker s w (record x { hand = hand.Clearing l; accounts = record x.accounts { busy = x.accounts.busy + 1 } })
+drop_busy state worker item =
+    let old = worker_at state worker in
+    with_worker state worker (record old {
+      hand = hand.Clearing item;
+      accounts = record old.accounts { busy = old.accounts.busy + 1 };
+    })
 
 abbrev pub push : State → ℕ → ItemId → State
-push s w l = let x = worker s w in with_worker s w (record x { hand = hand.Idle; accounts = record x.accounts { accepted = x.accounts.accepted + 1 }; sent = x.sent ++ l ∷ [] })
+push state worker item =
+    let old = worker_at state worker in
+    with_worker state worker (record old {
+      hand = hand.Idle;
+      accounts = record old.accounts { accepted = old.accounts.accepted + 1 };
+      sent = old.sent ++ item ∷ [];
+    })
 
 abbrev pub drop_full : State → ℕ → ItemId → State
-drop_full s w l =
-    let x = worker s w in
-    with_worker (with_head s l.chunk (one_fewer (head s l.chunk))) w (record x { hand = hand.Clearing l; accounts = record x.accounts { full = x.accounts.full + 1 } })
+drop_full state worker item =
+    let old = worker_at state worker in
+    let given_back = with_head state item.chunk (one_fewer (head_at state item.chunk)) in
+    with_worker given_back worker (record old {
+      hand = hand.Clearing item;
+      accounts = record old.accounts { full = old.accounts.full + 1 };
+    })
 
 abbrev pub unmark : State → ℕ → ItemId → State
-unmark s w l = with_worker (with_head s l.chunk (cleared_head (head s l.chunk))) w (record (worker s w) { hand = hand.Idle })
+unmark state worker item =
+    let cleared = with_head state item.chunk (cleared_head (head_at state item.chunk)) in
+    with_worker cleared worker (record (worker_at state worker) { hand = hand.Idle })
 
 abbrev pub close : State → ℕ → State
-close s w = with_worker s w (record (worker s w) { is_open = false })
+close state worker = with_worker state worker (record (worker_at state worker) { is_open = false })
 
 -- the life that a link begins
 abbrev pub next_life : State → ℕ → ItemId
-next_life s c = life c ((head s c).generation + 1)
+next_life state chunk = life chunk ((head_at state chunk).generation + 1)
 
 abbrev pub link : State → ℕ → ℕ → State
-link s k c = with_change (with_head s c (newborn ((head s c).generation + 1))) k (change.Linked (next_life s c))
+link state class chunk =
+    let linked = with_head state chunk (newborn ((head_at state chunk).generation + 1)) in
+    with_change linked class (change.Linked (next_life state chunk))
 
 -- the life ends, and its chunk is DYING
 abbrev pub unlink : State → ItemId → State
-unlink s l = with_change (with_head s l.chunk (severed_head (head s l.chunk))) (class_of s l.chunk) (change.Unlinked l)
+unlink state item =
+    let unlinked = with_head state item.chunk (severed_head (head_at state item.chunk)) in
+    with_change unlinked (class_of state item.chunk) (change.Unlinked item)
 
 -- the chunk is free
 abbrev pub sweep : State → ℕ → State
-sweep s c = with_change s (class_of s c) (freed_change (life c (head s c).generation))
+sweep state chunk =
+    with_change state (class_of state chunk) (freed_change (life chunk (head_at state chunk).generation))
 
 abbrev pub move_chunk : State → ℕ → Segment → State
-move_chunk s c to =
-    let h = head s c in
-    with_change (with_head s c (moved_head to h)) (class_of s c) (change.Moved (life c h.generation) h.segment to Pull)
+move_chunk state chunk to =
+    let head = head_at state chunk in
+    let moved = with_head state chunk (moved_head to head) in
+    with_change moved (class_of state chunk) (change.Moved (life chunk head.generation) head.segment to Pull)
 
 abbrev pub take_bump : State → ℕ → ItemId → State
-take_bump s w l = let x = worker s w in with_worker s w (record x { received = x.received ++ l ∷ []; lane = lane.Carrying (bump_of (length x.received) l) })
+take_bump state worker item =
+    let old = worker_at state worker in
+    with_worker state worker (record old {
+      received = old.received ++ item ∷ [];
+      lane = lane.Carrying (bump_of (length old.received) item);
+    })
 
 abbrev pub with_lane : State → ℕ → Lane → State
-with_lane s w x = with_worker s w (record (worker s w) { lane = x })
+with_lane state worker progress = with_worker state worker (record (worker_at state worker) { lane = progress })
 
+-- ACTIVE is cleared for a bump, and its lane keeps whether it was set
 abbrev pub clear_for : State → ℕ → Bump → State
-clear_for s w b = with_lane (with_head s b.life.chunk (cleared_head (head s b.life.chunk))) w (lane.Cleared b (head s b.life.chunk).active)
+clear_for state worker bump =
+    let head = head_at state bump.life.chunk in
+    with_lane (with_head state bump.life.chunk (cleared_head head)) worker (lane.Cleared bump head.active)
 
+-- the item of a bump moves from COLD to WARM
 abbrev pub move_for : State → ℕ → Bump → State
-move_for s w b =
-    let c = b.life.chunk in
-    with_lane (with_change (with_head s c (moved_head segment.Warm (head s c))) (class_of s c) (change.Moved b.life segment.Cold segment.Warm (BumpOf w b.number))) w (lane.Moved b)
+move_for state worker bump =
+    let chunk = bump.life.chunk in
+    let moved = with_head state chunk (moved_head segment.Warm (head_at state chunk)) in
+    let entry = change.Moved bump.life segment.Cold segment.Warm (BumpOf worker bump.number) in
+    with_lane (with_change moved (class_of state chunk) entry) worker (lane.Moved bump)
 
+-- a bump gives its reference back, and its lane has applied it
 abbrev pub alight : State → ℕ → AppliedBump → State
-alight s w a =
-    let x = worker s w in
-    with_worker (with_head s a.life.chunk (one_fewer (head s a.life.chunk))) w (record x { lane = lane.Empty; applied = x.applied ++ a ∷ [] })
+alight state worker entry =
+    let old = worker_at state worker in
+    let given_back = with_head state entry.life.chunk (one_fewer (head_at state entry.life.chunk)) in
+    with_worker given_back worker (record old { lane = lane.Empty; applied = old.applied ++ entry ∷ [] })
 
 -- The state after an event that is enabled.
 abbrev pub after : State → Event → State
-after s (event.Load c) = s
-after s (event.Take w l) = with_hold s l.chunk
-after s (event.Fetch w l) = fetch s w l
-after s (event.Mark w l) = mark s w l
-after s (event.Reserve w) = option_map_or (reserve s w) (tried_life (worker s w).hand) s
-after s (event.DropRefs w) = option_map_or (drop_refs s w) (tried_life (worker s w).hand) s
-after s (event.DropBusy w) = option_map_or (drop_busy s w) (tried_life (worker s w).hand) s
-after s (event.Push w) = option_map_or (push s w) (life_in_hand (worker s w).hand) s
-after s (event.DropFull w) = option_map_or (drop_full s w) (life_in_hand (worker s w).hand) s
-after s (event.Unmark w) = option_map_or (unmark s w) (cleared_life (worker s w).hand) s
-after s (event.Close w) = close s w
-after s (event.StoreTime l t) = with_time s l.chunk t
-after s (event.Release l) = without_hold s l.chunk
-after s (event.PutLabel k x) = option_map_or (λ c. with_label s c x) (next_chunk s k) s
-after s (event.PutTime k t) = option_map_or (λ c. with_time s c t) (next_chunk s k) s
-after s (event.Link k) = option_map_or (link s k) (next_chunk s k) s
-after s (event.Unlink l) = unlink s l
-after s (event.Sweep c) = sweep s c
-after s (event.ClearActive c) = with_head s c (cleared_head (head s c))
-after s (event.Move c to) = move_chunk s c to
-after s (event.TakeBump w) = option_map_or (take_bump s w) (next_bump (worker s w)) s
-after s (event.Try w) = option_map_or (λ b. with_lane s w (lane.Tried b)) (carried (worker s w).lane) s
-after s (event.BumpTime w t) = option_map_or (λ b. with_time s b.life.chunk t) (applied_now (worker s w).lane) s
-after s (event.ClearFor w) = option_map_or (clear_for s w) (tried (worker s w).lane) s
-after s (event.MoveFor w) = option_map_or (move_for s w) (cleared_active (worker s w).lane) s
-after s (event.Alight w) = option_map_or (alight s w) (ending s w) s
+after state (event.Load chunk) = state
+after state (event.Take worker item) = with_hold state item.chunk
+after state (event.Fetch worker item) = fetch state worker item
+after state (event.Mark worker item) = mark state worker item
+after state (event.Reserve worker) =
+    option_map_or (reserve state worker) (tried_life (worker_at state worker).hand) state
+after state (event.DropRefs worker) =
+    option_map_or (drop_refs state worker) (tried_life (worker_at state worker).hand) state
+after state (event.DropBusy worker) =
+    option_map_or (drop_busy state worker) (tried_life (worker_at state worker).hand) state
+after state (event.Push worker) = option_map_or (push state worker) (life_in_hand (worker_at state worker).hand) state
+after state (event.DropFull worker) =
+    option_map_or (drop_full state worker) (life_in_hand (worker_at state worker).hand) state
+after state (event.Unmark worker) =
+    option_map_or (unmark state worker) (cleared_life (worker_at state worker).hand) state
+after state (event.Close worker) = close state worker
+after state (event.StoreTime item time) = with_time state item.chunk time
+after state (event.Release item) = without_hold state item.chunk
+after state (event.PutLabel class label) =
+    option_map_or (λ chunk. with_label state chunk label) (next_chunk state class) state
+after state (event.PutTime class time) =
+    option_map_or (λ chunk. with_time state chunk time) (next_chunk state class) state
+after state (event.Link class) = option_map_or (link state class) (next_chunk state class) state
+after state (event.Unlink item) = unlink state item
+after state (event.Sweep chunk) = sweep state chunk
+after state (event.ClearActive chunk) = with_head state chunk (cleared_head (head_at state chunk))
+after state (event.Move chunk to) = move_chunk state chunk to
+after state (event.TakeBump worker) = option_map_or (take_bump state worker) (next_bump (worker_at state worker)) state
+after state (event.Try worker) =
+    option_map_or (λ bump. with_lane state worker (lane.Tried bump)) (carried (worker_at state worker).lane) state
+after state (event.BumpTime worker time) =
+    option_map_or (λ bump. with_time state bump.life.chunk time) (applied_now (worker_at state worker).lane) state
+after state (event.ClearFor worker) = option_map_or (clear_for state worker) (tried (worker_at state worker).lane) state
+after state (event.MoveFor worker) =
+    option_map_or (move_for state worker) (cleared_active (worker_at state worker).lane) state
+after state (event.Alight worker) = option_map_or (alight state worker) (ending state worker) state
 
 -- the head that an event finds at a chunk
 abbrev pub word_at : State → ℕ → Reply
-word_at s c = reply.Word (head s c)
+word_at state chunk = reply.Word (head_at state chunk)
 
 -- What an event answers.
 abbrev pub reply_of : State → Event → Reply
-reply_of s (event.Load c) = word_at s c
-reply_of s (event.Take w l) = reply.Done
-reply_of s (event.Fetch w l) = word_at s l.chunk
-reply_of s (event.Mark w l) = word_at s l.chunk
-reply_of s (event.Reserve w) = reply.Done
-reply_of s (event.DropRefs w) = option_map_or (λ l. word_at s l.chunk) (tried_life (worker s w).hand) reply.Done
-reply_of s (event.DropBusy w) = option_map_or (λ l. word_at s l.chunk) (tried_life (worker s w).hand) reply.Done
-reply_of s (event.Push w) = reply.Number (length (worker s w).sent)
-reply_of s (event.DropFull w) = option_map_or (λ l. word_at s l.chunk) (life_in_hand (worker s w).hand) reply.Done
-reply_of s (event.Unmark w) = option_map_or (λ l. word_at s l.chunk) (cleared_life (worker s w).hand) reply.Done
-reply_of s (event.Close w) = reply.Done
-reply_of s (event.StoreTime l t) = reply.Done
-reply_of s (event.Release l) = word_at s l.chunk
-reply_of s (event.PutLabel k x) = reply.Done
-reply_of s (event.PutTime k t) = reply.Done
-reply_of s (event.Link k) = option_map_or (λ c. reply.Life (next_life s c)) (next_chunk s k) reply.Done
-reply_of s (event.Unlink l) = word_at s l.chunk
-reply_of s (event.Sweep c) = word_at s c
-reply_of s (event.ClearActive c) = word_at s c
-reply_of s (event.Move c to) = reply.Done
-reply_of s (event.TakeBump w) = reply.Number (length (worker s w).received)
-reply_of s (event.Try w) = option_map_or (λ b. word_at s b.life.chunk) (carried (worker s w).lane) reply.Done
-reply_of s (event.BumpTime w t) = reply.Done
-reply_of s (event.ClearFor w) = option_map_or (λ b. word_at s b.life.chunk) (tried (worker s w).lane) reply.Done
-reply_of s (event.MoveFor w) = reply.Done
-reply_of s (event.Alight w) = option_map_or (λ a. reply.Outcome a.outcome) (ending s w) reply.Done
+reply_of state (event.Load chunk) = word_at state chunk
+reply_of state (event.Take worker item) = reply.Done
+reply_of state (event.Fetch worker item) = word_at state item.chunk
+reply_of state (event.Mark worker item) = word_at state item.chunk
+reply_of state (event.Reserve worker) = reply.Done
+reply_of state (event.DropRefs worker) =
+    option_map_or (λ item. word_at state item.chunk) (tried_life (worker_at state worker).hand) reply.Done
+reply_of state (event.DropBusy worker) =
+    option_map_or (λ item. word_at state item.chunk) (tried_life (worker_at state worker).hand) reply.Done
+reply_of state (event.Push worker) = reply.Number (length (worker_at state worker).sent)
+reply_of state (event.DropFull worker) =
+    option_map_or (λ item. word_at state item.chunk) (life_in_hand (worker_at state worker).hand) reply.Done
+reply_of state (event.Unmark worker) =
+    option_map_or (λ item. word_at state item.chunk) (cleared_life (worker_at state worker).hand) reply.Done
+reply_of state (event.Close worker) = reply.Done
+reply_of state (event.StoreTime item time) = reply.Done
+reply_of state (event.Release item) = word_at state item.chunk
+reply_of state (event.PutLabel class label) = reply.Done
+reply_of state (event.PutTime class time) = reply.Done
+reply_of state (event.Link class) =
+    option_map_or (λ chunk. reply.Life (next_life state chunk)) (next_chunk state class) reply.Done
+reply_of state (event.Unlink item) = word_at state item.chunk
+reply_of state (event.Sweep chunk) = word_at state chunk
+reply_of state (event.ClearActive chunk) = word_at state chunk
+reply_of state (event.Move chunk to) = reply.Done
+reply_of state (event.TakeBump worker) = reply.Number (length (worker_at state worker).received)
+reply_of state (event.Try worker) =
+    option_map_or (λ bump. word_at state bump.life.chunk) (carried (worker_at state worker).lane) reply.Done
+reply_of state (event.BumpTime worker time) = reply.Done
+reply_of state (event.ClearFor worker) =
+    option_map_or (λ bump. word_at state bump.life.chunk) (tried (worker_at state worker).lane) reply.Done
+reply_of state (event.MoveFor worker) = reply.Done
+reply_of state (event.Alight worker) =
+    option_map_or (λ entry. reply.Outcome entry.outcome) (ending state worker) reply.Done
 
--- What an answer tells of whether the event is enabled: it is made only where it is, and refused as NotEnabled exactly where it
--- isn't. Want of memory is the last refusal: only an event that is enabled meets it.
+-- What an answer tells of whether the event is enabled: it is made only where it is, and refused as NotEnabled
+-- exactly where it isn't. Want of memory is the last refusal: only an event that is enabled meets it.
 abbrev pub IsEnabledBy : Bool → Result Reply Refused → Type 0
 IsEnabledBy enabled (Ok reply) = enabled ≡ true
 IsEnabledBy enabled (Err NotEnabled) = enabled ≡ false

@@ -10,16 +10,25 @@ use Rattle.bump_state.specs.State.{State, ClassState, new_worker}
 
 -- a chunk before its first life
 abbrev pub fresh_chunk : ℕ → Chunk
-fresh_chunk g = record { head = fresh_head g; time = 0; label = 0; holds = 0 }
+fresh_chunk generation = record { head = fresh_head generation; time = 0; label = 0; holds = 0 }
 
 -- a class whose chunks are all UNUSED, and fresh with this generation
 abbrev pub new_class : ℕ → ℕ → ClassConfig → ClassState
-new_class fresh first k = record { first = first; end = first + k.chunks; fresh = fresh; hot_limit = k.hot; warm_limit = k.warm; lists = opening first k.chunks; history = [] }
+new_class fresh first config = record {
+  first = first;
+  end = first + config.chunks;
+  fresh = fresh;
+  hot_limit = config.hot;
+  warm_limit = config.warm;
+  lists = opening first config.chunks;
+  history = [];
+}
 
 -- the first class has the first chunks, the next class the next
 abbrev pub classes_from : ℕ → ℕ → List ClassConfig → List ClassState
 classes_from fresh first [] = []
-classes_from fresh first (k ∷ ks) = new_class fresh first k ∷ classes_from fresh (first + k.chunks) ks
+classes_from fresh first (config ∷ configs) =
+    new_class fresh first config ∷ classes_from fresh (first + config.chunks) configs
 
 -- All chunks are fresh, with the generation before the first one; no worker has done anything.
 abbrev pub opening_state : ℕ → ℕ → ℕ → ℕ → List ClassConfig → State

@@ -6,12 +6,12 @@ use Rattle.bump_rules.specs.Rings.{left_of, aboard, bump_applied, numbered_from,
 
 -- the bumps in a worker's ring
 abbrev pub in_ring : WorkerState → List ItemId
-in_ring x = left_of x.sent x.received
+in_ring worker = left_of worker.sent worker.received
 
-pub record IsWorker (capacity : ℕ) (x : WorkerState) : Type 0 where
+pub record IsWorker (capacity : ℕ) (worker : WorkerState) : Type 0 where
   -- its ring is lawful
-  pub ring : IsRing capacity x.sent x.received
+  pub ring : IsRing capacity worker.sent worker.received
   -- what the lane applied, and then what it carries, is what was received, numbered from 0
-  pub applied : map bump_applied x.applied ++ aboard x.lane ≡ numbered_from 0 x.received
+  pub applied : map bump_applied worker.applied ++ aboard worker.lane ≡ numbered_from 0 worker.received
   -- its accounts are lawful
-  pub accounts : IsAccounts x.accounts (length x.sent) x.hand
+  pub accounts : IsAccounts worker.accounts (length worker.sent) worker.hand

@@ -3,24 +3,24 @@ use Rattle.std.specs.Prelude.{map}
 use Rattle.bump_state.specs.declared.classes.Class.{Class}
 use Rattle.bump_state.specs.declared.parts.Parts.{Parts}
 use Rattle.bump_state.specs.State.{State, ClassState}
-use Rattle.bump_state.specs.Workers.{seen}
+use Rattle.bump_state.specs.Workers.{worker_views}
 
 abbrev pub class_view : Class → ClassState
-class_view k = record {
-  first = k.first;
-  end = k.end;
-  fresh = k.fresh;
-  hot_limit = k.hot_limit;
-  warm_limit = k.warm_limit;
-  lists = k.lists;
-  history = k.history.items;
+class_view class = record {
+  first = class.first;
+  end = class.end;
+  fresh = class.fresh;
+  hot_limit = class.hot_limit;
+  warm_limit = class.warm_limit;
+  lists = class.lists;
+  history = class.history.items;
 }
 
 abbrev pub state_of : Parts → State
-state_of p = record {
-  refs_limit = p.refs_limit;
-  capacity = p.capacity;
-  chunks = p.chunks.items;
-  classes = map class_view p.classes.items;
-  workers = seen p.workers;
+state_of parts = record {
+  refs_limit = parts.refs_limit;
+  capacity = parts.capacity;
+  chunks = parts.chunks.items;
+  classes = map class_view parts.classes.items;
+  workers = worker_views parts.workers;
 }

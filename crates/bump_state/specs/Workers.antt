@@ -9,38 +9,39 @@ use Rattle.bump_rules.specs.Totals.{how_many}
 
 -- what a lane took is the first part of what was sent
 abbrev pub worker_view : Worker → WorkerState
-worker_view x = record {
-  hand = x.hand;
-  is_open = x.is_open;
-  accounts = x.accounts;
-  first_hits = x.first_hits.items;
-  sent = x.sent.items;
-  received = take x.received x.sent.items;
-  lane = x.lane;
-  applied = x.applied.items;
+worker_view worker = record {
+  hand = worker.hand;
+  is_open = worker.is_open;
+  accounts = worker.accounts;
+  first_hits = worker.first_hits.items;
+  sent = worker.sent.items;
+  received = take worker.received worker.sent.items;
+  lane = worker.lane;
+  applied = worker.applied.items;
 }
 
 -- all workers, and one by its number
-abbrev pub seen : List Worker → List WorkerState
-seen xs = map worker_view xs
+abbrev pub worker_views : List Worker → List WorkerState
+worker_views workers = map worker_view workers
 
-abbrev pub seen_at : List Worker → ℕ → WorkerState
-seen_at xs w = slice_index_or (seen xs) w new_worker
+abbrev pub worker_view_at : List Worker → ℕ → WorkerState
+worker_view_at workers number = slice_index_or (worker_views workers) number new_worker
 
 -- a worker's list of applied bumps has room for one more
 abbrev pub HasRoom : List Worker → ℕ → Type 0
-HasRoom xs w = (x : Worker) → x ≡ slice_index_or xs w x → vec_len x.applied < vec_capacity x.applied
+HasRoom workers number =
+    (one : Worker) → one ≡ slice_index_or workers number one → vec_len one.applied < vec_capacity one.applied
 
 -- the worker is not Idle
-abbrev pub is_busy : Worker → Bool
-is_busy x = not (is_idle x.hand)
+abbrev pub is_not_idle : Worker → Bool
+is_not_idle worker = not (is_idle worker.hand)
 
 -- the worker's lane applies a bump
 abbrev pub is_applying : Worker → Bool
-is_applying x = is_some (applied_life x.lane)
+is_applying worker = is_some (applied_life worker.lane)
 
--- n of the workers are not Idle, and m of their lanes apply a bump
-pub record AreCounted (n m : ℕ) (xs : List Worker) : Type 0 where
-  pub busy : n ≡ how_many is_busy xs
-  pub applying : m ≡ how_many is_applying xs
-  pub few : length xs < 2 ^ 32
+-- so many of the workers are not Idle, and so many of their lanes apply a bump
+pub record AreCounted (hands lanes : ℕ) (workers : List Worker) : Type 0 where
+  pub not_idle : hands ≡ how_many is_not_idle workers
+  pub applying : lanes ≡ how_many is_applying workers
+  pub few : length workers < 2 ^ 32

@@ -43,7 +43,7 @@ pub struct Workers {
     all: Vec<Worker>,
 
     // How many workers aren't Idle.
-    busy: u32,
+    not_idle: u32,
 
     // How many lanes apply a bump.
     applying: u32,
@@ -59,7 +59,7 @@ impl Model for Workers {
 
     ghost view = { λ a. a.all.items };
 
-    ghost invariant = { λ a. AreCounted a.busy a.applying a.all.items };
+    ghost invariant = { λ a. AreCounted a.not_idle a.applying a.all.items };
 }
 
 impl Worker {
@@ -94,11 +94,11 @@ impl Workers {
     ghost use Rattle.std.specs.Prelude.{◌≡◌, ◌<◌, IfOk, slice_index_or, replicate};
     ghost use Rattle.bump_state.specs.State.{new_worker};
     ghost use Rattle.bump_rules.specs.Totals.{how_many};
-    ghost use Rattle.bump_state.specs.Workers.{seen, is_busy, is_applying};
+    ghost use Rattle.bump_state.specs.Workers.{worker_views, is_not_idle, is_applying};
 
     /// So many workers that have done nothing.
     pub(crate) fn new(alloc: Global, count: u32) -> Result<Workers, AllocError>
-        ensures { IfOk result (λ xs. seen xs ≡ replicate count new_worker) }
+        ensures { IfOk result (λ xs. worker_views xs ≡ replicate count new_worker) }
     {
         let mut all = Vec::new(alloc);
         for _ in 0..count {
@@ -106,7 +106,7 @@ impl Workers {
         }
         Ok(Workers {
             all,
-            busy: 0,
+            not_idle: 0,
             applying: 0,
         })
     }
@@ -134,10 +134,10 @@ impl Workers {
     }
 
     /// How many workers aren't Idle.
-    pub(crate) fn busy(&self) -> u32
-        ensures { result ≡ how_many is_busy self.now }
+    pub(crate) fn not_idle(&self) -> u32
+        ensures { result ≡ how_many is_not_idle self.now }
     {
-        self.busy
+        self.not_idle
     }
 
     /// How many lanes apply a bump.

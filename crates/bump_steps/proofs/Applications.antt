@@ -28,11 +28,12 @@ use Rattle.bump_steps.specs.declared.views.OwnStep.{OwnStep}
 use Rattle.bump_steps.specs.declared.views.ClassPart.{ClassPart}
 use Rattle.bump_steps.specs.declared.views.LanePart.{LanePart}
 use Rattle.bump_steps.specs.declared.views.View.{View}
-use Rattle.bump_steps.specs.Views.{refers, aboard_of, Measure, held, named, saw, owners, strays, mislabels, misreads, owns, standing, label_of, weight, evidence, shown_by, claims, claimed_in, settled_in, is_entry, outcome_number, Query, in_order, untidy_in, shows_time_only, of_owner, foreign_in, foreign, active_clear, IsBacked}
+use Rattle.bump_steps.specs.Views.{refers, bump_aboard, Measure, held, named, saw, owners, strays, mislabels, misreads, owns, standing, last_label, weight, evidence, shown_by, claims, claimed_in, settled_in, is_entry, outcome_number, Query, in_order, untidy_in, shows_time_only, of_owner, foreign_in, foreign, active_clear, IsBacked}
 use Rattle.bump_steps.specs.Rule.{Sound, chunks, Kept, HasFittingLimit}
 use Rattle.bump_steps.specs.Plays.{Sat, Tells, on_chunk, step_of, Stands}
-use Rattle.bump_steps.specs.Applications.{for_bump, for_first, tried_stage, tried_lane, tried_view, tried, cleared_stage, cleared_view, cleared, noted_class, timed_view, timed, moved_on, alighted_view, alighted, entry_of}
-use Rattle.bump_steps.specs.Applications.{applying, pulling, StandsIn, life_in, cleared_lane, MayMove, is_past_move, Alights, MayAlight}
+use Rattle.bump_steps.specs.Applications.{for_bump, for_first, stage_after_try, lane_after_try, view_after_try, try_tells, stage_after_clear_active, view_after_clear_active, clear_active_tells, noted_class, view_after_put_time, put_time_tells, move_tells, view_after_alight, alight_tells, entries_of_alight}
+use Rattle.bump_steps.specs.Lives.{alone}
+use Rattle.bump_steps.specs.Applications.{applying, StandsIn, life_in, lane_after_clear_active, MayMove, is_past_move, Alights, MayAlight}
 use Rattle.bump_rules.specs.declared.places.Segment.{Segment}
 use Rattle.bump_rules.specs.declared.history.Cause.{Cause}
 use Rattle.bump_rules.specs.History.{place_of, subject}
@@ -54,156 +55,240 @@ use Rattle.bump_steps.proofs.StepLemmas.{time_chunk_is, at_chunk, on_first_total
 
 -- ---- looking at the head of the bump's item
 
-pub tried_refers : (s : Lane) → aboard_of (tried_stage s) ≡ aboard_of s
-tried_refers lane.Empty = refl
-tried_refers (lane.Carrying b) = refl
-tried_refers (lane.Tried b) = refl
-tried_refers (lane.Cleared b f) = refl
-tried_refers (lane.Moved b) = refl
+pub try_refers : (s : Lane) → bump_aboard (stage_after_try s) ≡ bump_aboard s
+try_refers lane.Empty = refl
+try_refers (lane.Carrying b) = refl
+try_refers (lane.Tried b) = refl
+try_refers (lane.Cleared b f) = refl
+try_refers (lane.Moved b) = refl
 
-pub tried_going : (q : Query) (s : Lane) → moving q.test q.number (tried_stage s) ≡ moving q.test q.number s
-tried_going q lane.Empty = refl
-tried_going q (lane.Carrying b) = refl
-tried_going q (lane.Tried b) = refl
-tried_going q (lane.Cleared b f) = refl
-tried_going q (lane.Moved b) = refl
+pub try_going : (q : Query) (s : Lane) → moving q.test q.number (stage_after_try s) ≡ moving q.test q.number s
+try_going q lane.Empty = refl
+try_going q (lane.Carrying b) = refl
+try_going q (lane.Tried b) = refl
+try_going q (lane.Cleared b f) = refl
+try_going q (lane.Moved b) = refl
 
-tried_same : (c n : ℕ) (v : View) (b : ℕ) → Same b v (tried_view c n v)
-tried_same c n v b (held j) = omega (arith, on_first_total (λ l. refers b j (aboard_of l.stage)) (tried_lane c n) (λ l. ap (refers b j) (tried_refers l.stage)) v.lanes)
-tried_same c n v b (named j) = refl
-tried_same c n v b (saw j) = refl
-tried_same c n v b owners = refl
-tried_same c n v b (strays s) = refl
-tried_same c n v b (mislabels x) = refl
-tried_same c n v b (misreads j x) = refl
+try_same : (c n : ℕ) (v : View) (b : ℕ) → Same b v (view_after_try c n v)
+try_same c n v b (held j) = omega (
+  arith,
+  on_first_total (λ l. refers b j (bump_aboard l.stage)) (lane_after_try c n)
+      (λ l. ap (refers b j) (try_refers l.stage)) v.lanes,
+)
+try_same c n v b (named j) = refl
+try_same c n v b (saw j) = refl
+try_same c n v b owners = refl
+try_same c n v b (strays s) = refl
+try_same c n v b (mislabels x) = refl
+try_same c n v b (misreads j x) = refl
 
 cond_is : (b : Bool) (p q : ℕ) → p ≡ q → cond b p 0 ≡ cond b q 0
 cond_is b p q e = ap (λ (n : ℕ). cond b n 0) e
 
-tried_backed : (c n : ℕ) (v : View) → IsBacked v (tried_view c n v)
-tried_backed c n v = record {
-  backs = λ wk e. (by wk e e.outcome, λ more. absurd (let same = on_first_total (claimed_in wk e) (tried_lane c n) (λ l. refl) v.lanes in omega arith));
-  even = λ q. let same = on_first_total (settled_in q) (tried_lane c n) (λ l. cond_is (l.worker == q.worker) _ _ (ap (λ (g : ℕ). how_many (is_told_moved q.test q.number) l.applied + g) (tried_going q l.stage))) v.lanes in omega arith;
+try_backed : (c n : ℕ) (v : View) → IsBacked v (view_after_try c n v)
+try_backed c n v = record {
+  backs = λ wk e. (
+    by wk e e.outcome,
+    λ more. absurd (let same = on_first_total (claimed_in wk e) (lane_after_try c n) (λ l. refl) v.lanes in
+        omega arith),
+  );
+  even = λ q. let same = on_first_total (settled_in q) (lane_after_try c n)
+      (λ l. cond_is (l.worker == q.worker) _ _ (ap (λ (g : ℕ). how_many (is_told_moved q.test q.number) l.applied + g)
+      (try_going q l.stage))) v.lanes in omega arith;
   own = omega arith;
   labels = λ have. have;
   workers = λ w. refl;
-  lanes = λ w. let same = on_first_total (λ l. cond (l.worker == w) 1 0) (tried_lane c n) (λ l. refl) v.lanes in omega arith;
-  tidy = let same = on_first_total untidy_in (tried_lane c n) (λ l. ap (λ (o : Option Bump). cond (in_order 0 l.applied o) 0 1) (tried_refers l.stage)) v.lanes in omega arith;
+  lanes = λ w. let same = on_first_total (λ l. cond (l.worker == w) 1 0) (lane_after_try c n) (λ l. refl) v.lanes in
+      omega arith;
+  tidy = let same = on_first_total untidy_in (lane_after_try c n)
+      (λ l. ap (λ (o : Option Bump). cond (in_order 0 l.applied o) 0 1) (try_refers l.stage)) v.lanes in omega arith;
 }
   where
-    by : (wk : ℕ) (e : AppliedBump) (o : Outcome) → shown_by o wk e v ≤ shown_by o wk e (tried_view c n v)
+    by : (wk : ℕ) (e : AppliedBump) (o : Outcome) → shown_by o wk e v ≤ shown_by o wk e (view_after_try c n v)
     by wk e outcome.Moved = omega arith
     by wk e outcome.Gone = omega arith
-    by wk e outcome.TimeOnly = let more = on_first_le (λ l. how_many (shows_time_only wk e.number e.life.chunk) l.steps) (tried_lane c n) (λ l. omega (arith, total_push (λ x. cond (shows_time_only wk e.number e.life.chunk x) 1 0) l.steps (step_of kind.Try c n (for_bump l)))) v.lanes in omega arith
+    by wk e outcome.TimeOnly = let more =
+        on_first_le (λ l. how_many (shows_time_only wk e.number e.life.chunk) l.steps) (lane_after_try c n)
+        (λ l. omega (
+          arith,
+          total_push (λ x. cond (shows_time_only wk e.number e.life.chunk x) 1 0) l.steps
+              (step_of kind.Try c n (for_bump l)),
+        )) v.lanes in omega arith
 
 -- ---- clearing ACTIVE
 
-pub cleared_refers : (f : Bool) (s : Lane) → aboard_of (cleared_stage f s) ≡ aboard_of s
-cleared_refers f lane.Empty = refl
-cleared_refers f (lane.Carrying b) = refl
-cleared_refers f (lane.Tried b) = refl
-cleared_refers f (lane.Cleared b g) = refl
-cleared_refers f (lane.Moved b) = refl
+pub clear_active_refers : (f : Bool) (s : Lane) → bump_aboard (stage_after_clear_active f s) ≡ bump_aboard s
+clear_active_refers f lane.Empty = refl
+clear_active_refers f (lane.Carrying b) = refl
+clear_active_refers f (lane.Tried b) = refl
+clear_active_refers f (lane.Cleared b g) = refl
+clear_active_refers f (lane.Moved b) = refl
 
-cleared_going : (q : Query) (f : Bool) (s : Lane) → moving q.test q.number (cleared_stage f s) ≡ moving q.test q.number s
-cleared_going q f lane.Empty = refl
-cleared_going q f (lane.Carrying b) = refl
-cleared_going q f (lane.Tried b) = refl
-cleared_going q f (lane.Cleared b g) = refl
-cleared_going q f (lane.Moved b) = refl
+clear_active_going : (q : Query) (f : Bool) (s : Lane) → moving q.test q.number (stage_after_clear_active f s)
+    ≡ moving q.test q.number s
+clear_active_going q f lane.Empty = refl
+clear_active_going q f (lane.Carrying b) = refl
+clear_active_going q f (lane.Tried b) = refl
+clear_active_going q f (lane.Cleared b g) = refl
+clear_active_going q f (lane.Moved b) = refl
 
 module _ (c n : ℕ) (v : View) where
-  cleared_same : (b : ℕ) → Same b v (cleared_view c n v)
-  cleared_same b (held j) = omega (arith, on_first_total (λ l. refers b j (aboard_of l.stage)) (cleared_lane (not (active_clear n))) (λ l. ap (refers b j) (cleared_refers (not (active_clear n)) l.stage)) v.lanes)
-  cleared_same b (named j) = refl
-  cleared_same b (saw j) = refl
-  cleared_same b owners = on_first_total (λ k. cond (owns b k) 1 0) (noted_class kind.ClearActive c n v.lanes) (λ k. refl) v.classes
-  cleared_same b (strays s) = on_first_total (λ k. cond (owns b k && not (is_standing (standing k b) s)) 1 0) (noted_class kind.ClearActive c n v.lanes) (λ k. refl) v.classes
-  cleared_same b (mislabels x) = on_first_total (λ k. cond (owns b k && not (eqb (label_of k b) x)) 1 0) (noted_class kind.ClearActive c n v.lanes) (λ k. refl) v.classes
-  cleared_same b (misreads j x) = refl
+  clear_active_same : (b : ℕ) → Same b v (view_after_clear_active c n v)
+  clear_active_same b (held j) =
+      omega (
+        arith,
+        on_first_total (λ l. refers b j (bump_aboard l.stage))
+            (lane_after_clear_active (not (active_clear n)))
+            (λ l. ap (refers b j) (clear_active_refers (not (active_clear n)) l.stage)) v.lanes,
+      )
+  clear_active_same b (named j) = refl
+  clear_active_same b (saw j) = refl
+  clear_active_same b owners = on_first_total (λ k. cond (owns b k) 1 0) (noted_class kind.ClearActive c n v.lanes)
+      (λ k. refl) v.classes
+  clear_active_same b (strays s) = on_first_total (λ k. cond (owns b k && not (is_standing (standing k b) s)) 1 0)
+      (noted_class kind.ClearActive c n v.lanes) (λ k. refl) v.classes
+  clear_active_same b (mislabels x) = on_first_total (λ k. cond (owns b k && not (eqb (last_label k b) x)) 1 0)
+      (noted_class kind.ClearActive c n v.lanes) (λ k. refl) v.classes
+  clear_active_same b (misreads j x) = refl
 
-  cleared_backed : IsBacked v (cleared_view c n v)
-  cleared_backed = record {
-    backs = λ wk e. (by wk e e.outcome, λ more. absurd (let same = on_first_total (claimed_in wk e) (cleared_lane (not (active_clear n))) (λ l. refl) v.lanes in omega arith));
-    even = λ q. let same = on_first_total (settled_in q) (cleared_lane (not (active_clear n))) (λ l. cond_is (l.worker == q.worker) _ _ (ap (λ (g : ℕ). how_many (is_told_moved q.test q.number) l.applied + g) (cleared_going q (not (active_clear n)) l.stage))) v.lanes in
-        let same_moves = on_first_total (λ k. how_many (is_move_for q.test q.worker q.number) k.history) (noted_class kind.ClearActive c n v.lanes) (λ k. refl) v.classes in omega arith;
-    own = let same = on_first_total foreign_in (noted_class kind.ClearActive c n v.lanes) (λ k. refl) v.classes in omega arith;
-    labels = have_on_first (noted_class kind.ClearActive c n v.lanes) (λ k p. noted_labels k (noted_class kind.ClearActive c n v.lanes k).steps p) v.classes;
+  clear_active_backed : IsBacked v (view_after_clear_active c n v)
+  clear_active_backed = record {
+    backs = λ wk e. (
+      by wk e e.outcome,
+      λ more. absurd (let same = on_first_total (claimed_in wk e) (lane_after_clear_active (not (active_clear n)))
+          (λ l. refl) v.lanes in omega arith),
+    );
+    even = λ q. let same = on_first_total (settled_in q) (lane_after_clear_active (not (active_clear n)))
+        (λ l. cond_is (l.worker == q.worker)
+        _ _ (ap (λ (g : ℕ). how_many (is_told_moved q.test q.number) l.applied + g)
+        (clear_active_going q (not (active_clear n)) l.stage))) v.lanes in
+        let same_moves = on_first_total (λ k. how_many (is_move_for q.test q.worker q.number) k.history)
+        (noted_class kind.ClearActive c n v.lanes) (λ k. refl) v.classes in omega arith;
+    own = let same = on_first_total foreign_in (noted_class kind.ClearActive c n v.lanes) (λ k. refl) v.classes in
+        omega arith;
+    labels = have_on_first (noted_class kind.ClearActive c n v.lanes)
+        (λ k p. noted_labels k (noted_class kind.ClearActive c n v.lanes k).steps p) v.classes;
     workers = λ w. refl;
-    lanes = λ w. let same = on_first_total (λ l. cond (l.worker == w) 1 0) (cleared_lane (not (active_clear n))) (λ l. refl) v.lanes in omega arith;
-    tidy = let same = on_first_total untidy_in (cleared_lane (not (active_clear n))) (λ l. ap (λ (o : Option Bump). cond (in_order 0 l.applied o) 0 1) (cleared_refers (not (active_clear n)) l.stage)) v.lanes in omega arith;
+    lanes = λ w. let same = on_first_total (λ l. cond (l.worker == w) 1 0)
+        (lane_after_clear_active (not (active_clear n))) (λ l. refl) v.lanes in omega arith;
+    tidy = let same = on_first_total untidy_in (lane_after_clear_active (not (active_clear n)))
+        (λ l. ap (λ (o : Option Bump). cond (in_order 0 l.applied o) 0 1)
+        (clear_active_refers (not (active_clear n)) l.stage)) v.lanes in omega arith;
   }
     where
-      by : (wk : ℕ) (e : AppliedBump) (o : Outcome) → shown_by o wk e v ≤ shown_by o wk e (cleared_view c n v)
-      by wk e outcome.Moved = omega (arith, on_first_total (of_owner e.life.chunk (λ k. how_many (is_move_for (is_same e.life) wk e.number) k.history)) (noted_class kind.ClearActive c n v.lanes) (λ k. refl) v.classes)
-      by wk e outcome.Gone = omega (arith, on_first_total (of_owner e.life.chunk (λ k. how_many (is_unlink_of e.life) k.history)) (noted_class kind.ClearActive c n v.lanes) (λ k. refl) v.classes)
-      by wk e outcome.TimeOnly = let more = on_first_le (of_owner e.life.chunk (λ k. how_many (shows_time_only wk e.number e.life.chunk) k.steps)) (noted_class kind.ClearActive c n v.lanes) (λ k. owned_push (owns e.life.chunk k) (λ x. cond (shows_time_only wk e.number e.life.chunk x) 1 0) k.steps (step_of kind.ClearActive c n (for_first v.lanes))) v.classes in
-          let same = on_first_total (λ l. how_many (shows_time_only wk e.number e.life.chunk) l.steps) (cleared_lane (not (active_clear n))) (λ l. refl) v.lanes in omega arith
+      by : (wk : ℕ) (e : AppliedBump) (o : Outcome) → shown_by o wk e v ≤ shown_by o wk e
+          (view_after_clear_active c n v)
+      by wk e outcome.Moved = omega (
+        arith,
+        on_first_total (of_owner e.life.chunk
+            (λ k. how_many (is_move_for (is_same e.life) wk e.number) k.history))
+            (noted_class kind.ClearActive c n v.lanes) (λ k. refl) v.classes,
+      )
+      by wk e outcome.Gone = omega (
+        arith,
+        on_first_total (of_owner e.life.chunk (λ k. how_many (is_unlink_of e.life) k.history))
+            (noted_class kind.ClearActive c n v.lanes) (λ k. refl) v.classes,
+      )
+      by wk e outcome.TimeOnly = let more =
+          on_first_le (of_owner e.life.chunk (λ k. how_many (shows_time_only wk e.number e.life.chunk) k.steps))
+          (noted_class kind.ClearActive c n v.lanes)
+          (λ k. owned_push (owns e.life.chunk k) (λ x. cond (shows_time_only wk e.number e.life.chunk x) 1 0) k.steps
+          (step_of kind.ClearActive c n (for_first v.lanes))) v.classes in
+          let same = on_first_total (λ l. how_many (shows_time_only wk e.number e.life.chunk) l.steps)
+          (lane_after_clear_active (not (active_clear n))) (λ l. refl) v.lanes in omega arith
 
 -- ---- storing the time
 
 module _ (c n : ℕ) (v : View) where
-  timed_same : (b : ℕ) → Same b v (timed_view c n v)
-  timed_same b (held j) = refl
-  timed_same b (named j) = refl
-  timed_same b (saw j) = refl
-  timed_same b owners = on_first_total (λ k. cond (owns b k) 1 0) (noted_class kind.PutTime c n v.lanes) (λ k. refl) v.classes
-  timed_same b (strays s) = on_first_total (λ k. cond (owns b k && not (is_standing (standing k b) s)) 1 0) (noted_class kind.PutTime c n v.lanes) (λ k. refl) v.classes
-  timed_same b (mislabels x) = on_first_total (λ k. cond (owns b k && not (eqb (label_of k b) x)) 1 0) (noted_class kind.PutTime c n v.lanes) (λ k. refl) v.classes
-  timed_same b (misreads j x) = refl
+  put_time_same : (b : ℕ) → Same b v (view_after_put_time c n v)
+  put_time_same b (held j) = refl
+  put_time_same b (named j) = refl
+  put_time_same b (saw j) = refl
+  put_time_same b owners = on_first_total (λ k. cond (owns b k) 1 0) (noted_class kind.PutTime c n v.lanes)
+      (λ k. refl) v.classes
+  put_time_same b (strays s) = on_first_total (λ k. cond (owns b k && not (is_standing (standing k b) s)) 1 0)
+      (noted_class kind.PutTime c n v.lanes) (λ k. refl) v.classes
+  put_time_same b (mislabels x) = on_first_total (λ k. cond (owns b k && not (eqb (last_label k b) x)) 1 0)
+      (noted_class kind.PutTime c n v.lanes) (λ k. refl) v.classes
+  put_time_same b (misreads j x) = refl
 
-  timed_backed : IsBacked v (timed_view c n v)
-  timed_backed = record {
+  put_time_backed : IsBacked v (view_after_put_time c n v)
+  put_time_backed = record {
     backs = λ wk e. (by wk e e.outcome, λ more. absurd (omega arith));
-    even = λ q. let same_moves = on_first_total (λ k. how_many (is_move_for q.test q.worker q.number) k.history) (noted_class kind.PutTime c n v.lanes) (λ k. refl) v.classes in omega arith;
-    own = let same = on_first_total foreign_in (noted_class kind.PutTime c n v.lanes) (λ k. refl) v.classes in omega arith;
-    labels = have_on_first (noted_class kind.PutTime c n v.lanes) (λ k p. noted_labels k (noted_class kind.PutTime c n v.lanes k).steps p) v.classes;
+    even = λ q. let same_moves = on_first_total (λ k. how_many (is_move_for q.test q.worker q.number) k.history)
+        (noted_class kind.PutTime c n v.lanes) (λ k. refl) v.classes in omega arith;
+    own = let same = on_first_total foreign_in (noted_class kind.PutTime c n v.lanes) (λ k. refl) v.classes in
+        omega arith;
+    labels = have_on_first (noted_class kind.PutTime c n v.lanes)
+        (λ k p. noted_labels k (noted_class kind.PutTime c n v.lanes k).steps p) v.classes;
     workers = λ w. refl;
     lanes = λ w. refl;
     tidy = omega arith;
   }
     where
-      by : (wk : ℕ) (e : AppliedBump) (o : Outcome) → shown_by o wk e v ≤ shown_by o wk e (timed_view c n v)
-      by wk e outcome.Moved = omega (arith, on_first_total (of_owner e.life.chunk (λ k. how_many (is_move_for (is_same e.life) wk e.number) k.history)) (noted_class kind.PutTime c n v.lanes) (λ k. refl) v.classes)
-      by wk e outcome.Gone = omega (arith, on_first_total (of_owner e.life.chunk (λ k. how_many (is_unlink_of e.life) k.history)) (noted_class kind.PutTime c n v.lanes) (λ k. refl) v.classes)
-      by wk e outcome.TimeOnly = let more = on_first_le (of_owner e.life.chunk (λ k. how_many (shows_time_only wk e.number e.life.chunk) k.steps)) (noted_class kind.PutTime c n v.lanes) (λ k. owned_push (owns e.life.chunk k) (λ x. cond (shows_time_only wk e.number e.life.chunk x) 1 0) k.steps (step_of kind.PutTime c n (for_first v.lanes))) v.classes in omega arith
+      by : (wk : ℕ) (e : AppliedBump) (o : Outcome) → shown_by o wk e v ≤ shown_by o wk e (view_after_put_time c n v)
+      by wk e outcome.Moved = omega (
+        arith,
+        on_first_total (of_owner e.life.chunk
+            (λ k. how_many (is_move_for (is_same e.life) wk e.number) k.history)) (noted_class kind.PutTime c n v.lanes)
+            (λ k. refl) v.classes,
+      )
+      by wk e outcome.Gone = omega (
+        arith,
+        on_first_total (of_owner e.life.chunk (λ k. how_many (is_unlink_of e.life) k.history))
+            (noted_class kind.PutTime c n v.lanes) (λ k. refl) v.classes,
+      )
+      by wk e outcome.TimeOnly = let more =
+          on_first_le (of_owner e.life.chunk (λ k. how_many (shows_time_only wk e.number e.life.chunk) k.steps))
+          (noted_class kind.PutTime c n v.lanes)
+          (λ k. owned_push (owns e.life.chunk k) (λ x. cond (shows_time_only wk e.number e.life.chunk x) 1 0) k.steps
+          (step_of kind.PutTime c n (for_first v.lanes))) v.classes in omega arith
 
 module _ (key : Config) (slots id : ℕ) (m : Sat) (c : ℕ) (near : c < chunks key) where
-  pub tries : Allows (Kept key) slots id m (3 * c + 9) (λ n. n) (on_chunk tried (step slots (3 * c + 9) 0 0 none) m)
-  tries = at_chunk tried key slots id m c 0 (λ n. n) near (λ n x t limits o a. (
-    tried_view c n m.0,
-    (λ u moved. same_sound key.refs_limit n x t u (same_counts c m.0 (tried_view c n m.0) t u (tried_same c n m.0 c) moved) o),
-    (λ b ne. tried_same c n m.0 b),
-    tried_backed c n m.0,
+  pub may_try : Allows (Kept key) slots id m (3 * c + 9) (λ n. n)
+      (on_chunk try_tells (step slots (3 * c + 9) 0 0 none) m)
+  may_try = at_chunk try_tells key slots id m c 0 (λ n. n) near (λ n x t limits o a. (
+    view_after_try c n m.0,
+    (λ u moved. same_sound key.refs_limit n x t u
+        (same_counts c m.0 (view_after_try c n m.0) t u (try_same c n m.0 c) moved) o),
+    (λ b ne. try_same c n m.0 b),
+    try_backed c n m.0,
     (refl, (o.head, o.spells, tells c key.refs_limit n x m.0 t o a)),
   ))
 
-  pub clears : Allows (Kept key) slots id m (3 * c + 9) (λ n. bit_and n (2 ^ 64 - 1 - 2 ^ active_first)) (on_chunk cleared (step slots (3 * c + 9) (2 ^ 64 - 1 - 2 ^ active_first) 0 none) m)
-  clears = at_chunk cleared key slots id m c (2 ^ 64 - 1 - 2 ^ active_first) (λ n. bit_and n (2 ^ 64 - 1 - 2 ^ active_first)) near (λ n x t limits o a. (
-    cleared_view c n m.0,
-    (λ u moves. same_sound key.refs_limit (bit_and n (2 ^ 64 - 1 - 2 ^ active_first)) x t u (same_counts c m.0 (cleared_view c n m.0) t u (cleared_same c n m.0 c) moves) (record {
-      head = record o.head { active = false };
-      at = o.at;
-      spells = clear_active n o.head o.spells tt;
-      lawful = marked key.refs_limit o.head o.at (λ g. t (held g)) (λ g. t (named g)) o.lawful false (omega arith);
-      owned = o.owned;
-      agreed = o.agreed;
-      labelled = o.labelled;
-      read = o.read;
-      hit = o.hit;
-    })),
-    (λ b ne. cleared_same c n m.0 b),
-    cleared_backed c n m.0,
-    (refl, refl, (o.head, o.spells, tells c key.refs_limit n x m.0 t o a)),
-  ))
+  pub may_clear_active : Allows (Kept key) slots id m (3 * c + 9) (λ n. bit_and n (2 ^ 64 - 1 - 2 ^ active_first))
+      (on_chunk clear_active_tells (step slots (3 * c + 9) (2 ^ 64 - 1 - 2 ^ active_first) 0 none) m)
+  may_clear_active = at_chunk clear_active_tells key slots id m c (2 ^ 64 - 1 - 2 ^ active_first)
+      (λ n. bit_and n (2 ^ 64 - 1 - 2 ^ active_first)) near (λ n x t limits o a. (
+        view_after_clear_active c n m.0,
+        (λ u moves. same_sound key.refs_limit (bit_and n (2 ^ 64 - 1 - 2 ^ active_first)) x t u
+            (same_counts c m.0 (view_after_clear_active c n m.0) t u (clear_active_same c n m.0 c) moves) (record {
+              head = record o.head { active = false };
+              at = o.at;
+              spells = clear_active n o.head o.spells tt;
+              lawful = marked key.refs_limit o.head o.at (λ g. t (held g)) (λ g. t (named g)) o.lawful false (omega arith);
+              owned = o.owned;
+              agreed = o.agreed;
+              labelled = o.labelled;
+              read = o.read;
+              hit = o.hit;
+            })),
+        (λ b ne. clear_active_same c n m.0 b),
+        clear_active_backed c n m.0,
+        (refl, refl, (o.head, o.spells, tells c key.refs_limit n x m.0 t o a)),
+      ))
 
-  pub times : (now : ℕ) → Allows (Kept key) slots id m (3 * c + 10) (λ _. now) (λ _. timed (step slots (3 * c + 10) now 0 none) m now)
-  times now = subst (λ (d : ℕ). Allows (Kept key) slots id m (3 * c + 10) (λ _. now) (λ _ w. w ≡ (timed_view d now m.0, m.1))) (sym (time_chunk_is c))
-      (on_time key slots id m c (λ _. now) (λ _ w. w ≡ (timed_view c now m.0, m.1)) near (λ y n x t limits o a. (
-        timed_view c now m.0,
-        (λ u moves. same_sound key.refs_limit n x t u (same_counts c m.0 (timed_view c now m.0) t u (timed_same c now m.0 c) moves) o),
-        (λ b ne. timed_same c now m.0 b),
-        timed_backed c now m.0,
+  pub may_put_time : (now : ℕ) → Allows (Kept key) slots id m (3 * c + 10) (λ _. now)
+      (λ _. put_time_tells (step slots (3 * c + 10) now 0 none) m now)
+  may_put_time now = subst (λ (d : ℕ). Allows (Kept key) slots id m (3 * c + 10) (λ _. now)
+      (λ _ w. w ≡ (view_after_put_time d now m.0, m.1))) (sym (time_chunk_is c))
+      (on_time key slots id m c (λ _. now) (λ _ w. w ≡ (view_after_put_time c now m.0, m.1)) near
+      (λ y n x t limits o a. (
+        view_after_put_time c now m.0,
+        (λ u moves. same_sound key.refs_limit n x t u
+            (same_counts c m.0 (view_after_put_time c now m.0) t u (put_time_same c now m.0 c) moves) o),
+        (λ b ne. put_time_same c now m.0 b),
+        put_time_backed c now m.0,
         refl,
       )))
 
@@ -218,52 +303,64 @@ even_bits false true true t = omega arith
 even_bits false true false t = omega arith
 even_bits false false n t = omega arith
 
-module _ (c : ℕ) (k : ClassPart) (own : owns c k ≡ true) (l : ItemId) (of : l.chunk ≡ c) (from to : Segment) (why : Cause) (made : OwnStep) where
+module _ (c : ℕ) (k : ClassPart) (own : owns c k ≡ true) (l : ItemId) (of : l.chunk ≡ c) (from to : Segment)
+    (why : Cause) (made : OwnStep) where
   -- the class's part with one more move
-  abbrev pub shifted : ClassPart
-  shifted = record k { history = k.history ++ change.Moved l from to why ∷ []; steps = k.steps ++ made ∷ [] }
+  abbrev pub class_moved : ClassPart
+  class_moved = record k { history = k.history ++ change.Moved l from to why ∷ []; steps = k.steps ++ made ∷ [] }
 
   abbrev pub to_be : Standing
   to_be = (place_of to, l.generation)
 
   -- it leaves other chunks where they are
-  shift_stands : (d : ℕ) → d ≢ c → standing shifted d ≡ standing k d
-  shift_stands d ne = standing_push d (Unused, k.fresh) k.history (change.Moved l from to why) ∙ ap (λ (o : Bool). cond o (place_of to, l.generation) (standing k d)) (ne_eqb l.chunk d (λ q. ne (sym q ∙ of)))
+  move_stands : (d : ℕ) → d ≢ c → standing class_moved d ≡ standing k d
+  move_stands d ne = standing_push d (Unused, k.fresh) k.history (change.Moved l from to why)
+      ∙ ap (λ (o : Bool). cond o (place_of to, l.generation) (standing k d)) (ne_eqb l.chunk d (λ q. ne (sym q ∙ of)))
 
   -- and its own chunk in the segment to which it went
-  shift_stands_here : standing shifted c ≡ (place_of to, l.generation)
-  shift_stands_here = standing_push c (Unused, k.fresh) k.history (change.Moved l from to why) ∙ ap (λ (o : Bool). cond o (place_of to, l.generation) (standing k c)) (eq-eqb l.chunk c of)
+  move_stands_here : standing class_moved c ≡ (place_of to, l.generation)
+  move_stands_here = standing_push c (Unused, k.fresh) k.history (change.Moved l from to why)
+      ∙ ap (λ (o : Bool). cond o (place_of to, l.generation) (standing k c)) (eq-eqb l.chunk c of)
 
-  module _ (ls ms : List LanePart) (keep : (d j : ℕ) → total (λ x. refers d j (aboard_of x.stage)) ms ≡ total (λ x. refers d j (aboard_of x.stage)) ls) where
+  module _ (ls ms : List LanePart) (keep : (d j : ℕ) → total (λ x. refers d j (bump_aboard x.stage)) ms ≡ total
+      (λ x. refers d j (bump_aboard x.stage)) ls) where
     abbrev pub stood : View
     stood = record blank { classes = k ∷ []; lanes = ls }
 
     abbrev pub went : View
-    went = record blank { classes = shifted ∷ []; lanes = ms }
+    went = record blank { classes = class_moved ∷ []; lanes = ms }
 
-    shift_apart : (d : ℕ) → d ≢ c → Same d stood went
-    shift_apart d ne (held j) = omega (arith, keep d j)
-    shift_apart d ne (named j) = refl
-    shift_apart d ne (saw j) = refl
-    shift_apart d ne owners = refl
-    shift_apart d ne (strays s) = ap (λ (at : Standing). bit (owns d k && not (is_standing at s)) + 0) (shift_stands d ne)
-    shift_apart d ne (mislabels z) = refl
-    shift_apart d ne (misreads j z) = refl
+    move_apart : (d : ℕ) → d ≢ c → Same d stood went
+    move_apart d ne (held j) = omega (arith, keep d j)
+    move_apart d ne (named j) = refl
+    move_apart d ne (saw j) = refl
+    move_apart d ne owners = refl
+    move_apart d ne (strays s) = ap (λ (at : Standing). bit (owns d k && not (is_standing at s)) + 0)
+        (move_stands d ne)
+    move_apart d ne (mislabels z) = refl
+    move_apart d ne (misreads j z) = refl
 
     no_stray : weight c (strays to_be) went ≡ 0
-    no_stray = ap₂ (λ (o same : Bool). bit (o && not same) + 0) own (standing_same _ _ shift_stands_here)
+    no_stray = ap₂ (λ (o same : Bool). bit (o && not same) + 0) own (standing_same _ _ move_stands_here)
 
-    shift_sound : (limit p label : ℕ) (t u : Measure → ℕ) → Amid c stood t → ((y : Measure) → u y + weight c y stood ≡ t y + weight c y went) → (o : Sound limit p label t) → (n : ℕ) → Spells n (record o.head { segment = to }) → o.head.generation ≡ l.generation → o.head.linked ≡ true
+    move_sound : (limit p label : ℕ) (t u : Measure → ℕ) → Amid c stood t
+        → ((y : Measure) → u y + weight c y stood ≡ t y + weight c y went) → (o : Sound limit p label t) → (n : ℕ)
+        → Spells n (record o.head { segment = to }) → o.head.generation ≡ l.generation → o.head.linked ≡ true
         → Sound limit n label u
-    shift_sound limit p label t u a adds o n spells gen on = record {
+    move_sound limit p label t u a adds o n spells gen on = record {
       head = record o.head { segment = to };
       at = place_of to;
       spells = spells;
       lawful = subst (λ (y : (ℕ → ℕ) × (ℕ → ℕ)). Lawful limit (record o.head { segment = to }) (place_of to) y.0 y.1)
-          (λ i. ((λ g. level_kept (t (held g)) (u (held g)) (weight c (held g) stood) (weight c (held g) went) (keep_held g) (adds (held g)) i), (λ g. level (t (named g)) (u (named g)) 0 (adds (named g)) i)))
+          (λ i. (
+            (λ g. level_kept (t (held g)) (u (held g)) (weight c (held g) stood) (weight c (held g) went)
+                (keep_held g) (adds (held g)) i),
+            (λ g. level (t (named g)) (u (named g)) 0 (adds (named g)) i),
+          ))
           (moved limit o.head o.at (λ g. t (held g)) (λ g. t (named g)) o.lawful to on);
       owned = omega (arith, adds owners, o.owned);
-      agreed = subst (λ (g : ℕ). u (strays (place_of to, g)) ≡ 0) (sym gen) (omega (arith, adds (strays to_be), no_stray, a.others to_be, a.mine owners, o.owned, ap bit own));
+      agreed = subst (λ (g : ℕ). u (strays (place_of to, g)) ≡ 0) (sym gen)
+          (omega (arith, adds (strays to_be), no_stray, a.others to_be, a.mine owners, o.owned, ap bit own));
       labelled = omega (arith, adds (mislabels label), o.labelled);
       read = omega (arith, adds (misreads o.head.generation label), o.read);
       hit = λ j some. omega (arith, adds (named j), o.hit j (omega (arith, some, adds (saw j))));
@@ -276,83 +373,179 @@ module _ (c : ℕ) (k : ClassPart) (own : owns c k ≡ true) (l : ItemId) (of : 
         level_kept p q w x e m = omega (arith, e, m)
 
     -- the entry is of the class's own chunk
-    shift_own : foreign went ≤ foreign stood
-    shift_own = omega (arith, total_push (λ z. bit (not (owns (subject z).chunk k))) k.history (change.Moved l from to why), ap (λ (d : ℕ). bit (not (owns d k))) of, ap (λ (b : Bool). bit (not b)) own)
+    move_own : foreign went ≤ foreign stood
+    move_own = omega (
+      arith,
+      total_push (λ z. bit (not (owns (subject z).chunk k))) k.history
+          (change.Moved l from to why),
+      ap (λ (d : ℕ). bit (not (owns d k))) of,
+      ap (λ (b : Bool). bit (not b)) own,
+    )
 
     -- what the class shows of entries stays
-    shift_shows : (wk : ℕ) (e : AppliedBump) (o : Outcome) → total (λ x. how_many (shows_time_only wk e.number e.life.chunk) x.steps) ms ≡ total (λ x. how_many (shows_time_only wk e.number e.life.chunk) x.steps) ls → shown_by o wk e stood ≤ shown_by o wk e went
-    shift_shows wk e outcome.Moved same = omega (arith, owned_push (owns e.life.chunk k) (λ z. cond (is_move_for (is_same e.life) wk e.number z) 1 0) k.history (change.Moved l from to why))
-    shift_shows wk e outcome.Gone same = omega (arith, owned_push (owns e.life.chunk k) (λ z. cond (is_unlink_of e.life z) 1 0) k.history (change.Moved l from to why))
-    shift_shows wk e outcome.TimeOnly same = omega (arith, same, owned_push (owns e.life.chunk k) (λ z. cond (shows_time_only wk e.number e.life.chunk z) 1 0) k.steps made)
+    move_shows : (wk : ℕ) (e : AppliedBump) (o : Outcome)
+        → total (λ x. how_many (shows_time_only wk e.number e.life.chunk) x.steps) ms ≡ total
+        (λ x. how_many (shows_time_only wk e.number e.life.chunk) x.steps) ls → shown_by o wk e stood ≤ shown_by o wk
+        e went
+    move_shows wk e outcome.Moved same =
+        omega (
+          arith,
+          owned_push (owns e.life.chunk k) (λ z. cond (is_move_for (is_same e.life) wk e.number z) 1 0)
+              k.history (change.Moved l from to why),
+        )
+    move_shows wk e outcome.Gone same =
+        omega (
+          arith,
+          owned_push (owns e.life.chunk k) (λ z. cond (is_unlink_of e.life z) 1 0) k.history
+              (change.Moved l from to why),
+        )
+    move_shows wk e outcome.TimeOnly same =
+        omega (
+          arith,
+          same,
+          owned_push (owns e.life.chunk k)
+              (λ z. cond (shows_time_only wk e.number e.life.chunk z) 1 0) k.steps made,
+        )
 
     module _ (key : Config) (slots id : ℕ) (near : c < chunks key) (sl : List (ℕ × Empty)) where
       -- the seat of the class can go on so, where the move is of the life that the chunk has, and evens out
-      shift_goes : (tells : Tells) (x : ℕ) (at : Standing) → standing k c ≡ at → at.0 ≡ place_of from → ((n y : ℕ) (t : Measure → ℕ) (o : Sound key.refs_limit n y t) → Amid c stood t → o.head.generation ≡ at.1 → l.generation ≡ at.1) → IsBacked stood went
-          → (n y : ℕ) (t : Measure → ℕ) → HasFittingLimit key → (o : Sound key.refs_limit n y t) → Amid c stood t → tells c x (stood, sl) n (went, sl)
+      move_goes : (tells : Tells) (x : ℕ) (at : Standing) → standing k c ≡ at → at.0 ≡ place_of from
+          → ((n y : ℕ) (t : Measure → ℕ) (o : Sound key.refs_limit n y t) → Amid c stood t → o.head.generation ≡ at.1
+          → l.generation ≡ at.1) → IsBacked stood went
+          → (n y : ℕ) (t : Measure → ℕ) → HasFittingLimit key → (o : Sound key.refs_limit n y t) → Amid c stood t
+          → tells c x (stood, sl) n (went, sl)
           → Reaches key c (stood, sl) (tells c x (stood, sl) n) (bit_xor n (segment_change from to)) y t
-      shift_goes say x at st place same_life back n y t limits o a told =
+      move_goes say x at st place same_life back n y t limits o a told =
           let stands : Stands c stood at = subst (Stands c stood) st (stands_alone c stood k refl own) in
           let here = at_standing c key.refs_limit n y stood t o a at stands in
-          let shows = in_segment o.head from (subst (Shows o.head) (ap (λ (s : Standing). s.0) here ∙ place) o.lawful.shown) in
+          let shows = in_segment o.head from
+          (subst (Shows o.head) (ap (λ (s : Standing). s.0) here ∙ place) o.lawful.shown) in
           let gen : o.head.generation ≡ at.1 = ap (λ (s : Standing). s.1) here in (
             went,
-            (λ u adds. shift_sound key.refs_limit n y t u a adds o (bit_xor n (segment_change from to)) (change_segment from to n o.head o.spells shows.1) (gen ∙ sym (same_life n y t o a gen)) shows.0),
-            (λ d ne. shift_apart d ne),
+            (λ u adds. move_sound key.refs_limit n y t u a adds o (bit_xor n (segment_change from to))
+                (change_segment from to n o.head o.spells shows.1) (gen ∙ sym (same_life n y t o a gen)) shows.0),
+            (λ d ne. move_apart d ne),
             back,
             told,
           )
 
 -- ---- what is asked of a move
 
-module _ (key : Config) (slots id c : ℕ) (near : c < chunks key) (k : ClassPart) (from to : Segment) (st : StandsIn from c k) (sl : List (ℕ × Empty)) where
+module _ (key : Config) (slots id c : ℕ) (near : c < chunks key) (k : ClassPart) (from to : Segment)
+    (st : StandsIn from c k) (sl : List (ℕ × Empty)) where
   -- a pull's
-  pub pulls : (x : ℕ) → Allows (Kept key) slots id (pulling k, sl) (3 * c + 9) (λ n. bit_xor n (segment_change from to)) (on_chunk (moved_on from to) (step slots (3 * c + 9) x 0 none) (pulling k, sl))
-  pulls x = at_chunk (moved_on from to) key slots id (pulling k, sl) c x (λ n. bit_xor n (segment_change from to)) near (λ n y t limits o a.
+  pub moves_by_pull : (x : ℕ) → Allows (Kept key) slots id (alone k, sl) (3 * c + 9)
+      (λ n. bit_xor n (segment_change from to)) (on_chunk (move_tells from to) (step slots (3 * c + 9) x 0 none)
+      (alone k, sl))
+  moves_by_pull x = at_chunk (move_tells from to) key slots id (alone k, sl) c x
+      (λ n. bit_xor n (segment_change from to)) near (λ n y t limits o a.
       let l : ItemId = life_in k c in let made : OwnStep = step_of kind.Move c n None in
-      shift_goes c k st.0 l refl from to cause.Pull made [] [] (λ d j. refl) key slots id near sl (moved_on from to) x (standing k c) refl st.1 (λ n y t o a gen. refl)
+      move_goes c k st.0 l refl from to cause.Pull made [] [] (λ d j. refl) key slots id near sl (move_tells from to)
+      x (standing k c) refl st.1 (λ n y t o a gen. refl)
       (record {
-        backs = λ wk e. (shift_shows c k st.0 l refl from to cause.Pull made [] [] (λ d j. refl) wk e e.outcome refl, λ more. absurd (omega arith));
-        even = λ q. omega (arith, total_push (λ z. cond (is_move_for q.test q.worker q.number z) 1 0) k.history (change.Moved l from to cause.Pull), ap bit (no_move q.test q.worker q.number (change.Moved l from to cause.Pull) refl));
-        own = shift_own c k st.0 l refl from to cause.Pull made [] [] (λ d j. refl);
-        labels = λ have. (entered_labels k (change.Moved l from to cause.Pull) (k.steps ++ made ∷ []) have.0 refl (λ used. subst IsUsed (sym st.1) (used_in_segment from)), tt);
-        workers = λ w. refl;
-        lanes = λ w. refl;
-        tidy = omega arith;
-      })
-      n y t limits o a (refl, (o.head, o.spells, tells c key.refs_limit n y (pulling k) t o a)))
-
-  -- that of the bump aboard
-  pub shifts : (l : LanePart) (b : Bump) → b.life.chunk ≡ c → from ≡ Cold → to ≡ Warm → (x : ℕ)
-      → Allows (Kept key) slots id (applying k (record l { stage = lane.Cleared b true }), sl) (3 * c + 9) (λ n. bit_xor n (segment_change from to)) (on_chunk (moved_on from to) (step slots (3 * c + 9) x 0 none) (applying k (record l { stage = lane.Cleared b true }), sl))
-  shifts l b of is_cold is_warm x = at_chunk (moved_on from to) key slots id (applying k (record l { stage = lane.Cleared b true }), sl) c x (λ n. bit_xor n (segment_change from to)) near (λ n y t limits o a.
-      let why : Cause = cause.Bump l.worker b.number in let made : OwnStep = step_of kind.Move c n (Some (l.worker, b.number)) in
-      let ls : List LanePart = record l { stage = lane.Cleared b true } ∷ [] in let ms : List LanePart = record l { stage = lane.Moved b } ∷ [] in
-      let v : View = applying k (record l { stage = lane.Cleared b true }) in
-      let here = at_standing c key.refs_limit n y v t o a (standing k c) (stands_alone c v k refl st.0) in
-      let live : b.life.generation ≡ (standing k b.life.chunk).1 = (o.lawful.used b.life.generation (omega (arith, a.mine (held b.life.generation), one_life b.life, ap (λ (d : ℕ). one_if (life d b.life.generation) b.life) of))).0 ∙ ap (λ (s : Standing). s.1) here ∙ ap (λ (d : ℕ). (standing k d).1) (sym of) in
-      shift_goes c k st.0 b.life of from to why made ls ms (λ d j. refl) key slots id near sl (moved_on from to) x (standing k c) refl st.1
-      (λ n y t o a gen. (o.lawful.used b.life.generation (omega (arith, a.mine (held b.life.generation), one_life b.life, ap (λ (d : ℕ). one_if (life d b.life.generation) b.life) of))).0 ∙ gen)
-      (record {
-        backs = λ wk e. (shift_shows c k st.0 b.life of from to why made ls ms (λ d j. refl) wk e e.outcome refl, λ more. absurd (omega arith));
+        backs = λ wk e. (
+          move_shows c k st.0 l refl from to cause.Pull made [] [] (λ d j. refl) wk e e.outcome refl,
+          λ more. absurd (omega arith),
+        );
         even = λ q. omega (
           arith,
-          total_push (λ z. cond (is_move_for q.test q.worker q.number z) 1 0) k.history (change.Moved b.life from to why),
-          ap₂ (λ (f g : Segment). bit (q.test b.life && (is_cold_segment f && (is_warm_segment g && ((l.worker == q.worker) && (b.number == q.number)))))) is_cold is_warm,
-          even_bits (q.test b.life) (l.worker == q.worker) (b.number == q.number) (how_many (is_told_moved q.test q.number) l.applied),
+          total_push (λ z. cond (is_move_for q.test q.worker q.number z) 1 0) k.history
+              (change.Moved l from to cause.Pull),
+          ap bit (no_move q.test q.worker q.number (change.Moved l from to cause.Pull) refl),
         );
-        own = shift_own c k st.0 b.life of from to why made ls ms (λ d j. refl);
-        labels = λ have. (entered_labels k (change.Moved b.life from to why) (k.steps ++ made ∷ []) have.0 live (λ used. subst IsUsed (sym (ap (λ (d : ℕ). (standing k d).0) of ∙ st.1)) (used_in_segment from)), tt);
+        own = move_own c k st.0 l refl from to cause.Pull made [] [] (λ d j. refl);
+        labels = λ have. (
+          entered_labels k (change.Moved l from to cause.Pull) (k.steps ++ made ∷ []) have.0 refl
+              (λ used. subst IsUsed (sym st.1) (used_in_segment from)),
+          tt,
+        );
         workers = λ w. refl;
         lanes = λ w. refl;
         tidy = omega arith;
       })
-      n y t limits o a (refl, (o.head, o.spells, tells c key.refs_limit n y (applying k (record l { stage = lane.Cleared b true })) t o a)))
+      n y t limits o a (refl, (o.head, o.spells, tells c key.refs_limit n y (alone k) t o a)))
+
+  -- that of the bump aboard
+  pub moves_for_bump : (l : LanePart) (b : Bump) → b.life.chunk ≡ c → from ≡ Cold → to ≡ Warm → (x : ℕ)
+      → Allows (Kept key) slots id (applying k (record l { stage = lane.Cleared b true }), sl) (3 * c + 9)
+      (λ n. bit_xor n (segment_change from to)) (on_chunk (move_tells from to) (step slots (3 * c + 9) x 0 none)
+      (applying k (record l { stage = lane.Cleared b true }), sl))
+  moves_for_bump l b of is_cold is_warm x = at_chunk (move_tells from to) key slots id
+      (applying k (record l { stage = lane.Cleared b true }), sl) c x (λ n. bit_xor n (segment_change from to)) near
+      (λ n y t limits o a.
+      let why : Cause = cause.Bump l.worker b.number in let made : OwnStep = step_of kind.Move c n
+      (Some (l.worker, b.number)) in
+      let ls : List LanePart = record l { stage = lane.Cleared b true } ∷ [] in let ms : List LanePart =
+      record l { stage = lane.Moved b } ∷ [] in
+      let v : View = applying k (record l { stage = lane.Cleared b true }) in
+      let here = at_standing c key.refs_limit n y v t o a (standing k c) (stands_alone c v k refl st.0) in
+      let live : b.life.generation ≡ (standing k b.life.chunk).1 =
+      (o.lawful.used b.life.generation
+      (omega (
+        arith,
+        a.mine (held b.life.generation),
+        one_life b.life,
+        ap (λ (d : ℕ). one_if (life d b.life.generation) b.life) of,
+      ))).0 ∙ ap (λ (s : Standing). s.1) here
+      ∙ ap (λ (d : ℕ). (standing k d).1) (sym of) in
+      move_goes c k st.0 b.life of from to why made ls ms (λ d j. refl) key slots id near sl (move_tells from to) x
+      (standing k c) refl st.1
+      (λ n y t o a gen. (o.lawful.used b.life.generation
+      (omega (
+        arith,
+        a.mine (held b.life.generation),
+        one_life b.life,
+        ap (λ (d : ℕ). one_if (life d b.life.generation) b.life) of,
+      ))).0 ∙ gen)
+      (record {
+        backs = λ wk e. (
+          move_shows c k st.0 b.life of from to why made ls ms (λ d j. refl) wk e e.outcome refl,
+          λ more. absurd (omega arith),
+        );
+        even = λ q. omega (
+          arith,
+          total_push (λ z. cond (is_move_for q.test q.worker q.number z) 1 0) k.history
+              (change.Moved b.life from to why),
+          ap₂ (λ (f g : Segment). bit
+              (q.test b.life && (is_cold_segment f
+              && (is_warm_segment g && ((l.worker == q.worker) && (b.number == q.number)))))) is_cold is_warm,
+          even_bits (q.test b.life) (l.worker == q.worker) (b.number == q.number)
+              (how_many (is_told_moved q.test q.number) l.applied),
+        );
+        own = move_own c k st.0 b.life of from to why made ls ms (λ d j. refl);
+        labels = λ have. (
+          entered_labels k (change.Moved b.life from to why) (k.steps ++ made ∷ []) have.0 live
+              (λ used. subst IsUsed (sym (ap (λ (d : ℕ). (standing k d).0) of ∙ st.1)) (used_in_segment from)),
+          tt,
+        );
+        workers = λ w. refl;
+        lanes = λ w. refl;
+        tidy = omega arith;
+      })
+      n y t limits o a (
+        refl,
+        (
+          o.head,
+          o.spells,
+          tells c key.refs_limit n y
+              (applying k (record l { stage = lane.Cleared b true })) t o a,
+        ),
+      ))
 
 -- for the contract
-pub may_move : (key : Config) (slots id c x : ℕ) (from to : Segment) (m : Sat) → c < chunks key → MayMove from to c m.0 → Allows (Kept key) slots id m (3 * c + 9) (λ n. bit_xor n (segment_change from to)) (on_chunk (moved_on from to) (step slots (3 * c + 9) x 0 none) m)
-may_move key slots id c x from to m near (inl (k, p)) = subst (λ (v : View). Allows (Kept key) slots id (v, m.1) (3 * c + 9) (λ n. bit_xor n (segment_change from to)) (on_chunk (moved_on from to) (step slots (3 * c + 9) x 0 none) (v, m.1))) (sym p.view) (pulls key slots id c near k from to p.stands m.1 x)
-may_move key slots id c x from to m near (inr (k, l, b, g)) = let is : m.0 ≡ applying k (record l { stage = lane.Cleared b true }) = g.view ∙ ap (λ (s : Lane). applying k (record l { stage = s })) g.stage in
-    subst (λ (v : View). Allows (Kept key) slots id (v, m.1) (3 * c + 9) (λ n. bit_xor n (segment_change from to)) (on_chunk (moved_on from to) (step slots (3 * c + 9) x 0 none) (v, m.1))) (sym is) (shifts key slots id c near k from to g.stands m.1 l b g.chunk g.from_cold g.to_warm x)
+pub may_move : (key : Config) (slots id c x : ℕ) (from to : Segment) (m : Sat) → c < chunks key
+    → MayMove from to c m.0 → Allows (Kept key) slots id m (3 * c + 9) (λ n. bit_xor n (segment_change from to))
+    (on_chunk (move_tells from to) (step slots (3 * c + 9) x 0 none) m)
+may_move key slots id c x from to m near (inl (k, p)) =
+    subst (λ (v : View). Allows (Kept key) slots id (v, m.1) (3 * c + 9) (λ n. bit_xor n (segment_change from to))
+    (on_chunk (move_tells from to) (step slots (3 * c + 9) x 0 none) (v, m.1))) (sym p.view)
+    (moves_by_pull key slots id c near k from to p.stands m.1 x)
+may_move key slots id c x from to m near (inr (k, l, b, g)) = let is : m.0 ≡ applying k
+    (record l { stage = lane.Cleared b true }) = g.view ∙ ap (λ (s : Lane). applying k (record l { stage = s }))
+    g.stage in
+    subst (λ (v : View). Allows (Kept key) slots id (v, m.1) (3 * c + 9) (λ n. bit_xor n (segment_change from to))
+    (on_chunk (move_tells from to) (step slots (3 * c + 9) x 0 none) (v, m.1))) (sym is)
+    (moves_for_bump key slots id c near k from to g.stands m.1 l b g.chunk g.from_cold g.to_warm x)
 
 -- ---- the end of a bump
 
@@ -365,10 +558,12 @@ unfolding bump_or
 one_bump d b e = ap (bump_or d) e
 
 -- what a bump aboard counts for: nothing before it is moved
-moving_of : (q : Query) (s : Lane) (b : Bump) → aboard_of s ≡ Some b → moving q.test q.number s ≡ cond (is_past_move s && ((b.number == q.number) && q.test b.life)) 1 0
+moving_of : (q : Query) (s : Lane) (b : Bump) → bump_aboard s ≡ Some b → moving q.test q.number s ≡ cond
+    (is_past_move s && ((b.number == q.number) && q.test b.life)) 1 0
 moving_of q s b e = by s e
   where
-    by : (s : Lane) → aboard_of s ≡ Some b → moving q.test q.number s ≡ cond (is_past_move s && ((b.number == q.number) && q.test b.life)) 1 0
+    by : (s : Lane) → bump_aboard s ≡ Some b → moving q.test q.number s ≡ cond
+        (is_past_move s && ((b.number == q.number) && q.test b.life)) 1 0
     by lane.Empty e = refl
     by (lane.Carrying d) e = refl
     by (lane.Tried d) e = refl
@@ -376,12 +571,16 @@ moving_of q s b e = by s e
     by (lane.Moved d) e = ap (λ (x : Bump). cond ((x.number == q.number) && q.test x.life) 1 0) (one_bump d b e)
 
 -- the entry tells of the move that was in progress
-pub alighted_tells : (test : ItemId → Bool) (n : ℕ) (l : LanePart) (b : Bump) (out : Outcome) → aboard_of l.stage ≡ Some b → is_past_move l.stage ≡ is_moved out → moves_told test n (l.applied ++ entry_of out (aboard_of l.stage)) lane.Empty ≡ moves_told test n l.applied l.stage
-alighted_tells test n l b out aboard past = omega (
+pub alight_refers : (test : ItemId → Bool) (n : ℕ) (l : LanePart) (b : Bump) (out : Outcome)
+    → bump_aboard l.stage ≡ Some b → is_past_move l.stage ≡ is_moved out
+    → moves_told test n (l.applied ++ entries_of_alight out (bump_aboard l.stage)) lane.Empty ≡ moves_told test n
+    l.applied l.stage
+alight_refers test n l b out aboard past = omega (
   arith,
-  total_append (λ a. cond (is_told_moved test n a) 1 0) l.applied (entry_of out (aboard_of l.stage)),
-  ap (λ (o : Option Bump). total (λ a. cond (is_told_moved test n a) 1 0) (entry_of out o)) aboard,
-  moving_of (record { test = test; worker = 0; number = n }) l.stage b aboard ∙ ap (λ (x : Bool). cond (x && ((b.number == n) && test b.life)) 1 0) past,
+  total_append (λ a. cond (is_told_moved test n a) 1 0) l.applied (entries_of_alight out (bump_aboard l.stage)),
+  ap (λ (o : Option Bump). total (λ a. cond (is_told_moved test n a) 1 0) (entries_of_alight out o)) aboard,
+  moving_of (record { test = test; worker = 0; number = n }) l.stage b aboard
+      ∙ ap (λ (x : Bool). cond (x && ((b.number == n) && test b.life)) 1 0) past,
 )
 
 and_both : (a b : Bool) → (a && b) ≡ true → (a ≡ true) × (b ≡ true)
@@ -403,7 +602,8 @@ outcome_is outcome.Gone outcome.Gone e = refl
 -- entries that test as one are one
 same_entry_is : (e f : AppliedBump) → is_entry f e ≡ true → e ≡ f
 same_entry_is e f is = let a = and_both _ _ is in let b = and_both _ _ a.1 in let l = and_both _ _ b.0 in
-    let n = eqb-true _ _ a.0 in let ch = eqb-true _ _ l.0 in let g = eqb-true _ _ l.1 in let o = outcome_is e.outcome f.outcome (eqb-true _ _ b.1) in
+    let n = eqb-true _ _ a.0 in let ch = eqb-true _ _ l.0 in let g = eqb-true _ _ l.1 in let o =
+    outcome_is e.outcome f.outcome (eqb-true _ _ b.1) in
     λ i. record { number = n i; life = record { chunk = ch i; generation = g i }; outcome = o i }
 
 settle_bits : (w : Bool) (t going more : ℕ) → going ≡ more → cond w (t + more + 0) 0 ≡ cond w (t + going) 0
@@ -420,28 +620,37 @@ and_true true = refl
 and_true false = refl
 
 -- the bump aboard becomes the next entry
-order_ends : (b : Bump) (a : AppliedBump) → a.number ≡ b.number → (es : List AppliedBump) (i : ℕ) → in_order i (es ++ a ∷ []) None ≡ in_order i es (Some b)
+order_ends : (b : Bump) (a : AppliedBump) → a.number ≡ b.number → (es : List AppliedBump) (i : ℕ)
+    → in_order i (es ++ a ∷ []) None ≡ in_order i es (Some b)
 order_ends b a e [] i = and_true (a.number == i) ∙ ap (λ (n : ℕ). n == i) e
 order_ends b a e (x ∷ xs) i = ap (λ (y : Bool). (x.number == i) && y) (order_ends b a e xs (i + 1))
 
-module _ (key : Config) (slots id : ℕ) (k : ClassPart) (l : LanePart) (b : Bump) (out : Outcome) (near : b.life.chunk < chunks key) (sl : List (ℕ × Empty)) (aboard : aboard_of l.stage ≡ Some b) (past : is_past_move l.stage ≡ is_moved out) where
+module _ (key : Config) (slots id : ℕ) (k : ClassPart) (l : LanePart) (b : Bump) (out : Outcome)
+    (near : b.life.chunk < chunks key) (sl : List (ℕ × Empty)) (aboard : bump_aboard l.stage ≡ Some b)
+    (past : is_past_move l.stage ≡ is_moved out) where
   the_entry : AppliedBump
   the_entry = record { number = b.number; life = b.life; outcome = out }
 
-  refers_is : (d g : ℕ) → refers d g (aboard_of l.stage) ≡ one_if (life d g) b.life
+  refers_is : (d g : ℕ) → refers d g (bump_aboard l.stage) ≡ one_if (life d g) b.life
   refers_is d g = ap (refers d g) aboard
 
-  applied_is : (f : AppliedBump → ℕ) → total f (l.applied ++ entry_of out (aboard_of l.stage)) ≡ total f l.applied + f (record { number = b.number; life = b.life; outcome = out })
-  applied_is f = omega (arith, total_append f l.applied (entry_of out (aboard_of l.stage)), ap (λ (o : Option Bump). total f (entry_of out o)) aboard)
+  applied_is : (f : AppliedBump → ℕ) → total f (l.applied ++ entries_of_alight out (bump_aboard l.stage)) ≡ total f
+      l.applied + f (record { number = b.number; life = b.life; outcome = out })
+  applied_is f = omega (
+    arith,
+    total_append f l.applied (entries_of_alight out (bump_aboard l.stage)),
+    ap (λ (o : Option Bump). total f (entries_of_alight out o)) aboard,
+  )
 
   module _ (n : ℕ) where
     abbrev before : View
     before = applying k l
 
     abbrev behind : View
-    behind = alighted_view out b.life.chunk n (applying k l)
+    behind = view_after_alight out b.life.chunk n (applying k l)
 
-    alight_apart : (d : ℕ) → d ≢ b.life.chunk → Same d (applying k l) (alighted_view out b.life.chunk n (applying k l))
+    alight_apart : (d : ℕ) → d ≢ b.life.chunk
+        → Same d (applying k l) (view_after_alight out b.life.chunk n (applying k l))
     alight_apart d ne (held j) = omega (arith, refers_is d j, other_chunk d j b.life ne)
     alight_apart d ne (named j) = refl
     alight_apart d ne (saw j) = refl
@@ -450,48 +659,82 @@ module _ (key : Config) (slots id : ℕ) (k : ClassPart) (l : LanePart) (b : Bum
     alight_apart d ne (mislabels y) = refl
     alight_apart d ne (misreads j y) = refl
 
-    more_evidence : (wk : ℕ) (e : AppliedBump) (o : Outcome) → shown_by o wk e (applying k l) ≤ shown_by o wk e (alighted_view out b.life.chunk n (applying k l))
+    more_evidence : (wk : ℕ) (e : AppliedBump) (o : Outcome) → shown_by o wk e (applying k l) ≤ shown_by o wk e
+        (view_after_alight out b.life.chunk n (applying k l))
     more_evidence wk e outcome.Moved = omega arith
     more_evidence wk e outcome.Gone = omega arith
-    more_evidence wk e outcome.TimeOnly = omega (arith, total_push (λ z. cond (shows_time_only wk e.number e.life.chunk z) 1 0) l.steps (step_of kind.Alight b.life.chunk n (for_bump l)))
+    more_evidence wk e outcome.TimeOnly =
+        omega (
+          arith,
+          total_push (λ z. cond (shows_time_only wk e.number e.life.chunk z) 1 0) l.steps
+              (step_of kind.Alight b.life.chunk n (for_bump l)),
+        )
 
-    alight_backed : 0 < evidence l.worker (applied_bump b out) (applying k l) → IsBacked (applying k l) (alighted_view out b.life.chunk n (applying k l))
+    alight_backed : 0 < evidence l.worker (applied_bump b out) (applying k l) → IsBacked (applying k l)
+        (view_after_alight out b.life.chunk n (applying k l))
     alight_backed proof = record {
       backs = λ wk d. (more_evidence wk d d.outcome, λ more. claimed wk d more);
       even = λ q. omega (
         arith,
-        settle_bits (l.worker == q.worker) (how_many (is_told_moved q.test q.number) l.applied) (moving q.test q.number l.stage) (cond (is_told_moved q.test q.number (record { number = b.number; life = b.life; outcome = out })) 1 0)
-            (moving_of q l.stage b aboard ∙ ap (λ (x : Bool). cond (x && ((b.number == q.number) && q.test b.life)) 1 0) past),
-        ap (λ (t : ℕ). cond (l.worker == q.worker) (t + 0) 0) (applied_is (λ a. cond (is_told_moved q.test q.number a) 1 0)),
+        settle_bits (l.worker == q.worker) (how_many (is_told_moved q.test q.number) l.applied)
+            (moving q.test q.number l.stage)
+            (cond (is_told_moved q.test q.number (record { number = b.number; life = b.life; outcome = out })) 1 0)
+            (moving_of q l.stage b aboard
+            ∙ ap (λ (x : Bool). cond (x && ((b.number == q.number) && q.test b.life)) 1 0) past),
+        ap (λ (t : ℕ). cond (l.worker == q.worker) (t + 0) 0)
+            (applied_is (λ a. cond (is_told_moved q.test q.number a) 1 0)),
       );
       own = omega arith;
       labels = λ have. have;
       workers = λ w. refl;
       lanes = λ w. refl;
-      tidy = omega (arith, ap {B = ℕ} (λ (x : Bool). cond x 0 1) (ap (in_order 0 l.applied) aboard ∙ sym (order_ends b (record { number = b.number; life = b.life; outcome = out }) refl l.applied 0) ∙ sym (ap (λ (o : Option Bump). in_order 0 (l.applied ++ entry_of out o) None) aboard)));
+      tidy = omega (
+        arith,
+        ap {B = ℕ} (λ (x : Bool). cond x 0 1)
+            (ap (in_order 0 l.applied) aboard
+            ∙ sym (order_ends b (record { number = b.number; life = b.life; outcome = out }) refl l.applied 0)
+            ∙ sym (ap (λ (o : Option Bump). in_order 0 (l.applied ++ entries_of_alight out o) None) aboard)),
+      );
     }
       where
-        claimed : (wk : ℕ) (d : AppliedBump) → claims wk d (applying k l) < claims wk d (alighted_view out b.life.chunk n (applying k l)) → 0 < evidence wk d (alighted_view out b.life.chunk n (applying k l))
-        claimed wk d more = let bits = claim_bits (l.worker == wk) (is_entry d (record { number = b.number; life = b.life; outcome = out })) (how_many (is_entry d) l.applied)
-            (omega (arith, more, ap (λ (t : ℕ). cond (l.worker == wk) t 0) (applied_is (λ a. cond (is_entry d a) 1 0)))) in
-            let is = same_entry_is (record { number = b.number; life = b.life; outcome = out }) d bits.1 in let whose = eqb-true l.worker wk bits.0 in
-            subst (λ (e : ℕ × AppliedBump). 0 < evidence e.0 e.1 (alighted_view out b.life.chunk n (applying k l))) (λ i. (whose i, is i)) (omega (arith, proof, more_evidence l.worker (applied_bump b out) out))
+        claimed : (wk : ℕ) (d : AppliedBump) → claims wk d (applying k l) < claims wk d
+            (view_after_alight out b.life.chunk n (applying k l))
+            → 0 < evidence wk d (view_after_alight out b.life.chunk n (applying k l))
+        claimed wk d more = let bits = claim_bits (l.worker == wk)
+            (is_entry d (record { number = b.number; life = b.life; outcome = out }))
+            (how_many (is_entry d) l.applied)
+            (omega (
+              arith,
+              more,
+              ap (λ (t : ℕ). cond (l.worker == wk) t 0)
+                  (applied_is (λ a. cond (is_entry d a) 1 0)),
+            )) in
+            let is = same_entry_is (record { number = b.number; life = b.life; outcome = out }) d bits.1 in
+            let whose = eqb-true l.worker wk bits.0 in
+            subst (λ (e : ℕ × AppliedBump). 0 < evidence e.0 e.1
+            (view_after_alight out b.life.chunk n (applying k l))) (λ i. (whose i, is i))
+            (omega (arith, proof, more_evidence l.worker (applied_bump b out) out))
 
-  pub alights : (x : ℕ) → 0 < evidence l.worker (applied_bump b out) (applying k l) → Allows (Kept key) slots id (applying k l, sl) (3 * b.life.chunk + 9) (λ n. (n + (2 ^ 64 - 1)) % 2 ^ 64) (on_chunk (alighted out) (step slots (3 * b.life.chunk + 9) x 0 none) (applying k l, sl))
-  alights x proof = at_chunk (alighted out) key slots id (applying k l, sl) b.life.chunk x (λ n. (n + (2 ^ 64 - 1)) % 2 ^ 64) near (λ n label t limits o a.
+  pub alights : (x : ℕ) → 0 < evidence l.worker (applied_bump b out) (applying k l) → Allows (Kept key) slots id
+      (applying k l, sl) (3 * b.life.chunk + 9) (λ n. (n + (2 ^ 64 - 1)) % 2 ^ 64)
+      (on_chunk (alight_tells out) (step slots (3 * b.life.chunk + 9) x 0 none) (applying k l, sl))
+  alights x proof = at_chunk (alight_tells out) key slots id (applying k l, sl) b.life.chunk x
+      (λ n. (n + (2 ^ 64 - 1)) % 2 ^ 64) near (λ n label t limits o a.
       let g : ℕ = b.life.generation in
       let c : ℕ = b.life.chunk in
       let own : weight c (held g) (applying k l) ≡ 1 = omega (arith, refers_is c g, one_life b.life) in
       let gen : g ≡ o.head.generation = (o.lawful.used g (omega (arith, a.mine (held g)))).0 in
       let many : 0 < o.head.refs = omega (arith, o.lawful.counted, a.mine (held g), ap (λ (j : ℕ). t (held j)) gen) in
-      let w : View = alighted_view out b.life.chunk n (applying k l) in (
+      let w : View = view_after_alight out b.life.chunk n (applying k l) in (
         w,
         (λ u moves. record {
           head = record o.head { refs = o.head.refs - 1 };
           at = o.at;
           spells = one_less n o.head o.spells many;
-          lawful = subst (λ (y : ℕ → ℕ). Lawful key.refs_limit (record o.head { refs = o.head.refs - 1 }) o.at (λ j. u (held j)) y) (λ i j. level (t (named j)) (u (named j)) 0 (moves (named j)) i)
-              (unreferred key.refs_limit o.head o.at (λ j. t (held j)) (λ j. t (named j)) o.lawful (λ j. u (held j)) (subst (λ (j : ℕ). u (held j) + 1 ≡ t (held j)) gen (omega (arith, moves (held g))))
+          lawful = subst (λ (y : ℕ → ℕ). Lawful key.refs_limit (record o.head { refs = o.head.refs - 1 }) o.at
+              (λ j. u (held j)) y) (λ i j. level (t (named j)) (u (named j)) 0 (moves (named j)) i)
+              (unreferred key.refs_limit o.head o.at (λ j. t (held j)) (λ j. t (named j)) o.lawful (λ j. u (held j))
+              (subst (λ (j : ℕ). u (held j) + 1 ≡ t (held j)) gen (omega (arith, moves (held g))))
               (λ j ne. omega (arith, moves (held j), refers_is c j, other_life b.life j (λ q. ne (q ∙ gen)))));
           owned = omega (arith, moves owners, o.owned);
           agreed = omega (arith, moves (strays (o.at, o.head.generation)), o.agreed);
@@ -505,7 +748,11 @@ module _ (key : Config) (slots id : ℕ) (k : ClassPart) (l : LanePart) (b : Bum
       ))
 
 -- for the contract
-pub may_alight : (key : Config) (slots id c x : ℕ) (out : Outcome) (m : Sat) → c < chunks key → MayAlight c out m.0 → Allows (Kept key) slots id m (3 * c + 9) (λ n. (n + (2 ^ 64 - 1)) % 2 ^ 64) (on_chunk (alighted out) (step slots (3 * c + 9) x 0 none) m)
-may_alight key slots id c x out m near may = let k : ClassPart = may.0 in let l : LanePart = may.1 in let b : Bump = may.2 in let g : Alights c out m.0 k l b = may.3 in
-    subst (λ (y : ℕ × View). Allows (Kept key) slots id (y.1, m.1) (3 * y.0 + 9) (λ n. (n + (2 ^ 64 - 1)) % 2 ^ 64) (on_chunk (alighted out) (step slots (3 * y.0 + 9) x 0 none) (y.1, m.1))) (λ i. (g.chunk i, sym g.view i))
+pub may_alight : (key : Config) (slots id c x : ℕ) (out : Outcome) (m : Sat) → c < chunks key → MayAlight c out m.0
+    → Allows (Kept key) slots id m (3 * c + 9) (λ n. (n + (2 ^ 64 - 1)) % 2 ^ 64)
+    (on_chunk (alight_tells out) (step slots (3 * c + 9) x 0 none) m)
+may_alight key slots id c x out m near may = let k : ClassPart = may.0 in let l : LanePart = may.1 in let b : Bump =
+    may.2 in let g : Alights c out m.0 k l b = may.3 in
+    subst (λ (y : ℕ × View). Allows (Kept key) slots id (y.1, m.1) (3 * y.0 + 9) (λ n. (n + (2 ^ 64 - 1)) % 2 ^ 64)
+    (on_chunk (alight_tells out) (step slots (3 * y.0 + 9) x 0 none) (y.1, m.1))) (λ i. (g.chunk i, sym g.view i))
     (alights key slots id k l b out (omega (arith, g.chunk)) m.1 g.aboard g.past x g.proof)

@@ -17,7 +17,8 @@ use Rattle.bump_steps.specs.Riders.{board_both}
 use Rattle.bump_steps.proofs.Frame.{joins}
 
 -- the bump that boards has the next number
-order_boards : (b : Bump) (es : List AppliedBump) (i : ℕ) → b.number ≡ i + length es → in_order i es (Some b) ≡ in_order i es None
+order_boards : (b : Bump) (es : List AppliedBump) (i : ℕ) → b.number ≡ i + length es
+    → in_order i es (Some b) ≡ in_order i es None
 order_boards b [] i e = eq-eqb b.number i (omega (arith, e))
 order_boards b (x ∷ xs) i e = ap (λ (y : Bool). (x.number == i) && y) (order_boards b xs (i + 1) (omega (arith, e)))
 
@@ -28,7 +29,8 @@ module _ (l : LanePart) (r : Ride) where
   abbrev pub riding : View
   riding = record blank { riders = r ∷ [] }
 
-  even : (c : ℕ) (x : Measure) → weight c x (board_both waiting riding) + weight c x blank ≡ weight c x waiting + weight c x riding
+  even : (c : ℕ) (x : Measure) → weight c x (board_both waiting riding) + weight c x blank ≡ weight c x waiting
+      + weight c x riding
   even c (held g) = omega arith
   even c (named g) = refl
   even c (saw g) = refl
@@ -37,10 +39,19 @@ module _ (l : LanePart) (r : Ride) where
   even c (mislabels x) = refl
   even c (misreads g x) = refl
 
-  same_evidence : (n : ℕ) (a : AppliedBump) (o : Outcome) → shown_by o n a (board_both waiting riding) + shown_by o n a blank ≡ shown_by o n a waiting + shown_by o n a riding
+  same_evidence : (n : ℕ) (a : AppliedBump) (o : Outcome) → shown_by o n a (board_both waiting riding) + shown_by o n
+      a blank ≡ shown_by o n a waiting + shown_by o n a riding
   same_evidence n a outcome.Moved = refl
   same_evidence n a outcome.Gone = refl
   same_evidence n a outcome.TimeOnly = omega arith
 
-  pub boards : (key : Config) (id other : ℕ) → Joins (Kept key) id waiting other riding (board_both waiting riding) blank
-  boards key id other = joins key id waiting other riding (board_both waiting riding) blank even (λ n a. (omega arith, same_evidence n a a.outcome)) (λ q. (omega arith, omega arith)) refl (λ have more. (tt, tt)) (λ n. refl) (λ n. refl) (omega (arith, ap {B = ℕ} (λ (x : Bool). cond x 0 1) (order_boards (record { number = length l.applied; life = r.life }) l.applied 0 (omega arith))))
+  pub boards : (key : Config) (id other : ℕ) → Joins (Kept key) id waiting other riding (board_both waiting riding)
+      blank
+  boards key id other = joins key id waiting other riding (board_both waiting riding) blank even
+      (λ n a. (omega arith, same_evidence n a a.outcome)) (λ q. (omega arith, omega arith)) refl
+      (λ have more. (tt, tt)) (λ n. refl) (λ n. refl)
+      (omega (
+        arith,
+        ap {B = ℕ} (λ (x : Bool). cond x 0 1)
+            (order_boards (record { number = length l.applied; life = r.life }) l.applied 0 (omega arith)),
+      ))

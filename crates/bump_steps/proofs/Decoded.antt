@@ -16,11 +16,13 @@ abbrev pub segment_mask : ℕ
 segment_mask = 2 ^ (segment_width + segment_first) - 2 ^ segment_first
 
 -- the number under the segment's mask tells the segment
-pub segment_read : (n : ℕ) (h : Head) (s : Segment) → Spells n h → bit_and n segment_mask ≡ number_of s * 2 ^ segment_first → s ≡ h.segment
+pub segment_read : (n : ℕ) (h : Head) (s : Segment) → Spells n h → bit_and n segment_mask ≡ number_of s * 2
+    ^ segment_first → s ≡ h.segment
 segment_read n h s spelled is = number_one s h.segment (omega (arith, is, read_segment_masked n h spelled))
 
 -- a segment whose bits are neither those of WARM nor those of COLD is HOT
-pub segment_left : (n : ℕ) (h : Head) → Spells n h → bit_and n segment_mask ≢ segment_change Hot Warm → bit_and n segment_mask ≢ segment_change Hot Cold → Hot ≡ h.segment
+pub segment_left : (n : ℕ) (h : Head) → Spells n h → bit_and n segment_mask ≢ segment_change Hot Warm
+    → bit_and n segment_mask ≢ segment_change Hot Cold → Hot ≡ h.segment
 segment_left n h spelled not_warm not_cold = by h.segment (read_segment_masked n h spelled)
   where
     by : (s : Segment) → bit_and n segment_mask ≡ number_of s * 2 ^ segment_first → Hot ≡ s
@@ -35,17 +37,35 @@ flag_read m false told = ap not (eq-eqb m 0 (told.1.1 refl))
 
 -- what is read of a word
 abbrev pub read_of : ℕ → Segment → Head
-read_of n s = record { refs = bit_and n refs_mask; linked = not (eqb (bit_and n (2 ^ linked_first)) 0); fetched = not (eqb (bit_and n (2 ^ fetched_first)) 0); active = not (eqb (bit_and n (2 ^ active_first)) 0); segment = s; generation = n / 2 ^ generation_first }
+read_of n s = record {
+  refs = bit_and n refs_mask;
+  linked = not (eqb (bit_and n (2 ^ linked_first)) 0);
+  fetched =
+      not (eqb (bit_and n (2 ^ fetched_first)) 0);
+  active = not (eqb (bit_and n (2 ^ active_first)) 0);
+  segment = s;
+  generation = n / 2 ^ generation_first;
+}
 
 -- it is the Head that the word spells
 pub read_is : (n : ℕ) (h : Head) (s : Segment) → Spells n h → s ≡ h.segment → h ≡ read_of n s
 read_is n h s spelled is =
     let refs : h.refs ≡ bit_and n refs_mask = sym (read_refs n h spelled) in
-    let linked : h.linked ≡ not (eqb (bit_and n (2 ^ linked_first)) 0) = sym (flag_read (bit_and n (2 ^ linked_first)) h.linked (test_linked n h spelled)) in
-    let fetched : h.fetched ≡ not (eqb (bit_and n (2 ^ fetched_first)) 0) = sym (flag_read (bit_and n (2 ^ fetched_first)) h.fetched (test_fetched n h spelled)) in
-    let active : h.active ≡ not (eqb (bit_and n (2 ^ active_first)) 0) = sym (flag_read (bit_and n (2 ^ active_first)) h.active (test_active n h spelled)) in
+    let linked : h.linked ≡ not (eqb (bit_and n (2 ^ linked_first)) 0) =
+    sym (flag_read (bit_and n (2 ^ linked_first)) h.linked (test_linked n h spelled)) in
+    let fetched : h.fetched ≡ not (eqb (bit_and n (2 ^ fetched_first)) 0) =
+    sym (flag_read (bit_and n (2 ^ fetched_first)) h.fetched (test_fetched n h spelled)) in
+    let active : h.active ≡ not (eqb (bit_and n (2 ^ active_first)) 0) =
+    sym (flag_read (bit_and n (2 ^ active_first)) h.active (test_active n h spelled)) in
     let generation : h.generation ≡ n / 2 ^ generation_first = sym (read_generation n h spelled) in
-    λ k. record { refs = refs k; linked = linked k; fetched = fetched k; active = active k; segment = sym is k; generation = generation k }
+    λ k. record {
+      refs = refs k;
+      linked = linked k;
+      fetched = fetched k;
+      active = active k;
+      segment = sym is k;
+      generation = generation k;
+    }
 
 -- so it is spelled
 pub read_spells : (n : ℕ) (h : Head) (s : Segment) → Spells n h → s ≡ h.segment → Spells n (read_of n s)

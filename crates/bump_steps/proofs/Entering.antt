@@ -38,21 +38,23 @@ use Rattle.bump_steps.specs.declared.views.Kind.TheVariants as kind
 use Rattle.bump_steps.specs.declared.views.OwnStep.{OwnStep}
 use Rattle.bump_steps.specs.declared.views.ClassPart.{ClassPart}
 use Rattle.bump_steps.specs.declared.views.View.{View}
-use Rattle.bump_steps.specs.Views.{Measure, held, named, saw, owners, strays, mislabels, misreads, owns, standing, label_of, weight, shown_by, shows_time_only, HasLabels, IsBacked}
+use Rattle.bump_steps.specs.Views.{Measure, held, named, saw, owners, strays, mislabels, misreads, owns, standing, last_label, weight, shown_by, shows_time_only, HasLabels, IsBacked}
 use Rattle.bump_steps.specs.Rule.{Sound, chunks, Kept}
 use Rattle.bump_steps.specs.Plays.{Sat, on_chunk, step_of, Stands}
-use Rattle.bump_steps.specs.Lives.{alone, looked, begun, freed, seen, IsInSegment, StandsAt, IsLinked, IsDying, MayBegin, on_part, beginning, severing, sweeping}
+use Rattle.bump_steps.specs.Lives.{alone, class_after_load, class_after_link, class_after_sweep, IsInSegment, IsLinked, IsDying, MayLink, on_class, link_tells, unlink_tells, sweep_or_load_tells}
 use Rattle.bump_steps.specs.Lives as lives
 use Rattle.bump_steps.proofs.Frame.{Same, Amid, Reaches, on_head, same_sound}
 use Rattle.bump_steps.proofs.LabelLists.{word_begun}
-use Rattle.bump_steps.proofs.LifeLabels.{entered_labels, begun_labels}
-use Rattle.bump_steps.proofs.Looking.{looked_same, looked_backed}
+use Rattle.bump_steps.proofs.LifeLabels.{entered_labels, link_labels}
+use Rattle.bump_steps.proofs.Looking.{load_same, load_backed}
 use Rattle.bump_steps.proofs.StepLemmas.{chunk_is, at_chunk, owned_push, same_counts}
 use Rattle.bump_steps.proofs.Told.{at_standing, tells, stands_alone}
 
 -- ---- An entry of a chunk of the class that names no bump, and labels that leave all words.
 
-module _ (c : ℕ) (k : ClassPart) (own : owns c k ≡ true) (e : Change) (ls : List LabelStep) (x : OwnStep) (of : (subject e).chunk ≡ c) (quiet : names_bump e ≡ false) (same_labels : (b : ℕ) → label_word b 0 ls ≡ label_of k b) where
+module _ (c : ℕ) (k : ClassPart) (own : owns c k ≡ true) (e : Change) (ls : List LabelStep) (x : OwnStep)
+    (of : (subject e).chunk ≡ c) (quiet : names_bump e ≡ false)
+    (same_labels : (b : ℕ) → label_word b 0 ls ≡ last_label k b) where
   -- the view after it
   abbrev pub entering : View
   entering = alone (record k { history = k.history ++ e ∷ []; labels = ls; steps = k.steps ++ x ∷ [] })
@@ -68,42 +70,82 @@ module _ (c : ℕ) (k : ClassPart) (own : owns c k ≡ true) (e : Change) (ls : 
   enter_apart b ne (saw j) = refl
   enter_apart b ne owners = refl
   enter_apart b ne (strays s) = ap (λ (at : Standing). bit (owns b k && not (is_standing at s)) + 0)
-      (standing_push b (Unused, k.fresh) k.history e ∙ ap (λ o. cond o (target e, (subject e).generation) (standing k b)) (ne_eqb (subject e).chunk b (λ q. ne (sym q ∙ of))))
+      (standing_push b (Unused, k.fresh) k.history e
+      ∙ ap (λ o. cond o (target e, (subject e).generation) (standing k b))
+      (ne_eqb (subject e).chunk b (λ q. ne (sym q ∙ of))))
   enter_apart b ne (mislabels z) = ap (λ (l : ℕ). bit (owns b k && not (eqb l z)) + 0) (same_labels b)
   enter_apart b ne (misreads j z) = refl
 
   -- this one stands where the entry says
   no_stray : weight c (strays to_be) entering ≡ 0
-  no_stray = ap₂ (λ (o same : Bool). bit (o && not same) + 0) own (standing_same _ _ (standing_push c (Unused, k.fresh) k.history e ∙ ap (λ o. cond o (target e, (subject e).generation) (standing k c)) (eq-eqb (subject e).chunk c of)))
+  no_stray = ap₂ (λ (o same : Bool). bit (o && not same) + 0) own
+      (standing_same _ _ (standing_push c (Unused, k.fresh) k.history e
+      ∙ ap (λ o. cond o (target e, (subject e).generation) (standing k c)) (eq-eqb (subject e).chunk c of)))
 
   -- the entry shows what was shown, and no move
-  pub enter_backed : (HasLabels k → HasLabels (record k { history = k.history ++ e ∷ []; labels = ls; steps = k.steps ++ x ∷ [] })) → IsBacked (alone k) entering
+  pub enter_backed : (HasLabels k
+      → HasLabels (record k { history = k.history ++ e ∷ []; labels = ls; steps = k.steps ++ x ∷ [] }))
+      → IsBacked (alone k) entering
   enter_backed keeps = record {
     backs = λ wk d. (by wk d d.outcome, λ more. absurd (omega arith));
-    even = λ q. omega (arith, total_push (λ z. bit (is_move_for q.test q.worker q.number z)) k.history e, ap bit (no_move q.test q.worker q.number e quiet));
-    own = omega (arith, total_push (λ z. bit (not (owns (subject z).chunk k))) k.history e, ap (λ (d : ℕ). bit (not (owns d k))) of, ap (λ (b : Bool). bit (not b)) own);
+    even = λ q. omega (
+      arith,
+      total_push (λ z. bit (is_move_for q.test q.worker q.number z)) k.history e,
+      ap bit (no_move q.test q.worker q.number e quiet),
+    );
+    own = omega (
+      arith,
+      total_push (λ z. bit (not (owns (subject z).chunk k))) k.history e,
+      ap (λ (d : ℕ). bit (not (owns d k))) of,
+      ap (λ (b : Bool). bit (not b)) own,
+    );
     labels = λ have. (keeps have.0, tt);
     workers = λ w. refl;
     lanes = λ w. refl;
     tidy = omega arith;
   }
     where
-      by : (wk : ℕ) (d : AppliedBump) (o : Outcome) → shown_by o wk d (alone k) ≤ shown_by o wk d (alone (record k { history = k.history ++ e ∷ []; labels = ls; steps = k.steps ++ x ∷ [] }))
-      by wk d outcome.Moved = omega (arith, owned_push (owns d.life.chunk k) (λ z. bit (is_move_for (is_same d.life) wk d.number z)) k.history e)
-      by wk d outcome.Gone = omega (arith, owned_push (owns d.life.chunk k) (λ z. bit (is_unlink_of d.life z)) k.history e)
-      by wk d outcome.TimeOnly = omega (arith, owned_push (owns d.life.chunk k) (λ z. bit (shows_time_only wk d.number d.life.chunk z)) k.steps x)
+      by : (wk : ℕ) (d : AppliedBump) (o : Outcome) → shown_by o wk d (alone k) ≤ shown_by o wk d
+          (alone (record k { history = k.history ++ e ∷ []; labels = ls; steps = k.steps ++ x ∷ [] }))
+      by wk d outcome.Moved = omega (
+        arith,
+        owned_push (owns d.life.chunk k) (λ z. bit (is_move_for (is_same d.life) wk d.number z)) k.history
+            e,
+      )
+      by wk d outcome.Gone = omega (
+        arith,
+        owned_push (owns d.life.chunk k) (λ z. bit (is_unlink_of d.life z))
+            k.history e,
+      )
+      by wk d outcome.TimeOnly =
+          omega (
+            arith,
+            owned_push (owns d.life.chunk k) (λ z. bit (shows_time_only wk d.number d.life.chunk z))
+                k.steps x,
+          )
 
   -- the chunk is sound with a head that is lawful there
-  pub enter_sound : (limit n p label : ℕ) (t u : Measure → ℕ) → Amid c (alone k) t → ((y : Measure) → u y + weight c y (alone k) ≡ t y + weight c y entering) → (o : Sound limit n label t) (to : Head) → Spells p to → to.generation ≡ (subject e).generation
-      → t (misreads to.generation label) ≡ 0 → Lawful limit to (target e) (λ g. t (held g)) (λ g. t (named g)) → Sound limit p label u
+  pub enter_sound : (limit n p label : ℕ) (t u : Measure → ℕ) → Amid c (alone k) t
+      → ((y : Measure) → u y + weight c y (alone k) ≡ t y + weight c y entering) → (o : Sound limit n label t)
+      (to : Head) → Spells p to → to.generation ≡ (subject e).generation
+      → t (misreads to.generation label) ≡ 0 → Lawful limit to (target e) (λ g. t (held g)) (λ g. t (named g))
+      → Sound limit p label u
   enter_sound limit n p label t u a moves o to spells gen read lawful = record {
     head = to;
     at = target e;
     spells = spells;
-    lawful = relawful limit to (target e) (λ g. t (held g)) (λ g. t (named g)) lawful (λ g. u (held g)) (λ g. u (named g)) (λ g. omega (arith, moves (held g))) (λ g. omega (arith, moves (named g)));
+    lawful = relawful limit to (target e) (λ g. t (held g)) (λ g. t (named g)) lawful (λ g. u (held g))
+        (λ g. u (named g)) (λ g. omega (arith, moves (held g))) (λ g. omega (arith, moves (named g)));
     owned = omega (arith, moves owners, o.owned);
-    agreed = subst (λ (g : ℕ). u (strays (target e, g)) ≡ 0) (sym gen) (omega (arith, moves (strays to_be), no_stray, a.others to_be, a.mine owners, o.owned, ap bit own));
-    labelled = omega (arith, moves (mislabels label), ap (λ (l : ℕ). bit (owns c k && not (eqb l label))) (same_labels c), o.labelled);
+    agreed = subst (λ (g : ℕ). u (strays (target e, g)) ≡ 0) (sym gen)
+        (omega (arith, moves (strays to_be), no_stray, a.others to_be, a.mine owners, o.owned, ap bit own));
+    labelled = omega (
+      arith,
+      moves (mislabels label),
+      ap (λ (l : ℕ). bit (owns c k && not (eqb l label)))
+          (same_labels c),
+      o.labelled,
+    );
     read = omega (arith, moves (misreads to.generation label), read);
     hit = λ j some. omega (arith, moves (named j), o.hit j (omega (arith, some, moves (saw j))));
   }
@@ -145,105 +187,171 @@ freed_quiet l = by (l.generation == 4294967295)
     by false = refl
 
 -- an unlinked head agrees with the place to which its chunk is freed
-freed_shows : (h : Head) (l : ItemId) → h.linked ≡ false → h.generation ≤ 4294967295 → h.generation ≡ l.generation → Shows h (target (freed_change l))
+freed_shows : (h : Head) (l : ItemId) → h.linked ≡ false → h.generation ≤ 4294967295 → h.generation ≡ l.generation
+    → Shows h (target (freed_change l))
 freed_shows h l off most same = by (l.generation == 4294967295) refl
   where
-    by : (b : Bool) → (l.generation == 4294967295) ≡ b → Shows h (target (if b then change.Retired l else change.Swept l))
+    by : (b : Bool) → (l.generation == 4294967295) ≡ b
+        → Shows h (target (if b then change.Retired l else change.Swept l))
     by true is = (off, same ∙ eqb-true l.generation 4294967295 is)
-    by false is = (off, dite (ℕ_discrete l.generation 4294967295) (λ e. absurd (false≢true (sym is ∙ eq-eqb l.generation 4294967295 e))) (λ ne. omega (arith, most, same)))
+    by false is = (
+      off,
+      dite (ℕ_discrete l.generation 4294967295)
+          (λ e. absurd (false≢true (sym is ∙ eq-eqb l.generation 4294967295 e))) (λ ne. omega (arith, most, same)),
+    )
 
 -- ---- The steps.
 
-module _ (key : Config) (slots id c : ℕ) (near : c < chunks key) (sl : List (ℕ × Empty)) (k : ClassPart) (own : owns c k ≡ true) where
+module _ (key : Config) (slots id c : ℕ) (near : c < chunks key) (sl : List (ℕ × Empty)) (k : ClassPart)
+    (own : owns c k ≡ true) where
   -- the chunk stands at its place
   stands_at : (p : Place) → (standing k c).0 ≡ p → Stands c (alone k) (p, (standing k c).1)
-  stands_at p e = subst (λ (q : Place). Stands c (alone k) (q, (standing k c).1)) e (stands_alone c (alone k) k refl own)
+  stands_at p e = subst (λ (q : Place). Stands c (alone k) (q, (standing k c).1)) e
+      (stands_alone c (alone k) k refl own)
 
   -- the head of a new life is stored
-  pub begins : (new : ℕ) → (standing k c).0 ≡ Unused → new ≡ word_of (newborn ((standing k c).1 + 1)) → Allows (Kept key) slots id (alone k, sl) (3 * c + 9) (λ _. new) (λ _. beginning (step slots (3 * c + 9) new 0 none) (alone k, sl) new)
-  begins new unused is = subst (λ (d : ℕ). Allows (Kept key) slots id (alone k, sl) (3 * c + 9) (λ _. new) (λ _ w. w ≡ (on_part (begun d (new / 2 ^ generation_first) new) (alone k), sl))) (sym (chunk_is c))
-      (on_head key slots id (alone k, sl) c (λ _. new) (λ _ w. w ≡ (on_part (begun c (new / 2 ^ generation_first) new) (alone k), sl)) near (λ n label t limits o a.
-      let at = at_standing c key.refs_limit n label (alone k) t o a (Unused, (standing k c).1) (stands_at Unused unused) in
+  pub links : (new : ℕ) → (standing k c).0 ≡ Unused → new ≡ word_of (newborn ((standing k c).1 + 1))
+      → Allows (Kept key) slots id (alone k, sl) (3 * c + 9) (λ _. new)
+      (λ _. link_tells (step slots (3 * c + 9) new 0 none) (alone k, sl) new)
+  links new unused is = subst (λ (d : ℕ). Allows (Kept key) slots id (alone k, sl) (3 * c + 9) (λ _. new)
+      (λ _ w. w ≡ (on_class (class_after_link d (new / 2 ^ generation_first) new) (alone k), sl))) (sym (chunk_is c))
+      (on_head key slots id (alone k, sl) c (λ _. new)
+      (λ _ w. w ≡ (on_class (class_after_link c (new / 2 ^ generation_first) new) (alone k), sl)) near
+      (λ n label t limits o a.
+      let at = at_standing c key.refs_limit n label (alone k) t o a (Unused, (standing k c).1)
+      (stands_at Unused unused) in
       let gen : o.head.generation ≡ (standing k c).1 = ap (λ (s : Standing). s.1) at in
       let place : o.at ≡ Unused = ap (λ (s : Standing). s.0) at in
       let room : o.head.generation < 4294967295 = (subst (Shows o.head) place o.lawful.shown).1 in
-      let spells : Spells new (newborn (o.head.generation + 1)) = (is ∙ ap (λ (g : ℕ). word_of (newborn (g + 1))) (sym gen), (omega arith, omega arith)) in
-      let here : o.head.generation + 1 ≡ new / 2 ^ generation_first = sym (fields new (newborn (o.head.generation + 1)) spells).generation in
+      let spells : Spells new (newborn (o.head.generation + 1)) =
+      (is ∙ ap (λ (g : ℕ). word_of (newborn (g + 1))) (sym gen), (omega arith, omega arith)) in
+      let here : o.head.generation + 1 ≡ new / 2 ^ generation_first =
+      sym (fields new (newborn (o.head.generation + 1)) spells).generation in
       let e : Change = change.Linked (life c (new / 2 ^ generation_first)) in
       let ls : List LabelStep = k.labels ++ Begun (life c (new / 2 ^ generation_first)) ∷ [] in
-      let same : ((b : ℕ) → label_word b 0 ls ≡ label_of k b) = λ b. word_begun b 0 k.labels (life c (new / 2 ^ generation_first)) in
+      let same : ((b : ℕ) → label_word b 0 ls ≡ last_label k b) = λ b. word_begun b 0 k.labels
+      (life c (new / 2 ^ generation_first)) in
       let x : OwnStep = step_of kind.Link c new None in (
-        on_part (begun c (new / 2 ^ generation_first) new) (alone k),
-        (λ u moves. enter_sound c k own e ls x refl refl same key.refs_limit n new label t u a moves o (newborn (o.head.generation + 1)) spells here
-            (a.readers (o.head.generation + 1) label (none_where_free key.refs_limit o.head o.at (λ g. t (held g)) (λ g. t (named g)) o.lawful (ap IsUsed place) (o.head.generation + 1)))
+        on_class (class_after_link c (new / 2 ^ generation_first) new) (alone k),
+        (λ u moves. enter_sound c k own e ls x refl refl same key.refs_limit n new label t u a moves o
+            (newborn (o.head.generation + 1)) spells here
+            (a.readers (o.head.generation + 1) label
+            (none_where_free key.refs_limit o.head o.at (λ g. t (held g)) (λ g. t (named g)) o.lawful
+            (ap IsUsed place) (o.head.generation + 1)))
             (born key.refs_limit o.head o.at (λ g. t (held g)) (λ g. t (named g)) o.lawful place limits.0)),
         enter_apart c k own e ls x refl refl same,
-        enter_backed c k own e ls x refl refl same (λ p. begun_labels c (new / 2 ^ generation_first) new k p (sym here ∙ ap (λ (g : ℕ). g + 1) gen)),
+        enter_backed c k own e ls x refl refl same
+            (λ p. link_labels c (new / 2 ^ generation_first) new k p (sym here ∙ ap (λ (g : ℕ). g + 1) gen)),
         refl,
       )))
 
   -- LINKED and its reference are subtracted
-  pub severs : IsInSegment (standing k c).0 → Allows (Kept key) slots id (alone k, sl) (3 * c + 9) (λ n. (n + (2 ^ 64 - (2 ^ linked_first + 1))) % 2 ^ 64) (on_chunk severing (step slots (3 * c + 9) (2 ^ linked_first + 1) 0 none) (alone k, sl))
-  severs in_it = at_chunk severing key slots id (alone k, sl) c (2 ^ linked_first + 1) (λ n. (n + (2 ^ 64 - (2 ^ linked_first + 1))) % 2 ^ 64) near (λ n label t limits o a.
-      let at = at_standing c key.refs_limit n label (alone k) t o a (standing k c) (stands_alone c (alone k) k refl own) in
+  pub unlinks : IsInSegment (standing k c).0 → Allows (Kept key) slots id (alone k, sl) (3 * c + 9)
+      (λ n. (n + (2 ^ 64 - (2 ^ linked_first + 1))) % 2 ^ 64)
+      (on_chunk unlink_tells (step slots (3 * c + 9) (2 ^ linked_first + 1) 0 none) (alone k, sl))
+  unlinks in_it = at_chunk unlink_tells key slots id (alone k, sl) c (2 ^ linked_first + 1)
+      (λ n. (n + (2 ^ 64 - (2 ^ linked_first + 1))) % 2 ^ 64) near (λ n label t limits o a.
+      let at = at_standing c key.refs_limit n label (alone k) t o a (standing k c)
+      (stands_alone c (alone k) k refl own) in
       let gen : o.head.generation ≡ (standing k c).1 = ap (λ (s : Standing). s.1) at in
-      let on : o.head.linked ≡ true = linked_in_segment o.head (standing k c).0 (subst (Shows o.head) (ap (λ (s : Standing). s.0) at) o.lawful.shown) in_it in
+      let on : o.head.linked ≡ true = linked_in_segment o.head (standing k c).0
+      (subst (Shows o.head) (ap (λ (s : Standing). s.0) at) o.lawful.shown) in_it in
       let many : bit o.head.linked ≤ o.head.refs = omega (arith, o.lawful.counted) in
       let e : Change = change.Unlinked (life c (standing k c).1) in
       let x : OwnStep = step_of kind.Unlink c n None in (
-        on_part (lives.severed c n) (alone k),
-        (λ u moves. enter_sound c k own e k.labels x refl refl (λ b. refl) key.refs_limit n ((n + (2 ^ 64 - (2 ^ linked_first + 1))) % 2 ^ 64) label t u a moves o (severed_head o.head) (unlink n o.head o.spells (on, omega (arith, many, ap bit on))) gen o.read
+        on_class (lives.class_after_unlink c n) (alone k),
+        (λ u moves. enter_sound c k own e k.labels x refl refl (λ b. refl) key.refs_limit n
+            ((n + (2 ^ 64 - (2 ^ linked_first + 1))) % 2 ^ 64) label t u a moves o (severed_head o.head)
+            (unlink n o.head o.spells (on, omega (arith, many, ap bit on))) gen o.read
             (severed key.refs_limit o.head o.at (λ g. t (held g)) (λ g. t (named g)) o.lawful on)),
         enter_apart c k own e k.labels x refl refl (λ b. refl),
-        enter_backed c k own e k.labels x refl refl (λ b. refl) (λ p. entered_labels k e (k.steps ++ x ∷ []) p refl (λ used. used_in_place (standing k c).0 in_it)),
+        enter_backed c k own e k.labels x refl refl (λ b. refl)
+            (λ p. entered_labels k e (k.steps ++ x ∷ []) p refl (λ used. used_in_place (standing k c).0 in_it)),
         (refl, (o.head, o.spells, (tells c key.refs_limit n label (alone k) t o a, many))),
       ))
 
   -- a DYING chunk is looked at, and freed where no reference is found
-  pub sweeps : (standing k c).0 ≡ Dying → Allows (Kept key) slots id (alone k, sl) (3 * c + 9) (λ n. n) (on_chunk sweeping (step slots (3 * c + 9) 0 0 none) (alone k, sl))
-  sweeps dying = at_chunk sweeping key slots id (alone k, sl) c 0 (λ n. n) near (λ n label t limits o a. by n label t o a (n % 2 ^ refs_width == 0) refl)
+  pub sweeps : (standing k c).0 ≡ Dying → Allows (Kept key) slots id (alone k, sl) (3 * c + 9) (λ n. n)
+      (on_chunk sweep_or_load_tells (step slots (3 * c + 9) 0 0 none) (alone k, sl))
+  sweeps dying = at_chunk sweep_or_load_tells key slots id (alone k, sl) c 0 (λ n. n) near
+      (λ n label t limits o a. by n label t o a (n % 2 ^ refs_width == 0) refl)
     where
-      by : (n label : ℕ) (t : Measure → ℕ) (o : Sound key.refs_limit n label t) → Amid c (alone k) t → (b : Bool) → (n % 2 ^ refs_width == 0) ≡ b → Reaches key c (alone k, sl) (sweeping c 0 (alone k, sl) n) n label t
+      by : (n label : ℕ) (t : Measure → ℕ) (o : Sound key.refs_limit n label t) → Amid c (alone k) t → (b : Bool)
+          → (n % 2 ^ refs_width == 0) ≡ b → Reaches key c (alone k, sl) (sweep_or_load_tells c 0 (alone k, sl) n) n
+          label t
       by n label t o a false is = (
-        on_part (looked c n) (alone k),
-        (λ u moves. same_sound key.refs_limit n label t u (same_counts c (alone k) (on_part (looked c n) (alone k)) t u (looked_same c n (alone k) c) moves) o),
-        (λ d ne. looked_same c n (alone k) d),
-        looked_backed c n (alone k),
-        (ap (λ (b : Bool). (on_part (λ j. if b then freed c n j else looked c n j) (alone k), sl)) (sym is), (o.head, o.spells, tells c key.refs_limit n label (alone k) t o a)),
+        on_class (class_after_load c n) (alone k),
+        (λ u moves. same_sound key.refs_limit n label t u
+            (same_counts c (alone k) (on_class (class_after_load c n) (alone k)) t u (load_same c n (alone k) c)
+            moves) o),
+        (λ d ne. load_same c n (alone k) d),
+        load_backed c n (alone k),
+        (
+          ap (λ (b : Bool). (
+            on_class (λ j. if b then class_after_sweep c n j else class_after_load c n j) (alone k),
+            sl,
+          )) (sym is),
+          (o.head, o.spells, tells c key.refs_limit n label (alone k) t o a),
+        ),
       )
       by n label t o a true is =
-          let at = at_standing c key.refs_limit n label (alone k) t o a (Dying, (standing k c).1) (stands_at Dying dying) in
+          let at = at_standing c key.refs_limit n label (alone k) t o a (Dying, (standing k c).1)
+          (stands_at Dying dying) in
           let gen : o.head.generation ≡ (standing k c).1 = ap (λ (s : Standing). s.1) at in
           let place : o.at ≡ Dying = ap (λ (s : Standing). s.0) at in
           let l : ItemId = life c (standing k c).1 in
           let e : Change = freed_change l in
           let of : (subject e).chunk ≡ c = ap (λ (j : ItemId). j.chunk) (freed_subject l) in
-          let zero_refs : o.head.refs ≡ 0 = sym (fields n o.head o.spells).refs ∙ eqb-true (n % 2 ^ refs_width) 0 is in
+          let zero_refs : o.head.refs ≡ 0 = sym (fields n o.head o.spells).refs ∙ eqb-true (n % 2 ^ refs_width) 0 is
+          in
           let x : OwnStep = step_of kind.Sweep c n None in (
-            on_part (freed c n) (alone k),
-            (λ u moves. enter_sound c k own e k.labels x of (freed_quiet l) (λ b. refl) key.refs_limit n n label t u a moves o o.head o.spells (gen ∙ sym (ap (λ (j : ItemId). j.generation) (freed_subject l))) o.read
-                (ended key.refs_limit o.head o.at (λ g. t (held g)) (λ g. t (named g)) o.lawful (target e) place zero_refs (freed_shows o.head l (subst (Shows o.head) place o.lawful.shown) o.lawful.generation gen))),
+            on_class (class_after_sweep c n) (alone k),
+            (λ u moves. enter_sound c k own e k.labels x of (freed_quiet l) (λ b. refl) key.refs_limit n n label t u a
+                moves o o.head o.spells (gen ∙ sym (ap (λ (j : ItemId). j.generation) (freed_subject l))) o.read
+                (ended key.refs_limit o.head o.at (λ g. t (held g)) (λ g. t (named g)) o.lawful (target e) place
+                zero_refs (freed_shows o.head l (subst (Shows o.head) place o.lawful.shown) o.lawful.generation
+                gen))),
             enter_apart c k own e k.labels x of (freed_quiet l) (λ b. refl),
-            enter_backed c k own e k.labels x of (freed_quiet l) (λ b. refl) (λ p. entered_labels k e (k.steps ++ x ∷ []) p (subst (λ (j : ItemId). j.generation ≡ (standing k j.chunk).1) (sym (freed_subject l)) refl) (λ used. absurd (freed_unused l used))),
-            (ap (λ (b : Bool). (on_part (λ j. if b then freed c n j else looked c n j) (alone k), sl)) (sym is), (o.head, o.spells, tells c key.refs_limit n label (alone k) t o a)),
+            enter_backed c k own e k.labels x of (freed_quiet l) (λ b. refl)
+                (λ p. entered_labels k e (k.steps ++ x ∷ []) p
+                (subst (λ (j : ItemId). j.generation ≡ (standing k j.chunk).1) (sym (freed_subject l)) refl)
+                (λ used. absurd (freed_unused l used))),
+            (
+              ap (λ (b : Bool). (
+                on_class (λ j. if b then class_after_sweep c n j else class_after_load c n j)
+                    (alone k),
+                sl,
+              )) (sym is),
+              (o.head, o.spells, tells c key.refs_limit n label (alone k) t o a),
+            ),
           )
 
 -- ---- For the contracts.
 
 -- a life may begin by the store of its head
-pub may_begin : (key : Config) (slots id c g : ℕ) (m : Sat) → c < chunks key → MayBegin c g m.0 → (new : ℕ) → new ≡ word_of (newborn g) → Allows (Kept key) slots id m (3 * c + 9) (λ _. new) (λ _. beginning (step slots (3 * c + 9) new 0 none) m new)
-may_begin key slots id c g m near may new is = let k : ClassPart = may.0 in let o = may.1 in
-    subst (λ (v : View). Allows (Kept key) slots id (v, m.1) (3 * c + 9) (λ _. new) (λ _. beginning (step slots (3 * c + 9) new 0 none) (v, m.1) new)) (sym o.view)
-    (begins key slots id c near m.1 k o.own new o.at (is ∙ ap (λ (j : ℕ). word_of (newborn j)) may.2))
+pub may_link : (key : Config) (slots id c g : ℕ) (m : Sat) → c < chunks key → MayLink c g m.0 → (new : ℕ)
+    → new ≡ word_of (newborn g) → Allows (Kept key) slots id m (3 * c + 9) (λ _. new)
+    (λ _. link_tells (step slots (3 * c + 9) new 0 none) m new)
+may_link key slots id c g m near may new is = let k : ClassPart = may.0 in let o = may.1 in
+    subst (λ (v : View). Allows (Kept key) slots id (v, m.1) (3 * c + 9) (λ _. new)
+    (λ _. link_tells (step slots (3 * c + 9) new 0 none) (v, m.1) new)) (sym o.view)
+    (links key slots id c near m.1 k o.own new o.at (is ∙ ap (λ (j : ℕ). word_of (newborn j)) may.2))
 
 -- a linked chunk may be unlinked
-pub may_sever : (key : Config) (slots id c : ℕ) (m : Sat) → c < chunks key → IsLinked c m.0 → Allows (Kept key) slots id m (3 * c + 9) (λ n. (n + (2 ^ 64 - (2 ^ linked_first + 1))) % 2 ^ 64) (on_chunk severing (step slots (3 * c + 9) (2 ^ linked_first + 1) 0 none) m)
-may_sever key slots id c m near may =
-    subst (λ (v : View). Allows (Kept key) slots id (v, m.1) (3 * c + 9) (λ n. (n + (2 ^ 64 - (2 ^ linked_first + 1))) % 2 ^ 64) (on_chunk severing (step slots (3 * c + 9) (2 ^ linked_first + 1) 0 none) (v, m.1))) (sym may.1.view)
-    (severs key slots id c near m.1 may.0 may.1.own may.1.at)
+pub may_unlink : (key : Config) (slots id c : ℕ) (m : Sat) → c < chunks key → IsLinked c m.0
+    → Allows (Kept key) slots id m (3 * c + 9) (λ n. (n + (2 ^ 64 - (2 ^ linked_first + 1))) % 2 ^ 64)
+    (on_chunk unlink_tells (step slots (3 * c + 9) (2 ^ linked_first + 1) 0 none) m)
+may_unlink key slots id c m near may =
+    subst (λ (v : View). Allows (Kept key) slots id (v, m.1) (3 * c + 9)
+    (λ n. (n + (2 ^ 64 - (2 ^ linked_first + 1))) % 2 ^ 64)
+    (on_chunk unlink_tells (step slots (3 * c + 9) (2 ^ linked_first + 1) 0 none) (v, m.1))) (sym may.1.view)
+    (unlinks key slots id c near m.1 may.0 may.1.own may.1.at)
 
 -- a DYING chunk may be seen, and freed
-pub may_sweep : (key : Config) (slots id c : ℕ) (m : Sat) → c < chunks key → IsDying c m.0 → Allows (Kept key) slots id m (3 * c + 9) (λ n. n) (on_chunk sweeping (step slots (3 * c + 9) 0 0 none) m)
+pub may_sweep : (key : Config) (slots id c : ℕ) (m : Sat) → c < chunks key → IsDying c m.0
+    → Allows (Kept key) slots id m (3 * c + 9) (λ n. n)
+    (on_chunk sweep_or_load_tells (step slots (3 * c + 9) 0 0 none) m)
 may_sweep key slots id c m near may =
-    subst (λ (v : View). Allows (Kept key) slots id (v, m.1) (3 * c + 9) (λ n. n) (on_chunk sweeping (step slots (3 * c + 9) 0 0 none) (v, m.1))) (sym may.1.view)
+    subst (λ (v : View). Allows (Kept key) slots id (v, m.1) (3 * c + 9) (λ n. n)
+    (on_chunk sweep_or_load_tells (step slots (3 * c + 9) 0 0 none) (v, m.1))) (sym may.1.view)
     (sweeps key slots id c near m.1 may.0 may.1.own may.1.at)

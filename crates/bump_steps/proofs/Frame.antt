@@ -14,7 +14,7 @@ use Rattle.bump_rules.specs.declared.bumps.AppliedBump.{AppliedBump}
 use Rattle.bump_rules.specs.Lives.{life, one_if}
 use Rattle.bump_rules.proofs.Updates.{total_append, total_below}
 use Rattle.bump_steps.specs.declared.views.View.{View}
-use Rattle.bump_steps.specs.Views.{Measure, held, owners, strays, mislabels, misreads, misread, differs, owns, standing, label_of, weight, tally, claims, evidence, Query, moves, settled, foreign, HaveLabels, workers_of, lanes_of, untidy, IsBacked}
+use Rattle.bump_steps.specs.Views.{Measure, held, owners, strays, mislabels, misreads, misread, differs, owns, standing, last_label, weight, tally, claims, evidence, Query, moves, settled, foreign, HaveLabels, workers_of, lanes_of, untidy, IsBacked}
 use Rattle.bump_steps.specs.Rule.{Sound, SoundAt, chunks, Kept, HasFittingLimit}
 use Rattle.bump_steps.specs.Plays.{every}
 use Rattle.bump_steps.proofs.Once.{settled_once, settled_here}
@@ -45,12 +45,16 @@ pub record Amid (c : ℕ) (v : View) (t : Measure → ℕ) : Type 0 where
 
 -- the seat can go on to some view w, so that the chunk stays sound at the head word n and the label word x
 abbrev pub Reaches : Config → ℕ → Sat → (Sat → Type 0) → ℕ → ℕ → (Measure → ℕ) → Type 0
-Reaches key c m then n x t = (w : View) × ((u : Measure → ℕ) → ((y : Measure) → u y + weight c y m.0 ≡ t y + weight c y w) → Sound key.refs_limit n x u) × ((b : ℕ) → b ≢ c → Same b m.0 w) × IsBacked m.0 w × then (w, m.1)
+Reaches key c m then n x t = (w : View)
+    × ((u : Measure → ℕ) → ((y : Measure) → u y + weight c y m.0 ≡ t y + weight c y w) → Sound key.refs_limit n x u)
+    × ((b : ℕ) → b ≢ c → Same b m.0 w) × IsBacked m.0 w × then (w, m.1)
 
 abbrev pub From : Config → ℕ → Sat → (ℕ → ℕ → (Measure → ℕ) → Type 0) → Type 0
-From key c m goes = (n x : ℕ) (t : Measure → ℕ) → HasFittingLimit key → Sound key.refs_limit n x t → Amid c m.0 t → goes n x t
+From key c m goes = (n x : ℕ) (t : Measure → ℕ) → HasFittingLimit key → Sound key.refs_limit n x t → Amid c m.0 t
+    → goes n x t
 
-same_tally : (views : List View) (i c : ℕ) (v w : View) → get_elem? views i ≡ some v → Same c v w → tally views c ≡ tally (set views i w) c
+same_tally : (views : List View) (i c : ℕ) (v w : View) → get_elem? views i ≡ some v → Same c v w
+    → tally views c ≡ tally (set views i w) c
 same_tally views i c v w me same = λ k m. eq m k
   where
     eq : (m : Measure) → tally views c m ≡ tally (set views i w) c m
@@ -62,18 +66,36 @@ and_le true false = omega arith
 and_le false b = omega arith
 
 pub stray_owns : (c : ℕ) (s : Standing) (v : View) → weight c (strays s) v ≤ weight c owners v
-stray_owns c s v = total_below (λ k. cond (owns c k && not (is_standing (standing k c) s)) 1 0) (λ k. cond (owns c k) 1 0) (λ k. and_le (owns c k) (not (is_standing (standing k c) s))) v.classes
+stray_owns c s v = total_below (λ k. cond (owns c k && not (is_standing (standing k c) s)) 1 0)
+    (λ k. cond (owns c k) 1 0) (λ k. and_le (owns c k) (not (is_standing (standing k c) s))) v.classes
 
 pub mislabel_owns : (c x : ℕ) (v : View) → weight c (mislabels x) v ≤ weight c owners v
-mislabel_owns c x v = total_below (λ k. cond (owns c k && not (eqb (label_of k c) x)) 1 0) (λ k. cond (owns c k) 1 0) (λ k. and_le (owns c k) (not (eqb (label_of k c) x))) v.classes
+mislabel_owns c x v = total_below (λ k. cond (owns c k && not (eqb (last_label k c) x)) 1 0)
+    (λ k. cond (owns c k) 1 0) (λ k. and_le (owns c k) (not (eqb (last_label k c) x))) v.classes
 
 reader_holds : (c g x : ℕ) (v : View) → weight c (held g) v ≡ 0 → weight c (misreads g x) v ≡ 0
-reader_holds c g x v e = none_where_none (λ h. one_if (life c g) h.life) (misread c g x) (λ h none. ap (λ (k : ℕ). k * total (differs x) h.labels) none ∙ zero-mul (total (differs x) h.labels)) v.holds (omega arith)
+reader_holds c g x v e = none_where_none (λ h. one_if (life c g) h.life) (misread c g x)
+    (λ h none. ap (λ (k : ℕ). k * total (differs x) h.labels) none ∙ zero-mul (total (differs x) h.labels)) v.holds
+    (omega arith)
 
-pub amid : (c : ℕ) (views : List View) (i : ℕ) (v : View) → get_elem? views i ≡ some v → ((q : Query) → total (moves q) views ≡ total (settled q) views) → ((n : ℕ) → total (lanes_of n) views ≤ 1) → total untidy views ≡ 0 → Amid c v (tally views c)
+pub amid : (c : ℕ) (views : List View) (i : ℕ) (v : View) → get_elem? views i ≡ some v
+    → ((q : Query) → total (moves q) views ≡ total (settled q) views) → ((n : ℕ) → total (lanes_of n) views ≤ 1)
+    → total untidy views ≡ 0 → Amid c v (tally views c)
 amid c views i v me even lanes tidy = record {
-  once = λ w n. omega (arith, term_le (moves (every w n)) views i v me, even (every w n), settled_once w n views tidy, lanes w);
-  told = λ q mine. omega (arith, term_le (moves q) views i v me, even q, settled_here q views i v me (lanes q.worker) mine);
+  once = λ w n. omega (
+    arith,
+    term_le (moves (every w n)) views i v me,
+    even (every w n),
+    settled_once w n views tidy,
+    lanes w,
+  );
+  told = λ q mine. omega (
+    arith,
+    term_le (moves q) views i v me,
+    even q,
+    settled_here q views i v me (lanes q.worker)
+        mine,
+  );
   mine = λ m. term_le (weight c m) views i v me;
   others = λ s. others_le (weight c (strays s)) (weight c owners) (stray_owns c s) views i v me;
   other_labels = λ x. others_le (weight c (mislabels x)) (weight c owners) (mislabel_owns c x) views i v me;
@@ -81,18 +103,28 @@ amid c views i v me even lanes tidy = record {
 }
 
 -- what one view adds to the entries is backed
-backed : (views : List View) (i : ℕ) (v w : View) → get_elem? views i ≡ some v → IsBacked v w → ((n : ℕ) (e : AppliedBump) → 0 < total (claims n e) views → 0 < total (evidence n e) views)
+backed : (views : List View) (i : ℕ) (v w : View) → get_elem? views i ≡ some v → IsBacked v w
+    → ((n : ℕ) (e : AppliedBump) → 0 < total (claims n e) views → 0 < total (evidence n e) views)
     → (n : ℕ) (e : AppliedBump) → 0 < total (claims n e) (set views i w) → 0 < total (evidence n e) (set views i w)
-backed views i v w me is o n e many = let more = total-set (evidence n e) views i v w me in let had = total-set (claims n e) views i v w me in let b = is.backs n e in let old = o n e in
-    dite (ℕ_discrete (total (claims n e) views) 0) (λ none. omega (arith, b.1 (omega arith), term_le (evidence n e) views i v me)) (λ ne. omega (arith, old (omega arith), b.0))
+backed views i v w me is o n e many = let more = total-set (evidence n e) views i v w me in let had =
+    total-set (claims n e) views i v w me in let b = is.backs n e in let old = o n e in
+    dite (ℕ_discrete (total (claims n e) views) 0)
+    (λ none. omega (arith, b.1 (omega arith), term_le (evidence n e) views i v me))
+    (λ ne. omega (arith, old (omega arith), b.0))
 
-module _ (key : Config) (s : State Empty View) (o : Kept key s) (homes : List (Option Empty)) (i c word j p : ℕ) (v w : View) (me : get_elem? s.views i ≡ some v) (near : c < chunks key) (at : word ≡ 3 * c + 9 + j) (small : j ≤ 2) where
-  stepped_kept : ((b : ℕ) → b ≢ c → Same b v w) → IsBacked v w → Sound key.refs_limit (get_or (set s.words word p) (3 * c + 9) 0) (get_or (set s.words word p) (3 * c + 11) 0) (tally (set s.views i w) c)
+module _ (key : Config) (s : State Empty View) (o : Kept key s) (homes : List (Option Empty)) (i c word j p : ℕ)
+    (v w : View) (me : get_elem? s.views i ≡ some v) (near : c < chunks key) (at : word ≡ 3 * c + 9 + j)
+    (small : j ≤ 2) where
+  stepped_kept : ((b : ℕ) → b ≢ c → Same b v w) → IsBacked v w
+      → Sound key.refs_limit (get_or (set s.words word p) (3 * c + 9) 0) (get_or (set s.words word p) (3 * c + 11) 0)
+      (tally (set s.views i w) c)
       → Kept key (state (set s.words word p) homes (set s.views i w))
   stepped_kept apart back now = record {
     wide = length-set s.words word p ∙ o.wide;
     small = o.small;
-    each = λ b h. dite (ℕ_discrete b c) (λ e. subst (λ (x : ℕ). SoundAt key (state (set s.words word p) homes (set s.views i w)) x) (sym e) now) (λ ne.
+    each = λ b h. dite (ℕ_discrete b c)
+        (λ e. subst (λ (x : ℕ). SoundAt key (state (set s.words word p) homes (set s.views i w)) x) (sym e) now)
+        (λ ne.
         subst (λ (x : ℕ × ℕ × (Measure → ℕ)). Sound key.refs_limit x.0 x.1 x.2)
         (λ k. (
           sym (get_or-set_other s.words word (3 * b + 9) p 0 (λ e. ne (omega arith))) k,
@@ -100,7 +132,13 @@ module _ (key : Config) (s : State Empty View) (o : Kept key s) (homes : List (O
           same_tally s.views i b v w me (apart b ne) k,
         )) (o.each b h));
     true_entries = backed s.views i v w me back o.true_entries;
-    even_moves = λ q. omega (arith, total-set (moves q) s.views i v w me, total-set (settled q) s.views i v w me, back.even q, o.even_moves q);
+    even_moves = λ q. omega (
+      arith,
+      total-set (moves q) s.views i v w me,
+      total-set (settled q) s.views i v w me,
+      back.even q,
+      o.even_moves q,
+    );
     own_chunks = omega (arith, total-set foreign s.views i v w me, back.own, o.own_chunks);
     own_labels = labelled_set s.views i v w me o.own_labels (back.labels (labelled_at s.views i v me o.own_labels));
     one_worker = λ n. omega (arith, total-set (workers_of n) s.views i v w me, back.workers n, o.one_worker n);
@@ -109,62 +147,100 @@ module _ (key : Config) (s : State Empty View) (o : Kept key s) (homes : List (O
   }
 
 -- a step on a head word is allowed where it can go on, whatever sound words it finds
-pub on_head : (key : Config) (slots id : ℕ) (m : Sat) (c : ℕ) (f : ℕ → ℕ) (then : ℕ → Sat → Type 0) → c < chunks key → From key c m (λ n x t. Reaches key c m (then n) (f n) x t) → Allows (Kept key) slots id m (3 * c + 9) f then
-on_head key slots id m c f then near goes s o count me small = let n : ℕ = get_or s.words (3 * c + 9) 0 in let x : ℕ = get_or s.words (3 * c + 11) 0 in
-    let g = goes n x (tally s.views c) o.small (o.each c near) (amid c s.views id m.0 me o.even_moves o.one_lane o.orderly) in
-    let now : Sound key.refs_limit (f n) x (tally (set s.views id g.0) c) = g.1 (tally (set s.views id g.0) c) (λ y. total-set (weight c y) s.views id m.0 g.0 me) in (
+pub on_head : (key : Config) (slots id : ℕ) (m : Sat) (c : ℕ) (f : ℕ → ℕ) (then : ℕ → Sat → Type 0) → c < chunks key
+    → From key c m (λ n x t. Reaches key c m (then n) (f n) x t) → Allows (Kept key) slots id m (3 * c + 9) f then
+on_head key slots id m c f then near goes s o count me small = let n : ℕ = get_or s.words (3 * c + 9) 0 in let x : ℕ =
+    get_or s.words (3 * c + 11) 0 in
+    let g = goes n x (tally s.views c) o.small (o.each c near)
+    (amid c s.views id m.0 me o.even_moves o.one_lane o.orderly) in
+    let now : Sound key.refs_limit (f n) x (tally (set s.views id g.0) c) = g.1 (tally (set s.views id g.0) c)
+    (λ y. total-set (weight c y) s.views id m.0 g.0 me) in (
       g.0,
       keeps,
       tt,
       stepped_kept key s o s.homes id c (3 * c + 9) 0 (f n) m.0 g.0 me near (omega arith) (omega arith) g.2 g.3
           (subst (λ (y : ℕ × ℕ). Sound key.refs_limit y.0 y.1 (tally (set s.views id g.0) c))
-          (λ k. (sym (get_or-set_same s.words (3 * c + 9) (f n) 0 (omega (arith, o.wide))) k, sym (get_or-set_other s.words (3 * c + 9) (3 * c + 11) (f n) 0 (λ e. omega arith)) k)) now),
+          (λ k. (
+            sym (get_or-set_same s.words (3 * c + 9) (f n) 0 (omega (arith, o.wide))) k,
+            sym (get_or-set_other s.words (3 * c + 9) (3 * c + 11) (f n) 0 (λ e. omega arith)) k,
+          )) now),
       g.4,
     )
 
 -- on a label word
-pub on_label : (key : Config) (slots id : ℕ) (m : Sat) (c : ℕ) (f : ℕ → ℕ) (then : ℕ → Sat → Type 0) → c < chunks key → From key c m (λ n x t. Reaches key c m (then x) n (f x) t) → Allows (Kept key) slots id m (3 * c + 11) f then
-on_label key slots id m c f then near goes s o count me small = let n : ℕ = get_or s.words (3 * c + 9) 0 in let x : ℕ = get_or s.words (3 * c + 11) 0 in
-    let g = goes n x (tally s.views c) o.small (o.each c near) (amid c s.views id m.0 me o.even_moves o.one_lane o.orderly) in
-    let now : Sound key.refs_limit n (f x) (tally (set s.views id g.0) c) = g.1 (tally (set s.views id g.0) c) (λ y. total-set (weight c y) s.views id m.0 g.0 me) in (
+pub on_label : (key : Config) (slots id : ℕ) (m : Sat) (c : ℕ) (f : ℕ → ℕ) (then : ℕ → Sat → Type 0) → c < chunks key
+    → From key c m (λ n x t. Reaches key c m (then x) n (f x) t) → Allows (Kept key) slots id m (3 * c + 11) f then
+on_label key slots id m c f then near goes s o count me small = let n : ℕ = get_or s.words (3 * c + 9) 0 in
+    let x : ℕ = get_or s.words (3 * c + 11) 0 in
+    let g = goes n x (tally s.views c) o.small (o.each c near)
+    (amid c s.views id m.0 me o.even_moves o.one_lane o.orderly) in
+    let now : Sound key.refs_limit n (f x) (tally (set s.views id g.0) c) = g.1 (tally (set s.views id g.0) c)
+    (λ y. total-set (weight c y) s.views id m.0 g.0 me) in (
       g.0,
       keeps,
       tt,
       stepped_kept key s o s.homes id c (3 * c + 11) 2 (f x) m.0 g.0 me near (omega arith) (omega arith) g.2 g.3
           (subst (λ (y : ℕ × ℕ). Sound key.refs_limit y.0 y.1 (tally (set s.views id g.0) c))
-          (λ k. (sym (get_or-set_other s.words (3 * c + 11) (3 * c + 9) (f x) 0 (λ e. omega arith)) k, sym (get_or-set_same s.words (3 * c + 11) (f x) 0 (omega (arith, o.wide))) k)) now),
+          (λ k. (
+            sym (get_or-set_other s.words (3 * c + 11) (3 * c + 9) (f x) 0 (λ e. omega arith)) k,
+            sym (get_or-set_same s.words (3 * c + 11) (f x) 0 (omega (arith, o.wide))) k,
+          )) now),
       g.4,
     )
 
 -- on a time word, of which the rule says nothing
-pub on_time : (key : Config) (slots id : ℕ) (m : Sat) (c : ℕ) (f : ℕ → ℕ) (then : ℕ → Sat → Type 0) → c < chunks key → ((y : ℕ) → From key c m (λ n x t. Reaches key c m (then y) n x t)) → Allows (Kept key) slots id m (3 * c + 10) f then
-on_time key slots id m c f then near goes s o count me small = let n : ℕ = get_or s.words (3 * c + 9) 0 in let x : ℕ = get_or s.words (3 * c + 11) 0 in let y : ℕ = get_or s.words (3 * c + 10) 0 in
-    let g = goes y n x (tally s.views c) o.small (o.each c near) (amid c s.views id m.0 me o.even_moves o.one_lane o.orderly) in
-    let now : Sound key.refs_limit n x (tally (set s.views id g.0) c) = g.1 (tally (set s.views id g.0) c) (λ y. total-set (weight c y) s.views id m.0 g.0 me) in (
+pub on_time : (key : Config) (slots id : ℕ) (m : Sat) (c : ℕ) (f : ℕ → ℕ) (then : ℕ → Sat → Type 0) → c < chunks key
+    → ((y : ℕ) → From key c m (λ n x t. Reaches key c m (then y) n x t)) → Allows (Kept key) slots id m (3 * c + 10) f
+    then
+on_time key slots id m c f then near goes s o count me small = let n : ℕ = get_or s.words (3 * c + 9) 0 in let x : ℕ =
+    get_or s.words (3 * c + 11) 0 in let y : ℕ = get_or s.words (3 * c + 10) 0 in
+    let g = goes y n x (tally s.views c) o.small (o.each c near)
+    (amid c s.views id m.0 me o.even_moves o.one_lane o.orderly) in
+    let now : Sound key.refs_limit n x (tally (set s.views id g.0) c) = g.1 (tally (set s.views id g.0) c)
+    (λ y. total-set (weight c y) s.views id m.0 g.0 me) in (
       g.0,
       keeps,
       tt,
       stepped_kept key s o s.homes id c (3 * c + 10) 1 (f y) m.0 g.0 me near (omega arith) (omega arith) g.2 g.3
           (subst (λ (y : ℕ × ℕ). Sound key.refs_limit y.0 y.1 (tally (set s.views id g.0) c))
-          (λ k. (sym (get_or-set_other s.words (3 * c + 10) (3 * c + 9) (f y) 0 (λ e. omega arith)) k, sym (get_or-set_other s.words (3 * c + 10) (3 * c + 11) (f y) 0 (λ e. omega arith)) k)) now),
+          (λ k. (
+            sym (get_or-set_other s.words (3 * c + 10) (3 * c + 9) (f y) 0 (λ e. omega arith)) k,
+            sym (get_or-set_other s.words (3 * c + 10) (3 * c + 11) (f y) 0 (λ e. omega arith)) k,
+          )) now),
       g.4,
     )
 
-pub same_sound : (limit n x : ℕ) (t u : Measure → ℕ) → ((y : Measure) → u y ≡ t y) → Sound limit n x t → Sound limit n x u
+pub same_sound : (limit n x : ℕ) (t u : Measure → ℕ) → ((y : Measure) → u y ≡ t y) → Sound limit n x t
+    → Sound limit n x u
 same_sound limit n x t u e o = subst (Sound limit n x) (λ i y. sym (e y) i) o
 
 abbrev pub AddsUp : (View → ℕ) → View → View → View → Type 0
 AddsUp f v left right = f left + f right ≡ f v
 
-pub splits : (key : Config) (id : ℕ) (v left right : View) → ((c : ℕ) (x : Measure) → AddsUp (weight c x) v left right) → ((n : ℕ) (e : AppliedBump) → AddsUp (claims n e) v left right × AddsUp (evidence n e) v left right) → ((q : Query) → AddsUp (moves q) v left right × AddsUp (settled q) v left right) → AddsUp foreign v left right → (HaveLabels v.classes → HaveLabels left.classes × HaveLabels right.classes) → ((n : ℕ) → AddsUp (workers_of n) v left right) → ((n : ℕ) → AddsUp (lanes_of n) v left right) → AddsUp untidy v left right → Splits (Kept key) id v left right
+pub splits : (key : Config) (id : ℕ) (v left right : View)
+    → ((c : ℕ) (x : Measure) → AddsUp (weight c x) v left right)
+    → ((n : ℕ) (e : AppliedBump) → AddsUp (claims n e) v left right × AddsUp (evidence n e) v left right)
+    → ((q : Query) → AddsUp (moves q) v left right × AddsUp (settled q) v left right) → AddsUp foreign v left right
+    → (HaveLabels v.classes → HaveLabels left.classes × HaveLabels right.classes)
+    → ((n : ℕ) → AddsUp (workers_of n) v left right) → ((n : ℕ) → AddsUp (lanes_of n) v left right)
+    → AddsUp untidy v left right → Splits (Kept key) id v left right
 splits key id v left right even entries rides owned labels workers lanes tidy s o me = record {
   wide = o.wide;
   small = o.small;
-  each = λ c near. same_sound key.refs_limit (get_or s.words (3 * c + 9) 0) (get_or s.words (3 * c + 11) 0) (tally s.views c) (tally (set s.views id left ++ right ∷ []) c) (λ x. keep (weight c x) (even c x)) (o.each c near);
-  true_entries = λ n e many. let old = o.true_entries n e in omega (arith, keep (claims n e) (entries n e).0, keep (evidence n e) (entries n e).1, old (omega (arith, keep (claims n e) (entries n e).0)));
+  each = λ c near. same_sound key.refs_limit (get_or s.words (3 * c + 9) 0) (get_or s.words (3 * c + 11) 0)
+      (tally s.views c) (tally (set s.views id left ++ right ∷ []) c) (λ x. keep (weight c x) (even c x))
+      (o.each c near);
+  true_entries = λ n e many. let old = o.true_entries n e in
+      omega (
+        arith,
+        keep (claims n e) (entries n e).0,
+        keep (evidence n e) (entries n e).1,
+        old (omega (arith, keep (claims n e) (entries n e).0)),
+      );
   even_moves = λ q. omega (arith, keep (moves q) (rides q).0, keep (settled q) (rides q).1, o.even_moves q);
   own_chunks = omega (arith, keep foreign owned, o.own_chunks);
-  own_labels = let have = labels (labelled_at s.views id v me o.own_labels) in labelled_push (set s.views id left) right (labelled_set s.views id v left me o.own_labels have.0) have.1;
+  own_labels = let have = labels (labelled_at s.views id v me o.own_labels) in labelled_push (set s.views id left)
+      right (labelled_set s.views id v left me o.own_labels have.0) have.1;
   one_worker = λ n. omega (arith, keep (workers_of n) (workers n), o.one_worker n);
   one_lane = λ n. omega (arith, keep (lanes_of n) (lanes n), o.one_lane n);
   orderly = omega (arith, keep untidy tidy, o.orderly);
@@ -173,21 +249,35 @@ splits key id v left right even entries rides owned labels workers lanes tidy s 
     keep : (f : View → ℕ) → AddsUp f v left right → total f (set s.views id left ++ right ∷ []) ≡ total f s.views
     keep f h = omega (arith, total_append f (set s.views id left) (right ∷ []), total-set f s.views id v left me)
 
-pub joins : (key : Config) (id : ℕ) (v : View) (other : ℕ) (w both spent : View) → ((c : ℕ) (x : Measure) → weight c x both + weight c x spent ≡ weight c x v + weight c x w)
-    → ((n : ℕ) (e : AppliedBump) → (claims n e both + claims n e spent ≡ claims n e v + claims n e w) × (evidence n e both + evidence n e spent ≡ evidence n e v + evidence n e w))
-    → ((q : Query) → (moves q both + moves q spent ≡ moves q v + moves q w) × (settled q both + settled q spent ≡ settled q v + settled q w)) → foreign both + foreign spent ≡ foreign v + foreign w → (HaveLabels v.classes → HaveLabels w.classes → HaveLabels both.classes × HaveLabels spent.classes) → ((n : ℕ) → workers_of n both + workers_of n spent ≡ workers_of n v + workers_of n w) → ((n : ℕ) → lanes_of n both + lanes_of n spent ≡ lanes_of n v + lanes_of n w) → untidy both + untidy spent ≡ untidy v + untidy w → Joins (Kept key) id v other w both spent
+pub joins : (key : Config) (id : ℕ) (v : View) (other : ℕ) (w both spent : View)
+    → ((c : ℕ) (x : Measure) → weight c x both + weight c x spent ≡ weight c x v + weight c x w)
+    → ((n : ℕ) (e : AppliedBump) → (claims n e both + claims n e spent ≡ claims n e v + claims n e w)
+    × (evidence n e both + evidence n e spent ≡ evidence n e v + evidence n e w))
+    → ((q : Query) → (moves q both + moves q spent ≡ moves q v + moves q w)
+    × (settled q both + settled q spent ≡ settled q v + settled q w)) → foreign both + foreign spent ≡ foreign v
+    + foreign w → (HaveLabels v.classes → HaveLabels w.classes → HaveLabels both.classes
+    × HaveLabels spent.classes)
+    → ((n : ℕ) → workers_of n both + workers_of n spent ≡ workers_of n v + workers_of n w)
+    → ((n : ℕ) → lanes_of n both + lanes_of n spent ≡ lanes_of n v + lanes_of n w)
+    → untidy both + untidy spent ≡ untidy v + untidy w → Joins (Kept key) id v other w both spent
 joins key id v other w both spent even entries rides owned labels workers lanes tidy s o me apart them = record {
   wide = o.wide;
   small = o.small;
-  each = λ c near. same_sound key.refs_limit (get_or s.words (3 * c + 9) 0) (get_or s.words (3 * c + 11) 0) (tally s.views c) (tally (set (set s.views id both) other spent) c) (λ x. keep (weight c x) (even c x)) (o.each c near);
-  true_entries = λ n e many. let old = o.true_entries n e in omega (arith, keep (evidence n e) (entries n e).1, old (omega (arith, keep (claims n e) (entries n e).0)));
+  each = λ c near. same_sound key.refs_limit (get_or s.words (3 * c + 9) 0) (get_or s.words (3 * c + 11) 0)
+      (tally s.views c) (tally (set (set s.views id both) other spent) c) (λ x. keep (weight c x) (even c x))
+      (o.each c near);
+  true_entries = λ n e many. let old = o.true_entries n e in
+      omega (arith, keep (evidence n e) (entries n e).1, old (omega (arith, keep (claims n e) (entries n e).0)));
   even_moves = λ q. omega (arith, keep (moves q) (rides q).0, keep (settled q) (rides q).1, o.even_moves q);
   own_chunks = omega (arith, keep foreign owned, o.own_chunks);
-  own_labels = let have = labels (labelled_at s.views id v me o.own_labels) (labelled_beside s.views id other both w apart them o.own_labels) in labelled_set (set s.views id both) other w spent them (labelled_set s.views id v both me o.own_labels have.0) have.1;
+  own_labels = let have = labels (labelled_at s.views id v me o.own_labels)
+      (labelled_beside s.views id other both w apart them o.own_labels) in labelled_set (set s.views id both) other w
+      spent them (labelled_set s.views id v both me o.own_labels have.0) have.1;
   one_worker = λ n. omega (arith, keep (workers_of n) (workers n), o.one_worker n);
   one_lane = λ n. omega (arith, keep (lanes_of n) (lanes n), o.one_lane n);
   orderly = omega (arith, keep untidy tidy, o.orderly);
 }
   where
-    keep : (f : View → ℕ) → f both + f spent ≡ f v + f w → total f (set (set s.views id both) other spent) ≡ total f s.views
+    keep : (f : View → ℕ) → f both + f spent ≡ f v + f w → total f (set (set s.views id both) other spent) ≡ total f
+        s.views
     keep f h = omega (arith, total-set f s.views id v both me, total-set f (set s.views id both) other w spent them)

@@ -1,12 +1,11 @@
 -- Labels of lives: what a class's part has of them, it has after each step of its seat; and so have all parts.
-use Rattle.std.proofs.Common.{◌≡◌, ◌≢◌, ℕ, zero, suc, ◌+◌, ◌<◌, ◌==◌, ◌&&◌, eqb, cond, Bool, true, false, List, [], ◌∷◌, ◌++◌, set, Some, None, if◌then◌else◌, refl, sym, ap, ap₂, ◌∙◌, subst, arith, eq-eqb, ne_eqb, eqb-true}
+use Rattle.std.proofs.Common.{◌≡◌, ◌≢◌, ℕ, zero, suc, ◌+◌, ◌<◌, ◌&&◌, eqb, cond, Bool, true, false, List, [], ◌∷◌, ◌++◌, set, Some, None, if◌then◌else◌, refl, sym, ap, ap₂, ◌∙◌, subst, arith, eq-eqb, ne_eqb, eqb-true}
 use Rattle.std.proofs.lemmas.Bool.{and_from}
 use mathlib.Core.Logic.{dite}
 use mathlib.Core.Option.{some, some-injective, some-ne-none}
 use native.Mathlib.Decide.{ℕ_discrete}
 use lib.ListN.{get_elem?}
 use Rattle.bump_rules.specs.declared.items.ItemId.{ItemId}
-use Rattle.bump_rules.specs.declared.places.Place.{Place}
 use Rattle.bump_rules.specs.declared.places.Place.TheVariants.{Unused}
 use Rattle.bump_rules.specs.declared.history.Change.{Change}
 use Rattle.bump_rules.specs.declared.history.Change.TheVariants as change
@@ -19,9 +18,9 @@ use Rattle.bump_rules.proofs.Replay.{standing_push}
 use Rattle.bump_steps.specs.declared.views.OwnStep.{OwnStep}
 use Rattle.bump_steps.specs.declared.views.ClassPart.{ClassPart}
 use Rattle.bump_steps.specs.declared.views.View.{View}
-use Rattle.bump_steps.specs.Views.{owns, standing, label_of, HasLabels, HaveLabels, AreLabelled}
+use Rattle.bump_steps.specs.Views.{standing, last_label, HasLabels, HaveLabels, AreLabelled}
 use Rattle.bump_steps.specs.Plays.{behind, first_of, on_first}
-use Rattle.bump_steps.specs.Lives.{labelled, begun}
+use Rattle.bump_steps.specs.Lives.{class_after_put_label, class_after_link}
 use Rattle.bump_steps.proofs.LabelLists.{word_stored, word_begun, life_stored, life_begun, life_begun_else}
 
 -- ---- lists of parts and of views
@@ -37,32 +36,39 @@ have_both [] js have more = more
 have_both (k ∷ ks) js have more = (have.0, have_both ks js have.1 more)
 
 -- the first part changes
-pub have_on_first : (f : ClassPart → ClassPart) → ((k : ClassPart) → HasLabels k → HasLabels (f k)) → (ks : List ClassPart) → HaveLabels ks → HaveLabels (on_first f ks)
+pub have_on_first : (f : ClassPart → ClassPart) → ((k : ClassPart) → HasLabels k → HasLabels (f k))
+    → (ks : List ClassPart) → HaveLabels ks → HaveLabels (on_first f ks)
 have_on_first f keeps [] have = tt
 have_on_first f keeps (k ∷ ks) have = (keeps k have.0, have.1)
 
 -- one of the views
-pub labelled_at : (views : List View) (i : ℕ) (v : View) → get_elem? views i ≡ some v → AreLabelled views → HaveLabels v.classes
+pub labelled_at : (views : List View) (i : ℕ) (v : View) → get_elem? views i ≡ some v → AreLabelled views
+    → HaveLabels v.classes
 labelled_at [] i v me all = absurd (some-ne-none v (sym me))
 labelled_at (x ∷ xs) zero v me all = subst (λ (y : View). HaveLabels y.classes) (some-injective x v me) all.0
 labelled_at (x ∷ xs) (suc i) v me all = labelled_at xs i v me all.1
 
 -- another one than the one that was written over
-pub labelled_beside : (views : List View) (i j : ℕ) (u w : View) → (j ≡ i → ⊥) → get_elem? (set views i u) j ≡ some w → AreLabelled views → HaveLabels w.classes
+pub labelled_beside : (views : List View) (i j : ℕ) (u w : View) → (j ≡ i → ⊥) → get_elem? (set views i u) j ≡ some w
+    → AreLabelled views → HaveLabels w.classes
 labelled_beside [] i j u w apart me all = absurd (some-ne-none w (sym me))
 labelled_beside (x ∷ xs) zero zero u w apart me all = absurd (apart refl)
 labelled_beside (x ∷ xs) zero (suc j) u w apart me all = labelled_at xs j w me all.1
-labelled_beside (x ∷ xs) (suc i) zero u w apart me all = subst (λ (y : View). HaveLabels y.classes) (some-injective x w me) all.0
-labelled_beside (x ∷ xs) (suc i) (suc j) u w apart me all = labelled_beside xs i j u w (λ e. apart (ap suc e)) me all.1
+labelled_beside (x ∷ xs) (suc i) zero u w apart me all = subst (λ (y : View). HaveLabels y.classes)
+    (some-injective x w me) all.0
+labelled_beside (x ∷ xs) (suc i) (suc j) u w apart me all = labelled_beside xs i j u w (λ e. apart (ap suc e)) me
+    all.1
 
 -- one of them is written over
-pub labelled_set : (views : List View) (i : ℕ) (v w : View) → get_elem? views i ≡ some v → AreLabelled views → HaveLabels w.classes → AreLabelled (set views i w)
+pub labelled_set : (views : List View) (i : ℕ) (v w : View) → get_elem? views i ≡ some v → AreLabelled views
+    → HaveLabels w.classes → AreLabelled (set views i w)
 labelled_set [] i v w me all have = absurd (some-ne-none v (sym me))
 labelled_set (x ∷ xs) zero v w me all have = (have, all.1)
 labelled_set (x ∷ xs) (suc i) v w me all have = (all.0, labelled_set xs i v w me all.1 have)
 
 -- one more view
-pub labelled_push : (views : List View) (w : View) → AreLabelled views → HaveLabels w.classes → AreLabelled (views ++ w ∷ [])
+pub labelled_push : (views : List View) (w : View) → AreLabelled views → HaveLabels w.classes
+    → AreLabelled (views ++ w ∷ [])
 labelled_push [] w all have = (have, tt)
 labelled_push (x ∷ xs) w all have = (all.0, labelled_push xs w all.1 have)
 
@@ -73,40 +79,49 @@ pub noted_labels : (k : ClassPart) (steps : List OwnStep) → HasLabels k → Ha
 noted_labels k steps p = record { labelled = p.labelled; unbegun = p.unbegun }
 
 -- an entry that begins no life, in the life that its chunk has, and that leaves no free chunk where chunks are used
-module _ (k : ClassPart) (e : Change) (steps : List OwnStep) (p : HasLabels k) (same_life : (subject e).generation ≡ (standing k (subject e).chunk).1) (used : IsUsed (target e) → IsUsed (standing k (subject e).chunk).0) where
+module _ (k : ClassPart) (e : Change) (steps : List OwnStep) (p : HasLabels k)
+    (same_life : (subject e).generation ≡ (standing k (subject e).chunk).1)
+    (used : IsUsed (target e) → IsUsed (standing k (subject e).chunk).0) where
   abbrev pub entered : ClassPart
   entered = record k { history = k.history ++ e ∷ []; steps = steps }
 
   -- where it leaves a chunk
-  entered_stands : (d : ℕ) → standing entered d ≡ cond (eqb (subject e).chunk d) (target e, (subject e).generation) (standing k d)
+  entered_stands : (d : ℕ) → standing entered d ≡ cond (eqb (subject e).chunk d) (target e, (subject e).generation)
+      (standing k d)
   entered_stands d = standing_push d (Unused, k.fresh) k.history e
 
   -- its life goes on
   same_generation : (d : ℕ) → (standing entered d).1 ≡ (standing k d).1
   same_generation d = ap (λ (s : Standing). s.1) (entered_stands d) ∙ by (eqb (subject e).chunk d) refl
     where
-      by : (b : Bool) → eqb (subject e).chunk d ≡ b → (cond b (target e, (subject e).generation) (standing k d)).1 ≡ (standing k d).1
+      by : (b : Bool) → eqb (subject e).chunk d ≡ b → (cond b (target e, (subject e).generation) (standing k d)).1
+          ≡ (standing k d).1
       by true is = same_life ∙ ap (λ (c : ℕ). (standing k c).1) (eqb-true (subject e).chunk d is)
       by false is = refl
 
   still_used : (c : ℕ) → IsUsed (standing entered c).0 → IsUsed (standing k c).0
   still_used c now = by (eqb (subject e).chunk c) refl (subst (λ (s : Standing). IsUsed s.0) (entered_stands c) now)
     where
-      by : (b : Bool) → eqb (subject e).chunk c ≡ b → IsUsed (cond b (target e, (subject e).generation) (standing k c)).0 → IsUsed (standing k c).0
+      by : (b : Bool) → eqb (subject e).chunk c ≡ b
+          → IsUsed (cond b (target e, (subject e).generation) (standing k c)).0 → IsUsed (standing k c).0
       by true is there = subst (λ (d : ℕ). IsUsed (standing k d).0) (eqb-true (subject e).chunk c is) (used there)
       by false is there = there
 
   pub entered_labels : HasLabels entered
   entered_labels = record {
-    labelled = λ c mine now. ap (λ (g : ℕ). label_of_life (life c g) 0 k.labels) (same_generation c) ∙ p.labelled c mine (still_used c now);
+    labelled = λ c mine now. ap (λ (g : ℕ). label_of_life (life c g) 0 k.labels) (same_generation c)
+        ∙ p.labelled c mine (still_used c now);
     unbegun = λ c g later. p.unbegun c g (omega (arith, later, same_generation c));
   }
 
 -- a label that is stored for a free chunk
-pub stored_labels : (c y : ℕ) (k : ClassPart) → HasLabels k → (standing k c).0 ≡ Unused → HasLabels (labelled c y k)
-stored_labels c y k p unused = record {
+pub put_label_labels : (c y : ℕ) (k : ClassPart) → HasLabels k → (standing k c).0 ≡ Unused
+    → HasLabels (class_after_put_label c y k)
+put_label_labels c y k p unused = record {
   labelled = λ d own used. life_stored (life d (standing k d).1) 0 k.labels c y ∙ p.labelled d own used
-      ∙ ap (λ (n : ℕ). Some n) (sym (word_stored d 0 k.labels c y ∙ ap (λ (b : Bool). if b then y else label_of k d) (ne_eqb c d (λ e. absurd (subst IsUsed (ap (λ (j : ℕ). (standing k j).0) (sym e) ∙ unused) used)))));
+      ∙ ap (λ (n : ℕ). Some n)
+      (sym (word_stored d 0 k.labels c y ∙ ap (λ (b : Bool). if b then y else last_label k d)
+      (ne_eqb c d (λ e. absurd (subst IsUsed (ap (λ (j : ℕ). (standing k j).0) (sym e) ∙ unused) used)))));
   unbegun = λ d g later. life_stored (life d g) 0 k.labels c y ∙ p.unbegun d g later;
 }
 
@@ -120,32 +135,43 @@ module _ (c g n : ℕ) (k : ClassPart) (p : HasLabels k) (next : g ≡ (standing
   new_life = life c g
 
   abbrev pub opened : ClassPart
-  opened = begun c g n k
+  opened = class_after_link c g n k
 
   -- it stands so, and the others where they stood
   stands_here : standing opened c ≡ (target (change.Linked new_life), g)
-  stands_here = standing_push c (Unused, k.fresh) k.history (change.Linked new_life) ∙ ap (λ b. cond b (target (change.Linked new_life), g) (standing k c)) (eq-eqb c c refl)
+  stands_here = standing_push c (Unused, k.fresh) k.history (change.Linked new_life)
+      ∙ ap (λ b. cond b (target (change.Linked new_life), g) (standing k c)) (eq-eqb c c refl)
 
   stands_there : (d : ℕ) → d ≢ c → standing opened d ≡ standing k d
-  stands_there d ne = standing_push d (Unused, k.fresh) k.history (change.Linked new_life) ∙ ap (λ b. cond b (target (change.Linked new_life), g) (standing k d)) (ne_eqb c d (λ q. ne (sym q)))
+  stands_there d ne = standing_push d (Unused, k.fresh) k.history (change.Linked new_life)
+      ∙ ap (λ b. cond b (target (change.Linked new_life), g) (standing k d)) (ne_eqb c d (λ q. ne (sym q)))
 
   -- it has the label that was stored last for the chunk
-  label_here : label_of_life new_life 0 (k.labels ++ Begun new_life ∷ []) ≡ Some (label_word c 0 (k.labels ++ Begun new_life ∷ []))
-  label_here = life_begun new_life 0 k.labels (and_from (eqb c c) (eqb g g) (eq-eqb c c refl) (eq-eqb g g refl)) (p.unbegun c g (omega (arith, next))) ∙ ap (λ (y : ℕ). Some y) (sym (word_begun c 0 k.labels new_life))
+  label_here : label_of_life new_life 0 (k.labels ++ Begun new_life ∷ []) ≡ Some
+      (label_word c 0 (k.labels ++ Begun new_life ∷ []))
+  label_here = life_begun new_life 0 k.labels (and_from (eqb c c) (eqb g g) (eq-eqb c c refl) (eq-eqb g g refl))
+      (p.unbegun c g (omega (arith, next))) ∙ ap (λ (y : ℕ). Some y) (sym (word_begun c 0 k.labels new_life))
 
-  pub begun_labels : HasLabels opened
-  begun_labels = record {
+  pub link_labels : HasLabels opened
+  link_labels = record {
     labelled = λ d mine used. dite (ℕ_discrete d c)
-        (λ is. subst (λ (j : ℕ). label_of_life (life j (standing opened j).1) 0 (k.labels ++ Begun new_life ∷ []) ≡ Some (label_word j 0 (k.labels ++ Begun new_life ∷ []))) (sym is)
-        (subst (λ (s : Standing). label_of_life (life c s.1) 0 (k.labels ++ Begun new_life ∷ []) ≡ Some (label_word c 0 (k.labels ++ Begun new_life ∷ []))) (sym stands_here) label_here))
-        (λ ne. subst (λ (s : Standing). label_of_life (life d s.1) 0 (k.labels ++ Begun new_life ∷ []) ≡ Some (label_word d 0 (k.labels ++ Begun new_life ∷ []))) (sym (stands_there d ne))
+        (λ is. subst (λ (j : ℕ). label_of_life (life j (standing opened j).1) 0 (k.labels ++ Begun new_life ∷ [])
+        ≡ Some (label_word j 0 (k.labels ++ Begun new_life ∷ []))) (sym is)
+        (subst (λ (s : Standing). label_of_life (life c s.1) 0 (k.labels ++ Begun new_life ∷ []) ≡ Some
+        (label_word c 0 (k.labels ++ Begun new_life ∷ []))) (sym stands_here) label_here))
+        (λ ne. subst (λ (s : Standing). label_of_life (life d s.1) 0 (k.labels ++ Begun new_life ∷ []) ≡ Some
+        (label_word d 0 (k.labels ++ Begun new_life ∷ []))) (sym (stands_there d ne))
         (life_begun_else (life d (standing k d).1) 0 k.labels new_life (other_of_chunk d c (standing k d).1 g ne)
         ∙ p.labelled d mine (subst (λ (s : Standing). IsUsed s.0) (stands_there d ne) used)
         ∙ ap (λ (y : ℕ). Some y) (sym (word_begun d 0 k.labels new_life))));
     unbegun = λ d j later. dite (ℕ_discrete d c)
         (λ is.
-        let at : (standing opened d).1 ≡ g = ap (λ (i : ℕ). (standing opened i).1) is ∙ ap (λ (s : Standing). s.1) stands_here in
+        let at : (standing opened d).1 ≡ g = ap (λ (i : ℕ). (standing opened i).1) is
+        ∙ ap (λ (s : Standing). s.1) stands_here in
         subst (λ (i : ℕ). label_of_life (life i j) 0 (k.labels ++ Begun new_life ∷ []) ≡ None) (sym is)
-        (life_begun_else (life c j) 0 k.labels new_life (ap₂ (λ a b. a && b) (eq-eqb c c refl) (ne_eqb j g (λ e. omega (arith, e, at, later)))) ∙ p.unbegun c j (omega (arith, at, later, next))))
-        (λ ne. life_begun_else (life d j) 0 k.labels new_life (other_of_chunk d c j g ne) ∙ p.unbegun d j (subst (λ (i : ℕ). i < j) (ap (λ (s : Standing). s.1) (stands_there d ne)) later));
+        (life_begun_else (life c j) 0 k.labels new_life
+        (ap₂ (λ a b. a && b) (eq-eqb c c refl) (ne_eqb j g (λ e. omega (arith, e, at, later))))
+        ∙ p.unbegun c j (omega (arith, at, later, next))))
+        (λ ne. life_begun_else (life d j) 0 k.labels new_life (other_of_chunk d c j g ne)
+        ∙ p.unbegun d j (subst (λ (i : ℕ). i < j) (ap (λ (s : Standing). s.1) (stands_there d ne)) later));
   }

@@ -30,24 +30,27 @@ use Rattle.bump_steps.specs.declared.views.View.{View}
 use Rattle.bump_steps.specs.Views.{Measure, held, named, saw, owners, strays, mislabels, misreads, in_hand, is_fetch, is_fetch_of, weight, shown_by, IsBacked}
 use Rattle.bump_steps.specs.Rule.{Sound, chunks, Kept}
 use Rattle.bump_steps.specs.Plays.{Sat, on_chunk, on_first, step_of}
-use Rattle.bump_steps.specs.Marks.{on_worker, noted, hits_after, fetched_part, trying, attempting, marked_part, done, unmarked_part, timed_part, fetched, marked, unmarked, timed, MayMark}
+use Rattle.bump_steps.specs.Marks.{on_worker, noted, hits_after, worker_after_fetch, trying, attempting, worker_after_mark, done, worker_after_unmark, worker_after_store_time, fetch_tells, mark_tells, unmark_tells, store_time_tells, MayMark}
 use Rattle.bump_steps.proofs.Frame.{Same, on_time, same_sound}
 use Rattle.bump_steps.proofs.StepLemmas.{time_chunk_is, at_chunk, on_first_total, same_counts, one_life, other_life, other_chunk}
 use Rattle.bump_steps.proofs.Told.{tells}
 
 -- a change of the first element that adds the same to each term adds it to the sum
-pub on_first_gain : {A : Type 0} (f : A → ℕ) (h : A → A) (k : ℕ) → ((x : A) → f (h x) ≡ f x + k) → (l : List A) → 0 < length l → total f (on_first h l) ≡ total f l + k
+pub on_first_gain : {A : Type 0} (f : A → ℕ) (h : A → A) (k : ℕ) → ((x : A) → f (h x) ≡ f x + k) → (l : List A)
+    → 0 < length l → total f (on_first h l) ≡ total f l + k
 on_first_gain f h k gains [] some = absurd (omega (arith, some))
 on_first_gain f h k gains (x ∷ xs) some = omega (arith, gains x)
 
 -- what a worker knows shows no entry, and settles no move
-pub worker_backed : (f : WorkerPart → WorkerPart) → ((p : WorkerPart) → (f p).worker ≡ p.worker) → (v : View) → IsBacked v (on_worker f v)
+pub worker_backed : (f : WorkerPart → WorkerPart) → ((p : WorkerPart) → (f p).worker ≡ p.worker) → (v : View)
+    → IsBacked v (on_worker f v)
 worker_backed f same v = record {
   backs = λ wk e. (by wk e e.outcome, λ more. absurd (omega arith));
   even = λ q. omega arith;
   own = omega arith;
   labels = λ have. have;
-  workers = λ n. on_first_total (λ w. cond (w.worker == n) 1 0) f (λ p. ap (λ (w : ℕ). cond (w == n) 1 0) (same p)) v.workers;
+  workers = λ n. on_first_total (λ w. cond (w.worker == n) 1 0) f (λ p. ap (λ (w : ℕ). cond (w == n) 1 0) (same p))
+      v.workers;
   lanes = λ n. refl;
   tidy = omega arith;
 }
@@ -74,8 +77,14 @@ quiet_same b f v q (mislabels x) = refl
 quiet_same b f v q (misreads j x) = refl
 
 -- a step that isn't a fetch is none of the fetches
-other_steps : (k : Kind) → is_fetch k ≡ false → (b j c n : ℕ) (p : WorkerPart) → how_many (is_fetch_of b j) (noted k c n p).steps ≡ how_many (is_fetch_of b j) p.steps
-other_steps k other b j c n p = omega (arith, total_push (λ x. cond (is_fetch_of b j x) 1 0) p.steps (step_of k c n None), ap {B = ℕ} (λ (a : Bool). cond (a && ((c == b) && (n / 2 ^ generation_first == j))) 1 0) other)
+other_steps : (k : Kind) → is_fetch k ≡ false → (b j c n : ℕ) (p : WorkerPart) → how_many (is_fetch_of b j)
+    (noted k c n p).steps ≡ how_many (is_fetch_of b j) p.steps
+other_steps k other b j c n p =
+    omega (
+      arith,
+      total_push (λ x. cond (is_fetch_of b j x) 1 0) p.steps (step_of k c n None),
+      ap {B = ℕ} (λ (a : Bool). cond (a && ((c == b) && (n / 2 ^ generation_first == j))) 1 0) other,
+    )
 
 -- who tries to take a reference has none in its hand yet
 tries_none : (b j : ℕ) (l : ItemId) (h : Hand) → in_hand b j (trying l h) ≡ in_hand b j h
@@ -92,40 +101,57 @@ done_none b j (hand.InHand m) = refl
 done_none b j (hand.Clearing m) = refl
 
 -- a time changes nothing that is counted
-timed_quiet : (b : ℕ) (l : ItemId) (n : ℕ) → Quiet b (timed_part l n)
-timed_quiet b l n = record { hand = λ j p. refl; hits = λ j p. refl; steps = λ j p. other_steps kind.StoreTime refl b j l.chunk n p }
+store_time_quiet : (b : ℕ) (l : ItemId) (n : ℕ) → Quiet b (worker_after_store_time l n)
+store_time_quiet b l n = record {
+  hand = λ j p. refl;
+  hits = λ j p. refl;
+  steps =
+      λ j p. other_steps kind.StoreTime refl b j l.chunk n p;
+}
 
 -- nor does a mark that is cleared
-unmarked_quiet : (b : ℕ) (l : ItemId) (h : Head) → Quiet b (unmarked_part l h)
-unmarked_quiet b l h = record { hand = λ j p. done_none b j p.hand; hits = λ j p. refl; steps = λ j p. other_steps kind.Unmark refl b j l.chunk (word_of h) p }
+unmark_quiet : (b : ℕ) (l : ItemId) (h : Head) → Quiet b (worker_after_unmark l h)
+unmark_quiet b l h = record {
+  hand = λ j p. done_none b j p.hand;
+  hits = λ j p. refl;
+  steps =
+      λ j p. other_steps kind.Unmark refl b j l.chunk (word_of h) p;
+}
 
 -- whether or not a bump is attempted
-pub either_way : {A : Type 0} (f : WorkerPart → A) (b : Bool) (l : ItemId) (p : WorkerPart) (a : A) → f p ≡ a → f (attempting l p) ≡ a → f (if b then attempting l p else p) ≡ a
+pub either_way : {A : Type 0} (f : WorkerPart → A) (b : Bool) (l : ItemId) (p : WorkerPart) (a : A) → f p ≡ a
+    → f (attempting l p) ≡ a → f (if b then attempting l p else p) ≡ a
 either_way f true l p a stays attempts = attempts
 either_way f false l p a stays attempts = stays
 
 -- nor one that is set
-marked_quiet : (b : ℕ) (l : ItemId) (h : Head) → Quiet b (marked_part l h)
-marked_quiet b l h = record {
-  hand = λ j p. either_way (λ w. in_hand b j w.hand) (not h.active && is_cold h.segment) l (noted kind.Mark l.chunk (word_of h) p) (in_hand b j p.hand) refl (tries_none b j l p.hand);
-  hits = λ j p. either_way (λ w. count_of (life b j) w.hits) (not h.active && is_cold h.segment) l (noted kind.Mark l.chunk (word_of h) p) (count_of (life b j) p.hits) refl refl;
-  steps = λ j p. either_way (λ w. how_many (is_fetch_of b j) w.steps) (not h.active && is_cold h.segment) l (noted kind.Mark l.chunk (word_of h) p) (how_many (is_fetch_of b j) p.steps)
+mark_quiet : (b : ℕ) (l : ItemId) (h : Head) → Quiet b (worker_after_mark l h)
+mark_quiet b l h = record {
+  hand = λ j p. either_way (λ w. in_hand b j w.hand) (not h.active && is_cold h.segment) l
+      (noted kind.Mark l.chunk (word_of h) p) (in_hand b j p.hand) refl (tries_none b j l p.hand);
+  hits = λ j p. either_way (λ w. count_of (life b j) w.hits) (not h.active && is_cold h.segment) l
+      (noted kind.Mark l.chunk (word_of h) p) (count_of (life b j) p.hits) refl refl;
+  steps = λ j p. either_way (λ w. how_many (is_fetch_of b j) w.steps) (not h.active && is_cold h.segment) l
+      (noted kind.Mark l.chunk (word_of h) p) (how_many (is_fetch_of b j) p.steps)
       (other_steps kind.Mark refl b j l.chunk (word_of h) p) (other_steps kind.Mark refl b j l.chunk (word_of h) p);
 }
 
 -- ---- fetches
 
 -- how often the first hits then name a life
-gained : (f : Bool) (d j : ℕ) (l : ItemId) (hits : List ItemId) → count_of (life d j) (hits_after f l hits) ≡ count_of (life d j) hits + cond f 0 (one_if (life d j) l)
+gained : (f : Bool) (d j : ℕ) (l : ItemId) (hits : List ItemId) → count_of (life d j) (hits_after f l hits) ≡ count_of
+    (life d j) hits + cond f 0 (one_if (life d j) l)
 gained true d j l hits = omega arith
 gained false d j l hits = count_push (life d j) l hits
 
 -- a fetch of a life is one of its fetches, and none of another life's
-pub is_its_fetch : (c n g : ℕ) → n / 2 ^ generation_first ≡ g → (j : ℕ) → cond (is_fetch_of c j (step_of kind.Fetch c n None)) 1 0 ≡ one_if (life c j) (life c g)
+pub is_its_fetch : (c n g : ℕ) → n / 2 ^ generation_first ≡ g → (j : ℕ)
+    → cond (is_fetch_of c j (step_of kind.Fetch c n None)) 1 0 ≡ one_if (life c j) (life c g)
 is_its_fetch c n g e j = ap {B = ℕ} (λ (a : Bool). cond ((c == c) && a) 1 0) (ap (λ (k : ℕ). k == j) e ∙ eqb_turn g j)
   where
     eqb_turn : (x y : ℕ) → ◌≡◌ {A = Bool} (x == y) (y == x)
-    eqb_turn x y = dite (ℕ_discrete x y) (λ e. eq-eqb x y e ∙ sym (eq-eqb y x (sym e))) (λ ne. ne_eqb x y ne ∙ sym (ne_eqb y x (λ e. ne (sym e))))
+    eqb_turn x y = dite (ℕ_discrete x y) (λ e. eq-eqb x y e ∙ sym (eq-eqb y x (sym e)))
+        (λ ne. ne_eqb x y ne ∙ sym (ne_eqb y x (λ e. ne (sym e))))
 
 module _ (key : Config) (slots id : ℕ) (m : Sat) (c : ℕ) (near : c < chunks key) where
   -- the seat has a worker's part, and its step finds this word
@@ -137,33 +163,50 @@ module _ (key : Config) (slots id : ℕ) (m : Sat) (c : ℕ) (near : c < chunks 
     of = life c o.head.generation
 
     abbrev pub after : View
-    after = on_worker (fetched_part (life c o.head.generation) o.head) m.0
+    after = on_worker (worker_after_fetch (life c o.head.generation) o.head) m.0
 
     -- the word has the chunk's generation
     gen : word_of o.head / 2 ^ generation_first ≡ o.head.generation
     gen = ap (λ (k : ℕ). k / 2 ^ generation_first) (sym o.spells.0) ∙ (fields n o.head o.spells).generation
 
     -- the life is named once more where FETCHED was clear
-    names_more : (b j : ℕ) → weight b (named j) after ≡ weight b (named j) m.0 + cond o.head.fetched 0 (one_if (life b j) of)
-    names_more b j = on_first_gain (λ w. count_of (life b j) w.hits) (fetched_part of found) (cond o.head.fetched 0 (one_if (life b j) of)) (λ p. gained o.head.fetched b j of p.hits) m.0.workers has
+    names_more : (b j : ℕ) → weight b (named j) after ≡ weight b (named j) m.0 + cond o.head.fetched 0
+        (one_if (life b j) of)
+    names_more b j = on_first_gain (λ w. count_of (life b j) w.hits) (worker_after_fetch of found)
+        (cond o.head.fetched 0 (one_if (life b j) of)) (λ p. gained o.head.fetched b j of p.hits) m.0.workers has
 
     -- the fetch is counted
-    saw_more : (b j : ℕ) → weight b (saw j) after ≡ weight b (saw j) m.0 + cond (is_fetch_of b j (step_of kind.Fetch c (word_of o.head) None)) 1 0
-    saw_more b j = on_first_gain (λ w. how_many (is_fetch_of b j) w.steps) (fetched_part of found) (cond (is_fetch_of b j (step_of kind.Fetch c (word_of o.head) None)) 1 0) (λ p. total_push (λ x. cond (is_fetch_of b j x) 1 0) p.steps (step_of kind.Fetch c (word_of o.head) None)) m.0.workers has
+    saw_more : (b j : ℕ) → weight b (saw j) after ≡ weight b (saw j) m.0 + cond
+        (is_fetch_of b j (step_of kind.Fetch c (word_of o.head) None)) 1 0
+    saw_more b j = on_first_gain (λ w. how_many (is_fetch_of b j) w.steps) (worker_after_fetch of found)
+        (cond (is_fetch_of b j (step_of kind.Fetch c (word_of o.head) None)) 1 0)
+        (λ p. total_push (λ x. cond (is_fetch_of b j x) 1 0) p.steps (step_of kind.Fetch c (word_of o.head) None))
+        m.0.workers has
 
     -- references are as they were
     held_as : (b j : ℕ) → weight b (held j) after ≡ weight b (held j) m.0
-    held_as b j = omega (arith, on_first_total (λ w. in_hand b j w.hand) (fetched_part of found) (λ p. refl) m.0.workers)
+    held_as b j = omega (
+      arith,
+      on_first_total (λ w. in_hand b j w.hand) (worker_after_fetch of found) (λ p. refl)
+          m.0.workers,
+    )
 
     -- and other chunks count as they did
     fetch_apart : (b : ℕ) → b ≢ c → Same b m.0 after
     fetch_apart b ne (held j) = held_as b j
-    fetch_apart b ne (named j) = omega (arith, names_more b j, none_of o.head.fetched (one_if (life b j) of) (other_chunk b j of ne))
+    fetch_apart b ne (named j) =
+        omega (arith, names_more b j, none_of o.head.fetched (one_if (life b j) of) (other_chunk b j of ne))
       where
         none_of : (f : Bool) (k : ℕ) → ◌≡◌ {A = ℕ} k 0 → ◌≡◌ {A = ℕ} (cond f 0 k) 0
         none_of true k e = refl
         none_of false k e = e
-    fetch_apart b ne (saw j) = omega (arith, saw_more b j, ap {B = ℕ} (λ (a : Bool). cond (a && (word_of o.head / 2 ^ generation_first == j)) 1 0) (ne_eqb c b (λ e. ne (sym e))))
+    fetch_apart b ne (saw j) =
+        omega (
+          arith,
+          saw_more b j,
+          ap {B = ℕ} (λ (a : Bool). cond (a && (word_of o.head / 2 ^ generation_first == j)) 1 0)
+              (ne_eqb c b (λ e. ne (sym e))),
+        )
     fetch_apart b ne owners = refl
     fetch_apart b ne (strays s) = refl
     fetch_apart b ne (mislabels y) = refl
@@ -178,14 +221,27 @@ module _ (key : Config) (slots id : ℕ) (m : Sat) (c : ℕ) (near : c < chunks 
       saws j = omega (arith, moves (saw j), saw_more c j, is_its_fetch c (word_of o.head) o.head.generation gen j)
 
       -- the chunk stays lawful, by its first hit or a later one
-      fetch_lawful : (f : Bool) → o.head.fetched ≡ f → Lawful key.refs_limit (fetched_head o.head) o.at (λ g. u (held g)) (λ g. u (named g))
-      fetch_lawful true is = relawful key.refs_limit (fetched_head o.head) o.at (λ g. t (held g)) (λ g. t (named g)) (fetched_again key.refs_limit o.head o.at (λ g. t (held g)) (λ g. t (named g)) o.lawful is) (λ g. u (held g)) (λ g. u (named g))
+      fetch_lawful : (f : Bool) → o.head.fetched ≡ f → Lawful key.refs_limit (fetched_head o.head) o.at
+          (λ g. u (held g)) (λ g. u (named g))
+      fetch_lawful true is = relawful key.refs_limit (fetched_head o.head) o.at (λ g. t (held g)) (λ g. t (named g))
+          (fetched_again key.refs_limit o.head o.at (λ g. t (held g)) (λ g. t (named g)) o.lawful is)
+          (λ g. u (held g)) (λ g. u (named g))
           (λ g. omega (arith, moves (held g), held_as c g))
           (λ g. omega (arith, names g, ap {B = ℕ} (λ (f : Bool). cond f 0 (one_if (life c g) of)) is))
       fetch_lawful false is = relawful key.refs_limit (fetched_head o.head) o.at (λ g. t (held g)) (λ g. u (named g))
           (named_first key.refs_limit o.head o.at (λ g. t (held g)) (λ g. t (named g)) o.lawful (λ g. u (named g)) is
-          (omega (arith, names o.head.generation, ap {B = ℕ} (λ (f : Bool). cond f 0 (one_if (life c o.head.generation) of)) is, one_life of))
-          (λ g ne. omega (arith, names g, ap {B = ℕ} (λ (f : Bool). cond f 0 (one_if (life c g) of)) is, other_life of g ne)))
+          (omega (
+            arith,
+            names o.head.generation,
+            ap {B = ℕ} (λ (f : Bool). cond f 0 (one_if (life c o.head.generation) of)) is,
+            one_life of,
+          ))
+          (λ g ne. omega (
+            arith,
+            names g,
+            ap {B = ℕ} (λ (f : Bool). cond f 0 (one_if (life c g) of)) is,
+            other_life of g ne,
+          )))
           (λ g. u (held g)) (λ g. u (named g)) (λ g. omega (arith, moves (held g), held_as c g)) (λ g. refl)
 
       -- and sound
@@ -199,70 +255,92 @@ module _ (key : Config) (slots id : ℕ) (m : Sat) (c : ℕ) (near : c < chunks 
         agreed = omega (arith, moves (strays (o.at, o.head.generation)), o.agreed);
         labelled = omega (arith, moves (mislabels x), o.labelled);
         read = omega (arith, moves (misreads o.head.generation x), o.read);
-        hit = λ g some. dite (ℕ_discrete g o.head.generation) (λ e. omega (arith, lawful.fetched, ap (λ (k : ℕ). u (named k)) e)) (λ ne. omega (arith, names g, o.hit g (omega (arith, some, saws g, other_life of g ne))));
+        hit = λ g some. dite (ℕ_discrete g o.head.generation)
+            (λ e. omega (arith, lawful.fetched, ap (λ (k : ℕ). u (named k)) e))
+            (λ ne. omega (arith, names g, o.hit g (omega (arith, some, saws g, other_life of g ne))));
       }
 
   -- a fetch is allowed where the seat has a worker's part
-  pub fetches : 0 < length m.0.workers → Allows (Kept key) slots id m (3 * c + 9) (λ n. bit_or n (2 ^ fetched_first)) (on_chunk fetched (step slots (3 * c + 9) (2 ^ fetched_first) 0 none) m)
-  fetches has = at_chunk fetched key slots id m c (2 ^ fetched_first) (λ n. bit_or n (2 ^ fetched_first)) near (λ n x t limits o a. (
-    on_worker (fetched_part (life c o.head.generation) o.head) m.0,
-    (λ u moves. fetch_sound has n x t o u moves),
-    (λ b ne. fetch_apart has n x t o b ne),
-    worker_backed (fetched_part (life c o.head.generation) o.head) (λ p. refl) m.0,
-    (refl, (o.head, o.spells, (refl, tells c key.refs_limit n x m.0 t o a))),
-  ))
+  pub may_fetch : 0 < length m.0.workers → Allows (Kept key) slots id m (3 * c + 9)
+      (λ n. bit_or n (2 ^ fetched_first)) (on_chunk fetch_tells (step slots (3 * c + 9) (2 ^ fetched_first) 0 none) m)
+  may_fetch has = at_chunk fetch_tells key slots id m c (2 ^ fetched_first) (λ n. bit_or n (2 ^ fetched_first)) near
+      (λ n x t limits o a. (
+        on_worker (worker_after_fetch (life c o.head.generation) o.head) m.0,
+        (λ u moves. fetch_sound has n x t o u moves),
+        (λ b ne. fetch_apart has n x t o b ne),
+        worker_backed (worker_after_fetch (life c o.head.generation) o.head) (λ p. refl) m.0,
+        (refl, (o.head, o.spells, (refl, tells c key.refs_limit n x m.0 t o a))),
+      ))
 
   -- ACTIVE may be set where the seat's own fetch shows that FETCHED is set
-  pub marks : MayMark c m.0 → Allows (Kept key) slots id m (3 * c + 9) (λ n. bit_or n (2 ^ active_first)) (on_chunk marked (step slots (3 * c + 9) (2 ^ active_first) 0 none) m)
-  marks may = at_chunk marked key slots id m c (2 ^ active_first) (λ n. bit_or n (2 ^ active_first)) near (λ n x t limits o a.
+  pub may_mark : MayMark c m.0 → Allows (Kept key) slots id m (3 * c + 9) (λ n. bit_or n (2 ^ active_first))
+      (on_chunk mark_tells (step slots (3 * c + 9) (2 ^ active_first) 0 none) m)
+  may_mark may = at_chunk mark_tells key slots id m c (2 ^ active_first) (λ n. bit_or n (2 ^ active_first)) near
+      (λ n x t limits o a.
       let l : ItemId = life c o.head.generation in
       let told = tells c key.refs_limit n x m.0 t o a in
-      let set : bit o.head.fetched ≡ 1 = ap bit (told.saw (subst (λ (g : ℕ). 0 < weight c (saw g) m.0) (told.held may.0 may.1) may.2)) in (
-        on_worker (marked_part l o.head) m.0,
-        (λ u moves. same_sound key.refs_limit (bit_or n (2 ^ active_first)) x t u (same_counts c m.0 (on_worker (marked_part l o.head) m.0) t u (quiet_same c (marked_part l o.head) m.0 (marked_quiet c l o.head)) moves) (record {
-          head = active_head o.head;
-          at = o.at;
-          spells = set_active n o.head o.spells tt;
-          lawful = marked_law key.refs_limit o.head o.at (λ g. t (held g)) (λ g. t (named g)) o.lawful true (omega (arith, set));
-          owned = o.owned;
-          agreed = o.agreed;
-          labelled = o.labelled;
-          read = o.read;
-          hit = o.hit;
-        })),
-        (λ b ne. quiet_same b (marked_part l o.head) m.0 (marked_quiet b l o.head)),
-        worker_backed (marked_part l o.head) (λ p. either_way (λ w. w.worker) (not o.head.active && is_cold o.head.segment) l (noted kind.Mark l.chunk (word_of o.head) p) p.worker refl refl) m.0,
+      let set : bit o.head.fetched ≡ 1 =
+      ap bit (told.saw (subst (λ (g : ℕ). 0 < weight c (saw g) m.0) (told.held may.0 may.1) may.2)) in (
+        on_worker (worker_after_mark l o.head) m.0,
+        (λ u moves. same_sound key.refs_limit (bit_or n (2 ^ active_first)) x t u
+            (same_counts c m.0 (on_worker (worker_after_mark l o.head) m.0) t u
+            (quiet_same c (worker_after_mark l o.head) m.0 (mark_quiet c l o.head)) moves) (record {
+              head = active_head o.head;
+              at = o.at;
+              spells = set_active n o.head o.spells tt;
+              lawful = marked_law key.refs_limit o.head o.at (λ g. t (held g)) (λ g. t (named g)) o.lawful true
+                  (omega (arith, set));
+              owned = o.owned;
+              agreed = o.agreed;
+              labelled = o.labelled;
+              read = o.read;
+              hit = o.hit;
+            })),
+        (λ b ne. quiet_same b (worker_after_mark l o.head) m.0 (mark_quiet b l o.head)),
+        worker_backed (worker_after_mark l o.head)
+            (λ p. either_way (λ w. w.worker) (not o.head.active && is_cold o.head.segment) l
+            (noted kind.Mark l.chunk (word_of o.head) p) p.worker refl refl) m.0,
         (refl, (o.head, o.spells, (refl, told))),
       ))
 
   -- it may always be cleared
-  pub unmarks : Allows (Kept key) slots id m (3 * c + 9) (λ n. bit_and n (2 ^ 64 - 1 - 2 ^ active_first)) (on_chunk unmarked (step slots (3 * c + 9) (2 ^ 64 - 1 - 2 ^ active_first) 0 none) m)
-  unmarks = at_chunk unmarked key slots id m c (2 ^ 64 - 1 - 2 ^ active_first) (λ n. bit_and n (2 ^ 64 - 1 - 2 ^ active_first)) near (λ n x t limits o a.
+  pub may_unmark : Allows (Kept key) slots id m (3 * c + 9) (λ n. bit_and n (2 ^ 64 - 1 - 2 ^ active_first))
+      (on_chunk unmark_tells (step slots (3 * c + 9) (2 ^ 64 - 1 - 2 ^ active_first) 0 none) m)
+  may_unmark = at_chunk unmark_tells key slots id m c (2 ^ 64 - 1 - 2 ^ active_first)
+      (λ n. bit_and n (2 ^ 64 - 1 - 2 ^ active_first)) near (λ n x t limits o a.
       let l : ItemId = life c o.head.generation in (
-        on_worker (unmarked_part l o.head) m.0,
-        (λ u moves. same_sound key.refs_limit (bit_and n (2 ^ 64 - 1 - 2 ^ active_first)) x t u (same_counts c m.0 (on_worker (unmarked_part l o.head) m.0) t u (quiet_same c (unmarked_part l o.head) m.0 (unmarked_quiet c l o.head)) moves) (record {
-          head = cleared_head o.head;
-          at = o.at;
-          spells = clear_active n o.head o.spells tt;
-          lawful = marked_law key.refs_limit o.head o.at (λ g. t (held g)) (λ g. t (named g)) o.lawful false (omega arith);
-          owned = o.owned;
-          agreed = o.agreed;
-          labelled = o.labelled;
-          read = o.read;
-          hit = o.hit;
-        })),
-        (λ b ne. quiet_same b (unmarked_part l o.head) m.0 (unmarked_quiet b l o.head)),
-        worker_backed (unmarked_part l o.head) (λ p. refl) m.0,
+        on_worker (worker_after_unmark l o.head) m.0,
+        (λ u moves. same_sound key.refs_limit (bit_and n (2 ^ 64 - 1 - 2 ^ active_first)) x t u
+            (same_counts c m.0 (on_worker (worker_after_unmark l o.head) m.0) t u
+            (quiet_same c (worker_after_unmark l o.head) m.0 (unmark_quiet c l o.head)) moves) (record {
+              head = cleared_head o.head;
+              at = o.at;
+              spells = clear_active n o.head o.spells tt;
+              lawful = marked_law key.refs_limit o.head o.at (λ g. t (held g)) (λ g. t (named g)) o.lawful false
+                  (omega arith);
+              owned = o.owned;
+              agreed = o.agreed;
+              labelled = o.labelled;
+              read = o.read;
+              hit = o.hit;
+            })),
+        (λ b ne. quiet_same b (worker_after_unmark l o.head) m.0 (unmark_quiet b l o.head)),
+        worker_backed (worker_after_unmark l o.head) (λ p. refl) m.0,
         (refl, (o.head, o.spells, (refl, tells c key.refs_limit n x m.0 t o a))),
       ))
 
   -- and the rule says nothing of time words
-  pub sets_time : (now : ℕ) → Allows (Kept key) slots id m (3 * c + 10) (λ _. now) (λ _. timed (step slots (3 * c + 10) now 0 none) m now)
-  sets_time now = subst (λ (d : ℕ). Allows (Kept key) slots id m (3 * c + 10) (λ _. now) (λ _ w. w ≡ (on_worker (timed_part (life d 0) now) m.0, m.1))) (sym (time_chunk_is c))
-      (on_time key slots id m c (λ _. now) (λ _ w. w ≡ (on_worker (timed_part (life c 0) now) m.0, m.1)) near (λ y n x t limits o a. (
-        on_worker (timed_part (life c 0) now) m.0,
-        (λ u moves. same_sound key.refs_limit n x t u (same_counts c m.0 (on_worker (timed_part (life c 0) now) m.0) t u (quiet_same c (timed_part (life c 0) now) m.0 (timed_quiet c (life c 0) now)) moves) o),
-        (λ b ne. quiet_same b (timed_part (life c 0) now) m.0 (timed_quiet b (life c 0) now)),
-        worker_backed (timed_part (life c 0) now) (λ p. refl) m.0,
+  pub may_store_time : (now : ℕ) → Allows (Kept key) slots id m (3 * c + 10) (λ _. now)
+      (λ _. store_time_tells (step slots (3 * c + 10) now 0 none) m now)
+  may_store_time now = subst (λ (d : ℕ). Allows (Kept key) slots id m (3 * c + 10) (λ _. now)
+      (λ _ w. w ≡ (on_worker (worker_after_store_time (life d 0) now) m.0, m.1))) (sym (time_chunk_is c))
+      (on_time key slots id m c (λ _. now) (λ _ w. w ≡ (on_worker (worker_after_store_time (life c 0) now) m.0, m.1))
+      near (λ y n x t limits o a. (
+        on_worker (worker_after_store_time (life c 0) now) m.0,
+        (λ u moves. same_sound key.refs_limit n x t u
+            (same_counts c m.0 (on_worker (worker_after_store_time (life c 0) now) m.0) t u
+            (quiet_same c (worker_after_store_time (life c 0) now) m.0 (store_time_quiet c (life c 0) now)) moves) o),
+        (λ b ne. quiet_same b (worker_after_store_time (life c 0) now) m.0 (store_time_quiet b (life c 0) now)),
+        worker_backed (worker_after_store_time (life c 0) now) (λ p. refl) m.0,
         refl,
       )))

@@ -10,11 +10,11 @@ use Rattle.bump_steps.specs.declared.views.HoldPart.{HoldPart}
 use Rattle.bump_steps.specs.declared.views.ClassPart.{ClassPart}
 use Rattle.bump_steps.specs.declared.views.View.{View}
 use Rattle.bump_rules.specs.Lives.{life, one_if}
-use Rattle.bump_steps.specs.Views.{Measure, held, mislabels, misreads, misread, differs, owns, standing, label_of, weight}
+use Rattle.bump_steps.specs.Views.{Measure, held, mislabels, misreads, misread, differs, owns, standing, last_label, weight}
 use Rattle.bump_steps.specs.Rule.{Sound, chunks, Kept}
 use Rattle.bump_steps.specs.Plays.{Sat, on_chunk, Told, Stands}
 use Rattle.bump_steps.proofs.Told.{tells, stands_alone}
-use Rattle.bump_steps.specs.Meetings.{met, Meets}
+use Rattle.bump_steps.specs.Meetings.{load_to_meet_tells, Meets}
 use Rattle.bump_steps.proofs.Frame.{Amid, on_label, same_sound}
 use Rattle.bump_steps.proofs.StepLemmas.{one_life, label_chunk_is}
 
@@ -26,9 +26,9 @@ equal_where false b o e = absurd (cc o)
 -- where the rule holds, the label word is what both know
 pub met_labels : (c limit n x : ℕ) (v : View) (t : Measure → ℕ) (o : Sound limit n x t) → Amid c v t → Meets c v x
 met_labels c limit n x v t o a k h ks hs mine of = record {
-  label = ap (label_of k) of ∙ eqb-true _ _ (equal_where (owns c k) (eqb (label_of k c) x) mine own);
+  label = ap (last_label k) of ∙ eqb-true _ _ (equal_where (owns c k) (eqb (last_label k c) x) mine own);
   read = sym (one-mul (total (differs x) h.labels)) ∙ ap (λ (j : ℕ). j * total (differs x) h.labels) (sym one) ∙ read;
-  used = subst (λ (d : ℕ). IsUsed (standing k d).0) (sym of) (told.busy g held_here (standing k c) st);
+  used = subst (λ (d : ℕ). IsUsed (standing k d).0) (sym of) (told.in_use g held_here (standing k c) st);
   generation = ap (λ (d : ℕ). (standing k d).1) of ∙ sym (told.stood (standing k c) st).1 ∙ sym gen;
 }
   where
@@ -41,8 +41,13 @@ met_labels c limit n x v t o a k h ks hs mine of = record {
     g : ℕ
     g = h.life.generation
 
-    own : bit (owns c k && not (eqb (label_of k c) x)) ≡ 0
-    own = omega (arith, a.mine (mislabels x), o.labelled, ap (total (λ (k : ClassPart). bit (owns c k && not (eqb (label_of k c) x)))) ks)
+    own : bit (owns c k && not (eqb (last_label k c) x)) ≡ 0
+    own = omega (
+      arith,
+      a.mine (mislabels x),
+      o.labelled,
+      ap (total (λ (k : ClassPart). bit (owns c k && not (eqb (last_label k c) x)))) ks,
+    )
 
     one : one_if (life c h.life.generation) h.life ≡ 1
     one = ap (λ (d : ℕ). one_if (life d h.life.generation) h.life) (sym of) ∙ one_life h.life
@@ -54,14 +59,26 @@ met_labels c limit n x v t o a k h ks hs mine of = record {
     gen = (o.lawful.used h.life.generation (omega (arith, a.mine (held h.life.generation), held_here))).0
 
     read : one_if (life c h.life.generation) h.life * total (differs x) h.labels ≡ 0
-    read = subst (λ (j : ℕ). one_if (life c j) h.life * total (differs x) h.labels ≡ 0) (sym gen) (omega (arith, a.mine (misreads o.head.generation x), o.read, ap (total (misread c o.head.generation x)) hs))
+    read = subst (λ (j : ℕ). one_if (life c j) h.life * total (differs x) h.labels ≡ 0) (sym gen)
+        (omega (arith, a.mine (misreads o.head.generation x), o.read, ap (total (misread c o.head.generation x)) hs))
 
-pub meets : (key : Config) (slots id : ℕ) (m : Sat) (c : ℕ) → c < chunks key → Allows (Kept key) slots id m (3 * c + 11) (λ x. x) (on_chunk met (step slots (3 * c + 11) 0 0 none) m)
-meets key slots id m c near = subst (λ (d : ℕ). Allows (Kept key) slots id m (3 * c + 11) (λ x. x) (λ x n. met d 0 m x n)) (sym (label_chunk_is c))
-    (on_label key slots id m c (λ x. x) (λ x n. met c 0 m x n) near (λ n x t limits o a. (
+pub may_load_to_meet : (key : Config) (slots id : ℕ) (m : Sat) (c : ℕ) → c < chunks key → Allows (Kept key) slots id m
+    (3 * c + 11) (λ x. x) (on_chunk load_to_meet_tells (step slots (3 * c + 11) 0 0 none) m)
+may_load_to_meet key slots id m c near =
+    subst (λ (d : ℕ). Allows (Kept key) slots id m (3 * c + 11) (λ x. x) (λ x n. load_to_meet_tells d 0 m x n))
+    (sym (label_chunk_is c))
+    (on_label key slots id m c (λ x. x) (λ x n. load_to_meet_tells c 0 m x n) near (λ n x t limits o a. (
       m.0,
       (λ u moved. same_sound key.refs_limit n x t u (λ y. let e = moved y in omega arith) o),
       (λ b ne y. refl),
-      record { backs = λ n e. (omega arith, λ more. absurd (omega arith)); even = λ q. omega arith; own = omega arith; labels = λ have. have; workers = λ w. refl; lanes = λ w. refl; tidy = omega arith },
+      record {
+        backs = λ n e. (omega arith, λ more. absurd (omega arith));
+        even = λ q. omega arith;
+        own = omega arith;
+        labels = λ have. have;
+        workers = λ w. refl;
+        lanes = λ w. refl;
+        tidy = omega arith;
+      },
       (refl, met_labels c key.refs_limit n x m.0 t o a),
     )))

@@ -11,7 +11,7 @@ use Rattle.bump_rules.specs.History.{is_standing}
 use Rattle.bump_rules.specs.Entries.{is_move_for, is_unlink_of}
 use Rattle.bump_rules.proofs.Updates.{total_append}
 use Rattle.bump_steps.specs.declared.views.View.{View}
-use Rattle.bump_steps.specs.Views.{Measure, held, named, saw, owners, strays, mislabels, misreads, misread, refers, in_hand, is_fetch_of, aboard_of, owns, standing, label_of, weight, shown_by, claimed_in, settled_in, untidy_in, shows_time_only, of_owner, foreign_in, HaveLabels}
+use Rattle.bump_steps.specs.Views.{Measure, held, named, saw, owners, strays, mislabels, misreads, misread, refers, in_hand, is_fetch_of, bump_aboard, owns, standing, last_label, weight, shown_by, claimed_in, settled_in, untidy_in, shows_time_only, of_owner, foreign_in, HaveLabels}
 use Rattle.bump_steps.specs.Rule.{blank, Kept}
 use Rattle.bump_steps.specs.Cuts.{joined, without_lanes, lanes_only, without_holds, holds_only, without_class, class_only, without_worker, worker_only, without_lane, lane_only}
 use Rattle.bump_steps.specs.Plays.{behind, first_of}
@@ -34,23 +34,42 @@ pub record Parted (v left right : View) : Type 0 where
 module _ (v left right : View) (p : Parted v left right) where
   -- they count the same between them
   pub parted_counts : (c : ℕ) (x : Measure) → AddsUp (weight c x) v left right
-  parted_counts c (held g) = omega (arith, p.holds (λ h. one_if (life c g) h.life), p.riders (λ r. one_if (life c g) r.life), p.workers (λ w. in_hand c g w.hand), p.lanes (λ l. refers c g (aboard_of l.stage)))
+  parted_counts c (held g) =
+      omega (
+        arith,
+        p.holds (λ h. one_if (life c g) h.life),
+        p.riders (λ r. one_if (life c g) r.life),
+        p.workers (λ w. in_hand c g w.hand),
+        p.lanes (λ l. refers c g (bump_aboard l.stage)),
+      )
   parted_counts c (named g) = p.workers (λ w. count_of (life c g) w.hits)
   parted_counts c (saw g) = p.workers (λ w. how_many (is_fetch_of c g) w.steps)
   parted_counts c owners = p.classes (λ k. cond (owns c k) 1 0)
   parted_counts c (strays s) = p.classes (λ k. cond (owns c k && not (is_standing (standing k c) s)) 1 0)
-  parted_counts c (mislabels x) = p.classes (λ k. cond (owns c k && not (eqb (label_of k c) x)) 1 0)
+  parted_counts c (mislabels x) = p.classes (λ k. cond (owns c k && not (eqb (last_label k c) x)) 1 0)
   parted_counts c (misreads g x) = p.holds (misread c g x)
 
   -- they show the same of entries
   pub parted_evidence : (n : ℕ) (a : AppliedBump) (o : Outcome) → AddsUp (shown_by o n a) v left right
-  parted_evidence n a outcome.Moved = p.classes (of_owner a.life.chunk (λ k. how_many (is_move_for (is_same a.life) n a.number) k.history))
+  parted_evidence n a outcome.Moved =
+      p.classes (of_owner a.life.chunk (λ k. how_many (is_move_for (is_same a.life) n a.number) k.history))
   parted_evidence n a outcome.Gone = p.classes (of_owner a.life.chunk (λ k. how_many (is_unlink_of a.life) k.history))
-  parted_evidence n a outcome.TimeOnly = omega (arith, p.classes (of_owner a.life.chunk (λ k. how_many (shows_time_only n a.number a.life.chunk) k.steps)), p.lanes (λ l. how_many (shows_time_only n a.number a.life.chunk) l.steps))
+  parted_evidence n a outcome.TimeOnly =
+      omega (
+        arith,
+        p.classes (of_owner a.life.chunk
+            (λ k. how_many (shows_time_only n a.number a.life.chunk) k.steps)),
+        p.lanes (λ l. how_many (shows_time_only n a.number a.life.chunk) l.steps),
+      )
 
   -- the rule doesn't notice that a view is cut in two
-  pub parts : (key : Config) (id : ℕ) → (HaveLabels v.classes → HaveLabels left.classes × HaveLabels right.classes) → Splits (Kept key) id v left right
-  parts key id labels = splits key id v left right parted_counts (λ n a. (p.lanes (claimed_in n a), parted_evidence n a a.outcome)) (λ q. (p.classes (λ k. how_many (is_move_for q.test q.worker q.number) k.history), p.lanes (settled_in q))) (p.classes foreign_in) labels (λ n. p.workers (λ w. cond (eqb w.worker n) 1 0)) (λ n. p.lanes (λ l. cond (eqb l.worker n) 1 0)) (p.lanes untidy_in)
+  pub parts : (key : Config) (id : ℕ) → (HaveLabels v.classes → HaveLabels left.classes × HaveLabels right.classes)
+      → Splits (Kept key) id v left right
+  parts key id labels = splits key id v left right parted_counts
+      (λ n a. (p.lanes (claimed_in n a), parted_evidence n a a.outcome))
+      (λ q. (p.classes (λ k. how_many (is_move_for q.test q.worker q.number) k.history), p.lanes (settled_in q)))
+      (p.classes foreign_in) labels (λ n. p.workers (λ w. cond (eqb w.worker n) 1 0))
+      (λ n. p.lanes (λ l. cond (eqb l.worker n) 1 0)) (p.lanes untidy_in)
 
 -- nothing but a list's own elements, and nothing
 here : {A : Type 0} (xs : List A) → Shared xs xs []
@@ -64,26 +83,72 @@ split_first : {A : Type 0} (xs : List A) → Shared xs (behind xs) (first_of xs)
 split_first xs f = cut f xs
 
 pub lanes_split : (key : Config) (id : ℕ) (v : View) → Splits (Kept key) id v (without_lanes v) (lanes_only v)
-lanes_split key id v = parts v (without_lanes v) (lanes_only v) (record { workers = here v.workers; holds = here v.holds; riders = here v.riders; classes = here v.classes; lanes = there v.lanes }) key id (λ have. (have, tt))
+lanes_split key id v = parts v (without_lanes v) (lanes_only v)
+    (record {
+      workers = here v.workers;
+      holds = here v.holds;
+      riders = here v.riders;
+      classes = here v.classes;
+      lanes = there v.lanes;
+    }) key id (λ have. (have, tt))
 
 pub holds_split : (key : Config) (id : ℕ) (v : View) → Splits (Kept key) id v (without_holds v) (holds_only v)
-holds_split key id v = parts v (without_holds v) (holds_only v) (record { workers = here v.workers; holds = there v.holds; riders = here v.riders; classes = here v.classes; lanes = here v.lanes }) key id (λ have. (have, tt))
+holds_split key id v = parts v (without_holds v) (holds_only v)
+    (record {
+      workers = here v.workers;
+      holds = there v.holds;
+      riders = here v.riders;
+      classes = here v.classes;
+      lanes = here v.lanes;
+    }) key id (λ have. (have, tt))
 
 pub class_split : (key : Config) (id : ℕ) (v : View) → Splits (Kept key) id v (without_class v) (class_only v)
-class_split key id v = parts v (without_class v) (class_only v) (record { workers = here v.workers; holds = here v.holds; riders = here v.riders; classes = split_first v.classes; lanes = here v.lanes }) key id (have_cut v.classes)
+class_split key id v = parts v (without_class v) (class_only v)
+    (record {
+      workers = here v.workers;
+      holds = here v.holds;
+      riders = here v.riders;
+      classes = split_first v.classes;
+      lanes = here v.lanes;
+    }) key id (have_cut v.classes)
 
 pub worker_split : (key : Config) (id : ℕ) (v : View) → Splits (Kept key) id v (without_worker v) (worker_only v)
-worker_split key id v = parts v (without_worker v) (worker_only v) (record { workers = split_first v.workers; holds = here v.holds; riders = here v.riders; classes = here v.classes; lanes = here v.lanes }) key id (λ have. (have, tt))
+worker_split key id v = parts v (without_worker v) (worker_only v)
+    (record {
+      workers = split_first v.workers;
+      holds = here v.holds;
+      riders = here v.riders;
+      classes = here v.classes;
+      lanes = here v.lanes;
+    }) key id (λ have. (have, tt))
 
 pub lane_split : (key : Config) (id : ℕ) (v : View) → Splits (Kept key) id v (without_lane v) (lane_only v)
-lane_split key id v = parts v (without_lane v) (lane_only v) (record { workers = here v.workers; holds = here v.holds; riders = here v.riders; classes = here v.classes; lanes = split_first v.lanes }) key id (λ have. (have, tt))
+lane_split key id v = parts v (without_lane v) (lane_only v)
+    (record {
+      workers = here v.workers;
+      holds = here v.holds;
+      riders = here v.riders;
+      classes = here v.classes;
+      lanes = split_first v.lanes;
+    }) key id (λ have. (have, tt))
 
 -- the rule doesn't notice that two views are put together
-pub both_join : (key : Config) (id : ℕ) (v : View) (other : ℕ) (w : View) → Joins (Kept key) id v other w (joined v w) blank
+pub both_join : (key : Config) (id : ℕ) (v : View) (other : ℕ) (w : View) → Joins (Kept key) id v other w (joined v w)
+    blank
 both_join key id v other w = joins key id v other w (joined v w) blank
     (λ c x. omega (arith, counts c x, nothing c x))
-    (λ n a. (omega (arith, total_append (claimed_in n a) v.lanes w.lanes), omega (arith, shows n a a.outcome, shows_nothing n a a.outcome)))
-    (λ q. (omega (arith, total_append (λ k. how_many (is_move_for q.test q.worker q.number) k.history) v.classes w.classes), omega (arith, total_append (settled_in q) v.lanes w.lanes)))
+    (λ n a. (
+      omega (arith, total_append (claimed_in n a) v.lanes w.lanes),
+      omega (arith, shows n a a.outcome, shows_nothing n a a.outcome),
+    ))
+    (λ q. (
+      omega (
+        arith,
+        total_append (λ k. how_many (is_move_for q.test q.worker q.number) k.history) v.classes
+            w.classes,
+      ),
+      omega (arith, total_append (settled_in q) v.lanes w.lanes),
+    ))
     (omega (arith, total_append foreign_in v.classes w.classes))
     (λ mine theirs. (have_both v.classes w.classes mine theirs, tt))
     (λ n. omega (arith, total_append (λ p. cond (eqb p.worker n) 1 0) v.workers w.workers))
@@ -94,7 +159,14 @@ both_join key id v other w = joins key id v other w (joined v w) blank
     both xs ys f = sym (total_append f xs ys)
 
     together : Parted (joined v w) v w
-    together = record { workers = both v.workers w.workers; holds = both v.holds w.holds; riders = both v.riders w.riders; classes = both v.classes w.classes; lanes = both v.lanes w.lanes }
+    together = record {
+      workers = both v.workers w.workers;
+      holds = both v.holds w.holds;
+      riders =
+          both v.riders w.riders;
+      classes = both v.classes w.classes;
+      lanes = both v.lanes w.lanes;
+    }
 
     counts : (c : ℕ) (x : Measure) → AddsUp (weight c x) (joined v w) v w
     counts = parted_counts (joined v w) v w together

@@ -13,7 +13,7 @@ use Rattle.bump_steps.specs.declared.views.View.{View}
 use Rattle.bump_rules.specs.Entries.{is_moved, is_told_moved, moving}
 use Rattle.bump_rules.specs.Totals.{how_many}
 use Rattle.bump_rules.proofs.Updates.{total_below}
-use Rattle.bump_steps.specs.Views.{aboard_of, Query, settled_in, settled, lanes_of, in_order, untidy_in, untidy}
+use Rattle.bump_steps.specs.Views.{bump_aboard, Query, settled_in, settled, lanes_of, in_order, untidy_in, untidy}
 use Rattle.bump_steps.specs.Plays.{every}
 use Rattle.bump_steps.specs.Rule.{blank}
 use Rattle.bump_steps.proofs.Sums.{total-set, none_where_none}
@@ -36,18 +36,27 @@ next : ℕ → Option Bump → ℕ
 next n None = 0
 next n (Some b) = cond (b.number == n) 1 0
 
-none_before : (n i : ℕ) (es : List AppliedBump) (o : Option Bump) → n < i → in_order i es o ≡ true → total (numbered n) es + next n o ≡ 0
+none_before : (n i : ℕ) (es : List AppliedBump) (o : Option Bump) → n < i → in_order i es o ≡ true
+    → total (numbered n) es + next n o ≡ 0
 unfolding numbered next
 none_before n i [] None h e = refl
-none_before n i [] (Some b) h e = let is = eqb-true b.number i e in omega (arith, ap {B = ℕ} (λ (x : Bool). cond x 1 0) (ne_eqb b.number n (λ z. omega (arith, h, is, z))))
-none_before n i (x ∷ xs) o h e = let t = and_both _ _ e in let is = eqb-true x.number i t.0 in omega (arith, ap {B = ℕ} (λ (y : Bool). cond y 1 0) (ne_eqb x.number n (λ z. omega (arith, h, is, z))), none_before n (i + 1) xs o (omega arith) t.1)
+none_before n i [] (Some b) h e = let is = eqb-true b.number i e in
+    omega (arith, ap {B = ℕ} (λ (x : Bool). cond x 1 0) (ne_eqb b.number n (λ z. omega (arith, h, is, z))))
+none_before n i (x ∷ xs) o h e = let t = and_both _ _ e in let is = eqb-true x.number i t.0 in
+    omega (
+      arith,
+      ap {B = ℕ} (λ (y : Bool). cond y 1 0) (ne_eqb x.number n (λ z. omega (arith, h, is, z))),
+      none_before n (i + 1) xs o (omega arith) t.1,
+    )
 
-once_in : (n i : ℕ) (es : List AppliedBump) (o : Option Bump) → in_order i es o ≡ true → total (numbered n) es + next n o ≤ 1
+once_in : (n i : ℕ) (es : List AppliedBump) (o : Option Bump) → in_order i es o ≡ true
+    → total (numbered n) es + next n o ≤ 1
 unfolding numbered next
 once_in n i [] None e = omega arith
 once_in n i [] (Some b) e = omega (arith, bit_le (b.number == n))
 once_in n i (x ∷ xs) o e = let t = and_both _ _ e in let is = eqb-true x.number i t.0 in
-    dite (ℕ_discrete x.number n) (λ z. omega (arith, bit_le (x.number == n), none_before n (i + 1) xs o (omega (arith, is, z)) t.1))
+    dite (ℕ_discrete x.number n)
+    (λ z. omega (arith, bit_le (x.number == n), none_before n (i + 1) xs o (omega (arith, is, z)) t.1))
     (λ ne. omega (arith, ap {B = ℕ} (λ (y : Bool). cond y 1 0) (ne_eqb x.number n ne), once_in n (i + 1) xs o t.1))
 
 moved_le : (n : ℕ) (a : AppliedBump) → cond (is_told_moved (λ l. true) n a) 1 0 ≤ numbered n a
@@ -59,7 +68,7 @@ moved_le n a = by (is_moved a.outcome) (a.number == n)
     by true false = omega arith
     by false x = omega arith
 
-moving_le : (n : ℕ) (s : Lane) → moving (λ l. true) n s ≤ next n (aboard_of s)
+moving_le : (n : ℕ) (s : Lane) → moving (λ l. true) n s ≤ next n (bump_aboard s)
 unfolding next
 moving_le n lane.Empty = omega arith
 moving_le n (lane.Carrying b) = omega arith
@@ -78,29 +87,46 @@ settled_le w n l e = by (l.worker == w)
     tidy true z = refl
     tidy false z = absurd (omega (arith, z))
 
-    by : (mine : Bool) → cond mine (how_many (is_told_moved (λ l. true) n) l.applied + moving (λ l. true) n l.stage) 0 ≤ cond mine 1 0
-    by true = omega (arith, total_below (λ a. cond (is_told_moved (λ l. true) n a) 1 0) (numbered n) (moved_le n) l.applied, moving_le n l.stage, once_in n 0 l.applied (aboard_of l.stage) (tidy (in_order 0 l.applied (aboard_of l.stage)) e))
+    by : (mine : Bool) → cond mine (how_many (is_told_moved (λ l. true) n) l.applied + moving (λ l. true) n l.stage) 0
+        ≤ cond mine 1 0
+    by true = omega (
+      arith,
+      total_below (λ a. cond (is_told_moved (λ l. true) n a) 1 0) (numbered n) (moved_le n)
+          l.applied,
+      moving_le n l.stage,
+      once_in n 0 l.applied (bump_aboard l.stage)
+          (tidy (in_order 0 l.applied (bump_aboard l.stage)) e),
+    )
     by false = omega arith
 
-total_where : {A : Type 0} (f g h : A → ℕ) → ((x : A) → h x ≡ 0 → f x ≤ g x) → (l : List A) → total h l ≡ 0 → total f l ≤ total g l
+total_where : {A : Type 0} (f g h : A → ℕ) → ((x : A) → h x ≡ 0 → f x ≤ g x) → (l : List A) → total h l ≡ 0
+    → total f l ≤ total g l
 total_where f g h e [] z = omega arith
 total_where f g h e (x ∷ xs) z = omega (arith, e x (omega (arith, z)), total_where f g h e xs (omega (arith, z)))
 
-pub settled_once : (w n : ℕ) (views : List View) → total untidy views ≡ 0 → total (settled (every w n)) views ≤ total (lanes_of w) views
-settled_once w n views z = total_where (settled (every w n)) (lanes_of w) untidy (λ v e. total_where (settled_in (every w n)) (λ l. cond (l.worker == w) 1 0) untidy_in (settled_le w n) v.lanes e) views z
+pub settled_once : (w n : ℕ) (views : List View) → total untidy views ≡ 0 → total (settled (every w n)) views ≤ total
+    (lanes_of w) views
+settled_once w n views z = total_where (settled (every w n)) (lanes_of w) untidy
+    (λ v e. total_where (settled_in (every w n)) (λ l. cond (l.worker == w) 1 0) untidy_in (settled_le w n) v.lanes e)
+    views z
 
 -- lanes of other workers tell of none of this worker's moves
-settled_none : (q : Query) (ls : List LanePart) → total (λ l. cond (l.worker == q.worker) 1 0) ls ≡ 0 → total (settled_in q) ls ≡ 0
-settled_none q ls none = none_where_none (λ l. cond (l.worker == q.worker) 1 0) (settled_in q) (λ l e. by (l.worker == q.worker) e (how_many (is_told_moved q.test q.number) l.applied + moving q.test q.number l.stage)) ls none
+settled_none : (q : Query) (ls : List LanePart) → total (λ l. cond (l.worker == q.worker) 1 0) ls ≡ 0
+    → total (settled_in q) ls ≡ 0
+settled_none q ls none = none_where_none (λ l. cond (l.worker == q.worker) 1 0) (settled_in q)
+    (λ l e. by (l.worker == q.worker) e (how_many (is_told_moved q.test q.number) l.applied + moving q.test q.number
+    l.stage)) ls none
   where
     by : (mine : Bool) → ◌≡◌ {A = ℕ} (cond mine 1 0) 0 → (n : ℕ) → ◌≡◌ {A = ℕ} (cond mine n 0) 0
     by true e n = absurd (omega (arith, e))
     by false e n = refl
 
 -- the view that has the worker's lane tells of all moves of its bumps
-pub settled_here : (q : Query) (views : List View) (i : ℕ) (v : View) → get_elem? views i ≡ some v → total (lanes_of q.worker) views ≤ 1 → 0 < lanes_of q.worker v → total (settled q) views ≡ settled q v
+pub settled_here : (q : Query) (views : List View) (i : ℕ) (v : View) → get_elem? views i ≡ some v
+    → total (lanes_of q.worker) views ≤ 1 → 0 < lanes_of q.worker v → total (settled q) views ≡ settled q v
 settled_here q views i v me one mine = omega (
   arith,
   total-set (settled q) views i v blank me,
-  none_where_none (lanes_of q.worker) (settled q) (λ w e. settled_none q w.lanes e) (set views i blank) (omega (arith, total-set (lanes_of q.worker) views i v blank me, one, mine)),
+  none_where_none (lanes_of q.worker) (settled q) (λ w e. settled_none q w.lanes e) (set views i blank)
+      (omega (arith, total-set (lanes_of q.worker) views i v blank me, one, mine)),
 )

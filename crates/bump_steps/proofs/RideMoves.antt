@@ -21,33 +21,46 @@ use Rattle.bump_steps.proofs.Frame.{AddsUp, splits, joins}
 use Rattle.bump_steps.proofs.StepLemmas.{on_first_total}
 
 -- what leaves the hand travels
-hand_parts : (c g : ℕ) (w : WorkerPart) (s : Hand) → in_hand c g (sent_hand s) + total (λ r. one_if (life c g) r.life) (rides_by w s) ≡ in_hand c g s
+hand_parts : (c g : ℕ) (w : WorkerPart) (s : Hand) → in_hand c g (sent_hand s) + total (λ r. one_if (life c g) r.life)
+    (rides_by w s) ≡ in_hand c g s
 hand_parts c g w hand.Idle = refl
 hand_parts c g w (hand.Trying l) = refl
 hand_parts c g w (hand.InHand l) = omega arith
 hand_parts c g w (hand.Clearing l) = refl
 
-workers_part : (c g : ℕ) (ws : List WorkerPart) → total (λ w. in_hand c g w.hand) (on_first sent ws) + total (λ r. one_if (life c g) r.life) (rides_in ws) ≡ total (λ w. in_hand c g w.hand) ws
+workers_part : (c g : ℕ) (ws : List WorkerPart) → total (λ w. in_hand c g w.hand) (on_first sent ws) + total
+    (λ r. one_if (life c g) r.life) (rides_in ws) ≡ total (λ w. in_hand c g w.hand) ws
 workers_part c g [] = refl
 workers_part c g (w ∷ ws) = omega (arith, hand_parts c g w w.hand)
 
 parted : (v : View) (c : ℕ) (x : Measure) → AddsUp (weight c x) v (without_ride v) (ride_only v)
 parted v c (held g) = omega (arith, workers_part c g v.workers)
 parted v c (named g) = omega (arith, on_first_total (λ w. count_of (life c g) w.hits) sent (λ w. refl) v.workers)
-parted v c (saw g) = omega (arith, on_first_total (λ w. how_many (is_fetch_of c g) w.steps) sent (λ w. refl) v.workers)
+parted v c (saw g) = omega (
+  arith,
+  on_first_total (λ w. how_many (is_fetch_of c g) w.steps) sent (λ w. refl)
+      v.workers,
+)
 parted v c owners = omega arith
 parted v c (strays s) = omega arith
 parted v c (mislabels y) = omega arith
 parted v c (misreads g y) = omega arith
 
-parted_evidence : (v : View) (n : ℕ) (a : AppliedBump) (o : Outcome) → AddsUp (shown_by o n a) v (without_ride v) (ride_only v)
+parted_evidence : (v : View) (n : ℕ) (a : AppliedBump) (o : Outcome) → AddsUp (shown_by o n a) v (without_ride v)
+    (ride_only v)
 parted_evidence v n a outcome.Moved = omega arith
 parted_evidence v n a outcome.Gone = omega arith
 parted_evidence v n a outcome.TimeOnly = omega arith
 
 -- the rule doesn't notice that a bump is sent off
 pub ride_splits : (key : Config) (id : ℕ) (v : View) → Splits (Kept key) id v (without_ride v) (ride_only v)
-ride_splits key id v = splits key id v (without_ride v) (ride_only v) (parted v) (λ n a. (omega arith, parted_evidence v n a a.outcome)) (λ q. (omega arith, omega arith)) (omega arith) (λ have. (have, tt)) (λ n. omega (arith, on_first_total (λ w. cond (w.worker == n) 1 0) sent (λ w. refl) v.workers)) (λ n. omega arith) (omega arith)
+ride_splits key id v = splits key id v (without_ride v) (ride_only v) (parted v)
+    (λ n a. (omega arith, parted_evidence v n a a.outcome)) (λ q. (omega arith, omega arith)) (omega arith)
+    (λ have. (have, tt)) (λ n. omega (
+      arith,
+      on_first_total (λ w. cond (w.worker == n) 1 0) sent (λ w. refl)
+          v.workers,
+    )) (λ n. omega arith) (omega arith)
 
 module _ (p : WorkerPart) (h : HoldPart) (r : Ride) where
   abbrev pub idle : View
@@ -56,7 +69,8 @@ module _ (p : WorkerPart) (h : HoldPart) (r : Ride) where
   abbrev pub travels : View
   travels = record blank { riders = r ∷ [] }
 
-  even : (c : ℕ) (x : Measure) → weight c x (return_both idle travels) + weight c x blank ≡ weight c x idle + weight c x travels
+  even : (c : ℕ) (x : Measure) → weight c x (return_both idle travels) + weight c x blank ≡ weight c x idle + weight c
+      x travels
   even c (held g) = omega arith
   even c (named g) = refl
   even c (saw g) = refl
@@ -65,11 +79,15 @@ module _ (p : WorkerPart) (h : HoldPart) (r : Ride) where
   even c (mislabels y) = refl
   even c (misreads g y) = omega arith
 
-  same_evidence : (n : ℕ) (a : AppliedBump) (o : Outcome) → shown_by o n a (return_both idle travels) + shown_by o n a blank ≡ shown_by o n a idle + shown_by o n a travels
+  same_evidence : (n : ℕ) (a : AppliedBump) (o : Outcome) → shown_by o n a (return_both idle travels) + shown_by o n a
+      blank ≡ shown_by o n a idle + shown_by o n a travels
   same_evidence n a outcome.Moved = refl
   same_evidence n a outcome.Gone = refl
   same_evidence n a outcome.TimeOnly = refl
 
   -- nor that one comes back
-  pub ride_joins : (key : Config) (id other : ℕ) → Joins (Kept key) id idle other travels (return_both idle travels) blank
-  ride_joins key id other = joins key id idle other travels (return_both idle travels) blank even (λ n a. (refl, same_evidence n a a.outcome)) (λ q. (refl, refl)) refl (λ have more. (tt, tt)) (λ n. refl) (λ n. refl) refl
+  pub ride_joins : (key : Config) (id other : ℕ) → Joins (Kept key) id idle other travels (return_both idle travels)
+      blank
+  ride_joins key id other = joins key id idle other travels (return_both idle travels) blank even
+      (λ n a. (refl, same_evidence n a a.outcome)) (λ q. (refl, refl)) refl (λ have more. (tt, tt)) (λ n. refl)
+      (λ n. refl) refl

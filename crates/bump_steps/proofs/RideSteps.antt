@@ -12,7 +12,9 @@ use Rattle.bump_rules.specs.declared.bumps.Outcome.{Outcome}
 use Rattle.bump_rules.specs.declared.bumps.Outcome.TheVariants as outcome
 use Rattle.bump_rules.specs.declared.hands.Hand.{Hand}
 use Rattle.bump_rules.specs.declared.hands.Hand.TheVariants as hand
+use Rattle.bump_rules.specs.declared.commands.Dropped.{Dropped}
 use Rattle.bump_rules.specs.Lawful.{Lawful}
+use Rattle.bump_rules.specs.Tables.{refused_of}
 use Rattle.bump_rules.specs.Totals.{how_many}
 use Rattle.bump_rules.proofs.Laws.{referred, unreferred}
 use Rattle.bump_rules.proofs.Updates.{total_push}
@@ -26,16 +28,15 @@ use Rattle.bump_steps.specs.declared.views.OwnStep.{OwnStep}
 use Rattle.bump_steps.specs.declared.views.WorkerPart.{WorkerPart}
 use Rattle.bump_steps.specs.declared.views.HoldPart.{HoldPart}
 use Rattle.bump_steps.specs.declared.views.View.{View}
-use Rattle.bump_steps.specs.declared.refusals.RideRefusal.{RideRefusal}
 use Rattle.bump_steps.specs.Views.{Measure, held, named, saw, owners, strays, mislabels, misreads, weight, in_hand, is_fetch, is_fetch_of, shown_by, IsBacked}
 use Rattle.bump_steps.specs.Rule.{Sound, chunks, Kept, HasFittingLimit}
 use Rattle.bump_steps.specs.Plays.{Sat, step_of}
-use Rattle.bump_steps.specs.Rides.{touching, judged_hand, counted_drop, refusal, IsHeld, looked, took, rode, gave_back, IsOn, HasRoom}
+use Rattle.bump_steps.specs.Rides.{touching, judged_hand, counted_drop, IsOfHeld, load_to_ride_tells, reserve_tells, try_to_ride_tells, release_tells, IsOn, HasRoom}
 use Rattle.bump_steps.proofs.Frame.{Same, Amid, Reaches, on_head, same_sound}
 use Rattle.bump_steps.proofs.StepLemmas.{level, one_life, other_life, other_chunk, same_counts}
 
 -- a worker that tries, or is to clear ACTIVE, has no reference in its hand
-none_in_hand : (o : Option RideRefusal) (l : ItemId) (b k : ℕ) → in_hand b k (judged_hand o l) ≡ 0
+none_in_hand : (o : Option Dropped) (l : ItemId) (b k : ℕ) → in_hand b k (judged_hand o l) ≡ 0
 none_in_hand None l b k = refl
 none_in_hand (Some r) l b k = refl
 
@@ -53,10 +54,15 @@ module _ (p : WorkerPart) (q : HoldPart) (l : ItemId) where
 
     -- such a step adds no fetch
     same_saw : (b k : ℕ) → how_many (is_fetch_of b k) (p.steps ++ x ∷ []) ≡ how_many (is_fetch_of b k) p.steps
-    same_saw b k = omega (arith, total_push (λ y. cond (is_fetch_of b k y) 1 0) p.steps x, ap {B = ℕ} (λ (f : Bool). cond (f && ((x.chunk == b) && (x.word / 2 ^ generation_first == k))) 1 0) plain)
+    same_saw b k = omega (
+      arith,
+      total_push (λ y. cond (is_fetch_of b k y) 1 0) p.steps x,
+      ap {B = ℕ} (λ (f : Bool). cond (f && ((x.chunk == b) && (x.word / 2 ^ generation_first == k))) 1 0) plain,
+    )
 
     -- another chunk counts as before
-    elsewhere : (b : ℕ) → ((k : ℕ) → in_hand b k z ≡ in_hand b k s) → Same b (with_hold s p.accounts p.steps) (with_hold z a (p.steps ++ x ∷ []))
+    elsewhere : (b : ℕ) → ((k : ℕ) → in_hand b k z ≡ in_hand b k s) → Same b (with_hold s p.accounts p.steps)
+        (with_hold z a (p.steps ++ x ∷ []))
     elsewhere b same (held k) = omega (arith, same k)
     elsewhere b same (named k) = refl
     elsewhere b same (saw k) = omega (arith, same_saw b k)
@@ -67,94 +73,147 @@ module _ (p : WorkerPart) (q : HoldPart) (l : ItemId) where
 
     -- a worker's step shows nothing of applied bumps
     quiet : IsBacked (with_hold s p.accounts p.steps) (with_hold z a (p.steps ++ x ∷ []))
-    quiet = record { backs = λ w e. (by w e e.outcome, λ more. absurd (omega arith)); even = λ y. omega arith; own = omega arith; labels = λ have. have; workers = λ w. refl; lanes = λ w. refl; tidy = omega arith }
+    quiet = record {
+      backs = λ w e. (by w e e.outcome, λ more. absurd (omega arith));
+      even = λ y. omega arith;
+      own =
+          omega arith;
+      labels = λ have. have;
+      workers = λ w. refl;
+      lanes = λ w. refl;
+      tidy = omega arith;
+    }
       where
-        by : (w : ℕ) (e : AppliedBump) (o : Outcome) → shown_by o w e (with_hold s p.accounts p.steps) ≤ shown_by o w e (with_hold z a (p.steps ++ x ∷ []))
+        by : (w : ℕ) (e : AppliedBump) (o : Outcome) → shown_by o w e (with_hold s p.accounts p.steps) ≤ shown_by o w
+            e (with_hold z a (p.steps ++ x ∷ []))
         by w e outcome.Moved = omega arith
         by w e outcome.Gone = omega arith
         by w e outcome.TimeOnly = omega arith
 
     -- the chunk stays sound where its head's count goes with its references
-    refs_sound : (limit n m y : ℕ) (t u : Measure → ℕ) → ((g : Measure) → u g + weight l.chunk g (with_hold s p.accounts p.steps) ≡ t g + weight l.chunk g (with_hold z a (p.steps ++ x ∷ []))) → (o : Sound limit n y t) → (r : ℕ) → Spells m (record o.head { refs = r })
+    refs_sound : (limit n m y : ℕ) (t u : Measure → ℕ)
+        → ((g : Measure) → u g + weight l.chunk g (with_hold s p.accounts p.steps) ≡ t g + weight l.chunk g
+        (with_hold z a (p.steps ++ x ∷ []))) → (o : Sound limit n y t) → (r : ℕ)
+        → Spells m (record o.head { refs = r })
         → Lawful limit (record o.head { refs = r }) o.at (λ g. u (held g)) (λ g. t (named g)) → Sound limit m y u
     refs_sound limit n m y t u moves o r spells lawful = record {
       head = record o.head { refs = r };
       at = o.at;
       spells = spells;
-      lawful = subst (λ (f : ℕ → ℕ). Lawful limit (record o.head { refs = r }) o.at (λ j. u (held j)) f) (λ i j. level (t (named j)) (u (named j)) (weight l.chunk (named j) (with_hold s p.accounts p.steps)) (moves (named j)) i) lawful;
+      lawful = subst (λ (f : ℕ → ℕ). Lawful limit (record o.head { refs = r }) o.at (λ j. u (held j)) f)
+          (λ i j. level (t (named j)) (u (named j)) (weight l.chunk (named j) (with_hold s p.accounts p.steps))
+          (moves (named j)) i) lawful;
       owned = omega (arith, moves owners, o.owned);
       agreed = omega (arith, moves (strays (o.at, o.head.generation)), o.agreed);
       labelled = omega (arith, moves (mislabels y), o.labelled);
       read = omega (arith, moves (misreads o.head.generation y), o.read);
-      hit = λ j some. omega (arith, moves (named j), o.hit j (omega (arith, some, moves (saw j), same_saw l.chunk j)));
+      hit = λ j some. omega (
+        arith,
+        moves (named j),
+        o.hit j (omega (arith, some, moves (saw j), same_saw l.chunk j)),
+      );
     }
 
-module _ (key : Config) (slots id : ℕ) (p : WorkerPart) (q : HoldPart) (l : ItemId) (near : l.chunk < chunks key) (sl : List (ℕ × Empty)) where
+module _ (key : Config) (slots id : ℕ) (p : WorkerPart) (q : HoldPart) (l : ItemId) (near : l.chunk < chunks key)
+    (sl : List (ℕ × Empty)) where
   -- the seat of a worker with this in its hand, and its hold
   abbrev pub seat_with : Hand → Sat
   seat_with s = (with_hold p q l s p.accounts p.steps, sl)
 
   -- the hold's life is the chunk's, and has a reference
-  held_here : (s : Hand) (n y : ℕ) (t : Measure → ℕ) (o : Sound key.refs_limit n y t) → Amid l.chunk (seat_with s).0 t → IsHeld key.refs_limit l o.head
+  held_here : (s : Hand) (n y : ℕ) (t : Measure → ℕ) (o : Sound key.refs_limit n y t) → Amid l.chunk (seat_with s).0 t
+      → IsOfHeld key.refs_limit l o.head
   held_here s n y t o a =
       let mine : 0 < t (held l.generation) = omega (arith, a.mine (held l.generation), one_life l) in
       let gen : l.generation ≡ o.head.generation = (o.lawful.used l.generation mine).0 in
       (sym gen, omega (arith, o.lawful.counted, ap (λ (j : ℕ). t (held j)) gen, mine), o.lawful.within)
 
   -- a load, or an exchange that failed: the attempt ends here or goes on
-  look_reaches : (failed n y : ℕ) (t : Measure → ℕ) (o : Sound key.refs_limit n y t) → Amid l.chunk (seat_with (hand.Trying l)).0 t → Reaches key l.chunk (seat_with (hand.Trying l)) (looked key.refs_limit failed l (seat_with (hand.Trying l)) n) n y t
-  look_reaches failed n y t o a = let why : Option RideRefusal = refusal key.refs_limit failed o.head in
+  load_reaches : (failed n y : ℕ) (t : Measure → ℕ) (o : Sound key.refs_limit n y t)
+      → Amid l.chunk (seat_with (hand.Trying l)).0 t → Reaches key l.chunk (seat_with (hand.Trying l))
+      (load_to_ride_tells key.refs_limit failed l (seat_with (hand.Trying l)) n) n y t
+  load_reaches failed n y t o a = let why : Option Dropped = refused_of key.refs_limit failed o.head in
       let x : OwnStep = step_of kind.Load l.chunk (word_of o.head) None in
       let next : (b k : ℕ) → in_hand b k (judged_hand why l) ≡ 0 = none_in_hand why l in (
         with_hold p q l (judged_hand why l) (counted_drop why p.accounts) (p.steps ++ x ∷ []),
-        (λ u moves. same_sound key.refs_limit n y t u (same_counts l.chunk (seat_with (hand.Trying l)).0 (with_hold p q l (judged_hand why l) (counted_drop why p.accounts) (p.steps ++ x ∷ [])) t u (elsewhere p q l (hand.Trying l) (judged_hand why l) (counted_drop why p.accounts) x refl l.chunk (next l.chunk)) moves) o),
+        (λ u moves. same_sound key.refs_limit n y t u
+            (same_counts l.chunk (seat_with (hand.Trying l)).0
+            (with_hold p q l (judged_hand why l) (counted_drop why p.accounts) (p.steps ++ x ∷ [])) t u
+            (elsewhere p q l (hand.Trying l) (judged_hand why l) (counted_drop why p.accounts) x refl l.chunk
+            (next l.chunk)) moves) o),
         (λ b ne. elsewhere p q l (hand.Trying l) (judged_hand why l) (counted_drop why p.accounts) x refl b (next b)),
         quiet p q l (hand.Trying l) (judged_hand why l) (counted_drop why p.accounts) x refl,
         (o.head, o.spells, held_here (hand.Trying l) n y t o a, refl),
       )
 
-  looks : (failed : ℕ) → Allows (Kept key) slots id (seat_with (hand.Trying l)) (3 * l.chunk + 9) (λ n. n) (looked key.refs_limit failed l (seat_with (hand.Trying l)))
-  looks failed = on_head key slots id (seat_with (hand.Trying l)) l.chunk (λ n. n) (looked key.refs_limit failed l (seat_with (hand.Trying l))) near (λ n y t limits o a. look_reaches failed n y t o a)
+  loads_to_ride : (failed : ℕ) → Allows (Kept key) slots id (seat_with (hand.Trying l)) (3 * l.chunk + 9) (λ n. n)
+      (load_to_ride_tells key.refs_limit failed l (seat_with (hand.Trying l)))
+  loads_to_ride failed = on_head key slots id (seat_with (hand.Trying l)) l.chunk (λ n. n)
+      (load_to_ride_tells key.refs_limit failed l (seat_with (hand.Trying l))) near
+      (λ n y t limits o a. load_reaches failed n y t o a)
 
   -- an exchange that found the word that it expects
-  take_reaches : (old : ℕ) → HasRoom key.refs_limit old → (n y : ℕ) (t : Measure → ℕ) → HasFittingLimit key → (o : Sound key.refs_limit n y t) → Amid l.chunk (seat_with (hand.Trying l)).0 t → n ≡ old
-      → Reaches key l.chunk (seat_with (hand.Trying l)) (took key.refs_limit l (seat_with (hand.Trying l)) n) (old + 1) y t
-  take_reaches old room n y t limits o a hit =
+  reserve_reaches : (old : ℕ) → HasRoom key.refs_limit old → (n y : ℕ) (t : Measure → ℕ) → HasFittingLimit key
+      → (o : Sound key.refs_limit n y t) → Amid l.chunk (seat_with (hand.Trying l)).0 t → n ≡ old
+      → Reaches key l.chunk (seat_with (hand.Trying l)) (reserve_tells key.refs_limit l (seat_with (hand.Trying l)) n)
+      (old + 1) y t
+  reserve_reaches old room n y t limits o a hit =
       let x : OwnStep = step_of kind.Reserve l.chunk (word_of o.head) None in
-      let is : IsHeld key.refs_limit l o.head = held_here (hand.Trying l) n y t o a in
+      let is : IsOfHeld key.refs_limit l o.head = held_here (hand.Trying l) n y t o a in
       let now : o.head ≡ room.0 = one_head n o.head room.0 o.spells (hit ∙ room.1.0, room.1.1) in
       let less : o.head.refs < key.refs_limit = omega (arith, ap (λ (h : Head). h.refs) now, room.2) in
       let used = (o.lawful.used l.generation (omega (arith, a.mine (held l.generation), one_life l))).1 in (
         with_hold p q l (hand.InHand l) p.accounts (p.steps ++ x ∷ []),
-        (λ u moves. refs_sound p q l (hand.Trying l) (hand.InHand l) p.accounts x refl key.refs_limit n (old + 1) y t u moves o (o.head.refs + 1) (omega (arith, o.spells.0, hit), (omega (arith, limits.1, less), o.spells.1.1))
-            (referred key.refs_limit o.head o.at (λ j. t (held j)) (λ j. t (named j)) o.lawful (λ j. u (held j)) used less
-            (subst (λ (j : ℕ). u (held j) ≡ t (held j) + 1) (sym is.0) (omega (arith, moves (held l.generation), one_life l))) (λ j ne. omega (arith, moves (held j), other_life l j (λ e. ne (e ∙ sym is.0)))))),
+        (λ u moves. refs_sound p q l (hand.Trying l) (hand.InHand l) p.accounts x refl key.refs_limit n (old + 1) y t
+            u moves o (o.head.refs + 1)
+            (omega (arith, o.spells.0, hit), (omega (arith, limits.1, less), o.spells.1.1))
+            (referred key.refs_limit o.head o.at (λ j. t (held j)) (λ j. t (named j)) o.lawful (λ j. u (held j)) used
+            less
+            (subst (λ (j : ℕ). u (held j) ≡ t (held j) + 1) (sym is.0)
+            (omega (arith, moves (held l.generation), one_life l)))
+            (λ j ne. omega (arith, moves (held j), other_life l j (λ e. ne (e ∙ sym is.0)))))),
         (λ b ne. away (hand.Trying l) (hand.InHand l) p.accounts x refl b ne (λ j. refl) (λ j. other_chunk b j l ne)),
         quiet p q l (hand.Trying l) (hand.InHand l) p.accounts x refl,
         (o.head, o.spells, is, refl),
       )
     where
-      away : (s z : Hand) (a : Accounts) (x : OwnStep) (plain : is_fetch x.kind ≡ false) (b : ℕ) → b ≢ l.chunk → ((j : ℕ) → in_hand b j s ≡ 0) → ((j : ℕ) → in_hand b j z ≡ 0) → Same b (seat_with s).0 (with_hold p q l z a (p.steps ++ x ∷ []))
+      away : (s z : Hand) (a : Accounts) (x : OwnStep) (plain : is_fetch x.kind ≡ false) (b : ℕ) → b ≢ l.chunk
+          → ((j : ℕ) → in_hand b j s ≡ 0) → ((j : ℕ) → in_hand b j z ≡ 0)
+          → Same b (seat_with s).0 (with_hold p q l z a (p.steps ++ x ∷ []))
       away s z a x plain b ne none nothing = elsewhere p q l s z a x plain b (λ j. nothing j ∙ sym (none j))
 
-  tries : (failed old : ℕ) → HasRoom key.refs_limit old → Allows (Kept key) slots id (seat_with (hand.Trying l)) (3 * l.chunk + 9) (λ n. either (n == old) (old + 1) n) (rode key.refs_limit failed l old (seat_with (hand.Trying l)))
-  tries failed old room = on_head key slots id (seat_with (hand.Trying l)) l.chunk (λ n. either (n == old) (old + 1) n) (rode key.refs_limit failed l old (seat_with (hand.Trying l))) near (λ n y t limits o a.
-      exchanged n old (old + 1) (λ k. Reaches key l.chunk (seat_with (hand.Trying l)) (rode key.refs_limit failed l old (seat_with (hand.Trying l)) n) k y t)
-      (λ hit. let r = take_reaches old room n y t limits o a hit in (r.0, r.1, r.2, r.3, ((λ _. r.4), (λ miss. absurd (miss hit)))))
-      (λ miss. let r = look_reaches failed n y t o a in (r.0, r.1, r.2, r.3, ((λ hit. absurd (miss hit)), (λ _. r.4)))))
+  reserves : (failed old : ℕ) → HasRoom key.refs_limit old → Allows (Kept key) slots id (seat_with (hand.Trying l))
+      (3 * l.chunk + 9) (λ n. either (n == old) (old + 1) n)
+      (try_to_ride_tells key.refs_limit failed l old (seat_with (hand.Trying l)))
+  reserves failed old room = on_head key slots id (seat_with (hand.Trying l)) l.chunk
+      (λ n. either (n == old) (old + 1) n) (try_to_ride_tells key.refs_limit failed l old (seat_with (hand.Trying l)))
+      near (λ n y t limits o a.
+      exchanged n old (old + 1)
+      (λ k. Reaches key l.chunk (seat_with (hand.Trying l))
+      (try_to_ride_tells key.refs_limit failed l old (seat_with (hand.Trying l)) n) k y t)
+      (λ hit. let r = reserve_reaches old room n y t limits o a hit in
+      (r.0, r.1, r.2, r.3, ((λ _. r.4), (λ miss. absurd (miss hit)))))
+      (λ miss. let r = load_reaches failed n y t o a in
+      (r.0, r.1, r.2, r.3, ((λ hit. absurd (miss hit)), (λ _. r.4)))))
 
   -- a bump's reference is given back
-  gives_back : Allows (Kept key) slots id (seat_with (hand.InHand l)) (3 * l.chunk + 9) (λ n. (n + (2 ^ 64 - 1)) % 2 ^ 64) (gave_back l (seat_with (hand.InHand l)))
-  gives_back = on_head key slots id (seat_with (hand.InHand l)) l.chunk (λ n. (n + (2 ^ 64 - 1)) % 2 ^ 64) (gave_back l (seat_with (hand.InHand l))) near (λ n y t limits o a.
+  releases : Allows (Kept key) slots id (seat_with (hand.InHand l)) (3 * l.chunk + 9)
+      (λ n. (n + (2 ^ 64 - 1)) % 2 ^ 64) (release_tells l (seat_with (hand.InHand l)))
+  releases = on_head key slots id (seat_with (hand.InHand l)) l.chunk (λ n. (n + (2 ^ 64 - 1)) % 2 ^ 64)
+      (release_tells l (seat_with (hand.InHand l))) near (λ n y t limits o a.
       let x : OwnStep = step_of kind.Release l.chunk (word_of o.head) None in
       let less : Accounts = record p.accounts { full = p.accounts.full + 1 } in
-      let is : IsHeld key.refs_limit l o.head = held_here (hand.InHand l) n y t o a in
+      let is : IsOfHeld key.refs_limit l o.head = held_here (hand.InHand l) n y t o a in
       let both : 2 ≤ t (held l.generation) = omega (arith, a.mine (held l.generation), one_life l) in
       let many : 2 ≤ o.head.refs = omega (arith, o.lawful.counted, ap (λ (j : ℕ). t (held j)) is.0, both) in (
         with_hold p q l (hand.Clearing l) less (p.steps ++ x ∷ []),
-        (λ u moves. refs_sound p q l (hand.InHand l) (hand.Clearing l) less x refl key.refs_limit n ((n + (2 ^ 64 - 1)) % 2 ^ 64) y t u moves o (o.head.refs - 1) (one_less n o.head o.spells (omega (arith, many)))
+        (λ u moves. refs_sound p q l (hand.InHand l) (hand.Clearing l) less x refl key.refs_limit n
+            ((n + (2 ^ 64 - 1)) % 2 ^ 64) y t u moves o (o.head.refs - 1)
+            (one_less n o.head o.spells (omega (arith, many)))
             (unreferred key.refs_limit o.head o.at (λ j. t (held j)) (λ j. t (named j)) o.lawful (λ j. u (held j))
-            (subst (λ (j : ℕ). u (held j) + 1 ≡ t (held j)) (sym is.0) (omega (arith, moves (held l.generation), one_life l))) (λ j ne. omega (arith, moves (held j), other_life l j (λ e. ne (e ∙ sym is.0)))))),
+            (subst (λ (j : ℕ). u (held j) + 1 ≡ t (held j)) (sym is.0)
+            (omega (arith, moves (held l.generation), one_life l)))
+            (λ j ne. omega (arith, moves (held j), other_life l j (λ e. ne (e ∙ sym is.0)))))),
         (λ b ne. elsewhere p q l (hand.InHand l) (hand.Clearing l) less x refl b (λ j. sym (other_chunk b j l ne))),
         quiet p q l (hand.InHand l) (hand.Clearing l) less x refl,
         (o.head, o.spells, is.0, many, refl),
@@ -167,15 +226,31 @@ abbrev seen_as : (s : Hand) (l : ItemId) (m : Sat) → IsOn s l m.0 → Sat
 seen_as s l m on = (with_hold on.part on.hold l s on.part.accounts on.part.steps, m.1)
 
 seat_is : (s : Hand) (l : ItemId) (m : Sat) (on : IsOn s l m.0) → m ≡ seen_as s l m on
-seat_is s l m on = λ i. ((on.view ∙ (λ j. touching (record on.part { hand = on.hand j }) (record on.hold { life = on.life j }))) i, m.1)
+seat_is s l m on = λ i. (
+  (on.view
+      ∙ (λ j. touching (record on.part { hand = on.hand j }) (record on.hold { life = on.life j }))) i,
+  m.1,
+)
 
-pub may_look : (key : Config) (slots id : ℕ) (m : Sat) (l : ItemId) (limit failed : ℕ) → l.chunk < chunks key → limit ≡ key.refs_limit → IsOn (hand.Trying l) l m.0 → Allows (Kept key) slots id m (3 * l.chunk + 9) (λ n. n) (looked limit failed l m)
-may_look key slots id m l limit failed near is on = subst (λ (z : ℕ × Sat). Allows (Kept key) slots id z.1 (3 * l.chunk + 9) (λ n. n) (looked z.0 failed l z.1)) (λ i. (sym is i, sym (seat_is (hand.Trying l) l m on) i))
-    (looks key slots id on.part on.hold l near m.1 failed)
+pub may_load_to_ride : (key : Config) (slots id : ℕ) (m : Sat) (l : ItemId) (limit failed : ℕ) → l.chunk < chunks key
+    → limit ≡ key.refs_limit → IsOn (hand.Trying l) l m.0 → Allows (Kept key) slots id m (3 * l.chunk + 9) (λ n. n)
+    (load_to_ride_tells limit failed l m)
+may_load_to_ride key slots id m l limit failed near is on =
+    subst (λ (z : ℕ × Sat). Allows (Kept key) slots id z.1 (3 * l.chunk + 9) (λ n. n)
+    (load_to_ride_tells z.0 failed l z.1)) (λ i. (sym is i, sym (seat_is (hand.Trying l) l m on) i))
+    (loads_to_ride key slots id on.part on.hold l near m.1 failed)
 
-pub may_try : (key : Config) (slots id : ℕ) (m : Sat) (l : ItemId) (limit failed old : ℕ) → l.chunk < chunks key → limit ≡ key.refs_limit → IsOn (hand.Trying l) l m.0 → HasRoom limit old → Allows (Kept key) slots id m (3 * l.chunk + 9) (λ n. either (n == old) (old + 1) n) (rode limit failed l old m)
-may_try key slots id m l limit failed old near is on room = subst (λ (z : ℕ × Sat). Allows (Kept key) slots id z.1 (3 * l.chunk + 9) (λ n. either (n == old) (old + 1) n) (rode z.0 failed l old z.1)) (λ i. (sym is i, sym (seat_is (hand.Trying l) l m on) i))
-    (tries key slots id on.part on.hold l near m.1 failed old (subst (λ (k : ℕ). HasRoom k old) is room))
+pub may_reserve : (key : Config) (slots id : ℕ) (m : Sat) (l : ItemId) (limit failed old : ℕ) → l.chunk < chunks key
+    → limit ≡ key.refs_limit → IsOn (hand.Trying l) l m.0 → HasRoom limit old → Allows (Kept key) slots id m
+    (3 * l.chunk + 9) (λ n. either (n == old) (old + 1) n) (try_to_ride_tells limit failed l old m)
+may_reserve key slots id m l limit failed old near is on room =
+    subst (λ (z : ℕ × Sat). Allows (Kept key) slots id z.1 (3 * l.chunk + 9) (λ n. either (n == old) (old + 1) n)
+    (try_to_ride_tells z.0 failed l old z.1)) (λ i. (sym is i, sym (seat_is (hand.Trying l) l m on) i))
+    (reserves key slots id on.part on.hold l near m.1 failed old (subst (λ (k : ℕ). HasRoom k old) is room))
 
-pub may_give_back : (key : Config) (slots id : ℕ) (m : Sat) (l : ItemId) → l.chunk < chunks key → IsOn (hand.InHand l) l m.0 → Allows (Kept key) slots id m (3 * l.chunk + 9) (λ n. (n + (2 ^ 64 - 1)) % 2 ^ 64) (gave_back l m)
-may_give_back key slots id m l near on = subst (λ (z : Sat). Allows (Kept key) slots id z (3 * l.chunk + 9) (λ n. (n + (2 ^ 64 - 1)) % 2 ^ 64) (gave_back l z)) (sym (seat_is (hand.InHand l) l m on)) (gives_back key slots id on.part on.hold l near m.1)
+pub may_release_bump : (key : Config) (slots id : ℕ) (m : Sat) (l : ItemId) → l.chunk < chunks key
+    → IsOn (hand.InHand l) l m.0 → Allows (Kept key) slots id m (3 * l.chunk + 9) (λ n. (n + (2 ^ 64 - 1)) % 2 ^ 64)
+    (release_tells l m)
+may_release_bump key slots id m l near on =
+    subst (λ (z : Sat). Allows (Kept key) slots id z (3 * l.chunk + 9) (λ n. (n + (2 ^ 64 - 1)) % 2 ^ 64)
+    (release_tells l z)) (sym (seat_is (hand.InHand l) l m on)) (releases key slots id on.part on.hold l near m.1)

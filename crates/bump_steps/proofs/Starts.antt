@@ -20,7 +20,7 @@ use Rattle.bump_rules.specs.History.{is_standing}
 use Rattle.bump_rules.specs.Entries.{is_move_for}
 use Rattle.bump_rules.proofs.Standings.{standing_same}
 use Rattle.bump_word.specs.Layout.{generation_width}
-use Rattle.bump_steps.specs.Views.{owns, standing, label_of, held, named, saw, weight, refers, in_hand, is_fetch_of, aboard_of, claimed_in, settled_in, foreign_in, HaveLabels, untidy_in}
+use Rattle.bump_steps.specs.Views.{owns, standing, last_label, held, named, saw, weight, refers, in_hand, is_fetch_of, bump_aboard, claimed_in, settled_in, foreign_in, HaveLabels, untidy_in}
 use Rattle.bump_steps.specs.Rule.{chunks, Kept, class_parts, worker_part, worker_parts, lane_part, lane_parts, opened, AreFresh, HasFittingLimit}
 
 -- there are chunks where there are classes
@@ -41,27 +41,62 @@ owns_behind c k h = ap (λ a. bit (leb k.first c && a)) (le-ltb c (k.first + k.c
     none true = refl
     none false = refl
 
-pub no_owner : (fresh i first c : ℕ) (ns : List ClassConfig) → c < first → total (λ k. bit (owns c k)) (class_parts fresh i first ns) ≡ 0
+pub no_owner : (fresh i first c : ℕ) (ns : List ClassConfig) → c < first → total (λ k. bit (owns c k))
+    (class_parts fresh i first ns) ≡ 0
 no_owner fresh i first c [] h = refl
-no_owner fresh i first c (n ∷ ns) h = omega (arith, owns_before c (record { class = i; first = first; count = n.chunks; fresh = fresh; history = []; labels = []; steps = [] }) h, no_owner fresh (i + 1) (first + n.chunks) c ns (omega arith))
+no_owner fresh i first c (n ∷ ns) h =
+    omega (
+      arith,
+      owns_before c
+          (record { class = i; first = first; count = n.chunks; fresh = fresh; history = []; labels = []; steps = [] }) h,
+      no_owner fresh (i + 1) (first + n.chunks) c ns (omega arith),
+    )
 
-pub one_owner : (fresh i first c : ℕ) (ns : List ClassConfig) → first ≤ c → c < first + chunks_of ns → total (λ k. bit (owns c k)) (class_parts fresh i first ns) ≡ 1
+pub one_owner : (fresh i first c : ℕ) (ns : List ClassConfig) → first ≤ c → c < first + chunks_of ns
+    → total (λ k. bit (owns c k)) (class_parts fresh i first ns) ≡ 1
 one_owner fresh i first c [] low high = absurd (omega arith)
-one_owner fresh i first c (n ∷ ns) low high = let k : ClassPart = record { class = i; first = first; count = n.chunks; fresh = fresh; history = []; labels = []; steps = [] } in
-    dite (dec_le (first + n.chunks) c) (λ later. omega (arith, owns_behind c k later, one_owner fresh (i + 1) (first + n.chunks) c ns later (omega arith)))
-    (λ here. omega (arith, owns_yes c k low (omega arith), no_owner fresh (i + 1) (first + n.chunks) c ns (omega arith)))
+one_owner fresh i first c (n ∷ ns) low high = let k : ClassPart =
+    record { class = i; first = first; count = n.chunks; fresh = fresh; history = []; labels = []; steps = [] } in
+    dite (dec_le (first + n.chunks) c)
+    (λ later. omega (
+      arith,
+      owns_behind c k later,
+      one_owner fresh (i + 1) (first + n.chunks) c ns later
+          (omega arith),
+    ))
+    (λ here. omega (
+      arith,
+      owns_yes c k low (omega arith),
+      no_owner fresh (i + 1) (first + n.chunks) c ns
+          (omega arith),
+    ))
 
-pub no_stray_yet : (fresh i first c : ℕ) (ns : List ClassConfig) → total (λ k. bit (owns c k && not (is_standing (standing k c) (Unused, fresh)))) (class_parts fresh i first ns) ≡ 0
+pub no_stray_yet : (fresh i first c : ℕ) (ns : List ClassConfig)
+    → total (λ k. bit (owns c k && not (is_standing (standing k c) (Unused, fresh)))) (class_parts fresh i first ns)
+    ≡ 0
 no_stray_yet fresh i first c [] = refl
-no_stray_yet fresh i first c (n ∷ ns) = omega (arith, none (owns c (record { class = i; first = first; count = n.chunks; fresh = fresh; history = []; labels = []; steps = [] })), no_stray_yet fresh (i + 1) (first + n.chunks) c ns)
+no_stray_yet fresh i first c (n ∷ ns) =
+    omega (
+      arith,
+      none (owns c
+          (record { class = i; first = first; count = n.chunks; fresh = fresh; history = []; labels = []; steps = [] })),
+      no_stray_yet fresh (i + 1) (first + n.chunks) c ns,
+    )
   where
     none : (a : Bool) → bit (a && not (is_standing (Unused, fresh) (Unused, fresh))) ≡ 0
     none true = ap (λ b. bit (not b)) (standing_same (Unused, fresh) (Unused, fresh) refl)
     none false = refl
 
-pub no_mislabel_yet : (fresh i first c : ℕ) (ns : List ClassConfig) → total (λ k. bit (owns c k && not (eqb (label_of k c) 0))) (class_parts fresh i first ns) ≡ 0
+pub no_mislabel_yet : (fresh i first c : ℕ) (ns : List ClassConfig)
+    → total (λ k. bit (owns c k && not (eqb (last_label k c) 0))) (class_parts fresh i first ns) ≡ 0
 no_mislabel_yet fresh i first c [] = refl
-no_mislabel_yet fresh i first c (n ∷ ns) = omega (arith, none (owns c (record { class = i; first = first; count = n.chunks; fresh = fresh; history = []; labels = []; steps = [] })), no_mislabel_yet fresh (i + 1) (first + n.chunks) c ns)
+no_mislabel_yet fresh i first c (n ∷ ns) =
+    omega (
+      arith,
+      none (owns c
+          (record { class = i; first = first; count = n.chunks; fresh = fresh; history = []; labels = []; steps = [] })),
+      no_mislabel_yet fresh (i + 1) (first + n.chunks) c ns,
+    )
   where
     none : (a : Bool) → bit (a && not (eqb 0 0)) ≡ 0
     none true = refl
@@ -76,7 +111,17 @@ no_lanes : (f : LanePart → ℕ) → ((w : ℕ) → f (lane_part w) ≡ 0) → 
 no_lanes f e w zero = refl
 no_lanes f e w (suc n) = omega (arith, e w, no_lanes f e (w + 1) n)
 
-no_classes : (f : ClassPart → ℕ) → ((g i at n : ℕ) → f (record { class = i; first = at; count = n; fresh = g; history = []; labels = []; steps = [] }) ≡ 0) → (g i at : ℕ) (ks : List ClassConfig) → total f (class_parts g i at ks) ≡ 0
+no_classes : (f : ClassPart → ℕ)
+    → ((g i at n : ℕ) → f (record {
+      class = i;
+      first = at;
+      count = n;
+      fresh = g;
+      history = [];
+      labels = [];
+      steps =
+          [];
+    }) ≡ 0) → (g i at : ℕ) (ks : List ClassConfig) → total f (class_parts g i at ks) ≡ 0
 no_classes f e g i at [] = refl
 no_classes f e g i at (k ∷ ks) = omega (arith, e g i at k.chunks, no_classes f e g (i + 1) (at + k.chunks) ks)
 
@@ -85,7 +130,11 @@ cond_none true = refl
 cond_none false = refl
 
 no_held : (c g : ℕ) (key : Config) → weight c (held g) (opened key) ≡ 0
-no_held c g key = omega (arith, no_workers (λ w. in_hand c g w.hand) (λ w. refl) 0 key.workers, no_lanes (λ l. refers c g (aboard_of l.stage)) (λ w. refl) 0 key.workers)
+no_held c g key = omega (
+  arith,
+  no_workers (λ w. in_hand c g w.hand) (λ w. refl) 0 key.workers,
+  no_lanes (λ l. refers c g (bump_aboard l.stage)) (λ w. refl) 0 key.workers,
+)
 
 no_named : (c g : ℕ) (key : Config) → weight c (named g) (opened key) + 0 ≡ 0
 no_named c g key = omega (arith, no_workers (λ w. count_of (life c g) w.hits) (λ w. refl) 0 key.workers)
@@ -96,28 +145,45 @@ no_saw c g key = omega (arith, no_workers (λ w. how_many (is_fetch_of c g) w.st
 -- no chunk of a new class is in use, and no life has begun
 fresh_labels : (g i at : ℕ) (ks : List ClassConfig) → HaveLabels (class_parts g i at ks)
 fresh_labels g i at [] = tt
-fresh_labels g i at (k ∷ ks) = (record { labelled = λ c own used. absurd used; unbegun = λ c j later. refl }, fresh_labels g (i + 1) (at + k.chunks) ks)
+fresh_labels g i at (k ∷ ks) = (
+  record { labelled = λ c own used. absurd used; unbegun = λ c j later. refl },
+  fresh_labels g (i + 1) (at + k.chunks) ks,
+)
 
 -- of the lanes of workers from w on one is of each worker
 none_of : (n w m : ℕ) → n < w → total (λ l. cond (eqb l.worker n) 1 0) (lane_parts w m) ≡ 0
 none_of n w zero h = refl
-none_of n w (suc m) h = omega (arith, ap {B = ℕ} (λ (b : Bool). cond b 1 0) (ne_eqb w n (λ e. omega (arith, h, e))), none_of n (w + 1) m (omega arith))
+none_of n w (suc m) h = omega (
+  arith,
+  ap {B = ℕ} (λ (b : Bool). cond b 1 0) (ne_eqb w n (λ e. omega (arith, h, e))),
+  none_of n (w + 1) m (omega arith),
+)
 
 one_of : (n w m : ℕ) → total (λ l. cond (eqb l.worker n) 1 0) (lane_parts w m) ≤ 1
 one_of n w zero = omega arith
-one_of n w (suc m) = dite (ℕ_discrete w n) (λ e. omega (arith, ap {B = ℕ} (λ (b : Bool). cond b 1 0) (eq-eqb w n e), none_of n (w + 1) m (omega arith))) (λ ne. omega (arith, ap {B = ℕ} (λ (b : Bool). cond b 1 0) (ne_eqb w n ne), one_of n (w + 1) m))
+one_of n w (suc m) = dite (ℕ_discrete w n)
+    (λ e. omega (arith, ap {B = ℕ} (λ (b : Bool). cond b 1 0) (eq-eqb w n e), none_of n (w + 1) m (omega arith)))
+    (λ ne. omega (arith, ap {B = ℕ} (λ (b : Bool). cond b 1 0) (ne_eqb w n ne), one_of n (w + 1) m))
 
 -- and the same of workers
 no_worker_of : (n w m : ℕ) → n < w → total (λ p. cond (eqb p.worker n) 1 0) (worker_parts w m) ≡ 0
 no_worker_of n w zero h = refl
-no_worker_of n w (suc m) h = omega (arith, ap {B = ℕ} (λ (b : Bool). cond b 1 0) (ne_eqb w n (λ e. omega (arith, h, e))), no_worker_of n (w + 1) m (omega arith))
+no_worker_of n w (suc m) h =
+    omega (
+      arith,
+      ap {B = ℕ} (λ (b : Bool). cond b 1 0) (ne_eqb w n (λ e. omega (arith, h, e))),
+      no_worker_of n (w + 1) m (omega arith),
+    )
 
 one_worker_of : (n w m : ℕ) → total (λ p. cond (eqb p.worker n) 1 0) (worker_parts w m) ≤ 1
 one_worker_of n w zero = omega arith
-one_worker_of n w (suc m) = dite (ℕ_discrete w n) (λ e. omega (arith, ap {B = ℕ} (λ (b : Bool). cond b 1 0) (eq-eqb w n e), no_worker_of n (w + 1) m (omega arith)))
+one_worker_of n w (suc m) = dite (ℕ_discrete w n)
+    (λ e. omega (arith, ap {B = ℕ} (λ (b : Bool). cond b 1 0) (eq-eqb w n e), no_worker_of n (w + 1) m (omega arith)))
     (λ ne. omega (arith, ap {B = ℕ} (λ (b : Bool). cond b 1 0) (ne_eqb w n ne), one_worker_of n (w + 1) m))
 
-pub starts : (key : Config) (words : List ℕ) → AreFresh (chunks key) (key.first_generation - 1) words → HasFittingLimit key → (0 < key.first_generation) × (key.first_generation < 2 ^ generation_width) → Kept key (opening words [] (opened key))
+pub starts : (key : Config) (words : List ℕ) → AreFresh (chunks key) (key.first_generation - 1) words
+    → HasFittingLimit key → (0 < key.first_generation) × (key.first_generation < 2 ^ generation_width)
+    → Kept key (opening words [] (opened key))
 starts key words fresh limits generations = record {
   wide = fresh.0;
   small = limits;
@@ -138,12 +204,21 @@ starts key words fresh limits generations = record {
     };
     owned = omega (arith, one_owner (key.first_generation - 1) 0 0 c key.classes (omega arith) (omega (arith, near)));
     agreed = omega (arith, no_stray_yet (key.first_generation - 1) 0 0 c key.classes);
-    labelled = subst (λ (x : ℕ). total (λ k. bit (owns c k && not (eqb (label_of k c) x))) (class_parts (key.first_generation - 1) 0 0 key.classes) + 0 ≡ 0) (sym (fresh.1 c near).1) (omega (arith, no_mislabel_yet (key.first_generation - 1) 0 0 c key.classes));
+    labelled = subst (λ (x : ℕ). total (λ k. bit (owns c k && not (eqb (last_label k c) x)))
+        (class_parts (key.first_generation - 1) 0 0 key.classes) + 0 ≡ 0) (sym (fresh.1 c near).1)
+        (omega (arith, no_mislabel_yet (key.first_generation - 1) 0 0 c key.classes));
     read = refl;
     hit = λ g some. absurd (omega (arith, some, no_saw c g key));
   };
-  true_entries = λ n a many. absurd (omega (arith, many, no_lanes (claimed_in n a) (λ w. cond_none (eqb w n)) 0 key.workers));
-  even_moves = λ q. omega (arith, no_classes (λ k. how_many (is_move_for q.test q.worker q.number) k.history) (λ g i at n. refl) (key.first_generation - 1) 0 0 key.classes, no_lanes (settled_in q) (λ w. cond_none (eqb w q.worker)) 0 key.workers);
+  true_entries = λ n a many. absurd
+      (omega (arith, many, no_lanes (claimed_in n a) (λ w. cond_none (eqb w n)) 0 key.workers));
+  even_moves = λ q. omega (
+    arith,
+    no_classes (λ k. how_many (is_move_for q.test q.worker q.number) k.history)
+        (λ g i at n. refl) (key.first_generation - 1) 0 0 key.classes,
+    no_lanes (settled_in q)
+        (λ w. cond_none (eqb w q.worker)) 0 key.workers,
+  );
   own_chunks = omega (arith, no_classes foreign_in (λ g i at n. refl) (key.first_generation - 1) 0 0 key.classes);
   own_labels = (fresh_labels (key.first_generation - 1) 0 0 key.classes, tt);
   one_worker = λ n. omega (arith, one_worker_of n 0 key.workers);

@@ -23,8 +23,12 @@ pub label_chunk_is : (c : ℕ) → (3 * c + 11) / 3 - 3 ≡ c
 label_chunk_is c = omega arith
 
 -- a step on a head word is allowed where it can go on, whatever sound words it finds
-pub at_chunk : (tells : Tells) (key : Config) (slots id : ℕ) (m : Sat) (c x : ℕ) (f : ℕ → ℕ) → c < chunks key → From key c m (λ n y t. Reaches key c m (tells c x m n) (f n) y t) → Allows (Kept key) slots id m (3 * c + 9) f (tells ((3 * c + 9) / 3 - 3) x m)
-at_chunk tells key slots id m c x f near goes = subst (λ (d : ℕ). Allows (Kept key) slots id m (3 * c + 9) f (tells d x m)) (sym (chunk_is c)) (on_head key slots id m c f (tells c x m) near goes)
+pub at_chunk : (tells : Tells) (key : Config) (slots id : ℕ) (m : Sat) (c x : ℕ) (f : ℕ → ℕ) → c < chunks key
+    → From key c m (λ n y t. Reaches key c m (tells c x m n) (f n) y t) → Allows (Kept key) slots id m (3 * c + 9) f
+    (tells ((3 * c + 9) / 3 - 3) x m)
+at_chunk tells key slots id m c x f near goes =
+    subst (λ (d : ℕ). Allows (Kept key) slots id m (3 * c + 9) f (tells d x m)) (sym (chunk_is c))
+    (on_head key slots id m c f (tells c x m) near goes)
 
 module _ {A : Type 0} (f : A → ℕ) (h : A → A) where
   -- a change of the first element that keeps its term keeps the sum
@@ -43,11 +47,13 @@ owned_le true p q less = less
 owned_le false p q less = omega arith
 
 -- and what a list counts is at most what it counts with one more element
-pub owned_push : {A : Type 0} (own : Bool) (f : A → ℕ) (l : List A) (x : A) → cond own (total f l) 0 ≤ cond own (total f (l ++ x ∷ [])) 0
+pub owned_push : {A : Type 0} (own : Bool) (f : A → ℕ) (l : List A) (x : A) → cond own (total f l) 0 ≤ cond own
+    (total f (l ++ x ∷ [])) 0
 owned_push own f l x = owned_le own (total f l) (total f (l ++ x ∷ [])) (omega (arith, total_push f l x))
 
 -- what one view counts as before, all views count as before
-pub same_counts : (c : ℕ) (v w : View) (t u : Measure → ℕ) → Same c v w → ((y : Measure) → u y + weight c y v ≡ t y + weight c y w) → (y : Measure) → u y ≡ t y
+pub same_counts : (c : ℕ) (v w : View) (t u : Measure → ℕ) → Same c v w
+    → ((y : Measure) → u y + weight c y v ≡ t y + weight c y w) → (y : Measure) → u y ≡ t y
 same_counts c v w t u same moved y = omega (arith, same y, moved y)
 
 -- equal changes on both sides
@@ -56,10 +62,12 @@ level p q w e = omega arith
 
 -- a life counts for itself, and for no other generation or chunk
 pub one_life : (l : ItemId) → one_if (life l.chunk l.generation) l ≡ 1
-one_life l = ap (λ b. cond b 1 0) (ap₂ (λ a b. a && b) (eq-eqb l.chunk l.chunk refl) (eq-eqb l.generation l.generation refl))
+one_life l = ap (λ b. cond b 1 0)
+    (ap₂ (λ a b. a && b) (eq-eqb l.chunk l.chunk refl) (eq-eqb l.generation l.generation refl))
 
 pub other_life : (l : ItemId) (g : ℕ) → g ≢ l.generation → one_if (life l.chunk g) l ≡ 0
-other_life l g ne = ap (λ b. cond b 1 0) (ap₂ (λ a b. a && b) (eq-eqb l.chunk l.chunk refl) (ne_eqb g l.generation ne))
+other_life l g ne = ap (λ b. cond b 1 0)
+    (ap₂ (λ a b. a && b) (eq-eqb l.chunk l.chunk refl) (ne_eqb g l.generation ne))
 
 pub other_chunk : (d g : ℕ) (l : ItemId) → d ≢ l.chunk → one_if (life d g) l ≡ 0
 other_chunk d g l ne = ap (λ x. cond (x && eqb g l.generation) 1 0) (ne_eqb d l.chunk ne)

@@ -1,5 +1,5 @@
--- How the heads that a call of `take` found grow, and what it comes to.
-use Rattle.std.proofs.Common.{◌≡◌, ◌≢◌, ℕ, ◌+◌, ◌/◌, ◌^◌, ◌<◌, ◌≤◌, Bool, List, [], ◌∷◌, ◌++◌, length, Option, Some, None, refl, sym, ap, ◌∙◌, subst, arith, eq-eqb, ne_eqb, append_assoc, append-nil, length-append}
+-- How the heads that an attempt found grow, for a hold or for a bump; and what a call of `take` comes to.
+use Rattle.std.proofs.Common.{◌≡◌, ◌≢◌, ℕ, ◌+◌, ◌/◌, ◌^◌, ◌<◌, ◌≤◌, Bool, List, [], ◌∷◌, ◌++◌, length, Option, Some, None, refl, sym, ap, ap₂, ◌∙◌, subst, arith, eq-eqb, ne_eqb, append_assoc, append-nil, length-append}
 use Rattle.std.specs.Prelude.{if◌then◌else◌}
 use Rattle.bump_rules.specs.declared.items.Head.{Head}
 use Rattle.bump_rules.specs.declared.items.ItemId.{ItemId}
@@ -12,136 +12,274 @@ use Rattle.bump_steps.specs.declared.refusals.TakeRefusal.{TakeRefusal}
 use Rattle.bump_steps.specs.declared.refusals.TakeRefusal.TheVariants.{Busy}
 use Rattle.bump_steps.specs.declared.views.Kind.TheVariants as kind
 use Rattle.bump_steps.specs.declared.views.OwnStep.{OwnStep}
+use Rattle.bump_steps.specs.declared.views.View.{View}
 use Rattle.bump_steps.specs.declared.views.WorkerPart.{WorkerPart}
+use Rattle.bump_steps.specs.Marks.{on_worker}
 use Rattle.bump_steps.specs.Plays.{Sat, HasWorker, on_first, step_of}
-use Rattle.bump_steps.specs.References.{new_hold, looked_view, looked, taken_view, taken}
-use Rattle.bump_steps.specs.Tries.{last_found, AreHeads, AreTries, refused_by, refusal_of, loads, takes, with_more, held_by, stepped_view, TookView}
+use Rattle.bump_steps.specs.References.{new_hold, view_after_load, load_to_take_tells, view_after_take, take_tells}
+use Rattle.bump_steps.specs.Tries.{last_found, AreAll, AreTries, AttemptFound, TakeFound, refused_by, take_refused, refusal_of, loads, takes, with_more, held_by, view_after_attempt}
 use Rattle.bump_steps.proofs.Referring.{held_is}
 
+-- ---- lists of heads and of steps
+
 -- one more head is found
-pub heads_push : (h : Head) (more : List Head) (k : Head) → AreHeads h more → Fits k → AreHeads h (more ++ k ∷ [])
-heads_push h [] k are fits = (are, fits)
-heads_push h (j ∷ more) k are fits = (are.0, heads_push j more k are.1 fits)
+all_push : (Is : Head → Type 0) (h : Head) (more : List Head) (k : Head) → AreAll Is h more → Is k
+    → AreAll Is h (more ++ k ∷ [])
+all_push Is h [] k are is = (are, is)
+all_push Is h (j ∷ more) k are is = (are.0, all_push Is j more k are.1 is)
 
 -- after one more exchange that failed
-pub tries_push : (IsOpen : Head → Type 0) (h : Head) (more : List Head) (k : Head) → AreTries IsOpen h more → IsOpen (last_found h more) → k ≢ last_found h more → AreTries IsOpen h (more ++ k ∷ [])
+tries_push : (IsOpen : Head → Type 0) (h : Head) (more : List Head) (k : Head) → AreTries IsOpen h more
+    → IsOpen (last_found h more)
+    → k ≢ last_found h more → AreTries IsOpen h (more ++ k ∷ [])
 tries_push IsOpen h [] k are is other = (is, other, tt)
 tries_push IsOpen h (j ∷ more) k are is other = (are.0, are.1, tries_push IsOpen j more k are.2 is other)
 
 -- what was found last is the last
-pub last_push : (h : Head) (more : List Head) (k : Head) → last_found h (more ++ k ∷ []) ≡ k
+last_push : (h : Head) (more : List Head) (k : Head) → last_found h (more ++ k ∷ []) ≡ k
 last_push h [] k = refl
 last_push h (j ∷ more) k = last_push j more k
 
--- the last head is what a word can spell
-pub last_fits : (h : Head) (more : List Head) → AreHeads h more → Fits (last_found h more)
-last_fits h [] are = are
-last_fits h (k ∷ more) are = last_fits k more are.1
+-- the last head is as each has to be
+pub last_is_one : (Is : Head → Type 0) (h : Head) (more : List Head) → AreAll Is h more → Is (last_found h more)
+last_is_one Is h [] are = are
+last_is_one Is h (k ∷ more) are = last_is_one Is k more are.1
 
 -- one load more
-pub loads_push : (c : ℕ) (hs : List Head) (k : Head) → loads c (hs ++ k ∷ []) ≡ loads c hs ++ step_of kind.Load c (word_of k) None ∷ []
+loads_push : (c : ℕ) (hs : List Head) (k : Head) → loads c (hs ++ k ∷ []) ≡ loads c hs ++ step_of kind.Load c
+    (word_of k) None ∷ []
 loads_push c [] k = refl
 loads_push c (h ∷ hs) k = ap (λ (l : List OwnStep). step_of kind.Load c (word_of h) None ∷ l) (loads_push c hs k)
 
+-- two changes of the first element, one after the other
+pub first_again : {A : Type 0} (f g : A → A) (l : List A) → on_first g (on_first f l) ≡ on_first (λ x. g (f x)) l
+first_again f g [] = refl
+first_again f g (x ∷ xs) = refl
+
 -- steps that are made one after the other
-more_again : (s t : List OwnStep) (ws : List WorkerPart) → on_first (with_more t) (on_first (with_more s) ws) ≡ on_first (with_more (s ++ t)) ws
-more_again s t [] = refl
-more_again s t (w ∷ ws) = ap (λ (l : List OwnStep). record w { steps = l } ∷ ws) (append_assoc w.steps s t)
+pub more_again : (s t : List OwnStep) (v : View) → on_worker (with_more t) (on_worker (with_more s) v) ≡ on_worker
+    (with_more (s ++ t)) v
+more_again s t v = ap (λ (ws : List WorkerPart). record v { workers = ws })
+    (first_again (with_more s) (with_more t) v.workers
+    ∙ ap (λ (f : WorkerPart → WorkerPart). on_first f v.workers)
+    (λ i w. record w { steps = append_assoc w.steps s t i }))
 
 -- a change of the first element leaves as many
 some_first : {A : Type 0} (f : A → A) (l : List A) → 0 < length l → 0 < length (on_first f l)
 some_first f [] some = some
 some_first f (x ∷ xs) some = some
 
+-- ---- an attempt
+
+-- So many exchanges failed, and the last step found the word. What the seat's view is by then, and why the attempt
+-- ends here, if it does,
+-- differs: `refused` and `seen` are told of an attempt of one kind.
+pub record Trying {Refusal : Type 0} (Is IsOpen : Head → Type 0) (refused : ℕ → Head → Option Refusal)
+    (seen : Option Refusal → List OwnStep → View → View) (c : ℕ) (before now : Sat) (word failed : ℕ) (first : Head)
+    (more : List Head)
+    : Type 0 where
+  pub heads : AreAll Is first more
+  pub tries : AreTries IsOpen first more
+  pub count : length more ≡ failed
+  pub last : word ≡ word_of (last_found first more)
+  pub view : now ≡ (seen (refused (length more) (last_found first more)) (loads c (first ∷ more)) before.0, before.1)
+
+module _ {Refusal : Type 0} (Is IsOpen : Head → Type 0) (refused : ℕ → Head → Option Refusal)
+    (seen : Option Refusal → List OwnStep → View → View) (c : ℕ) (fits : (h : Head) → Is h → Fits h) (before : Sat)
+  where
+    -- after the load
+    pub tries_start : (now : Sat) (word : ℕ) (h : Head) → Spells word h → Is h
+        → now ≡ (seen (refused 0 h) (loads c (h ∷ [])) before.0, before.1)
+        → (first : Head) × (more : List Head) × Trying Is IsOpen refused seen c before now word 0 first more
+    tries_start now word h spelled is view =
+        (h, [], record { heads = is; tries = tt; count = refl; last = spelled.0; view = view })
+
+    module _ (now : Sat) (word failed : ℕ) (first : Head) (more : List Head)
+        (y : Trying Is IsOpen refused seen c before now word failed first more) where
+      -- the word is that of a head
+      pub has_head : (h : Head) × Spells word h
+      has_head = (last_found first more, (y.last, fits (last_found first more) (last_is_one Is first more y.heads)))
+
+      -- which is the last one
+      pub last_is : (h : Head) → Spells word h → last_found first more ≡ h
+      last_is h spelled = one_head word (last_found first more) h
+          (y.last, fits (last_found first more) (last_is_one Is first more y.heads)) spelled
+
+      -- by it the attempt ends, or goes on
+      pub refused_is : (h : Head) → Spells word h → refused (length more) (last_found first more) ≡ refused failed h
+      refused_is h spelled = ap₂ refused y.count (last_is h spelled)
+
+      -- what is known of it
+      pub view_is : (h : Head) → Spells word h → (o : Option Refusal) → refused failed h ≡ o
+          → now ≡ (seen o (loads c (first ∷ more)) before.0, before.1)
+      view_is h spelled o is = y.view
+          ∙ ap (λ (x : Option Refusal). (seen x (loads c (first ∷ more)) before.0, before.1))
+          (refused_is h spelled ∙ is)
+
+      -- an exchange failed
+      pub goes_on : (h : Head) → Spells word h → IsOpen h → refused failed h ≡ None → (next : Sat) (found : ℕ)
+          → found ≢ word → (k : Head)
+          → Spells found k → Is k
+          → ((s : List OwnStep) → now ≡ (seen None s before.0, before.1)
+          → next ≡ (
+            seen (refused (failed + 1) k) (s ++ step_of kind.Load c (word_of k) None ∷ []) before.0,
+            before.1,
+          ))
+          → (j : Head) × Trying Is IsOpen refused seen c before next found (failed + 1) first (more ++ j ∷ [])
+      goes_on h spelled is_open none next found miss k other is step =
+          let count : length (more ++ k ∷ []) ≡ failed + 1 = omega (arith, length-append more (k ∷ []), y.count) in (
+            k,
+            record {
+              heads = all_push Is first more k y.heads is;
+              tries = tries_push IsOpen first more k y.tries (subst IsOpen (sym (last_is h spelled)) is_open)
+                  (λ e. miss (other.0 ∙ ap word_of e ∙ sym y.last));
+              count = count;
+              last = other.0 ∙ ap word_of (sym (last_push first more k));
+              view = step (loads c (first ∷ more)) (view_is h spelled None none)
+                  ∙ ap₂ (λ (o : Option Refusal) (s : List OwnStep). (seen o s before.0, before.1))
+                  (sym (ap₂ refused count (last_push first more k))) (sym (loads_push c (first ∷ more) k));
+            },
+          )
+
+      -- what was found when it is over
+      pub found_so : failed ≤ 8 → AttemptFound Is IsOpen first more
+      found_so few = record { heads = y.heads; tries = y.tries; most = omega (arith, y.count, few) }
+
+-- ---- for a hold
+
 -- where the get table doesn't refuse, a get is a hold
-pub unrefused : (get : Get) → refused_by get ≡ None → get ≡ IsHeld
+unrefused : (get : Get) → refused_by get ≡ None → get ≡ IsHeld
 unrefused IsStale is = absurd (cc is)
 unrefused IsRefsFull is = absurd (cc is)
 unrefused IsHeld is = refl
 
--- So many exchanges failed, and the last step found the word.
-pub record Trying (limit : ℕ) (l : ItemId) (before now : Sat) (word failed : ℕ) (first : Head) (more : List Head) : Type 0 where
-  pub heads : AreHeads first more
-  pub tries : AreTries (λ h. get_of limit l.generation h ≡ IsHeld) first more
-  pub count : length more ≡ failed
-  pub last : word ≡ word_of (last_found first more)
-  pub view : now ≡ (stepped_view (loads l.chunk (first ∷ more)) before.0, before.1)
+-- the view after these loads
+abbrev pub seen_to_take : Option TakeRefusal → List OwnStep → View → View
+seen_to_take o steps v = on_worker (with_more steps) v
 
--- the seat still has its worker's part
-pub still_working : (limit : ℕ) (l : ItemId) (before now : Sat) (word failed : ℕ) (first : Head) (more : List Head) → Trying limit l before now word failed first more → HasWorker before.0 → HasWorker now.0
-still_working limit l before now word failed first more y some = subst (λ (m : Sat). HasWorker m.0) (sym y.view) (some_first (with_more (loads l.chunk (first ∷ more))) before.0.workers some)
+-- So many exchanges of a call of `take` failed, and the last step found the word.
+abbrev pub TryingToTake : ℕ → ItemId → Sat → Sat → ℕ → ℕ → Head → List Head → Type 0
+TryingToTake limit l before now word failed first more =
+    Trying Fits (λ h. get_of limit l.generation h ≡ IsHeld) (take_refused limit l) seen_to_take l.chunk before now
+    word failed first more
 
--- after the load
-pub tries_start : (limit : ℕ) (l : ItemId) (before now : Sat) (word x : ℕ) → looked l.chunk x before word now → (first : Head) × (more : List Head) × Trying limit l before now word 0 first more
-tries_start limit l before now word x t = let spelled = t.1.1 in (
-  t.1.0,
-  [],
-  record {
-    heads = spelled.1;
-    tries = tt;
-    count = refl;
-    last = spelled.0;
-    view = t.0 ∙ ap (λ (n : ℕ). (looked_view l.chunk n before.0, before.1)) spelled.0;
-  },
-)
+-- what the call comes to
+pub record TakesSo (limit : ℕ) (l : ItemId) (before after : Sat) (answered : Option TakeRefusal) (first : Head)
+    (more : List Head)
+    : Type 0 where
+  pub found : TakeFound limit l first more
+  pub view : after ≡ (view_after_attempt limit l first more before.0, before.1)
+  pub answer : answered ≡ refusal_of limit l first more
 
-module _ (limit : ℕ) (l : ItemId) (before now : Sat) (word failed : ℕ) (first : Head) (more : List Head) (y : Trying limit l before now word failed first more) where
-  -- the head of the word is the last one
-  last_is : (h : Head) → Spells word h → last_found first more ≡ h
-  last_is h spelled = one_head word (last_found first more) h (y.last, last_fits first more y.heads) spelled
+module _ (limit : ℕ) (l : ItemId) (before : Sat) where
+  abbrev open_to_take : Head → Type 0
+  open_to_take h = get_of limit l.generation h ≡ IsHeld
 
-  -- an exchange failed
-  pub goes_on : (h : Head) → Spells word h → refused_by (get_of limit l.generation h) ≡ None → (next : Sat) (found : ℕ) → found ≢ word → taken l.chunk word now found next → (k : Head) × Trying limit l before next found (failed + 1) first (more ++ k ∷ [])
-  goes_on h spelled can next found miss t = let k : Head = t.2.0 in let other = t.2.1 in (
-    k,
-    record {
-      heads = heads_push first more k y.heads other.1;
-      tries = tries_push (λ j. get_of limit l.generation j ≡ IsHeld) first more k y.tries (ap (get_of limit l.generation) (last_is h spelled) ∙ unrefused (get_of limit l.generation h) can) (λ e. miss (other.0 ∙ ap word_of e ∙ sym y.last));
-      count = omega (arith, length-append more (k ∷ []), y.count);
-      last = other.0 ∙ ap word_of (sym (last_push first more k));
-      view = t.1 miss ∙ ap (λ (x : ℕ × Sat). (looked_view l.chunk x.0 x.1.0, x.1.1)) (λ i. (other.0 i, y.view i))
-          ∙ ap (λ (ws : List WorkerPart). (record before.0 { workers = ws }, before.1)) (more_again (loads l.chunk (first ∷ more)) (step_of kind.Load l.chunk (word_of k) None ∷ []) before.0.workers
-          ∙ ap (λ (s : List OwnStep). on_first (with_more s) before.0.workers) (sym (loads_push l.chunk (first ∷ more) k)));
-    },
-  )
+  -- after the load
+  pub take_starts : (now : Sat) (word x : ℕ) → load_to_take_tells l.chunk x before word now
+      → (first : Head) × (more : List Head) × TryingToTake limit l before now word 0 first more
+  take_starts now word x t = tries_start Fits open_to_take (take_refused limit l) seen_to_take l.chunk
+      (λ h fits. fits) before now word
+      t.1.0 t.1.1 t.1.1.1 (t.0 ∙ ap (λ (n : ℕ). (view_after_load l.chunk n before.0, before.1)) t.1.1.0)
 
-  -- by fewer than 8 exchanges that failed, the last head decides
-  decides : failed < 8 → (h : Head) → Spells word h → refusal_of limit l.generation first more ≡ refused_by (get_of limit l.generation h)
-  decides few h spelled = ap {B = Option TakeRefusal} (λ (b : Bool). if b then Some Busy else refused_by (get_of limit l.generation (last_found first more))) (ne_eqb (length more) 8 (λ e. absurd (omega (arith, e, y.count, few))))
-      ∙ ap (λ (k : Head). refused_by (get_of limit l.generation k)) (last_is h spelled)
+  module _ (now : Sat) (word failed : ℕ) (first : Head) (more : List Head)
+      (y : TryingToTake limit l before now word failed first more)
+    where
+      -- the seat still has its worker's part
+      pub still_working : HasWorker before.0 → HasWorker now.0
+      still_working some = subst (λ (m : Sat). HasWorker m.0) (sym y.view)
+          (some_first (with_more (loads l.chunk (first ∷ more))) before.0.workers some)
 
-  -- a refusal adds no step
-  stays : (r : TakeRefusal) → failed ≤ 8 → refusal_of limit l.generation first more ≡ Some r → TookView limit l before now (Some r) first more
-  stays r few is = record {
-    heads = y.heads;
-    tries = y.tries;
-    most = omega (arith, y.count);
-    steps = y.view
-        ∙ ap (λ (s : List OwnStep). (stepped_view s before.0, before.1)) (sym (append-nil (loads l.chunk (first ∷ more))))
-        ∙ ap (λ (o : Option TakeRefusal). (record before.0 { workers = on_first (with_more (loads l.chunk (first ∷ more) ++ takes l.chunk o (last_found first more))) before.0.workers; holds = held_by o l before.0.holds }, before.1)) (sym is);
-    answer = sym is;
-  }
+      -- the word is that of a head
+      pub take_head : (h : Head) × Spells word h
+      take_head = has_head Fits open_to_take (take_refused limit l) seen_to_take l.chunk (λ h fits. fits) before now
+          word failed first more y
 
-  -- the get table refuses
-  pub refuses : failed < 8 → (h : Head) → Spells word h → (r : TakeRefusal) → refused_by (get_of limit l.generation h) ≡ Some r → TookView limit l before now (Some r) first more
-  refuses few h spelled r is = stays r (omega (arith, few)) (decides few h spelled ∙ is)
+      -- by fewer than 8 exchanges that failed, the get table decides
+      decides : failed < 8 → (h : Head) → take_refused limit l failed h ≡ refused_by (get_of limit l.generation h)
+      decides few h = ap (λ (b : Bool). if b then Some Busy else refused_by (get_of limit l.generation h))
+          (ne_eqb failed 8 (λ e. absurd (omega (arith, e, few))))
 
-  -- 8 exchanges failed
-  pub gives_up : failed ≡ 8 → TookView limit l before now (Some Busy) first more
-  gives_up all = stays Busy (omega (arith, all)) (ap {B = Option TakeRefusal} (λ (b : Bool). if b then Some Busy else refused_by (get_of limit l.generation (last_found first more))) (eq-eqb (length more) 8 (y.count ∙ all)))
+      refusal_is : (h : Head) → Spells word h → refusal_of limit l first more ≡ take_refused limit l failed h
+      refusal_is h spelled = refused_is Fits open_to_take (take_refused limit l) seen_to_take l.chunk (λ h fits. fits)
+          before now word
+          failed first more y h spelled
 
-  -- an exchange found the word that it expects
-  pub takes_it : failed < 8 → (h : Head) → Spells word h → refused_by (get_of limit l.generation h) ≡ None → (next : Sat) (found : ℕ) → found ≡ word → taken l.chunk word now found next → TookView limit l before next None first more
-  takes_it few h spelled can next found hit t =
-      let k : Head = last_found first more in
-      let is : refusal_of limit l.generation first more ≡ None = decides few h spelled ∙ can in
-      let held : get_of limit l.generation k ≡ IsHeld = ap (get_of limit l.generation) (last_is h spelled) ∙ unrefused (get_of limit l.generation h) can in
-      let gen : word_of k / 2 ^ generation_first ≡ l.generation = (fields (word_of k) k (refl, last_fits first more y.heads)).generation ∙ (held_is limit l.generation k held).1 in record {
-        heads = y.heads;
-        tries = y.tries;
-        most = omega (arith, y.count, few);
-        steps = t.0 hit ∙ ap (λ (x : ℕ × Sat). (taken_view l.chunk x.0 x.1.0, x.1.1)) (λ i. ((hit ∙ y.last) i, y.view i))
-            ∙ ap (λ (x : List WorkerPart × ℕ). (record before.0 { workers = x.0; holds = new_hold (life l.chunk x.1) ∷ before.0.holds }, before.1)) (λ i. (more_again (loads l.chunk (first ∷ more)) (step_of kind.Take l.chunk (word_of k) None ∷ []) before.0.workers i, gen i))
-            ∙ ap (λ (o : Option TakeRefusal). (record before.0 { workers = on_first (with_more (loads l.chunk (first ∷ more) ++ takes l.chunk o k)) before.0.workers; holds = held_by o l before.0.holds }, before.1)) (sym is);
+      -- an exchange failed
+      pub take_goes_on : failed < 8 → (h : Head) → Spells word h → refused_by (get_of limit l.generation h) ≡ None
+          → (next : Sat) (found : ℕ)
+          → found ≢ word → take_tells l.chunk word now found next
+          → (k : Head) × TryingToTake limit l before next found (failed + 1) first (more ++ k ∷ [])
+      take_goes_on few h spelled can next found miss t = let k : Head = t.2.0 in
+          goes_on Fits open_to_take (take_refused limit l) seen_to_take l.chunk (λ h fits. fits) before now word failed
+          first more y
+          h spelled (unrefused (get_of limit l.generation h) can) (decides few h ∙ can) next found miss k t.2.1 t.2.1.1
+          (λ s view. t.1 miss ∙ ap₂ (λ (n : ℕ) (m : Sat). (view_after_load l.chunk n m.0, m.1)) t.2.1.0 view
+          ∙ ap (λ (v : View). (v, before.1))
+          (more_again s (step_of kind.Load l.chunk (word_of k) None ∷ []) before.0))
+
+      -- a refusal adds no step
+      take_stays : (r : TakeRefusal) → failed ≤ 8 → refusal_of limit l first more ≡ Some r → TakesSo limit l before now
+          (Some r) first more
+      take_stays r few is = record {
+        found = found_so Fits open_to_take (take_refused limit l) seen_to_take l.chunk (λ h fits. fits) before now word
+            failed first more y few;
+        view = y.view
+            ∙ ap (λ (s : List OwnStep). (on_worker (with_more s) before.0, before.1))
+            (sym (append-nil (loads l.chunk (first ∷ more))))
+            ∙ ap (λ (o : Option TakeRefusal). (
+              record before.0 {
+                workers = on_first (with_more (loads l.chunk (first ∷ more) ++ takes l.chunk o (last_found first more)))
+                    before.0.workers;
+                holds = held_by o l before.0.holds;
+              },
+              before.1,
+            )) (sym is);
         answer = sym is;
       }
+
+      -- the get table refuses
+      pub take_refuses : failed < 8 → (h : Head) → Spells word h → (r : TakeRefusal)
+          → refused_by (get_of limit l.generation h) ≡ Some r
+          → TakesSo limit l before now (Some r) first more
+      take_refuses few h spelled r is = take_stays r (omega (arith, few)) (refusal_is h spelled ∙ decides few h ∙ is)
+
+      -- 8 exchanges failed
+      pub take_gives_up : failed ≡ 8 → TakesSo limit l before now (Some Busy) first more
+      take_gives_up all = take_stays Busy (omega (arith, all)) (ap
+          (λ (b : Bool). if b then Some Busy else refused_by (get_of limit l.generation (last_found first more)))
+          (eq-eqb (length more) 8 (y.count ∙ all)))
+
+      -- an exchange found the word that it expects
+      pub takes_it : failed < 8 → (h : Head) → Spells word h → refused_by (get_of limit l.generation h) ≡ None
+          → (next : Sat) (found : ℕ)
+          → found ≡ word → take_tells l.chunk word now found next → TakesSo limit l before next None first more
+      takes_it few h spelled can next found hit t =
+          let k : Head = last_found first more in
+          let is : refusal_of limit l first more ≡ None = refusal_is h spelled ∙ decides few h ∙ can in
+          let now_is : k ≡ h = last_is Fits open_to_take (take_refused limit l) seen_to_take l.chunk (λ h fits. fits)
+          before now word failed
+          first more y h spelled in
+          let held : get_of limit l.generation k ≡ IsHeld = ap (get_of limit l.generation) now_is
+          ∙ unrefused (get_of limit l.generation h) can in
+          let gen : word_of k / 2 ^ generation_first ≡ l.generation =
+          (fields (word_of k) k (refl, last_is_one Fits first more y.heads)).generation
+          ∙ (held_is limit l.generation k held).1 in record {
+            found = found_so Fits open_to_take (take_refused limit l) seen_to_take l.chunk (λ h fits. fits) before now
+                word failed first more y (omega (arith, few));
+            view = t.0 hit ∙ ap₂ (λ (n : ℕ) (m : Sat). (view_after_take l.chunk n m.0, m.1)) (hit ∙ y.last) y.view
+                ∙ ap₂ (λ (v : View) (g : ℕ). (
+                  record v { holds = new_hold (life l.chunk g) ∷ before.0.holds },
+                  before.1,
+                ))
+                (more_again (loads l.chunk (first ∷ more)) (step_of kind.Take l.chunk (word_of k) None ∷ [])
+                before.0) gen
+                ∙ ap (λ (o : Option TakeRefusal). (
+                  record before.0 {
+                    workers = on_first (with_more (loads l.chunk (first ∷ more) ++ takes l.chunk o k)) before.0.workers;
+                    holds = held_by o l before.0.holds;
+                  },
+                  before.1,
+                )) (sym is);
+            answer = sym is;
+          }

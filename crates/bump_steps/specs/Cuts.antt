@@ -5,34 +5,42 @@ use Rattle.bump_steps.specs.Rule.{blank}
 use Rattle.bump_steps.specs.Plays.{behind, first_of}
 
 abbrev pub joined : View → View → View
-joined v w = record { workers = v.workers ++ w.workers; holds = v.holds ++ w.holds; riders = v.riders ++ w.riders; classes = v.classes ++ w.classes; lanes = v.lanes ++ w.lanes; returned = v.returned ++ w.returned }
+joined view other = record {
+  workers = view.workers ++ other.workers;
+  holds = view.holds ++ other.holds;
+  riders =
+      view.riders ++ other.riders;
+  classes = view.classes ++ other.classes;
+  lanes = view.lanes ++ other.lanes;
+  returned = view.returned ++ other.returned;
+}
 
 abbrev pub without_lanes : View → View
-without_lanes v = record v { lanes = [] }
+without_lanes view = record view { lanes = [] }
 
 abbrev pub lanes_only : View → View
-lanes_only v = record blank { lanes = v.lanes }
+lanes_only view = record blank { lanes = view.lanes }
 
 abbrev pub without_holds : View → View
-without_holds v = record v { holds = [] }
+without_holds view = record view { holds = [] }
 
 abbrev pub holds_only : View → View
-holds_only v = record blank { holds = v.holds }
+holds_only view = record blank { holds = view.holds }
 
 abbrev pub without_class : View → View
-without_class v = record v { classes = behind v.classes }
+without_class view = record view { classes = behind view.classes }
 
 abbrev pub class_only : View → View
-class_only v = record blank { classes = first_of v.classes }
+class_only view = record blank { classes = first_of view.classes }
 
 abbrev pub without_worker : View → View
-without_worker v = record v { workers = behind v.workers }
+without_worker view = record view { workers = behind view.workers }
 
 abbrev pub worker_only : View → View
-worker_only v = record blank { workers = first_of v.workers }
+worker_only view = record blank { workers = first_of view.workers }
 
 abbrev pub without_lane : View → View
-without_lane v = record v { lanes = behind v.lanes }
+without_lane view = record view { lanes = behind view.lanes }
 
 abbrev pub lane_only : View → View
-lane_only v = record blank { lanes = first_of v.lanes }
+lane_only view = record blank { lanes = first_of view.lanes }

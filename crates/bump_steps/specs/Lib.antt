@@ -7,7 +7,6 @@ pub mod References
 pub mod Tries
 pub mod Marks
 pub mod Rides
-pub mod RideTries
 pub mod Riders
 pub mod Lives
 pub mod Applications

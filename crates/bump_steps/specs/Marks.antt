@@ -19,63 +19,74 @@ use Rattle.bump_steps.specs.Plays.{Sat, Tells, chunk_of, Found, Told, on_first, 
 
 -- the worker's part changes
 abbrev pub on_worker : (WorkerPart → WorkerPart) → View → View
-on_worker f v = record v { workers = on_first f v.workers }
+on_worker change view = record view { workers = on_first change view.workers }
 
 -- the worker made a step on a chunk, for no bump: the word that it found, or the value that it stored
 abbrev pub noted : Kind → ℕ → ℕ → WorkerPart → WorkerPart
-noted kind c n p = record p { steps = p.steps ++ step_of kind c n None ∷ [] }
+noted kind chunk word worker = record worker { steps = worker.steps ++ step_of kind chunk word None ∷ [] }
 
 -- the life joins the first hits where FETCHED was found clear
 abbrev pub hits_after : Bool → ItemId → List ItemId → List ItemId
-hits_after true l hits = hits
-hits_after false l hits = hits ++ l ∷ []
+hits_after true item hits = hits
+hits_after false item hits = hits ++ item ∷ []
 
 -- the worker set FETCHED of the life, and found this head
-abbrev pub fetched_part : ItemId → Head → WorkerPart → WorkerPart
-fetched_part l h p = record (noted kind.Fetch l.chunk (word_of h) p) { hits = hits_after h.fetched l p.hits }
+abbrev pub worker_after_fetch : ItemId → Head → WorkerPart → WorkerPart
+worker_after_fetch item head worker = record (noted kind.Fetch item.chunk (word_of head) worker)
+    { hits = hits_after head.fetched item worker.hits }
 
 -- an Idle worker tries to take a reference for a bump
 abbrev pub trying : ItemId → Hand → Hand
-trying l hand.Idle = hand.Trying l
-trying l h = h
+trying item hand.Idle = hand.Trying item
+trying item so_far = so_far
 
 -- a bump of the life is attempted
 abbrev pub attempting : ItemId → WorkerPart → WorkerPart
-attempting l p = record p { hand = trying l p.hand; accounts = record p.accounts { attempted = p.accounts.attempted + 1 } }
+attempting item worker =
+    record worker {
+      hand = trying item worker.hand;
+      accounts =
+          record worker.accounts { attempted = worker.accounts.attempted + 1 };
+    }
 
 -- the worker set ACTIVE of the life, and found this head: a bump is attempted where ACTIVE was clear in COLD
-abbrev pub marked_part : ItemId → Head → WorkerPart → WorkerPart
-marked_part l h p = let q = noted kind.Mark l.chunk (word_of h) p in if not h.active && is_cold h.segment then attempting l q else q
+abbrev pub worker_after_mark : ItemId → Head → WorkerPart → WorkerPart
+worker_after_mark item head worker = let q = noted kind.Mark item.chunk (word_of head) worker in
+    if not head.active && is_cold head.segment then attempting item q else q
 
 -- a worker that was to clear ACTIVE is Idle
 abbrev pub done : Hand → Hand
-done (hand.Clearing l) = hand.Idle
-done h = h
+done (hand.Clearing item) = hand.Idle
+done so_far = so_far
 
 -- the worker cleared ACTIVE of the life, and found this head
-abbrev pub unmarked_part : ItemId → Head → WorkerPart → WorkerPart
-unmarked_part l h p = record (noted kind.Unmark l.chunk (word_of h) p) { hand = done p.hand }
+abbrev pub worker_after_unmark : ItemId → Head → WorkerPart → WorkerPart
+worker_after_unmark item head worker = record (noted kind.Unmark item.chunk (word_of head) worker)
+    { hand = done worker.hand }
 
 -- the worker stored the life's time
-abbrev pub timed_part : ItemId → ℕ → WorkerPart → WorkerPart
-timed_part l now p = noted kind.StoreTime l.chunk now p
+abbrev pub worker_after_store_time : ItemId → ℕ → WorkerPart → WorkerPart
+worker_after_store_time item now worker = noted kind.StoreTime item.chunk now worker
 
 -- What the steps tell: their operand, and the change of the part, by the head that the word found spells.
 abbrev pub changed_by : ℕ → (ItemId → Head → WorkerPart → WorkerPart) → Tells
-changed_by operand change c x m r n = (x ≡ operand) × Found r (λ h. (n ≡ (on_worker (change (life c h.generation) h) m.0, m.1)) × Told c m.0 h)
+changed_by operand change chunk given before word after = (given ≡ operand)
+    × Found word (λ h. (after ≡ (on_worker (change (life chunk h.generation) h) before.0, before.1))
+    × Told chunk before.0 h)
 
-abbrev pub fetched : Tells
-fetched = changed_by (2 ^ fetched_first) fetched_part
+abbrev pub fetch_tells : Tells
+fetch_tells = changed_by (2 ^ fetched_first) worker_after_fetch
 
-abbrev pub marked : Tells
-marked = changed_by (2 ^ active_first) marked_part
+abbrev pub mark_tells : Tells
+mark_tells = changed_by (2 ^ active_first) worker_after_mark
 
-abbrev pub unmarked : Tells
-unmarked = changed_by (2 ^ 64 - 1 - 2 ^ active_first) unmarked_part
+abbrev pub unmark_tells : Tells
+unmark_tells = changed_by (2 ^ 64 - 1 - 2 ^ active_first) worker_after_unmark
 
-abbrev pub timed : Step Empty → Sat → ℕ → Sat → Type 0
-timed st m r n = n ≡ (on_worker (timed_part (life (chunk_of st.word) 0) r) m.0, m.1)
+abbrev pub store_time_tells : Step Empty → Sat → ℕ → Sat → Type 0
+store_time_tells st before word after =
+    after ≡ (on_worker (worker_after_store_time (life (chunk_of st.word) 0) word) before.0, before.1)
 
 -- the seat refers to a life of the chunk, and set its FETCHED
 abbrev pub MayMark : ℕ → View → Type 0
-MayMark c v = (g : ℕ) × (0 < weight c (held g) v) × (0 < weight c (saw g) v)
+MayMark chunk view = (g : ℕ) × (0 < weight chunk (held g) view) × (0 < weight chunk (saw g) view)

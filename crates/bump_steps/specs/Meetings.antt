@@ -5,21 +5,22 @@ use Rattle.bump_rules.specs.Totals.{total}
 use Rattle.bump_steps.specs.declared.views.ClassPart.{ClassPart}
 use Rattle.bump_steps.specs.declared.views.HoldPart.{HoldPart}
 use Rattle.bump_steps.specs.declared.views.View.{View}
-use Rattle.bump_steps.specs.Views.{owns, standing, label_of, differs}
+use Rattle.bump_steps.specs.Views.{owns, standing, last_label, differs}
 use Rattle.bump_steps.specs.Plays.{Tells}
 
 -- what a class and a hold of one of its chunks know, where x is the label word of the chunk
-pub record Met (k : ClassPart) (h : HoldPart) (x : ℕ) : Type 0 where
+pub record Met (class : ClassPart) (hold : HoldPart) (word : ℕ) : Type 0 where
   -- it is what the class stored last for the chunk, and each label that the hold read
-  pub label : label_of k h.life.chunk ≡ x
-  pub read : total (differs x) h.labels ≡ 0
+  pub label : last_label class hold.life.chunk ≡ word
+  pub read : total (differs word) hold.labels ≡ 0
   -- the chunk is not free, and in the hold's life
-  pub used : IsUsed (standing k h.life.chunk).0
-  pub generation : (standing k h.life.chunk).1 ≡ h.life.generation
+  pub used : IsUsed (standing class hold.life.chunk).0
+  pub generation : (standing class hold.life.chunk).1 ≡ hold.life.generation
 
 -- a class's seat to which a hold is joined finds this label word of chunk c
 abbrev pub Meets : ℕ → View → ℕ → Type 0
-Meets c v x = (k : ClassPart) (h : HoldPart) → v.classes ≡ k ∷ [] → v.holds ≡ h ∷ [] → owns c k ≡ true → h.life.chunk ≡ c → Met k h x
+Meets chunk view label = (k : ClassPart) (h : HoldPart) → view.classes ≡ k ∷ [] → view.holds ≡ h ∷ []
+    → owns chunk k ≡ true → h.life.chunk ≡ chunk → Met k h label
 
-abbrev pub met : Tells
-met c x m r n = (n ≡ m) × Meets c m.0 r
+abbrev pub load_to_meet_tells : Tells
+load_to_meet_tells chunk operand before word after = (after ≡ before) × Meets chunk before.0 word

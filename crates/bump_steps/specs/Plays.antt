@@ -9,7 +9,7 @@ use Rattle.bump_steps.specs.declared.views.Empty.{Empty}
 use Rattle.bump_steps.specs.declared.views.Kind.{Kind}
 use Rattle.bump_steps.specs.declared.views.OwnStep.{OwnStep}
 use Rattle.bump_steps.specs.declared.views.View.{View}
-use Rattle.bump_steps.specs.Views.{named, saw, owners, strays, weight, aboard_of, active_clear, owns, label_of, differs, Query, moves, settled, lanes_of}
+use Rattle.bump_steps.specs.Views.{named, saw, owners, strays, weight, Query, moves, settled, lanes_of}
 
 abbrev pub Sat : Type 0
 Sat = Me Empty View
@@ -27,42 +27,45 @@ on_chunk tells st = tells (chunk_of st.word) st.first
 
 -- the number found is the word of a head, of which P holds
 abbrev pub Found : ℕ → (Head → Type 0) → Type 0
-Found n P = (h : Head) × Spells n h × P h
+Found word Holds = (h : Head) × Spells word h × Holds h
 
 -- the seat's class has the chunk, and its history leaves it there
 abbrev pub Stands : ℕ → View → Standing → Type 0
-Stands c v s = (weight c owners v ≡ 1) × (weight c (strays s) v ≡ 0)
+Stands chunk view at = (weight chunk owners view ≡ 1) × (weight chunk (strays at) view ≡ 0)
 
 -- every bump `n` of worker w
 abbrev pub every : ℕ → ℕ → Query
-every w n = record { test = λ l. true; worker = w; number = n }
+every worker number = record { test = λ l. true; worker = worker; number = number }
 
 -- What a view tells of the head that its chunk's word spells.
-pub record Told (c : ℕ) (v : View) (h : Head) : Type 0 where
+pub record Told (chunk : ℕ) (view : View) (head : Head) : Type 0 where
   -- a reference's life is the chunk's
-  pub held : (g : ℕ) → 0 < weight c (Rattle.bump_steps.specs.Views.held g) v → g ≡ h.generation
+  pub held : (g : ℕ) → 0 < weight chunk (Rattle.bump_steps.specs.Views.held g) view → g ≡ head.generation
   -- the count is at least the view's own references
-  pub many : (g : ℕ) → weight c (Rattle.bump_steps.specs.Views.held g) v ≤ h.refs
+  pub many : (g : ℕ) → weight chunk (Rattle.bump_steps.specs.Views.held g) view ≤ head.refs
   -- a chunk of the view's class stands where its history leaves it
-  pub stood : (at : Standing) → Stands c v at → Shows h at.0 × (h.generation ≡ at.1)
+  pub stood : (at : Standing) → Stands chunk view at → Shows head at.0 × (head.generation ≡ at.1)
   -- and is not free where the view has a reference to it
-  pub busy : (g : ℕ) → 0 < weight c (Rattle.bump_steps.specs.Views.held g) v → (at : Standing) → Stands c v at → IsUsed at.0
+  pub in_use : (g : ℕ) → 0 < weight chunk (Rattle.bump_steps.specs.Views.held g) view → (at : Standing)
+      → Stands chunk view at → IsUsed at.0
   -- ACTIVE implies FETCHED, which is set where the view names the life's first hit, or had FETCHED set
-  pub active : bit h.active ≤ bit h.fetched
-  pub hit : weight c (named h.generation) v ≤ bit h.fetched
-  pub saw : 0 < weight c (Rattle.bump_steps.specs.Views.saw h.generation) v → h.fetched ≡ true
+  pub active : bit head.active ≤ bit head.fetched
+  pub hit : weight chunk (named head.generation) view ≤ bit head.fetched
+  pub saw : 0 < weight chunk (Rattle.bump_steps.specs.Views.saw head.generation) view → head.fetched ≡ true
   -- no life is named twice
-  pub named : (g : ℕ) → weight c (Rattle.bump_steps.specs.Views.named g) v ≤ 1
-  -- the histories of the view name no bump twice, and each move of a bump whose lane is in the view is told by this lane
-  pub once : (w n : ℕ) → moves (every w n) v ≤ 1
-  pub told : (q : Query) → 0 < lanes_of q.worker v → moves q v ≤ settled q v
+  pub named : (g : ℕ) → weight chunk (Rattle.bump_steps.specs.Views.named g) view ≤ 1
+  -- the histories of the view name no bump twice, and each move of a bump whose lane is in the view is told by this
+  -- lane
+  pub once : (w n : ℕ) → moves (every w n) view ≤ 1
+  pub told : (q : Query) → 0 < lanes_of q.worker view → moves q view ≤ settled q view
 
--- Each step is noted in the list of a part: a seat that has none makes no such step. The seat has the part of a worker, or of a class.
+-- Each step is noted in the list of a part: a seat that has none makes no such step. The seat has the part of a
+-- worker, or of a class.
 abbrev pub HasWorker : View → Type 0
-HasWorker v = 0 < length v.workers
+HasWorker view = 0 < length view.workers
 
 abbrev pub HasClass : View → Type 0
-HasClass v = 0 < length v.classes
+HasClass view = 0 < length view.classes
 
 -- ---- lists
 
@@ -75,9 +78,9 @@ first_of [] = []
 first_of (x ∷ xs) = x ∷ []
 
 abbrev pub on_first : {A : Type 0} → (A → A) → List A → List A
-on_first f [] = []
-on_first f (x ∷ xs) = f x ∷ xs
+on_first change [] = []
+on_first change (x ∷ xs) = change x ∷ xs
 
 -- a seat's own step
 abbrev pub step_of : Kind → ℕ → ℕ → Option (ℕ × ℕ) → OwnStep
-step_of kind c n bump = record { kind = kind; chunk = c; word = n; bump = bump }
+step_of kind chunk word bump = record { kind = kind; chunk = chunk; word = word; bump = bump }

@@ -1,4 +1,5 @@
--- What a reader's steps on a reference tell: a worker looks at a head word and takes a reference by an exchange, and a hold gives
+-- What a reader's steps on a reference tell: a worker looks at a head word and takes a reference by an exchange, and
+-- a hold gives
 -- its reference back, and reads its label. And what is told of a word that is seen without a seat.
 use Rattle.std.specs.Prelude.{◌≡◌, ◌≢◌, ℕ, ◌/◌, ◌^◌, ◌≤◌, List, [], ◌∷◌, ◌++◌}
 use Rattle.bump_rules.specs.declared.items.Head.{Head}
@@ -19,66 +20,77 @@ use Rattle.bump_steps.specs.Rule.{blank}
 use Rattle.bump_steps.specs.Views.{differs}
 
 -- the worker loaded the chunk's head word, and found n
-abbrev pub looked_view : ℕ → ℕ → View → View
-looked_view c n v = on_worker (noted kind.Load c n) v
+abbrev pub view_after_load : ℕ → ℕ → View → View
+view_after_load chunk word view = on_worker (noted kind.Load chunk word) view
 
-abbrev pub looked : Tells
-looked c x m r n = (n ≡ (looked_view c r m.0, m.1)) × Found r (Told c m.0)
+abbrev pub load_to_take_tells : Tells
+load_to_take_tells chunk operand before word after = (after ≡ (view_after_load chunk word before.0, before.1))
+    × Found word (Told chunk before.0)
 
 -- a hold of the life, which read no label
 abbrev pub new_hold : ItemId → HoldPart
-new_hold l = record { life = l; labels = [] }
+new_hold item = record { life = item; labels = [] }
 
 -- the worker took a reference where it found n: the life is the one whose generation n has
-abbrev pub taken_view : ℕ → ℕ → View → View
-taken_view c n v = record v { workers = on_first (noted kind.Take c n) v.workers; holds = new_hold (life c (n / 2 ^ generation_first)) ∷ v.holds }
+abbrev pub view_after_take : ℕ → ℕ → View → View
+view_after_take chunk word view = record view {
+  workers = on_first (noted kind.Take chunk word) view.workers;
+  holds =
+      new_hold (life chunk (word / 2 ^ generation_first)) ∷ view.holds;
+}
 
 -- an exchange that finds another word than it expects is a load
-abbrev pub taken : Tells
-taken c x m r n = (r ≡ x → n ≡ (taken_view c r m.0, m.1)) × (r ≢ x → n ≡ (looked_view c r m.0, m.1)) × Found r (Told c m.0)
+abbrev pub take_tells : Tells
+take_tells chunk operand before word after =
+    (word ≡ operand → after ≡ (view_after_take chunk word before.0, before.1))
+    × (word ≢ operand → after ≡ (view_after_load chunk word before.0, before.1)) × Found word (Told chunk before.0)
 
 -- by this word a get of the life is a hold
 abbrev pub MayTake : ℕ → ItemId → ℕ → Type 0
-MayTake limit l n = (h : Head) × Spells n h × (get_of limit l.generation h ≡ IsHeld)
+MayTake limit item word = (h : Head) × Spells word h × (get_of limit item.generation h ≡ IsHeld)
 
 -- the view's first hold is of this chunk
 abbrev pub HasHold : ℕ → View → Type 0
-HasHold c v = (h : HoldPart) × (v.holds ≡ h ∷ behind v.holds) × (h.life.chunk ≡ c)
+HasHold chunk view = (h : HoldPart) × (view.holds ≡ h ∷ behind view.holds) × (h.life.chunk ≡ chunk)
 
 -- the mark of the first hold: its reference was given back where n was found
-abbrev pub given_by : ℕ → List HoldPart → List GivenBack
-given_by n [] = []
-given_by n (h ∷ hs) = record { life = h.life; word = n } ∷ []
+abbrev pub marks_of_release : ℕ → List HoldPart → List GivenBack
+marks_of_release word [] = []
+marks_of_release word (hold ∷ hs) = record { life = hold.life; word = word } ∷ []
 
 -- the first hold gave its reference back, of which no other step leaves the mark
-abbrev pub given_view : ℕ → View → View
-given_view n v = record v { holds = behind v.holds; returned = v.returned ++ given_by n v.holds }
+abbrev pub view_after_release : ℕ → View → View
+view_after_release word view =
+    record view { holds = behind view.holds; returned = view.returned ++ marks_of_release word view.holds }
 
-abbrev pub given_back : Tells
-given_back c x m r n = (n ≡ (given_view r m.0, m.1)) × Found r (Told c m.0)
+abbrev pub release_of_hold_tells : Tells
+release_of_hold_tells chunk operand before word after = (after ≡ (view_after_release word before.0, before.1))
+    × Found word (Told chunk before.0)
 
 -- the hold read a label
-abbrev pub read_hold : ℕ → HoldPart → HoldPart
-read_hold x h = record h { labels = h.labels ++ x ∷ [] }
+abbrev pub hold_after_label_load : ℕ → HoldPart → HoldPart
+hold_after_label_load label hold = record hold { labels = hold.labels ++ label ∷ [] }
 
-abbrev pub read_view : ℕ → View → View
-read_view x v = record v { holds = on_first (read_hold x) v.holds }
+abbrev pub view_after_label_load : ℕ → View → View
+view_after_label_load label view = record view { holds = on_first (hold_after_label_load label) view.holds }
 
 -- the label is each one that the first hold, of this chunk, read before
 abbrev pub IsLabel : ℕ → View → ℕ → Type 0
-IsLabel c v x = (h : HoldPart) → v.holds ≡ h ∷ behind v.holds → h.life.chunk ≡ c → total (differs x) h.labels ≡ 0
+IsLabel chunk view label = (h : HoldPart) → view.holds ≡ h ∷ behind view.holds → h.life.chunk ≡ chunk
+    → total (differs label) h.labels ≡ 0
 
-abbrev pub label_read : Tells
-label_read c x m r n = (n ≡ (read_view r m.0, m.1)) × IsLabel c m.0 r
+abbrev pub label_load_tells : Tells
+label_load_tells chunk operand before word after = (after ≡ (view_after_label_load word before.0, before.1))
+    × IsLabel chunk before.0 word
 
 -- what holds of the head of each chunk at all times
-pub record IsSeen (limit : ℕ) (h : Head) : Type 0 where
+pub record IsAnyHead (limit : ℕ) (head : Head) : Type 0 where
   -- the count is at most the limit, and an item has a reference for being linked
-  pub within : h.refs ≤ limit
-  pub linked : bit h.linked ≤ h.refs
+  pub within : head.refs ≤ limit
+  pub linked : bit head.linked ≤ head.refs
   -- ACTIVE implies FETCHED
-  pub active : bit h.active ≤ bit h.fetched
+  pub active : bit head.active ≤ bit head.fetched
 
 -- a load without a seat: the new seat knows nothing
-abbrev pub seen : ℕ → Tells
-seen limit c x m r n = (n ≡ (blank, [])) × Found r (IsSeen limit)
+abbrev pub load_without_seat_tells : ℕ → Tells
+load_without_seat_tells limit chunk operand before word after = (after ≡ (blank, [])) × Found word (IsAnyHead limit)

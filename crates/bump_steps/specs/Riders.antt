@@ -12,30 +12,31 @@ use Rattle.bump_steps.specs.Rule.{blank}
 use Rattle.bump_steps.specs.Plays.{on_first}
 
 abbrev pub ride_me : Ride → Me Empty View
-ride_me r = (record blank { riders = r ∷ [] }, [])
+ride_me ride = (record blank { riders = ride ∷ [] }, [])
 
 -- the view of a lane's seat
 abbrev pub lane_me : LanePart → Me Empty View
-lane_me l = (record blank { lanes = l ∷ [] }, [])
+lane_me this_lane = (record blank { lanes = this_lane ∷ [] }, [])
 
-abbrev pub bump_of : Ride → Bump
-bump_of r = record { number = r.number; life = r.life }
+abbrev pub bump_of_ride : Ride → Bump
+bump_of_ride ride = record { number = ride.number; life = ride.life }
 
-abbrev pub boarded : Bump → LanePart → LanePart
-boarded b l = record l { stage = lane.Carrying b }
+abbrev pub lane_after_board : Bump → LanePart → LanePart
+lane_after_board bump this_lane = record this_lane { stage = lane.Carrying bump }
 
 abbrev pub applied_by : Option LanePart → List AppliedBump
 applied_by None = []
-applied_by (Some l) = l.applied
+applied_by (Some this_lane) = this_lane.applied
 
 -- the rider's life goes aboard the first lane; there its number is that of bumps that the lane boarded before
 abbrev pub aboard_next : Ride → LanePart → LanePart
-aboard_next r l = record l { stage = lane.Carrying (record { number = length l.applied; life = r.life }) }
+aboard_next ride this_lane =
+    record this_lane { stage = lane.Carrying (record { number = length this_lane.applied; life = ride.life }) }
 
 abbrev pub board_lanes : List Ride → List LanePart → List LanePart
 board_lanes [] ls = ls
-board_lanes (r ∷ rs) ls = on_first (aboard_next r) ls
+board_lanes (ride ∷ rs) ls = on_first (aboard_next ride) ls
 
 -- how a rider's view joins a lane's
 abbrev pub board_both : View → View → View
-board_both v w = record v { lanes = board_lanes w.riders v.lanes }
+board_both view other = record view { lanes = board_lanes other.riders view.lanes }

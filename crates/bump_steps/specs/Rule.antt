@@ -22,20 +22,21 @@ use Rattle.bump_steps.specs.declared.views.View.{View}
 use Rattle.bump_steps.specs.Views.{Measure, held, named, saw, owners, strays, mislabels, misreads, tally, claims, evidence, Query, moves, settled, foreign, AreLabelled, workers_of, lanes_of, untidy}
 
 -- A chunk is sound: n is its head word, x its label word, and t what all views together count of it.
-pub record Sound (limit n x : ℕ) (t : Measure → ℕ) : Type 0 where
-  -- the head word is that of a Head, and the chunk stands in some list, so that it is lawful by the references and first hits of all views
+pub record Sound (limit word label : ℕ) (tally_of : Measure → ℕ) : Type 0 where
+  -- the head word is that of a Head, and the chunk stands in some list, so that it is lawful by the references and
+  -- first hits of all views
   pub head : Head
   pub at : Place
-  pub spells : Spells n head
-  pub lawful : Lawful limit head at (λ g. t (held g)) (λ g. t (named g))
+  pub spells : Spells word head
+  pub lawful : Lawful limit head at (λ g. tally_of (held g)) (λ g. tally_of (named g))
   -- one class has the chunk, and its history leaves it there, in this generation
-  pub owned : t owners ≡ 1
-  pub agreed : t (strays (at, head.generation)) ≡ 0
+  pub owned : tally_of owners ≡ 1
+  pub agreed : tally_of (strays (at, head.generation)) ≡ 0
   -- the label word is what this class stored last, and all that holds of the life read
-  pub labelled : t (mislabels x) ≡ 0
-  pub read : t (misreads head.generation x) ≡ 0
+  pub labelled : tally_of (mislabels label) ≡ 0
+  pub read : tally_of (misreads head.generation label) ≡ 0
   -- a life of which some worker set FETCHED has its first hit
-  pub hit : (g : ℕ) → 0 < t (saw g) → 0 < t (named g)
+  pub hit : (g : ℕ) → 0 < tally_of (saw g) → 0 < tally_of (named g)
 
 -- how many chunks there are
 abbrev pub chunks : Config → ℕ
@@ -43,59 +44,77 @@ chunks key = chunks_of key.classes
 
 -- The words of chunk c stand side by side: its head, its time, of which nothing is said, and its label.
 abbrev pub SoundAt : Config → State Empty View → ℕ → Type 0
-SoundAt key s c = Sound key.refs_limit (slice_index s.words (3 * c + 9)) (slice_index s.words (3 * c + 11)) (tally s.views c)
+SoundAt key state chunk = Sound key.refs_limit (slice_index state.words (3 * chunk + 9))
+    (slice_index state.words (3 * chunk + 11)) (tally state.views chunk)
 
 -- the limit of references is at least 1, and has room in the bits of a head word's count
 abbrev pub HasFittingLimit : Config → Type 0
 HasFittingLimit key = (0 < key.refs_limit) × (key.refs_limit < 2 ^ refs_width)
 
-pub record Kept (key : Config) (s : State Empty View) : Type 0 where
-  pub wide : length s.words ≡ 3 * chunks key + 9
+pub record Kept (key : Config) (state : State Empty View) : Type 0 where
+  pub wide : length state.words ≡ 3 * chunks key + 9
   pub small : HasFittingLimit key
-  pub each : (c : ℕ) → c < chunks key → SoundAt key s c
+  pub each : (c : ℕ) → c < chunks key → SoundAt key state c
   -- each applied entry is true
-  pub true_entries : (w : ℕ) (a : AppliedBump) → 0 < total (claims w a) s.views → 0 < total (evidence w a) s.views
+  pub true_entries : (w : ℕ) (a : AppliedBump) → 0 < total (claims w a) state.views
+      → 0 < total (evidence w a) state.views
   -- each move for a bump is told by one entry of a lane, or is in progress there
-  pub even_moves : (q : Query) → total (moves q) s.views ≡ total (settled q) s.views
+  pub even_moves : (q : Query) → total (moves q) state.views ≡ total (settled q) state.views
   -- a class's history speaks of its own chunks alone
-  pub own_chunks : total foreign s.views ≡ 0
+  pub own_chunks : total foreign state.views ≡ 0
   -- and has the label of each life
-  pub own_labels : AreLabelled s.views
+  pub own_labels : AreLabelled state.views
   -- a worker has one part and one lane, and each lane's bumps are numbered in order
-  pub one_worker : (n : ℕ) → total (workers_of n) s.views ≤ 1
-  pub one_lane : (n : ℕ) → total (lanes_of n) s.views ≤ 1
-  pub orderly : total untidy s.views ≡ 0
+  pub one_worker : (n : ℕ) → total (workers_of n) state.views ≤ 1
+  pub one_lane : (n : ℕ) → total (lanes_of n) state.views ≤ 1
+  pub orderly : total untidy state.views ≡ 0
 
 -- The views at the start: one seat has every part.
 
 -- the classes from this number and this chunk on
 abbrev pub class_parts : ℕ → ℕ → ℕ → List ClassConfig → List ClassPart
 class_parts fresh class first [] = []
-class_parts fresh class first (k ∷ ks) = record { class = class; first = first; count = k.chunks; fresh = fresh; history = []; labels = []; steps = [] } ∷ class_parts fresh (class + 1) (first + k.chunks) ks
+class_parts fresh class first (config ∷ ks) = record {
+  class = class;
+  first = first;
+  count = config.chunks;
+  fresh =
+      fresh;
+  history = [];
+  labels = [];
+  steps = [];
+} ∷ class_parts fresh (class + 1) (first + config.chunks) ks
 
 abbrev pub worker_part : ℕ → WorkerPart
-worker_part w = record { worker = w; hand = hand.Idle; accounts = no_accounts; hits = []; steps = [] }
+worker_part worker = record { worker = worker; hand = hand.Idle; accounts = no_accounts; hits = []; steps = [] }
 
 -- n workers from w on
 abbrev pub worker_parts : ℕ → ℕ → List WorkerPart
-worker_parts w zero = []
-worker_parts w (suc n) = worker_part w ∷ worker_parts (w + 1) n
+worker_parts worker zero = []
+worker_parts worker (suc count) = worker_part worker ∷ worker_parts (worker + 1) count
 
 abbrev pub lane_part : ℕ → LanePart
-lane_part w = record { worker = w; stage = lane.Empty; applied = []; steps = [] }
+lane_part worker = record { worker = worker; stage = lane.Empty; applied = []; steps = [] }
 
 -- the lanes of n workers from w on
 abbrev pub lane_parts : ℕ → ℕ → List LanePart
-lane_parts w zero = []
-lane_parts w (suc n) = lane_part w ∷ lane_parts (w + 1) n
+lane_parts worker zero = []
+lane_parts worker (suc count) = lane_part worker ∷ lane_parts (worker + 1) count
 
 -- the view that has nothing: what a seat that was joined leaves behind
 abbrev pub blank : View
 blank = record { workers = []; holds = []; riders = []; classes = []; lanes = []; returned = [] }
 
 abbrev pub opened : Config → View
-opened key = record blank { workers = worker_parts 0 key.workers; classes = class_parts (key.first_generation - 1) 0 0 key.classes; lanes = lane_parts 0 key.workers }
+opened key = record blank {
+  workers = worker_parts 0 key.workers;
+  classes = class_parts (key.first_generation - 1) 0 0
+      key.classes;
+  lanes = lane_parts 0 key.workers;
+}
 
 -- words of chunks that had no life
 abbrev pub AreFresh : ℕ → ℕ → List ℕ → Type 0
-AreFresh count g words = (length words ≡ 3 * count + 9) × ((c : ℕ) → c < count → (slice_index words (3 * c + 9) ≡ 2 ^ generation_first * g) × (slice_index words (3 * c + 11) ≡ 0))
+AreFresh count generation words = (length words ≡ 3 * count + 9)
+    × ((c : ℕ) → c < count → (slice_index words (3 * c + 9) ≡ 2 ^ generation_first * generation)
+    × (slice_index words (3 * c + 11) ≡ 0))

@@ -1,9 +1,11 @@
--- What an attempt to take a reference comes to, by the heads that it found: the first one by its load, and more by the exchanges that
--- failed, in order.
-use Rattle.std.specs.Prelude.{◌≡◌, ◌≢◌, ℕ, ◌≤◌, ◌==◌, if◌then◌else◌, List, [], ◌∷◌, ◌++◌, length, Option, Some, None}
+-- What an attempt to take a reference comes to, for a hold or for a bump, by the heads that it found: the first one
+-- by its load, and more
+-- by the exchanges that failed, in order.
+use Rattle.std.specs.Prelude.{◌≡◌, ◌≢◌, ℕ, ◌<◌, ◌≤◌, ◌==◌, if◌then◌else◌, List, [], ◌∷◌, ◌++◌, length, Option, Some, None}
+use Rattle.bump_rules.specs.declared.commands.Dropped.{Dropped}
 use Rattle.bump_rules.specs.declared.items.Head.{Head}
 use Rattle.bump_rules.specs.declared.items.ItemId.{ItemId}
-use Rattle.bump_rules.specs.Tables.{Get, IsHeld, IsStale, IsRefsFull, get_of}
+use Rattle.bump_rules.specs.Tables.{Get, IsHeld, IsStale, IsRefsFull, get_of, most_exchanges, refused_of}
 use Rattle.bump_word.specs.Words.{Fits, word_of}
 use Rattle.bump_steps.specs.declared.refusals.TakeRefusal.{TakeRefusal}
 use Rattle.bump_steps.specs.declared.refusals.TakeRefusal.TheVariants.{Stale, RefsFull, Busy}
@@ -12,23 +14,53 @@ use Rattle.bump_steps.specs.declared.views.Kind.TheVariants as kind
 use Rattle.bump_steps.specs.declared.views.OwnStep.{OwnStep}
 use Rattle.bump_steps.specs.declared.views.View.{View}
 use Rattle.bump_steps.specs.declared.views.WorkerPart.{WorkerPart}
-use Rattle.bump_steps.specs.Plays.{Sat, on_first, step_of}
+use Rattle.bump_steps.specs.Plays.{on_first, step_of}
 use Rattle.bump_steps.specs.References.{new_hold}
+use Rattle.bump_steps.specs.Rides.{IsOfHeld, judged, worker_after_reserve}
+
+-- ---- the heads
 
 -- the head that was found last
 abbrev pub last_found : Head → List Head → Head
-last_found h [] = h
-last_found h (k ∷ more) = last_found k more
+last_found first [] = first
+last_found first (next ∷ more) = last_found next more
 
--- each of them is what a word can spell
-abbrev pub AreHeads : Head → List Head → Type 0
-AreHeads h [] = Fits h
-AreHeads h (k ∷ more) = Fits h × AreHeads k more
+-- each of them is as it has to be
+abbrev pub AreAll : (Head → Type 0) → Head → List Head → Type 0
+AreAll Is first [] = Is first
+AreAll Is first (next ∷ more) = Is first × AreAll Is next more
 
--- By each of them but the last there is a reference to take, so that an exchange was tried; and it failed, since it found another one.
+-- By each of them but the last there is a reference to take, so that an exchange was tried; and it failed, since it
+-- found another one.
 abbrev pub AreTries : (Head → Type 0) → Head → List Head → Type 0
-AreTries IsOpen h [] = Unit {0}
-AreTries IsOpen h (k ∷ more) = IsOpen h × (k ≢ h) × AreTries IsOpen k more
+AreTries IsOpen first [] = Unit {0}
+AreTries IsOpen first (next ∷ more) = IsOpen first × (next ≢ first) × AreTries IsOpen next more
+
+-- what the steps of one attempt found
+pub record AttemptFound (Is IsOpen : Head → Type 0) (first : Head) (more : List Head) : Type 0 where
+  pub heads : AreAll Is first more
+  pub tries : AreTries IsOpen first more
+  -- at most 8 exchanges failed
+  pub most : length more ≤ most_exchanges
+
+-- for a hold of the life: each is what a word can spell, and a get is a hold by each at which an exchange was tried
+abbrev pub TakeFound : ℕ → ItemId → Head → List Head → Type 0
+TakeFound limit item first more = AttemptFound Fits (λ h. get_of limit item.generation h ≡ IsHeld) first more
+
+-- for a bump: each is of the life that the worker holds, and has room for a reference where an exchange was tried
+abbrev pub RideFound : ℕ → ItemId → Head → List Head → Type 0
+RideFound limit item first more = AttemptFound (λ h. Fits h × IsOfHeld limit item h) (λ h. h.refs < limit) first more
+
+-- the load, and each exchange that failed
+abbrev pub loads : ℕ → List Head → List OwnStep
+loads chunk [] = []
+loads chunk (head ∷ more) = step_of kind.Load chunk (word_of head) None ∷ loads chunk more
+
+-- the worker made these steps
+abbrev pub with_more : List OwnStep → WorkerPart → WorkerPart
+with_more steps worker = record worker { steps = worker.steps ++ steps }
+
+-- ---- for a hold
 
 -- why the get table refuses, if it does
 abbrev pub refused_by : Get → Option TakeRefusal
@@ -36,43 +68,53 @@ refused_by IsStale = Some Stale
 refused_by IsRefsFull = Some RefsFull
 refused_by IsHeld = None
 
--- Why the call is refused, if it is: it is busy where 8 exchanges failed, whatever the last of them found, and else the head that was
--- found last decides.
-abbrev pub refusal_of : ℕ → ℕ → Head → List Head → Option TakeRefusal
-refusal_of limit g first more = if length more == 8 then Some Busy else refused_by (get_of limit g (last_found first more))
+-- Why no reference is taken where so many exchanges failed, and this head was found last, if none is: it is busy
+-- where 8 failed, whatever
+-- the last of them found, and else the get table decides.
+abbrev pub take_refused : ℕ → ItemId → ℕ → Head → Option TakeRefusal
+take_refused limit item failed found = if failed == most_exchanges then Some Busy else refused_by
+    (get_of limit item.generation found)
 
--- the load, and each exchange that failed
-abbrev pub loads : ℕ → List Head → List OwnStep
-loads c [] = []
-loads c (h ∷ hs) = step_of kind.Load c (word_of h) None ∷ loads c hs
+-- why the call is refused, if it is
+abbrev pub refusal_of : ℕ → ItemId → Head → List Head → Option TakeRefusal
+refusal_of limit item first more = take_refused limit item (length more) (last_found first more)
 
 -- the exchange by which the reference was taken, if it was
 abbrev pub takes : ℕ → Option TakeRefusal → Head → List OwnStep
-takes c None h = step_of kind.Take c (word_of h) None ∷ []
-takes c (Some refusal) h = []
+takes chunk None head = step_of kind.Take chunk (word_of head) None ∷ []
+takes chunk (Some refusal) head = []
 
 -- the steps of the call
 abbrev pub steps_of : ℕ → ItemId → Head → List Head → List OwnStep
-steps_of limit l first more = loads l.chunk (first ∷ more) ++ takes l.chunk (refusal_of limit l.generation first more) (last_found first more)
-
--- the worker made these steps
-abbrev pub with_more : List OwnStep → WorkerPart → WorkerPart
-with_more steps w = record w { steps = w.steps ++ steps }
+steps_of limit item first more = loads item.chunk (first ∷ more) ++ takes item.chunk
+    (refusal_of limit item first more) (last_found first more)
 
 -- the new hold, if there is one, is the first
 abbrev pub held_by : Option TakeRefusal → ItemId → List HoldPart → List HoldPart
-held_by None l hs = new_hold l ∷ hs
-held_by (Some refusal) l hs = hs
+held_by None item holds = new_hold item ∷ holds
+held_by (Some refusal) item holds = holds
 
-abbrev pub stepped_view : List OwnStep → View → View
-stepped_view steps v = record v { workers = on_first (with_more steps) v.workers }
+-- the view after the call
+abbrev pub view_after_attempt : ℕ → ItemId → Head → List Head → View → View
+view_after_attempt limit item first more view = record view {
+  workers = on_first (with_more (steps_of limit item first more)) view.workers;
+  holds = held_by (refusal_of limit item first more) item view.holds;
+}
 
-abbrev pub took_view : ℕ → ItemId → Head → List Head → View → View
-took_view limit l first more v = record v { workers = on_first (with_more (steps_of limit l first more)) v.workers; holds = held_by (refusal_of limit l.generation first more) l v.holds }
+-- ---- for a bump
 
-pub record TookView (limit : ℕ) (l : ItemId) (before after : Sat) (answered : Option TakeRefusal) (first : Head) (more : List Head) : Type 0 where
-  pub heads : AreHeads first more
-  pub tries : AreTries (λ h. get_of limit l.generation h ≡ IsHeld) first more
-  pub most : length more ≤ 8
-  pub steps : after ≡ (took_view limit l first more before.0, before.1)
-  pub answer : answered ≡ refusal_of limit l.generation first more
+-- Why the bump is dropped, if it is: the last step decides by the rule of an attempt, which was the load, or one of
+-- the exchanges that
+-- failed.
+abbrev pub drop_of : ℕ → Head → List Head → Option Dropped
+drop_of limit first more = refused_of limit (length more) (last_found first more)
+
+-- the reference is in the worker's hand, which an exchange took that found this head, or the bump is dropped
+abbrev pub reserved_or_dropped : Option Dropped → ItemId → Head → WorkerPart → WorkerPart
+reserved_or_dropped None item head worker = worker_after_reserve item head worker
+reserved_or_dropped (Some why) item head worker = judged (Some why) item worker
+
+-- the worker after the attempt
+abbrev pub worker_after_attempt : ℕ → ItemId → Head → List Head → WorkerPart → WorkerPart
+worker_after_attempt limit item first more worker = reserved_or_dropped (drop_of limit first more) item
+    (last_found first more) (with_more (loads item.chunk (first ∷ more)) worker)

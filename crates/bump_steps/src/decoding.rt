@@ -7,7 +7,8 @@ use bump_rules::{Head, Segment};
 use bump_word::laws::{ONE_GENERATION, REFS_MASK, SEGMENT_MASK};
 use bump_word::{ACTIVE, FETCHED, LINKED, segment_xor};
 
-/// The Head that the word spells. The rule of the table says that each head word spells one, so nothing is looked at but its fields.
+/// The Head that the word spells. The rule of the table says that each head word spells one, so nothing is looked at
+/// but its fields.
 pub fn head_of(word: u64) -> Head
     requires { (h : TheHead) × Spells word h }
     ensures { Spells word result }

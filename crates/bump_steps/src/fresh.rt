@@ -1,5 +1,5 @@
 //! The words of chunks that had no life yet.
-ghost use Rattle.std.specs.Prelude.{ℕ, ◌≡◌, ◌≤◌, ◌<◌, ◌-◌, ◌*◌, ◌^◌, [], IfOk};
+ghost use Rattle.std.specs.Prelude.{◌≡◌, ◌≤◌, ◌<◌, ◌-◌, ◌*◌, ◌^◌, [], IfOk};
 ghost use Rattle.bump_word.specs.Layout.{generation_width};
 ghost use Rattle.bump_steps.specs.Rule.{AreFresh, opened};
 ghost use Rattle.bump_steps.specs.Words.{words_id, config_of};

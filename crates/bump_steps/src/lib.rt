@@ -1,5 +1,5 @@
-//! Single steps on the words of all chunks, under one rule for all threads: head, time and label of each chunk, and what each seat
-//! knows of them. A step's contract is one equation on the view of the seat that makes it.
+//! Single steps on the words of all chunks, under one rule for all threads: head, time and label of each chunk, and
+//! what each seat knows of them. A step's contract is one equation on the view of the seat that makes it.
 #![tactic(auto)]
 
 mod decoding;

@@ -16,7 +16,7 @@ pub ascending_done : (c end : ℕ) → end ≤ c → ascending c (end - c) ≡ [
 ascending_done c end past = let none : end - c ≡ 0 = omega arith in ap (ascending c) none
 
 -- the text so far, and that of what is left of a list
-pub printed_next : (f : ℕ → List ℕ) (out new all : List ℕ) (c : ℕ) (cs rest : List ℕ) → cs ≡ c ∷ rest → new ≡ out ++ f c → out ++ flat_map f cs ≡ all → new ++ flat_map f rest ≡ all
+pub printed_next : {A : Type 0} (f : A → List ℕ) (out new all : List ℕ) (c : A) (cs rest : List A) → cs ≡ c ∷ rest → new ≡ out ++ f c → out ++ flat_map f cs ≡ all → new ++ flat_map f rest ≡ all
 printed_next f out new all c cs rest is put so_far =
     ap (λ l. l ++ flat_map f rest) put ∙ append_assoc out (f c) (flat_map f rest) ∙ ap (λ l. out ++ flat_map f l) (sym is) ∙ so_far
 

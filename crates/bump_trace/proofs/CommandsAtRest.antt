@@ -19,11 +19,11 @@ use Rattle.bump_rules.specs.declared.bumps.Outcome.TheVariants as outcome
 use Rattle.bump_rules.specs.declared.places.Segment.{Segment}
 use Rattle.bump_rules.specs.declared.places.Tail.{Tail}
 use Rattle.bump_rules.specs.declared.places.Tail.TheVariants as tail
-use Rattle.bump_core.specs.Commands.{is_allowed, command_after, freed_by, end_life, end_of, pull, pull_to, pulled_at, hit, hit_at, attempt, dropped_at, is_exhausted, apply_bump, bumped_lists, outcome_next, ended_at, bump_next, tail_of, get_at, held_by_get}
+use Rattle.bump_core.specs.Commands.{is_allowed, command_after, freed_by, unlink_item, unlinked_as, pull, pull_to, pulled_at, hit, hit_at, attempt, dropped_at, is_exhausted, apply_bump, bumped_lists, outcome_next, gone_as, bump_next, last_pulled_in, get_at, held_by_get}
 use Rattle.bump_rules.specs.Lanes.{is_half_made}
 use Rattle.bump_state.specs.Events.{next_chunk}
 use Rattle.bump_rules.specs.Lives.{life}
-use Rattle.bump_state.specs.State.{State, ClassState, WorkerState, new_worker, no_chunk, chunk, head, worker, is_class, is_worker, with_chunk, with_class, with_worker, class_of, is_current, is_linked, is_held, has_free_hold, is_open, workers_on, some_and, is_under_application, applies_in}
+use Rattle.bump_state.specs.State.{State, ClassState, WorkerState, new_worker, no_chunk, chunk_at, head_at, worker_at, is_class, is_worker, with_chunk, with_class, with_worker, class_of, is_current, is_linked, is_held, has_free_hold, is_open, workers_on, is_under_application, applies_in}
 use Rattle.bump_rules.specs.Hands.{is_idle, is_on}
 use Rattle.bump_rules.specs.declared.commands.Hit.{Hit}
 use Rattle.bump_rules.specs.declared.commands.Hit.TheVariants.{First as IsFirst, Already as IsAlready, Marked as IsMarked, Attempts}
@@ -55,14 +55,14 @@ keeps_class : (s : State) (k : ℕ) (x : ClassState) → Keeps s (with_class s k
 keeps_class s k x = record { workers = refl; classes = length-set s.classes k x; capacity = refl; rest = λ r. r }
 
 -- the worker that a number names rests; past the end it is a new one
-pub resting_at : (s : State) (w : ℕ) → IsAtRest s → IsResting (worker s w)
+pub resting_at : (s : State) (w : ℕ) → IsAtRest s → IsResting (worker_at s w)
 resting_at s w r = elim (cases_Bool (nat_lt w (length s.workers))) [
   | inl e ↦ All-get_or IsResting s.workers w new_worker (ltb-true _ _ e) r
   | inr e ↦ subst IsResting (sym (get_or-eq_default s.workers new_worker (ltb-false _ _ e))) (record { idle = refl; empty = refl })
 ]
 
 -- a worker changed that rests as before
-keeps_worker : (s : State) (w : ℕ) (x : WorkerState) → (IsResting (worker s w) → IsResting x) → Keeps s (with_worker s w x)
+keeps_worker : (s : State) (w : ℕ) (x : WorkerState) → (IsResting (worker_at s w) → IsResting x) → Keeps s (with_worker s w x)
 keeps_worker s w x h = record { workers = length-set s.workers w x; classes = refl; capacity = refl; rest = λ r. All-set IsResting s.workers w x (h (resting_at s w r)) r }
 
 -- a change, or none
@@ -86,15 +86,15 @@ keeps_freed s l Freed = keeps_class s _ _
 keeps_freed s l Deferred = keeps_same s
 
 -- a life ends
-keeps_end : (s : State) (l : ItemId) → Keeps s (end_life s l)
-keeps_end s l = keeps_both _ _ _ (keeps_both _ _ _ (keeps_chunk s l.chunk _) (keeps_class _ _ _)) (keeps_freed _ l (end_of s l))
+keeps_end : (s : State) (l : ItemId) → Keeps s (unlink_item s l)
+keeps_end s l = keeps_both _ _ _ (keeps_both _ _ _ (keeps_chunk s l.chunk _) (keeps_class _ _ _)) (keeps_freed _ l (unlinked_as s l))
 
 -- a pull, or an evict
 keeps_pull : (s : State) (k : ℕ) (t : Tail) (c : ℕ) → Keeps s (pull s k t c)
 keeps_pull s k tail.Hot c = keeps_pull_to s k tail.Hot c (pulled_to (pulled_at s k tail.Hot c))
 keeps_pull s k tail.Warm c = keeps_pull_to s k tail.Warm c (pulled_to (pulled_at s k tail.Warm c))
 keeps_pull s k tail.Cold c = keeps_pull_to s k tail.Cold c (pulled_to (pulled_at s k tail.Cold c))
-keeps_pull s k tail.Evict c = keeps_end s (life c (head s c).generation)
+keeps_pull s k tail.Evict c = keeps_end s (life c (head_at s c).generation)
 
 -- a bump was queued or dropped
 keeps_attempt : (s : State) (w : ℕ) (l : ItemId) (d : Option Dropped) → Keeps s (attempt s w l d)
@@ -118,7 +118,7 @@ keeps_lists s w b outcome.Gone e = keeps_freed s b.life e
 keeps_bump : (s : State) (w now : ℕ) (b : Bump) → Keeps s (apply_bump s w now b)
 keeps_bump s w now b =
     keeps_both _ _ _ (keeps_both _ _ _ (keeps_chunk s b.life.chunk _) (keeps_worker _ w _ (λ r. record { idle = r.idle; empty = refl })))
-    (keeps_lists _ w b (outcome_next s b) (ended_at s b.life.chunk))
+    (keeps_lists _ w b (outcome_next s b) (gone_as s b.life.chunk))
 
 -- a hold is taken where the get comes to that
 keeps_get : (s : State) (l : ItemId) (g : Get) → Keeps s (held_by_get s l g)
@@ -131,12 +131,12 @@ pub keeps_command : (s : State) (c : Command) → Keeps s (command_after s c)
 keeps_command s (command.Link k x now) = keeps_option s _ (next_chunk s k) (λ c. keeps_both _ _ _ (keeps_chunk s c _) (keeps_class _ k _))
 keeps_command s (command.Unlink l) = keeps_if s _ _ _ (keeps_end s l) (keeps_same s)
 keeps_command s (command.Sweep k) = keeps_class s k _
-keeps_command s (command.Pull k t) = keeps_option s _ (tail_of s k t) (keeps_pull s k t)
+keeps_command s (command.Pull k t) = keeps_option s _ (last_pulled_in s k t) (keeps_pull s k t)
 keeps_command s (command.Take w l) = keeps_if s _ _ _ (keeps_get s l (get_at s l)) (keeps_same s)
 keeps_command s (command.Touch w l now) = keeps_if s _ _ _ (keeps_same s) (keeps_hit s w l now (hit_at s l))
 keeps_command s (command.Label l) = keeps_same s
 keeps_command s (command.Release l) = keeps_chunk s l.chunk _
-keeps_command s (command.Next w now) = keeps_option s _ (bump_next (worker s w)) (keeps_bump s w now)
+keeps_command s (command.Next w now) = keeps_option s _ (bump_next (worker_at s w)) (keeps_bump s w now)
 keeps_command s (command.Close w) = keeps_worker s w _ (λ r. record { idle = r.idle; empty = r.empty })
 
 -- no class is under application
@@ -154,7 +154,7 @@ none_on s l r = total_none _ s.workers (λ i d h. ap (is_on l) (r i d h).idle)
 
 -- at rest every hold is free
 pub free_hold : (s : State) (l : ItemId) → IsAtRest s → has_free_hold s l ≡ is_held s l
-free_hold s l r = ap (λ n. is_current s l && nat_lt n (chunk s l.chunk).holds) (none_on s l r)
+free_hold s l r = ap (λ n. is_current s l && nat_lt n (chunk_at s l.chunk).holds) (none_on s l r)
 
 -- where nothing is applied, whether there is a chunk is all the same
 no_bar : (a b c : Bool) → a ≡ true → c ≡ false → a && (not b || not c) ≡ true
@@ -210,22 +210,22 @@ next_bar a b c p q t = rw (p, q, t) refl
 -- the next bump of a worker that is there may be applied
 pub next_allowed : (s : State) (w now : ℕ) → IsAtRest s → is_worker s w ≡ true → is_allowed s (command.Next w now) ≡ true
 next_allowed s w now r e =
-    next_bar _ _ _ e (ap is_half_made (resting_at s w r).empty) (each_passes _ (bump_next (worker s w)) (λ b. ap not (none_applied s (class_of s b.life.chunk) r)))
+    next_bar _ _ _ e (ap is_half_made (resting_at s w r).empty) (each_passes _ (bump_next (worker_at s w)) (λ b. ap not (none_applied s (class_of s b.life.chunk) r)))
 
 -- A hold that was taken is there, and a hit leaves it.
-held_with : (s : State) (l : ItemId) (x : Chunk) → is_current s l ≡ true → x.head.generation ≡ (head s l.chunk).generation → 0 < x.holds → is_held (with_chunk s l.chunk x) l ≡ true
+held_with : (s : State) (l : ItemId) (x : Chunk) → is_current s l ≡ true → x.head.generation ≡ (head_at s l.chunk).generation → 0 < x.holds → is_held (with_chunk s l.chunk x) l ≡ true
 held_with s l x e g h =
     let parts = and_parts _ _ e in
     let within = ltb-true l.chunk (length s.chunks) parts.0 in
     let same = get_or-set_same s.chunks l.chunk x no_chunk within in
     let long = length-set s.chunks l.chunk x in
     let here : nat_lt l.chunk (length (set s.chunks l.chunk x)) ≡ true = lt-ltb _ _ (omega (arith, long, within)) in
-    let current : ((chunk (with_chunk s l.chunk x) l.chunk).head.generation == l.generation) ≡ true = ap (λ (y : Chunk). y.head.generation == l.generation) same ∙ ap (λ n. n == l.generation) g ∙ parts.1 in
-    let held : nat_lt 0 (chunk (with_chunk s l.chunk x) l.chunk).holds ≡ true = ap (λ (y : Chunk). nat_lt 0 y.holds) same ∙ lt-ltb 0 _ h in
+    let current : ((chunk_at (with_chunk s l.chunk x) l.chunk).head.generation == l.generation) ≡ true = ap (λ (y : Chunk). y.head.generation == l.generation) same ∙ ap (λ n. n == l.generation) g ∙ parts.1 in
+    let held : nat_lt 0 (chunk_at (with_chunk s l.chunk x) l.chunk).holds ≡ true = ap (λ (y : Chunk). nat_lt 0 y.holds) same ∙ lt-ltb 0 _ h in
     ap₂ (λ a b. a && b) (ap₂ (λ a b. a && b) here current) held
 
 -- a held item is of its chunk's generation, and has a hold
-held_parts : (s : State) (l : ItemId) → is_held s l ≡ true → (is_current s l ≡ true) × (0 < (chunk s l.chunk).holds)
+held_parts : (s : State) (l : ItemId) → is_held s l ≡ true → (is_current s l ≡ true) × (0 < (chunk_at s l.chunk).holds)
 held_parts s l e = let parts = and_parts _ _ e in (parts.0, ltb-true 0 _ parts.1)
 
 -- an attempt leaves the hold

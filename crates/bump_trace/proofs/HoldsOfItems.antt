@@ -21,10 +21,10 @@ use Rattle.bump_rules.specs.declared.items.ItemId.{ItemId}
 use Rattle.bump_rules.specs.declared.places.Segment.{Segment}
 use Rattle.bump_rules.specs.declared.places.Tail.{Tail}
 use Rattle.bump_rules.specs.declared.places.Tail.TheVariants as tail
-use Rattle.bump_core.specs.Commands.{is_allowed, answer_of, command_after, freed_by, end_life, end_of, pull, pull_to, pulled_at, get_answer, get_at, held_by_get, hit, hit_at, attempt, dropped_at, apply_bump, bumped_chunk, bumped_lists, outcome_next, ended_at, bump_next, tail_of, link_labelled}
+use Rattle.bump_core.specs.Commands.{is_allowed, answer_of, command_after, freed_by, unlink_item, unlinked_as, pull, pull_to, pulled_at, get_answer, get_at, held_by_get, hit, hit_at, attempt, dropped_at, apply_bump, bumped_chunk, bumped_lists, outcome_next, gone_as, bump_next, last_pulled_in, link_labelled}
 use Rattle.bump_state.specs.Events.{next_chunk, with_hold, without_hold}
 use Rattle.bump_rules.specs.Lives.{life, one_if}
-use Rattle.bump_state.specs.State.{State, ClassState, WorkerState, no_chunk, chunk, head, worker, is_chunk, is_current, is_held, is_open, with_chunk, with_class, with_worker}
+use Rattle.bump_state.specs.State.{State, ClassState, WorkerState, no_chunk, chunk_at, head_at, worker_at, is_chunk, is_current, is_held, is_open, with_chunk, with_class, with_worker}
 use Rattle.bump_rules.specs.declared.commands.Hit.{Hit}
 use Rattle.bump_rules.specs.declared.commands.Hit.TheVariants.{First as IsFirst, Already as IsAlready, Marked as IsMarked, Attempts}
 use Rattle.bump_rules.specs.Tables.{Get, IsStale, IsRefsFull, IsHeld, get_of, is_of, pulled_to}
@@ -34,10 +34,10 @@ use Rattle.bump_trace.specs.OpenStore.{answer_by, state_by, Drained, drained_by,
 use Rattle.bump_trace.specs.Ready.{HoldsStay, GivesBack, is_release}
 
 -- a chunk after one was written: it is as before, or it is the one that was written
-chunk_written : (s : State) (c : ℕ) (x : Chunk) (d : ℕ) → (chunk (with_chunk s c x) d ≡ chunk s d) ⊎ ((d ≡ c) × (chunk (with_chunk s c x) d ≡ x))
+chunk_written : (s : State) (c : ℕ) (x : Chunk) (d : ℕ) → (chunk_at (with_chunk s c x) d ≡ chunk_at s d) ⊎ ((d ≡ c) × (chunk_at (with_chunk s c x) d ≡ x))
 chunk_written s c x d = dite (ℕ_discrete d c)
     (λ e. elim (cases_lt c (length s.chunks)) [
-      | inl within ↦ inr (e, ap (chunk (with_chunk s c x)) e ∙ get_or-set_same s.chunks c x no_chunk within)
+      | inl within ↦ inr (e, ap (chunk_at (with_chunk s c x)) e ∙ get_or-set_same s.chunks c x no_chunk within)
       | inr past ↦ inl (ap (λ (cs : List Chunk). slice_index_or cs d no_chunk) (set_past s.chunks c x past))
     ])
     (λ ne. inl (get_or-set_other s.chunks c d x no_chunk ne))
@@ -51,17 +51,17 @@ stay_both : (s t u : State) → HoldsStay s t → HoldsStay t u → HoldsStay s 
 stay_both s t u p q = record { each = λ l. omega (arith, p.each l, q.each l) }
 
 -- a chunk changed whose lives keep their holds
-stay_chunk : (s : State) (c : ℕ) (x : Chunk) → ((g : ℕ) → held_by (chunk s c) g ≤ held_by x g) → HoldsStay s (with_chunk s c x)
+stay_chunk : (s : State) (c : ℕ) (x : Chunk) → ((g : ℕ) → held_by (chunk_at s c) g ≤ held_by x g) → HoldsStay s (with_chunk s c x)
 stay_chunk s c x h = record {
   each = λ l. elim (chunk_written s c x l.chunk) [
     | inl e ↦ omega (arith, ap (λ (y : Chunk). held_by y l.generation) e)
-    | inr w ↦ omega (arith, h l.generation, ap (λ (y : Chunk). held_by y l.generation) w.1, ap (λ k. held_by (chunk s k) l.generation) w.0)
+    | inr w ↦ omega (arith, h l.generation, ap (λ (y : Chunk). held_by y l.generation) w.1, ap (λ k. held_by (chunk_at s k) l.generation) w.0)
   ];
 }
 
 -- a chunk changed that keeps its generation and its holds
-stay_marks : (s : State) (c : ℕ) (x : Chunk) → x.head.generation ≡ (head s c).generation → x.holds ≡ (chunk s c).holds → HoldsStay s (with_chunk s c x)
-stay_marks s c x g h = stay_chunk s c x (λ n. let same : held_by x n ≡ held_by (chunk s c) n = ap₂ (λ a b. cond (a == n) b 0) g h in omega (arith, same))
+stay_marks : (s : State) (c : ℕ) (x : Chunk) → x.head.generation ≡ (head_at s c).generation → x.holds ≡ (chunk_at s c).holds → HoldsStay s (with_chunk s c x)
+stay_marks s c x g h = stay_chunk s c x (λ n. let same : held_by x n ≡ held_by (chunk_at s c) n = ap₂ (λ a b. cond (a == n) b 0) g h in omega (arith, same))
 
 -- a class changed
 stay_class : (s : State) (k : ℕ) (x : ClassState) → HoldsStay s (with_class s k x)
@@ -87,8 +87,8 @@ stay_freed s l Freed = stay_class s _ _
 stay_freed s l Deferred = stay_same s
 
 -- a life ends
-stay_end : (s : State) (l : ItemId) → HoldsStay s (end_life s l)
-stay_end s l = stay_both _ _ _ (stay_both _ _ _ (stay_marks s l.chunk _ refl refl) (stay_class _ _ _)) (stay_freed _ l (end_of s l))
+stay_end : (s : State) (l : ItemId) → HoldsStay s (unlink_item s l)
+stay_end s l = stay_both _ _ _ (stay_both _ _ _ (stay_marks s l.chunk _ refl refl) (stay_class _ _ _)) (stay_freed _ l (unlinked_as s l))
 
 -- a pull moved its item, or not
 stay_pull_to : (s : State) (k : ℕ) (t : Tail) (c : ℕ) (to : Option Segment) → HoldsStay s (pull_to s k t c to)
@@ -100,7 +100,7 @@ stay_pull : (s : State) (k : ℕ) (t : Tail) (c : ℕ) → HoldsStay s (pull s k
 stay_pull s k tail.Hot c = stay_pull_to s k tail.Hot c (pulled_to (pulled_at s k tail.Hot c))
 stay_pull s k tail.Warm c = stay_pull_to s k tail.Warm c (pulled_to (pulled_at s k tail.Warm c))
 stay_pull s k tail.Cold c = stay_pull_to s k tail.Cold c (pulled_to (pulled_at s k tail.Cold c))
-stay_pull s k tail.Evict c = stay_end s (life c (head s c).generation)
+stay_pull s k tail.Evict c = stay_end s (life c (head_at s c).generation)
 
 -- a bump was queued or dropped
 stay_attempt : (s : State) (w : ℕ) (l : ItemId) (d : Option Dropped) → HoldsStay s (attempt s w l d)
@@ -115,7 +115,7 @@ stay_hit s w l now IsMarked = stay_marks s l.chunk _ refl refl
 stay_hit s w l now Attempts = stay_attempt s w l (dropped_at s w l)
 
 -- the chunk of a bump that was applied
-stay_bumped : (s : State) (c now : ℕ) (o : Outcome) → HoldsStay s (with_chunk s c (bumped_chunk (chunk s c) now o))
+stay_bumped : (s : State) (c now : ℕ) (o : Outcome) → HoldsStay s (with_chunk s c (bumped_chunk (chunk_at s c) now o))
 stay_bumped s c now outcome.Moved = stay_marks s c _ refl refl
 stay_bumped s c now outcome.TimeOnly = stay_marks s c _ refl refl
 stay_bumped s c now outcome.Gone = stay_marks s c _ refl refl
@@ -129,7 +129,7 @@ stay_lists s w b outcome.Gone e = stay_freed s b.life e
 -- a bump was applied
 stay_bump : (s : State) (w now : ℕ) (b : Bump) → HoldsStay s (apply_bump s w now b)
 stay_bump s w now b =
-    stay_both _ _ _ (stay_both _ _ _ (stay_bumped s b.life.chunk now (outcome_next s b)) (stay_worker _ w _)) (stay_lists _ w b (outcome_next s b) (ended_at s b.life.chunk))
+    stay_both _ _ _ (stay_both _ _ _ (stay_bumped s b.life.chunk now (outcome_next s b)) (stay_worker _ w _)) (stay_lists _ w b (outcome_next s b) (gone_as s b.life.chunk))
 
 -- more holds are more where they count
 more_held : (b : Bool) (n : ℕ) → cond b n 0 ≤ cond b (n + 1) 0
@@ -138,7 +138,7 @@ more_held false n = omega arith
 
 -- one more hold
 stay_hold : (s : State) (c : ℕ) → HoldsStay s (with_hold s c)
-stay_hold s c = stay_chunk s c _ (λ g. more_held ((head s c).generation == g) (chunk s c).holds)
+stay_hold s c = stay_chunk s c _ (λ g. more_held ((head_at s c).generation == g) (chunk_at s c).holds)
 
 -- a hold is taken where the get comes to that
 stay_get : (s : State) (l : ItemId) (g : Get) → HoldsStay s (held_by_get s l g)
@@ -156,12 +156,12 @@ pub holds_stay : (s : State) (c : Command) → IsLawful s → is_allowed s c ≡
 holds_stay s (command.Link k x now) o allowed other = stay_link s k x now o (ltb-true k (length s.classes) (and_parts _ _ allowed).0) (next_chunk s k) refl
 holds_stay s (command.Unlink l) o allowed other = stay_if s _ _ _ (stay_end s l) (stay_same s)
 holds_stay s (command.Sweep k) o allowed other = stay_class s k _
-holds_stay s (command.Pull k t) o allowed other = stay_option s _ (tail_of s k t) (stay_pull s k t)
+holds_stay s (command.Pull k t) o allowed other = stay_option s _ (last_pulled_in s k t) (stay_pull s k t)
 holds_stay s (command.Take w l) o allowed other = stay_if s _ _ _ (stay_get s l (get_at s l)) (stay_same s)
 holds_stay s (command.Touch w l now) o allowed other = stay_if s _ _ _ (stay_same s) (stay_hit s w l now (hit_at s l))
 holds_stay s (command.Label l) o allowed other = stay_same s
 holds_stay s (command.Release l) o allowed other = absurd (true≢false other)
-holds_stay s (command.Next w now) o allowed other = stay_option s _ (bump_next (worker s w)) (stay_bump s w now)
+holds_stay s (command.Next w now) o allowed other = stay_option s _ (bump_next (worker_at s w)) (stay_bump s w now)
 holds_stay s (command.Close w) o allowed other = stay_worker s w _
 
 -- an answer of a drain, and then the others
@@ -173,7 +173,7 @@ stay_by s t _ w others p q = p
 pub stay_drained : (now w n : ℕ) (s : State) → HoldsStay s (drained_of now w n s).state
 stay_drained now w zero s = stay_same s
 stay_drained now w (suc n) s =
-    stay_by s (command_after s (command.Next w now)) (answer_of s (command.Next w now)) w (drained_of now w n) (stay_option s _ (bump_next (worker s w)) (stay_bump s w now)) (stay_drained now w n)
+    stay_by s (command_after s (command.Next w now)) (answer_of s (command.Next w now)) w (drained_of now w n) (stay_option s _ (bump_next (worker_at s w)) (stay_bump s w now)) (stay_drained now w n)
 
 -- and so do those of several workers.
 pub stay_through : (now : ℕ) (ws : List ℕ) (s : State) → HoldsStay s (drained_through now ws s).state
@@ -181,12 +181,12 @@ stay_through now [] s = stay_same s
 stay_through now (w ∷ ws) s = let d = drained_of now w s.capacity s in stay_both s d.state _ (stay_drained now w s.capacity s) (stay_through now ws d.state)
 
 -- one hold more of a life that is its chunk's
-one_held : (s : State) (l : ItemId) → l.chunk < length s.chunks → (head s l.chunk).generation ≡ l.generation → (m : ItemId) → holds_of s m + one_if m l ≤ holds_of (with_hold s l.chunk) m
+one_held : (s : State) (l : ItemId) → l.chunk < length s.chunks → (head_at s l.chunk).generation ≡ l.generation → (m : ItemId) → holds_of s m + one_if m l ≤ holds_of (with_hold s l.chunk) m
 one_held s l within same m = elim (one_if_cases m l) [
   | inl e ↦
-      let x : Chunk = record (chunk s l.chunk) { head = record (head s l.chunk) { refs = (head s l.chunk).refs + 1 }; holds = (chunk s l.chunk).holds + 1 } in
+      let x : Chunk = record (chunk_at s l.chunk) { head = record (head_at s l.chunk) { refs = (head_at s l.chunk).refs + 1 }; holds = (chunk_at s l.chunk).holds + 1 } in
       let here : holds_of (with_hold s l.chunk) l ≡ held_by x l.generation = ap (λ (y : Chunk). held_by y l.generation) (get_or-set_same s.chunks l.chunk x no_chunk within) in
-      let now : holds_of s l + one_if l l ≤ holds_of (with_hold s l.chunk) l = omega (arith, one_if_same l, held_at (chunk s l.chunk) l.generation same, held_at x l.generation same, here) in
+      let now : holds_of s l + one_if l l ≤ holds_of (with_hold s l.chunk) l = omega (arith, one_if_same l, held_at (chunk_at s l.chunk) l.generation same, held_at x l.generation same, here) in
       subst (λ (k : ItemId). holds_of s k + one_if k l ≤ holds_of (with_hold s l.chunk) k) (sym e) now
   | inr other ↦ omega (arith, other, (stay_hold s l.chunk).each m)
 ]
@@ -205,7 +205,7 @@ taken s w l is = by (is_chunk s l.chunk) (get_at s l) refl refl is
   where
     by : (b : Bool) (g : Get) → b ≡ is_chunk s l.chunk → g ≡ get_at s l → answer.Held ≡ (if b then get_answer g else answer.NoSuchChunk)
         → (m : ItemId) → holds_of s m + one_if m l ≤ holds_of (if b then held_by_get s l g else s) m
-    by true IsHeld e f h = one_held s l (ltb-true l.chunk (length s.chunks) (sym e)) (held_life s.refs_limit l.generation (head s l.chunk) f)
+    by true IsHeld e f h = one_held s l (ltb-true l.chunk (length s.chunks) (sym e)) (held_life s.refs_limit l.generation (head_at s l.chunk) f)
     by true IsStale e f h = absurd (let u : ⊥ = cc in u)
     by true IsRefsFull e f h = absurd (let u : ⊥ = cc in u)
     by false g e f h = absurd (let u : ⊥ = cc in u)
@@ -223,19 +223,19 @@ taken_by s w l is = by (is_open s w) is
 pub given_back : (s : State) (l : ItemId) → is_held s l ≡ true → GivesBack l s (command_after s (command.Release l))
 given_back s l held =
     let current = (and_parts (is_current s l) _ held).0 in
-    let same : (head s l.chunk).generation ≡ l.generation = eqb-true _ _ (and_parts (is_chunk s l.chunk) _ current).1 in
-    let x : Chunk = record (chunk s l.chunk) { head = record (head s l.chunk) { refs = (head s l.chunk).refs - 1 }; holds = (chunk s l.chunk).holds - 1 } in
+    let same : (head_at s l.chunk).generation ≡ l.generation = eqb-true _ _ (and_parts (is_chunk s l.chunk) _ current).1 in
+    let x : Chunk = record (chunk_at s l.chunk) { head = record (head_at s l.chunk) { refs = (head_at s l.chunk).refs - 1 }; holds = (chunk_at s l.chunk).holds - 1 } in
     record {
       each = λ m. elim (chunk_written s l.chunk x m.chunk) [
         | inl e ↦ omega (arith, ap (λ (y : Chunk). held_by y m.generation) e)
         | inr w ↦
-            let was : holds_of s m ≡ held_by (chunk s l.chunk) m.generation = ap (λ k. held_by (chunk s k) m.generation) w.0 in
+            let was : holds_of s m ≡ held_by (chunk_at s l.chunk) m.generation = ap (λ k. held_by (chunk_at s k) m.generation) w.0 in
             let now : holds_of (without_hold s l.chunk) m ≡ held_by x m.generation = ap (λ (y : Chunk). held_by y m.generation) w.1 in
-            dite (ℕ_discrete m.generation (head s l.chunk).generation)
+            dite (ℕ_discrete m.generation (head_at s l.chunk).generation)
             (λ e.
             let is : m ≡ l = λ i. life (w.0 i) ((e ∙ same) i) in
             let one : one_if m l ≡ 1 = subst (λ (k : ItemId). one_if m k ≡ 1) is (one_if_same m) in
-            omega (arith, was, now, one, held_at (chunk s l.chunk) m.generation (sym e), held_at x m.generation (sym e)))
-            (λ ne. omega (arith, was, held_else (chunk s l.chunk) m.generation ne))
+            omega (arith, was, now, one, held_at (chunk_at s l.chunk) m.generation (sym e), held_at x m.generation (sym e)))
+            (λ ne. omega (arith, was, held_else (chunk_at s l.chunk) m.generation ne))
       ];
     }

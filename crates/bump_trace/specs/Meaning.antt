@@ -11,8 +11,8 @@ use Rattle.trace_lines.specs.declared.faults.Fault.TheVariants as fault
 
 -- what a line does at a time
 unfoldable pub effect : Stage → ℕ → Line → Result Said Fault
-effect stage now (Declares d) = declared stage d
-effect stage now (Makes i) = opened stage >>= (λ store. instruction_said store now i)
+effect stage now (Declares declaration) = declared stage declaration
+effect stage now (Makes instruction) = opened stage >>= (λ store. instruction_said store now instruction)
 
 -- more than 255 bytes
 abbrev pub is_long : List ℕ → Bool
@@ -21,20 +21,24 @@ is_long line = nat_lt 255 (length line)
 -- a line without bytes, or a comment: its first byte is #
 abbrev pub is_skipped : List ℕ → Bool
 is_skipped [] = true
-is_skipped (b ∷ bs) = b == 35
+is_skipped (byte ∷ bytes) = byte == 35
 
 -- a whole line, whose number is the time
 unfoldable pub step : Stage → ℕ → List ℕ → Result Said Fault
-step stage n line = if is_long line then Err fault.Long else (if is_skipped line then Ok (say stage []) else (line_of_words (split_at_spaces line) >>= effect stage n))
+step stage number line =
+    if is_long line then Err fault.Long
+    else (if is_skipped line then Ok (say stage []) else (line_of_words (split_at_spaces line) >>= effect stage number))
 
 -- the fault, if it is one
 abbrev pub fault_in : {A : Type 0} → Result A Fault → Option Fault
-fault_in (Ok x) = None
-fault_in (Err e) = Some e
+fault_in (Ok value) = None
+fault_in (Err what) = Some what
 
 -- what is wrong with what stands behind the last line feed, or with the stage there
 unfoldable pub fault_at_end : Stage → List ℕ → Option Fault
-fault_at_end stage rest = if is_long rest then Some fault.Long else (if not (length rest == 0) then Some fault.Truncated else fault_in (opened stage))
+fault_at_end stage rest =
+    if is_long rest then Some fault.Long
+    else (if not (length rest == 0) then Some fault.Truncated else fault_in (opened stage))
 
 -- a text, and whether it ends with the line of a fault
 pub record Verdict : Type 0 where
@@ -43,31 +47,31 @@ pub record Verdict : Type 0 where
 
 -- text before a verdict
 abbrev pub prepend : List ℕ → Verdict → Verdict
-prepend text v = record { text = text ++ v.text; is_fault = v.is_fault }
+prepend text verdict = record { text = text ++ verdict.text; is_fault = verdict.is_fault }
 
 -- the end by a fault of line n
 abbrev pub failed : ℕ → Fault → Verdict
-failed n e = record { text = fault_line n e; is_fault = true }
+failed number what = record { text = fault_line number what; is_fault = true }
 
 -- the end of the input at line n
 abbrev pub ended : ℕ → Option Fault → Verdict
-ended n None = record { text = []; is_fault = false }
-ended n (Some e) = failed n e
+ended number None = record { text = []; is_fault = false }
+ended number (Some what) = failed number what
 
 -- the text of a line, and then what follows; or its fault
 abbrev pub go_on : ℕ → (Stage → Verdict) → Result Said Fault → Verdict
-go_on n others (Ok said) = prepend said.text (others said.stage)
-go_on n others (Err e) = failed n e
+go_on number others (Ok said) = prepend said.text (others said.stage)
+go_on number others (Err what) = failed number what
 
 -- The lines from number n on. The last part has no line feed behind it.
 abbrev pub run : ℕ → List (List ℕ) → Stage → Verdict
-run n [] stage = ended n (fault_at_end stage [])
-run n (rest ∷ []) stage = ended n (fault_at_end stage rest)
-run n (line ∷ next ∷ others) stage = go_on n (run (n + 1) (next ∷ others)) (step stage n line)
+run number [] stage = ended number (fault_at_end stage [])
+run number (rest ∷ []) stage = ended number (fault_at_end stage rest)
+run number (line ∷ next ∷ others) stage = go_on number (run (number + 1) (next ∷ others)) (step stage number line)
 
 -- what stands between line feeds
 abbrev pub parts_of : List ℕ → List (List ℕ)
-parts_of bytes = slice_split (λ b. b == 10) bytes
+parts_of bytes = slice_split (λ byte. byte == 10) bytes
 
 -- The verdict on an input: its lines from number 1 on, with nothing said before.
 unfoldable pub verdict_of : List ℕ → Verdict

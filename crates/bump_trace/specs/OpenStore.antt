@@ -20,7 +20,7 @@ use Rattle.trace_lines.specs.declared.faults.Fault.TheVariants as fault
 
 -- the store after a command, with the same names
 abbrev pub with_command : StoreState → Command → StoreState
-with_command b c = record b { state = command_after b.state c }
+with_command store made = record store { state = command_after store.state made }
 
 -- set NAME CLASS LABEL: an item is linked, and the name is bound to it; after any other answer the bindings stay.
 abbrev pub names_after : Answer → List ℕ → Names → Names
@@ -29,47 +29,52 @@ names_after _ name names = names
 
 -- the text of the answer, and the name bound
 abbrev pub set_by : StoreState → List ℕ → Answer → Said
-set_by b name a = say (Open (record b { names = names_after a name b.names })) (set_line name a)
+set_by store name given = say (Open (record store { names = names_after given name store.names })) (set_line name given)
 
 -- where there is such a class
 unfoldable pub set_said : StoreState → ℕ → List ℕ → ℕ → ℕ → Result Said Fault
-set_said b now name k label =
-    let c = command.Link k label now in
-    if is_class b.state k then Ok (set_by (with_command b c) name (answer_of b.state c)) else Err fault.Class
+set_said store now name class label =
+    let made = command.Link class label now in
+    if is_class store.state class
+    then Ok (set_by (with_command store made) name (answer_of store.state made))
+    else Err fault.Class
 
 -- Closed workers take no holds, hits or bumps. What a worker's command answers, unless the worker is closed.
 abbrev pub answer_by : State → ℕ → Command → Option Answer
-answer_by s w c = if is_open s w then Some (answer_of s c) else None
+answer_by state worker made = if is_open state worker then Some (answer_of state made) else None
 
 -- the state after it
 abbrev pub state_by : State → ℕ → Command → State
-state_by s w c = if is_open s w then command_after s c else s
+state_by state worker made = if is_open state worker then command_after state made else state
 
 -- the store after it
 abbrev pub with_command_by : StoreState → ℕ → Command → StoreState
-with_command_by b w c = record b { state = state_by b.state w c }
+with_command_by store worker made = record store { state = state_by store.state worker made }
 
 -- get W NAME: a hold is taken; by it the label is read and the item is hit; and it is given back. Where there is no hold
 -- the answer says why.
 abbrev pub get_held : StoreState → ℕ → ℕ → List ℕ → ItemId → Said
-get_held b now w name id =
-    let hit = command.Touch w id now in
-    say (Open (with_command (with_command b hit) (command.Release id)))
-    (get_held_line w name (answer_of b.state (command.Label id)) (answer_of b.state hit))
+get_held store now worker name id =
+    let hit = command.Touch worker id now in
+    say (Open (with_command (with_command store hit) (command.Release id)))
+    (get_held_line worker name (answer_of store.state (command.Label id)) (answer_of store.state hit))
 
 -- a hold is used, and any other answer told
 abbrev pub get_by : StoreState → ℕ → ℕ → List ℕ → ItemId → Option Answer → Said
-get_by b now w name id (Some answer.Held) = get_held b now w name id
-get_by b now w name id other = say (Open b) (get_line w name other)
+get_by store now worker name id (Some answer.Held) = get_held store now worker name id
+get_by store now worker name id other = say (Open store) (get_line worker name other)
 
 -- of the item that the name is bound to
 abbrev pub get_bound : StoreState → ℕ → ℕ → List ℕ → Option ItemId → Result Said Fault
-get_bound b now w name None = Err fault.Unbound
-get_bound b now w name (Some id) = let c = command.Take w id in Ok (get_by (with_command_by b w c) now w name id (answer_by b.state w c))
+get_bound store now worker name None = Err fault.Unbound
+get_bound store now worker name (Some id) =
+    let made = command.Take worker id in
+    Ok (get_by (with_command_by store worker made) now worker name id (answer_by store.state worker made))
 
 -- where there is such a worker
 unfoldable pub get_said : StoreState → ℕ → ℕ → List ℕ → Result Said Fault
-get_said b now w name = if is_worker b.state w then get_bound b now w name (b.names name) else Err fault.Worker
+get_said store now worker name =
+    if is_worker store.state worker then get_bound store now worker name (store.names name) else Err fault.Worker
 
 -- hold W NAME H: a hold is taken of the item and kept, and the hold name is bound to it; after any other answer nothing is.
 abbrev pub holds_after : Option Answer → List ℕ → ItemId → Names → Names
@@ -78,66 +83,81 @@ holds_after _ hold id holds = holds
 
 -- the text of the answer
 abbrev pub hold_by : StoreState → ℕ → List ℕ → List ℕ → ItemId → Option Answer → Said
-hold_by b w name hold id a = say (Open (record b { holds = holds_after a hold id b.holds })) (hold_line w name hold a)
+hold_by store worker name hold id given =
+    say (Open (record store { holds = holds_after given hold id store.holds })) (hold_line worker name hold given)
 
 -- where the hold name isn't in use
 abbrev pub hold_unused : StoreState → ℕ → List ℕ → List ℕ → ItemId → Option ItemId → Result Said Fault
-hold_unused b w name hold id None = let c = command.Take w id in Ok (hold_by (with_command_by b w c) w name hold id (answer_by b.state w c))
-hold_unused b w name hold id (Some held) = Err fault.Held
+hold_unused store worker name hold id None =
+    let made = command.Take worker id in
+    Ok (hold_by (with_command_by store worker made) worker name hold id (answer_by store.state worker made))
+hold_unused store worker name hold id (Some held) = Err fault.Held
 
 -- of the item that the name is bound to
 abbrev pub hold_bound : StoreState → ℕ → List ℕ → List ℕ → Option ItemId → Result Said Fault
-hold_bound b w name hold None = Err fault.Unbound
-hold_bound b w name hold (Some id) = hold_unused b w name hold id (b.holds hold)
+hold_bound store worker name hold None = Err fault.Unbound
+hold_bound store worker name hold (Some id) = hold_unused store worker name hold id (store.holds hold)
 
 -- where there is such a worker
 unfoldable pub hold_said : StoreState → ℕ → List ℕ → List ℕ → Result Said Fault
-hold_said b w name hold = if is_worker b.state w then hold_bound b w name hold (b.names name) else Err fault.Worker
+hold_said store worker name hold =
+    if is_worker store.state worker then hold_bound store worker name hold (store.names name) else Err fault.Worker
 
 -- hit W H: the item is hit by a hold that is kept.
 abbrev pub hit_bound : StoreState → ℕ → ℕ → List ℕ → Option ItemId → Result Said Fault
-hit_bound b now w hold None = Err fault.Unbound
-hit_bound b now w hold (Some id) = let c = command.Touch w id now in Ok (say (Open (with_command_by b w c)) (hit_line w hold (answer_by b.state w c)))
+hit_bound store now worker hold None = Err fault.Unbound
+hit_bound store now worker hold (Some id) =
+    let made = command.Touch worker id now in
+    Ok (say (Open (with_command_by store worker made)) (hit_line worker hold (answer_by store.state worker made)))
 
 -- where there is such a worker
 unfoldable pub hit_said : StoreState → ℕ → ℕ → List ℕ → Result Said Fault
-hit_said b now w hold = if is_worker b.state w then hit_bound b now w hold (b.holds hold) else Err fault.Worker
+hit_said store now worker hold =
+    if is_worker store.state worker then hit_bound store now worker hold (store.holds hold) else Err fault.Worker
 
 -- read H: the label of the item is read by a hold that is kept.
 abbrev pub read_bound : StoreState → List ℕ → Option ItemId → Result Said Fault
-read_bound b hold None = Err fault.Unbound
-read_bound b hold (Some id) = Ok (say (Open b) (read_line hold (answer_of b.state (command.Label id))))
+read_bound store hold None = Err fault.Unbound
+read_bound store hold (Some id) = Ok (say (Open store) (read_line hold (answer_of store.state (command.Label id))))
 
 unfoldable pub read_said : StoreState → List ℕ → Result Said Fault
-read_said b hold = read_bound b hold (b.holds hold)
+read_said store hold = read_bound store hold (store.holds hold)
 
 -- drop H: a hold that is kept is given back, and the hold name is free again.
 abbrev pub drop_bound : StoreState → List ℕ → Option ItemId → Result Said Fault
-drop_bound b hold None = Err fault.Unbound
-drop_bound b hold (Some id) = Ok (say (Open (record (with_command b (command.Release id)) { holds = unbind hold b.holds })) (drop_line hold))
+drop_bound store hold None = Err fault.Unbound
+drop_bound store hold (Some id) =
+    let freed = with_command store (command.Release id) in
+    Ok (say (Open (record freed { holds = unbind hold store.holds })) (drop_line hold))
 
 unfoldable pub drop_said : StoreState → List ℕ → Result Said Fault
-drop_said b hold = drop_bound b hold (b.holds hold)
+drop_said store hold = drop_bound store hold (store.holds hold)
 
 -- del NAME: the item that the name is bound to ends, and the name stays bound.
 abbrev pub del_bound : StoreState → List ℕ → Option ItemId → Result Said Fault
-del_bound b name None = Err fault.Unbound
-del_bound b name (Some id) = let c = command.Unlink id in Ok (say (Open (with_command b c)) (del_line name (answer_of b.state c)))
+del_bound store name None = Err fault.Unbound
+del_bound store name (Some id) =
+    let made = command.Unlink id in
+    Ok (say (Open (with_command store made)) (del_line name (answer_of store.state made)))
 
 unfoldable pub del_said : StoreState → List ℕ → Result Said Fault
-del_said b name = del_bound b name (b.names name)
+del_said store name = del_bound store name (store.names name)
 
 -- pull CLASS SEGMENT
 unfoldable pub pull_said : StoreState → ℕ → Tail → Result Said Fault
-pull_said b k t =
-    let c = command.Pull k t in
-    if is_class b.state k then Ok (say (Open (with_command b c)) (pull_line k t (answer_of b.state c))) else Err fault.Class
+pull_said store class tail =
+    let made = command.Pull class tail in
+    if is_class store.state class
+    then Ok (say (Open (with_command store made)) (pull_line class tail (answer_of store.state made)))
+    else Err fault.Class
 
 -- sweep CLASS
 unfoldable pub sweep_said : StoreState → ℕ → Result Said Fault
-sweep_said b k =
-    let c = command.Sweep k in
-    if is_class b.state k then Ok (say (Open (with_command b c)) (sweep_line k (answer_of b.state c))) else Err fault.Class
+sweep_said store class =
+    let made = command.Sweep class in
+    if is_class store.state class
+    then Ok (say (Open (with_command store made)) (sweep_line class (answer_of store.state made)))
+    else Err fault.Class
 
 -- drain: of each worker, ascending, the bumps are applied until there is none, at most as many as its ring has room for.
 pub record Drained : Type 0 where
@@ -147,74 +167,87 @@ pub record Drained : Type 0 where
 
 -- no bump
 abbrev pub drained_none : State → Drained
-drained_none s = record { state = s; text = []; count = 0 }
+drained_none state = record { state = state; text = []; count = 0 }
 
 -- first these, then those
 abbrev pub drained_both : Drained → Drained → Drained
-drained_both a b = record { state = b.state; text = a.text ++ b.text; count = a.count + b.count }
+drained_both first second =
+    record { state = second.state; text = first.text ++ second.text; count = first.count + second.count }
 
 -- one bump
 abbrev pub drained_one : State → ℕ → Entry → Drained
-drained_one s w e = record { state = s; text = bump_line w e; count = 1 }
+drained_one state worker entry = record { state = state; text = bump_line worker entry; count = 1 }
 
 -- what is done after one more answer: a bump, and then the others; any other answer is the end
 abbrev pub drained_by : Answer → State → ℕ → (State → Drained) → Drained
-drained_by (answer.Bumped e) s w others = drained_both (drained_one s w e) (others s)
-drained_by _ s w others = drained_none s
+drained_by (answer.Bumped entry) state worker others = drained_both (drained_one state worker entry) (others state)
+drained_by _ state worker others = drained_none state
 
 -- a worker's bumps, at most so many
 abbrev pub drained_of : ℕ → ℕ → ℕ → State → Drained
-drained_of now w zero s = drained_none s
-drained_of now w (suc more) s = let c = command.Next w now in drained_by (answer_of s c) (command_after s c) w (drained_of now w more)
+drained_of now worker zero state = drained_none state
+drained_of now worker (suc more) state =
+    let made = command.Next worker now in
+    drained_by (answer_of state made) (command_after state made) worker (drained_of now worker more)
 
 -- these workers, one after another
 abbrev pub drained_through : ℕ → List ℕ → State → Drained
-drained_through now [] s = drained_none s
-drained_through now (w ∷ ws) s = let d = drained_of now w s.capacity s in drained_both d (drained_through now ws d.state)
+drained_through now [] state = drained_none state
+drained_through now (worker ∷ workers) state =
+    let drained = drained_of now worker state.capacity state in
+    drained_both drained (drained_through now workers drained.state)
 
 -- the text of all bumps, and how many they were
 abbrev pub drain_by : StoreState → Drained → Said
-drain_by b d = say (Open (record b { state = d.state })) (d.text ++ drain_line d.count)
+drain_by store drained = say (Open (record store { state = drained.state })) (drained.text ++ drain_line drained.count)
 
 -- all workers
 unfoldable pub drain_said : StoreState → ℕ → Result Said Fault
-drain_said b now = Ok (drain_by b (drained_through now (ascending 0 (length b.state.workers)) b.state))
+drain_said store now =
+    Ok (drain_by store (drained_through now (ascending 0 (length store.state.workers)) store.state))
 
 -- close W: the ring is closed, and the bumps that wait in it are applied: no more than it has room for.
 abbrev pub close_by : StoreState → ℕ → Drained → Said
-close_by b w d = say (Open (record b { state = d.state })) (d.text ++ close_line d.state w)
+close_by store worker drained =
+    say (Open (record store { state = drained.state })) (drained.text ++ close_line drained.state worker)
 
 abbrev pub close_open : StoreState → ℕ → ℕ → Said
-close_open b now w = close_by b w (drained_of now w b.state.capacity (command_after b.state (command.Close w)))
+close_open store now worker =
+    let closed = command_after store.state (command.Close worker) in
+    close_by store worker (drained_of now worker store.state.capacity closed)
 
 -- where there is such a worker, and it isn't closed yet
 unfoldable pub close_said : StoreState → ℕ → ℕ → Result Said Fault
-close_said b now w = if is_worker b.state w then Ok (if is_open b.state w then close_open b now w else say (Open b) (closed_line w)) else Err fault.Worker
+close_said store now worker =
+    if is_worker store.state worker
+    then Ok (if is_open store.state worker then close_open store now worker else say (Open store) (closed_line worker))
+    else Err fault.Worker
 
 -- show
 unfoldable pub show_said : StoreState → Result Said Fault
-show_said b = Ok (say (Open b) (show_text b.state))
+show_said store = Ok (say (Open store) (show_text store.state))
 
 -- par: it does nothing but that it says which lines may follow
 unfoldable pub par_said : StoreState → Result Said Fault
-par_said b = Ok (say (Open (record b { is_past_par = true })) [])
+par_said store = Ok (say (Open (record store { is_past_par = true })) [])
 
 -- what each line does
 abbrev pub made_by : StoreState → ℕ → Instruction → Result Said Fault
-made_by b now (Set name k label) = set_said b now name k label
-made_by b now (Get w name) = get_said b now w name
-made_by b now (Hold w name hold) = hold_said b w name hold
-made_by b now (Hit w hold) = hit_said b now w hold
-made_by b now (Read hold) = read_said b hold
-made_by b now (Drop hold) = drop_said b hold
-made_by b now (Del name) = del_said b name
-made_by b now (Pull k t) = pull_said b k t
-made_by b now (Sweep k) = sweep_said b k
-made_by b now Drain = drain_said b now
-made_by b now (Close w) = close_said b now w
-made_by b now Show = show_said b
-made_by b now Par = par_said b
+made_by store now (Set name class label) = set_said store now name class label
+made_by store now (Get worker name) = get_said store now worker name
+made_by store now (Hold worker name hold) = hold_said store worker name hold
+made_by store now (Hit worker hold) = hit_said store now worker hold
+made_by store now (Read hold) = read_said store hold
+made_by store now (Drop hold) = drop_said store hold
+made_by store now (Del name) = del_said store name
+made_by store now (Pull class tail) = pull_said store class tail
+made_by store now (Sweep class) = sweep_said store class
+made_by store now Drain = drain_said store now
+made_by store now (Close worker) = close_said store now worker
+made_by store now Show = show_said store
+made_by store now Par = par_said store
 
 -- where it may stand
 unfoldable pub instruction_said : StoreState → ℕ → Instruction → Result Said Fault
-instruction_said b now i = if b.is_past_par && not (may_follow_par i) then Err fault.Order else made_by b now i
+instruction_said store now instruction =
+    if store.is_past_par && not (may_follow_par instruction) then Err fault.Order else made_by store now instruction

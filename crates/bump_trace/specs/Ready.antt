@@ -16,29 +16,29 @@ use Rattle.bump_trace.specs.declared.stages.Stage.{Stage}
 use Rattle.bump_trace.specs.declared.stages.Stage.TheVariants as stage
 
 -- neither the worker nor its lane has anything in hand, whether its ring is open or closed
-pub record IsResting (x : WorkerState) : Type 0 where
-  pub idle : x.hand ≡ hand.Idle
-  pub empty : x.lane ≡ lane.Empty
+pub record IsResting (worker : WorkerState) : Type 0 where
+  pub idle : worker.hand ≡ hand.Idle
+  pub empty : worker.lane ≡ lane.Empty
 
 -- all workers rest
 abbrev pub IsAtRest : State → Type 0
-IsAtRest s = All IsResting s.workers
+IsAtRest state = All IsResting state.workers
 
 -- the numbers kept beside the World are its own, and it is lawful and at rest
-pub record IsReady (b : OpenStore) : Type 0 where
-  pub workers : length b.world.workers ≡ b.workers
-  pub classes : length b.world.classes ≡ b.classes
-  pub capacity : b.world.capacity ≡ b.capacity
-  pub rest : IsAtRest b.world
-  pub lawful : IsLawful b.world
+pub record IsReady (store : OpenStore) : Type 0 where
+  pub workers : length store.world.workers ≡ store.workers
+  pub classes : length store.world.classes ≡ store.classes
+  pub capacity : store.world.capacity ≡ store.capacity
+  pub rest : IsAtRest store.world
+  pub lawful : IsLawful store.world
 
 -- each item has as many holds as before, or more
-pub record HoldsStay (s t : State) : Type 0 where
-  pub each : (l : ItemId) → holds_of s l ≤ holds_of t l
+pub record HoldsStay (state next : State) : Type 0 where
+  pub each : (life : ItemId) → holds_of state life ≤ holds_of next life
 
 -- but for one hold of this item
-pub record GivesBack (id : ItemId) (s t : State) : Type 0 where
-  pub each : (l : ItemId) → holds_of s l ≤ holds_of t l + one_if l id
+pub record GivesBack (id : ItemId) (state next : State) : Type 0 where
+  pub each : (life : ItemId) → holds_of state life ≤ holds_of next life + one_if life id
 
 -- whether a command gives a hold back
 abbrev pub is_release : Command → Bool
@@ -48,31 +48,31 @@ is_release _ = false
 -- names that were bound, the last one first
 abbrev pub bindings : List (List ℕ × ItemId) → Names
 bindings [] = no_names
-bindings (b ∷ bs) = bind b.0 b.1 (bindings bs)
+bindings (binding ∷ others) = bind binding.0 binding.1 (bindings others)
 
 -- how many of them are bound to an item
 abbrev pub bound_to : ItemId → List (List ℕ × ItemId) → ℕ
-bound_to l bs = total (λ b. one_if l b.1) bs
+bound_to life bound = total (λ binding. one_if life binding.1) bound
 
 -- Each of these names has a hold of its own: an item has as many holds as names are bound to it, or more.
-pub record AreHeld (s : State) (holds : Names) : Type 0 where
+pub record AreHeld (state : State) (holds : Names) : Type 0 where
   pub bound : List (List ℕ × ItemId)
   pub names : holds ≡ bindings bound
-  pub each : (l : ItemId) → bound_to l bound ≤ holds_of s l
+  pub each : (life : ItemId) → bound_to life bound ≤ holds_of state life
 
 -- so have the hold names of a store
 abbrev pub KeepsHolds : OpenStore → Type 0
-KeepsHolds b = AreHeld b.world (names_of b.holds)
+KeepsHolds store = AreHeld store.world (names_of store.holds)
 
 -- What holds of an open store between two lines.
-pub record IsSteady (b : OpenStore) : Type 0 where
-  pub ready : IsReady b
-  pub holds : KeepsHolds b
+pub record IsSteady (store : OpenStore) : Type 0 where
+  pub ready : IsReady store
+  pub holds : KeepsHolds store
 
 -- What a line finds: a steady store, and no text yet.
-pub record MayRun (b : OpenStore) (text : List ℕ) : Type 0 where
-  pub ready : IsReady b
-  pub holds : KeepsHolds b
+pub record MayRun (store : OpenStore) (text : List ℕ) : Type 0 where
+  pub ready : IsReady store
+  pub holds : KeepsHolds store
   pub empty : text ≡ []
 
 -- a store that is open is steady

@@ -37,7 +37,9 @@ say stage text = record { stage = stage; text = text }
 
 -- the first fault that the configuration has
 abbrev pub config_fault : Shape → List ClassConfig → Option Fault
-config_fault shape classes = option_map fault_of_config (first_fault shape.workers shape.capacity shape.refs_limit shape.first_generation classes)
+config_fault shape classes =
+    option_map fault_of_config
+    (first_fault shape.workers shape.capacity shape.refs_limit shape.first_generation classes)
 
 -- a store of this shape in which nothing was done
 abbrev pub new_store : Shape → List ClassConfig → StoreState

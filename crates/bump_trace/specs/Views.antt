@@ -25,7 +25,12 @@ names_of names = bindings_of names.ids
 
 -- an open store as the definitions see it
 abbrev pub store_of : OpenStore → stages.StoreState
-store_of b = record { state = b.world; names = names_of b.names; holds = names_of b.holds; is_past_par = b.is_past_par }
+store_of store = record {
+  state = store.world;
+  names = names_of store.names;
+  holds = names_of store.holds;
+  is_past_par = store.is_past_par;
+}
 
 -- a stage as the definitions see it
 abbrev pub stage_of : Stage → stages.Stage
@@ -41,15 +46,16 @@ FailsBy (errors.Fault fault) meant = meant ≡ Err fault
 -- What a call left and said is what is meant, unless memory ran out.
 abbrev pub Does : stages.Stage → List ℕ → Result ⊤ LineError → Result stages.Said Fault → Type 0
 Does new text (Ok _) meant = meant ≡ Ok (record { stage = new; text = text })
-Does new text (Err e) meant = FailsBy e meant
+Does new text (Err what) meant = FailsBy what meant
 
 -- The bumps that a call applied, their text and their number are those that are meant, unless memory ran out.
 abbrev pub Drains : OpenStore → OpenStore → List ℕ → List ℕ → Result ℕ LineError → Drained → Type 0
-Drains old new had has (Ok n) meant = (new ≡ record old { world = meant.state }) × (has ≡ had ++ meant.text) × (n ≡ meant.count)
+Drains old new had has (Ok count) meant =
+    (new ≡ record old { world = meant.state }) × (has ≡ had ++ meant.text) × (count ≡ meant.count)
 Drains old new had has (Err errors.Memory) meant = Unit {0}
 Drains old new had has (Err (errors.Fault fault)) meant = ⊥
 
 -- The store that a call opened is the one that is meant, unless memory ran out.
 abbrev pub Opens : stages.Stage → Result ⊤ LineError → Result stages.StoreState Fault → Type 0
 Opens new (Ok _) meant = (store : stages.StoreState) × (meant ≡ Ok store) × (new ≡ stages.Open store)
-Opens new (Err e) meant = FailsBy e meant
+Opens new (Err what) meant = FailsBy what meant

@@ -1,8 +1,8 @@
-//! What each atomic step on a head word does to the Head. A function here does nothing when it runs: its clauses are the
-//! law, and hold for every number.
+//! What each atomic step on a head word does to the Head. A function here does nothing when it runs: its clauses are
+//! the law, and hold for every number.
 //!
-//! A step is written as a function from the number that it finds to the number that it leaves. It answers the number that
-//! it found, so what it answers is the word of the Head before.
+//! A step is written as a function from the number that it finds to the number that it leaves. It answers the number
+//! that it found, so what it answers is the word of the Head before.
 ghost use Rattle.std.specs.Prelude.{◌≡◌, ◌≢◌, ◌==◌, ℕ, ◌+◌, ◌-◌, ◌*◌, ◌%◌, ◌/◌, ◌^◌, ◌<◌, true, false, ◌≤◌, bit_and, bit_or, bit_xor, ⊤, Option, Some};
 ghost use prog.Atomic.{either};
 ghost use Rattle.bump_rules.specs.declared.items.Head.{Head as TheHead};
@@ -35,9 +35,9 @@ pub const SEGMENT_MASK: u64 = ((1 << SEGMENT_AT.width) - 1) << SEGMENT_AT.first;
 /// One generation: what the word grows by from a generation to the next.
 pub const ONE_GENERATION: u64 = 1 << GENERATION_AT.first;
 
-/// A reference is taken; the count must be under [`REFS_MAX`](crate::REFS_MAX). This is the step of a reader that takes a
-/// hold of a linked item, and of a holder that takes the reference that its bump rides on. Both exchange the word `old`
-/// that they saw for the next number: where another word is found, nothing changes.
+/// A reference is taken; the count must be under [`REFS_MAX`](crate::REFS_MAX). This is the step of a reader that
+/// takes a hold of a linked item, and of a holder that takes the reference that its bump rides on. Both exchange the
+/// word `old` that they saw for the next number: where another word is found, nothing changes.
 pub fn one_more()
     ensures exchanged { (n old : ℕ) (h : TheHead) → Spells n h → n ≡ old → h.refs < REFS_MAX →
         Spells (either (n == old) (old + ONE_REFERENCE) n) (with_one_more h) }
@@ -81,9 +81,9 @@ pub fn unlink()
         (λ h. (h.linked ≡ true) × (0 < h.refs)) severed_head }
 {}
 
-/// An item goes to another segment, or stays in its own, by an exclusive or with what [`segment_xor`](crate::segment_xor)
-/// gives for the segment that it is in and the one that it goes to. Each move that the lists make is one of these: HOT to
-/// WARM or COLD, WARM to WARM or COLD, COLD to WARM.
+/// An item goes to another segment, or stays in its own, by an exclusive or with what
+/// [`segment_xor`](crate::segment_xor) gives for the segment that it is in and the one that it goes to. Each move
+/// that the lists make is one of these: HOT to WARM or COLD, WARM to WARM or COLD, COLD to WARM.
 pub fn change_segment()
     ensures { (a b : TheSegment) →
         Changes (λ n. bit_xor n (segment_change a b))
@@ -150,9 +150,10 @@ pub fn read_generation()
     ensures { Reads (λ n. n / 2 ^ generation_first) (λ h. h.generation) }
 {}
 
-/// There and back: what [`unpack`](crate::unpack) answers for the number that [`pack`](crate::pack) gives for a Head is that
-/// Head; and where `unpack` answers a Head, that Head may be packed, and `pack` gives the number that was read. The clauses
-/// speak of any numbers and answers, in the words of the contracts of the two calls, so a caller has the law of its own calls.
+/// There and back: what [`unpack`](crate::unpack) answers for the number that [`pack`](crate::pack) gives for a Head
+/// is that Head; and where `unpack` answers a Head, that Head may be packed, and `pack` gives the number that was
+/// read. The clauses speak of any numbers and answers, in the words of the contracts of the two calls, so a caller
+/// has the law of its own calls.
 pub fn there_and_back()
     ensures there { (h : TheHead) (n : ℕ) (answer : Option TheHead) → h.refs ≤ REFS_MAX → h.generation < 2 ^ 32 →
         IsPacked h n → FindsHead n answer → answer ≡ Some h }

@@ -2,8 +2,8 @@
 ghost use Rattle.std.specs.Prelude.{◌≡◌, ◌/◌, ◌%◌, ◌^◌, ◌<◌};
 ghost use Rattle.bump_rules.specs.Lawful.{bit};
 
-// The table of the fields. All numbers of bits in this crate's code stand here; `specs/Layout.antt` has the same table, which
-// the definition of the word is made of.
+// The table of the fields. All numbers of bits in this crate's code stand here; `specs/Layout.antt` has the same
+// table, which the definition of the word is made of.
 
 /// The reference count: lowest, so that one reference is the number 1.
 pub const REFS_AT: Field = Field {
@@ -59,7 +59,8 @@ pub const ACTIVE: u64 = 1 << ACTIVE_AT.first;
 /// The greatest reference count that a word holds (memcached's `refcount` has 16 bits, too).
 pub const REFS_MAX: u32 = (1 << REFS_AT.width) - 1;
 
-/// The narrowest number that a reference count fits into: a count cast to it stays as it is. Its limit is kept as one, too.
+/// The narrowest number that a reference count fits into: a count cast to it stays as it is. Its limit is kept as
+/// one, too.
 pub type Count = u16;
 
 /// A run of bits of the word.

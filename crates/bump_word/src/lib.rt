@@ -1,4 +1,5 @@
-//! The bits of the head word: which 64-bit number stands for which [`Head`](bump_rules::Head), and what single atomic steps on that number do to the Head.
+//! The bits of the head word: which 64-bit number stands for which [`Head`](bump_rules::Head), and what single atomic
+//! steps on that number do to the Head.
 //!
 //! | Bits | Field |
 //! |---|---|

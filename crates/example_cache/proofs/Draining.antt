@@ -15,14 +15,14 @@ use Rattle.bump_rules.specs.declared.commands.Command.TheVariants as command
 use Rattle.bump_rules.specs.declared.items.ItemId.{ItemId}
 use Rattle.bump_rules.specs.declared.lanes.Lane.{Lane}
 use Rattle.bump_rules.specs.declared.lanes.Lane.TheVariants as lane
-use Rattle.bump_core.specs.Commands.{is_allowed, answer_of, command_after, apply_bump, bumped_lists, bumped_worker, outcome_next, ended_at, entry_of, bump_next}
+use Rattle.bump_core.specs.Commands.{is_allowed, answer_of, command_after, apply_bump, bumped_lists, bumped_worker, outcome_next, gone_as, entry_next, bump_next}
 use Rattle.bump_rules.specs.Lanes.{is_half_made, bump_of}
 use Rattle.bump_state.specs.Events.{next_bump}
 use Rattle.bump_core.specs.Headline.{Headline}
 use Rattle.bump_core.specs.Readers.{sent_of, applied_of}
 use Rattle.bump_state.specs.Rings.{in_ring}
 use Rattle.bump_rules.specs.Rings.{aboard, bump_applied, numbered_from, most_attempts}
-use Rattle.bump_state.specs.State.{State, WorkerState, new_worker, worker}
+use Rattle.bump_state.specs.State.{State, WorkerState, new_worker, worker_at}
 use Rattle.example_cache.specs.Cache.{bumped}
 use Rattle.example_cache.specs.declared.cache.Cache.{Cache}
 
@@ -34,7 +34,7 @@ numbered_long n (l ∷ ls) = ap suc (numbered_long (suc n) ls)
 -- no more bumps were applied than accepted
 pub applied_few : (s : State) (w : ℕ) → Headline s → w < length s.workers → length (applied_of s w) ≤ length (sent_of s w)
 applied_few s w h within =
-    let x = worker s w in
+    let x = worker_at s w in
     let order = ap length (h.in_order w within) in
     let mapped : length (map bump_applied x.applied) ≡ length x.applied = simp length-map in
     omega (arith, order, numbered_long 0 x.sent, mapped, length-append (map bump_applied x.applied ++ aboard x.lane) (numbered_from (length x.received) (in_ring x)), length-append (map bump_applied x.applied) (aboard x.lane))
@@ -54,28 +54,28 @@ pub record IsOneMore (s t : State) (w : ℕ) : Type 0 where
 -- a bump that was applied is one more
 bump_more : (s : State) (w now : ℕ) (b : Bump) → w < length s.workers → IsOneMore s (apply_bump s w now b) w
 bump_more s w now b within =
-    let y = bumped_worker (worker s w) b (outcome_next s b) in
-    let here : worker (apply_bump s w now b) w ≡ y = ap (λ ws. get_or ws w new_worker) (same_workers _ w b (outcome_next s b) (ended_at s b.life.chunk)) ∙ get_or-set_same s.workers w y new_worker within in
+    let y = bumped_worker (worker_at s w) b (outcome_next s b) in
+    let here : worker_at (apply_bump s w now b) w ≡ y = ap (λ ws. get_or ws w new_worker) (same_workers _ w b (outcome_next s b) (gone_as s b.life.chunk)) ∙ get_or-set_same s.workers w y new_worker within in
     record {
       sent = ap (λ (x : WorkerState). x.sent) here;
-      applied = ap (λ (x : WorkerState). length x.applied) here ∙ length-append (worker s w).applied _;
+      applied = ap (λ (x : WorkerState). length x.applied) here ∙ length-append (worker_at s w).applied _;
     }
 
 -- a Next that answers a bump applied one more
 pub next_more : (s : State) (w now : ℕ) (e : Entry) → w < length s.workers → answer_of s (command.Next w now) ≡ answer.Bumped e → IsOneMore s (command_after s (command.Next w now)) w
-next_more s w now e within is = by (bump_next (worker s w)) is
+next_more s w now e within is = by (bump_next (worker_at s w)) is
   where
-    by : (o : Option Bump) → option_map_or (λ b. answer.Bumped (entry_of s b)) o answer.Nothing ≡ answer.Bumped e → IsOneMore s (option_map_or (apply_bump s w now) o s) w
+    by : (o : Option Bump) → option_map_or (λ b. answer.Bumped (entry_next s b)) o answer.Nothing ≡ answer.Bumped e → IsOneMore s (option_map_or (apply_bump s w now) o s) w
     by None h = cc
     by (Some b) h = bump_more s w now b within
 
 -- a Next that answers no bump found none
-none_next : (s : State) (w now : ℕ) → ((e : Entry) → answer_of s (command.Next w now) ≡ answer.Bumped e → ⊥) → bump_next (worker s w) ≡ None
-none_next s w now h = by (bump_next (worker s w)) h
+none_next : (s : State) (w now : ℕ) → ((e : Entry) → answer_of s (command.Next w now) ≡ answer.Bumped e → ⊥) → bump_next (worker_at s w) ≡ None
+none_next s w now h = by (bump_next (worker_at s w)) h
   where
-    by : (o : Option Bump) → ((e : Entry) → option_map_or (λ b. answer.Bumped (entry_of s b)) o answer.Nothing ≡ answer.Bumped e → ⊥) → o ≡ None
+    by : (o : Option Bump) → ((e : Entry) → option_map_or (λ b. answer.Bumped (entry_next s b)) o answer.Nothing ≡ answer.Bumped e → ⊥) → o ≡ None
     by None h = refl
-    by (Some b) h = absurd (h (entry_of s b) refl)
+    by (Some b) h = absurd (h (entry_next s b) refl)
 
 -- nothing is aboard a lane, and nothing waits in its ring
 pub record IsIdle (x : WorkerState) (z : Lane) : Type 0 where
@@ -117,7 +117,7 @@ pub all_applied : (s : State) (w now : ℕ) → Headline s → w < length s.work
     → ((e : Entry) → answer_of s (command.Next w now) ≡ answer.Bumped e → ⊥)
     → map bump_applied (applied_of s w) ≡ numbered_from 0 (sent_of s w)
 all_applied s w now h within allowed none =
-    let x = worker s w in
+    let x = worker_at s w in
     let idle = idle_lane x x.lane (none_next s w now none) (none_half_made _ _ _ allowed) in
     all_of (map bump_applied x.applied) x (numbered_from 0 x.sent) (h.in_order w within) idle.aboard_none (none_waits x idle.waits_none)
 

@@ -10,7 +10,7 @@ ghost use Rattle.bump_state.specs.Opening.{new_state};
 ghost use Rattle.bump_core.specs.Readers.{sent_of, applied_of};
 ghost use Rattle.bump_state.specs.Rings.{in_ring};
 ghost use Rattle.bump_rules.specs.Rings.{bump_applied, numbered_from};
-ghost use Rattle.bump_state.specs.State.{SameSizes, worker as worker_at};
+ghost use Rattle.bump_state.specs.State.{SameSizes, worker_at};
 
 use bump_core::{Answer, Command, Config, Ended, ItemId, Pulled, Refused, Tail, Touch, World};
 use std::alloc::{AllocError, Global};

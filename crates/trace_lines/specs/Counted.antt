@@ -8,13 +8,13 @@ use Rattle.trace_lines.specs.declared.counted.Counted.{Counted}
 
 -- what is counted, how many calls of it were made, and how many of them failed
 abbrev pub inner_of : {T : Type 0} → Counted T → T
-inner_of c = c.inner
+inner_of counted = counted.inner
 
 abbrev pub calls_of : {T : Type 0} → Counted T → ℕ
-calls_of c = c.calls
+calls_of counted = counted.calls
 
 abbrev pub failed_of : {T : Type 0} → Counted T → ℕ
-failed_of c = c.failed
+failed_of counted = counted.failed
 
 -- the call is to be made again
 abbrev pub is_interrupted : ErrorKind → Bool
@@ -23,17 +23,17 @@ is_interrupted _ = false
 
 -- An interrupted read is no failure.
 abbrev pub read_failed : Result ℕ Error → Bool
-read_failed (Ok n) = false
-read_failed (Err e) = not (is_interrupted (error_kind e))
+read_failed (Ok count) = false
+read_failed (Err error) = not (is_interrupted (error_kind error))
 
 -- Taking nothing of a piece that isn't empty is one.
 abbrev pub write_failed : Result ℕ Error → List ℕ → Bool
-write_failed (Ok n) piece = (n == 0) && not (length piece == 0)
-write_failed (Err e) piece = true
+write_failed (Ok count) piece = (count == 0) && not (length piece == 0)
+write_failed (Err error) piece = true
 
 -- A count stops growing at the greatest number.
 abbrev pub next_count : ℕ → ℕ
-next_count n = min (n + 1) (2 ^ 64 - 1)
+next_count count = min (count + 1) (2 ^ 64 - 1)
 
 abbrev pub count_if : Bool → ℕ → ℕ
-count_if counts n = if counts then next_count n else n
+count_if counts count = if counts then next_count count else count

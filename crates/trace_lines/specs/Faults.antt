@@ -38,10 +38,10 @@ fault_of_config config.Chunks = fault.Chunks
 -- the first fault, or what follows
 infixl 10 ◌>>=◌
 abbrev pub ◌>>=◌ : {A B : Type 0} → Result A Fault → (A → Result B Fault) → Result B Fault
-(Ok x) >>= f = f x
-(Err e) >>= f = Err e
+(Ok value) >>= next = next value
+(Err what) >>= next = Err what
 
 -- this fault where there is none
 abbrev pub or_fault : {A : Type 0} → Fault → Option A → Result A Fault
-or_fault e (Some x) = Ok x
-or_fault e None = Err e
+or_fault what (Some value) = Ok value
+or_fault what None = Err what

@@ -25,15 +25,18 @@ Value Segment = Tail
 
 -- Decimal digits without a leading zero: one digit, or digits of which the first isn't 0.
 abbrev pub is_numeral : List ℕ → Bool
-is_numeral bs = all_ascii_digits bs && (nat_lt 0 (length bs) && (length bs == 1 || not (slice_index bs 0 == 48)))
+is_numeral digits =
+    all_ascii_digits digits
+    && (nat_lt 0 (length digits) && (length digits == 1 || not (slice_index digits 0 == 48)))
 
 -- the number below the limit that the digits spell
 abbrev pub number_of : ℕ → List ℕ → Option ℕ
-number_of limit bs = if is_numeral bs && nat_lt (digits_value 10 bs) limit then Some (digits_value 10 bs) else None
+number_of limit digits =
+    if is_numeral digits && nat_lt (digits_value 10 digits) limit then Some (digits_value 10 digits) else None
 
 -- a to z, 0 to 9 and _
 abbrev pub is_name_byte : ℕ → Bool
-is_name_byte b = (nat_le 97 b && nat_le b 122) || ((nat_le 48 b && nat_le b 57) || b == 95)
+is_name_byte byte = (nat_le 97 byte && nat_le byte 122) || ((nat_le 48 byte && nat_le byte 57) || byte == 95)
 
 -- a name: 1 to 32 such bytes
 abbrev pub is_name : List ℕ → Bool

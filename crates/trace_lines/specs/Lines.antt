@@ -1,8 +1,9 @@
 -- The lines of a trace: the table of their first words and fields, and how a line is read by it.
-use Rattle.std.specs.Prelude.{ℕ, Bool, true, false, ◌==◌, List, [], ◌∷◌, find, codes, Option, Some, None, Result, Ok, Err}
+use Rattle.std.specs.Prelude.{ℕ, Bool, true, false, ◌==◌, List, [], ◌∷◌, find, length, codes, Option, Some, None, Result, Ok, Err, if◌then◌else◌}
 use Rattle.std.specs.List.{slice_split}
 use Rattle.std.specs.Str.{bytes_eq}
 use Rattle.bump_rules.specs.declared.places.Tail.{Tail}
+use Rattle.trace_lines.specs.Faults.{◌>>=◌}
 use Rattle.trace_lines.specs.Fields.{Kind, U32, U64, Name, Segment, Value, field}
 use Rattle.trace_lines.specs.declared.faults.Fault.{Fault}
 use Rattle.trace_lines.specs.declared.faults.Fault.TheVariants as fault
@@ -64,34 +65,59 @@ keyword_word keyword.Close = codes "close"
 keyword_word keyword.Show = codes "show"
 keyword_word keyword.Par = codes "par"
 
+-- all of them
+abbrev pub all_keywords : List Keyword
+all_keywords =
+    keyword.Store ∷ keyword.Class ∷ keyword.Set ∷ keyword.Get ∷ keyword.Hold ∷ keyword.Hit ∷ keyword.Read ∷
+    keyword.Drop ∷ keyword.Del ∷ keyword.Pull ∷ keyword.Sweep ∷ keyword.Drain ∷ keyword.Close ∷ keyword.Show ∷
+    keyword.Par ∷ []
+
 -- the first word that these bytes are
 abbrev pub keyword_of : List ℕ → Option Keyword
-keyword_of word = find (λ k. bytes_eq word (keyword_word k)) (
-    keyword.Store ∷ keyword.Class ∷ keyword.Set ∷ keyword.Get ∷ keyword.Hold ∷ keyword.Hit ∷ keyword.Read ∷ keyword.Drop ∷
-    keyword.Del ∷ keyword.Pull ∷ keyword.Sweep ∷ keyword.Drain ∷ keyword.Close ∷ keyword.Show ∷ keyword.Par ∷ [])
+keyword_of word = find (λ keyword. bytes_eq word (keyword_word keyword)) all_keywords
 
--- a line with one more of its fields, or the first fault
-abbrev pub with_field : {A B : Type 0} → Result (A → B) Fault → Result A Fault → Result B Fault
-with_field (Ok line) (Ok value) = Ok (line value)
-with_field (Ok line) (Err e) = Err e
-with_field (Err e) value = Err e
+-- a value for each kind
+abbrev pub Values : List Kind → Type 0
+Values [] = Unit {0}
+Values (kind ∷ kinds) = Value kind × Values kinds
 
--- The fields, from left to right. COUNT comes before what is wrong with any of them, so the first fault waits until all
--- are counted.
-abbrev pub with_fields : (kinds : List Kind) → Result (LineFrom kinds) Fault → List (List ℕ) → Result Line Fault
-with_fields [] line [] = line
-with_fields (kind ∷ kinds) line (word ∷ words) = with_fields kinds (with_field line (field kind word)) words
-with_fields kinds line words = Err fault.Count
+-- the line that has these values
+abbrev pub line_with : (kinds : List Kind) → LineFrom kinds → Values kinds → Line
+line_with [] line values = line
+line_with (kind ∷ kinds) line values = line_with kinds (line values.0) values.1
+
+-- a value and those behind it, or the first fault
+abbrev pub first_fault_of : {A B : Type 0} → Result A Fault → Result B Fault → Result (A × B) Fault
+first_fault_of (Ok value) (Ok values) = Ok (value, values)
+first_fault_of (Ok value) (Err what) = Err what
+first_fault_of (Err what) values = Err what
+
+-- words as fields of these kinds, from left to right, where they are as many
+abbrev pub fields_in : (kinds : List Kind) → List (List ℕ) → Result (Values kinds) Fault
+fields_in (kind ∷ kinds) (word ∷ words) = first_fault_of (field kind word) (fields_in kinds words)
+fields_in [] words = Ok tt
+fields_in kinds words = Err fault.Count
+
+-- COUNT comes before what is wrong with any field.
+abbrev pub values_of : (kinds : List Kind) → List (List ℕ) → Result (Values kinds) Fault
+values_of kinds words = if length words == length kinds then fields_in kinds words else Err fault.Count
 
 -- the line with these words as its fields
 abbrev pub fields_of : (kinds : List Kind) → LineFrom kinds → List (List ℕ) → Result Line Fault
-fields_of kinds line words = with_fields kinds (Ok line) words
+fields_of kinds line words = values_of kinds words >>= (λ values. Ok (line_with kinds line values))
 
--- The table: a row for each line that a trace may have, with the kinds of its fields, and the line that it is with such fields.
+-- The table: a row for each line that a trace may have, with the kinds of its fields, and the line that it is with
+-- such fields.
 abbrev pub by_row : Keyword → List (List ℕ) → Result Line Fault
 by_row keyword.Store words = fields_of (U32 ∷ U32 ∷ U32 ∷ U32 ∷ []) (λ workers capacity refs generation.
-    Declares (Store (record { workers = workers; capacity = capacity; refs_limit = refs; first_generation = generation }))) words
-by_row keyword.Class words = fields_of (U32 ∷ U32 ∷ U32 ∷ []) (λ chunks hot warm. Declares (Class (record { chunks = chunks; hot = hot; warm = warm }))) words
+    Declares (Store (record {
+      workers = workers;
+      capacity = capacity;
+      refs_limit = refs;
+      first_generation = generation;
+    }))) words
+by_row keyword.Class words = fields_of (U32 ∷ U32 ∷ U32 ∷ []) (λ chunks hot warm.
+    Declares (Class (record { chunks = chunks; hot = hot; warm = warm }))) words
 by_row keyword.Set words = fields_of (Name ∷ U32 ∷ U64 ∷ []) (λ name class label. Makes (Set name class label)) words
 by_row keyword.Get words = fields_of (U32 ∷ Name ∷ []) (λ worker name. Makes (Get worker name)) words
 by_row keyword.Hold words = fields_of (U32 ∷ Name ∷ Name ∷ []) (λ worker name hold. Makes (Hold worker name hold)) words

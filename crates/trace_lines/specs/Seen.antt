@@ -25,10 +25,10 @@ seen_instruction instruction.Par = lines.Par
 
 -- a line with its names as bytes
 abbrev pub seen_line : Line → lines.Line
-seen_line (Declares d) = lines.Declares d
-seen_line (Makes i) = lines.Makes (seen_instruction i)
+seen_line (Declares declaration) = lines.Declares declaration
+seen_line (Makes instruction) = lines.Makes (seen_instruction instruction)
 
 -- What a function returned, seen by view, is what reading gives.
 abbrev pub Gives : {X Y : Type 0} → (X → Y) → Result X Fault → Result Y Fault → Type 0
-Gives view (Ok x) read = read ≡ Ok (view x)
-Gives view (Err e) read = read ≡ Err e
+Gives view (Ok value) read = read ≡ Ok (view value)
+Gives view (Err what) read = read ≡ Err what

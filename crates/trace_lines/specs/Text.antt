@@ -28,17 +28,19 @@ id_text id = decimal id.chunk ++ codes "." ++ decimal id.generation
 
 -- neither mark, FETCHED, or both
 abbrev pub flags_text : Head → List ℕ
-flags_text h = if h.fetched then (if h.active then codes "fa" else codes "f") else codes "-"
+flags_text head = if head.fetched then (if head.active then codes "fa" else codes "f") else codes "-"
 
 -- ID:REFS:FLAGS:TIME
 abbrev pub item_text : ℕ → Head → ℕ → List ℕ
-item_text c h time = id_text (life c h.generation) ++ codes ":" ++ decimal h.refs ++ codes ":" ++ flags_text h ++ codes ":" ++ decimal time
+item_text chunk head time =
+    id_text (life chunk head.generation) ++ codes ":" ++ decimal head.refs ++ codes ":" ++ flags_text head
+    ++ codes ":" ++ decimal time
 
 -- A chunk of UNUSED or RETIRED is told by its number, an item of any other list whole.
 abbrev pub chunk_text : Place → ℕ → Head → ℕ → List ℕ
-chunk_text place.Unused c h time = decimal c
-chunk_text place.Retired c h time = decimal c
-chunk_text _ c h time = item_text c h time
+chunk_text place.Unused chunk head time = decimal chunk
+chunk_text place.Retired chunk head time = decimal chunk
+chunk_text _ chunk head time = item_text chunk head time
 
 -- the word of a list
 abbrev pub place_word : Place → List ℕ
@@ -49,26 +51,29 @@ place_word place.Dying = codes "dying"
 place_word place.Unused = codes "unused"
 place_word place.Retired = codes "retired"
 
--- class C PLACE LEN
+-- class CLASS LIST SIZE
 abbrev pub list_start : ℕ → Place → ℕ → List ℕ
-list_start k p length = codes "class " ++ decimal k ++ codes " " ++ place_word p ++ codes " " ++ decimal length
+list_start class list size =
+    codes "class " ++ decimal class ++ codes " " ++ place_word list ++ codes " " ++ decimal size
 
 -- attempted A accepted B full C busy D refs E applied F
 abbrev pub accounts_text : Accounts → ℕ → List ℕ
-accounts_text a applied =
-    codes "attempted " ++ decimal a.attempted ++ codes " accepted " ++ decimal a.accepted ++ codes " full " ++ decimal a.full
-    ++ codes " busy " ++ decimal a.busy ++ codes " refs " ++ decimal a.refs ++ codes " applied " ++ decimal applied
+accounts_text accounts applied =
+    codes "attempted " ++ decimal accounts.attempted ++ codes " accepted " ++ decimal accounts.accepted
+    ++ codes " full " ++ decimal accounts.full ++ codes " busy " ++ decimal accounts.busy
+    ++ codes " refs " ++ decimal accounts.refs ++ codes " applied " ++ decimal applied
 
--- worker W ACCOUNTS
+-- worker WORKER ACCOUNTS
 abbrev pub accounts_line : ℕ → Accounts → ℕ → List ℕ
-accounts_line w a applied = codes "worker " ++ decimal w ++ codes " " ++ accounts_text a applied ++ codes "\n"
+accounts_line worker accounts applied =
+    codes "worker " ++ decimal worker ++ codes " " ++ accounts_text accounts applied ++ codes "\n"
 
 -- what a hit did
 abbrev pub touch_text : Touch → List ℕ
 touch_text touch.First = codes "first"
 touch_text touch.Already = codes "already"
 touch_text touch.Marked = codes "marked"
-touch_text (touch.Queued n) = codes "queued " ++ decimal n
+touch_text (touch.Queued number) = codes "queued " ++ decimal number
 touch_text (touch.Dropped Full) = codes "dropped full"
 touch_text (touch.Dropped Busy) = codes "dropped busy"
 touch_text (touch.Dropped RefsFull) = codes "dropped refs"
@@ -91,94 +96,99 @@ applied_text TimeOnly = codes "time"
 applied_text (Gone Freed) = codes "gone freed"
 applied_text (Gone Deferred) = codes "gone deferred"
 
--- N ID, and what applying the bump did
+-- NUMBER ID, and what applying the bump did
 abbrev pub entry_text : Entry → List ℕ
-entry_text e = decimal e.number ++ codes " " ++ id_text e.life ++ codes " " ++ applied_text e.applied
+entry_text entry = decimal entry.number ++ codes " " ++ id_text entry.life ++ codes " " ++ applied_text entry.applied
 
--- How each answer is told. A hold that was given back, a ring that was closed, and a bump that isn't there, are told by no words.
+-- How each answer is told. A hold that was given back, a ring that was closed, and a bump that isn't there, are told by
+-- no words.
 abbrev pub answer_text : Answer → List ℕ
 answer_text (answer.Linked id) = id_text id
 answer_text answer.NoFreeChunk = codes "full"
 answer_text (answer.Ended Freed) = codes "freed"
 answer_text (answer.Ended Deferred) = codes "deferred"
 answer_text answer.NotLinked = codes "gone"
-answer_text (answer.Swept n) = decimal n
-answer_text (answer.Pulled p) = pulled_text p
+answer_text (answer.Swept count) = decimal count
+answer_text (answer.Pulled what) = pulled_text what
 answer_text answer.Held = codes "held"
 answer_text answer.NoSuchChunk = codes "miss"
 answer_text answer.Stale = codes "miss"
 answer_text answer.RefsFull = codes "refs"
-answer_text (answer.Touched t) = touch_text t
-answer_text (answer.Label x) = decimal x
+answer_text (answer.Touched what) = touch_text what
+answer_text (answer.Label label) = decimal label
 answer_text answer.Done = []
-answer_text (answer.Bumped e) = entry_text e
+answer_text (answer.Bumped entry) = entry_text entry
 answer_text answer.Nothing = []
 
 -- how it is told what a worker's command answered, or that the worker is closed
 abbrev pub told : Option Answer → List ℕ
 told None = codes "closed"
-told (Some a) = answer_text a
+told (Some given) = answer_text given
 
 -- set NAME, and the answer
 abbrev pub set_line : List ℕ → Answer → List ℕ
-set_line name a = codes "set " ++ name ++ codes " " ++ answer_text a ++ codes "\n"
+set_line name given = codes "set " ++ name ++ codes " " ++ answer_text given ++ codes "\n"
 
--- get W NAME
+-- get WORKER NAME
 abbrev pub get_start : ℕ → List ℕ → List ℕ
-get_start w name = codes "get " ++ decimal w ++ codes " " ++ name ++ codes " "
+get_start worker name = codes "get " ++ decimal worker ++ codes " " ++ name ++ codes " "
 
--- get W NAME, and the answer
+-- get WORKER NAME, and the answer
 abbrev pub get_line : ℕ → List ℕ → Option Answer → List ℕ
-get_line w name a = get_start w name ++ told a ++ codes "\n"
+get_line worker name given = get_start worker name ++ told given ++ codes "\n"
 
--- get W NAME LABEL HIT, of an item that was held
+-- get WORKER NAME LABEL HIT, of an item that was held
 abbrev pub get_held_line : ℕ → List ℕ → Answer → Answer → List ℕ
-get_held_line w name label hit = get_start w name ++ answer_text label ++ codes " " ++ answer_text hit ++ codes "\n"
+get_held_line worker name label hit =
+    get_start worker name ++ answer_text label ++ codes " " ++ answer_text hit ++ codes "\n"
 
--- hold W NAME H, and the answer
+-- hold WORKER NAME HOLD, and the answer
 abbrev pub hold_line : ℕ → List ℕ → List ℕ → Option Answer → List ℕ
-hold_line w name hold a = codes "hold " ++ decimal w ++ codes " " ++ name ++ codes " " ++ hold ++ codes " " ++ told a ++ codes "\n"
+hold_line worker name hold given =
+    codes "hold " ++ decimal worker ++ codes " " ++ name ++ codes " " ++ hold ++ codes " " ++ told given ++ codes "\n"
 
--- hit W H, and the answer
+-- hit WORKER HOLD, and the answer
 abbrev pub hit_line : ℕ → List ℕ → Option Answer → List ℕ
-hit_line w hold a = codes "hit " ++ decimal w ++ codes " " ++ hold ++ codes " " ++ told a ++ codes "\n"
+hit_line worker hold given =
+    codes "hit " ++ decimal worker ++ codes " " ++ hold ++ codes " " ++ told given ++ codes "\n"
 
--- read H, and the answer
+-- read HOLD, and the answer
 abbrev pub read_line : List ℕ → Answer → List ℕ
-read_line hold a = codes "read " ++ hold ++ codes " " ++ answer_text a ++ codes "\n"
+read_line hold given = codes "read " ++ hold ++ codes " " ++ answer_text given ++ codes "\n"
 
--- drop H
+-- drop HOLD
 abbrev pub drop_line : List ℕ → List ℕ
 drop_line hold = codes "drop " ++ hold ++ codes "\n"
 
 -- del NAME, and the answer
 abbrev pub del_line : List ℕ → Answer → List ℕ
-del_line name a = codes "del " ++ name ++ codes " " ++ answer_text a ++ codes "\n"
+del_line name given = codes "del " ++ name ++ codes " " ++ answer_text given ++ codes "\n"
 
 -- pull CLASS SEGMENT, and the answer
 abbrev pub pull_line : ℕ → Tail → Answer → List ℕ
-pull_line k t a = codes "pull " ++ decimal k ++ codes " " ++ tail_word t ++ codes " " ++ answer_text a ++ codes "\n"
+pull_line class tail given =
+    codes "pull " ++ decimal class ++ codes " " ++ tail_word tail ++ codes " " ++ answer_text given ++ codes "\n"
 
 -- sweep CLASS, and the answer
 abbrev pub sweep_line : ℕ → Answer → List ℕ
-sweep_line k a = codes "sweep " ++ decimal k ++ codes " " ++ answer_text a ++ codes "\n"
+sweep_line class given = codes "sweep " ++ decimal class ++ codes " " ++ answer_text given ++ codes "\n"
 
--- bump W N ID, and what it did
+-- bump WORKER NUMBER ID, and what it did
 abbrev pub bump_line : ℕ → Entry → List ℕ
-bump_line w e = codes "bump " ++ decimal w ++ codes " " ++ entry_text e ++ codes "\n"
+bump_line worker entry = codes "bump " ++ decimal worker ++ codes " " ++ entry_text entry ++ codes "\n"
 
--- drain N
+-- drain COUNT
 abbrev pub drain_line : ℕ → List ℕ
-drain_line n = codes "drain " ++ decimal n ++ codes "\n"
+drain_line count = codes "drain " ++ decimal count ++ codes "\n"
 
--- close W
+-- close WORKER
 abbrev pub close_start : ℕ → List ℕ
-close_start w = codes "close " ++ decimal w ++ codes " "
+close_start worker = codes "close " ++ decimal worker ++ codes " "
 
--- close W, of a worker that was closed before
+-- close WORKER, of a worker that was closed before
 abbrev pub closed_line : ℕ → List ℕ
-closed_line w = close_start w ++ told None ++ codes "\n"
+closed_line worker = close_start worker ++ told None ++ codes "\n"
 
--- line N: WORD
+-- line NUMBER: WORD
 abbrev pub fault_line : ℕ → Fault → List ℕ
-fault_line n fault = codes "line " ++ decimal n ++ codes ": " ++ fault_word fault ++ codes "\n"
+fault_line number fault = codes "line " ++ decimal number ++ codes ": " ++ fault_word fault ++ codes "\n"

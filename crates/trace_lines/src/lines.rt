@@ -1,7 +1,8 @@
 //! What a line says.
 
-ghost use Rattle.std.specs.Prelude.{◌≡◌, IfOk, map};
-ghost use Rattle.trace_lines.specs.Lines.{split_at_spaces, by_row, line_of_words};
+ghost use Rattle.std.specs.Prelude.{◌≡◌, ◌∷◌, [], IfOk, map};
+ghost use Rattle.trace_lines.specs.Fields.{U32, U64, Name, Segment};
+ghost use Rattle.trace_lines.specs.Lines.{split_at_spaces, values_of, by_row, line_of_words};
 ghost use Rattle.trace_lines.specs.Seen.{seen_line, Gives};
 
 use crate::faults::Fault;
@@ -11,7 +12,7 @@ use bump_rules::{ClassConfig, Tail};
 use std::alloc::{AllocError, Global};
 
 /// What a `store` line says. The ranges are looked at where the store is opened.
-#[derive(Clone, Copy, Debug, PartialEq, Eq)]
+#[derive(Clone, Copy)]
 pub struct Shape {
     /// How many workers there are.
     pub workers: u32,
@@ -27,7 +28,7 @@ pub struct Shape {
 }
 
 /// A line that says what the store is.
-#[derive(Clone, Copy, Debug, PartialEq, Eq)]
+#[derive(Clone, Copy)]
 pub enum Declaration {
     /// `store`: the workers, their rings and the limits.
     Store(Shape),
@@ -37,7 +38,7 @@ pub enum Declaration {
 }
 
 /// A line that says what is done on the open store.
-#[derive(Clone, Copy, Debug, PartialEq, Eq)]
+#[derive(Clone, Copy)]
 pub enum Instruction<'a> {
     /// `set`: an item is stored under a name.
     Set {
@@ -157,7 +158,7 @@ impl<'a> Instruction<'a> {
 }
 
 /// What a line says.
-#[derive(Clone, Copy, Debug, PartialEq, Eq)]
+#[derive(Clone, Copy)]
 pub enum Line<'a> {
     /// What the store is.
     Declares(Declaration),
@@ -173,51 +174,150 @@ pub fn words(alloc: Global, line: &[u8]) -> Result<Vec<&[u8]>, AllocError>
     line.split(|b| *b == b' ').collect(alloc)
 }
 
-/// The line of a first word. Where the words behind it are as many as it has fields, each is read by its kind, from left to right.
-macro_rules! row {
-    ($words:expr => [$($field:ident: $kind:ident),*] $line:expr) => {
+/// The words, where they are as many as a line has fields, each read by its kind, and the first fault from the left.
+macro_rules! fields {
+    ($words:expr => $($field:ident: $kind:ident),*) => {
         match $words {
             [$($field),*] => {
                 $(let $field = $kind($field);)*
-                $(let $field = $field?;)*
-                Ok($line)
+                Ok(($($field?),*))
             }
             _ => Err(Fault::Count),
         }
     };
 }
 
-/// The table of lines: of each first word its fields with their kinds, and the line that it is with such fields.
+fn no_field(words: &[&[u8]]) -> Result<(), Fault>
+    ensures { Gives (λ values. tt) result (values_of [] (map (λ w. w.now) words.now)) }
+{
+    match words {
+        [] => Ok(()),
+        _ => Err(Fault::Count),
+    }
+}
+
+fn number(words: &[&[u8]]) -> Result<u32, Fault>
+    ensures { Gives (λ number. (number, tt)) result (values_of (U32 ∷ []) (map (λ w. w.now) words.now)) }
+{
+    match words {
+        [number] => u32_field(number),
+        _ => Err(Fault::Count),
+    }
+}
+
+fn name<'a>(words: &[&'a [u8]]) -> Result<&'a [u8], Fault>
+    ensures { Gives (λ name. (name.now, tt)) result (values_of (Name ∷ []) (map (λ w. w.now) words.now)) }
+{
+    match words {
+        [name] => name_field(name),
+        _ => Err(Fault::Count),
+    }
+}
+
+fn number_and_name<'a>(words: &[&'a [u8]]) -> Result<(u32, &'a [u8]), Fault>
+    ensures { Gives (λ values. (values.0, (values.1.now, tt)))
+        result (values_of (U32 ∷ Name ∷ []) (map (λ w. w.now) words.now)) }
+{
+    fields!(words => number: u32_field, name: name_field)
+}
+
+fn number_and_segment(words: &[&[u8]]) -> Result<(u32, Tail), Fault>
+    ensures { Gives (λ values. (values.0, (values.1, tt)))
+        result (values_of (U32 ∷ Segment ∷ []) (map (λ w. w.now) words.now)) }
+{
+    fields!(words => number: u32_field, tail: segment_field)
+}
+
+fn number_and_names<'a>(words: &[&'a [u8]]) -> Result<(u32, &'a [u8], &'a [u8]), Fault>
+    ensures { Gives (λ values. (values.0, (values.1.now, (values.2.now, tt))))
+        result (values_of (U32 ∷ Name ∷ Name ∷ []) (map (λ w. w.now) words.now)) }
+{
+    fields!(words => number: u32_field, name: name_field, hold: name_field)
+}
+
+fn name_and_numbers<'a>(words: &[&'a [u8]]) -> Result<(&'a [u8], u32, u64), Fault>
+    ensures { Gives (λ values. (values.0.now, (values.1, (values.2, tt))))
+        result (values_of (Name ∷ U32 ∷ U64 ∷ []) (map (λ w. w.now) words.now)) }
+{
+    fields!(words => name: name_field, number: u32_field, label: u64_field)
+}
+
+fn three_numbers(words: &[&[u8]]) -> Result<(u32, u32, u32), Fault>
+    ensures { Gives (λ values. (values.0, (values.1, (values.2, tt))))
+        result (values_of (U32 ∷ U32 ∷ U32 ∷ []) (map (λ w. w.now) words.now)) }
+{
+    fields!(words => first: u32_field, second: u32_field, third: u32_field)
+}
+
+fn four_numbers(words: &[&[u8]]) -> Result<(u32, u32, u32, u32), Fault>
+    ensures { Gives (λ values. (values.0, (values.1, (values.2, (values.3, tt)))))
+        result (values_of (U32 ∷ U32 ∷ U32 ∷ U32 ∷ []) (map (λ w. w.now) words.now)) }
+{
+    fields!(words => first: u32_field, second: u32_field, third: u32_field, fourth: u32_field)
+}
+
+/// The table of lines: of each first word its fields, and the line that it is with such fields.
 fn by_keyword<'a>(keyword: Keyword, words: &[&'a [u8]]) -> Result<Line<'a>, Fault>
     ensures { Gives seen_line result (by_row keyword (map (λ w. w.now) words.now)) }
 {
-    match keyword {
-        Keyword::Store =>
-            row!(words => [workers: u32_field, capacity: u32_field, refs_limit: u32_field, first_generation: u32_field]
-            Line::Declares(Declaration::Store(Shape { workers, capacity, refs_limit, first_generation }))),
-        Keyword::Class => row!(words => [chunks: u32_field, hot: u32_field, warm: u32_field]
-            Line::Declares(Declaration::Class(ClassConfig { chunks, hot, warm }))),
-        Keyword::Set => row!(words => [name: name_field, class: u32_field, label: u64_field]
-            Line::Makes(Instruction::Set { name, class, label })),
-        Keyword::Get =>
-            row!(words => [worker: u32_field, name: name_field] Line::Makes(Instruction::Get { worker, name })),
-        Keyword::Hold => row!(words => [worker: u32_field, name: name_field, hold: name_field]
-            Line::Makes(Instruction::Hold { worker, name, hold })),
-        Keyword::Hit =>
-            row!(words => [worker: u32_field, hold: name_field] Line::Makes(Instruction::Hit { worker, hold })),
-        Keyword::Read => row!(words => [hold: name_field] Line::Makes(Instruction::Read { hold })),
-        Keyword::Drop => row!(words => [hold: name_field] Line::Makes(Instruction::Drop { hold })),
-        Keyword::Del => row!(words => [name: name_field] Line::Makes(Instruction::Del { name })),
-        Keyword::Pull =>
-            row!(words => [class: u32_field, tail: segment_field] Line::Makes(Instruction::Pull { class, tail })),
-        Keyword::Sweep =>
-            row!(words => [class: u32_field] Line::Makes(Instruction::Sweep { class })),
-        Keyword::Drain => row!(words => [] Line::Makes(Instruction::Drain)),
-        Keyword::Close =>
-            row!(words => [worker: u32_field] Line::Makes(Instruction::Close { worker })),
-        Keyword::Show => row!(words => [] Line::Makes(Instruction::Show)),
-        Keyword::Par => row!(words => [] Line::Makes(Instruction::Par)),
-    }
+    let instruction = match keyword {
+        Keyword::Store => {
+            let (workers, capacity, refs_limit, first_generation) = four_numbers(words)?;
+            let shape = Shape {
+                workers,
+                capacity,
+                refs_limit,
+                first_generation,
+            };
+            return Ok(Line::Declares(Declaration::Store(shape)));
+        }
+        Keyword::Class => {
+            let (chunks, hot, warm) = three_numbers(words)?;
+            return Ok(Line::Declares(Declaration::Class(ClassConfig { chunks, hot, warm })));
+        }
+        Keyword::Set => {
+            let (name, class, label) = name_and_numbers(words)?;
+            Instruction::Set { name, class, label }
+        }
+        Keyword::Get => {
+            let (worker, name) = number_and_name(words)?;
+            Instruction::Get { worker, name }
+        }
+        Keyword::Hold => {
+            let (worker, name, hold) = number_and_names(words)?;
+            Instruction::Hold { worker, name, hold }
+        }
+        Keyword::Hit => {
+            let (worker, hold) = number_and_name(words)?;
+            Instruction::Hit { worker, hold }
+        }
+        Keyword::Read => Instruction::Read { hold: name(words)? },
+        Keyword::Drop => Instruction::Drop { hold: name(words)? },
+        Keyword::Del => Instruction::Del { name: name(words)? },
+        Keyword::Pull => {
+            let (class, tail) = number_and_segment(words)?;
+            Instruction::Pull { class, tail }
+        }
+        Keyword::Sweep => Instruction::Sweep {
+            class: number(words)?,
+        },
+        Keyword::Drain => {
+            no_field(words)?;
+            Instruction::Drain
+        }
+        Keyword::Close => Instruction::Close {
+            worker: number(words)?,
+        },
+        Keyword::Show => {
+            no_field(words)?;
+            Instruction::Show
+        }
+        Keyword::Par => {
+            no_field(words)?;
+            Instruction::Par
+        }
+    };
+    Ok(Line::Makes(instruction))
 }
 
 /// What a line says, by its words.

@@ -2,7 +2,7 @@
 //! there.
 
 ghost use Rattle.std.specs.Prelude.{◌≡◌, ◌++◌, OnOk, codes, decimal};
-ghost use Rattle.trace_lines.specs.Text.{id_text, flags_text, item_text, chunk_text, place_word, list_start, accounts_text, accounts_line, touch_text, pulled_text, applied_text, entry_text, answer_text, told, set_line, get_start, get_line, get_held_line, hold_line, hit_line, read_line, drop_line, del_line, pull_line, sweep_line, bump_line, drain_line, close_start, closed_line, fault_line};
+ghost use Rattle.trace_lines.specs.Text.{id_text, flags_text, item_text, chunk_text, place_word, list_start, accounts_text, accounts_line, touch_text, pulled_text, applied_text, entry_text, answer_text, told, set_line, get_line, get_held_line, hold_line, hit_line, read_line, drop_line, del_line, pull_line, sweep_line, bump_line, drain_line, close_start, closed_line, fault_line};
 ghost use Rattle.trace_lines.specs.Fields.{tail_word};
 
 use crate::faults::Fault;
@@ -19,12 +19,19 @@ fn put_number(out: &mut Vec<u8>, n: u64) -> Result<(), AllocError>
     out.extend_from_slice(buffer.format(n).as_bytes())
 }
 
+/// A word, and a number behind it.
+fn put_word(out: &mut Vec<u8>, word: &[u8], number: u64) -> Result<(), AllocError>
+    ensures { OnOk result (out.new.items ≡ out.old.items ++ word.now ++ decimal number) }
+{
+    out.extend_from_slice(word)?;
+    put_number(out, number)
+}
+
 fn put_id(out: &mut Vec<u8>, id: ItemId) -> Result<(), AllocError>
     ensures { OnOk result (out.new.items ≡ out.old.items ++ id_text id) }
 {
     put_number(out, u64::from(id.chunk))?;
-    out.extend_from_slice(b".")?;
-    put_number(out, u64::from(id.generation))
+    put_word(out, b".", u64::from(id.generation))
 }
 
 fn flags(head: Head) -> &'static str
@@ -42,12 +49,10 @@ fn put_item(out: &mut Vec<u8>, chunk: u32, head: Head, time: u64) -> Result<(), 
 {
     let generation = head.generation;
     put_id(out, ItemId { chunk, generation })?;
-    out.extend_from_slice(b":")?;
-    put_number(out, u64::from(head.refs))?;
+    put_word(out, b":", u64::from(head.refs))?;
     out.extend_from_slice(b":")?;
     out.extend_from_slice(flags(head).as_bytes())?;
-    out.extend_from_slice(b":")?;
-    put_number(out, time)
+    put_word(out, b":", time)
 }
 
 /// What is told of a chunk in a list.
@@ -88,29 +93,21 @@ pub fn put_list_start(
 ) -> Result<(), AllocError>
     ensures { OnOk result (out.new.items ≡ out.old.items ++ list_start class place len) }
 {
-    out.extend_from_slice(b"class ")?;
-    put_number(out, u64::from(class))?;
+    put_word(out, b"class ", u64::from(class))?;
     out.extend_from_slice(b" ")?;
     out.extend_from_slice(word_of_place(place).as_bytes())?;
-    out.extend_from_slice(b" ")?;
-    put_number(out, u64::from(len))
+    put_word(out, b" ", u64::from(len))
 }
 
 fn put_accounts(out: &mut Vec<u8>, accounts: Accounts, applied: u64) -> Result<(), AllocError>
     ensures { OnOk result (out.new.items ≡ out.old.items ++ accounts_text accounts applied) }
 {
-    out.extend_from_slice(b"attempted ")?;
-    put_number(out, accounts.attempted)?;
-    out.extend_from_slice(b" accepted ")?;
-    put_number(out, accounts.accepted)?;
-    out.extend_from_slice(b" full ")?;
-    put_number(out, accounts.full)?;
-    out.extend_from_slice(b" busy ")?;
-    put_number(out, accounts.busy)?;
-    out.extend_from_slice(b" refs ")?;
-    put_number(out, accounts.refs)?;
-    out.extend_from_slice(b" applied ")?;
-    put_number(out, applied)
+    put_word(out, b"attempted ", accounts.attempted)?;
+    put_word(out, b" accepted ", accounts.accepted)?;
+    put_word(out, b" full ", accounts.full)?;
+    put_word(out, b" busy ", accounts.busy)?;
+    put_word(out, b" refs ", accounts.refs)?;
+    put_word(out, b" applied ", applied)
 }
 
 /// The line of a worker.
@@ -122,8 +119,7 @@ pub fn put_worker(
 ) -> Result<(), AllocError>
     ensures { OnOk result (out.new.items ≡ out.old.items ++ accounts_line worker accounts applied) }
 {
-    out.extend_from_slice(b"worker ")?;
-    put_number(out, u64::from(worker))?;
+    put_word(out, b"worker ", u64::from(worker))?;
     out.extend_from_slice(b" ")?;
     put_accounts(out, accounts, applied)?;
     out.extend_from_slice(b"\n")
@@ -136,10 +132,7 @@ fn put_touch(out: &mut Vec<u8>, touch: Touch) -> Result<(), AllocError>
         Touch::First => out.extend_from_slice(b"first"),
         Touch::Already => out.extend_from_slice(b"already"),
         Touch::Marked => out.extend_from_slice(b"marked"),
-        Touch::Queued(number) => {
-            out.extend_from_slice(b"queued ")?;
-            put_number(out, number)
-        }
+        Touch::Queued(number) => put_word(out, b"queued ", number),
         Touch::Dropped(Dropped::Full) => out.extend_from_slice(b"dropped full"),
         Touch::Dropped(Dropped::Busy) => out.extend_from_slice(b"dropped busy"),
         Touch::Dropped(Dropped::RefsFull) => out.extend_from_slice(b"dropped refs"),
@@ -147,35 +140,25 @@ fn put_touch(out: &mut Vec<u8>, touch: Touch) -> Result<(), AllocError>
     }
 }
 
+/// A word, and an item's id behind it.
+fn put_with_id(out: &mut Vec<u8>, word: &[u8], id: ItemId) -> Result<(), AllocError>
+    ensures { OnOk result (out.new.items ≡ out.old.items ++ word.now ++ id_text id) }
+{
+    out.extend_from_slice(word)?;
+    put_id(out, id)
+}
+
 fn put_pulled(out: &mut Vec<u8>, pulled: Pulled) -> Result<(), AllocError>
     ensures { OnOk result (out.new.items ≡ out.old.items ++ pulled_text pulled) }
 {
     match pulled {
         Pulled::Empty => out.extend_from_slice(b"empty"),
-        Pulled::Stay(id) => {
-            out.extend_from_slice(b"stay ")?;
-            put_id(out, id)
-        }
-        Pulled::Warm(id) => {
-            out.extend_from_slice(b"warm ")?;
-            put_id(out, id)
-        }
-        Pulled::Again(id) => {
-            out.extend_from_slice(b"again ")?;
-            put_id(out, id)
-        }
-        Pulled::Cold(id) => {
-            out.extend_from_slice(b"cold ")?;
-            put_id(out, id)
-        }
-        Pulled::Freed(id) => {
-            out.extend_from_slice(b"freed ")?;
-            put_id(out, id)
-        }
-        Pulled::Deferred(id) => {
-            out.extend_from_slice(b"deferred ")?;
-            put_id(out, id)
-        }
+        Pulled::Stay(id) => put_with_id(out, b"stay ", id),
+        Pulled::Warm(id) => put_with_id(out, b"warm ", id),
+        Pulled::Again(id) => put_with_id(out, b"again ", id),
+        Pulled::Cold(id) => put_with_id(out, b"cold ", id),
+        Pulled::Freed(id) => put_with_id(out, b"freed ", id),
+        Pulled::Deferred(id) => put_with_id(out, b"deferred ", id),
     }
 }
 
@@ -205,8 +188,7 @@ fn put_entry(out: &mut Vec<u8>, entry: Entry) -> Result<(), AllocError>
     ensures { OnOk result (out.new.items ≡ out.old.items ++ entry_text entry) }
 {
     put_number(out, entry.number)?;
-    out.extend_from_slice(b" ")?;
-    put_id(out, entry.life)?;
+    put_with_id(out, b" ", entry.life)?;
     out.extend_from_slice(b" ")?;
     out.extend_from_slice(word_of_applied(entry.applied).as_bytes())
 }
@@ -253,12 +235,12 @@ pub fn put_set(out: &mut Vec<u8>, name: &[u8], answer: Answer) -> Result<(), All
     out.extend_from_slice(b"\n")
 }
 
-/// The first words of the line of a `get`.
-fn put_get_start(out: &mut Vec<u8>, worker: u32, name: &[u8]) -> Result<(), AllocError>
-    ensures { OnOk result (out.new.items ≡ out.old.items ++ get_start worker name.now) }
+/// The first words of a line by a worker: the command, the worker and a name.
+fn put_start(out: &mut Vec<u8>, command: &[u8], worker: u32, name: &[u8]) -> Result<(), AllocError>
+    ensures { OnOk result (out.new.items
+        ≡ out.old.items ++ command.now ++ decimal worker ++ codes " " ++ name.now ++ codes " ") }
 {
-    out.extend_from_slice(b"get ")?;
-    put_number(out, u64::from(worker))?;
+    put_word(out, command, u64::from(worker))?;
     out.extend_from_slice(b" ")?;
     out.extend_from_slice(name)?;
     out.extend_from_slice(b" ")
@@ -273,7 +255,7 @@ pub fn put_get(
 ) -> Result<(), AllocError>
     ensures { OnOk result (out.new.items ≡ out.old.items ++ get_line worker name.now answer) }
 {
-    put_get_start(out, worker, name)?;
+    put_start(out, b"get ", worker, name)?;
     put_told(out, answer)?;
     out.extend_from_slice(b"\n")
 }
@@ -288,7 +270,7 @@ pub fn put_get_held(
 ) -> Result<(), AllocError>
     ensures { OnOk result (out.new.items ≡ out.old.items ++ get_held_line worker name.now label hit) }
 {
-    put_get_start(out, worker, name)?;
+    put_start(out, b"get ", worker, name)?;
     put_answer(out, label)?;
     out.extend_from_slice(b" ")?;
     put_answer(out, hit)?;
@@ -305,11 +287,7 @@ pub fn put_hold(
 ) -> Result<(), AllocError>
     ensures { OnOk result (out.new.items ≡ out.old.items ++ hold_line worker name.now hold.now answer) }
 {
-    out.extend_from_slice(b"hold ")?;
-    put_number(out, u64::from(worker))?;
-    out.extend_from_slice(b" ")?;
-    out.extend_from_slice(name)?;
-    out.extend_from_slice(b" ")?;
+    put_start(out, b"hold ", worker, name)?;
     out.extend_from_slice(hold)?;
     out.extend_from_slice(b" ")?;
     put_told(out, answer)?;
@@ -325,11 +303,7 @@ pub fn put_hit(
 ) -> Result<(), AllocError>
     ensures { OnOk result (out.new.items ≡ out.old.items ++ hit_line worker hold.now answer) }
 {
-    out.extend_from_slice(b"hit ")?;
-    put_number(out, u64::from(worker))?;
-    out.extend_from_slice(b" ")?;
-    out.extend_from_slice(hold)?;
-    out.extend_from_slice(b" ")?;
+    put_start(out, b"hit ", worker, hold)?;
     put_told(out, answer)?;
     out.extend_from_slice(b"\n")
 }
@@ -369,8 +343,7 @@ pub fn put_del(out: &mut Vec<u8>, name: &[u8], answer: Answer) -> Result<(), All
 pub fn put_sweep(out: &mut Vec<u8>, class: u32, answer: Answer) -> Result<(), AllocError>
     ensures { OnOk result (out.new.items ≡ out.old.items ++ sweep_line class answer) }
 {
-    out.extend_from_slice(b"sweep ")?;
-    put_number(out, u64::from(class))?;
+    put_word(out, b"sweep ", u64::from(class))?;
     out.extend_from_slice(b" ")?;
     put_answer(out, answer)?;
     out.extend_from_slice(b"\n")
@@ -380,8 +353,7 @@ pub fn put_sweep(out: &mut Vec<u8>, class: u32, answer: Answer) -> Result<(), Al
 pub fn put_pull(out: &mut Vec<u8>, class: u32, tail: Tail, answer: Answer) -> Result<(), AllocError>
     ensures { OnOk result (out.new.items ≡ out.old.items ++ pull_line class tail answer) }
 {
-    out.extend_from_slice(b"pull ")?;
-    put_number(out, u64::from(class))?;
+    put_word(out, b"pull ", u64::from(class))?;
     out.extend_from_slice(b" ")?;
     out.extend_from_slice(word_of_tail(tail).as_bytes())?;
     out.extend_from_slice(b" ")?;
@@ -393,8 +365,7 @@ pub fn put_pull(out: &mut Vec<u8>, class: u32, tail: Tail, answer: Answer) -> Re
 pub fn put_bump(out: &mut Vec<u8>, worker: u32, entry: Entry) -> Result<(), AllocError>
     ensures { OnOk result (out.new.items ≡ out.old.items ++ bump_line worker entry) }
 {
-    out.extend_from_slice(b"bump ")?;
-    put_number(out, u64::from(worker))?;
+    put_word(out, b"bump ", u64::from(worker))?;
     out.extend_from_slice(b" ")?;
     put_entry(out, entry)?;
     out.extend_from_slice(b"\n")
@@ -404,8 +375,7 @@ pub fn put_bump(out: &mut Vec<u8>, worker: u32, entry: Entry) -> Result<(), Allo
 pub fn put_drain(out: &mut Vec<u8>, count: u64) -> Result<(), AllocError>
     ensures { OnOk result (out.new.items ≡ out.old.items ++ drain_line count) }
 {
-    out.extend_from_slice(b"drain ")?;
-    put_number(out, count)?;
+    put_word(out, b"drain ", count)?;
     out.extend_from_slice(b"\n")
 }
 
@@ -413,8 +383,7 @@ pub fn put_drain(out: &mut Vec<u8>, count: u64) -> Result<(), AllocError>
 fn put_close_start(out: &mut Vec<u8>, worker: u32) -> Result<(), AllocError>
     ensures { OnOk result (out.new.items ≡ out.old.items ++ close_start worker) }
 {
-    out.extend_from_slice(b"close ")?;
-    put_number(out, u64::from(worker))?;
+    put_word(out, b"close ", u64::from(worker))?;
     out.extend_from_slice(b" ")
 }
 
@@ -445,8 +414,7 @@ pub fn put_closed(out: &mut Vec<u8>, worker: u32) -> Result<(), AllocError>
 pub fn put_fault(out: &mut Vec<u8>, number: u64, fault: Fault) -> Result<(), AllocError>
     ensures { OnOk result (out.new.items ≡ out.old.items ++ fault_line number fault) }
 {
-    out.extend_from_slice(b"line ")?;
-    put_number(out, number)?;
+    put_word(out, b"line ", number)?;
     out.extend_from_slice(b": ")?;
     out.extend_from_slice(fault.word().as_bytes())?;
     out.extend_from_slice(b"\n")

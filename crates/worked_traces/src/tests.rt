@@ -2,6 +2,7 @@
 use bump_trace::{Counted, SimFault, run_model};
 use std::alloc::{AllocError, Global};
 use std::hash::RandomState;
+use std::process::Abort;
 use std::test::*;
 
 mod ends;
@@ -10,111 +11,225 @@ mod faults;
 mod slow;
 mod worked;
 
-use ends::{ENDS, EVERY_LINE, MIXED_LINES};
+use ends::{ENDS, EVERY_LINE, HOLDS, LATE_FAULTS, MIXED_LINES};
 use expecting::Expecting;
-use faults::{EVERY_FAULT, LINE_FAULTS, PAIRS, SURPRISES};
+use faults::{
+    EVERY_LINE_FAULT, EVERY_STORE_FAULT, LINE_COUNTS, LINE_FIELDS, LINE_NAMES, LINE_ORDER,
+    PAIRS_OF_CONFIGS, PAIRS_OF_FIELDS, PAIRS_OF_STORES, PAIRS_OF_WORDS, SURPRISES,
+};
 use slow::{Narrow, Slow};
-use worked::{FAULTS, WORKED};
+use worked::{
+    COUNT_FAULTS, FIELD_FAULTS, HOSTILE_FAULTS, ORDER_FAULTS, PROMOTION, WORKED, WORKED_FAULTS,
+};
 
 /// The text that a trace gives, and how its run ends.
-fn text_of(rt: &HostRuntime, trace: &[u8]) -> Result<(Vec<u8>, Result<(), SimFault>), Fail> {
+fn text_by(alloc: Global, keys: RandomState, trace: &[u8]) -> (Vec<u8>, Result<(), SimFault>) {
     let mut reader = Counted::new(trace);
-    let mut writer = Counted::new(Vec::new(rt.alloc()));
-    let ended = run_model(rt.alloc(), RandomState::new(rt)?, &mut reader, &mut writer);
-    Ok((writer.into_inner(), ended))
+    let mut writer = Counted::new(Vec::new(alloc));
+    let ended = run_model(alloc, keys, &mut reader, &mut writer);
+    (writer.into_inner(), ended)
 }
 
-/// What the run of a trace answers.
-fn ended_by(is_fault: bool) -> Result<(), SimFault> {
-    if is_fault {
-        Err(SimFault::Trace)
-    } else {
-        Ok(())
+/// The same, with keys of its own.
+fn text_of(rt: &HostRuntime, trace: &[u8]) -> Result<(Vec<u8>, Result<(), SimFault>), Fail> {
+    Ok(text_by(rt.alloc(), RandomState::new(rt)?, trace))
+}
+
+/// Each trace gives its text, and its run ends so.
+fn all_give(
+    rt: &impl Abort,
+    alloc: Global,
+    keys: RandomState,
+    rows: &[(&str, &str)],
+    end: Result<(), SimFault>,
+) {
+    for row in rows {
+        let (trace, text) = *row;
+        let (written, ended) = text_by(alloc, keys, trace.as_bytes());
+        assert!(rt; ended == end, "{trace}");
+        assert!(rt; written.as_slice() == text.as_bytes(), "{trace}");
     }
 }
 
 #[test]
 fn worked_traces(rt: HostRuntime) -> Result<(), Fail> {
-    for (trace, text, is_fault) in WORKED {
-        let (written, ended) = text_of(&rt, trace.as_bytes())?;
-        assert!(rt; ended == ended_by(is_fault), "{trace}");
-        assert!(rt; written.as_slice() == text.as_bytes(), "{trace}");
-    }
+    let keys = RandomState::new(&rt)?;
+    all_give(&rt, rt.alloc(), keys, &WORKED, Ok(()));
+    Ok(())
+}
+
+#[test]
+fn worked_faults(rt: HostRuntime) -> Result<(), Fail> {
+    let keys = RandomState::new(&rt)?;
+    all_give(&rt, rt.alloc(), keys, &WORKED_FAULTS, Err(SimFault::Trace));
+    Ok(())
+}
+
+#[test]
+fn hostile_faults(rt: HostRuntime) -> Result<(), Fail> {
+    let keys = RandomState::new(&rt)?;
+    all_give(&rt, rt.alloc(), keys, &HOSTILE_FAULTS, Err(SimFault::Trace));
     Ok(())
 }
 
 #[test]
 fn worked_ends(rt: HostRuntime) -> Result<(), Fail> {
-    for (trace, text, is_fault) in ENDS {
-        let (written, ended) = text_of(&rt, trace.as_bytes())?;
-        assert!(rt; ended == ended_by(is_fault), "{trace}");
-        assert!(rt; written.as_slice() == text.as_bytes(), "{trace}");
-    }
+    let keys = RandomState::new(&rt)?;
+    all_give(&rt, rt.alloc(), keys, &ENDS, Ok(()));
+    Ok(())
+}
+
+#[test]
+fn worked_holds(rt: HostRuntime) -> Result<(), Fail> {
+    let keys = RandomState::new(&rt)?;
+    all_give(&rt, rt.alloc(), keys, &HOLDS, Ok(()));
+    Ok(())
+}
+
+#[test]
+fn late_faults(rt: HostRuntime) -> Result<(), Fail> {
+    let keys = RandomState::new(&rt)?;
+    all_give(&rt, rt.alloc(), keys, &LATE_FAULTS, Err(SimFault::Trace));
     Ok(())
 }
 
 #[test]
 fn every_line(rt: HostRuntime) -> Result<(), Fail> {
-    for (trace, text) in [EVERY_LINE, MIXED_LINES] {
-        let (written, ended) = text_of(&rt, trace.as_bytes())?;
-        assert!(rt; ended == Ok(()), "{trace}");
-        assert!(rt; written.as_slice() == text.as_bytes(), "{trace}");
-    }
+    let keys = RandomState::new(&rt)?;
+    all_give(&rt, rt.alloc(), keys, &[EVERY_LINE, MIXED_LINES], Ok(()));
     Ok(())
 }
 
 /// Each fault word, by a trace that is as short as can be.
 #[test]
-fn every_fault(rt: HostRuntime) -> Result<(), Fail> {
-    for (trace, text) in EVERY_FAULT {
-        let (written, ended) = text_of(&rt, trace.as_bytes())?;
-        assert!(rt; ended == Err(SimFault::Trace), "{trace}");
-        assert!(rt; written.as_slice() == text.as_bytes(), "{trace}");
-    }
+fn every_fault_of_a_line(rt: HostRuntime) -> Result<(), Fail> {
+    let keys = RandomState::new(&rt)?;
+    all_give(
+        &rt,
+        rt.alloc(),
+        keys,
+        &EVERY_LINE_FAULT,
+        Err(SimFault::Trace),
+    );
+    Ok(())
+}
+
+#[test]
+fn every_fault_of_a_store(rt: HostRuntime) -> Result<(), Fail> {
+    let keys = RandomState::new(&rt)?;
+    all_give(
+        &rt,
+        rt.alloc(),
+        keys,
+        &EVERY_STORE_FAULT,
+        Err(SimFault::Trace),
+    );
     Ok(())
 }
 
 /// A word too few or too many, each field wrong, and what may not stand behind `par`.
 #[test]
-fn faults_of_more_lines(rt: HostRuntime) -> Result<(), Fail> {
-    for (trace, text) in LINE_FAULTS {
-        let (written, ended) = text_of(&rt, trace.as_bytes())?;
-        assert!(rt; ended == Err(SimFault::Trace), "{trace}");
-        assert!(rt; written.as_slice() == text.as_bytes(), "{trace}");
-    }
+fn counts_of_more_lines(rt: HostRuntime) -> Result<(), Fail> {
+    let keys = RandomState::new(&rt)?;
+    all_give(&rt, rt.alloc(), keys, &LINE_COUNTS, Err(SimFault::Trace));
+    Ok(())
+}
+
+#[test]
+fn fields_of_more_lines(rt: HostRuntime) -> Result<(), Fail> {
+    let keys = RandomState::new(&rt)?;
+    all_give(&rt, rt.alloc(), keys, &LINE_FIELDS, Err(SimFault::Trace));
+    Ok(())
+}
+
+#[test]
+fn names_of_more_lines(rt: HostRuntime) -> Result<(), Fail> {
+    let keys = RandomState::new(&rt)?;
+    all_give(&rt, rt.alloc(), keys, &LINE_NAMES, Err(SimFault::Trace));
+    Ok(())
+}
+
+#[test]
+fn order_of_more_lines(rt: HostRuntime) -> Result<(), Fail> {
+    let keys = RandomState::new(&rt)?;
+    all_give(&rt, rt.alloc(), keys, &LINE_ORDER, Err(SimFault::Trace));
     Ok(())
 }
 
 /// Of several faults of a line the first in the order is told.
 #[test]
-fn pairs_of_faults(rt: HostRuntime) -> Result<(), Fail> {
-    for (trace, text) in PAIRS {
-        let (written, ended) = text_of(&rt, trace.as_bytes())?;
-        assert!(rt; ended == Err(SimFault::Trace), "{trace}");
-        assert!(rt; written.as_slice() == text.as_bytes(), "{trace}");
-    }
+fn pairs_of_words(rt: HostRuntime) -> Result<(), Fail> {
+    let keys = RandomState::new(&rt)?;
+    all_give(&rt, rt.alloc(), keys, &PAIRS_OF_WORDS, Err(SimFault::Trace));
+    Ok(())
+}
+
+#[test]
+fn pairs_of_fields(rt: HostRuntime) -> Result<(), Fail> {
+    let keys = RandomState::new(&rt)?;
+    all_give(
+        &rt,
+        rt.alloc(),
+        keys,
+        &PAIRS_OF_FIELDS,
+        Err(SimFault::Trace),
+    );
+    Ok(())
+}
+
+#[test]
+fn pairs_of_configs(rt: HostRuntime) -> Result<(), Fail> {
+    let keys = RandomState::new(&rt)?;
+    all_give(
+        &rt,
+        rt.alloc(),
+        keys,
+        &PAIRS_OF_CONFIGS,
+        Err(SimFault::Trace),
+    );
+    Ok(())
+}
+
+#[test]
+fn pairs_of_stores(rt: HostRuntime) -> Result<(), Fail> {
+    let keys = RandomState::new(&rt)?;
+    all_give(
+        &rt,
+        rt.alloc(),
+        keys,
+        &PAIRS_OF_STORES,
+        Err(SimFault::Trace),
+    );
     Ok(())
 }
 
 /// Faults that surprise.
 #[test]
 fn surprises(rt: HostRuntime) -> Result<(), Fail> {
-    for (trace, text) in SURPRISES {
-        let (written, ended) = text_of(&rt, trace.as_bytes())?;
-        assert!(rt; ended == Err(SimFault::Trace), "{trace}");
-        assert!(rt; written.as_slice() == text.as_bytes(), "{trace}");
-    }
+    let keys = RandomState::new(&rt)?;
+    all_give(&rt, rt.alloc(), keys, &SURPRISES, Err(SimFault::Trace));
     Ok(())
 }
 
 /// Each kind of line with a word too few and one too many, and each of its fields wrong.
 #[test]
-fn faults_of_each_line(rt: HostRuntime) -> Result<(), Fail> {
-    for (trace, text) in FAULTS {
-        let (written, ended) = text_of(&rt, trace.as_bytes())?;
-        assert!(rt; ended == Err(SimFault::Trace), "{trace}");
-        assert!(rt; written.as_slice() == text.as_bytes(), "{trace}");
-    }
+fn counts_of_each_line(rt: HostRuntime) -> Result<(), Fail> {
+    let keys = RandomState::new(&rt)?;
+    all_give(&rt, rt.alloc(), keys, &COUNT_FAULTS, Err(SimFault::Trace));
+    Ok(())
+}
+
+#[test]
+fn fields_of_each_line(rt: HostRuntime) -> Result<(), Fail> {
+    let keys = RandomState::new(&rt)?;
+    all_give(&rt, rt.alloc(), keys, &FIELD_FAULTS, Err(SimFault::Trace));
+    Ok(())
+}
+
+#[test]
+fn order_of_each_line(rt: HostRuntime) -> Result<(), Fail> {
+    let keys = RandomState::new(&rt)?;
+    all_give(&rt, rt.alloc(), keys, &ORDER_FAULTS, Err(SimFault::Trace));
     Ok(())
 }
 
@@ -122,7 +237,7 @@ fn faults_of_each_line(rt: HostRuntime) -> Result<(), Fail> {
 #[test]
 fn byte_by_byte(rt: HostRuntime) -> Result<(), Fail> {
     let keys = RandomState::new(&rt)?;
-    let (trace, text, _) = WORKED[4];
+    let (trace, text) = PROMOTION;
     let mut reader = Counted::new(Slow::new(trace.as_bytes()));
     let mut writer = Counted::new(Narrow::new(rt.alloc()));
     assert!(rt; run_model(rt.alloc(), keys, &mut reader, &mut writer) == Ok(()));
@@ -135,17 +250,24 @@ fn byte_by_byte(rt: HostRuntime) -> Result<(), Fail> {
     Ok(())
 }
 
-/// Where a write takes nothing or answers Err, or a read fails, the run says so.
+/// Where a write takes nothing, the run says so.
 #[test]
-fn refused_bytes(rt: HostRuntime) -> Result<(), Fail> {
+fn a_write_that_takes_nothing(rt: HostRuntime) -> Result<(), Fail> {
     let keys = RandomState::new(&rt)?;
-    let (trace, text, _) = WORKED[4];
+    let (trace, text) = PROMOTION;
     let mut reader = Counted::new(trace.as_bytes());
     let mut writer = Counted::new(Narrow::with_room(rt.alloc(), 7));
     assert!(rt; run_model(rt.alloc(), keys, &mut reader, &mut writer) == Err(SimFault::Write));
     assert_eq!(rt; writer.failed(), 1);
     assert!(rt; writer.into_inner().into_taken().as_slice() == &text.as_bytes()[..7]);
+    Ok(())
+}
 
+/// Where a write answers Err, the run says so.
+#[test]
+fn a_write_that_fails(rt: HostRuntime) -> Result<(), Fail> {
+    let keys = RandomState::new(&rt)?;
+    let (trace, text) = PROMOTION;
     let mut reader = Counted::new(trace.as_bytes());
     let mut writer = Counted::new(Expecting::with_room(text.as_bytes(), 7));
     assert!(rt; run_model(rt.alloc(), keys, &mut reader, &mut writer) == Err(SimFault::Write));
@@ -154,7 +276,14 @@ fn refused_bytes(rt: HostRuntime) -> Result<(), Fail> {
     let taken = writer.into_inner();
     assert!(rt; taken.is_front());
     assert_eq!(rt; taken.left(), text.len().saturating_sub(7));
+    Ok(())
+}
 
+/// Where a read fails, the run says so, and nothing was written.
+#[test]
+fn a_read_that_fails(rt: HostRuntime) -> Result<(), Fail> {
+    let keys = RandomState::new(&rt)?;
+    let (trace, _) = PROMOTION;
     let mut reader = Counted::new(Slow::broken(trace.as_bytes(), 30));
     let mut writer = Counted::new(Vec::new(rt.alloc()));
     assert!(rt; run_model(rt.alloc(), keys, &mut reader, &mut writer) == Err(SimFault::Read));
@@ -233,16 +362,21 @@ fn long_trace(alloc: Global, more: usize) -> Result<Vec<u8>, AllocError> {
     Ok(trace)
 }
 
-/// A trace of exactly 16,777,216 bytes is taken, and one of a byte more is not.
+/// A trace of exactly 16,777,216 bytes is taken.
 #[test]
 fn the_longest_trace(rt: HostRuntime) -> Result<(), Fail> {
-    let keys = RandomState::new(&rt)?;
     let trace = long_trace(rt.alloc(), 251)?;
     assert_eq!(rt; trace.len(), 16_777_216);
     let (written, ended) = text_of(&rt, &trace)?;
     assert!(rt; ended == Err(SimFault::Trace));
     assert!(rt; written.as_slice() == b"line 1: ORDER\n".as_slice());
+    Ok(())
+}
 
+/// A trace of a byte more is not taken, and nothing is written.
+#[test]
+fn a_byte_more_than_the_longest_trace(rt: HostRuntime) -> Result<(), Fail> {
+    let keys = RandomState::new(&rt)?;
     let trace = long_trace(rt.alloc(), 252)?;
     assert_eq!(rt; trace.len(), 16_777_217);
     let mut reader = Counted::new(trace.as_slice());

@@ -11,7 +11,7 @@ use Rattle.bump_state.specs.Worlds.{IsLawful}
 use Rattle.bump_core.specs.Runs.{run_of, made_by}
 use Rattle.bump_core.specs.Commands.{is_allowed, events_of, command_after, Commands}
 use Rattle.bump_core.proofs.worlds.Sizes.{run_sizes}
-use Rattle.bump_core.proofs.worlds.StaysLawful.{Keeps, run_keeps}
+use Rattle.bump_core.proofs.worlds.StaysLawful.{WorldKeeps, run_keeps}
 use Rattle.bump_core.proofs.commands.EndsAsEvents.{unlink_made, sweep_made, close_made}
 use Rattle.bump_core.proofs.commands.HoldsAsEvents.{label_made, release_made, take_made}
 use Rattle.bump_core.proofs.commands.LinksAsEvents.{link_made}
@@ -38,21 +38,21 @@ refused_same old c new NotEnabled refused = refused.1
 refused_same old c new OutOfMemory refused = refused.1
 
 -- the events of a command that was made
-pub command_events : (old : State) (c : Command) (new : State) (r : Result Answer Refused) → Keeps old → Commands old c new r → OnOk r (run_of old (events_of old c) ≡ Some new)
+pub command_events : (old : State) (c : Command) (new : State) (r : Result Answer Refused) → WorldKeeps old → Commands old c new r → OnOk r (run_of old (events_of old c) ≡ Some new)
 command_events old c new (Ok answer) k made = commands_are_events old k.0 c made.0 ∙ ap (λ (s : State). Some s) (sym made.1)
 command_events old c new (Err r) k refused = tt
 
 -- a command keeps what a World keeps, as the run of its events does
-pub command_keeps : (old : State) (c : Command) (new : State) (r : Result Answer Refused) → Keeps old → Commands old c new r → Keeps new
+pub command_keeps : (old : State) (c : Command) (new : State) (r : Result Answer Refused) → WorldKeeps old → Commands old c new r → WorldKeeps new
 command_keeps old c new (Ok answer) k made = run_keeps old (events_of old c) new k (command_events old c new (Ok answer) k made)
-command_keeps old c new (Err r) k refused = subst Keeps (sym (refused_same old c new r refused)) k
+command_keeps old c new (Err r) k refused = subst WorldKeeps (sym (refused_same old c new r refused)) k
 
 -- and it leaves the sizes
-pub command_sizes : (old : State) (c : Command) (new : State) (r : Result Answer Refused) → Keeps old → Commands old c new r → SameSizes old new
+pub command_sizes : (old : State) (c : Command) (new : State) (r : Result Answer Refused) → WorldKeeps old → Commands old c new r → SameSizes old new
 command_sizes old c new (Ok answer) k made = run_sizes old (events_of old c) new (command_events old c new (Ok answer) k made)
 command_sizes old c new (Err r) k refused = subst (SameSizes old) (sym (refused_same old c new r refused)) (refl, refl, refl)
 
 -- a command leaves the state that the events that it made leave
-pub command_runs : (old : State) (c : Command) (new : State) (r : Result Answer Refused) → Keeps old → Commands old c new r → run_of old (made_by (events_of old c) r) ≡ Some new
+pub command_runs : (old : State) (c : Command) (new : State) (r : Result Answer Refused) → WorldKeeps old → Commands old c new r → run_of old (made_by (events_of old c) r) ≡ Some new
 command_runs old c new (Ok answer) k made = command_events old c new (Ok answer) k made
 command_runs old c new (Err r) k refused = ap (λ (s : State). Some s) (sym (refused_same old c new r refused))

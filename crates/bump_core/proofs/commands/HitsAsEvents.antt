@@ -13,10 +13,11 @@ use Rattle.bump_rules.specs.declared.hands.Hand.TheVariants as hand
 use Rattle.bump_rules.specs.declared.events.Event.{Event}
 use Rattle.bump_rules.specs.declared.events.Event.TheVariants as event
 use Rattle.bump_rules.specs.declared.commands.Command.TheVariants as command
+use Rattle.bump_rules.specs.declared.commands.Room.TheVariants.{Known, Unknown}
 use Rattle.bump_rules.specs.declared.commands.Dropped.TheVariants.{Full, RefsFull}
 use Rattle.bump_rules.specs.declared.commands.Hit.TheVariants.{First as IsFirst, Already as IsAlready, Marked as IsMarked, Attempts}
 use Rattle.bump_rules.specs.Tables.{is_cold, dropped_for_room}
-use Rattle.bump_state.specs.State.{State, ClassState, WorkerState, chunk, head, worker, no_chunk, is_chunk, is_worker, with_chunk, with_head, with_worker, is_current, is_held, has_free_hold, is_open, workers_on, some_and}
+use Rattle.bump_state.specs.State.{State, ClassState, WorkerState, chunk_at, head_at, worker_at, no_chunk, is_chunk, is_worker, with_chunk, with_head, with_worker, is_current, is_held, has_free_hold, is_open, workers_on, some_and}
 use Rattle.bump_rules.specs.Hands.{tried_life, life_in_hand, cleared_life, is_idle}
 use Rattle.bump_state.specs.Worlds.{IsLawful}
 use Rattle.bump_rules.specs.Rings.{most_attempts}
@@ -26,7 +27,7 @@ use Rattle.bump_core.specs.Runs.{run_of}
 use Rattle.bump_core.specs.Commands.{is_allowed, events_of, command_after, hit_at, dropped_at, attempt, hit, is_exhausted, hit_events, attempt_events}
 use Rattle.bump_state.proofs.Enabled.{idle_from}
 use Rattle.bump_core.proofs.events.Runs.{run_step}
-use Rattle.bump_core.proofs.commands.ChangedState.{at, chunk_at, worker_at, is_worker_at, on_worker, on_both}
+use Rattle.bump_core.proofs.commands.ChangedState.{at, chunk_reads, worker_reads, is_worker_there, on_worker, on_both}
 
 -- The steps of an attempt, on the life's chunk and the worker.
 module _ (s : State) (l : ItemId) (w : ℕ) (c_in : l.chunk < length s.chunks) (w_in : w < length s.workers) (ks : List ClassState) (x : Chunk) (y : WorkerState) (es : List Event) where
@@ -35,18 +36,18 @@ module _ (s : State) (l : ItemId) (w : ℕ) (c_in : l.chunk < length s.chunks) (
   t = at s l.chunk w ks x y
 
   -- the worker's hand is read
-  hand_at : (worker t w).hand ≡ y.hand
-  hand_at = ap (λ (z : WorkerState). z.hand) (worker_at s l.chunk w c_in w_in ks x y)
+  hand_at : (worker_at t w).hand ≡ y.hand
+  hand_at = ap (λ (z : WorkerState). z.hand) (worker_reads s l.chunk w c_in w_in ks x y)
 
   -- whether the count is under the limit is read
   under_at : is_under_limit t l.chunk ≡ ltb x.head.refs s.refs_limit
-  under_at = ap (λ (z : Chunk). ltb z.head.refs s.refs_limit) (chunk_at s l.chunk w c_in w_in ks x y)
+  under_at = ap (λ (z : Chunk). ltb z.head.refs s.refs_limit) (chunk_reads s l.chunk w c_in w_in ks x y)
 
   -- the bump gets its reference
   reserve_step : y.hand ≡ hand.Trying l → ltb x.head.refs s.refs_limit ≡ true
       → run_of t (event.Reserve w ∷ es) ≡ run_of (at s l.chunk w ks (record x { head = one_more x.head }) (record y { hand = hand.InHand l })) es
   reserve_step is under =
-      let life : tried_life (worker t w).hand ≡ Some l = ap tried_life (hand_at ∙ is) in
+      let life : tried_life (worker_at t w).hand ≡ Some l = ap tried_life (hand_at ∙ is) in
       run_step t _ (event.Reserve w) es
       (ap (some_and (λ (m : ItemId). is_under_limit t m.chunk)) life ∙ (under_at ∙ under))
       (ap (λ o. option_map_or (reserve t w) o t) life
@@ -56,7 +57,7 @@ module _ (s : State) (l : ItemId) (w : ℕ) (c_in : l.chunk < length s.chunks) (
   drop_refs_step : y.hand ≡ hand.Trying l → ltb x.head.refs s.refs_limit ≡ false
       → run_of t (event.DropRefs w ∷ es) ≡ run_of (at s l.chunk w ks x (record y { hand = hand.Clearing l; accounts = record y.accounts { refs = y.accounts.refs + 1 } })) es
   drop_refs_step is over =
-      let life : tried_life (worker t w).hand ≡ Some l = ap tried_life (hand_at ∙ is) in
+      let life : tried_life (worker_at t w).hand ≡ Some l = ap tried_life (hand_at ∙ is) in
       run_step t _ (event.DropRefs w) es
       (ap (some_and (λ (m : ItemId). not (is_under_limit t m.chunk))) life ∙ ap not (under_at ∙ over))
       (ap (λ o. option_map_or (drop_refs t w) o t) life
@@ -66,10 +67,10 @@ module _ (s : State) (l : ItemId) (w : ℕ) (c_in : l.chunk < length s.chunks) (
   push_step : y.hand ≡ hand.InHand l → y.is_open ≡ true → ltb (waiting y) s.capacity ≡ true
       → run_of t (event.Push w ∷ es) ≡ run_of (at s l.chunk w ks x (record y { hand = hand.Idle; accounts = record y.accounts { accepted = y.accounts.accepted + 1 }; sent = y.sent ++ l ∷ [] })) es
   push_step is takes room =
-      let life : life_in_hand (worker t w).hand ≡ Some l = ap life_in_hand (hand_at ∙ is) in
-      let read = worker_at s l.chunk w c_in w_in ks x y in
+      let life : life_in_hand (worker_at t w).hand ≡ Some l = ap life_in_hand (hand_at ∙ is) in
+      let read = worker_reads s l.chunk w c_in w_in ks x y in
       run_step t _ (event.Push w) es
-      (and_from _ _ (and_from _ _ (is_worker_at s l.chunk w c_in w_in ks x y) (ap (λ (z : WorkerState). z.is_open) read ∙ takes))
+      (and_from _ _ (and_from _ _ (is_worker_there s l.chunk w c_in w_in ks x y) (ap (λ (z : WorkerState). z.is_open) read ∙ takes))
       (and_from _ _ (ap (λ (o : Option ItemId). is_some o) life) (ap (λ (z : WorkerState). ltb (waiting z) s.capacity) read ∙ room)))
       (ap (λ o. option_map_or (push t w) o t) life
       ∙ on_worker s l.chunk w c_in w_in ks x y (λ b. record b { hand = hand.Idle; accounts = record b.accounts { accepted = b.accounts.accepted + 1 }; sent = b.sent ++ l ∷ [] }))
@@ -78,17 +79,17 @@ module _ (s : State) (l : ItemId) (w : ℕ) (c_in : l.chunk < length s.chunks) (
   drop_full_step : y.hand ≡ hand.InHand l → ltb (length y.sent) s.capacity ≡ false
       → run_of t (event.DropFull w ∷ es) ≡ run_of (at s l.chunk w ks (record x { head = one_fewer x.head }) (record y { hand = hand.Clearing l; accounts = record y.accounts { full = y.accounts.full + 1 } })) es
   drop_full_step is full =
-      let life : life_in_hand (worker t w).hand ≡ Some l = ap life_in_hand (hand_at ∙ is) in
+      let life : life_in_hand (worker_at t w).hand ≡ Some l = ap life_in_hand (hand_at ∙ is) in
       run_step t _ (event.DropFull w) es
       (and_from _ _ (ap (λ (o : Option ItemId). is_some o) life)
-      (ap (λ (z : WorkerState). not (ltb (length z.sent) s.capacity)) (worker_at s l.chunk w c_in w_in ks x y) ∙ ap not full))
+      (ap (λ (z : WorkerState). not (ltb (length z.sent) s.capacity)) (worker_reads s l.chunk w c_in w_in ks x y) ∙ ap not full))
       (ap (λ o. option_map_or (drop_full t w) o t) life
       ∙ on_both s l.chunk w c_in w_in ks x y (λ a. record a { head = one_fewer a.head }) (λ a b. record b { hand = hand.Clearing l; accounts = record b.accounts { full = b.accounts.full + 1 } }))
 
   -- ACTIVE is cleared after a drop
   unmark_step : y.hand ≡ hand.Clearing l → run_of t (event.Unmark w ∷ es) ≡ run_of (at s l.chunk w ks (record x { head = cleared_head x.head }) (record y { hand = hand.Idle })) es
   unmark_step is =
-      let life : cleared_life (worker t w).hand ≡ Some l = ap cleared_life (hand_at ∙ is) in
+      let life : cleared_life (worker_at t w).hand ≡ Some l = ap cleared_life (hand_at ∙ is) in
       run_step t _ (event.Unmark w) es
       (ap (λ (o : Option ItemId). is_some o) life)
       (ap (λ o. option_map_or (unmark t w) o t) life
@@ -107,24 +108,24 @@ full_where x capacity none = by (cases_lt (length x.sent) capacity)
     by (inr above) = le-ltb _ _ above
 
 -- FETCHED is set where it is set
-fetched_again : (s : State) (w : ℕ) (l : ItemId) → (head s l.chunk).fetched ≡ true → after s (event.Fetch w l) ≡ s
-fetched_again s w l set = cond-true (head s l.chunk).fetched _ _ set
-    ∙ (ap (λ (b : Bool). with_head s l.chunk (record (head s l.chunk) { fetched = b })) (sym set) ∙ ap (λ cs. record s { chunks = cs }) (set-get_or s.chunks l.chunk no_chunk))
+fetched_again : (s : State) (w : ℕ) (l : ItemId) → (head_at s l.chunk).fetched ≡ true → after s (event.Fetch w l) ≡ s
+fetched_again s w l set = cond-true (head_at s l.chunk).fetched _ _ set
+    ∙ (ap (λ (b : Bool). with_head s l.chunk (record (head_at s l.chunk) { fetched = b })) (sym set) ∙ ap (λ cs. record s { chunks = cs }) (set-get_or s.chunks l.chunk no_chunk))
 
 -- A hit of an Idle worker on a life that has a free hold.
-module _ (s : State) (w : ℕ) (l : ItemId) (now : ℕ) (w_in : w < length s.workers) (c_in : l.chunk < length s.chunks) (current : is_current s l ≡ true) (some : 0 < (chunk s l.chunk).holds)
-    (takes : (worker s w).is_open ≡ true) (idle : (worker s w).hand ≡ hand.Idle) (may : may_hit s w l ≡ true) (few : ltb (worker s w).accounts.attempted most_attempts ≡ true) where
+module _ (s : State) (w : ℕ) (l : ItemId) (now : ℕ) (w_in : w < length s.workers) (c_in : l.chunk < length s.chunks) (current : is_current s l ≡ true) (some : 0 < (chunk_at s l.chunk).holds)
+    (takes : (worker_at s w).is_open ≡ true) (idle : (worker_at s w).hand ≡ hand.Idle) (may : may_hit s w l ≡ true) (few : ltb (worker_at s w).accounts.attempted most_attempts ≡ true) where
   -- the head that the hit finds
   abbrev h : Head
-  h = head s l.chunk
+  h = head_at s l.chunk
 
   -- the chunk
   abbrev x : Chunk
-  x = chunk s l.chunk
+  x = chunk_at s l.chunk
 
   -- the worker
   abbrev y : WorkerState
-  y = worker s w
+  y = worker_at s w
 
   -- the first hit sets FETCHED
   first_made : h.fetched ≡ false → run_of s (hit_events s w l now IsFirst) ≡ Some (hit s w l now IsFirst)
@@ -143,14 +144,14 @@ module _ (s : State) (w : ℕ) (l : ItemId) (now : ℕ) (w_in : w < length s.wor
   marked_made set warm =
       let z : Chunk = record x { head = active_head h } in
       let t = with_chunk s l.chunk z in
-      let read : chunk t l.chunk ≡ z = get_or-set_same s.chunks l.chunk z no_chunk c_in in
+      let read : chunk_at t l.chunk ≡ z = get_or-set_same s.chunks l.chunk z no_chunk c_in in
       let parts = and_parts (is_chunk s l.chunk) (eqb h.generation l.generation) current in
       let held : is_held t l ≡ true = and_from _ _ (and_from _ _ (lt-ltb l.chunk _ (omega (arith, length-set s.chunks l.chunk z))) (ap (λ (a : Chunk). eqb a.head.generation l.generation) read ∙ parts.1))
       (ap (λ (a : Chunk). ltb 0 a.holds) read ∙ lt-ltb 0 x.holds some) in
       run_step s s (event.Fetch w l) (event.Mark w l ∷ event.StoreTime l now ∷ []) may (fetched_again s w l set)
       ∙ (run_step s t (event.Mark w l) (event.StoreTime l now ∷ []) (mark_enabled set) (cond-false (not h.active && is_cold h.segment) _ _ (and_right (not h.active) (is_cold h.segment) warm))
       ∙ run_step t (hit s w l now IsMarked) (event.StoreTime l now) [] held
-      (ap (λ cs. record s { chunks = cs }) (set-set s.chunks l.chunk z (record (chunk t l.chunk) { time = now }) ∙ ap (λ (a : Chunk). slice_set s.chunks l.chunk (record a { time = now })) read)))
+      (ap (λ cs. record s { chunks = cs }) (set-set s.chunks l.chunk z (record (chunk_at t l.chunk) { time = now }) ∙ ap (λ (a : Chunk). slice_set s.chunks l.chunk (record a { time = now })) read)))
 
   -- the accounts once the attempt began
   abbrev began : Accounts
@@ -198,7 +199,7 @@ module _ (s : State) (w : ℕ) (l : ItemId) (now : ℕ) (w_in : w < length s.wor
       ∙ by (is_under_limit s l.chunk) (ltb (waiting y) s.capacity) refl refl)
     where
       by : (a b : Bool) → is_under_limit s l.chunk ≡ a → ltb (waiting y) s.capacity ≡ b
-          → run_of (at s l.chunk w s.classes (record x { head = active_head h }) (record y { hand = hand.Trying l; accounts = began })) (attempt_events w (dropped_for_room b (if a then None else Some RefsFull))) ≡ Some (attempt s w l (dropped_for_room b (if a then None else Some RefsFull)))
+          → run_of (at s l.chunk w s.classes (record x { head = active_head h }) (record y { hand = hand.Trying l; accounts = began })) (attempt_events w (dropped_for_room (if b then Known else Unknown) (if a then None else Some RefsFull))) ≡ Some (attempt s w l (dropped_for_room (if b then Known else Unknown) (if a then None else Some RefsFull)))
       by false b over room = refs_full_made clear over
       by true true under room = queued_made under room
       by true false under none = full_made clear under none
@@ -227,27 +228,27 @@ few_where a most other = by (cases_lt a most_attempts)
 pub touch_made : (s : State) → IsLawful s → (w : ℕ) (l : ItemId) (now : ℕ) → is_allowed s (command.Touch w l now) ≡ true → run_of s (events_of s (command.Touch w l now)) ≡ Some (command_after s (command.Touch w l now))
 touch_made s o w l now allowed = by (is_exhausted s w) refl
   where
-    both : (is_open s w ≡ true) × ((has_free_hold s l && (is_exhausted s w || is_idle (worker s w).hand)) ≡ true)
+    both : (is_open s w ≡ true) × ((has_free_hold s l && (is_exhausted s w || is_idle (worker_at s w).hand)) ≡ true)
     both = and_parts _ _ allowed
 
-    more : (has_free_hold s l ≡ true) × ((is_exhausted s w || is_idle (worker s w).hand) ≡ true)
+    more : (has_free_hold s l ≡ true) × ((is_exhausted s w || is_idle (worker_at s w).hand) ≡ true)
     more = and_parts _ _ both.1
 
-    opened : (is_worker s w ≡ true) × ((worker s w).is_open ≡ true)
+    opened : (is_worker s w ≡ true) × ((worker_at s w).is_open ≡ true)
     opened = and_parts _ _ both.0
 
-    free : (is_current s l ≡ true) × (ltb (workers_on s l) (chunk s l.chunk).holds ≡ true)
+    free : (is_current s l ≡ true) × (ltb (workers_on s l) (chunk_at s l.chunk).holds ≡ true)
     free = and_parts _ _ more.0
 
     w_in : w < length s.workers
     w_in = ltb-true w (length s.workers) opened.0
 
     c_in : l.chunk < length s.chunks
-    c_in = ltb-true l.chunk (length s.chunks) (and_parts (is_chunk s l.chunk) (eqb (head s l.chunk).generation l.generation) free.0).0
+    c_in = ltb-true l.chunk (length s.chunks) (and_parts (is_chunk s l.chunk) (eqb (head_at s l.chunk).generation l.generation) free.0).0
 
     by : (b : Bool) → is_exhausted s w ≡ b → run_of s (if b then [] else hit_events s w l now (hit_at s l)) ≡ Some (if b then s else hit s w l now (hit_at s l))
     by true done = refl
     by false still =
-        let idle : is_idle (worker s w).hand ≡ true = ap (λ (b : Bool). b || is_idle (worker s w).hand) (sym still) ∙ more.1 in
-        hit_made s w l now w_in c_in free.0 (omega (arith, ltb-true (workers_on s l) (chunk s l.chunk).holds free.1)) opened.1 (idle_from (worker s w).hand idle)
-        (and_from _ _ both.0 (and_from _ _ idle more.0)) (few_where (worker s w).accounts.attempted (o.workers w w_in).accounts.most still)
+        let idle : is_idle (worker_at s w).hand ≡ true = ap (λ (b : Bool). b || is_idle (worker_at s w).hand) (sym still) ∙ more.1 in
+        hit_made s w l now w_in c_in free.0 (omega (arith, ltb-true (workers_on s l) (chunk_at s l.chunk).holds free.1)) opened.1 (idle_from (worker_at s w).hand idle)
+        (and_from _ _ both.0 (and_from _ _ idle more.0)) (few_where (worker_at s w).accounts.attempted (o.workers w w_in).accounts.most still)

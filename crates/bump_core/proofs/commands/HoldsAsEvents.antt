@@ -4,7 +4,7 @@ use Rattle.std.proofs.lemmas.Bool.{and_parts, and_from}
 use Rattle.bump_rules.specs.declared.items.ItemId.{ItemId}
 use Rattle.bump_rules.specs.declared.events.Event.TheVariants as event
 use Rattle.bump_rules.specs.declared.commands.Command.TheVariants as command
-use Rattle.bump_state.specs.State.{State, chunk, head, is_chunk, is_linked}
+use Rattle.bump_state.specs.State.{State, chunk_at, head_at, is_chunk, is_linked}
 use Rattle.bump_state.specs.Events.{is_under_limit, with_hold}
 use Rattle.bump_core.specs.Runs.{run_of}
 use Rattle.bump_core.specs.Commands.{is_allowed, events_of, command_after, get_at, get_events, held_by_get}
@@ -13,7 +13,7 @@ use Rattle.bump_core.proofs.events.Runs.{run_step}
 
 -- the label of a held item is one load
 pub label_made : (s : State) (l : ItemId) → is_allowed s (command.Label l) ≡ true → run_of s (events_of s (command.Label l)) ≡ Some (command_after s (command.Label l))
-label_made s l allowed = run_step s s (event.Load l.chunk) [] (and_parts (is_chunk s l.chunk) (eqb (head s l.chunk).generation l.generation) (and_parts (is_chunk s l.chunk && eqb (head s l.chunk).generation l.generation) (ltb 0 (chunk s l.chunk).holds) allowed).0).0 refl
+label_made s l allowed = run_step s s (event.Load l.chunk) [] (and_parts (is_chunk s l.chunk) (eqb (head_at s l.chunk).generation l.generation) (and_parts (is_chunk s l.chunk && eqb (head_at s l.chunk).generation l.generation) (ltb 0 (chunk_at s l.chunk).holds) allowed).0).0 refl
 
 -- a release is one event
 pub release_made : (s : State) (l : ItemId) → is_allowed s (command.Release l) ≡ true → run_of s (events_of s (command.Release l)) ≡ Some (command_after s (command.Release l))
@@ -32,7 +32,7 @@ take_made s w l allowed = by (is_chunk s l.chunk) (get_at s l) refl refl
   where
     may : is_chunk s l.chunk ≡ true → get_at s l ≡ IsHeld → (is_linked s l && is_under_limit s l.chunk) ≡ true
     may in_range is =
-        let found = held_from (head s l.chunk).linked (eqb (head s l.chunk).generation l.generation) (ltb (head s l.chunk).refs s.refs_limit) is in
+        let found = held_from (head_at s l.chunk).linked (eqb (head_at s l.chunk).generation l.generation) (ltb (head_at s l.chunk).refs s.refs_limit) is in
         and_from _ _ (and_from _ _ (and_from _ _ in_range found.1) found.0) found.2
 
     by : (a : Bool) (g : Get) → is_chunk s l.chunk ≡ a → get_at s l ≡ g

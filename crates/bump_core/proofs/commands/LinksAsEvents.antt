@@ -9,7 +9,7 @@ use Rattle.bump_rules.specs.declared.history.Change.TheVariants as change
 use Rattle.bump_rules.specs.declared.events.Event.TheVariants as event
 use Rattle.bump_rules.specs.declared.commands.Command.TheVariants as command
 use Rattle.bump_rules.specs.Lives.{life}
-use Rattle.bump_state.specs.State.{State, chunk, head, no_chunk, is_class, with_chunk, with_change, some_and, is_under_application}
+use Rattle.bump_state.specs.State.{State, chunk_at, head_at, no_chunk, is_class, with_chunk, with_change, some_and, is_under_application}
 use Rattle.bump_state.specs.Worlds.{IsLawful}
 use Rattle.bump_state.specs.Events.{after, is_class_at_rest, next_chunk, next_life, with_label, with_time, link}
 use Rattle.bump_rules.specs.Heads.{newborn}
@@ -34,18 +34,18 @@ link_made s o k x now allowed = by (next_chunk s k) refl
         let found = at_rest s k c (next_chunk s k) is allowed in
         let c_in = (next_front s o k c found.0 is).1 in
         let enabled : (is_class_at_rest s k && is_some (next_chunk s k)) ≡ true = and_from _ _ found.1 (ap (λ (o : Option ℕ). is_some o) is) in
-        let z = chunk s c in
+        let z = chunk_at s c in
         let y : Chunk = record z { label = x } in
         let t = with_label s c x in
-        let read : chunk t c ≡ y = get_or-set_same s.chunks c y no_chunk c_in in
+        let read : chunk_at t c ≡ y = get_or-set_same s.chunks c y no_chunk c_in in
         let v : Chunk = record z { label = x; time = now } in
         let u = with_chunk s c v in
-        let read_too : chunk u c ≡ v = get_or-set_same s.chunks c v no_chunk c_in in
+        let read_too : chunk_at u c ≡ v = get_or-set_same s.chunks c v no_chunk c_in in
         let put : after s (event.PutLabel k x) ≡ t = ap (λ m. option_map_or (λ d. with_label s d x) m s) is in
         let put_too : after t (event.PutTime k now) ≡ u = ap (λ m. option_map_or (λ d. with_time t d now) m t) is
-        ∙ ap (λ cs. record s { chunks = cs }) (set-set s.chunks c y (record (chunk t c) { time = now }) ∙ ap (λ a. slice_set s.chunks c (record a { time = now })) read) in
+        ∙ ap (λ cs. record s { chunks = cs }) (set-set s.chunks c y (record (chunk_at t c) { time = now }) ∙ ap (λ a. slice_set s.chunks c (record a { time = now })) read) in
         let done : after u (event.Link k) ≡ link_labelled s k x now c = ap (λ m. option_map_or (link u k) m u) is
-        ∙ (ap (λ cs. with_change (record s { chunks = cs }) k (change.Linked (next_life u c))) (set-set s.chunks c v (record (chunk u c) { head = newborn ((head u c).generation + 1) }) ∙ ap (λ a. slice_set s.chunks c (record a { head = newborn (a.head.generation + 1) })) read_too)
+        ∙ (ap (λ cs. with_change (record s { chunks = cs }) k (change.Linked (next_life u c))) (set-set s.chunks c v (record (chunk_at u c) { head = newborn ((head_at u c).generation + 1) }) ∙ ap (λ a. slice_set s.chunks c (record a { head = newborn (a.head.generation + 1) })) read_too)
         ∙ ap (λ a. with_change (with_chunk s c (record v { head = newborn (z.head.generation + 1) })) k (change.Linked (life c (a.head.generation + 1)))) read_too) in
         run_step s t (event.PutLabel k x) (event.PutTime k now ∷ event.Link k ∷ []) enabled put
         ∙ (run_step t u (event.PutTime k now) (event.Link k ∷ []) enabled put_too

@@ -25,7 +25,7 @@ use Rattle.bump_rules.specs.declared.events.Refused.{Refused}
 use Rattle.bump_rules.specs.declared.events.Refused.TheVariants.{NotEnabled, OutOfMemory}
 use Rattle.bump_rules.specs.Tables.{is_unheld, is_cold, ended_of, pulled_to}
 use Rattle.bump_rules.specs.Heads.{one_fewer}
-use Rattle.bump_state.specs.State.{State, head, class, with_changes, is_under_application}
+use Rattle.bump_state.specs.State.{State, head_at, class_at, with_changes, is_under_application}
 use Rattle.bump_state.specs.Sweeps.{sweep_of}
 use Rattle.bump_state.specs.Events.{after}
 use Rattle.bump_core.specs.Runs.{one_asks}
@@ -62,15 +62,15 @@ or_asks true = refl
 or_asks false = refl
 
 -- the first hit of an item asks
-pub first_asks : (s : State) (w : ℕ) (l : ItemId) (now : ℕ) → (head s l.chunk).fetched ≡ false → one_asks s (hit_events s w l now (hit_at s l)) ≡ true
+pub first_asks : (s : State) (w : ℕ) (l : ItemId) (now : ℕ) → (head_at s l.chunk).fetched ≡ false → one_asks s (hit_events s w l now (hit_at s l)) ≡ true
 first_asks s w l now clear =
-    let is : hit_at s l ≡ IsFirst = cond-true (not (head s l.chunk).fetched) _ _ (ap not clear) in
+    let is : hit_at s l ≡ IsFirst = cond-true (not (head_at s l.chunk).fetched) _ _ (ap not clear) in
     ap (λ (h : Hit). one_asks s (hit_events s w l now h)) is ∙ ap (λ (b : Bool). not b || false) clear
 
 -- and so does a bump that is queued
 pub queue_asks : (s : State) (w : ℕ) (l : ItemId) (now : ℕ) → hit_at s l ≡ Attempts → dropped_at s w l ≡ None → one_asks s (hit_events s w l now (hit_at s l)) ≡ true
 queue_asks s w l now is none = ap (λ (h : Hit). one_asks s (hit_events s w l now h)) is
-    ∙ (ap (λ (o : Option Dropped). one_asks s (event.Fetch w l ∷ event.Mark w l ∷ attempt_events w o)) none ∙ or_asks (not (head s l.chunk).fetched))
+    ∙ (ap (λ (o : Option Dropped). one_asks s (event.Fetch w l ∷ event.Mark w l ∷ attempt_events w o)) none ∙ or_asks (not (head_at s l.chunk).fetched))
 
 -- to apply a bump asks, whatever it comes to
 applied_asks : (s : State) (w now c : ℕ) (linked cold active : Bool) (e : Ended) → one_asks s
@@ -107,4 +107,4 @@ module _ (s : State) (k : ℕ) (within : k < length s.classes) where
 
   -- and it asks for memory
   pub sweep_wants : (n : ℕ) → n ≡ length (sweep_of s k) → n ≢ 0 → false ≡ is_under_application s k → (new : State) → new ≡ s → Commands s (command.Sweep k) new (Err OutOfMemory)
-  sweep_wants n is some rest new same = (sweep_waits s k within (omega arith) ∙ ap not (sym rest), same, looks_ask (head s) (class s k).lists.dying s (some_unheld (head s) (class s k).lists.dying (omega arith)))
+  sweep_wants n is some rest new same = (sweep_waits s k within (omega arith) ∙ ap not (sym rest), same, looks_ask (head_at s) (class_at s k).lists.dying s (some_unheld (head_at s) (class_at s k).lists.dying (omega arith)))

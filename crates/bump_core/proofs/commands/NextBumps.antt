@@ -8,10 +8,10 @@ use Rattle.bump_rules.specs.declared.lanes.Lane.{Lane}
 use Rattle.bump_rules.specs.declared.lanes.Lane.TheVariants as lane
 use Rattle.bump_rules.specs.Lives.{one_if, count_of}
 use Rattle.bump_rules.specs.Lanes.{bump_of}
-use Rattle.bump_state.specs.State.{State, WorkerState, worker}
+use Rattle.bump_state.specs.State.{State, WorkerState, worker_at}
 use Rattle.bump_state.specs.Events.{next_bump}
 use Rattle.bump_core.specs.Commands.{bump_next}
-use Rattle.bump_state.specs.Worlds.{IsLawful, aboard_of, bumps_of, references}
+use Rattle.bump_state.specs.Worlds.{IsLawful, in_lane_of, bumps_of, references}
 use Rattle.bump_state.proofs.LawfulStates.{one_if_same, bumps_counted, referred_in_range}
 use Rattle.bump_state.proofs.Ring.{next_in_ring}
 
@@ -28,17 +28,17 @@ next_counted x b next = by x.lane refl
 
     by : (z : Lane) → x.lane ≡ z → 0 < bumps_of b.life x
     by lane.Empty is = empty (next_bump x) refl (read lane.Empty is)
-    by (lane.Carrying d) is = let same : d ≡ b = cc (read (lane.Carrying d) is) in omega (arith, ap (aboard_of b.life) is, ap (λ (z : Bump). one_if b.life z.life) same, one_if_same b.life)
+    by (lane.Carrying d) is = let same : d ≡ b = cc (read (lane.Carrying d) is) in omega (arith, ap (in_lane_of b.life) is, ap (λ (z : Bump). one_if b.life z.life) same, one_if_same b.life)
     by (lane.Tried d) is = absurd (let u : ⊥ = cc (read (lane.Tried d) is) in u)
     by (lane.Cleared d found) is = absurd (let u : ⊥ = cc (read (lane.Cleared d found) is) in u)
     by (lane.Moved d) is = absurd (let u : ⊥ = cc (read (lane.Moved d) is) in u)
 
 module _ (s : State) (o : IsLawful s) (w : ℕ) (within : w < length s.workers) where
   -- the next bump's life has a reference
-  next_referred : (b : Bump) → bump_next (worker s w) ≡ Some b → 0 < references s b.life.chunk b.life.generation
-  next_referred b next = omega (arith, bumps_counted s b.life w within, next_counted (worker s w) b next)
+  next_referred : (b : Bump) → bump_next (worker_at s w) ≡ Some b → 0 < references s b.life.chunk b.life.generation
+  next_referred b next = omega (arith, bumps_counted s b.life w within, next_counted (worker_at s w) b next)
 
   -- its chunk is in range
-  pub some_next_in_range : (r : Option Bump) → r ≡ bump_next (worker s w) → IfSome r (λ b. b.life.chunk < length s.chunks)
+  pub some_next_in_range : (r : Option Bump) → r ≡ bump_next (worker_at s w) → IfSome r (λ b. b.life.chunk < length s.chunks)
   some_next_in_range None is = tt
   some_next_in_range (Some b) is = referred_in_range s o b.life.chunk b.life.generation (next_referred b (sym is))

@@ -5,7 +5,7 @@ use Rattle.std.specs.List.{list_any}
 use Rattle.bump_rules.specs.declared.items.Head.{Head}
 use Rattle.bump_rules.specs.Tables.{is_unheld}
 use Rattle.bump_rules.specs.declared.commands.Command.TheVariants as command
-use Rattle.bump_state.specs.State.{State, head, class, is_class, is_under_application}
+use Rattle.bump_state.specs.State.{State, head_at, class_at, is_class, is_under_application}
 use Rattle.bump_core.specs.Commands.{is_allowed}
 use Rattle.bump_rules.specs.Sweeps.{swept_of, swept_changes, unheld}
 use Rattle.bump_state.specs.Sweeps.{sweep_of}
@@ -33,9 +33,9 @@ none_unheld heads (c ∷ cs) none = by (is_unheld (heads c)) none (none_unheld h
 -- a sweep of a class that enters nothing is allowed
 pub sweep_idle : (s : State) (k : ℕ) → k < length s.classes → length (sweep_of s k) ≡ 0 → is_allowed s (command.Sweep k) ≡ true
 sweep_idle s k within none = and_from _ _ (lt-ltb k (length s.classes) within)
-    (ap (λ b. not b || not (is_under_application s k)) (none_unheld (head s) (class s k).lists.dying none))
+    (ap (λ b. not b || not (is_under_application s k)) (none_unheld (head_at s) (class_at s k).lists.dying none))
 
 -- and one that enters something is where no lane applies a bump of the class
 pub sweep_waits : (s : State) (k : ℕ) → k < length s.classes → 0 < length (sweep_of s k) → is_allowed s (command.Sweep k) ≡ not (is_under_application s k)
-sweep_waits s k within some = ap (λ b. is_class s k && (not b || not (is_under_application s k))) (some_unheld (head s) (class s k).lists.dying some)
+sweep_waits s k within some = ap (λ b. is_class s k && (not b || not (is_under_application s k))) (some_unheld (head_at s) (class_at s k).lists.dying some)
     ∙ ap (λ b. b && not (is_under_application s k)) (lt-ltb k (length s.classes) within)

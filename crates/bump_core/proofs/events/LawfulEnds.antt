@@ -12,7 +12,7 @@ use Rattle.bump_rules.specs.Entries.{names_bump}
 use Rattle.bump_rules.specs.History.{subject, target, freed_change}
 use Rattle.bump_rules.specs.Lawful.{Shows}
 use Rattle.bump_rules.specs.Lives.{life}
-use Rattle.bump_state.specs.State.{State, head, class_of, with_change}
+use Rattle.bump_state.specs.State.{State, head_at, class_of, with_change}
 use Rattle.bump_rules.specs.Lanes.{applied_life}
 use Rattle.bump_state.specs.Events.{is_enabled, after}
 use Rattle.bump_state.specs.Worlds.{references, first_hits_of, place, IsLawful}
@@ -27,7 +27,7 @@ use Rattle.bump_state.proofs.Fronts.{listed}
 
 -- a chunk that may be swept is DYING
 pub swept_dying : (s : State) → IsLawful s → (c : ℕ) → is_enabled s (event.Sweep c) ≡ true → place s c ≡ Dying
-swept_dying s o c enabled = let may = sweep_from s c enabled in (listed s o (class_of s c) c Dying (class_within s o.tiles c may.0) may.1).2
+swept_dying s o c enabled = let may = sweep_from s o c enabled in (listed s o (class_of s c) c Dying (class_within s o.tiles c may.0) may.1).2
 
 -- the entry speaks of the life and names no bump, and the place to which it puts the chunk is one for an unlinked head of that life's generation
 pub record IsFreed (l : ItemId) (e : Change) : Type 0 where
@@ -48,9 +48,9 @@ freed l = by (l.generation == 4294967295) refl
 -- a life ends
 pub after_unlink : (s : State) → IsLawful s → (l : ItemId) → is_enabled s (event.Unlink l) ≡ true → IsLawful (after s (event.Unlink l))
 after_unlink s o l enabled = let may = unlink_from s l enabled in
-    change_lawful s o l.chunk (severed_head (head s l.chunk)) (class_of s l.chunk) (change.Unlinked l) (class_within s o.tiles l.chunk may.0) (class_owns s o.tiles l.chunk may.0) refl
+    change_lawful s o l.chunk (severed_head (head_at s l.chunk)) (class_of s l.chunk) (change.Unlinked l) (class_within s o.tiles l.chunk may.0) (class_owns s o.tiles l.chunk may.0) refl
     (λ g. refl)
-    (severed s.refs_limit (head s l.chunk) (place s l.chunk) (references s l.chunk) (first_hits_of s l.chunk) (o.chunks l.chunk) may.2)
+    (severed s.refs_limit (head_at s l.chunk) (place s l.chunk) (references s l.chunk) (first_hits_of s l.chunk) (o.chunks l.chunk) may.2)
     (sym may.1)
     refl
     (λ w w_in b is same. none_applies s (class_of s l.chunk) w b.life may.3 w_in (ap applied_life is) (ap (class_of s) same))
@@ -58,15 +58,15 @@ after_unlink s o l enabled = let may = unlink_from s l enabled in
 -- a chunk without holders is free
 pub after_sweep : (s : State) → IsLawful s → (c : ℕ) → is_enabled s (event.Sweep c) ≡ true → IsLawful (after s (event.Sweep c))
 after_sweep s o c enabled =
-    let may = sweep_from s c enabled in
+    let may = sweep_from s o c enabled in
     let dying = swept_dying s o c enabled in
-    let e = freed_change (life c (head s c).generation) in
-    let entry = freed (life c (head s c).generation) in
+    let e = freed_change (life c (head_at s c).generation) in
+    let entry = freed (life c (head_at s c).generation) in
     subst (λ t. IsLawful (with_change t (class_of s c) e)) (same_head s c)
-    (change_lawful s o c (head s c) (class_of s c) e (class_within s o.tiles c may.0) (class_owns s o.tiles c may.0) (ap (λ (l : ItemId). l.chunk) entry.is)
+    (change_lawful s o c (head_at s c) (class_of s c) e (class_within s o.tiles c may.0) (class_owns s o.tiles c may.0) (ap (λ (l : ItemId). l.chunk) entry.is)
     (λ g. refl)
-    (ended s.refs_limit (head s c) (place s c) (references s c) (first_hits_of s c) (o.chunks c) (target e) dying may.2
-    (entry.shows (head s c) (subst (Shows (head s c)) dying (o.chunks c).shown) refl (o.chunks c).generation))
+    (ended s.refs_limit (head_at s c) (place s c) (references s c) (first_hits_of s c) (o.chunks c) (target e) dying may.2
+    (entry.shows (head_at s c) (subst (Shows (head_at s c)) dying (o.chunks c).shown) refl (o.chunks c).generation))
     (ap (λ (l : ItemId). l.generation) entry.is)
     entry.plain
     (λ w w_in b is same. none_applies s (class_of s c) w b.life may.3 w_in (ap applied_life is) (ap (class_of s) same)))

@@ -1,7 +1,7 @@
 -- The events of links leave a lawful state lawful: the next item's label and time, and the link.
 use Rattle.std.proofs.Common.{◌≡◌, ℕ, true, false, refl, arith, ◌<◌, length, ◌+◌, cond, eqb, Bool, Some, sym, ◌∙◌, subst}
 use Rattle.bump_rules.specs.declared.events.Event.TheVariants as event
-use Rattle.bump_state.specs.State.{State, head, chunk, class}
+use Rattle.bump_state.specs.State.{State, head_at, chunk_at, class_at}
 use Rattle.bump_state.specs.Events.{next_chunk, is_enabled, after, with_time, with_label, next_life, link}
 use Rattle.bump_state.specs.Worlds.{references, first_hits_of, place, IsLawful, owns}
 use Rattle.bump_state.proofs.Enabled.{next_from, lawful_by_some}
@@ -49,10 +49,10 @@ after_link s o k enabled = let next = next_from s k enabled in lawful_by_some (l
         let at = next_front s o k c within next in
         let off = (unused_shown s o c at.2).0 in
         let none = unused_unreferred s o c at.2 in
-        let own = subst (λ (j : ℕ). owns (class s j) c ≡ true) at.0 (class_owns s o.tiles c at.1) in
-        change_lawful s o c (newborn ((head s c).generation + 1)) k (change.Linked (next_life s c)) within own refl
-        (λ g. held_none (chunk s c) (newborn ((head s c).generation + 1)) (λ n. omega (arith, none n)) g)
-        (born s.refs_limit (head s c) (place s c) (references s c) (first_hits_of s c) (o.chunks c) at.2 o.limit)
+        let own = subst (λ (j : ℕ). owns (class_at s j) c ≡ true) at.0 (class_owns s o.tiles c at.1) in
+        change_lawful s o c (newborn ((head_at s c).generation + 1)) k (change.Linked (next_life s c)) within own refl
+        (λ g. held_none (chunk_at s c) (newborn ((head_at s c).generation + 1)) (λ n. omega (arith, none n)) g)
+        (born s.refs_limit (head_at s c) (place s c) (references s c) (first_hits_of s c) (o.chunks c) at.2 o.limit)
         refl
         refl
-        (λ w w_in b is same. both_ways (head s c).linked off (subst (λ (d : ℕ). (head s d).linked ≡ true) same (waiting_linked s o w b w_in is).0))
+        (λ w w_in b is same. both_ways (head_at s c).linked off (subst (λ (d : ℕ). (head_at s d).linked ≡ true) same (waiting_linked s o w b w_in is).0))

@@ -17,7 +17,7 @@ use Rattle.bump_state.specs.Rings.{IsWorker}
 use Rattle.bump_rules.specs.Entries.{names_bump, is_stray, is_move_for, is_unlink_of, moves_told}
 use Rattle.bump_rules.specs.History.{Standing, subject, target}
 use Rattle.bump_rules.specs.Lists.{to_front, opening}
-use Rattle.bump_state.specs.State.{State, ClassState, WorkerState, chunk, head, class, worker, no_chunk, no_class, new_worker, with_head, with_change, class_with_change, class_of, workers_on}
+use Rattle.bump_state.specs.State.{State, ClassState, WorkerState, chunk_at, head_at, class_at, worker_at, no_chunk, no_class, new_worker, with_head, with_change, class_with_change, class_of, workers_on}
 use Rattle.bump_rules.specs.Hands.{is_on}
 use Rattle.bump_rules.specs.Lanes.{applied_life}
 use Rattle.bump_state.specs.Worlds.{Tiles, IsLawful, IsClass, WaitsToMove, is_of_class, WasUnlinked, owns, stands_in, standing, place, references, first_hits_of, holds_of, bumps_of}
@@ -61,34 +61,34 @@ pub record WorkersFit (s : State) (c : ℕ) (ws : List WorkerState) : Type 0 whe
   pub gone : (w : ℕ) → w < length ws → WasUnlinked s (slice_index_or ws w new_worker)
 
 -- A chunk with another head, and an entry in the history of its class that moves it.
-module _ (s : State) (o : IsLawful s) (c : ℕ) (h : Head) (k : ℕ) (e : Change) (within : k < length s.classes) (own : owns (class s k) c ≡ true) (is : (subject e).chunk ≡ c) where
+module _ (s : State) (o : IsLawful s) (c : ℕ) (h : Head) (k : ℕ) (e : Change) (within : k < length s.classes) (own : owns (class_at s k) c ≡ true) (is : (subject e).chunk ≡ c) where
   -- the state with the head and the entry
   abbrev changed : State
   changed = with_change (with_head s c h) k e
 
   -- each chunk stays in its class
   class_of_changed : (d : ℕ) → class_of changed d ≡ class_of s d
-  class_of_changed d = class_kept s.classes k (class_with_change (class s k) e) d refl
+  class_of_changed d = class_kept s.classes k (class_with_change (class_at s k) e) d refl
 
   -- the class has the entry
-  class_changed : class changed k ≡ class_with_change (class s k) e
-  class_changed = get_or-set_same s.classes k (class_with_change (class s k) e) no_class within
+  class_changed : class_at changed k ≡ class_with_change (class_at s k) e
+  class_changed = get_or-set_same s.classes k (class_with_change (class_at s k) e) no_class within
 
   -- the other classes stay
-  class_unchanged : (j : ℕ) → j ≢ k → class changed j ≡ class s j
-  class_unchanged j other = get_or-set_other s.classes k j (class_with_change (class s k) e) no_class other
+  class_unchanged : (j : ℕ) → j ≢ k → class_at changed j ≡ class_at s j
+  class_unchanged j other = get_or-set_other s.classes k j (class_with_change (class_at s k) e) no_class other
 
   -- the entry is counted in its class
-  pub counted_changed : (test : Change → Bool) (j : ℕ) → how_many test (class changed j).history ≡ how_many test (class s j).history + bit ((k == j) && test e)
+  pub counted_changed : (test : Change → Bool) (j : ℕ) → how_many test (class_at changed j).history ≡ how_many test (class_at s j).history + bit ((k == j) && test e)
   counted_changed test j = by (ℕ_discrete j k)
     where
-      by : Dec (j ≡ k) → how_many test (class changed j).history ≡ how_many test (class s j).history + bit ((k == j) && test e)
+      by : Dec (j ≡ k) → how_many test (class_at changed j).history ≡ how_many test (class_at s j).history + bit ((k == j) && test e)
       by (yes same) = omega (
         arith,
-        ap (λ (i : ℕ). how_many test (class changed i).history) same,
-        ap (λ (i : ℕ). how_many test (class s i).history) same,
+        ap (λ (i : ℕ). how_many test (class_at changed i).history) same,
+        ap (λ (i : ℕ). how_many test (class_at s i).history) same,
         ap (λ (x : ClassState). how_many test x.history) class_changed,
-        how_many_push test (class s k).history e,
+        how_many_push test (class_at s k).history e,
         ap (λ b. bit (b && test e)) (eq-eqb k j (sym same)),
       )
       by (no differs) = omega (
@@ -98,27 +98,27 @@ module _ (s : State) (o : IsLawful s) (c : ℕ) (h : Head) (k : ℕ) (e : Change
       )
 
   -- the chunk has the head
-  pub chunk_changed : chunk changed c ≡ record (chunk s c) { head = h }
-  chunk_changed = get_or-set_same s.chunks c (record (chunk s c) { head = h }) no_chunk (owned_in_range s o.tiles k c within own)
+  pub chunk_changed : chunk_at changed c ≡ record (chunk_at s c) { head = h }
+  chunk_changed = get_or-set_same s.chunks c (record (chunk_at s c) { head = h }) no_chunk (owned_in_range s o.tiles k c within own)
 
   -- the other chunks stay
-  pub chunk_unchanged : (d : ℕ) → d ≢ c → chunk changed d ≡ chunk s d
-  chunk_unchanged d other = get_or-set_other s.chunks c d (record (chunk s c) { head = h }) no_chunk other
+  pub chunk_unchanged : (d : ℕ) → d ≢ c → chunk_at changed d ≡ chunk_at s d
+  chunk_unchanged d other = get_or-set_other s.chunks c d (record (chunk_at s c) { head = h }) no_chunk other
 
   -- the chunk stands at the entry's place, with its generation
   standing_changed : standing changed c ≡ (target e, (subject e).generation)
-  standing_changed = ap (λ (j : ℕ). stands_in (class changed j) c) (class_of_changed c ∙ owner s o.tiles k c within own)
-      ∙ (ap (λ x. stands_in x c) class_changed ∙ stands_pushed (class s k) e c is)
+  standing_changed = ap (λ (j : ℕ). stands_in (class_at changed j) c) (class_of_changed c ∙ owner s o.tiles k c within own)
+      ∙ (ap (λ x. stands_in x c) class_changed ∙ stands_pushed (class_at s k) e c is)
 
   -- the other chunks stand where they stood
   pub standing_unchanged : (d : ℕ) → d ≢ c → standing changed d ≡ standing s d
-  standing_unchanged d other = ap (λ (j : ℕ). stands_in (class changed j) d) (class_of_changed d) ∙ by (ℕ_discrete (class_of s d) k)
+  standing_unchanged d other = ap (λ (j : ℕ). stands_in (class_at changed j) d) (class_of_changed d) ∙ by (ℕ_discrete (class_of s d) k)
     where
-      by : Dec (class_of s d ≡ k) → stands_in (class changed (class_of s d)) d ≡ stands_in (class s (class_of s d)) d
-      by (yes same) = ap (λ (j : ℕ). stands_in (class changed j) d) same
+      by : Dec (class_of s d ≡ k) → stands_in (class_at changed (class_of s d)) d ≡ stands_in (class_at s (class_of s d)) d
+      by (yes same) = ap (λ (j : ℕ). stands_in (class_at changed j) d) same
           ∙ (ap (λ x. stands_in x d) class_changed
-          ∙ (stands_not_pushed (class s k) e d (λ q. other (sym q ∙ is))
-          ∙ ap (λ (j : ℕ). stands_in (class s j) d) (sym same)))
+          ∙ (stands_not_pushed (class_at s k) e d (λ q. other (sym q ∙ is))
+          ∙ ap (λ (j : ℕ). stands_in (class_at s j) d) (sym same)))
       by (no differs) = ap (λ x. stands_in x d) (class_unchanged (class_of s d) differs)
 
   -- the chunk is at the entry's place
@@ -129,16 +129,16 @@ module _ (s : State) (o : IsLawful s) (c : ℕ) (h : Head) (k : ℕ) (e : Change
   pub place_unchanged : (d : ℕ) → d ≢ c → place changed d ≡ place s d
   place_unchanged d other = ap (λ (at : Standing). at.0) (standing_unchanged d other)
 
-  module _ (same_holds : (g : ℕ) → held_by (record (chunk s c) { head = h }) g ≡ held_by (chunk s c) g) where
+  module _ (same_holds : (g : ℕ) → held_by (record (chunk_at s c) { head = h }) g ≡ held_by (chunk_at s c) g) where
     -- each life has its holds
     holds_changed : (l : ItemId) → holds_of changed l ≡ holds_of s l
     holds_changed l = by (ℕ_discrete l.chunk c)
       where
-        by : Dec (l.chunk ≡ c) → held_by (chunk changed l.chunk) l.generation ≡ held_by (chunk s l.chunk) l.generation
-        by (yes same) = ap (λ (d : ℕ). held_by (chunk changed d) l.generation) same
+        by : Dec (l.chunk ≡ c) → held_by (chunk_at changed l.chunk) l.generation ≡ held_by (chunk_at s l.chunk) l.generation
+        by (yes same) = ap (λ (d : ℕ). held_by (chunk_at changed d) l.generation) same
             ∙ (ap (λ x. held_by x l.generation) chunk_changed
             ∙ (same_holds l.generation
-            ∙ ap (λ (d : ℕ). held_by (chunk s d) l.generation) (sym same)))
+            ∙ ap (λ (d : ℕ). held_by (chunk_at s d) l.generation) (sym same)))
         by (no differs) = ap (λ x. held_by x l.generation) (chunk_unchanged l.chunk differs)
 
     -- and its references
@@ -151,18 +151,18 @@ module _ (s : State) (o : IsLawful s) (c : ℕ) (h : Head) (k : ℕ) (e : Change
         → Lawful s.refs_limit h (target e) (references s c) (first_hits_of s c)
         → (subject e).generation ≡ h.generation
         → is_stray e ≡ false
-        → ((j v n : ℕ) (test : ItemId → Bool) → how_many (is_move_for test v n) (class changed j).history ≡ moves_told (is_of_class s j test) n (slice_index_or ws v new_worker).applied (slice_index_or ws v new_worker).lane)
+        → ((j v n : ℕ) (test : ItemId → Bool) → how_many (is_move_for test v n) (class_at changed j).history ≡ moves_told (is_of_class s j test) n (slice_index_or ws v new_worker).applied (slice_index_or ws v new_worker).lane)
         → IsLawful (record (with_change (with_head s c h) k e) { workers = ws })
     change_among ws fit law generation straight moves = record {
       limit = o.limit;
-      tiles = subst (λ (n : ℕ). Tiles 0 changed.classes n) (sym (length-set s.chunks c (record (chunk s c) { head = h })))
-          (tiles_kept 0 s.classes (length s.chunks) k (class_with_change (class s k) e) refl refl o.tiles);
-      chunks = λ d. relawful s.refs_limit (head changed d) (place changed d) (references changed d) (first_hits_of s d) (chunk_law d (ℕ_discrete d c)) (references after d) (first_hits_of after d)
+      tiles = subst (λ (n : ℕ). Tiles 0 changed.classes n) (sym (length-set s.chunks c (record (chunk_at s c) { head = h })))
+          (tiles_kept 0 s.classes (length s.chunks) k (class_with_change (class_at s k) e) refl refl o.tiles);
+      chunks = λ d. relawful s.refs_limit (head_at changed d) (place changed d) (references changed d) (first_hits_of s d) (chunk_law d (ℕ_discrete d c)) (references after d) (first_hits_of after d)
           (λ g. omega (arith, fit.bumps (life d g)))
           (λ g. fit.hits (life d g));
       hands = λ l. omega (arith, o.hands l, fit.hands l, holds_changed l);
       generations = λ d. generation_law d (ℕ_discrete d c);
-      classes = λ j in_range. class_law j (omega (arith, length-set s.classes k (class_with_change (class s k) e))) (ℕ_discrete j k);
+      classes = λ j in_range. class_law j (omega (arith, length-set s.classes k (class_with_change (class_at s k) e))) (ℕ_discrete j k);
       workers = fit.workers;
       alone = λ v w l m v_in w_in v_on w_on same. fit.alone v w l m v_in w_in v_on w_on (sym (class_of_changed l.chunk) ∙ (same ∙ class_of_changed m.chunk));
       waits = λ w w_in. wait_law (slice_index_or ws w new_worker).lane (fit.waits w w_in) (fit.free w w_in);
@@ -171,33 +171,33 @@ module _ (s : State) (o : IsLawful s) (c : ℕ) (h : Head) (k : ℕ) (e : Change
         arith,
         fit.gone w w_in l some,
         counted_changed (is_unlink_of l) (class_of s l.chunk),
-        ap (λ (j : ℕ). how_many (is_unlink_of l) (class changed j).history) (class_of_changed l.chunk),
+        ap (λ (j : ℕ). how_many (is_unlink_of l) (class_at changed j).history) (class_of_changed l.chunk),
       );
     }
       where
         after : State
         after = record changed { workers = ws }
 
-        chunk_law : (d : ℕ) → Dec (d ≡ c) → Lawful s.refs_limit (head changed d) (place changed d) (references changed d) (first_hits_of s d)
-        chunk_law d (yes same) = subst (λ (d : ℕ). Lawful s.refs_limit (head changed d) (place changed d) (references changed d) (first_hits_of s d)) (sym same)
-            (lawful_same s.refs_limit h (head changed c) (target e) (place changed c) (references s c) (references changed c) (first_hits_of s c) (ap (λ x. x.head) chunk_changed) place_changed (references_changed c) law)
-        chunk_law d (no differs) = lawful_same s.refs_limit (head s d) (head changed d) (place s d) (place changed d) (references s d) (references changed d) (first_hits_of s d)
+        chunk_law : (d : ℕ) → Dec (d ≡ c) → Lawful s.refs_limit (head_at changed d) (place changed d) (references changed d) (first_hits_of s d)
+        chunk_law d (yes same) = subst (λ (d : ℕ). Lawful s.refs_limit (head_at changed d) (place changed d) (references changed d) (first_hits_of s d)) (sym same)
+            (lawful_same s.refs_limit h (head_at changed c) (target e) (place changed c) (references s c) (references changed c) (first_hits_of s c) (ap (λ x. x.head) chunk_changed) place_changed (references_changed c) law)
+        chunk_law d (no differs) = lawful_same s.refs_limit (head_at s d) (head_at changed d) (place s d) (place changed d) (references s d) (references changed d) (first_hits_of s d)
             (ap (λ x. x.head) (chunk_unchanged d differs)) (place_unchanged d differs) (references_changed d) (o.chunks d)
 
-        generation_law : (d : ℕ) → Dec (d ≡ c) → (standing changed d).1 ≡ (head changed d).generation
-        generation_law d (yes same) = subst (λ (d : ℕ). (standing changed d).1 ≡ (head changed d).generation) (sym same)
+        generation_law : (d : ℕ) → Dec (d ≡ c) → (standing changed d).1 ≡ (head_at changed d).generation
+        generation_law d (yes same) = subst (λ (d : ℕ). (standing changed d).1 ≡ (head_at changed d).generation) (sym same)
             (ap (λ (at : Standing). at.1) standing_changed ∙ (generation ∙ sym (ap (λ x. x.head.generation) chunk_changed)))
         generation_law d (no differs) = ap (λ (at : Standing). at.1) (standing_unchanged d differs) ∙ (o.generations d ∙ sym (ap (λ x. x.head.generation) (chunk_unchanged d differs)))
 
-        class_law : (j : ℕ) → j < length s.classes → Dec (j ≡ k) → IsClass (class changed j)
-        class_law j in_range (yes same) = subst IsClass (sym (ap (class changed) same ∙ class_changed)) (class_pushed (class s k) e (o.classes k within) (ap (owns (class s k)) is ∙ own) straight)
+        class_law : (j : ℕ) → j < length s.classes → Dec (j ≡ k) → IsClass (class_at changed j)
+        class_law j in_range (yes same) = subst IsClass (sym (ap (class_at changed) same ∙ class_changed)) (class_pushed (class_at s k) e (o.classes k within) (ap (owns (class_at s k)) is ∙ own) straight)
         class_law j in_range (no differs) = subst IsClass (sym (class_unchanged j differs)) (o.classes j in_range)
 
         wait_law : (x : Lane) → WaitsToMove s x → ((b : Bump) → x ≡ lane.Cleared b true → b.life.chunk ≢ c) → WaitsToMove changed x
         wait_law lane.Empty waits free_of = tt
         wait_law (lane.Carrying b) waits free_of = tt
         wait_law (lane.Tried b) waits free_of = tt
-        wait_law (lane.Cleared b true) waits free_of = let same : head changed b.life.chunk ≡ head s b.life.chunk = ap (λ x. x.head) (chunk_unchanged b.life.chunk (free_of b refl)) in
+        wait_law (lane.Cleared b true) waits free_of = let same : head_at changed b.life.chunk ≡ head_at s b.life.chunk = ap (λ x. x.head) (chunk_unchanged b.life.chunk (free_of b refl)) in
             (ap (λ x. x.linked) same ∙ waits.0, ap (λ x. x.segment) same ∙ waits.1)
         wait_law (lane.Cleared b false) waits free_of = tt
         wait_law (lane.Moved b) waits free_of = tt
@@ -206,7 +206,7 @@ module _ (s : State) (o : IsLawful s) (c : ℕ) (h : Head) (k : ℕ) (e : Change
     pub change_lawful : Lawful s.refs_limit h (target e) (references s c) (first_hits_of s c)
         → (subject e).generation ≡ h.generation
         → names_bump e ≡ false
-        → ((w : ℕ) → w < length s.workers → (b : Bump) → (worker s w).lane ≡ lane.Cleared b true → b.life.chunk ≢ c)
+        → ((w : ℕ) → w < length s.workers → (b : Bump) → (worker_at s w).lane ≡ lane.Cleared b true → b.life.chunk ≢ c)
         → IsLawful (with_change (with_head s c h) k e)
     change_lawful law generation plain free = change_among s.workers
         (record { bumps = λ l. refl; hits = λ l. refl; hands = λ l. omega arith; workers = o.workers; alone = o.alone; waits = o.waits; free = free; gone = o.gone })

@@ -10,7 +10,7 @@ use Rattle.bump_links.specs.Lists.{times}
 use Rattle.bump_rules.specs.Lists.{list_at, times_in_all}
 use Rattle.bump_state.specs.Rings.{in_ring, IsWorker}
 use Rattle.bump_rules.specs.Rings.{numbered_from}
-use Rattle.bump_state.specs.State.{State, WorkerState, class, head, worker}
+use Rattle.bump_state.specs.State.{State, WorkerState, class_at, head_at, worker_at}
 use Rattle.bump_state.specs.Worlds.{owns, place, place_in, stands_in, IsLawful}
 use Rattle.bump_state.proofs.LawfulStates.{referred_in_range, referred_used}
 use Rattle.bump_state.proofs.Fronts.{times_in, listed, never_at}
@@ -26,24 +26,24 @@ applies_in_order capacity x p =
     ∙ ap (numbered_from 0) (sym p.ring.prefix))
 
 -- a chunk of a class stands once in its six lists
-pub once_in_all : (s : State) → IsLawful s → (k c : ℕ) → k < length s.classes → owns (class s k) c ≡ true → times_in_all c (class s k).lists ≡ 1
-once_in_all s o k c within own = once_in_places (place_in (class s k) c) (λ q. times c (list_at (class s k).lists q)) at
+pub once_in_all : (s : State) → IsLawful s → (k c : ℕ) → k < length s.classes → owns (class_at s k) c ≡ true → times_in_all c (class_at s k).lists ≡ 1
+once_in_all s o k c within own = once_in_places (place_in (class_at s k) c) (λ q. times c (list_at (class_at s k).lists q)) at
   where
-    at : (q : Place) → times c (list_at (class s k).lists q) ≡ bit (is_place (place_in (class s k) c) q)
-    at q = times_in s o k c q within ∙ ap (λ (b : Bool). bit (b && is_place (place_in (class s k) c) q)) own
+    at : (q : Place) → times c (list_at (class_at s k).lists q) ≡ bit (is_place (place_in (class_at s k) c) q)
+    at q = times_in s o k c q within ∙ ap (λ (b : Bool). bit (b && is_place (place_in (class_at s k) c) q)) own
 
 -- how a chunk stands to a list of a class
 pub stands_to : (s : State) → IsLawful s → (k c : ℕ) (q : Place) → k < length s.classes → Stands s k c q
 stands_to s o k c q within = record {
   listed = times_in s o k c q within;
-  shown = λ some. subst (Shows (head s c)) (listed s o k c q within some).2 (o.chunks c).shown;
-  generation = λ some. sym (o.generations c) ∙ ap (λ (j : ℕ). (stands_in (class s j) c).1) (listed s o k c q within some).0;
+  shown = λ some. subst (Shows (head_at s c)) (listed s o k c q within some).2 (o.chunks c).shown;
+  generation = λ some. sym (o.generations c) ∙ ap (λ (j : ℕ). (stands_in (class_at s j) c).1) (listed s o k c q within some).0;
 }
 
 -- a lawful World is as the headline says
 pub headline : (s : State) → IsLawful s → Headline s
 headline s o = record {
-  in_order = λ w within. applies_in_order s.capacity (worker s w) (o.workers w within);
+  in_order = λ w within. applies_in_order s.capacity (worker_at s w) (o.workers w within);
   rings = λ w within. (o.workers w within).ring;
   accounts = λ w within. (o.workers w within).accounts;
   none_free = λ c g some.

@@ -18,13 +18,13 @@ use Rattle.bump_rules.specs.Lawful.{Lawful}
 use Rattle.bump_rules.specs.History.{standing_from}
 use Rattle.bump_rules.specs.Lives.{life, count_of}
 use Rattle.bump_state.specs.Rings.{IsWorker}
-use Rattle.bump_state.specs.State.{State, ClassState, WorkerState, head, class, no_chunk, no_class, new_worker, class_of}
+use Rattle.bump_state.specs.State.{State, ClassState, WorkerState, head_at, class_at, no_chunk, no_class, new_worker, class_of}
 use Rattle.bump_rules.specs.Lanes.{applied_life}
 use Rattle.bump_rules.specs.Hands.{is_on}
 use Rattle.bump_state.specs.Opening.{fresh_chunk, classes_from, new_state}
 use Rattle.bump_state.specs.Worlds.{IsLawful, IsClass, Tiles, references, first_hits_of, holds_of, bumps_of, standing, place, WaitsToMove, is_of_class}
 use Rattle.bump_state.proofs.Tiles.{class_within, class_out}
-use Rattle.bump_core.proofs.worlds.StaysLawful.{Keeps}
+use Rattle.bump_core.proofs.worlds.StaysLawful.{WorldKeeps}
 
 -- the classes of a new World stand one behind the other
 tiles_new : (fresh from : ℕ) (ks : List ClassConfig) → HaveChunks ks → Tiles from (classes_from fresh from ks) (from + chunks_of ks)
@@ -102,10 +102,10 @@ module _ (config : Config) (early : config.first_generation < 4294967296) (two :
       omega (arith, held, none_of (bumps_of (life c g)) config.workers refl)
 
   -- each chunk is lawful
-  law : (c : ℕ) → Lawful s.refs_limit (head s c) (place s c) (references s c) (first_hits_of s c)
+  law : (c : ℕ) → Lawful s.refs_limit (head_at s c) (place s c) (references s c) (first_hits_of s c)
   law c = let fresh = chunk_new (chunks_of config.classes) (config.first_generation - 1) c (omega (arith, early)) in
       subst (λ h. Lawful s.refs_limit h (place s c) (references s c) (first_hits_of s c)) (sym (ap (λ (x : Chunk). x.head) fresh.2))
-      (subst (λ p. Lawful s.refs_limit (fresh_head fresh.0) p (references s c) (first_hits_of s c)) (sym (ap (λ es. (standing_from c (Unused, (class s (class_of s c)).fresh) es).0) (class_new (config.first_generation - 1) 0 config.classes (class_of s c)).1))
+      (subst (λ p. Lawful s.refs_limit (fresh_head fresh.0) p (references s c) (first_hits_of s c)) (sym (ap (λ es. (standing_from c (Unused, (class_at s (class_of s c)).fresh) es).0) (class_new (config.first_generation - 1) 0 config.classes (class_of s c)).1))
       (fresh_lawful s.refs_limit fresh.0 (references s c) (first_hits_of s c) fresh.1 (references_new c) (λ g. none_of (λ x. count_of (life c g) x.first_hits) config.workers refl)))
 
   -- the classes have the chunks, one after another
@@ -113,14 +113,14 @@ module _ (config : Config) (early : config.first_generation < 4294967296) (two :
   tiles = subst (λ (n : ℕ). Tiles 0 s.classes n) (omega (arith, length-replicate (chunks_of config.classes) (fresh_chunk (config.first_generation - 1)))) (tiles_new (config.first_generation - 1) 0 config.classes all)
 
   -- where no entry speaks of a chunk it stands as its class began
-  began : (c : ℕ) → (standing s c).1 ≡ (class s (class_of s c)).fresh
-  began c = ap (λ es. (standing_from c (Unused, (class s (class_of s c)).fresh) es).1) (class_new (config.first_generation - 1) 0 config.classes (class_of s c)).1
+  began : (c : ℕ) → (standing s c).1 ≡ (class_at s (class_of s c)).fresh
+  began c = ap (λ es. (standing_from c (Unused, (class_at s (class_of s c)).fresh) es).1) (class_new (config.first_generation - 1) 0 config.classes (class_of s c)).1
 
   -- each chunk stands in its generation
-  generation : (c : ℕ) → (standing s c).1 ≡ (head s c).generation
+  generation : (c : ℕ) → (standing s c).1 ≡ (head_at s c).generation
   generation c = began c ∙ by (cases_lt c (length s.chunks))
     where
-      by : (c < length s.chunks) ⊎ (length s.chunks ≤ c) → (class s (class_of s c)).fresh ≡ (head s c).generation
+      by : (c < length s.chunks) ⊎ (length s.chunks ≤ c) → (class_at s (class_of s c)).fresh ≡ (head_at s c).generation
       by (inl within) = class_fresh (config.first_generation - 1) 0 config.classes (class_of s c) (class_within s tiles c within)
           ∙ sym (chunk_fresh (chunks_of config.classes) (config.first_generation - 1) c (omega (arith, length-replicate (chunks_of config.classes) (fresh_chunk (config.first_generation - 1)))))
       by (inr past) = ap (λ (k : ClassState). k.fresh) (get_or_past s.classes (class_of s c) no_class (omega (arith, class_out s tiles c past)))
@@ -144,7 +144,7 @@ module _ (config : Config) (early : config.first_generation < 4294967296) (two :
   }
 
   -- a new World keeps what a World keeps
-  pub keeps_new : Keeps s
+  pub keeps_new : WorldKeeps s
   keeps_new = (
     lawful,
     record {
@@ -155,7 +155,7 @@ module _ (config : Config) (early : config.first_generation < 4294967296) (two :
   )
 
 -- a World made from a configuration without faults does
-pub keeps_valid : (config : Config) → config.first_generation < 4294967296 → is_none (first_fault config.workers config.capacity config.refs_limit config.first_generation config.classes) ≡ true → Keeps (new_state config)
+pub keeps_valid : (config : Config) → config.first_generation < 4294967296 → is_none (first_fault config.workers config.capacity config.refs_limit config.first_generation config.classes) ≡ true → WorldKeeps (new_state config)
 keeps_valid config early valid =
     let b = bounds config.workers config.capacity config.refs_limit config.first_generation config.classes valid in
     keeps_new config early b.limit_least b.chunks_each b.classes_most b.chunks_most b.workers_most

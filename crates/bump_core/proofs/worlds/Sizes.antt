@@ -11,7 +11,7 @@ use Rattle.bump_rules.specs.declared.events.Event.TheVariants as event
 use Rattle.bump_rules.specs.declared.events.Reply.{Reply}
 use Rattle.bump_rules.specs.declared.events.Refused.{Refused}
 use Rattle.bump_rules.specs.Lives.{life}
-use Rattle.bump_state.specs.State.{State, ClassState, WorkerState, SameSizes, class, head, worker, with_chunk, with_class, with_worker, with_change, class_with_change}
+use Rattle.bump_state.specs.State.{State, ClassState, WorkerState, SameSizes, class_at, head_at, worker_at, with_chunk, with_class, with_worker, with_change, class_with_change}
 use Rattle.bump_rules.specs.Hands.{tried_life, life_in_hand, cleared_life}
 use Rattle.bump_state.specs.Events.{after, reserve, drop_refs, drop_busy, push, drop_full, unmark, with_label, with_time, link, take_bump, clear_for, move_for, alight, next_chunk, next_life, next_bump, ending}
 use Rattle.bump_rules.specs.Lanes.{carried, applied_now, tried, cleared_active}
@@ -37,11 +37,11 @@ both_sizes s c w x y = (length-set s.chunks c x, refl, length-set s.workers w y)
 
 -- a changed chunk and an entry of a class
 change_sizes : (s : State) (c k : ℕ) (x : Chunk) (e : Change) → SameSizes s (with_change (with_chunk s c x) k e)
-change_sizes s c k x e = (length-set s.chunks c x, length-set s.classes k (class_with_change (class s k) e), refl)
+change_sizes s c k x e = (length-set s.chunks c x, length-set s.classes k (class_with_change (class_at s k) e), refl)
 
 -- a changed chunk, an entry of a class and a changed worker
 all_sizes : (s : State) (c k w : ℕ) (x : Chunk) (e : Change) (y : WorkerState) → SameSizes s (with_worker (with_change (with_chunk s c x) k e) w y)
-all_sizes s c k w x e y = (length-set s.chunks c x, length-set s.classes k (class_with_change (class s k) e), length-set s.workers w y)
+all_sizes s c k w x e y = (length-set s.chunks c x, length-set s.classes k (class_with_change (class_at s k) e), length-set s.workers w y)
 
 -- an event leaves the sizes
 pub after_sizes : (s : State) (e : Event) → SameSizes s (after s e)
@@ -49,12 +49,12 @@ after_sizes s (event.Load c) = (refl, refl, refl)
 after_sizes s (event.Take w l) = chunk_sizes s _ _
 after_sizes s (event.Fetch w l) = by_test (SameSizes s) _ _ _ (λ on. chunk_sizes s _ _) (λ off. both_sizes s _ w _ _)
 after_sizes s (event.Mark w l) = by_test (SameSizes s) _ _ _ (λ on. both_sizes s _ w _ _) (λ off. chunk_sizes s _ _)
-after_sizes s (event.Reserve w) = by_value (SameSizes s) (reserve s w) (tried_life (worker s w).hand) s (λ l is. both_sizes s _ w _ _) (refl, refl, refl)
-after_sizes s (event.DropRefs w) = by_value (SameSizes s) (drop_refs s w) (tried_life (worker s w).hand) s (λ l is. worker_sizes s w _) (refl, refl, refl)
-after_sizes s (event.DropBusy w) = by_value (SameSizes s) (drop_busy s w) (tried_life (worker s w).hand) s (λ l is. worker_sizes s w _) (refl, refl, refl)
-after_sizes s (event.Push w) = by_value (SameSizes s) (push s w) (life_in_hand (worker s w).hand) s (λ l is. worker_sizes s w _) (refl, refl, refl)
-after_sizes s (event.DropFull w) = by_value (SameSizes s) (drop_full s w) (life_in_hand (worker s w).hand) s (λ l is. both_sizes s _ w _ _) (refl, refl, refl)
-after_sizes s (event.Unmark w) = by_value (SameSizes s) (unmark s w) (cleared_life (worker s w).hand) s (λ l is. both_sizes s _ w _ _) (refl, refl, refl)
+after_sizes s (event.Reserve w) = by_value (SameSizes s) (reserve s w) (tried_life (worker_at s w).hand) s (λ l is. both_sizes s _ w _ _) (refl, refl, refl)
+after_sizes s (event.DropRefs w) = by_value (SameSizes s) (drop_refs s w) (tried_life (worker_at s w).hand) s (λ l is. worker_sizes s w _) (refl, refl, refl)
+after_sizes s (event.DropBusy w) = by_value (SameSizes s) (drop_busy s w) (tried_life (worker_at s w).hand) s (λ l is. worker_sizes s w _) (refl, refl, refl)
+after_sizes s (event.Push w) = by_value (SameSizes s) (push s w) (life_in_hand (worker_at s w).hand) s (λ l is. worker_sizes s w _) (refl, refl, refl)
+after_sizes s (event.DropFull w) = by_value (SameSizes s) (drop_full s w) (life_in_hand (worker_at s w).hand) s (λ l is. both_sizes s _ w _ _) (refl, refl, refl)
+after_sizes s (event.Unmark w) = by_value (SameSizes s) (unmark s w) (cleared_life (worker_at s w).hand) s (λ l is. both_sizes s _ w _ _) (refl, refl, refl)
 after_sizes s (event.Close w) = worker_sizes s w _
 after_sizes s (event.StoreTime l t) = chunk_sizes s _ _
 after_sizes s (event.Release l) = chunk_sizes s _ _
@@ -64,12 +64,12 @@ after_sizes s (event.Link k) = by_value (SameSizes s) (link s k) (next_chunk s k
 after_sizes s (event.Unlink l) = change_sizes s l.chunk _ _ (change.Unlinked l)
 after_sizes s (event.Sweep c) = class_sizes s _ _
 after_sizes s (event.ClearActive c) = chunk_sizes s _ _
-after_sizes s (event.Move c to) = change_sizes s c _ _ (change.Moved (life c (head s c).generation) (head s c).segment to Pull)
-after_sizes s (event.TakeBump w) = by_value (SameSizes s) (take_bump s w) (next_bump (worker s w)) s (λ l is. worker_sizes s w _) (refl, refl, refl)
-after_sizes s (event.Try w) = by_value (SameSizes s) _ (carried (worker s w).lane) s (λ b is. worker_sizes s w _) (refl, refl, refl)
-after_sizes s (event.BumpTime w t) = by_value (SameSizes s) _ (applied_now (worker s w).lane) s (λ b is. chunk_sizes s _ _) (refl, refl, refl)
-after_sizes s (event.ClearFor w) = by_value (SameSizes s) (clear_for s w) (tried (worker s w).lane) s (λ b is. both_sizes s _ w _ _) (refl, refl, refl)
-after_sizes s (event.MoveFor w) = by_value (SameSizes s) (move_for s w) (cleared_active (worker s w).lane) s (λ b is. all_sizes s _ _ w _ (change.Moved b.life segment.Cold segment.Warm (BumpOf w b.number)) _) (refl, refl, refl)
+after_sizes s (event.Move c to) = change_sizes s c _ _ (change.Moved (life c (head_at s c).generation) (head_at s c).segment to Pull)
+after_sizes s (event.TakeBump w) = by_value (SameSizes s) (take_bump s w) (next_bump (worker_at s w)) s (λ l is. worker_sizes s w _) (refl, refl, refl)
+after_sizes s (event.Try w) = by_value (SameSizes s) _ (carried (worker_at s w).lane) s (λ b is. worker_sizes s w _) (refl, refl, refl)
+after_sizes s (event.BumpTime w t) = by_value (SameSizes s) _ (applied_now (worker_at s w).lane) s (λ b is. chunk_sizes s _ _) (refl, refl, refl)
+after_sizes s (event.ClearFor w) = by_value (SameSizes s) (clear_for s w) (tried (worker_at s w).lane) s (λ b is. both_sizes s _ w _ _) (refl, refl, refl)
+after_sizes s (event.MoveFor w) = by_value (SameSizes s) (move_for s w) (cleared_active (worker_at s w).lane) s (λ b is. all_sizes s _ _ w _ (change.Moved b.life segment.Cold segment.Warm (BumpOf w b.number)) _) (refl, refl, refl)
 after_sizes s (event.Alight w) = by_value (SameSizes s) (alight s w) (ending s w) s (λ a is. both_sizes s _ w _ _) (refl, refl, refl)
 
 -- so does a run

@@ -57,21 +57,21 @@ pub run_lawful : (s : State) (es : List Event) (t : State) → IsLawful s → ru
 run_lawful s es t o ends = by_run IsLawful lawful_after s es t o ends
 
 -- what a World keeps: it is lawful, and there are no more classes, chunks and workers than may be
-abbrev pub Keeps : State → Type 0
-Keeps s = IsLawful s × IsSized s
+abbrev pub WorldKeeps : State → Type 0
+WorldKeeps s = IsLawful s × IsSized s
 
 -- as many classes, chunks and workers as before are no more than may be
 sized_after : (s t : State) → SameSizes s t → IsSized s → IsSized t
 sized_after s t same sized = record { classes = omega (arith, same.1, sized.classes); chunks = omega (arith, same.0, sized.chunks); workers = omega (arith, same.2, sized.workers) }
 
 -- each event that is enabled keeps all
-pub keeps_after : (s : State) → Keeps s → (e : Event) → is_enabled s e ≡ true → Keeps (after s e)
+pub keeps_after : (s : State) → WorldKeeps s → (e : Event) → is_enabled s e ≡ true → WorldKeeps (after s e)
 keeps_after s k e enabled = (lawful_after s k.0 e enabled, sized_after s (after s e) (after_sizes s e) k.1)
 
 -- so does a step
-pub step_keeps : (old : State) (e : Event) (new : State) (r : Result Reply Refused) → Keeps old → Steps old e new r → Keeps new
-step_keeps old e new r k made = by_step Keeps old e new r k (keeps_after old k e) made
+pub step_keeps : (old : State) (e : Event) (new : State) (r : Result Reply Refused) → WorldKeeps old → Steps old e new r → WorldKeeps new
+step_keeps old e new r k made = by_step WorldKeeps old e new r k (keeps_after old k e) made
 
 -- and so does a run
-pub run_keeps : (s : State) (es : List Event) (t : State) → Keeps s → run_of s es ≡ Some t → Keeps t
-run_keeps s es t k ends = by_run Keeps keeps_after s es t k ends
+pub run_keeps : (s : State) (es : List Event) (t : State) → WorldKeeps s → run_of s es ≡ Some t → WorldKeeps t
+run_keeps s es t k ends = by_run WorldKeeps keeps_after s es t k ends

@@ -1,23 +1,23 @@
 //! An attempted bump in the command of a hit: it is queued or dropped at once.
 ghost use Rattle.std.specs.Prelude.{◌≡◌, ◌<◌, [], ◌∷◌, ◌++◌, IfOk, OnOk, OnErr, None, Some, length};
-ghost use Rattle.bump_core.specs.Commands.{counted, attempt, dropped_at};
+ghost use Rattle.bump_core.specs.Commands.{counted, attempt, room_at, dropped_at};
 ghost use Rattle.bump_rules.specs.Tables.{attempted_of};
 ghost use Rattle.bump_rules.specs.Rings.{most_attempts};
-ghost use Rattle.bump_state.specs.State.{worker, with_worker};
+ghost use Rattle.bump_state.specs.State.{worker_at, with_worker};
 ghost use Rattle.bump_state.specs.Views.{state_of};
 ghost use Rattle.bump_state.specs.Worlds.{IsLawful};
 
-use bump_rules::{Accounts, Dropped, Head, ItemId, Touch};
+use bump_rules::{Accounts, Dropped, Head, ItemId, Room, Touch};
 use bump_state::Parts;
 use std::alloc::AllocError;
 
 /// The worker's attempt ends with a drop, which leaves the item as it was.
 fn count_drop(parts: &mut Parts, w: u32, dropped: Dropped)
     requires worker { w < length (state_of parts.old).workers }
-    requires room { (worker (state_of parts.old) w).accounts.attempted < most_attempts }
+    requires room { (worker_at (state_of parts.old) w).accounts.attempted < most_attempts }
     requires lawful { IsLawful (state_of parts.old) }
-    ensures { state_of parts.new ≡ with_worker (state_of parts.old) w (record (worker (state_of parts.old) w) {
-      accounts = counted (worker (state_of parts.old) w).accounts (Some dropped);
+    ensures { state_of parts.new ≡ with_worker (state_of parts.old) w (record (worker_at (state_of parts.old) w) {
+      accounts = counted (worker_at (state_of parts.old) w).accounts (Some dropped);
     }) }
 {
     let hand = parts.hand(w);
@@ -43,21 +43,33 @@ fn count_drop(parts: &mut Parts, w: u32, dropped: Dropped)
     parts.set_hand(w, hand, after);
 }
 
+/// Whether the worker's ring shows room.
+fn room(parts: &Parts, w: u32) -> Room
+    requires worker { w < length (state_of parts.now).workers }
+    requires lawful { IsLawful (state_of parts.now) }
+    ensures { result ≡ room_at (state_of parts.now) w }
+{
+    if parts.waiting(w) < parts.capacity as usize {
+        Room::Known
+    } else {
+        Room::Unknown
+    }
+}
+
 /// A bump of a held item is attempted.
 pub fn attempt(parts: &mut Parts, w: u32, life: ItemId) -> Result<Touch, AllocError>
     requires worker { w < length (state_of parts.old).workers }
     requires chunk { life.chunk < length (state_of parts.old).chunks }
-    requires room { (worker (state_of parts.old) w).accounts.attempted < most_attempts }
+    requires room { (worker_at (state_of parts.old) w).accounts.attempted < most_attempts }
     requires lawful { IsLawful (state_of parts.old) }
     ensures ok { OnOk result (state_of parts.new ≡ attempt (state_of parts.old) w life (dropped_at (state_of parts.old) w life)) }
-    ensures answer { IfOk result (λ t. t ≡ attempted_of (dropped_at (state_of parts.old) w life) (length (worker (state_of parts.old) w).sent)) }
+    ensures answer { IfOk result (λ t. t ≡ attempted_of (dropped_at (state_of parts.old) w life) (length (worker_at (state_of parts.old) w).sent)) }
     ensures err { OnErr result (state_of parts.new ≡ state_of parts.old) }
     ensures memory { OnErr result (dropped_at (state_of parts.old) w life ≡ None) }
 {
     let head = parts.head(life.chunk);
-    let has_room = parts.waiting(w) < parts.capacity as usize;
     // nothing comes between the events of a command, so no exchange fails
-    if let Some(dropped) = head.dropped(parts.refs_limit, 0, has_room) {
+    if let Some(dropped) = head.dropped(parts.refs_limit, 0, room(parts, w)) {
         count_drop(parts, w, dropped);
         return Ok(Touch::Dropped(dropped));
     }

@@ -1,6 +1,6 @@
 //! The commands of ends: an item is ended, and the chunks of DYING that nobody holds are freed.
 ghost use Rattle.std.specs.Prelude.{◌≡◌, IfOk, OnOk, OnErr, true};
-ghost use Rattle.bump_core.specs.Commands.{Commands, end_life, end_of};
+ghost use Rattle.bump_core.specs.Commands.{Commands, unlink_item, unlinked_as};
 ghost use Rattle.bump_state.specs.State.{is_linked};
 ghost use Rattle.bump_state.specs.Views.{state_of};
 ghost use Rattle.bump_state.specs.Worlds.{IsLawful};
@@ -11,11 +11,11 @@ use bump_state::Parts;
 use std::alloc::AllocError;
 
 /// A linked life ends, and its chunk is free where nobody holds it. Tells what the end came to.
-pub fn end_life(parts: &mut Parts, life: ItemId) -> Result<Ended, AllocError>
+pub fn unlink_item(parts: &mut Parts, life: ItemId) -> Result<Ended, AllocError>
     requires lawful { IsLawful (state_of parts.old) }
     requires linked { is_linked (state_of parts.old) life ≡ true }
-    ensures ok { OnOk result (state_of parts.new ≡ end_life (state_of parts.old) life) }
-    ensures ended { IfOk result (λ e. e ≡ end_of (state_of parts.old) life) }
+    ensures ok { OnOk result (state_of parts.new ≡ unlink_item (state_of parts.old) life) }
+    ensures ended { IfOk result (λ e. e ≡ unlinked_as (state_of parts.old) life) }
     ensures err { OnErr result (state_of parts.new ≡ state_of parts.old) }
 {
     let class = parts.class_of(life.chunk);
@@ -46,7 +46,7 @@ pub fn call_unlink(parts: &mut Parts, id: ItemId) -> Result<Answer, Refused>
     if parts.is_under_application(parts.class_of(id.chunk)) {
         return Err(Refused::NotEnabled);
     }
-    let ended = end_life(parts, id)?;
+    let ended = unlink_item(parts, id)?;
     Ok(Answer::Ended(ended))
 }
 

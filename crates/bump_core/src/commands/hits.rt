@@ -3,7 +3,7 @@ ghost use Rattle.std.specs.Prelude.{◌≡◌, ◌<◌, IfOk, OnOk, OnErr, true,
 ghost use Rattle.bump_core.specs.Commands.{Commands, hit, hit_at, hit_answer, hit_events};
 ghost use Rattle.bump_core.specs.Runs.{one_asks};
 ghost use Rattle.bump_rules.specs.Rings.{most_attempts};
-ghost use Rattle.bump_state.specs.State.{worker};
+ghost use Rattle.bump_state.specs.State.{worker_at};
 ghost use Rattle.bump_state.specs.Views.{state_of};
 ghost use Rattle.bump_state.specs.Worlds.{IsLawful};
 ghost use Rattle.bump_rules.specs.declared.commands.Command.TheVariants as command;
@@ -17,7 +17,7 @@ use std::alloc::AllocError;
 fn hit(parts: &mut Parts, w: u32, life: ItemId, now: u64) -> Result<Touch, AllocError>
     requires worker { w < length (state_of parts.old).workers }
     requires chunk { life.chunk < length (state_of parts.old).chunks }
-    requires room { (worker (state_of parts.old) w).accounts.attempted < most_attempts }
+    requires room { (worker_at (state_of parts.old) w).accounts.attempted < most_attempts }
     requires lawful { IsLawful (state_of parts.old) }
     ensures ok { OnOk result (state_of parts.new ≡ hit (state_of parts.old) w life now (hit_at (state_of parts.old) life)) }
     ensures answer { IfOk result (λ t. t ≡ hit_answer (state_of parts.old) w life (hit_at (state_of parts.old) life)) }

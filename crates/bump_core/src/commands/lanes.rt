@@ -1,9 +1,9 @@
 //! The command of a lane: the next bump is applied at once, by the update table.
 ghost use Rattle.std.specs.Prelude.{◌≡◌, ◌<◌, [], ◌∷◌, ◌++◌, IfSome, IfOk, OnOk, OnErr, Some, false, length};
-ghost use Rattle.bump_state.specs.State.{class, class_of, head, worker, with_worker};
+ghost use Rattle.bump_state.specs.State.{class_at, class_of, head_at, worker_at, with_worker};
 ghost use Rattle.bump_rules.specs.Lanes.{applied_bump, is_half_made};
 ghost use Rattle.bump_state.specs.Events.{next_bump};
-ghost use Rattle.bump_core.specs.Commands.{Commands, bump_next, bumped_chunk, bumped_worker, bumped_lists, apply_bump, entry_of};
+ghost use Rattle.bump_core.specs.Commands.{Commands, bump_next, bumped_chunk, bumped_worker, bumped_lists, apply_bump, entry_next};
 ghost use Rattle.bump_state.specs.Views.{state_of};
 ghost use Rattle.bump_state.specs.Workers.{HasRoom};
 ghost use Rattle.bump_state.specs.Worlds.{IsLawful};
@@ -46,7 +46,7 @@ fn bumped(chunk: Chunk, now: u64, outcome: Outcome) -> Chunk
 /// The bump that a lane applies next: the one aboard, or else the first that waits.
 fn bump_of(parts: &Parts, w: u32) -> Option<Bump>
     requires { w < length (state_of parts.now).workers }
-    ensures { result ≡ bump_next (worker (state_of parts.now) w) }
+    ensures { result ≡ bump_next (worker_at (state_of parts.now) w) }
 {
     match parts.lane(w) {
         Lane::Empty => {
@@ -65,7 +65,7 @@ fn bump_of(parts: &Parts, w: u32) -> Option<Bump>
 fn bump_next(parts: &Parts, w: u32) -> Option<Bump>
     requires worker { w < length (state_of parts.now).workers }
     requires lawful { IsLawful (state_of parts.now) }
-    ensures bump { result ≡ bump_next (worker (state_of parts.now) w) }
+    ensures bump { result ≡ bump_next (worker_at (state_of parts.now) w) }
     ensures chunk { IfSome result (λ b. b.life.chunk < length (state_of parts.now).chunks) }
 {
     bump_of(parts, w)
@@ -75,8 +75,8 @@ fn bump_next(parts: &Parts, w: u32) -> Option<Bump>
 fn finish(parts: &mut Parts, w: u32, bump: Bump, outcome: Outcome)
     requires worker { w < length (state_of parts.old).workers }
     requires room { HasRoom parts.old.workers w }
-    requires next { bump_next (worker (state_of parts.old) w) ≡ Some bump }
-    ensures { state_of parts.new ≡ with_worker (state_of parts.old) w (bumped_worker (worker (state_of parts.old) w) bump outcome) }
+    requires next { bump_next (worker_at (state_of parts.old) w) ≡ Some bump }
+    ensures { state_of parts.new ≡ with_worker (state_of parts.old) w (bumped_worker (worker_at (state_of parts.old) w) bump outcome) }
 {
     match parts.lane(w) {
         Lane::Empty => parts.finish_taken(w, bump, outcome),
@@ -120,10 +120,10 @@ fn change_for(
 fn apply(parts: &mut Parts, w: u32, now: u64, bump: Bump) -> Result<Entry, AllocError>
     requires worker { w < length (state_of parts.old).workers }
     requires lawful { IsLawful (state_of parts.old) }
-    requires next { bump_next (worker (state_of parts.old) w) ≡ Some bump }
+    requires next { bump_next (worker_at (state_of parts.old) w) ≡ Some bump }
     requires chunk { bump.life.chunk < length (state_of parts.old).chunks }
     ensures ok { OnOk result (state_of parts.new ≡ apply_bump (state_of parts.old) w now bump) }
-    ensures entry { IfOk result (λ e. e ≡ entry_of (state_of parts.old) bump) }
+    ensures entry { IfOk result (λ e. e ≡ entry_next (state_of parts.old) bump) }
     ensures err { OnErr result (state_of parts.new ≡ state_of parts.old) }
 {
     let chunk = parts.chunk(bump.life.chunk);

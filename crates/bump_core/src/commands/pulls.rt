@@ -1,47 +1,34 @@
 //! The command of a pull: its change at once, by the tail table.
 ghost use Rattle.std.specs.Prelude.{◌≡◌, ◌<◌, IfSome, OnOk, OnErr, Some, true, length};
-ghost use Rattle.bump_core.specs.Commands.{Commands, tail_of, is_list_over, pulled_at, pull_to, pull, pull_events};
+ghost use Rattle.bump_core.specs.Commands.{Commands, last_pulled_in, pulled_at, pull_to, pull, pull_events};
 ghost use Rattle.bump_core.specs.Runs.{one_asks};
 ghost use Rattle.bump_rules.specs.Lists.{IsListed};
-ghost use Rattle.bump_state.specs.State.{head, class, class_of};
+ghost use Rattle.bump_state.specs.State.{head_at, class_at, class_of};
 ghost use Rattle.bump_rules.specs.Tables.{segment_of};
 ghost use Rattle.bump_state.specs.Views.{state_of};
 ghost use Rattle.bump_state.specs.Worlds.{IsLawful};
 ghost use Rattle.bump_rules.specs.declared.commands.Command.TheVariants as command;
 
-use crate::commands::ends::end_life;
-use bump_rules::{Answer, Cause, Change, Head, ItemId, Place, Pulled, Refused, Segment, Tail};
+use crate::commands::ends::unlink_item;
+use bump_rules::{Answer, Cause, Change, Head, ItemId, Limits, Pulled, Refused, Segment, Tail};
 use bump_state::Parts;
 use std::alloc::AllocError;
 
 /// The last chunk of a class's HOT, WARM or COLD.
 fn tail_chunk(parts: &Parts, k: u32, tail: Tail) -> Option<u32>
     requires { k < length (state_of parts.now).classes }
-    ensures { result ≡ tail_of (state_of parts.now) k tail }
+    ensures { result ≡ last_pulled_in (state_of parts.now) k tail }
 {
     parts.list_back(k, tail.segment().place())
-}
-
-/// Whether that list has more items than its limit.
-fn is_list_over(parts: &Parts, k: u32, tail: Tail) -> bool
-    requires { k < length (state_of parts.now).classes }
-    ensures { result ≡ is_list_over (state_of parts.now) k tail }
-{
-    let class = &parts.classes[k as usize];
-    match tail {
-        Tail::Hot => class.lists.len(Place::Hot) > class.hot_limit,
-        Tail::Warm => class.lists.len(Place::Warm) > class.warm_limit,
-        Tail::Cold | Tail::Evict => false,
-    }
 }
 
 /// The chunk that a pull looks at.
 fn last(parts: &Parts, k: u32, tail: Tail) -> Option<u32>
     requires class { k < length (state_of parts.now).classes }
     requires lawful { IsLawful (state_of parts.now) }
-    ensures last { result ≡ tail_of (state_of parts.now) k tail }
+    ensures last { result ≡ last_pulled_in (state_of parts.now) k tail }
     ensures linked { IfSome result (λ c. (c < length (state_of parts.now).chunks) × (class_of (state_of parts.now) c ≡ k)
-        × ((head (state_of parts.now) c).linked ≡ true) × ((head (state_of parts.now) c).segment ≡ segment_of tail)) }
+        × ((head_at (state_of parts.now) c).linked ≡ true) × ((head_at (state_of parts.now) c).segment ≡ segment_of tail)) }
 {
     tail_chunk(parts, k, tail)
 }
@@ -50,7 +37,7 @@ fn last(parts: &Parts, k: u32, tail: Tail) -> Option<u32>
 fn pull_to(parts: &mut Parts, k: u32, tail: Tail, last: u32, to: Segment) -> Result<(), AllocError>
     requires class { k < length (state_of parts.old).classes }
     requires chunk { last < length (state_of parts.old).chunks }
-    requires listed { IsListed last (class (state_of parts.old) k).lists }
+    requires listed { IsListed last (class_at (state_of parts.old) k).lists }
     ensures ok { OnOk result (state_of parts.new ≡ pull_to (state_of parts.old) k tail last (Some to)) }
     ensures err { OnErr result (state_of parts.new ≡ state_of parts.old) }
 {
@@ -85,12 +72,12 @@ fn pulled_at(parts: &Parts, k: u32, tail: Tail, last: u32) -> Pulled
         chunk: last,
         generation: head.generation,
     };
-    tail.pulled(
-        head.active,
-        is_list_over(parts, k, tail),
-        head.severed().ended(),
-        id,
-    )
+    let class = &parts.classes[k as usize];
+    let limits = Limits {
+        hot: class.hot_limit,
+        warm: class.warm_limit,
+    };
+    tail.pulled(head, &class.lists, limits, head.severed().ended(), id)
 }
 
 /// The last item of a list is moved by the tail table, or ended.
@@ -99,7 +86,7 @@ fn pull(parts: &mut Parts, k: u32, tail: Tail, last: u32) -> Result<(), AllocErr
     requires chunk { last < length (state_of parts.old).chunks }
     requires lawful { IsLawful (state_of parts.old) }
     requires owner { class_of (state_of parts.old) last ≡ k }
-    requires linked { (head (state_of parts.old) last).linked ≡ true }
+    requires linked { (head_at (state_of parts.old) last).linked ≡ true }
     ensures ok { OnOk result (state_of parts.new ≡ pull (state_of parts.old) k tail last) }
     ensures err { OnErr result (state_of parts.new ≡ state_of parts.old) }
     ensures memory { OnErr result (one_asks (state_of parts.old) (pull_events (state_of parts.old) k tail last) ≡ true) }
@@ -110,7 +97,7 @@ fn pull(parts: &mut Parts, k: u32, tail: Tail, last: u32) -> Result<(), AllocErr
             chunk: last,
             generation,
         };
-        end_life(parts, life)?;
+        unlink_item(parts, life)?;
     } else if let Some(to) = pulled_at(parts, k, tail, last).to() {
         pull_to(parts, k, tail, last, to)?;
     }

@@ -1,7 +1,7 @@
 //! What the World tells of itself.
 ghost use Rattle.std.specs.Prelude.{◌≡◌, ◌<◌, All, length};
 ghost use Rattle.bump_links.specs.Lists.{last_of};
-ghost use Rattle.bump_state.specs.State.{head, is_open};
+ghost use Rattle.bump_state.specs.State.{head_at, is_open};
 ghost use Rattle.bump_core.specs.Headline.{Headline};
 ghost use Rattle.bump_state.specs.Worlds.{IsLawful};
 ghost use Rattle.bump_core.specs.Readers.{list_of, history_of, time_of, label_of, holds_at, accounts_of, sent_of, received_of, applied_of, limits_of};
@@ -110,7 +110,7 @@ impl World {
     /// A chunk's head. The chunk is one of the configuration's.
     pub fn head(&self, chunk: u32) -> Head
         requires { chunk < length self.now.chunks }
-        ensures { result ≡ head self.now chunk }
+        ensures { result ≡ head_at self.now chunk }
     {
         self.parts.head(chunk)
     }

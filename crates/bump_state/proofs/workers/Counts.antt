@@ -15,7 +15,7 @@ use Rattle.bump_state.specs.State.{State, new_worker, applies_in}
 use Rattle.bump_rules.specs.Hands.{is_idle, is_on}
 use Rattle.bump_rules.specs.Lanes.{applied_life}
 use Rattle.bump_rules.specs.Totals.{total, how_many}
-use Rattle.bump_state.specs.Workers.{seen, worker_view, is_busy, is_applying, AreCounted}
+use Rattle.bump_state.specs.Workers.{worker_views, worker_view, is_not_idle, is_applying, AreCounted}
 use Rattle.bump_rules.proofs.Updates.{total_written, term_within}
 
 -- a mark counts at most one
@@ -55,40 +55,40 @@ module _ (xs : List Worker) (i : ℕ) (a x : Worker) (within : i < length xs) (i
   still_few = omega (arith, o.few, length-set xs i x)
 
   -- a hand that is under way as before leaves the count
-  busy_still : is_busy x ≡ is_busy a → n ≡ how_many is_busy (set xs i x)
-  busy_still same = counted_anew is_busy xs i a within is n o.busy o.few (is_busy x) same x n (is_busy x) refl refl
+  hands_still : is_not_idle x ≡ is_not_idle a → n ≡ how_many is_not_idle (set xs i x)
+  hands_still same = counted_anew is_not_idle xs i a within is n o.not_idle o.few (is_not_idle x) same x n (is_not_idle x) refl refl
 
   -- and so does a lane
   applying_still : is_applying x ≡ is_applying a → m ≡ how_many is_applying (set xs i x)
   applying_still same = counted_anew is_applying xs i a within is m o.applying o.few (is_applying x) same x m (is_applying x) refl refl
 
   -- a worker that is under way as before leaves both counts
-  pub both_still : is_busy x ≡ is_busy a → is_applying x ≡ is_applying a → AreCounted n m (set xs i x)
-  both_still hand lane = record { busy = busy_still hand; applying = applying_still lane; few = still_few }
+  pub both_still : is_not_idle x ≡ is_not_idle a → is_applying x ≡ is_applying a → AreCounted n m (set xs i x)
+  both_still hand lane = record { not_idle = hands_still hand; applying = applying_still lane; few = still_few }
 
   -- one whose hand changed is counted anew
-  pub hand_anew : (r : ℕ) (was now : Bool) → was ≡ is_busy a → now ≡ is_busy x → r + bit was ≡ n + bit now → is_applying x ≡ is_applying a → AreCounted r m (set xs i x)
-  hand_anew r was now was_so now_so anew lane = record { busy = counted_anew is_busy xs i a within is n o.busy o.few was was_so x r now now_so anew; applying = applying_still lane; few = still_few }
+  pub hand_anew : (r : ℕ) (was now : Bool) → was ≡ is_not_idle a → now ≡ is_not_idle x → r + bit was ≡ n + bit now → is_applying x ≡ is_applying a → AreCounted r m (set xs i x)
+  hand_anew r was now was_so now_so anew lane = record { not_idle = counted_anew is_not_idle xs i a within is n o.not_idle o.few was was_so x r now now_so anew; applying = applying_still lane; few = still_few }
 
   -- one whose lane changed is counted anew
-  pub lane_anew : (r : ℕ) (was now : Bool) → was ≡ is_applying a → now ≡ is_applying x → r + bit was ≡ m + bit now → is_busy x ≡ is_busy a → AreCounted n r (set xs i x)
-  lane_anew r was now was_so now_so anew hand = record { busy = busy_still hand; applying = counted_anew is_applying xs i a within is m o.applying o.few was was_so x r now now_so anew; few = still_few }
+  pub lane_anew : (r : ℕ) (was now : Bool) → was ≡ is_applying a → now ≡ is_applying x → r + bit was ≡ m + bit now → is_not_idle x ≡ is_not_idle a → AreCounted n r (set xs i x)
+  lane_anew r was now was_so now_so anew hand = record { not_idle = hands_still hand; applying = counted_anew is_applying xs i a within is m o.applying o.few was was_so x r now now_so anew; few = still_few }
 
 -- where no worker is under way, none is on a life
-pub none_on : (l : ItemId) (xs : List Worker) → how_many is_busy xs ≡ 0 → total (λ w. is_on l w.hand) (seen xs) ≡ 0
+pub none_on : (l : ItemId) (xs : List Worker) → how_many is_not_idle xs ≡ 0 → total (λ w. is_on l w.hand) (worker_views xs) ≡ 0
 none_on l [] none = refl
 none_on l (x ∷ xs) none = by x.hand (omega arith) (none_on l xs (omega (arith, none)))
   where
-    by : (h : Hand) → bit (not (is_idle h)) ≡ 0 → total (λ w. is_on l w.hand) (seen xs) ≡ 0 → is_on l h + total (λ w. is_on l w.hand) (seen xs) ≡ 0
+    by : (h : Hand) → bit (not (is_idle h)) ≡ 0 → total (λ w. is_on l w.hand) (worker_views xs) ≡ 0 → is_on l h + total (λ w. is_on l w.hand) (worker_views xs) ≡ 0
     by hand.Idle idle rest = omega (arith, rest)
     by (hand.Trying m) idle rest = absurd (omega (arith, idle))
     by (hand.InHand m) idle rest = absurd (omega (arith, idle))
     by (hand.Clearing m) idle rest = absurd (omega (arith, idle))
 
 -- where no lane applies a bump, none applies one of a class
-pub none_applies : (s : State) (k : ℕ) (xs : List Worker) → how_many is_applying xs ≡ 0 → list_any (λ w. applies_in s k w.lane) (seen xs) ≡ false
+pub none_applies : (s : State) (k : ℕ) (xs : List Worker) → how_many is_applying xs ≡ 0 → list_any (λ w. applies_in s k w.lane) (worker_views xs) ≡ false
 none_applies s k [] none = refl
-none_applies s k (x ∷ xs) none = or_from (applies_in s k x.lane) (list_any (λ w. applies_in s k w.lane) (seen xs)) (by x.lane (omega (arith, none))) (none_applies s k xs (omega (arith, none)))
+none_applies s k (x ∷ xs) none = or_from (applies_in s k x.lane) (list_any (λ w. applies_in s k w.lane) (worker_views xs)) (by x.lane (omega (arith, none))) (none_applies s k xs (omega (arith, none)))
   where
     by : (y : Lane) → bit (is_some (applied_life y)) ≡ 0 → applies_in s k y ≡ false
     by lane.Empty rests = refl
@@ -98,19 +98,19 @@ none_applies s k (x ∷ xs) none = or_from (applies_in s k x.lane) (list_any (λ
     by (lane.Moved b) rests = absurd (omega (arith, rests))
 
 -- of workers that have done nothing, none passes a test that a new one fails
-none_new : (test : Worker → Bool) → ((x : Worker) → worker_view x ≡ new_worker → test x ≡ false) → (xs : List Worker) (n : ℕ) → seen xs ≡ replicate n new_worker → (how_many test xs ≡ 0) × (length xs ≡ n)
+none_new : (test : Worker → Bool) → ((x : Worker) → worker_view x ≡ new_worker → test x ≡ false) → (xs : List Worker) (n : ℕ) → worker_views xs ≡ replicate n new_worker → (how_many test xs ≡ 0) × (length xs ≡ n)
 none_new test fails [] zero new = (refl, refl)
 none_new test fails [] (suc n) new = absurd (let u : ⊥ = cc in u)
 none_new test fails (x ∷ xs) zero new = absurd (let u : ⊥ = cc in u)
 none_new test fails (x ∷ xs) (suc n) new =
     let first : worker_view x ≡ new_worker = cc in
-    let rest : seen xs ≡ replicate n new_worker = cc in
+    let rest : worker_views xs ≡ replicate n new_worker = cc in
     let others = none_new test fails xs n rest in
     (omega (arith, ap bit (fails x first), others.0), omega (arith, others.1))
 
 -- so none of them is under way
-pub new_counted : (xs : List Worker) (n : ℕ) → n < 2 ^ 32 → seen xs ≡ replicate n new_worker → AreCounted 0 0 xs
+pub new_counted : (xs : List Worker) (n : ℕ) → n < 2 ^ 32 → worker_views xs ≡ replicate n new_worker → AreCounted 0 0 xs
 new_counted xs n few new =
-    let hands = none_new is_busy (λ x e. ap (λ v. not (is_idle v.hand)) e) xs n new in
+    let hands = none_new is_not_idle (λ x e. ap (λ v. not (is_idle v.hand)) e) xs n new in
     let lanes = none_new is_applying (λ x e. ap (λ v. is_some (applied_life v.lane)) e) xs n new in
-    record { busy = sym hands.0; applying = sym lanes.0; few = omega (arith, few, hands.1) }
+    record { not_idle = sym hands.0; applying = sym lanes.0; few = omega (arith, few, hands.1) }

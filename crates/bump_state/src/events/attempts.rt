@@ -1,6 +1,6 @@
 //! Events of an attempted bump, from its reference to the worker's ring, or to its drop.
 ghost use Rattle.std.specs.Prelude.{◌≡◌, ◌<◌, IsSome, IfSome, length, IfOk, IfErr, OnOk, OnErr};
-ghost use Rattle.bump_state.specs.State.{worker};
+ghost use Rattle.bump_state.specs.State.{worker_at};
 ghost use Rattle.bump_rules.specs.Hands.{tried_life, life_in_hand, cleared_life};
 ghost use Rattle.bump_state.specs.Events.{IsEnabledBy, is_enabled, after, reply_of};
 ghost use Rattle.bump_state.specs.Views.{state_of};
@@ -15,7 +15,7 @@ impl Parts {
     /// The life of the bump that a worker tries to take a reference for, if it does.
     fn tried_by(&self, w: u32) -> Option<ItemId>
         requires { IsLawful (state_of self.now) }
-        ensures life { result ≡ tried_life (worker (state_of self.now) w).hand }
+        ensures life { result ≡ tried_life (worker_at (state_of self.now) w).hand }
         ensures worker { IsSome result → w < length (state_of self.now).workers }
         ensures chunk { IfSome result (λ l. l.chunk < length (state_of self.now).chunks) }
     {
@@ -28,7 +28,7 @@ impl Parts {
     /// The life of the bump in a worker's hand, if there is one.
     fn in_hand_by(&self, w: u32) -> Option<ItemId>
         requires { IsLawful (state_of self.now) }
-        ensures life { result ≡ life_in_hand (worker (state_of self.now) w).hand }
+        ensures life { result ≡ life_in_hand (worker_at (state_of self.now) w).hand }
         ensures worker { IsSome result → w < length (state_of self.now).workers }
         ensures chunk { IfSome result (λ l. l.chunk < length (state_of self.now).chunks) }
     {
@@ -41,7 +41,7 @@ impl Parts {
     /// The life whose ACTIVE a worker is to clear, if there is one.
     fn cleared_by(&self, w: u32) -> Option<ItemId>
         requires { IsLawful (state_of self.now) }
-        ensures life { result ≡ cleared_life (worker (state_of self.now) w).hand }
+        ensures life { result ≡ cleared_life (worker_at (state_of self.now) w).hand }
         ensures worker { IsSome result → w < length (state_of self.now).workers }
         ensures chunk { IfSome result (λ l. l.chunk < length (state_of self.now).chunks) }
     {

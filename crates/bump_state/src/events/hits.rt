@@ -1,6 +1,6 @@
 //! Events of hits: the marks that a hit leaves, and its time.
 ghost use Rattle.std.specs.Prelude.{◌≡◌, true, IfOk, IfErr, OnOk, OnErr};
-ghost use Rattle.bump_state.specs.State.{head};
+ghost use Rattle.bump_state.specs.State.{head_at};
 ghost use Rattle.bump_state.specs.Events.{IsEnabledBy, may_hit, is_enabled, after, reply_of};
 ghost use Rattle.bump_state.specs.Views.{state_of};
 ghost use Rattle.bump_rules.specs.declared.events.Event.TheVariants as event;
@@ -41,7 +41,7 @@ impl Parts {
         ensures state { OnOk result (state_of self.new ≡ after (state_of self.old) (event.Fetch worker life)) }
         ensures reply { IfOk result (λ r. r ≡ reply_of (state_of self.old) (event.Fetch worker life)) }
         ensures unchanged { OnErr result (state_of self.new ≡ state_of self.old) }
-        ensures memory { (head (state_of self.old) life.chunk).fetched ≡ true → IfErr result (λ r. r ≡ NotEnabled) }
+        ensures memory { (head_at (state_of self.old) life.chunk).fetched ≡ true → IfErr result (λ r. r ≡ NotEnabled) }
     {
         if !self.may_hit(worker, life) {
             return Err(Refused::NotEnabled);

@@ -1,6 +1,6 @@
 //! Events of a lane: the bumps of its worker's ring are taken and applied, in order.
 ghost use Rattle.std.specs.Prelude.{◌≡◌, ◌<◌, IsSome, IfSome, length, true, IfOk, IfErr, OnOk, OnErr};
-ghost use Rattle.bump_state.specs.State.{worker, head};
+ghost use Rattle.bump_state.specs.State.{worker_at, head_at};
 ghost use Rattle.bump_rules.specs.Lanes.{carried, tried, applied_now, cleared_active};
 ghost use Rattle.bump_state.specs.Events.{IsEnabledBy, is_enabled, after, reply_of};
 ghost use Rattle.bump_rules.specs.declared.places.Segment.TheVariants.{Cold};
@@ -17,7 +17,7 @@ impl Parts {
     /// The bump that a lane took and has not looked at yet, if there is one.
     fn carried_by(&self, w: u32) -> Option<Bump>
         requires { IsLawful (state_of self.now) }
-        ensures bump { result ≡ carried (worker (state_of self.now) w).lane }
+        ensures bump { result ≡ carried (worker_at (state_of self.now) w).lane }
         ensures worker { IsSome result → w < length (state_of self.now).workers }
         ensures chunk { IfSome result (λ b. b.life.chunk < length (state_of self.now).chunks) }
     {
@@ -30,7 +30,7 @@ impl Parts {
     /// The bump that a lane looked at, and whose ACTIVE it has not cleared yet, if there is one.
     fn looked_at_by(&self, w: u32) -> Option<Bump>
         requires { IsLawful (state_of self.now) }
-        ensures bump { result ≡ tried (worker (state_of self.now) w).lane }
+        ensures bump { result ≡ tried (worker_at (state_of self.now) w).lane }
         ensures worker { IsSome result → w < length (state_of self.now).workers }
         ensures chunk { IfSome result (λ b. b.life.chunk < length (state_of self.now).chunks) }
     {
@@ -43,7 +43,7 @@ impl Parts {
     /// The bump that a lane applies, if it does.
     fn applied_by(&self, w: u32) -> Option<Bump>
         requires { IsLawful (state_of self.now) }
-        ensures bump { result ≡ applied_now (worker (state_of self.now) w).lane }
+        ensures bump { result ≡ applied_now (worker_at (state_of self.now) w).lane }
         ensures worker { IsSome result → w < length (state_of self.now).workers }
         ensures chunk { IfSome result (λ b. b.life.chunk < length (state_of self.now).chunks) }
     {
@@ -56,10 +56,10 @@ impl Parts {
     /// The bump whose item a lane is to move, if it is.
     fn moving_by(&self, w: u32) -> Option<Bump>
         requires { IsLawful (state_of self.now) }
-        ensures bump { result ≡ cleared_active (worker (state_of self.now) w).lane }
+        ensures bump { result ≡ cleared_active (worker_at (state_of self.now) w).lane }
         ensures worker { IsSome result → w < length (state_of self.now).workers }
         ensures chunk { IfSome result (λ b. (b.life.chunk < length (state_of self.now).chunks)
-            × ((head (state_of self.now) b.life.chunk).linked ≡ true) × ((head (state_of self.now) b.life.chunk).segment ≡ Cold)) }
+            × ((head_at (state_of self.now) b.life.chunk).linked ≡ true) × ((head_at (state_of self.now) b.life.chunk).segment ≡ Cold)) }
     {
         if !self.has_worker(w) {
             return None;

@@ -2,7 +2,7 @@
 ghost use Rattle.std.specs.Prelude.{◌≡◌, ◌<◌, ◌+◌, ◌≤◌, ◌^◌, [], ◌∷◌, ◌++◌, OnOk, OnErr, length, Some};
 ghost use Rattle.bump_rules.specs.Lists.{IsListed};
 ghost use Rattle.bump_rules.specs.History.{subject, AreListed};
-ghost use Rattle.bump_state.specs.State.{chunk, class, worker, with_chunk, with_head, with_worker, with_change, with_changes};
+ghost use Rattle.bump_state.specs.State.{chunk_at, class_at, worker_at, with_chunk, with_head, with_worker, with_change, with_changes};
 ghost use Rattle.bump_state.specs.Events.{with_lane, next_bump, take_bump, push, close};
 ghost use Rattle.bump_state.specs.Sweeps.{sweep_of};
 ghost use Rattle.bump_state.specs.Views.{state_of};
@@ -38,7 +38,7 @@ impl Parts {
     /// Writes how far a worker is with an attempt, and its counts. The worker's number is in range.
     pub fn set_hand(&mut self, w: u32, hand: Hand, accounts: Accounts)
         requires { w < length (state_of self.old).workers }
-        ensures { state_of self.new ≡ with_worker (state_of self.old) w (record (worker (state_of self.old) w) { hand = hand; accounts = accounts }) }
+        ensures { state_of self.new ≡ with_worker (state_of self.old) w (record (worker_at (state_of self.old) w) { hand = hand; accounts = accounts }) }
     {
         self.workers.set_hand(w, hand, accounts);
     }
@@ -62,7 +62,7 @@ impl Parts {
     /// Names an item among those that a worker was the first to hit. Want of memory is refused and changes nothing.
     pub fn push_first_hit(&mut self, w: u32, life: ItemId) -> Result<(), AllocError>
         requires { w < length (state_of self.old).workers }
-        ensures ok { OnOk result (state_of self.new ≡ with_worker (state_of self.old) w (record (worker (state_of self.old) w) { first_hits = (worker (state_of self.old) w).first_hits ++ life ∷ [] })) }
+        ensures ok { OnOk result (state_of self.new ≡ with_worker (state_of self.old) w (record (worker_at (state_of self.old) w) { first_hits = (worker_at (state_of self.old) w).first_hits ++ life ∷ [] })) }
         ensures err { OnErr result (state_of self.new ≡ state_of self.old) }
     {
         self.workers.push_first_hit(w, life)
@@ -71,7 +71,7 @@ impl Parts {
     /// A worker's ring takes a bump.
     pub(crate) fn push_bump(&mut self, w: u32, life: ItemId) -> Result<(), AllocError>
         requires worker { w < length (state_of self.old).workers }
-        requires fits { (worker (state_of self.old) w).accounts.accepted + 1 < 2 ^ 64 }
+        requires fits { (worker_at (state_of self.old) w).accounts.accepted + 1 < 2 ^ 64 }
         ensures ok { OnOk result (state_of self.new ≡ push (state_of self.old) w life) }
         ensures err { OnErr result (state_of self.new ≡ state_of self.old) }
     {
@@ -90,9 +90,9 @@ impl Parts {
     /// A lane takes the next bump from its ring, where one waits. Answers its number.
     pub(crate) fn take_next(&mut self, w: u32, life: ItemId) -> u64
         requires worker { w < length (state_of self.old).workers }
-        requires next { next_bump (worker (state_of self.old) w) ≡ Some life }
+        requires next { next_bump (worker_at (state_of self.old) w) ≡ Some life }
         ensures after { state_of self.new ≡ take_bump (state_of self.old) w life }
-        ensures number { result ≡ length (worker (state_of self.old) w).received }
+        ensures number { result ≡ length (worker_at (state_of self.old) w).received }
     {
         self.workers.take_next(w, life)
     }
@@ -100,9 +100,9 @@ impl Parts {
     /// A lane is done with its bump.
     pub(crate) fn push_applied(&mut self, w: u32, applied: AppliedBump) -> Result<(), AllocError>
         requires { w < length (state_of self.old).workers }
-        ensures ok { OnOk result (state_of self.new ≡ with_worker (state_of self.old) w (record (worker (state_of self.old) w) {
+        ensures ok { OnOk result (state_of self.new ≡ with_worker (state_of self.old) w (record (worker_at (state_of self.old) w) {
           lane = lane.Empty;
-          applied = (worker (state_of self.old) w).applied ++ applied ∷ [];
+          applied = (worker_at (state_of self.old) w).applied ++ applied ∷ [];
         })) }
         ensures err { OnErr result (state_of self.new ≡ state_of self.old) }
     {
@@ -113,7 +113,7 @@ impl Parts {
     /// the history is refused and changes nothing.
     pub fn change_class(&mut self, k: usize, entry: Change) -> Result<(), AllocError>
         requires class { k < length (state_of self.old).classes }
-        requires listed { IsListed (subject entry).chunk (class (state_of self.old) k).lists }
+        requires listed { IsListed (subject entry).chunk (class_at (state_of self.old) k).lists }
         ensures ok { OnOk result (state_of self.new ≡ with_change (state_of self.old) k entry) }
         ensures err { OnErr result (state_of self.new ≡ state_of self.old) }
         ensures workers { self.new.workers ≡ self.old.workers }
@@ -127,7 +127,7 @@ impl Parts {
     /// memory for the history is refused and changes nothing.
     pub fn change_class_by(&mut self, k: usize, entries: &[Change]) -> Result<(), AllocError>
         requires class { k < length (state_of self.old).classes }
-        requires listed { AreListed (class (state_of self.old) k).lists entries.now }
+        requires listed { AreListed (class_at (state_of self.old) k).lists entries.now }
         ensures ok { OnOk result (state_of self.new ≡ with_changes (state_of self.old) k entries.now) }
         ensures err { OnErr result (state_of self.new ≡ state_of self.old) }
     {
@@ -139,9 +139,9 @@ impl Parts {
     /// A worker's ring takes a bump, and its counts are written; its hand stays. Want of memory is refused and changes nothing.
     pub fn queue(&mut self, w: u32, life: ItemId, accounts: Accounts) -> Result<(), AllocError>
         requires { w < length (state_of self.old).workers }
-        ensures ok { OnOk result (state_of self.new ≡ with_worker (state_of self.old) w (record (worker (state_of self.old) w) {
+        ensures ok { OnOk result (state_of self.new ≡ with_worker (state_of self.old) w (record (worker_at (state_of self.old) w) {
           accounts = accounts;
-          sent = (worker (state_of self.old) w).sent ++ life ∷ [];
+          sent = (worker_at (state_of self.old) w).sent ++ life ∷ [];
         })) }
         ensures err { OnErr result (state_of self.new ≡ state_of self.old) }
     {
@@ -162,11 +162,11 @@ impl Parts {
     pub fn finish_taken(&mut self, w: u32, bump: Bump, outcome: Outcome)
         requires worker { w < length (state_of self.old).workers }
         requires room { HasRoom self.old.workers w }
-        requires next { next_bump (worker (state_of self.old) w) ≡ Some bump.life }
-        ensures { state_of self.new ≡ with_worker (state_of self.old) w (record (worker (state_of self.old) w) {
-          received = (worker (state_of self.old) w).received ++ bump.life ∷ [];
+        requires next { next_bump (worker_at (state_of self.old) w) ≡ Some bump.life }
+        ensures { state_of self.new ≡ with_worker (state_of self.old) w (record (worker_at (state_of self.old) w) {
+          received = (worker_at (state_of self.old) w).received ++ bump.life ∷ [];
           lane = lane.Empty;
-          applied = (worker (state_of self.old) w).applied ++ applied_bump bump outcome ∷ [];
+          applied = (worker_at (state_of self.old) w).applied ++ applied_bump bump outcome ∷ [];
         }) }
     {
         let applied = AppliedBump {
@@ -181,9 +181,9 @@ impl Parts {
     pub fn finish_aboard(&mut self, w: u32, bump: Bump, outcome: Outcome)
         requires worker { w < length (state_of self.old).workers }
         requires room { HasRoom self.old.workers w }
-        ensures { state_of self.new ≡ with_worker (state_of self.old) w (record (worker (state_of self.old) w) {
+        ensures { state_of self.new ≡ with_worker (state_of self.old) w (record (worker_at (state_of self.old) w) {
           lane = lane.Empty;
-          applied = (worker (state_of self.old) w).applied ++ applied_bump bump outcome ∷ [];
+          applied = (worker_at (state_of self.old) w).applied ++ applied_bump bump outcome ∷ [];
         }) }
     {
         let applied = AppliedBump {

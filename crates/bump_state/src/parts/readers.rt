@@ -1,6 +1,6 @@
 //! How the parts of a World are read.
 ghost use Rattle.std.specs.Prelude.{◌≡◌, ◌<◌, nat_lt, IfSome, length};
-ghost use Rattle.bump_state.specs.State.{chunk, head, worker, is_chunk, is_class, is_worker, is_current, is_linked, is_held, workers_on, has_free_hold, class_of, is_under_application, is_open, class};
+ghost use Rattle.bump_state.specs.State.{chunk_at, head_at, worker_at, is_chunk, is_class, is_worker, is_current, is_linked, is_held, workers_on, has_free_hold, class_of, is_under_application, is_open, class_at};
 ghost use Rattle.bump_state.specs.Events.{next_bump, waiting, next_chunk};
 ghost use Rattle.bump_rules.specs.Lists.{list_at, IsListed};
 ghost use Rattle.bump_state.specs.Worlds.{IsLawful};
@@ -37,7 +37,7 @@ impl Parts {
     /// A chunk. Its number is in range.
     pub fn chunk(&self, c: u32) -> Chunk
         requires { c < length (state_of self.now).chunks }
-        ensures { result ≡ chunk (state_of self.now) c }
+        ensures { result ≡ chunk_at (state_of self.now) c }
     {
         self.chunks[c as usize]
     }
@@ -45,7 +45,7 @@ impl Parts {
     /// A chunk's head. The chunk's number is in range.
     pub fn head(&self, c: u32) -> Head
         requires { c < length (state_of self.now).chunks }
-        ensures { result ≡ head (state_of self.now) c }
+        ensures { result ≡ head_at (state_of self.now) c }
     {
         self.chunk(c).head
     }
@@ -53,7 +53,7 @@ impl Parts {
     /// How far a worker is with an attempt. The worker's number is in range.
     pub fn hand(&self, w: u32) -> Hand
         requires { w < length (state_of self.now).workers }
-        ensures { result ≡ (worker (state_of self.now) w).hand }
+        ensures { result ≡ (worker_at (state_of self.now) w).hand }
     {
         self.workers.at(w).hand
     }
@@ -91,7 +91,7 @@ impl Parts {
         ensures { result ≡ workers_on (state_of self.now) life }
     {
         // mostly none, and then there is no need to look at each
-        if self.workers.busy() == 0 {
+        if self.workers.not_idle() == 0 {
             return 0;
         }
         let mut count = 0;
@@ -143,7 +143,7 @@ impl Parts {
     /// A worker's counts. The worker's number is in range.
     pub fn accounts(&self, w: u32) -> Accounts
         requires { w < length (state_of self.now).workers }
-        ensures { result ≡ (worker (state_of self.now) w).accounts }
+        ensures { result ≡ (worker_at (state_of self.now) w).accounts }
     {
         self.workers.at(w).accounts
     }
@@ -151,7 +151,7 @@ impl Parts {
     /// How far a lane is. The worker's number is in range.
     pub fn lane(&self, w: u32) -> Lane
         requires { w < length (state_of self.now).workers }
-        ensures { result ≡ (worker (state_of self.now) w).lane }
+        ensures { result ≡ (worker_at (state_of self.now) w).lane }
     {
         self.workers.at(w).lane
     }
@@ -170,7 +170,7 @@ impl Parts {
         requires lawful { IsLawful (state_of self.now) }
         ensures front { result ≡ next_chunk (state_of self.now) k }
         ensures free { IfSome result (λ c. (c < length (state_of self.now).chunks) × (class_of (state_of self.now) c ≡ k)
-            × ((head (state_of self.now) c).generation < 4294967295)) }
+            × ((head_at (state_of self.now) c).generation < 4294967295)) }
     {
         self.unused_front(k)
     }
@@ -178,7 +178,7 @@ impl Parts {
     /// How many bumps wait in a worker's ring. The worker's number is in range.
     pub fn waiting(&self, w: u32) -> usize
         requires { w < length (state_of self.now).workers }
-        ensures { result ≡ waiting (worker (state_of self.now) w) }
+        ensures { result ≡ waiting (worker_at (state_of self.now) w) }
     {
         let worker = self.workers.at(w);
         worker.sent.len() - worker.received
@@ -187,7 +187,7 @@ impl Parts {
     /// The next bump that a worker's lane takes, if one waits. The worker's number is in range.
     pub fn next_bump(&self, w: u32) -> Option<ItemId>
         requires { w < length (state_of self.now).workers }
-        ensures { result ≡ next_bump (worker (state_of self.now) w) }
+        ensures { result ≡ next_bump (worker_at (state_of self.now) w) }
     {
         let worker = self.workers.at(w);
         worker.sent.get(worker.received).copied()
@@ -196,7 +196,7 @@ impl Parts {
     /// The chunks of a list of a class, front first. The class's number is in range.
     pub fn list(&self, k: u32, place: Place) -> ListedChunks<'_>
         requires { k < length (state_of self.now).classes }
-        ensures { result ≡ list_at (class (state_of self.now) k).lists place }
+        ensures { result ≡ list_at (class_at (state_of self.now) k).lists place }
     {
         self.classes[k as usize].lists.chunks(place)
     }
@@ -204,7 +204,7 @@ impl Parts {
     /// The last chunk of a list of a class, or `None` where it is empty. The class's number is in range.
     pub fn list_back(&self, k: u32, place: Place) -> Option<u32>
         requires { k < length (state_of self.now).classes }
-        ensures { result ≡ last_of (list_at (class (state_of self.now) k).lists place) }
+        ensures { result ≡ last_of (list_at (class_at (state_of self.now) k).lists place) }
     {
         self.classes[k as usize].lists.back(place)
     }
@@ -212,8 +212,8 @@ impl Parts {
     /// Whether a chunk stands in a list of a class. The chunk is one of the class.
     pub(crate) fn list_has(&self, k: usize, c: u32, place: Place) -> bool
         requires class { k < length (state_of self.now).classes }
-        requires listed { IsListed c (class (state_of self.now) k).lists }
-        ensures { result ≡ nat_lt 0 (times c (list_at (class (state_of self.now) k).lists place)) }
+        requires listed { IsListed c (class_at (state_of self.now) k).lists }
+        ensures { result ≡ nat_lt 0 (times c (list_at (class_at (state_of self.now) k).lists place)) }
     {
         self.classes[k].lists.has(c, place)
     }
@@ -221,7 +221,7 @@ impl Parts {
     /// The bumps that a worker's ring accepted, in order. The worker's number is in range.
     pub fn sent_bumps(&self, w: u32) -> &[ItemId]
         requires { w < length (state_of self.now).workers }
-        ensures { result.now ≡ (worker (state_of self.now) w).sent }
+        ensures { result.now ≡ (worker_at (state_of self.now) w).sent }
     {
         self.workers.at(w).sent.as_slice()
     }
@@ -229,7 +229,7 @@ impl Parts {
     /// The bumps that a worker's lane took, in order. The worker's number is in range.
     pub fn received_bumps(&self, w: u32) -> &[ItemId]
         requires { w < length (state_of self.now).workers }
-        ensures { result.now ≡ (worker (state_of self.now) w).received }
+        ensures { result.now ≡ (worker_at (state_of self.now) w).received }
     {
         let worker = self.workers.at(w);
         let sent = worker.sent.as_slice();
@@ -239,7 +239,7 @@ impl Parts {
     /// The bumps that a worker's lane applied, in order. The worker's number is in range.
     pub fn applied_bumps(&self, w: u32) -> &[AppliedBump]
         requires { w < length (state_of self.now).workers }
-        ensures { result.now ≡ (worker (state_of self.now) w).applied }
+        ensures { result.now ≡ (worker_at (state_of self.now) w).applied }
     {
         self.workers.at(w).applied.as_slice()
     }

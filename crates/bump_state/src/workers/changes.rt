@@ -3,7 +3,7 @@ ghost use Rattle.std.specs.Prelude.{◌≡◌, ◌<◌, ◌+◌, ◌≤◌, ◌^
 ghost use Rattle.bump_rules.specs.Lanes.{bump_of};
 ghost use Rattle.bump_state.specs.Events.{next_bump};
 ghost use Rattle.bump_rules.specs.Lawful.{bit};
-ghost use Rattle.bump_state.specs.Workers.{seen, seen_at, HasRoom};
+ghost use Rattle.bump_state.specs.Workers.{worker_views, worker_view_at, HasRoom};
 ghost use Rattle.bump_rules.specs.declared.lanes.Lane.TheVariants as lane;
 
 use crate::workers::Workers;
@@ -23,19 +23,19 @@ impl Workers {
     /// Writes how far a worker is with an attempt, and its counts.
     pub(crate) fn set_hand(&mut self, w: u32, hand: Hand, accounts: Accounts)
         requires { w < length self.old }
-        ensures { seen self.new ≡ slice_set (seen self.old) w (record (seen_at self.old w) { hand = hand; accounts = accounts }) }
+        ensures { worker_views self.new ≡ slice_set (worker_views self.old) w (record (worker_view_at self.old w) { hand = hand; accounts = accounts }) }
     {
         let worker = &mut self.all[w as usize];
         let was = worker.hand;
         worker.hand = hand;
         worker.accounts = accounts;
-        self.busy = recounted(self.busy, !was.is_idle(), !hand.is_idle());
+        self.not_idle = recounted(self.not_idle, !was.is_idle(), !hand.is_idle());
     }
 
     /// A worker's ring closes.
     pub(crate) fn close(&mut self, w: u32)
         requires { w < length self.old }
-        ensures { seen self.new ≡ slice_set (seen self.old) w (record (seen_at self.old w) { is_open = false }) }
+        ensures { worker_views self.new ≡ slice_set (worker_views self.old) w (record (worker_view_at self.old w) { is_open = false }) }
     {
         let worker = &mut self.all[w as usize];
         worker.is_open = false;
@@ -44,7 +44,7 @@ impl Workers {
     /// Writes how far a lane is.
     pub(crate) fn set_lane(&mut self, w: u32, lane: Lane)
         requires { w < length self.old }
-        ensures { seen self.new ≡ slice_set (seen self.old) w (record (seen_at self.old w) { lane = lane }) }
+        ensures { worker_views self.new ≡ slice_set (worker_views self.old) w (record (worker_view_at self.old w) { lane = lane }) }
     {
         let worker = &mut self.all[w as usize];
         let was = worker.lane;
@@ -55,8 +55,8 @@ impl Workers {
     /// Names an item among those that a worker was the first to hit.
     pub(crate) fn push_first_hit(&mut self, w: u32, life: ItemId) -> Result<(), AllocError>
         requires { w < length self.old }
-        ensures ok { OnOk result (seen self.new ≡ slice_set (seen self.old) w (record (seen_at self.old w) { first_hits = (seen_at self.old w).first_hits ++ life ∷ [] })) }
-        ensures err { OnErr result (seen self.new ≡ seen self.old) }
+        ensures ok { OnOk result (worker_views self.new ≡ slice_set (worker_views self.old) w (record (worker_view_at self.old w) { first_hits = (worker_view_at self.old w).first_hits ++ life ∷ [] })) }
+        ensures err { OnErr result (worker_views self.new ≡ worker_views self.old) }
     {
         let worker = &mut self.all[w as usize];
         worker.first_hits.push(life)?;
@@ -72,31 +72,31 @@ impl Workers {
         accounts: Accounts,
     ) -> Result<(), AllocError>
         requires { w < length self.old }
-        ensures ok { OnOk result (seen self.new ≡ slice_set (seen self.old) w (record (seen_at self.old w) {
+        ensures ok { OnOk result (worker_views self.new ≡ slice_set (worker_views self.old) w (record (worker_view_at self.old w) {
           hand = hand;
           accounts = accounts;
-          sent = (seen_at self.old w).sent ++ life ∷ [];
+          sent = (worker_view_at self.old w).sent ++ life ∷ [];
         })) }
-        ensures err { OnErr result (seen self.new ≡ seen self.old) }
+        ensures err { OnErr result (worker_views self.new ≡ worker_views self.old) }
     {
         let worker = &mut self.all[w as usize];
-        let was_busy = !worker.hand.is_idle();
+        let was_not_idle = !worker.hand.is_idle();
         worker.sent.push(life)?;
         worker.hand = hand;
         worker.accounts = accounts;
-        self.busy = recounted(self.busy, was_busy, !hand.is_idle());
+        self.not_idle = recounted(self.not_idle, was_not_idle, !hand.is_idle());
         Ok(())
     }
 
     /// A lane takes the next bump from its ring, where one waits. Answers its number.
     pub(crate) fn take_next(&mut self, w: u32, life: ItemId) -> u64
         requires worker { w < length self.old }
-        requires next { next_bump (seen_at self.old w) ≡ Some life }
-        ensures after { seen self.new ≡ slice_set (seen self.old) w (record (seen_at self.old w) {
-          received = (seen_at self.old w).received ++ life ∷ [];
-          lane = lane.Carrying (bump_of (length (seen_at self.old w).received) life);
+        requires next { next_bump (worker_view_at self.old w) ≡ Some life }
+        ensures after { worker_views self.new ≡ slice_set (worker_views self.old) w (record (worker_view_at self.old w) {
+          received = (worker_view_at self.old w).received ++ life ∷ [];
+          lane = lane.Carrying (bump_of (length (worker_view_at self.old w).received) life);
         }) }
-        ensures number { result ≡ length (seen_at self.old w).received }
+        ensures number { result ≡ length (worker_view_at self.old w).received }
     {
         let worker = &mut self.all[w as usize];
         let was = worker.lane;
@@ -110,11 +110,11 @@ impl Workers {
     /// A lane is done with its bump.
     pub(crate) fn push_applied(&mut self, w: u32, applied: AppliedBump) -> Result<(), AllocError>
         requires { w < length self.old }
-        ensures ok { OnOk result (seen self.new ≡ slice_set (seen self.old) w (record (seen_at self.old w) {
+        ensures ok { OnOk result (worker_views self.new ≡ slice_set (worker_views self.old) w (record (worker_view_at self.old w) {
           lane = lane.Empty;
-          applied = (seen_at self.old w).applied ++ applied ∷ [];
+          applied = (worker_view_at self.old w).applied ++ applied ∷ [];
         })) }
-        ensures err { OnErr result (seen self.new ≡ seen self.old) }
+        ensures err { OnErr result (worker_views self.new ≡ worker_views self.old) }
     {
         let worker = &mut self.all[w as usize];
         let was = worker.lane;
@@ -127,7 +127,7 @@ impl Workers {
     /// Makes room for one more applied bump.
     pub(crate) fn reserve_applied(&mut self, w: u32) -> Result<(), AllocError>
         requires { w < length self.old }
-        ensures workers { seen self.new ≡ seen self.old }
+        ensures workers { worker_views self.new ≡ worker_views self.old }
         ensures room { OnOk result (HasRoom self.new w) }
     {
         let worker = &mut self.all[w as usize];
@@ -139,11 +139,11 @@ impl Workers {
     pub(crate) fn finish_taken(&mut self, w: u32, applied: AppliedBump)
         requires worker { w < length self.old }
         requires room { HasRoom self.old w }
-        requires next { next_bump (seen_at self.old w) ≡ Some applied.life }
-        ensures { seen self.new ≡ slice_set (seen self.old) w (record (seen_at self.old w) {
-          received = (seen_at self.old w).received ++ applied.life ∷ [];
+        requires next { next_bump (worker_view_at self.old w) ≡ Some applied.life }
+        ensures { worker_views self.new ≡ slice_set (worker_views self.old) w (record (worker_view_at self.old w) {
+          received = (worker_view_at self.old w).received ++ applied.life ∷ [];
           lane = lane.Empty;
-          applied = (seen_at self.old w).applied ++ applied ∷ [];
+          applied = (worker_view_at self.old w).applied ++ applied ∷ [];
         }) }
     {
         let worker = &mut self.all[w as usize];
@@ -158,9 +158,9 @@ impl Workers {
     pub(crate) fn finish_aboard(&mut self, w: u32, applied: AppliedBump)
         requires worker { w < length self.old }
         requires room { HasRoom self.old w }
-        ensures { seen self.new ≡ slice_set (seen self.old) w (record (seen_at self.old w) {
+        ensures { worker_views self.new ≡ slice_set (worker_views self.old) w (record (worker_view_at self.old w) {
           lane = lane.Empty;
-          applied = (seen_at self.old w).applied ++ applied ∷ [];
+          applied = (worker_view_at self.old w).applied ++ applied ∷ [];
         }) }
     {
         let worker = &mut self.all[w as usize];

@@ -1,5 +1,5 @@
 //! The step by which a bump boards its lane.
-ghost use Rattle.std.specs.Prelude.{ℕ, ◌≡◌, ◌+◌, ◌*◌, ◌<◌, ◌++◌, [], ◌∷◌};
+ghost use Rattle.std.specs.Prelude.{◌≡◌, ◌<◌};
 ghost use Rattle.bump_rules.specs.declared.lanes.Lane.TheVariants.{Empty as IsEmpty};
 ghost use Rattle.bump_steps.specs.declared.views.LanePart.{LanePart as TheLanePart};
 ghost use Rattle.bump_steps.specs.declared.views.Ride.{Ride as TheRide};

@@ -1,5 +1,5 @@
 //! How seats are cut in two, and joined.
-ghost use Rattle.std.specs.Prelude.{ℕ, ◌≡◌, ◌+◌, ◌*◌, ◌<◌, ◌++◌, [], ◌∷◌};
+ghost use Rattle.std.specs.Prelude.{◌≡◌, ◌<◌, []};
 ghost use Rattle.bump_steps.specs.Words.{words_id};
 ghost use Rattle.bump_steps.specs.Rule.{blank};
 ghost use Rattle.bump_steps.specs.Cuts.{joined, without_lanes, lanes_only, without_holds, holds_only, without_class, class_only, without_worker, worker_only, without_lane, lane_only};
@@ -57,7 +57,8 @@ impl Split<View> for FirstLane {
 }
 
 impl Words {
-    /// Joins another seat to this one, which has the parts of both from then on. The other one may not have taken a slot.
+    /// Joins another seat to this one, which has the parts of both from then on. The other one may not have taken a
+    /// slot.
     pub fn join(&self, seat: &mut Seat, other: Seat)
         requires { (seat.old.table_id ≡ words_id self.now) × (other.table_id ≡ words_id self.now) × (other.me.1 ≡ []) × (0 < (words_id self.now).words) }
         ensures same { (seat.new.table_id ≡ seat.old.table_id) × (seat.new.id ≡ seat.old.id) }

@@ -1,9 +1,9 @@
 //! The steps of a worker on the marks of a chunk, and on its time.
-ghost use Rattle.std.specs.Prelude.{ℕ, ◌≡◌, ◌+◌, ◌*◌, ◌<◌};
+ghost use Rattle.std.specs.Prelude.{◌≡◌};
 ghost use Rattle.bump_rules.specs.Lives.{life};
-ghost use Rattle.bump_steps.specs.Words.{words_id};
+ghost use Rattle.bump_steps.specs.Words.{HasChunk, words_id};
 ghost use Rattle.bump_steps.specs.Plays.{on_chunk, HasWorker};
-ghost use Rattle.bump_steps.specs.Marks.{fetched, marked, unmarked, timed, on_worker, timed_part, MayMark};
+ghost use Rattle.bump_steps.specs.Marks.{fetch_tells, mark_tells, unmark_tells, store_time_tells, on_worker, worker_after_store_time, MayMark};
 
 use crate::views::{Empty, View};
 use crate::words::{HEAD, Seat, TIME, Words};
@@ -14,34 +14,34 @@ use bump_word::{ACTIVE, FETCHED};
 pub struct Fetch;
 
 impl Play<Empty, View> for Fetch {
-    ghost then = { on_chunk fetched };
+    ghost then = { on_chunk fetch_tells };
 }
 
 pub struct Mark;
 
 impl Play<Empty, View> for Mark {
-    ghost then = { on_chunk marked };
+    ghost then = { on_chunk mark_tells };
 }
 
 pub struct Unmark;
 
 impl Play<Empty, View> for Unmark {
-    ghost then = { on_chunk unmarked };
+    ghost then = { on_chunk unmark_tells };
 }
 
 pub struct StoreTime;
 
 impl Play<Empty, View> for StoreTime {
-    ghost then = { timed };
+    ghost then = { store_time_tells };
 }
 
 impl Words {
     /// A worker sets FETCHED.
     pub fn mark_fetched(&self, seat: &mut Seat, chunk: u32) -> u64
-        requires seat { (seat.old.table_id ≡ words_id self.now) × (3 * chunk + 11 < (words_id self.now).words) }
+        requires seat { (seat.old.table_id ≡ words_id self.now) × HasChunk (words_id self.now) chunk }
         requires worker { HasWorker seat.old.me.0 }
         ensures same { (seat.new.table_id ≡ seat.old.table_id) × (seat.new.id ≡ seat.old.id) }
-        ensures told { fetched chunk FETCHED seat.old.me result seat.new.me }
+        ensures told { fetch_tells chunk FETCHED seat.old.me result seat.new.me }
     {
         self.table
             .shared
@@ -50,10 +50,10 @@ impl Words {
 
     /// A worker sets ACTIVE.
     pub fn mark_active(&self, seat: &mut Seat, chunk: u32) -> u64
-        requires seat { (seat.old.table_id ≡ words_id self.now) × (3 * chunk + 11 < (words_id self.now).words) }
+        requires seat { (seat.old.table_id ≡ words_id self.now) × HasChunk (words_id self.now) chunk }
         requires may { MayMark chunk seat.old.me.0 }
         ensures same { (seat.new.table_id ≡ seat.old.table_id) × (seat.new.id ≡ seat.old.id) }
-        ensures told { marked chunk ACTIVE seat.old.me result seat.new.me }
+        ensures told { mark_tells chunk ACTIVE seat.old.me result seat.new.me }
     {
         self.table
             .shared
@@ -62,10 +62,10 @@ impl Words {
 
     /// A worker clears ACTIVE.
     pub fn unmark(&self, seat: &mut Seat, chunk: u32) -> u64
-        requires seat { (seat.old.table_id ≡ words_id self.now) × (3 * chunk + 11 < (words_id self.now).words) }
+        requires seat { (seat.old.table_id ≡ words_id self.now) × HasChunk (words_id self.now) chunk }
         requires worker { HasWorker seat.old.me.0 }
         ensures same { (seat.new.table_id ≡ seat.old.table_id) × (seat.new.id ≡ seat.old.id) }
-        ensures told { unmarked chunk ALL_BUT_ACTIVE seat.old.me result seat.new.me }
+        ensures told { unmark_tells chunk ALL_BUT_ACTIVE seat.old.me result seat.new.me }
     {
         self.table
             .shared
@@ -74,10 +74,10 @@ impl Words {
 
     /// A worker stores the time.
     pub fn set_time(&self, seat: &mut Seat, chunk: u32, now: u64)
-        requires seat { (seat.old.table_id ≡ words_id self.now) × (3 * chunk + 11 < (words_id self.now).words) }
+        requires seat { (seat.old.table_id ≡ words_id self.now) × HasChunk (words_id self.now) chunk }
         requires worker { HasWorker seat.old.me.0 }
         ensures same { (seat.new.table_id ≡ seat.old.table_id) × (seat.new.id ≡ seat.old.id) }
-        ensures told { seat.new.me ≡ (on_worker (timed_part (life chunk 0) now) seat.old.me.0, seat.old.me.1) }
+        ensures told { seat.new.me ≡ (on_worker (worker_after_store_time (life chunk 0) now) seat.old.me.0, seat.old.me.1) }
     {
         self.table
             .shared

@@ -1,29 +1,29 @@
 //! The step by which a hold meets its class.
-ghost use Rattle.std.specs.Prelude.{ℕ, ◌≡◌, ◌+◌, ◌*◌, ◌<◌, ◌++◌, [], ◌∷◌};
-ghost use Rattle.bump_steps.specs.Words.{words_id};
+ghost use Rattle.std.specs.Prelude.{◌≡◌};
+ghost use Rattle.bump_steps.specs.Words.{HasChunk, words_id};
 ghost use Rattle.bump_steps.specs.Plays.{on_chunk, HasClass};
-ghost use Rattle.bump_steps.specs.Meetings.{met};
+ghost use Rattle.bump_steps.specs.Meetings.{load_to_meet_tells};
 
 use crate::views::{Empty, View};
 use crate::words::{LABEL, Seat, Words};
 use atomic_table::Play;
 
-pub struct Meet;
+pub struct LoadToMeet;
 
-impl Play<Empty, View> for Meet {
-    ghost then = { on_chunk met };
+impl Play<Empty, View> for LoadToMeet {
+    ghost then = { on_chunk load_to_meet_tells };
 }
 
 impl Words {
     /// A load of the label word, for `meet`.
     pub fn meet(&self, seat: &mut Seat, chunk: u32) -> u64
-        requires seat { (seat.old.table_id ≡ words_id self.now) × (3 * chunk + 11 < (words_id self.now).words) }
+        requires seat { (seat.old.table_id ≡ words_id self.now) × HasChunk (words_id self.now) chunk }
         requires class { HasClass seat.old.me.0 }
         ensures same { (seat.new.table_id ≡ seat.old.table_id) × (seat.new.id ≡ seat.old.id) }
-        ensures told { met chunk 0 seat.old.me result seat.new.me }
+        ensures told { load_to_meet_tells chunk 0 seat.old.me result seat.new.me }
     {
         self.table
             .shared
-            .load::<Meet>(seat, 3 * chunk as usize + LABEL)
+            .load::<LoadToMeet>(seat, 3 * chunk as usize + LABEL)
     }
 }

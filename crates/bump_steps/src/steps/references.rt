@@ -1,11 +1,11 @@
-//! The steps of a reader on a reference: a load, the exchange that takes it, and the subtraction that gives it back; the load of a
-//! label; and loads that need no seat of the caller's.
-ghost use Rattle.std.specs.Prelude.{ℕ, ◌≡◌, ◌+◌, ◌*◌, ◌<◌, List};
+//! The steps of a reader on a reference: a load, the exchange that takes it, and the subtraction that gives it back;
+//! the load of a label; and loads that need no seat of the caller's.
+ghost use Rattle.std.specs.Prelude.{ℕ, ◌≡◌, List};
 ghost use Rattle.bump_rules.specs.declared.items.Head.{Head as TheHead};
-ghost use Rattle.bump_steps.specs.Words.{words_id, config_of};
+ghost use Rattle.bump_steps.specs.Words.{HasChunk, words_id, config_of};
 ghost use Rattle.bump_steps.specs.Plays.{on_chunk, Found, HasWorker};
-ghost use Rattle.bump_steps.specs.References.{looked, taken, MayTake, HasHold, given_back, label_read, seen, IsSeen};
-ghost use Rattle.bump_steps.specs.Tries.{TookView};
+ghost use Rattle.bump_steps.specs.References.{load_to_take_tells, take_tells, MayTake, HasHold, release_of_hold_tells, label_load_tells, load_without_seat_tells, IsAnyHead};
+ghost use Rattle.bump_steps.specs.Tries.{TakeFound, refusal_of, view_after_attempt};
 
 use crate::decoding::head_of;
 use crate::refusals::{TakeRefusal, refusal};
@@ -17,28 +17,28 @@ use bump_word::Count;
 use bump_word::laws::ONE_REFERENCE;
 use std::marker::{Brand, PhantomData};
 
-pub struct Look;
+pub struct LoadToTake;
 
-impl Play<Empty, View> for Look {
-    ghost then = { on_chunk looked };
+impl Play<Empty, View> for LoadToTake {
+    ghost then = { on_chunk load_to_take_tells };
 }
 
 pub struct Take;
 
 impl Play<Empty, View> for Take {
-    ghost then = { on_chunk taken };
+    ghost then = { on_chunk take_tells };
 }
 
-pub struct GiveBack;
+pub struct Release;
 
-impl Play<Empty, View> for GiveBack {
-    ghost then = { on_chunk given_back };
+impl Play<Empty, View> for Release {
+    ghost then = { on_chunk release_of_hold_tells };
 }
 
-pub struct ReadLabel;
+pub struct LoadLabel;
 
-impl Play<Empty, View> for ReadLabel {
-    ghost then = { on_chunk label_read };
+impl Play<Empty, View> for LoadLabel {
+    ghost then = { on_chunk label_load_tells };
 }
 
 /// Tells a load the limit of references, which it can't know.
@@ -52,34 +52,34 @@ impl Limited for Brand {
     ghost limit = { 0 };
 }
 
-pub struct See<L: Limited> {
+pub struct LoadWithoutSeat<L: Limited> {
     of: PhantomData<L>,
 }
 
-impl<L: Limited> Play<Empty, View> for See<L> {
-    ghost then = { on_chunk (seen L.limit) };
+impl<L: Limited> Play<Empty, View> for LoadWithoutSeat<L> {
+    ghost then = { on_chunk (load_without_seat_tells L.limit) };
 }
 
 impl Words {
     /// A load of a head word, by a worker.
-    pub fn look(&self, seat: &mut Seat, chunk: u32) -> u64
-        requires seat { (seat.old.table_id ≡ words_id self.now) × (3 * chunk + 11 < (words_id self.now).words) }
+    pub fn look_to_take(&self, seat: &mut Seat, chunk: u32) -> u64
+        requires seat { (seat.old.table_id ≡ words_id self.now) × HasChunk (words_id self.now) chunk }
         requires worker { HasWorker seat.old.me.0 }
         ensures same { (seat.new.table_id ≡ seat.old.table_id) × (seat.new.id ≡ seat.old.id) }
-        ensures told { looked chunk 0 seat.old.me result seat.new.me }
+        ensures told { load_to_take_tells chunk 0 seat.old.me result seat.new.me }
     {
         self.table
             .shared
-            .load::<Look>(seat, 3 * chunk as usize + HEAD)
+            .load::<LoadToTake>(seat, 3 * chunk as usize + HEAD)
     }
 
     /// The exchange by which a worker takes a hold.
     pub fn try_take(&self, seat: &mut Seat, life: ItemId, word: u64) -> u64
-        requires seat { (seat.old.table_id ≡ words_id self.now) × (3 * life.chunk + 11 < (words_id self.now).words) }
+        requires seat { (seat.old.table_id ≡ words_id self.now) × HasChunk (words_id self.now) life.chunk }
         requires worker { HasWorker seat.old.me.0 }
         requires word { MayTake (config_of self.now).refs_limit life word }
         ensures same { (seat.new.table_id ≡ seat.old.table_id) × (seat.new.id ≡ seat.old.id) }
-        ensures told { taken life.chunk word seat.old.me result seat.new.me }
+        ensures told { take_tells life.chunk word seat.old.me result seat.new.me }
     {
         self.table.shared.compare_exchange::<Take>(
             seat,
@@ -92,13 +92,13 @@ impl Words {
     /// One load, and at most 8 exchanges. The limit is read anew for each word, as its comparison's operand.
     #[inline(always)]
     pub fn take(&self, seat: &mut Seat, life: ItemId, limit: &Count) -> Option<TakeRefusal>
-        requires seat { (seat.old.table_id ≡ words_id self.now) × (3 * life.chunk + 11 < (words_id self.now).words) }
+        requires seat { (seat.old.table_id ≡ words_id self.now) × HasChunk (words_id self.now) life.chunk }
         requires worker { HasWorker seat.old.me.0 }
         requires limit { limit.now ≡ (config_of self.now).refs_limit }
         ensures same { (seat.new.table_id ≡ seat.old.table_id) × (seat.new.id ≡ seat.old.id) }
-        ensures told { (first : TheHead) × (more : List TheHead) × TookView limit.now life seat.old.me seat.new.me result first more }
+        ensures told { (first : TheHead) × (more : List TheHead) × TakeFound limit.now life first more × (seat.new.me ≡ (view_after_attempt limit.now life first more seat.old.me.0, seat.old.me.1)) × (result ≡ refusal_of limit.now life first more) }
     {
-        let mut word = self.look(seat, life.chunk);
+        let mut word = self.look_to_take(seat, life.chunk);
         for failed in 0..8u32 {
             let head = head_of(word);
             if let Some(refused) = refusal(head, life, limit) {
@@ -113,54 +113,54 @@ impl Words {
         Some(TakeRefusal::Busy)
     }
 
-    /// The subtraction by which a hold gives its reference back. Its seat has no list of steps, and keeps the mark of it.
-    /// `drop_full` is the same step of a worker, for the reference of a bump.
+    /// The subtraction by which a hold gives its reference back. Its seat has no list of steps, and keeps the mark of
+    /// it. `drop_full` is the same step of a worker, for the reference of a bump.
     pub fn give_back(&self, seat: &mut Seat, chunk: u32) -> u64
-        requires seat { (seat.old.table_id ≡ words_id self.now) × (3 * chunk + 11 < (words_id self.now).words) }
+        requires seat { (seat.old.table_id ≡ words_id self.now) × HasChunk (words_id self.now) chunk }
         requires hold { HasHold chunk seat.old.me.0 }
         ensures same { (seat.new.table_id ≡ seat.old.table_id) × (seat.new.id ≡ seat.old.id) }
-        ensures told { given_back chunk ONE_REFERENCE seat.old.me result seat.new.me }
+        ensures told { release_of_hold_tells chunk ONE_REFERENCE seat.old.me result seat.new.me }
     {
         self.table
             .shared
-            .fetch_sub::<GiveBack>(seat, 3 * chunk as usize + HEAD, ONE_REFERENCE)
+            .fetch_sub::<Release>(seat, 3 * chunk as usize + HEAD, ONE_REFERENCE)
     }
 
     /// A load of a label word, by a hold.
-    pub fn read_label(&self, seat: &mut Seat, chunk: u32) -> u64
-        requires seat { (seat.old.table_id ≡ words_id self.now) × (3 * chunk + 11 < (words_id self.now).words) }
+    pub fn label_of(&self, seat: &mut Seat, chunk: u32) -> u64
+        requires seat { (seat.old.table_id ≡ words_id self.now) × HasChunk (words_id self.now) chunk }
         requires hold { HasHold chunk seat.old.me.0 }
         ensures same { (seat.new.table_id ≡ seat.old.table_id) × (seat.new.id ≡ seat.old.id) }
-        ensures told { label_read chunk 0 seat.old.me result seat.new.me }
+        ensures told { label_load_tells chunk 0 seat.old.me result seat.new.me }
     {
         self.table
             .shared
-            .load::<ReadLabel>(seat, 3 * chunk as usize + LABEL)
+            .load::<LoadLabel>(seat, 3 * chunk as usize + LABEL)
     }
 
     fn see_by<L: Limited>(&self, chunk: u32) -> u64
-        requires chunk { 3 * chunk + 11 < (words_id self.now).words }
+        requires chunk { HasChunk (words_id self.now) chunk }
         requires limit { L.limit ≡ (config_of self.now).refs_limit }
-        ensures { Found result (IsSeen L.limit) }
+        ensures { Found result (IsAnyHead L.limit) }
     {
         let (found, _seat) = self
             .table
             .shared
-            .load_new_seat::<See<L>>(3 * chunk as usize + HEAD);
+            .load_new_seat::<LoadWithoutSeat<L>>(3 * chunk as usize + HEAD);
         found
     }
 
     /// A load of a head word, without a seat.
     pub fn see(&self, chunk: u32) -> u64
-        requires { 3 * chunk + 11 < (words_id self.now).words }
-        ensures { Found result (IsSeen (config_of self.now).refs_limit) }
+        requires { HasChunk (words_id self.now) chunk }
+        ensures { Found result (IsAnyHead (config_of self.now).refs_limit) }
     {
         self.see_by::<Brand>(chunk)
     }
 
     /// A load of a time word, without a seat.
     pub fn see_time(&self, chunk: u32) -> u64
-        requires { 3 * chunk + 11 < (words_id self.now).words }
+        requires { HasChunk (words_id self.now) chunk }
     {
         self.table.shared.peek(3 * chunk as usize + TIME)
     }

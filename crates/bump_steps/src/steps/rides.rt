@@ -1,17 +1,16 @@
 //! The steps by which a worker takes the reference of a bump, sends it off, has it back and drops it.
-ghost use Rattle.std.specs.Prelude.{ℕ, ◌≡◌, ◌≢◌, ◌+◌, ◌*◌, ◌<◌, ◌≤◌, ◌++◌, [], ◌∷◌, None, List};
+ghost use Rattle.std.specs.Prelude.{ℕ, ◌≡◌, ◌<◌, [], None, List, option_map};
 ghost use Rattle.bump_rules.specs.declared.items.Head.{Head as TheHead};
 ghost use Rattle.bump_rules.specs.declared.items.ItemId.{ItemId as TheItemId};
 ghost use Rattle.bump_rules.specs.declared.hands.Hand.TheVariants.{Idle, Trying, InHand};
 ghost use Rattle.bump_rules.specs.Lives.{life as life_in};
-ghost use Rattle.bump_steps.specs.declared.views.WorkerPart.{WorkerPart as TheWorkerPart};
-ghost use Rattle.bump_steps.specs.declared.views.HoldPart.{HoldPart as TheHoldPart};
 ghost use Rattle.bump_steps.specs.declared.views.Ride.{Ride as TheRide};
-ghost use Rattle.bump_steps.specs.Words.{words_id, config_of};
+ghost use Rattle.bump_steps.specs.Words.{HasChunk, words_id, config_of};
 ghost use Rattle.bump_steps.specs.Rule.{blank};
 ghost use Rattle.bump_steps.specs.Riders.{ride_me};
-ghost use Rattle.bump_steps.specs.RideTries.{RodeView};
-ghost use Rattle.bump_steps.specs.Rides.{looked, rode, gave_back, IsOn, HasRoom, without_ride, ride_only, return_both};
+ghost use Rattle.bump_steps.specs.Marks.{on_worker};
+ghost use Rattle.bump_steps.specs.Tries.{RideFound, drop_of, worker_after_attempt};
+ghost use Rattle.bump_steps.specs.Rides.{dropped_as, load_to_ride_tells, try_to_ride_tells, release_tells, IsOn, HasRoom, without_ride, ride_only, return_both};
 
 use crate::decoding::head_of;
 use crate::refusals::RideRefusal;
@@ -40,28 +39,28 @@ impl Attempt for Brand {
     ghost life = { life_in 0 0 };
 }
 
-pub struct LookToRide<W: Attempt> {
+pub struct LoadToRide<W: Attempt> {
     of: PhantomData<W>,
 }
 
-impl<W: Attempt> Play<Empty, View> for LookToRide<W> {
-    ghost then = { λ _ m r n. looked W.limit W.failed W.life m r n };
+impl<W: Attempt> Play<Empty, View> for LoadToRide<W> {
+    ghost then = { λ _ m r n. load_to_ride_tells W.limit W.failed W.life m r n };
 }
 
-pub struct TryToRide<W: Attempt> {
+pub struct Reserve<W: Attempt> {
     of: PhantomData<W>,
 }
 
-impl<W: Attempt> Play<Empty, View> for TryToRide<W> {
-    ghost then = { λ s m r n. rode W.limit W.failed W.life s.first m r n };
+impl<W: Attempt> Play<Empty, View> for Reserve<W> {
+    ghost then = { λ s m r n. try_to_ride_tells W.limit W.failed W.life s.first m r n };
 }
 
-pub struct DropFull<W: Attempt> {
+pub struct ReleaseOfBump<W: Attempt> {
     of: PhantomData<W>,
 }
 
-impl<W: Attempt> Play<Empty, View> for DropFull<W> {
-    ghost then = { λ _ m r n. gave_back W.life m r n };
+impl<W: Attempt> Play<Empty, View> for ReleaseOfBump<W> {
+    ghost then = { λ _ m r n. release_tells W.life m r n };
 }
 
 pub struct RideOut;
@@ -82,25 +81,25 @@ impl Join<View> for RideBack {
 
 impl Words {
     fn look_to_ride_by<W: Attempt>(&self, seat: &mut Seat, limit: Count, life: ItemId) -> u64
-        requires seat { (seat.old.table_id ≡ words_id self.now) × (3 * life.chunk + 11 < (words_id self.now).words) }
+        requires seat { (seat.old.table_id ≡ words_id self.now) × HasChunk (words_id self.now) life.chunk }
         requires attempt { (W.limit ≡ limit) × (W.failed ≡ 0) × (W.life ≡ life) }
         requires limit { limit ≡ (config_of self.now).refs_limit }
         requires trying { IsOn (Trying life) life seat.old.me.0 }
         ensures same { (seat.new.table_id ≡ seat.old.table_id) × (seat.new.id ≡ seat.old.id) }
-        ensures told { looked limit 0 life seat.old.me result seat.new.me }
+        ensures told { load_to_ride_tells limit 0 life seat.old.me result seat.new.me }
     {
         self.table
             .shared
-            .load::<LookToRide<W>>(seat, 3 * life.chunk as usize + HEAD)
+            .load::<LoadToRide<W>>(seat, 3 * life.chunk as usize + HEAD)
     }
 
     /// A load, of a worker that looks for room for its bump's reference.
     pub fn look_to_ride(&self, seat: &mut Seat, limit: Count, life: ItemId) -> u64
-        requires seat { (seat.old.table_id ≡ words_id self.now) × (3 * life.chunk + 11 < (words_id self.now).words) }
+        requires seat { (seat.old.table_id ≡ words_id self.now) × HasChunk (words_id self.now) life.chunk }
         requires limit { limit ≡ (config_of self.now).refs_limit }
         requires trying { IsOn (Trying life) life seat.old.me.0 }
         ensures same { (seat.new.table_id ≡ seat.old.table_id) × (seat.new.id ≡ seat.old.id) }
-        ensures told { looked limit 0 life seat.old.me result seat.new.me }
+        ensures told { load_to_ride_tells limit 0 life seat.old.me result seat.new.me }
     {
         self.look_to_ride_by::<Brand>(seat, limit, life)
     }
@@ -113,15 +112,15 @@ impl Words {
         seen: u64,
         failed: u32,
     ) -> u64
-        requires seat { (seat.old.table_id ≡ words_id self.now) × (3 * life.chunk + 11 < (words_id self.now).words) }
+        requires seat { (seat.old.table_id ≡ words_id self.now) × HasChunk (words_id self.now) life.chunk }
         requires attempt { (W.limit ≡ limit) × (W.failed ≡ failed) × (W.life ≡ life) }
         requires limit { limit ≡ (config_of self.now).refs_limit }
         requires trying { IsOn (Trying life) life seat.old.me.0 }
         requires room { HasRoom limit seen }
         ensures same { (seat.new.table_id ≡ seat.old.table_id) × (seat.new.id ≡ seat.old.id) }
-        ensures told { rode limit failed life seen seat.old.me result seat.new.me }
+        ensures told { try_to_ride_tells limit failed life seen seat.old.me result seat.new.me }
     {
-        self.table.shared.compare_exchange::<TryToRide<W>>(
+        self.table.shared.compare_exchange::<Reserve<W>>(
             seat,
             3 * life.chunk as usize + HEAD,
             seen,
@@ -138,12 +137,12 @@ impl Words {
         seen: u64,
         failed: u32,
     ) -> u64
-        requires seat { (seat.old.table_id ≡ words_id self.now) × (3 * life.chunk + 11 < (words_id self.now).words) }
+        requires seat { (seat.old.table_id ≡ words_id self.now) × HasChunk (words_id self.now) life.chunk }
         requires limit { limit ≡ (config_of self.now).refs_limit }
         requires trying { IsOn (Trying life) life seat.old.me.0 }
         requires room { HasRoom limit seen }
         ensures same { (seat.new.table_id ≡ seat.old.table_id) × (seat.new.id ≡ seat.old.id) }
-        ensures told { rode limit failed life seen seat.old.me result seat.new.me }
+        ensures told { try_to_ride_tells limit failed life seen seat.old.me result seat.new.me }
     {
         self.try_to_ride_by::<Brand>(seat, limit, life, seen, failed)
     }
@@ -151,11 +150,11 @@ impl Words {
     /// One load, and at most 8 exchanges. The limit is read anew for each word, as its comparison's operand.
     #[inline(always)]
     pub fn ride(&self, seat: &mut Seat, limit: &Count, life: ItemId) -> Option<RideRefusal>
-        requires seat { (seat.old.table_id ≡ words_id self.now) × (3 * life.chunk + 11 < (words_id self.now).words) }
+        requires seat { (seat.old.table_id ≡ words_id self.now) × HasChunk (words_id self.now) life.chunk }
         requires limit { limit.now ≡ (config_of self.now).refs_limit }
         requires trying { IsOn (Trying life) life seat.old.me.0 }
         ensures same { (seat.new.table_id ≡ seat.old.table_id) × (seat.new.id ≡ seat.old.id) }
-        ensures told { (first : TheHead) × (more : List TheHead) × RodeView limit.now life seat.old.me seat.new.me result first more }
+        ensures told { (first : TheHead) × (more : List TheHead) × RideFound limit.now life first more × (seat.new.me ≡ (on_worker (worker_after_attempt limit.now life first more) seat.old.me.0, seat.old.me.1)) × (option_map dropped_as result ≡ drop_of limit.now first more) }
     {
         let mut word = self.look_to_ride(seat, *limit, life);
         for failed in 0..8u32 {
@@ -172,27 +171,27 @@ impl Words {
         Some(RideRefusal::Busy)
     }
 
-    fn drop_full_by<W: Attempt>(&self, seat: &mut Seat, life: ItemId) -> u64
-        requires seat { (seat.old.table_id ≡ words_id self.now) × (3 * life.chunk + 11 < (words_id self.now).words) }
+    fn give_back_bump_by<W: Attempt>(&self, seat: &mut Seat, life: ItemId) -> u64
+        requires seat { (seat.old.table_id ≡ words_id self.now) × HasChunk (words_id self.now) life.chunk }
         requires attempt { W.life ≡ life }
         requires in_hand { IsOn (InHand life) life seat.old.me.0 }
         ensures same { (seat.new.table_id ≡ seat.old.table_id) × (seat.new.id ≡ seat.old.id) }
-        ensures told { gave_back life seat.old.me result seat.new.me }
+        ensures told { release_tells life seat.old.me result seat.new.me }
     {
         self.table
             .shared
-            .fetch_sub::<DropFull<W>>(seat, 3 * life.chunk as usize + HEAD, ONE_REFERENCE)
+            .fetch_sub::<ReleaseOfBump<W>>(seat, 3 * life.chunk as usize + HEAD, ONE_REFERENCE)
     }
 
-    /// The subtraction that gives the reference of a bump back which found no room: the same step as `give_back`, noted by the
-    /// worker.
-    pub fn drop_full(&self, seat: &mut Seat, life: ItemId) -> u64
-        requires seat { (seat.old.table_id ≡ words_id self.now) × (3 * life.chunk + 11 < (words_id self.now).words) }
+    /// The subtraction that gives the reference of a bump back which found no room: the same step as `give_back`,
+    /// noted by the worker.
+    pub fn give_back_bump(&self, seat: &mut Seat, life: ItemId) -> u64
+        requires seat { (seat.old.table_id ≡ words_id self.now) × HasChunk (words_id self.now) life.chunk }
         requires in_hand { IsOn (InHand life) life seat.old.me.0 }
         ensures same { (seat.new.table_id ≡ seat.old.table_id) × (seat.new.id ≡ seat.old.id) }
-        ensures told { gave_back life seat.old.me result seat.new.me }
+        ensures told { release_tells life seat.old.me result seat.new.me }
     {
-        self.drop_full_by::<Brand>(seat, life)
+        self.give_back_bump_by::<Brand>(seat, life)
     }
 
     /// The reference in the worker's hand leaves it.
@@ -205,7 +204,7 @@ impl Words {
     }
 
     /// A rider's seat joins its worker's, which has no bump under way.
-    pub fn ride_back(&self, seat: &mut Seat, rider: Seat)
+    pub fn rider_back(&self, seat: &mut Seat, rider: Seat)
         requires seats { (seat.old.table_id ≡ words_id self.now) × (rider.table_id ≡ words_id self.now) × (0 < (words_id self.now).words) }
         requires rider { (r : TheRide) × (rider.me ≡ ride_me r) × IsOn Idle r.life seat.old.me.0 }
         ensures same { (seat.new.table_id ≡ seat.old.table_id) × (seat.new.id ≡ seat.old.id) }

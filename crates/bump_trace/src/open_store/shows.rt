@@ -13,6 +13,16 @@ use bump_core::Place;
 use std::alloc::AllocError;
 use trace_lines::{LineError, put_chunk, put_close, put_list_start, put_worker};
 
+/// The lists of a class, in the order in which they are printed.
+const PLACES: [Place; 6] = [
+    Place::Hot,
+    Place::Warm,
+    Place::Cold,
+    Place::Dying,
+    Place::Unused,
+    Place::Retired,
+];
+
 impl<'a> OpenStore<'a> {
     ghost use Rattle.bump_trace.specs.Ready.{IsReady};
     ghost use Rattle.bump_trace.specs.Views.{store_of, Does};
@@ -61,12 +71,9 @@ impl<'a> OpenStore<'a> {
         requires { class < length self.now.world.classes }
         ensures { OnOk result (out.new.items ≡ out.old.items ++ class_lines self.now.world class) }
     {
-        self.put_list(out, class, Place::Hot)?;
-        self.put_list(out, class, Place::Warm)?;
-        self.put_list(out, class, Place::Cold)?;
-        self.put_list(out, class, Place::Dying)?;
-        self.put_list(out, class, Place::Unused)?;
-        self.put_list(out, class, Place::Retired)?;
+        for place in PLACES {
+            self.put_list(out, class, place)?;
+        }
         Ok(())
     }
 

@@ -1,76 +1,70 @@
 //! Worked traces of ends, evicts, sweeps, closings, holds, several workers and several classes.
 
-/// A trace, its text, and whether it ends with a fault.
-pub(super) const ENDS: [(&str, &str, bool); 14] = [
+/// Ends, evicts, sweeps, closings, several workers and several classes.
+pub(super) const ENDS: [(&str, &str); 7] = [
     (
         "store 1 4 4 1\nclass 2 0 5\nset a 0 7\npull 0 hot\nget 0 a\nget 0 a\ndel a\ndrain\nshow\n",
         "set a 0.1\npull 0 hot cold 0.1\nget 0 a 7 first\nget 0 a 7 queued 0\ndel a deferred\nbump 0 0 0.1 gone freed\ndrain 1\nclass 0 hot 0\nclass 0 warm 0\nclass 0 cold 0\nclass 0 dying 0\nclass 0 unused 2 0 1\nclass 0 retired 0\nworker 0 attempted 1 accepted 1 full 0 busy 0 refs 0 applied 1\n",
-        false,
     ),
     (
         "store 2 4 8 1\nclass 2 0 0\nset a 0 7\npull 0 hot\nget 0 a\nget 0 a\npull 0 cold\npull 0 warm\nget 1 a\ndrain\nshow\n",
         "set a 0.1\npull 0 hot cold 0.1\nget 0 a 7 first\nget 0 a 7 queued 0\npull 0 cold warm 0.1\npull 0 warm cold 0.1\nget 1 a 7 queued 0\nbump 0 0 0.1 warm\nbump 1 0 0.1 time\ndrain 2\nclass 0 hot 0\nclass 0 warm 1 0.1:1:f:10\nclass 0 cold 0\nclass 0 dying 0\nclass 0 unused 1 1\nclass 0 retired 0\nworker 0 attempted 1 accepted 1 full 0 busy 0 refs 0 applied 1\nworker 1 attempted 1 accepted 1 full 0 busy 0 refs 0 applied 1\n",
-        false,
     ),
     (
         "store 1 4 4 4294967295\nclass 1 5 5\nset a 0 7\ndel a\nset b 0 8\nshow\n",
         "set a 0.4294967295\ndel a freed\nset b full\nclass 0 hot 0\nclass 0 warm 0\nclass 0 cold 0\nclass 0 dying 0\nclass 0 unused 0\nclass 0 retired 1 0\nworker 0 attempted 0 accepted 0 full 0 busy 0 refs 0 applied 0\n",
-        false,
     ),
     (
         "store 1 4 4 1\nclass 2 0 5\npull 0 evict\nset a 0 7\npull 0 hot\npull 0 evict\n",
         "pull 0 evict empty\nset a 0.1\npull 0 hot cold 0.1\npull 0 evict freed 0.1\n",
-        false,
     ),
     (
         "store 1 4 4 1\nclass 2 0 1\nset a 0 7\nget 0 a\nget 0 a\npull 0 hot\nget 0 a\npull 0 warm\npull 0 warm\nsweep 0\nshow\n",
         "set a 0.1\nget 0 a 7 first\nget 0 a 7 marked\npull 0 hot warm 0.1\nget 0 a 7 marked\npull 0 warm again 0.1\npull 0 warm stay 0.1\nsweep 0 0\nclass 0 hot 0\nclass 0 warm 1 0.1:1:f:7\nclass 0 cold 0\nclass 0 dying 0\nclass 0 unused 1 1\nclass 0 retired 0\nworker 0 attempted 0 accepted 0 full 0 busy 0 refs 0 applied 0\n",
-        false,
     ),
     (
         "store 1 4 4 1\nclass 1 5 5\nclass 2 5 5\nset a 1 7\nshow\n",
         "set a 1.1\nclass 0 hot 0\nclass 0 warm 0\nclass 0 cold 0\nclass 0 dying 0\nclass 0 unused 1 0\nclass 0 retired 0\nclass 1 hot 1 1.1:1:-:4\nclass 1 warm 0\nclass 1 cold 0\nclass 1 dying 0\nclass 1 unused 1 2\nclass 1 retired 0\nworker 0 attempted 0 accepted 0 full 0 busy 0 refs 0 applied 0\n",
-        false,
     ),
     (
         "store 1 4 8 1\nclass 2 0 5\nset a 0 7\nset b 0 8\npull 0 hot\npull 0 hot\nget 0 a\nget 0 a\nget 0 b\nget 0 b\nclose 0\nget 0 a\nclose 0\n",
         "set a 0.1\nset b 1.1\npull 0 hot cold 0.1\npull 0 hot cold 1.1\nget 0 a 7 first\nget 0 a 7 queued 0\nget 0 b 8 first\nget 0 b 8 queued 1\nbump 0 0 0.1 warm\nbump 0 1 1.1 warm\nclose 0 attempted 2 accepted 2 full 0 busy 0 refs 0 applied 2\nget 0 a closed\nclose 0 closed\n",
-        false,
     ),
-    (
-        "store 1 4 4 1\nclass 2 5 5\nset a 0 7\npar\nget 0 a\nshow\n",
-        "set a 0.1\nget 0 a 7 first\nline 6: ORDER\n",
-        true,
-    ),
+];
+
+/// Holds that are kept.
+pub(super) const HOLDS: [(&str, &str); 5] = [
     (
         "store 1 4 4 1\nclass 1 5 5\nset a 0 7\nhold 0 a h\ndel a\nset b 0 9\nread h\ndrop h\nsweep 0\nset b 0 9\nget 0 a\nhold 0 a k\ndel a\n",
         "set a 0.1\nhold 0 a h held\ndel a deferred\nset b full\nread h 7\ndrop h\nsweep 0 1\nset b 0.2\nget 0 a miss\nhold 0 a k miss\ndel a gone\n",
-        false,
     ),
     (
         "store 1 4 2 1\nclass 2 0 5\nset a 0 7\nhold 0 a h\nhold 0 a k\nget 0 a\ndrop h\npull 0 hot\nget 0 a\nget 0 a\nshow\n",
         "set a 0.1\nhold 0 a h held\nhold 0 a k refs\nget 0 a refs\ndrop h\npull 0 hot cold 0.1\nget 0 a 7 first\nget 0 a 7 dropped refs\nclass 0 hot 0\nclass 0 warm 0\nclass 0 cold 1 0.1:1:f:3\nclass 0 dying 0\nclass 0 unused 1 1\nclass 0 retired 0\nworker 0 attempted 1 accepted 0 full 0 busy 0 refs 1 applied 0\n",
-        false,
     ),
     (
         "store 1 4 4 1\nclass 2 0 5\npull 0 evict\nset a 0 7\npull 0 hot\nhold 0 a h\npull 0 evict\ndrop h\nsweep 0\n",
         "pull 0 evict empty\nset a 0.1\npull 0 hot cold 0.1\nhold 0 a h held\npull 0 evict deferred 0.1\ndrop h\nsweep 0 1\n",
-        false,
     ),
     (
         "store 1 4 4 1\nclass 1 0 5\nset a 0 7\npull 0 hot\nhold 0 a h\ndel a\nhit 0 h\nhit 0 h\ndrain\ndrop h\nsweep 0\n",
         "set a 0.1\npull 0 hot cold 0.1\nhold 0 a h held\ndel a deferred\nhit 0 h first\nhit 0 h queued 0\nbump 0 0 0.1 gone deferred\ndrain 1\ndrop h\nsweep 0 1\n",
-        false,
     ),
     (
         "store 1 4 4 1\nclass 1 0 5\nset a 0 7\nhold 0 a h\nhold 0 a k\ndrop h\ndel a\nread k\nhit 0 k\nhold 0 a h\ndrop k\nsweep 0\n",
         "set a 0.1\nhold 0 a h held\nhold 0 a k held\ndrop h\ndel a deferred\nread k 7\nhit 0 k first\nhold 0 a h miss\ndrop k\nsweep 0 1\n",
-        false,
+    ),
+];
+
+/// What may not stand behind `par`, and what is told of a closed worker.
+pub(super) const LATE_FAULTS: [(&str, &str); 2] = [
+    (
+        "store 1 4 4 1\nclass 2 5 5\nset a 0 7\npar\nget 0 a\nshow\n",
+        "set a 0.1\nget 0 a 7 first\nline 6: ORDER\n",
     ),
     (
         "store 1 4 4 1\nclass 1 0 5\nset a 0 7\nhold 0 a h\nclose 0\nhit 0 h\nhold 0 a k\nhold 0 a h\n",
         "set a 0.1\nhold 0 a h held\nclose 0 attempted 0 accepted 0 full 0 busy 0 refs 0 applied 0\nhit 0 h closed\nhold 0 a k closed\nline 8: HELD\n",
-        true,
     ),
 ];
 

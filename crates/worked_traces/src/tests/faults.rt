@@ -1,7 +1,7 @@
 //! Traces with faults.
 
-/// A trace for each fault word, as short as can be, and its text.
-pub(super) const EVERY_FAULT: [(&str, &str); 18] = [
+/// A trace for each fault word of a line, as short as can be.
+pub(super) const EVERY_LINE_FAULT: [(&str, &str); 8] = [
     (
         "################################################################################################################################################################################################################################################################\n",
         "line 1: LONG\n",
@@ -13,6 +13,10 @@ pub(super) const EVERY_FAULT: [(&str, &str); 18] = [
     ("del A\n", "line 1: NAME\n"),
     ("pull 0 x\n", "line 1: SEGMENT\n"),
     ("", "line 1: ORDER\n"),
+];
+
+/// A trace for each fault word of a store, as short as can be.
+pub(super) const EVERY_STORE_FAULT: [(&str, &str); 10] = [
     ("store 0 1 2 1\n", "line 2: WORKERS\n"),
     ("store 1 0 2 1\n", "line 2: CAPACITY\n"),
     ("store 1 1 1 1\n", "line 2: REFS\n"),
@@ -28,8 +32,8 @@ pub(super) const EVERY_FAULT: [(&str, &str); 18] = [
     ),
 ];
 
-/// A word too few or too many in each line, each field wrong, and each line that may not stand behind `par`.
-pub(super) const LINE_FAULTS: [(&str, &str); 54] = [
+/// A word too few or too many in each line.
+pub(super) const LINE_COUNTS: [(&str, &str); 15] = [
     ("store 1 4 4 1\nclass 2 5 5\ndel\n", "line 3: COUNT\n"),
     ("store 1 4 4 1\nclass 2 5 5\ndel a b\n", "line 3: COUNT\n"),
     ("store 1 4 4 1\nclass 2 5 5\nsweep\n", "line 3: COUNT\n"),
@@ -48,6 +52,10 @@ pub(super) const LINE_FAULTS: [(&str, &str); 54] = [
     ("store 1 4 4 1\nclass 2 5 5\nread h h\n", "line 3: COUNT\n"),
     ("store 1 4 4 1\nclass 2 5 5\ndrop\n", "line 3: COUNT\n"),
     ("store 1 4 4 1\nclass 2 5 5\ndrop h h\n", "line 3: COUNT\n"),
+];
+
+/// Each field of each line wrong.
+pub(super) const LINE_FIELDS: [(&str, &str); 12] = [
     ("store 1 4 4 1\nclass 2 5 5\ndel A\n", "line 3: NAME\n"),
     ("store 1 4 4 1\nclass 2 5 5\nsweep x\n", "line 3: NUMBER\n"),
     (
@@ -69,6 +77,10 @@ pub(super) const LINE_FAULTS: [(&str, &str); 54] = [
     ("store 1 4 4 1\nclass 2 5 5\nhit 0 H\n", "line 3: NAME\n"),
     ("store 1 4 4 1\nclass 2 5 5\nread H\n", "line 3: NAME\n"),
     ("store 1 4 4 1\nclass 2 5 5\ndrop H\n", "line 3: NAME\n"),
+];
+
+/// Names, workers and classes that there are not.
+pub(super) const LINE_NAMES: [(&str, &str); 15] = [
     ("store 1 4 4 1\nclass 2 5 5\ndel a\n", "line 3: UNBOUND\n"),
     ("store 1 4 4 1\nclass 2 5 5\nsweep 1\n", "line 3: CLASS\n"),
     ("store 1 4 4 1\nclass 2 5 5\nclose 1\n", "line 3: WORKER\n"),
@@ -108,6 +120,10 @@ pub(super) const LINE_FAULTS: [(&str, &str); 54] = [
         "store 1 4 4 1\nclass 2 5 5\nset a 0 7\nhold 0 a h\ndel h\n",
         "set a 0.1\nhold 0 a h held\nline 5: UNBOUND\n",
     ),
+];
+
+/// What may not stand before the store is open, and each line that may not stand behind `par`.
+pub(super) const LINE_ORDER: [(&str, &str); 12] = [
     ("par\n", "line 1: ORDER\n"),
     ("store 1 4 4 1\npar\n", "line 2: CLASSES\n"),
     (
@@ -146,8 +162,8 @@ pub(super) const LINE_FAULTS: [(&str, &str); 54] = [
     ("store 1 4 4 1\nclass 2 5 5\npar\npar\n", "line 4: ORDER\n"),
 ];
 
-/// Two faults or more in one line: the first in the order is told.
-pub(super) const PAIRS: [(&str, &str); 42] = [
+/// Lines with two faults or more: those of a whole line, and of its first word.
+pub(super) const PAIRS_OF_WORDS: [(&str, &str); 11] = [
     (
         "store 1 4 4 1\nclass 2 5 5\n################################################################################################################################################################################################################################################################",
         "line 3: LONG\n",
@@ -165,6 +181,10 @@ pub(super) const PAIRS: [(&str, &str); 42] = [
     ("get 07\n", "line 1: COUNT\n"),
     ("store 1 4 4 1\nclass 2 5 5\nget 07 A\n", "line 3: NUMBER\n"),
     ("store 1 4 4 1\nclass 2 5 5\nset A 07 x\n", "line 3: NAME\n"),
+];
+
+/// Lines with two faults or more: those of fields, and where the line stands.
+pub(super) const PAIRS_OF_FIELDS: [(&str, &str); 11] = [
     (
         "store 1 4 4 1\nclass 2 5 5\npull 07 tepid\n",
         "line 3: NUMBER\n",
@@ -197,6 +217,10 @@ pub(super) const PAIRS: [(&str, &str); 42] = [
         "store 1 4 4 1\nclass 2 5 5\nshow 1\nstore 0 4 4 1\n",
         "line 3: COUNT\n",
     ),
+];
+
+/// Configurations with two faults or more.
+pub(super) const PAIRS_OF_CONFIGS: [(&str, &str); 10] = [
     ("store 0 0 1 0\nshow\n", "line 2: WORKERS\n"),
     ("store 65 0 1 0\nshow\n", "line 2: WORKERS\n"),
     ("store 1 0 1 0\nshow\n", "line 2: CAPACITY\n"),
@@ -213,6 +237,10 @@ pub(super) const PAIRS: [(&str, &str); 42] = [
         "store 1 4 4 1\nclass 0 5 5\nset a 1 7\n",
         "line 3: CHUNKS\n",
     ),
+];
+
+/// Lines with two faults or more: of a configuration, a worker and names.
+pub(super) const PAIRS_OF_STORES: [(&str, &str); 10] = [
     ("store 0 4 4 1\nclass 2 5 5\nfly\n", "line 3: COMMAND\n"),
     ("store 0 4 4 1\nclass 2 5 5\nget x a\n", "line 3: NUMBER\n"),
     ("store 1 4 4 1\nclass 2 5 5\nget 1 a\n", "line 3: WORKER\n"),

@@ -8,4 +8,7 @@ abbrev pub invariant-loop-spare : goal.invariant-loop-spare
 invariant-loop-spare l = record { spare : length l.words.items ≡ l.spare }
 
 abbrev pub invariant-loop-chunk : goal.invariant-loop-chunk
-invariant-loop-chunk l = record { fresh : AreFresh l.chunk (l.fn.first - 1) l.words.items; word : l.word ≡ (l.fn.first - 1) * 2 ^ generation_first }
+invariant-loop-chunk l = record {
+  fresh : AreFresh l.chunk (l.fn.first - 1) l.words.items;
+  word : l.word ≡ (l.fn.first - 1) * 2 ^ generation_first;
+}

@@ -1,6 +1,6 @@
 use Rattle.std.proofs.Common.{None, refl, ◌∙◌, ◌++◌, ◌∷◌, []}
 use Rattle.bump_steps.specs.declared.views.Kind.TheVariants as kind
-use Rattle.bump_steps.specs.Lives.{looked}
+use Rattle.bump_steps.specs.Lives.{class_after_load}
 use Rattle.bump_steps.specs.Plays.{step_of}
 use Rattle.bump_heads.proofs.ClassParts.{noted_part}
 use Rattle.bump_heads.proofs.ClassSeats.{finds, seat_kept}
@@ -10,12 +10,20 @@ use Rattle.bump_heads.proofs.seats.ClassSeat.look.Goals as goal
 pub invariant_of-self : goal.invariant_of-self
 invariant_of-self g c =
     let now = c.args.self.now in
-    let step = step_of kind.Load c.args.chunk c.class_look.result None in
-    seat_kept c.self.inside.seat.me c.class_look.new.seat.me now (looked c.args.chunk c.class_look.result) g.N.Name.table c.class_look.new.seat.table_id c.self.inside.class c.self.inside.joined c.self.view_is c.self.invariant.0 c.class_look.ensures.told.0
-    (c.class_look.ensures.same.0 ∙ c.self.invariant.1) c.self.invariant.2 c.self.invariant.3 c.self.invariant.4 c.self.invariant.5 refl (λ o. noted_part g.N.Name.table.words now.part (now.part.steps ++ step ∷ []) o) (λ o. noted_joined now.part step now.lane c.self.inside.joined o)
+    let step = step_of kind.Load c.args.chunk c.look.result None in
+    seat_kept c.self.inside.seat.me c.look.new.seat.me now (class_after_load c.args.chunk c.look.result)
+    g.N.Name.table c.look.new.seat.table_id c.self.inside.class c.self.inside.joined c.self.view_is
+    c.self.invariant.0 c.look.ensures.told.0
+    (c.look.ensures.same.0 ∙ c.self.invariant.1) c.self.invariant.2 c.self.invariant.3 c.self.invariant.4
+    c.self.invariant.5 refl (λ o. noted_part g.N.Name.table.words now.part (now.part.steps ++ step ∷ []) o)
+    (λ o. noted_joined now.part step now.lane c.self.inside.joined o)
 
 pub returns-clause-agrees : goal.returns-clause-agrees
-returns-clause-agrees g c = (finds c.args.chunk c.class_look.result c.self.inside.seat.me c.args.self.now c.head_of.result c.self.view_is c.self.invariant.0 c.requires.own c.head_of.ensures c.class_look.ensures.told.1).0
+returns-clause-agrees g c =
+    (finds c.args.chunk c.look.result c.self.inside.seat.me c.args.self.now c.head_of.result c.self.view_is
+    c.self.invariant.0 c.requires.own c.head_of.ensures c.look.ensures.told.1).0
 
 pub returns-clause-generation : goal.returns-clause-generation
-returns-clause-generation g c = (finds c.args.chunk c.class_look.result c.self.inside.seat.me c.args.self.now c.head_of.result c.self.view_is c.self.invariant.0 c.requires.own c.head_of.ensures c.class_look.ensures.told.1).1
+returns-clause-generation g c =
+    (finds c.args.chunk c.look.result c.self.inside.seat.me c.args.self.now c.head_of.result c.self.view_is
+    c.self.invariant.0 c.requires.own c.head_of.ensures c.look.ensures.told.1).1

@@ -1,9 +1,16 @@
 use Rattle.std.proofs.Common.{refl, ◌∙◌}
-use Rattle.bump_steps.specs.Lives.{labelled}
-use Rattle.bump_heads.proofs.ClassLives.{keeps_labelled}
+use Rattle.bump_steps.specs.Lives.{class_after_put_label}
+use Rattle.bump_heads.proofs.ClassLives.{keeps_put_label}
 use Rattle.bump_heads.proofs.Joining.{alone_joined}
 use Rattle.bump_heads.proofs.ClassSeats.{seat_kept}
 use Rattle.bump_heads.proofs.seats.ClassSeat.put_label.Goals as goal
 
 pub invariant_of-self : goal.invariant_of-self
-invariant_of-self g c = seat_kept c.self.inside.seat.me c.put_label.new.seat.me c.args.self.now (labelled c.args.chunk c.args.label) g.N.Name.table c.put_label.new.seat.table_id c.self.inside.class c.self.inside.joined c.self.view_is c.self.invariant.0 c.put_label.ensures.told (c.put_label.ensures.same.0 ∙ c.self.invariant.1) c.self.invariant.2 c.self.invariant.3 c.self.invariant.4 c.self.invariant.5 refl (λ o. keeps_labelled g.N.Name.table.words c.args.self.now.part o c.args.chunk c.args.label c.requires.unused) (λ o. alone_joined c.args.self.now.part (labelled c.args.chunk c.args.label c.args.self.now.part) c.args.self.now.lane c.self.inside.joined c.requires.alone o)
+invariant_of-self g c = seat_kept c.self.inside.seat.me c.put_label.new.seat.me c.args.self.now
+    (class_after_put_label c.args.chunk c.args.label) g.N.Name.table c.put_label.new.seat.table_id c.self.inside.class
+    c.self.inside.joined c.self.view_is c.self.invariant.0 c.put_label.ensures.told
+    (c.put_label.ensures.same.0 ∙ c.self.invariant.1) c.self.invariant.2 c.self.invariant.3 c.self.invariant.4
+    c.self.invariant.5 refl (λ o. keeps_put_label g.N.Name.table.words c.args.self.now.part o c.args.chunk
+    c.args.label c.requires.unused)
+    (λ o. alone_joined c.args.self.now.part (class_after_put_label c.args.chunk c.args.label c.args.self.now.part)
+    c.args.self.now.lane c.self.inside.joined c.requires.alone o)

@@ -1,6 +1,5 @@
 use Rattle.std.proofs.Common.{refl, rules}
-use Rattle.bump_steps.specs.declared.views.Kind.TheVariants.{Release}
-use Rattle.bump_steps.specs.Rides.{dropped_full, found_by}
+use Rattle.bump_steps.specs.Rides.{worker_after_release}
 use Rattle.bump_readers.proofs.Attempts.{full_kept, stepped_seat}
 use Rattle.bump_readers.proofs.heads.ReaderHeads.give_back_bump.Goals as goal
 
@@ -14,8 +13,10 @@ pub returns-clause-counted : goal.returns-clause-counted
 returns-clause-counted g c = search rules
 
 pub invariant_of-worker : goal.invariant_of-worker
-invariant_of-worker g c = let t = c.drop_full.ensures.told in
-    stepped_seat g.N.Name.table c.worker.inside.worker c.worker.inside.seat.table_id c.drop_full.new.seat.table_id c.worker.inside.seat.me
-    c.drop_full.new.seat.me c.args.worker.now c.worker.invariant (cc c.worker.view_is) c.drop_full.ensures.same.0
-    (λ w. dropped_full c.args.life (found_by Release c.args.life t.0 w)) t.4 refl
+invariant_of-worker g c = let t = c.give_back_bump.ensures.told in
+    stepped_seat g.N.Name.table c.worker.inside.worker c.worker.inside.seat.table_id
+    c.give_back_bump.new.seat.table_id c.worker.inside.seat.me
+    c.give_back_bump.new.seat.me c.args.worker.now c.worker.invariant (cc c.worker.view_is)
+    c.give_back_bump.ensures.same.0
+    (worker_after_release c.args.life t.0) t.4 refl
     (full_kept c.args.life t.0 c.args.worker.now.part c.requires.in_hand)

@@ -4,13 +4,15 @@ use Rattle.bump_readers.proofs.heads.ReaderHeads.take.Goals as goal
 
 pub invariant_of-worker : goal.invariant_of-worker
 invariant_of-worker g c = let t = c.take.ensures.told in
-    refused_seat g.N.Name.table c.worker.inside.worker c.worker.inside.seat.table_id c.take.new.seat.table_id c.worker.inside.seat.me
-    c.take.new.seat.me c.args.worker.now c.worker.invariant (cc c.worker.view_is) c.take.ensures.same.0 c.self.inside.limit
-    c.args.life c.take.result c.in-Some.refusal t.0 t.1 c.requires.alone t.2 c.in-Some.is
+    refused_seat g.N.Name.table c.worker.inside.worker c.worker.inside.seat.table_id c.take.new.seat.table_id
+    c.worker.inside.seat.me
+    c.take.new.seat.me c.args.worker.now c.worker.invariant (cc c.worker.view_is) c.take.ensures.same.0
+    c.self.inside.limit
+    c.args.life c.take.result c.in-Some.refusal t.0 t.1 c.requires.alone t.3 t.4 c.in-Some.is
 
 pub invariant_of-worker-2 : goal.invariant_of-worker-2
 invariant_of-worker-2 g c = let t = c.take.ensures.told in
     held_seat g.N.Name.table c.worker.inside.worker c.worker.inside.seat.table_id c.part_holds-part.new.seat.table_id
     c.worker.inside.seat.me c.part_holds-part.new.seat.me c.args.worker.now c.worker.invariant (cc c.worker.view_is)
-    (c.part_holds-part.ensures.same.0 ∙ c.take.ensures.same.0) c.self.inside.limit c.args.life c.take.result t.0 t.1
-    c.take.new.seat.me t.2 c.part_holds-part.ensures.parts.0
+    (c.part_holds-part.ensures.same.0 ∙ c.take.ensures.same.0) c.self.inside.limit c.args.life t.0 t.1
+    c.take.new.seat.me t.3 c.part_holds-part.ensures.parts.0

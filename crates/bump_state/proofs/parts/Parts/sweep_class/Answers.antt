@@ -3,7 +3,7 @@ use Rattle.std.proofs.lemmas.List.{length-map}
 use Rattle.bump_state.specs.declared.chunks.Chunk.{Chunk}
 use Rattle.bump_rules.specs.declared.places.Place.TheVariants.{Dying}
 use Rattle.bump_rules.specs.Sweeps.{swept_of}
-use Rattle.bump_state.specs.State.{ClassState, head, no_class, heads_of, class_with_changes}
+use Rattle.bump_state.specs.State.{ClassState, head_at, no_class, heads_of, class_with_changes}
 use Rattle.bump_state.specs.Views.{state_of, class_view}
 use Rattle.bump_rules.proofs.Updates.{rewritten, unchanged, on_err}
 use Rattle.bump_state.proofs.parts.Views.{class_seen}
@@ -19,5 +19,5 @@ pub returns-in_err-sweep-clause-err : goal.returns-in_err-sweep-clause-err
 returns-in_err-sweep-clause-err c = on_err c.from_residual.result (ap (λ (ks : List ClassState). record (state_of c.args.self.now) { classes = ks }) (unchanged class_view c.args.self.now.classes.items c.args.k c.index_mut-class.result.now _ (omega (arith, c.requires.class, length-map c.args.self.now.classes.items class_view)) c.index_mut-class.ensures.value c.in_err-sweep.ensures.err))
 
 pub returns-clause-ok : goal.returns-clause-ok
-returns-clause-ok c = ap (λ (ks : List ClassState). record (state_of c.args.self.now) { classes = ks }) (rewritten class_view (λ v. class_with_changes v (swept_of (head (state_of c.args.self.now)) v.lists.dying)) c.args.self.now.classes.items c.args.k c.index_mut-class.result.now _ no_class (omega (arith, c.requires.class, length-map c.args.self.now.classes.items class_view)) c.index_mut-class.ensures.value
+returns-clause-ok c = ap (λ (ks : List ClassState). record (state_of c.args.self.now) { classes = ks }) (rewritten class_view (λ v. class_with_changes v (swept_of (head_at (state_of c.args.self.now)) v.lists.dying)) c.args.self.now.classes.items c.args.k c.index_mut-class.result.now _ no_class (omega (arith, c.requires.class, length-map c.args.self.now.classes.items class_view)) c.index_mut-class.ensures.value
     (c.in_ok-sweep.ensures.ok ∙ ap (λ (cs : List Chunk). class_with_changes (class_view c.index_mut-class.result.now) (swept_of (heads_of cs) c.index_mut-class.result.now.lists.dying)) c.as_slice.ensures.value))

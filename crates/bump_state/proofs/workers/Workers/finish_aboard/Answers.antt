@@ -17,4 +17,4 @@ recounted-self-inside-requires-clause-counted c = counted_in is_applying c.self.
 
 pub invariant_of-self : goal.invariant_of-self
 invariant_of-self c = lane_anew c.self.inside.all.items c.args.w c.index_mut-worker.result.now _ (omega (arith, c.requires.worker, ap length c.self.view_is)) c.index_mut-worker.ensures.value
-    c.self.inside.busy c.self.inside.applying c.self.invariant c.recounted-self-inside.result c.is_applying.result false c.is_applying.ensures refl c.recounted-self-inside.ensures refl
+    c.self.inside.not_idle c.self.inside.applying c.self.invariant c.recounted-self-inside.result c.is_applying.result false c.is_applying.ensures refl c.recounted-self-inside.ensures refl

@@ -17,11 +17,11 @@ returns-in_err-push-clause-err c = rw (← c.self.view_is) (on_err c.from_residu
     (ap (λ (bs : List AppliedBump). record (worker_view c.index_mut-worker.result.now) { applied = bs }) c.in_err-push.ensures.items)))
 
 pub invariant_of-self : goal.invariant_of-self
-invariant_of-self c = both_still c.self.inside.all.items c.args.w c.index_mut-worker.result.now _ (omega (arith, c.requires, ap length c.self.view_is)) c.index_mut-worker.ensures.value c.self.inside.busy c.self.inside.applying c.self.invariant refl refl
+invariant_of-self c = both_still c.self.inside.all.items c.args.w c.index_mut-worker.result.now _ (omega (arith, c.requires, ap length c.self.view_is)) c.index_mut-worker.ensures.value c.self.inside.not_idle c.self.inside.applying c.self.invariant refl refl
 
 pub recounted-self-inside-requires-clause-counted : goal.recounted-self-inside-requires-clause-counted
 recounted-self-inside-requires-clause-counted c = counted_in is_applying c.self.inside.all.items c.args.w c.index_mut-worker.result.now (omega (arith, c.requires, ap length c.self.view_is)) c.index_mut-worker.ensures.value c.self.inside.applying c.self.invariant.applying c.self.invariant.few c.is_applying.result c.is_applying.ensures
 
 pub invariant_of-self-2 : goal.invariant_of-self-2
 invariant_of-self-2 c = lane_anew c.self.inside.all.items c.args.w c.index_mut-worker.result.now _ (omega (arith, c.requires, ap length c.self.view_is)) c.index_mut-worker.ensures.value
-    c.self.inside.busy c.self.inside.applying c.self.invariant c.recounted-self-inside.result c.is_applying.result false c.is_applying.ensures refl c.recounted-self-inside.ensures refl
+    c.self.inside.not_idle c.self.inside.applying c.self.invariant c.recounted-self-inside.result c.is_applying.result false c.is_applying.ensures refl c.recounted-self-inside.ensures refl

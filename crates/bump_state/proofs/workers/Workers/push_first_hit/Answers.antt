@@ -15,7 +15,7 @@ returns-in_err-push-clause-err c = rw (← c.self.view_is) (on_err c.from_residu
     (ap (λ (ls : List ItemId). record (worker_view c.index_mut-worker.result.now) { first_hits = ls }) c.in_err-push.ensures.items)))
 
 pub invariant_of-self : goal.invariant_of-self
-invariant_of-self c = both_still c.self.inside.all.items c.args.w c.index_mut-worker.result.now _ (omega (arith, c.requires, ap length c.self.view_is)) c.index_mut-worker.ensures.value c.self.inside.busy c.self.inside.applying c.self.invariant refl refl
+invariant_of-self c = both_still c.self.inside.all.items c.args.w c.index_mut-worker.result.now _ (omega (arith, c.requires, ap length c.self.view_is)) c.index_mut-worker.ensures.value c.self.inside.not_idle c.self.inside.applying c.self.invariant refl refl
 
 pub invariant_of-self-2 : goal.invariant_of-self-2
-invariant_of-self-2 c = both_still c.self.inside.all.items c.args.w c.index_mut-worker.result.now _ (omega (arith, c.requires, ap length c.self.view_is)) c.index_mut-worker.ensures.value c.self.inside.busy c.self.inside.applying c.self.invariant refl refl
+invariant_of-self-2 c = both_still c.self.inside.all.items c.args.w c.index_mut-worker.result.now _ (omega (arith, c.requires, ap length c.self.view_is)) c.index_mut-worker.ensures.value c.self.inside.not_idle c.self.inside.applying c.self.invariant refl refl

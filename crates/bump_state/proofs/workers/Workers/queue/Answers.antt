@@ -2,7 +2,7 @@ use Rattle.std.proofs.Common.{List, [], ◌∷◌, ◌++◌, take, ap, ap₂, �
 use Rattle.std.proofs.lemmas.List.{take-append-le}
 use Rattle.bump_rules.specs.declared.items.ItemId.{ItemId}
 use Rattle.bump_state.specs.State.{new_worker}
-use Rattle.bump_state.specs.Workers.{worker_view, is_busy}
+use Rattle.bump_state.specs.Workers.{worker_view, is_not_idle}
 use Rattle.bump_rules.proofs.Updates.{rewritten, unchanged, on_err}
 use Rattle.bump_state.proofs.workers.Counts.{counted_in, counted_few, both_still, hand_anew}
 use Rattle.bump_state.proofs.workers.Workers.queue.Goals as goal
@@ -18,14 +18,14 @@ returns-in_err-push-clause-err c = rw (← c.self.view_is) (on_err c.from_residu
     (ap (λ (ls : List ItemId). record (worker_view c.index_mut-worker.result.now) { sent = ls; received = take c.index_mut-worker.result.now.received ls }) c.in_err-push.ensures.items)))
 
 pub invariant_of-self : goal.invariant_of-self
-invariant_of-self c = both_still c.self.inside.all.items c.args.w c.index_mut-worker.result.now _ (omega (arith, c.requires, ap length c.self.view_is)) c.index_mut-worker.ensures.value c.self.inside.busy c.self.inside.applying c.self.invariant refl refl
+invariant_of-self c = both_still c.self.inside.all.items c.args.w c.index_mut-worker.result.now _ (omega (arith, c.requires, ap length c.self.view_is)) c.index_mut-worker.ensures.value c.self.inside.not_idle c.self.inside.applying c.self.invariant refl refl
 
 pub recounted-self-inside-requires-clause-counted : goal.recounted-self-inside-requires-clause-counted
-recounted-self-inside-requires-clause-counted c = counted_in is_busy c.self.inside.all.items c.args.w c.index_mut-worker.result.now (omega (arith, c.requires, ap length c.self.view_is)) c.index_mut-worker.ensures.value c.self.inside.busy c.self.invariant.busy c.self.invariant.few (not c.is_idle-was_busy.result) (ap not c.is_idle-was_busy.ensures)
+recounted-self-inside-requires-clause-counted c = counted_in is_not_idle c.self.inside.all.items c.args.w c.index_mut-worker.result.now (omega (arith, c.requires, ap length c.self.view_is)) c.index_mut-worker.ensures.value c.self.inside.not_idle c.self.invariant.not_idle c.self.invariant.few (not c.is_idle-was_not_idle.result) (ap not c.is_idle-was_not_idle.ensures)
 
 pub recounted-self-inside-requires-clause-few : goal.recounted-self-inside-requires-clause-few
-recounted-self-inside-requires-clause-few c = counted_few is_busy c.self.inside.all.items c.args.w c.index_mut-worker.result.now (omega (arith, c.requires, ap length c.self.view_is)) c.index_mut-worker.ensures.value c.self.inside.busy c.self.invariant.busy c.self.invariant.few (not c.is_idle-was_busy.result) (ap not c.is_idle-was_busy.ensures) _
+recounted-self-inside-requires-clause-few c = counted_few is_not_idle c.self.inside.all.items c.args.w c.index_mut-worker.result.now (omega (arith, c.requires, ap length c.self.view_is)) c.index_mut-worker.ensures.value c.self.inside.not_idle c.self.invariant.not_idle c.self.invariant.few (not c.is_idle-was_not_idle.result) (ap not c.is_idle-was_not_idle.ensures) _
 
 pub invariant_of-self-2 : goal.invariant_of-self-2
 invariant_of-self-2 c = hand_anew c.self.inside.all.items c.args.w c.index_mut-worker.result.now _ (omega (arith, c.requires, ap length c.self.view_is)) c.index_mut-worker.ensures.value
-    c.self.inside.busy c.self.inside.applying c.self.invariant c.recounted-self-inside.result (not c.is_idle-was_busy.result) (not c.is_idle.result) (ap not c.is_idle-was_busy.ensures) (ap not c.is_idle.ensures) c.recounted-self-inside.ensures refl
+    c.self.inside.not_idle c.self.inside.applying c.self.invariant c.recounted-self-inside.result (not c.is_idle-was_not_idle.result) (not c.is_idle.result) (ap not c.is_idle-was_not_idle.ensures) (ap not c.is_idle.ensures) c.recounted-self-inside.ensures refl

@@ -14,7 +14,7 @@ returns-in_err-reserve-clause-workers c = rw (← c.self.view_is) (unchanged wor
     (ap (λ (bs : List AppliedBump). record (worker_view c.index_mut-worker.result.now) { applied = bs }) c.in_err-reserve.ensures.items))
 
 pub invariant_of-self : goal.invariant_of-self
-invariant_of-self c = both_still c.self.inside.all.items c.args.w c.index_mut-worker.result.now _ (omega (arith, c.requires, ap length c.self.view_is)) c.index_mut-worker.ensures.value c.self.inside.busy c.self.inside.applying c.self.invariant refl refl
+invariant_of-self c = both_still c.self.inside.all.items c.args.w c.index_mut-worker.result.now _ (omega (arith, c.requires, ap length c.self.view_is)) c.index_mut-worker.ensures.value c.self.inside.not_idle c.self.inside.applying c.self.invariant refl refl
 
 pub invariant_of-self-2 : goal.invariant_of-self-2
-invariant_of-self-2 c = both_still c.self.inside.all.items c.args.w c.index_mut-worker.result.now _ (omega (arith, c.requires, ap length c.self.view_is)) c.index_mut-worker.ensures.value c.self.inside.busy c.self.inside.applying c.self.invariant refl refl
+invariant_of-self-2 c = both_still c.self.inside.all.items c.args.w c.index_mut-worker.result.now _ (omega (arith, c.requires, ap length c.self.view_is)) c.index_mut-worker.ensures.value c.self.inside.not_idle c.self.inside.applying c.self.invariant refl refl

@@ -4,7 +4,7 @@ use Rattle.bump_rules.specs.declared.bumps.Outcome.{Outcome}
 use Rattle.atomic_table.specs.Table.{step, Allows}
 use Rattle.bump_steps.specs.Rule.{Kept}
 use Rattle.bump_steps.specs.Plays.{on_chunk}
-use Rattle.bump_steps.specs.Applications.{alighted}
+use Rattle.bump_steps.specs.Applications.{alight_tells}
 use Rattle.bump_steps.proofs.Applications.{may_alight}
 use Rattle.bump_steps.proofs.words.Words.alight_by.Goals as goal
 
@@ -12,6 +12,9 @@ pub fetch_sub-requires : goal.fetch_sub-requires
 fetch_sub-requires g c = let t = c.args.self.now.table.shared in let m = c.args.seat.now.me in (
   c.requires.seat.0,
   omega (arith, c.requires.seat.1),
-  subst (λ (o : Outcome). Allows (Kept t.key) t.table_id.slots c.args.seat.now.id m (3 * c.args.chunk + 9) (λ n. (n + (2 ^ 64 - 1)) % 2 ^ 64) (on_chunk (alighted o) (step t.table_id.slots (3 * c.args.chunk + 9) 1 0 none) m)) c.requires.outcome
-      (may_alight t.key t.table_id.slots c.args.seat.now.id c.args.chunk 1 c.args.outcome m (omega (arith, c.args.self.now.sized, c.requires.seat.1)) c.requires.may),
+  subst (λ (o : Outcome). Allows (Kept t.key) t.table_id.slots c.args.seat.now.id m (3 * c.args.chunk + 9)
+      (λ n. (n + (2 ^ 64 - 1)) % 2 ^ 64)
+      (on_chunk (alight_tells o) (step t.table_id.slots (3 * c.args.chunk + 9) 1 0 none) m)) c.requires.outcome
+      (may_alight t.key t.table_id.slots c.args.seat.now.id c.args.chunk 1 c.args.outcome m
+      (omega (arith, c.args.self.now.sized, c.requires.seat.1)) c.requires.may),
 )

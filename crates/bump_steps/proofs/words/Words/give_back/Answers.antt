@@ -1,6 +1,11 @@
 use Rattle.std.proofs.Common.{arith}
-use Rattle.bump_steps.proofs.Referring.{gives_back}
+use Rattle.bump_steps.proofs.Referring.{may_release}
 use Rattle.bump_steps.proofs.words.Words.give_back.Goals as goal
 
 pub fetch_sub-requires : goal.fetch_sub-requires
-fetch_sub-requires c = let t = c.args.self.now.table.shared in (c.requires.seat.0, omega (arith, c.requires.seat.1), gives_back t.key t.table_id.slots c.args.seat.now.id c.args.seat.now.me c.args.chunk (omega (arith, c.args.self.now.sized, c.requires.seat.1)) c.requires.hold)
+fetch_sub-requires c = let t = c.args.self.now.table.shared in (
+  c.requires.seat.0,
+  omega (arith, c.requires.seat.1),
+  may_release t.key t.table_id.slots c.args.seat.now.id
+      c.args.seat.now.me c.args.chunk (omega (arith, c.args.self.now.sized, c.requires.seat.1)) c.requires.hold,
+)

@@ -1,6 +1,11 @@
 use Rattle.std.proofs.Common.{arith}
-use Rattle.bump_steps.proofs.Marking.{fetches}
+use Rattle.bump_steps.proofs.Marking.{may_fetch}
 use Rattle.bump_steps.proofs.words.Words.mark_fetched.Goals as goal
 
 pub fetch_or-requires : goal.fetch_or-requires
-fetch_or-requires c = let t = c.args.self.now.table.shared in (c.requires.seat.0, omega (arith, c.requires.seat.1), fetches t.key t.table_id.slots c.args.seat.now.id c.args.seat.now.me c.args.chunk (omega (arith, c.args.self.now.sized, c.requires.seat.1)) c.requires.worker)
+fetch_or-requires c = let t = c.args.self.now.table.shared in (
+  c.requires.seat.0,
+  omega (arith, c.requires.seat.1),
+  may_fetch t.key t.table_id.slots c.args.seat.now.id
+      c.args.seat.now.me c.args.chunk (omega (arith, c.args.self.now.sized, c.requires.seat.1)) c.requires.worker,
+)

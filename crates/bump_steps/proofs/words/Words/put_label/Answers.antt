@@ -1,6 +1,12 @@
 use Rattle.std.proofs.Common.{arith}
-use Rattle.bump_steps.proofs.Labelling.{may_store}
+use Rattle.bump_steps.proofs.Labelling.{may_put_label}
 use Rattle.bump_steps.proofs.words.Words.put_label.Goals as goal
 
 pub store-requires : goal.store-requires
-store-requires c = let t = c.args.self.now.table.shared in (c.requires.seat.0, omega (arith, c.requires.seat.1), may_store t.key t.table_id.slots c.args.seat.now.id c.args.chunk c.args.label c.args.seat.now.me (omega (arith, c.args.self.now.sized, c.requires.seat.1)) c.requires.may)
+store-requires c = let t = c.args.self.now.table.shared in (
+  c.requires.seat.0,
+  omega (arith, c.requires.seat.1),
+  may_put_label t.key t.table_id.slots c.args.seat.now.id
+      c.args.chunk c.args.label c.args.seat.now.me (omega (arith, c.args.self.now.sized, c.requires.seat.1))
+      c.requires.may,
+)

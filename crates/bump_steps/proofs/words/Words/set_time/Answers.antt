@@ -1,6 +1,11 @@
 use Rattle.std.proofs.Common.{arith}
-use Rattle.bump_steps.proofs.Marking.{sets_time}
+use Rattle.bump_steps.proofs.Marking.{may_store_time}
 use Rattle.bump_steps.proofs.words.Words.set_time.Goals as goal
 
 pub store-requires : goal.store-requires
-store-requires c = let t = c.args.self.now.table.shared in (c.requires.seat.0, omega (arith, c.requires.seat.1), sets_time t.key t.table_id.slots c.args.seat.now.id c.args.seat.now.me c.args.chunk (omega (arith, c.args.self.now.sized, c.requires.seat.1)) c.args.now)
+store-requires c = let t = c.args.self.now.table.shared in (
+  c.requires.seat.0,
+  omega (arith, c.requires.seat.1),
+  may_store_time t.key t.table_id.slots c.args.seat.now.id
+      c.args.seat.now.me c.args.chunk (omega (arith, c.args.self.now.sized, c.requires.seat.1)) c.args.now,
+)

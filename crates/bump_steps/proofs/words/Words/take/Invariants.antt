@@ -1,10 +1,11 @@
 use Rattle.std.proofs.Common.{◌≡◌, List}
 use Rattle.bump_rules.specs.declared.items.Head.{Head}
-use Rattle.bump_steps.proofs.Tries.{Trying}
+use Rattle.bump_steps.proofs.Tries.{TryingToTake}
 use Rattle.bump_steps.proofs.words.Words.take.Given as goal
 
 abbrev pub invariant-loop-failed : goal.invariant-loop-failed
 invariant-loop-failed l = record {
   same : (l.seat.table_id ≡ l.fn.seat.table_id) × (l.seat.id ≡ l.fn.seat.id);
-  tries : (first : Head) × (more : List Head) × Trying l.limit l.life l.fn.seat.me l.seat.me l.word l.failed first more;
+  tries : (first : Head) × (more : List Head) × TryingToTake l.limit l.life l.fn.seat.me l.seat.me l.word l.failed
+      first more;
 }

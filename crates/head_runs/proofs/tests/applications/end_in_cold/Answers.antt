@@ -8,18 +8,17 @@ use Rattle.bump_rules.proofs.Replay.{standing_push}
 use Rattle.bump_word.specs.Words.{word_of}
 use Rattle.bump_steps.specs.declared.views.ClassPart.{ClassPart}
 use Rattle.bump_heads.specs.declared.views.ClassView.{ClassView}
-use Rattle.bump_steps.specs.Lives.{freed, looked}
-use Rattle.bump_heads.specs.Linking.{without_life, with_sight}
+use Rattle.bump_steps.specs.Lives.{class_after_load, class_after_sweep, class_after_sweep_or_load, class_after_unlink}
 use Rattle.bump_steps.specs.Views.{standing}
 use Rattle.head_runs.proofs.tests.applications.end_in_cold.Goals as goal
 
 -- the chunk is DYING where its life ended
-dying : (k : ClassPart) (h : Head) → (standing (without_life 0 h k) 0).0 ≡ Dying
+dying : (k : ClassPart) (h : Head) → (standing (class_after_unlink 0 (word_of h) k) 0).0 ≡ Dying
 dying k h = ap (λ (s : Standing). s.0) (standing_push 0 (Unused, k.fresh) k.history (Unlinked (life 0 (standing k 0).1)))
 
 -- it stays there where a look finds a reference
-still : (k : ClassPart) (h : Head) → h.refs ≢ 0 → (standing (with_sight 0 h k) 0).0 ≡ (standing k 0).0
-still k h some = ap (λ (b : Bool). (standing (if b then freed 0 (word_of h) k else looked 0 (word_of h) k) 0).0) (ne_eqb h.refs 0 some)
+still : (k : ClassPart) (h : Head) → h.refs ≢ 0 → (standing (class_after_sweep_or_load 0 h.refs (word_of h) k) 0).0 ≡ (standing k 0).0
+still k h some = ap (λ (b : Bool). (standing (if b then class_after_sweep 0 (word_of h) k else class_after_load 0 (word_of h) k) 0).0) (ne_eqb h.refs 0 some)
 
 pub seen_unheld-held-requires-clause-dying : goal.seen_unheld-held-requires-clause-dying
 seen_unheld-held-requires-clause-dying g c = ap (λ (x : ClassView). (standing x.part 0).0) c.end_life.ensures.ended ∙ dying c.args.class.now.part c.end_life.result

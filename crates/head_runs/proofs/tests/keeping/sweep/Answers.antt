@@ -6,8 +6,8 @@ use Rattle.bump_rules.specs.Lives.{life}
 use Rattle.bump_word.specs.Words.{word_of}
 use Rattle.bump_steps.specs.declared.views.ClassPart.{ClassPart}
 use Rattle.bump_heads.specs.declared.views.ClassView.{ClassView}
-use Rattle.bump_heads.specs.Linking.{place_of_chunk, with_sight}
-use Rattle.bump_steps.specs.Lives.{freed, looked}
+use Rattle.bump_heads.specs.Linking.{place_of_chunk}
+use Rattle.bump_steps.specs.Lives.{class_after_load, class_after_sweep, class_after_sweep_or_load}
 use Rattle.bump_steps.specs.Views.{standing}
 use Rattle.bump_heads.proofs.ClassParts.{entered_place}
 use Rattle.head_runs.proofs.tests.keeping.sweep.Goals as goal
@@ -18,8 +18,8 @@ module _ (k : ClassPart) (c : ℕ) (h : Head) (none : h.refs ≡ 0) (d : ℕ) wh
   freeing b = if b then change.Retired (life c (standing k c).1) else change.Swept (life c (standing k c).1)
 
   -- a chunk that is seen without references has this entry more
-  freed_as : (b : Bool) → ((standing k c).1 == 4294967295) ≡ b → place_of_chunk (with_sight c h k) d ≡ place_of_chunk (record k { history = k.history ++ freeing b ∷ [] }) d
-  freed_as b is = ap₂ (λ (x y : Bool). place_of_chunk (if x then record (freed c (word_of h) k) { history = k.history ++ freeing y ∷ [] } else looked c (word_of h) k) d) (eq-eqb h.refs 0 none) is
+  freed_as : (b : Bool) → ((standing k c).1 == 4294967295) ≡ b → place_of_chunk (class_after_sweep_or_load c h.refs (word_of h) k) d ≡ place_of_chunk (record k { history = k.history ++ freeing b ∷ [] }) d
+  freed_as b is = ap₂ (λ (x y : Bool). place_of_chunk (if x then record (class_after_sweep c (word_of h) k) { history = k.history ++ freeing y ∷ [] } else class_after_load c (word_of h) k) d) (eq-eqb h.refs 0 none) is
 
 pub returns-then-head-clause-stand : goal.returns-then-head-clause-stand
 returns-then-head-clause-stand g c d =

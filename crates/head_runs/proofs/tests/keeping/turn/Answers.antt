@@ -9,21 +9,21 @@ use Rattle.bump_rules.specs.History.{place_of}
 use Rattle.bump_rules.specs.Lives.{life}
 use Rattle.bump_heads.specs.declared.views.ClassView.{ClassView}
 use Rattle.bump_steps.specs.declared.views.LanePart.{LanePart}
-use Rattle.bump_heads.specs.Applying.{shifted_class}
+use Rattle.bump_heads.specs.Applying.{seat_after_move}
 use Rattle.bump_heads.proofs.ClassParts.{entered_place}
 use Rattle.bump_heads.specs.Linking.{place_of_chunk}
 use Rattle.bump_steps.specs.Views.{standing}
 use Rattle.head_runs.proofs.tests.keeping.turn.Goals as goal
 
 -- where a pull's move leaves each chunk
-shifted : (v : ClassView) (c : ℕ) (from to : Segment) (h : Head) → v.lane ≡ None → (d : ℕ) → place_of_chunk (shifted_class c from to h v).part d ≡ cond (eqb c d) (place_of to) (place_of_chunk v.part d)
-shifted v c from to h alone d = ap (λ (o : Option LanePart). place_of_chunk (shifted_class c from to h (record v { lane = o })).part d) alone
+shifted : (v : ClassView) (c : ℕ) (from to : Segment) (h : Head) → v.lane ≡ None → (d : ℕ) → place_of_chunk (seat_after_move c from to h v).part d ≡ cond (eqb c d) (place_of to) (place_of_chunk v.part d)
+shifted v c from to h alone d = ap (λ (o : Option LanePart). place_of_chunk (seat_after_move c from to h (record v { lane = o })).part d) alone
     ∙ entered_place v.part _ d
 
 pub returns-in-Unused-clause-stand : goal.returns-in-Unused-clause-stand
 returns-in-Unused-clause-stand g c d =
     let o = c.open_life in
-    ap (λ (x : ClassView). place_of_chunk x.part d) o.ensures.begun
+    ap (λ (x : ClassView). place_of_chunk x.part d) o.ensures.opened
     ∙ entered_place c.put_time.new.self.part (Linked (life o.result.chunk o.result.generation)) d
     ∙ ap₂ (λ (a : ℕ) (p : Place). cond (eqb a d) Hot p)
     (ap (λ x. x.chunk) o.ensures.next)

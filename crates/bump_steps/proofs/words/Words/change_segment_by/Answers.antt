@@ -1,0 +1,25 @@
+use Rattle.std.proofs.Common.{◌+◌, arith, ℕ, ◌*◌, sym, subst, bit_xor}
+use mathlib.Core.Option.{none}
+use Rattle.atomic_table.specs.Table.{step, Allows}
+use Rattle.bump_rules.specs.declared.places.Segment.{Segment}
+use Rattle.bump_steps.specs.Rule.{Kept}
+use Rattle.bump_steps.specs.Plays.{on_chunk}
+use Rattle.bump_steps.specs.Applications.{move_tells}
+use Rattle.bump_steps.proofs.Applications.{may_move}
+use Rattle.bump_steps.proofs.words.Words.change_segment_by.Goals as goal
+
+pub fetch_xor-requires : goal.fetch_xor-requires
+fetch_xor-requires g c = let t = c.args.self.now.table.shared in let m = c.args.seat.now.me in let x : ℕ =
+    c.segment_xor.result in (
+      c.requires.seat.0,
+      omega (arith, c.requires.seat.1),
+      subst (λ (k : ℕ). Allows (Kept t.key) t.table_id.slots c.args.seat.now.id m (3 * c.args.chunk + 9)
+          (λ n. bit_xor n k) (on_chunk (move_tells g.W.Moving.from g.W.Moving.to)
+          (step t.table_id.slots (3 * c.args.chunk + 9) x 0 none) m)) (sym c.segment_xor.ensures)
+          (subst (λ (s : Segment × Segment). Allows (Kept t.key) t.table_id.slots c.args.seat.now.id m
+          (3 * c.args.chunk + 9) (λ n. bit_xor n (Rattle.bump_word.specs.Words.segment_change c.args.from c.args.to))
+          (on_chunk (move_tells s.0 s.1) (step t.table_id.slots (3 * c.args.chunk + 9) x 0 none) m))
+          (λ i. (c.requires.segments.0 i, c.requires.segments.1 i))
+          (may_move t.key t.table_id.slots c.args.seat.now.id c.args.chunk x c.args.from c.args.to m
+          (omega (arith, c.args.self.now.sized, c.requires.seat.1)) c.requires.may)),
+    )

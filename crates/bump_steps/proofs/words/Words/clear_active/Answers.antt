@@ -1,0 +1,11 @@
+use Rattle.std.proofs.Common.{arith}
+use Rattle.bump_steps.proofs.Applications.{may_clear_active}
+use Rattle.bump_steps.proofs.words.Words.clear_active.Goals as goal
+
+pub fetch_and-requires : goal.fetch_and-requires
+fetch_and-requires c = let t = c.args.self.now.table.shared in (
+  c.requires.seat.0,
+  omega (arith, c.requires.seat.1),
+  may_clear_active t.key t.table_id.slots c.args.seat.now.id
+      c.args.seat.now.me c.args.chunk (omega (arith, c.args.self.now.sized, c.requires.seat.1)),
+)

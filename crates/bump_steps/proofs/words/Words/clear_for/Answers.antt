@@ -1,6 +1,0 @@
-use Rattle.std.proofs.Common.{arith}
-use Rattle.bump_steps.proofs.Applications.{clears}
-use Rattle.bump_steps.proofs.words.Words.clear_for.Goals as goal
-
-pub fetch_and-requires : goal.fetch_and-requires
-fetch_and-requires c = let t = c.args.self.now.table.shared in (c.requires.seat.0, omega (arith, c.requires.seat.1), clears t.key t.table_id.slots c.args.seat.now.id c.args.seat.now.me c.args.chunk (omega (arith, c.args.self.now.sized, c.requires.seat.1)))

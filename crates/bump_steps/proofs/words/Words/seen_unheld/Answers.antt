@@ -1,0 +1,11 @@
+use Rattle.std.proofs.Common.{arith}
+use Rattle.bump_steps.proofs.Entering.{may_sweep}
+use Rattle.bump_steps.proofs.words.Words.seen_unheld.Goals as goal
+
+pub load-requires : goal.load-requires
+load-requires c = let t = c.args.self.now.table.shared in (
+  c.requires.seat.0,
+  omega (arith, c.requires.seat.1),
+  may_sweep t.key t.table_id.slots c.args.seat.now.id
+      c.args.chunk c.args.seat.now.me (omega (arith, c.args.self.now.sized, c.requires.seat.1)) c.requires.may,
+)

@@ -1,6 +1,0 @@
-use Rattle.std.proofs.Common.{arith}
-use Rattle.bump_steps.proofs.Applications.{times}
-use Rattle.bump_steps.proofs.words.Words.time_for.Goals as goal
-
-pub store-requires : goal.store-requires
-store-requires c = let t = c.args.self.now.table.shared in (c.requires.seat.0, omega (arith, c.requires.seat.1), times t.key t.table_id.slots c.args.seat.now.id c.args.seat.now.me c.args.chunk (omega (arith, c.args.self.now.sized, c.requires.seat.1)) c.args.now)
