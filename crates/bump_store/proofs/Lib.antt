@@ -1,0 +1,3 @@
+mod AttemptLemmas
+mod HitLemmas
+mod StepLemmas

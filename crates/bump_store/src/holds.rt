@@ -1,0 +1,48 @@
+//! Holds. Contracts see plain data.
+ghost use Rattle.std.specs.Prelude.{◌≡◌, ◌++◌, ◌∷◌, []};
+ghost use Rattle.bump_rules.specs.Totals.{total};
+ghost use Rattle.bump_steps.specs.Views.{differs};
+ghost use Rattle.bump_steps.specs.declared.views.HoldPart.{HoldPart as TheHoldPart};
+ghost use Rattle.bump_store.specs.Holds.{part_of, whole};
+
+use bump_readers::{Hold as Held, Name, ReaderHeads};
+use bump_rules::ItemId;
+use std::marker::Model;
+
+/// A reference to an item, which a reader has. While there is one, the item's chunk isn't free and keeps its
+/// generation, whatever is unlinked meanwhile. It may go to another thread, and it must be spent, by `release`.
+pub struct Hold<N: Name> {
+    pub(crate) held: Held<N>,
+}
+
+impl<N: Name> Model for Hold<N> {
+    ghost Value = { TheHoldPart };
+
+    ghost view = { λ h. part_of h.held };
+
+    ghost invariant = { λ h. h.held ≡ whole (part_of h.held) };
+}
+
+impl<N: Name> Hold<N> {
+    /// The item that is held.
+    pub fn life(&self) -> ItemId
+        ensures { result ≡ self.now.life }
+    {
+        self.held.life()
+    }
+
+    /// The label of the item, by one load. It is each label that this hold read before.
+    pub fn label(&mut self, heads: &ReaderHeads<N>) -> u64
+        ensures read { self.new ≡ record self.old { labels = self.old.labels ++ result ∷ [] } }
+        ensures same { total (differs result) self.old.labels ≡ 0 }
+    {
+        heads.label_of(&mut self.held)
+    }
+
+    /// Gives the reference back, by one subtraction on the head word, as memcached's `do_item_remove`. Where the item
+    /// was unlinked meanwhile, and nobody else holds it, a sweep of its class finds its chunk free from then on.
+    pub fn release(self, heads: &ReaderHeads<N>) {
+        let Hold { held } = self;
+        heads.give_back(held);
+    }
+}

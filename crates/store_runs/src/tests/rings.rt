@@ -1,0 +1,51 @@
+//! A ring by itself: order, room, and what a closed one shows.
+use super::stores::{Scene, Small, play, sized};
+use bump_heads::Name;
+use bump_ring::ring;
+use bump_rules::Touch;
+use std::alloc::{AllocError, Global};
+use std::process::Abort;
+use std::sync::Wait;
+use std::test::Fail;
+
+/// Bumps come out in the order in which they were queued, and none comes twice.
+pub fn take_in_order<N: Name, R: Abort + Wait>(rt: &R, small: &mut Small<N>) {
+    assert!(rt; small.receiver.take(rt).is_none());
+    for chunk in 0..3u64 {
+        let item = small.link_cold(rt, chunk, 1);
+        small.hit(rt, item, 2);
+        assert_eq!(rt; small.hit(rt, item, 3), (chunk, Touch::Queued(chunk)));
+    }
+    assert_eq!(rt; small.receiver.known(), 0);
+    for chunk in 0..3u32 {
+        let rider = small.receiver.take(rt).expect(rt, "there is one");
+        assert_eq!(rt;
+            (rider.number(), rider.life().chunk),
+            (u64::from(chunk), chunk)
+        );
+    }
+    assert!(rt; small.receiver.take(rt).is_none());
+}
+
+#[test]
+fn bumps_are_taken_in_order(rt: HostRuntime) -> Result<(), Fail> {
+    Ok(play(&rt, rt.alloc(), sized(4, 4, 3, 0, 5), Scene::TakenInOrder)?)
+}
+
+/// A ring that was closed while it was empty shows its end, again and again.
+pub fn close_ring<N: Name, R: Abort + Wait>(rt: &R, alloc: Global) -> Result<(), AllocError> {
+    let (sender, mut receiver) = ring::<N>(alloc, 2)?;
+    assert_eq!(rt; sender.accepted(), 0);
+    let mut closed = sender.close();
+    assert_eq!(rt; closed.accepted(), 0);
+    assert_eq!(rt; receiver.rest(&mut closed), Some(0));
+    assert_eq!(rt; receiver.rest(&mut closed), Some(0));
+    assert!(rt; receiver.take(rt).is_none());
+    assert_eq!(rt; receiver.known(), 0);
+    Ok(())
+}
+
+#[test]
+fn a_closed_ring_shows_its_end(rt: HostRuntime) -> Result<(), Fail> {
+    Ok(play(&rt, rt.alloc(), sized(4, 4, 2, 0, 5), Scene::Closed)?)
+}

@@ -1,0 +1,142 @@
+//! Every answer of a touch that one thread can make.
+use super::stores::{Scene, Small, head, play, sized};
+use bump_heads::Name;
+use bump_rules::{Dropped, Ended, Pulled, Segment, Tail, Touch};
+use std::process::Abort;
+use std::sync::Wait;
+use std::test::Fail;
+
+/// The second hit in HOT marks the item, and bumps nothing.
+pub fn mark_in_hot<N: Name, R: Abort + Wait>(rt: &R, small: &mut Small<N>) {
+    let item = small.link(rt, 7, 3);
+    assert_eq!(rt; small.hit(rt, item, 4), (7, Touch::First));
+    assert_eq!(rt; small.see(rt, 0), (head(1, "lf", Segment::Hot), 3));
+    assert_eq!(rt; small.hit(rt, item, 5), (7, Touch::Marked));
+    assert_eq!(rt; small.see(rt, 0), (head(1, "lfa", Segment::Hot), 5));
+    assert_eq!(rt; small.hit(rt, item, 6), (7, Touch::Already));
+    assert_eq!(rt; small.see(rt, 0), (head(1, "lfa", Segment::Hot), 5));
+    assert_eq!(rt; small.counts(), [0, 0, 0, 0, 0]);
+}
+
+#[test]
+fn the_second_hit_in_hot_marks(rt: HostRuntime) -> Result<(), Fail> {
+    Ok(play(&rt, rt.alloc(), sized(4, 4, 2, 5, 5), Scene::MarkedInHot)?)
+}
+
+/// So does a hit in WARM, where a pull took the mark away.
+pub fn mark_in_warm<N: Name, R: Abort + Wait>(rt: &R, small: &mut Small<N>) {
+    let item = small.link(rt, 7, 3);
+    small.hit(rt, item, 4);
+    small.hit(rt, item, 5);
+    assert_eq!(rt; small.book.pull(Tail::Hot), Pulled::Warm(item));
+    assert_eq!(rt; small.hit(rt, item, 7), (7, Touch::Marked));
+    assert_eq!(rt; small.see(rt, 0), (head(1, "lfa", Segment::Warm), 7));
+    assert_eq!(rt; small.book.pull(Tail::Warm), Pulled::Again(item));
+    assert_eq!(rt; small.see(rt, 0), (head(1, "lf", Segment::Warm), 7));
+}
+
+#[test]
+fn a_rescued_item_is_marked_again(rt: HostRuntime) -> Result<(), Fail> {
+    Ok(play(&rt, rt.alloc(), sized(4, 4, 2, 0, 1), Scene::MarkedInWarm)?)
+}
+
+/// The second hit in COLD queues a bump, which has a reference, and a third one finds the item ACTIVE.
+pub fn queue_in_cold<N: Name, R: Abort + Wait>(rt: &R, small: &mut Small<N>) {
+    let item = small.link_cold(rt, 7, 3);
+    assert_eq!(rt; small.hit(rt, item, 5), (7, Touch::First));
+    assert_eq!(rt; small.hit(rt, item, 6), (7, Touch::Queued(0)));
+    assert_eq!(rt; small.hit(rt, item, 7), (7, Touch::Already));
+    assert_eq!(rt; small.see(rt, 0), (head(2, "lfa", Segment::Cold), 3));
+    assert_eq!(rt; small.counts(), [1, 1, 0, 0, 0]);
+}
+
+#[test]
+fn a_bump_is_queued_once(rt: HostRuntime) -> Result<(), Fail> {
+    Ok(play(&rt, rt.alloc(), sized(4, 4, 2, 0, 5), Scene::QueuedInCold)?)
+}
+
+/// A bump that finds no room is dropped: FETCHED stays, ACTIVE is clear again, and the reference was given back. Once
+/// a bump was taken out of the ring, one more hit queues it.
+pub fn drop_without_room<N: Name, R: Abort + Wait>(rt: &R, small: &mut Small<N>) {
+    let first = small.link_cold(rt, 7, 3);
+    let second = small.link_cold(rt, 8, 4);
+    small.hit(rt, first, 7);
+    assert_eq!(rt; small.hit(rt, first, 8), (7, Touch::Queued(0)));
+    assert_eq!(rt; small.hit(rt, second, 9), (8, Touch::First));
+    assert_eq!(rt;
+        small.hit(rt, second, 10),
+        (8, Touch::Dropped(Dropped::Full))
+    );
+    assert_eq!(rt; small.see(rt, 0), (head(2, "lfa", Segment::Cold), 3));
+    assert_eq!(rt; small.see(rt, 1), (head(1, "lf", Segment::Cold), 4));
+    assert_eq!(rt; small.counts(), [2, 1, 1, 0, 0]);
+    let rider = small.receiver.take(rt).expect(rt, "there is one");
+    assert_eq!(rt;
+        (rider.worker(), rider.number(), rider.life()),
+        (0, 0, first)
+    );
+    assert_eq!(rt; small.hit(rt, second, 11), (8, Touch::Queued(1)));
+    assert_eq!(rt; small.counts(), [3, 2, 1, 0, 0]);
+}
+
+#[test]
+fn a_bump_without_room_is_dropped(rt: HostRuntime) -> Result<(), Fail> {
+    Ok(play(
+        &rt,
+        rt.alloc(),
+        sized(1, 4, 2, 0, 5),
+        Scene::DroppedWithoutRoom,
+    )?)
+}
+
+/// Where the count is at its limit, neither a hold nor a bump gets a reference.
+pub fn drop_at_limit<N: Name, R: Abort + Wait>(rt: &R, small: &mut Small<N>) {
+    let item = small.link(rt, 7, 3);
+    let hold = small
+        .worker
+        .get(&small.heads, item)
+        .expect(rt, "it is linked");
+    assert_eq!(rt; small.refusal(item), Some(bump_store::GetRefusal::RefsFull));
+    hold.release(&small.heads);
+    assert_eq!(rt; small.book.pull(Tail::Hot), Pulled::Cold(item));
+    assert_eq!(rt; small.hit(rt, item, 9), (7, Touch::First));
+    assert_eq!(rt;
+        small.hit(rt, item, 10),
+        (7, Touch::Dropped(Dropped::RefsFull))
+    );
+    assert_eq!(rt; small.see(rt, 0), (head(1, "lf", Segment::Cold), 3));
+    assert_eq!(rt; small.counts(), [1, 0, 0, 0, 1]);
+}
+
+#[test]
+fn a_bump_at_the_limit_is_dropped(rt: HostRuntime) -> Result<(), Fail> {
+    Ok(play(&rt, rt.alloc(), sized(4, 2, 2, 0, 5), Scene::DroppedAtLimit)?)
+}
+
+/// An item that was unlinked while it was held is judged by the segment that it had. Its bump holds it.
+pub fn touch_unlinked<N: Name, R: Abort + Wait>(rt: &R, small: &mut Small<N>) {
+    let item = small.link_cold(rt, 7, 3);
+    let mut hold = small
+        .worker
+        .get(&small.heads, item)
+        .expect(rt, "it is linked");
+    let ended = small.book.unlink(item).expect(rt, "it is linked");
+    assert_eq!(rt; ended, Ended::Deferred);
+    let touch = small.worker.touch(rt, &small.heads, &mut hold, 7);
+    assert_eq!(rt; touch, Touch::First);
+    let touch = small.worker.touch(rt, &small.heads, &mut hold, 8);
+    assert_eq!(rt; touch, Touch::Queued(0));
+    hold.release(&small.heads);
+    assert_eq!(rt; small.see(rt, 0), (head(1, "fa", Segment::Cold), 3));
+    assert_eq!(rt; small.book.sweep(), 0);
+}
+
+#[test]
+fn an_unlinked_item_is_touched(rt: HostRuntime) -> Result<(), Fail> {
+    Ok(play(
+        &rt,
+        rt.alloc(),
+        sized(4, 4, 1, 0, 5),
+        Scene::TouchedUnlinked,
+    )?)
+}
