@@ -1,9 +1,9 @@
-//! The calls of a `Book` of `bump_class`: index lists in safe Rust, over plain atomics. A module of hits.rs. As in `bump_class`, whoever
+//! The calls of a `Book` of `bump_class`: index lists in safe Rust, over plain atomics. A module of changes.rs. As in `bump_class`, whoever
 //! has the Book has the class's lock: none is taken here.
 
 use crate::lists::Lists;
 use crate::places::{Ended, Place, Tail};
-use crate::{ACTIVE, COLD, Chunk, ItemId, LINKED, REFS};
+use crate::words::{ACTIVE, COLD, Chunk, ItemId, LINKED, REFS, generation_of};
 use std::sync::Arc;
 use std::sync::atomic::Ordering::SeqCst;
 
@@ -69,10 +69,6 @@ pub struct Book {
     count: u32,
     hot_limit: u32,
     warm_limit: u32,
-}
-
-fn generation_of(word: u64) -> u32 {
-    (word >> 32) as u32
 }
 
 impl Book {

@@ -1,8 +1,9 @@
-//! The workloads of `bump_bench` that call a `Book`. A module of hits.rs.
+//! The workloads of `bump_bench` that call a `Book`. A module of changes.rs.
 
 use crate::books::{Book, Class, Pulled};
 use crate::places::{Ended, Place, Tail};
-use crate::{ACTIVE, COLD, Chunk, FETCHED, ItemId, SEGMENT, Tally, lives, one_more};
+use crate::measure::{Tally, one_more};
+use crate::words::{ACTIVE, COLD, Chunk, FETCHED, ItemId, SEGMENT, lives};
 use std::sync::atomic::AtomicU64;
 use std::sync::atomic::Ordering::SeqCst;
 use std::time::Instant;
@@ -214,7 +215,7 @@ pub fn pass(calls: Calls) -> (u64, Tally) {
     for number in 0..calls.items {
         let _linked = book.link(number as u64, 0);
     }
-    let items = lives(calls.class.chunks, 0, calls.items, false);
+    let items = lives(0, calls.items);
     for &before in calls.before {
         prepare(&mut book, &items, before);
     }

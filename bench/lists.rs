@@ -1,4 +1,4 @@
-//! Index lists: nodes in an array, each of them in one of a few doubly linked lists. A module of hits.rs and of model.rs.
+//! Index lists: nodes in an array, each of them in one of a few doubly linked lists. A module of changes.rs and of model.rs.
 
 /// No node.
 const NONE: u32 = u32::MAX;

@@ -1,7 +1,7 @@
-//! Moves to the front among eight lists, and the workloads of `bump_bench` that make them. A module of hits.rs.
+//! Moves to the front among eight lists, and the workloads of `bump_bench` that make them. A module of changes.rs.
 
-use crate::Tally;
 use crate::lists::Lists;
+use crate::measure::Tally;
 use std::time::Instant;
 
 #[derive(Clone, Copy)]

@@ -1,4 +1,4 @@
-//! The lists of a class, what is pulled from them, and how an item's life ends. A module of hits.rs and of model.rs.
+//! The lists of a class, what is pulled from them, and how an item's life ends. A module of changes.rs and of model.rs.
 
 #[derive(Clone, Copy, PartialEq, Eq)]
 pub enum Place {

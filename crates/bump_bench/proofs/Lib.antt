@@ -1,3 +1,0 @@
-mod Linked
-mod Rode
-mod Workers

@@ -1,16 +1,12 @@
 //! Calls of a Book, by one thread: how a class is prepared for them, and the loops that are timed.
-ghost use Rattle.std.specs.Prelude.{◌≡◌, ◌<◌, All};
-ghost use Rattle.bump_steps.specs.Rule.{chunks as all_chunks};
-ghost use Rattle.bump_bench.specs.Readers.{IsReady};
-
 use crate::calls::Calls;
-use crate::passes::{Tally, hits, one_more, rides};
-use crate::readers::{Reader, Touched};
-use crate::stores::lives;
 use bump_class::Book;
-use bump_heads::{Heads, Name, WorkerSeat};
+use bump_readers::{Name, ReaderHeads};
 use bump_rules::{Ended, ItemId, Pulled, Tail};
+use bump_store::Worker;
+use measuring::{Tally, lives, one_more};
 use std::alloc::{AllocError, Global};
+use std::sync::Wait;
 
 /// What is called, again and again.
 #[derive(Clone, Copy)]
@@ -28,11 +24,8 @@ pub enum Call {
 /// What is done with each item before the calls.
 #[derive(Clone, Copy)]
 pub enum Before {
-    /// It is hit: the first hit sets FETCHED, and the second ACTIVE.
+    /// It is hit: the first hit sets FETCHED, and the second ACTIVE. In COLD its bump is under way from then on, which holds it.
     Hit,
-
-    /// It is hit in COLD, and its bump is under way from then on: it is ACTIVE, and held.
-    Ride,
 
     /// It is pulled.
     Pull(Tail),
@@ -41,75 +34,56 @@ pub enum Before {
     End,
 }
 
-/// Links so many items.
-pub fn link_all<N: Name>(book: &mut Book<N>, items: u32) {
-    for number in 0..items {
-        let _linked = book.link(u64::from(number), 0);
+// Hits each item.
+fn hit_all<N: Name, R: Wait>(
+    rt: &R,
+    heads: &ReaderHeads<N>,
+    worker: &mut Worker<N>,
+    items: &[ItemId],
+) {
+    for item in items {
+        if let Ok(mut hold) = worker.get(heads, *item) {
+            worker.touch(rt, heads, &mut hold, 0);
+            hold.release(heads);
+        }
     }
 }
 
 // Ends the life of each item while it is held.
-fn end_held<N: Name>(heads: &Heads<N>, reader: &mut Reader<N>, book: &mut Book<N>, items: &[ItemId])
-    requires ready { IsReady reader.old.seat reader.old.attempted reader.old.accepted }
-    requires items { All (λ i. i.chunk < all_chunks heads.now) items.now }
-    ensures { IsReady reader.new.seat reader.new.attempted reader.new.accepted }
-{
-    for item in items {
-        if let Ok(hold) = heads.take(&mut reader.seat, *item) {
-            let _ended = book.unlink(*item);
-            heads.give_back(hold);
-        }
-    }
-}
-
-// Does one thing with all items.
-fn prepare<N: Name>(
-    heads: &Heads<N>,
-    reader: &mut Reader<N>,
+fn end_held<N: Name>(
+    heads: &ReaderHeads<N>,
+    worker: &mut Worker<N>,
     book: &mut Book<N>,
     items: &[ItemId],
-    before: Before,
-)
-    requires ready { IsReady reader.old.seat reader.old.attempted reader.old.accepted }
-    requires items { All (λ i. i.chunk < all_chunks heads.now) items.now }
-    ensures { IsReady reader.new.seat reader.new.attempted reader.new.accepted }
-{
-    match before {
-        Before::Hit => {
-            hits(heads, reader, items, 1, Touched::First);
-        }
-        Before::Ride => rides(heads, reader, items),
-        Before::End => end_held(heads, reader, book, items),
-        Before::Pull(tail) => {
-            for _item in items {
-                book.pull(tail);
-            }
+) {
+    for item in items {
+        if let Ok(hold) = worker.get(heads, *item) {
+            let _ended = book.unlink(*item);
+            hold.release(heads);
         }
     }
 }
 
-/// Does what the calls want done before, with a worker that is ready.
-pub fn prepare_all<N: Name>(
+/// Does what the calls want done before, with all items, one thing after another.
+pub fn prepare_all<N: Name, R: Wait>(
+    rt: &R,
     alloc: Global,
-    heads: &Heads<N>,
-    worker: WorkerSeat<N>,
+    heads: &ReaderHeads<N>,
+    worker: &mut Worker<N>,
     book: &mut Book<N>,
     calls: Calls,
-) -> Result<(), AllocError>
-    requires ready { IsReady worker 0 0 }
-{
-    let chunks = heads.chunks();
-    if chunks == 0 {
-        return Ok(());
-    }
-    let items = lives(alloc, chunks, 0, calls.items, false)?;
-    let mut reader = Reader {
-        seat: worker,
-        attempted: 0,
-        accepted: 0,
-    };
+) -> Result<(), AllocError> {
+    let items = lives(alloc, 0, calls.items)?;
     for before in calls.before {
-        prepare(heads, &mut reader, book, &items, *before);
+        match *before {
+            Before::Hit => hit_all(rt, heads, worker, &items),
+            Before::End => end_held(heads, worker, book, &items),
+            Before::Pull(tail) => {
+                for _item in &items {
+                    book.pull(tail);
+                }
+            }
+        }
     }
     Ok(())
 }
@@ -130,7 +104,7 @@ fn links<N: Name>(book: &mut Book<N>, times: u32) -> Tally {
     Tally {
         refused,
         right,
-        labels: 0,
+        ..Tally::NONE
     }
 }
 
@@ -148,16 +122,15 @@ fn pulls<N: Name>(book: &mut Book<N>, tail: Tail, times: u32) -> Tally {
     Tally {
         refused,
         right,
-        labels: 0,
+        ..Tally::NONE
     }
 }
 
 // Sweeps the class. Right is a chunk that is freed.
 fn sweeps<N: Name>(book: &mut Book<N>) -> Tally {
     Tally {
-        refused: 0,
         right: u64::from(book.sweep()),
-        labels: 0,
+        ..Tally::NONE
     }
 }
 

@@ -132,7 +132,7 @@ pub const CALLS: [Calls; 17] = [
     },
     Calls {
         name: "pull_cold_active",
-        before: &[Before::Hit, Before::Pull(Tail::Hot), Before::Ride],
+        before: &[Before::Hit, Before::Pull(Tail::Hot), Before::Hit],
         call: Call::Pull(Tail::Cold),
         behind: Place::Warm,
         ..PULL
@@ -152,7 +152,7 @@ pub const CALLS: [Calls; 17] = [
     },
     Calls {
         name: "pull_evict_held",
-        before: &[Before::Hit, Before::Pull(Tail::Hot), Before::Ride],
+        before: &[Before::Hit, Before::Pull(Tail::Hot), Before::Hit],
         call: Call::Pull(Tail::Evict),
         behind: Place::Dying,
         ..PULL
@@ -173,7 +173,7 @@ pub const CALLS: [Calls; 17] = [
         before: &[
             Before::Hit,
             Before::Pull(Tail::Hot),
-            Before::Ride,
+            Before::Hit,
             Before::Pull(Tail::Evict),
         ],
         behind: Place::Dying,

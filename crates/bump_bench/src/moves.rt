@@ -1,9 +1,8 @@
 //! Moves to the front among lists of `bump_links`, by one thread.
 ghost use Rattle.std.specs.Prelude.{◌≡◌, ◌<◌, ◌≤◌, length, All, IfOk};
 
-use crate::jobs::Spent;
-use crate::passes::Tally;
 use bump_links::{Links, NODES_MAX};
+use measuring::{Spent, Tally};
 use std::alloc::{AllocError, Global};
 use std::io;
 use std::rt::Clock;

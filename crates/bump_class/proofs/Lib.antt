@@ -1,3 +1,7 @@
 pub mod Keeping
 pub mod Refusing
 pub mod Sights
+pub mod SizeLemmas
+pub mod LaneLemmas
+pub mod UpdateLemmas
+pub mod ApplicationLemmas

@@ -4,3 +4,6 @@ pub mod Links
 pub mod Ends
 pub mod Sweeps
 pub mod Pulls
+pub mod Lanes
+pub mod Applications
+pub mod Sizes

@@ -1,10 +1,12 @@
 //! The lists of one class and its seat on the words of the store in one value, which whoever has the class's lock may
-//! change.
+//! change; and the lanes, whose bumps it applies.
 #![tactic(auto)]
 
+mod applications;
 mod books;
 mod changing;
 mod ending;
+mod lanes;
 mod linking;
 mod meeting;
 mod pulling;
@@ -12,4 +14,5 @@ mod sweeping;
 
 pub use books::Book;
 pub use ending::UnlinkRefusal;
+pub use lanes::RawLane;
 pub use linking::LinkRefusal;

@@ -10,7 +10,6 @@ use Rattle.bump_rules.specs.declared.places.Tail.TheVariants as tail
 use Rattle.bump_rules.specs.declared.items.ItemId.{ItemId}
 use Rattle.bump_rules.specs.declared.items.Head.{Head}
 use Rattle.bump_state.specs.declared.chunks.Chunk.{Chunk}
-use Rattle.bump_rules.specs.declared.bumps.Accounts.{Accounts}
 use Rattle.bump_rules.specs.declared.bumps.Applied.{Applied}
 use Rattle.bump_rules.specs.declared.bumps.Applied.TheVariants as applied
 use Rattle.bump_rules.specs.declared.bumps.Ended.{Ended}
@@ -41,6 +40,7 @@ use Rattle.bump_rules.specs.declared.events.Event.{Event}
 use Rattle.bump_rules.specs.declared.events.Event.TheVariants as event
 use Rattle.bump_rules.specs.declared.events.Refused.{Refused}
 use Rattle.bump_rules.specs.declared.events.Refused.TheVariants.{NotEnabled, OutOfMemory}
+use Rattle.bump_rules.specs.Accounts.{counted}
 use Rattle.bump_rules.specs.Lives.{life}
 use Rattle.bump_rules.specs.History.{freed_change}
 use Rattle.bump_rules.specs.Tables.{Get, IsStale, IsRefsFull, IsHeld, is_cold, get_of, ended_of, is_unheld, hit_of, dropped_of, touch_of, outcome_of, pulled_of, pulled_to, segment_of, last_pulled}
@@ -49,15 +49,15 @@ use Rattle.bump_state.specs.State.{State, ClassState, WorkerState, chunk_at, hea
 use Rattle.bump_core.specs.Runs.{one_asks}
 use Rattle.bump_rules.specs.Hands.{is_idle}
 use Rattle.bump_rules.specs.Rings.{most_attempts}
-use Rattle.bump_rules.specs.Heads.{newborn, one_more, one_fewer, fetched_head, active_head, severed_head}
-use Rattle.bump_state.specs.Events.{is_at_rest, is_under_limit, next_chunk, next_life, waiting, next_bump, with_hold, without_hold, unlink, close}
+use Rattle.bump_rules.specs.Heads.{linked_head, one_more, one_fewer, fetched_head, marked_head, unlinked_head}
+use Rattle.bump_state.specs.Events.{is_at_rest, next_chunk, next_life, waiting, next_bump, with_hold, without_hold, unlink, close}
 use Rattle.bump_rules.specs.Lanes.{bump_of, applied_bump, is_half_made}
 
 -- Ends.
 
 -- what the end of a life comes to that is linked: its link's reference is given back first
 abbrev pub unlinked_as : State → ItemId → Ended
-unlinked_as state item = ended_of (severed_head (head_at state item.chunk))
+unlinked_as state item = ended_of (unlinked_head (head_at state item.chunk))
 
 -- an unlinked life's chunk is free where its end came to that
 abbrev pub freed_by : State → ItemId → Ended → State
@@ -155,22 +155,15 @@ room_at state worker = if nat_lt (waiting (worker_at state worker)) state.capaci
 abbrev pub dropped_at : State → ℕ → ItemId → Option Dropped
 dropped_at state worker item = dropped_of state.refs_limit 0 (head_at state item.chunk) (room_at state worker)
 
--- the accounts after an attempt
-abbrev pub counted : Accounts → Option Dropped → Accounts
-counted accounts None = record accounts { attempted = accounts.attempted + 1; accepted = accounts.accepted + 1 }
-counted accounts (Some Full) = record accounts { attempted = accounts.attempted + 1; full = accounts.full + 1 }
-counted accounts (Some Busy) = record accounts { attempted = accounts.attempted + 1; busy = accounts.busy + 1 }
-counted accounts (Some RefsFull) = record accounts { attempted = accounts.attempted + 1; refs = accounts.refs + 1 }
-
 -- an attempt: the bump is queued with a reference of its own, or dropped, which leaves the head as it was
 abbrev pub attempt : State → ℕ → ItemId → Option Dropped → State
 attempt state worker item None =
     let old = worker_at state worker in
-    let held = with_head state item.chunk (one_more (active_head (head_at state item.chunk))) in
-    with_worker held worker (record old { accounts = counted old.accounts None; sent = old.sent ++ item ∷ [] })
+    let held = with_head state item.chunk (one_more (marked_head (head_at state item.chunk))) in
+    with_worker held worker (record old { accounts = counted None old.accounts; sent = old.sent ++ item ∷ [] })
 attempt state worker item (Some dropped) =
     let old = worker_at state worker in
-    with_worker state worker (record old { accounts = counted old.accounts (Some dropped) })
+    with_worker state worker (record old { accounts = counted (Some dropped) old.accounts })
 
 -- a hit, by the hit table
 abbrev pub hit : State → ℕ → ItemId → ℕ → Hit → State
@@ -181,7 +174,7 @@ hit state worker item now IsFirst =
 hit state worker item now IsAlready = state
 hit state worker item now IsMarked =
     let old = chunk_at state item.chunk in
-    with_chunk state item.chunk (record old { head = active_head old.head; time = now })
+    with_chunk state item.chunk (record old { head = marked_head old.head; time = now })
 hit state worker item now Attempts = attempt state worker item (dropped_at state worker item)
 
 -- what a hit answers: a bump gets the number of those sent before it
@@ -317,7 +310,7 @@ answer_of state (command.Close worker) = answer.Done
 abbrev pub link_labelled : State → ℕ → ℕ → ℕ → ℕ → State
 link_labelled state class label now chunk =
     let old = chunk_at state chunk in
-    let head = newborn (old.head.generation + 1) in
+    let head = linked_head (old.head.generation + 1) in
     let stored = with_chunk state chunk (record old { head = head; time = now; label = label }) in
     with_change stored class (change.Linked (next_life state chunk))
 

@@ -9,7 +9,7 @@ use Rattle.bump_rules.specs.Lives.{life}
 use Rattle.bump_state.specs.State.{State, chunk_at, head_at}
 use Rattle.bump_state.specs.Worlds.{place}
 use Rattle.bump_rules.specs.declared.labels.LabelStep.{LabelStep}
-use Rattle.bump_rules.specs.declared.labels.LabelStep.TheVariants.{Stored, Begun}
+use Rattle.bump_rules.specs.declared.labels.LabelStep.TheVariants.{Stored, Linked}
 use Rattle.bump_rules.specs.Labels.{label_of_life}
 
 -- what an event does about labels
@@ -17,7 +17,7 @@ abbrev pub label_steps_of : State → Event → List LabelStep
 label_steps_of state (event.PutLabel class label) =
     option_map_or (λ chunk. Stored chunk label ∷ []) (next_chunk state class) []
 label_steps_of state (event.Link class) =
-    option_map_or (λ chunk. Begun (next_life state chunk) ∷ []) (next_chunk state class) []
+    option_map_or (λ chunk. Linked (next_life state chunk) ∷ []) (next_chunk state class) []
 label_steps_of state _ = []
 
 -- what the events of a run do about labels, in order

@@ -1,4 +1,5 @@
-//! The pure core of bump: a World in which each event is one atomic step of one thread. Its types are those of bump_rules, and its state is that of bump_state.
+//! The pure core of bump: a World in which each event is one atomic step of one thread. Its types are those of
+//! bump_rules, and its state is that of bump_state.
 #![tactic(auto)]
 
 mod commands;

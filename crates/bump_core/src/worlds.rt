@@ -50,9 +50,9 @@ impl World {
         })
     }
 
-    /// Makes an event. Refused as NotEnabled exactly where it isn't enabled, and as OutOfMemory for want of memory; a
-    /// refusal changes nothing. Only an event that asks for memory may want it: a first hit, a Push, an Alight, and what
-    /// changes lists.
+    /// Makes an event. Refused as NotEnabled exactly where it isn't enabled, and as OutOfMemory for want of
+    /// memory; a refusal changes nothing. Only an event that asks for memory may want it: a first hit, a Push, an
+    /// Alight, and what changes lists.
     pub fn step(&mut self, event: Event) -> Result<Reply, Refused>
         ensures step { Steps self.old event self.new result }
         ensures memory { asks_for_memory self.old event ≡ false → IfErr result (λ r. r ≡ NotEnabled) }
@@ -83,10 +83,11 @@ impl World {
         Ok(())
     }
 
-    /// Makes a command: a call as its events, with nothing between them. All room is reserved before anything is changed.
-    /// Refused as NotEnabled where a number is out of range, a worker's ring is closed, a life has no free hold (a hit, a
-    /// release) or no hold (a label), or another command is half made in its way; a refusal changes nothing. Only a command
-    /// of which an event asks for memory may want it: so none that is answered without such an event, as NoSuchChunk, Already or Empty.
+    /// Makes a command: a call as its events, with nothing between them. All room is reserved before anything is
+    /// changed. Refused as NotEnabled where a number is out of range, a worker's ring is closed, a life has no free
+    /// hold (a hit, a release) or no hold (a label), or another command is half made in its way; a refusal changes
+    /// nothing. Only a command of which an event asks for memory may want it: so none that is answered without such
+    /// an event, as NoSuchChunk, Already or Empty.
     pub fn command(&mut self, command: Command) -> Result<Answer, Refused>
         ensures command { Commands self.old command self.new result }
         ensures memory { command_asks_for_memory self.old command ≡ false → IfErr result (λ r. r ≡ NotEnabled) }

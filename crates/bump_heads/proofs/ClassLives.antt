@@ -7,7 +7,7 @@ use Rattle.bump_rules.specs.declared.items.ItemId.{ItemId}
 use Rattle.bump_rules.specs.declared.places.Place.TheVariants.{Unused}
 use Rattle.bump_rules.specs.declared.history.Change.{Change}
 use Rattle.bump_rules.specs.declared.history.Change.TheVariants as change
-use Rattle.bump_rules.specs.declared.labels.LabelStep.TheVariants.{Begun}
+use Rattle.bump_rules.specs.declared.labels.LabelStep.TheVariants.{Linked}
 use Rattle.bump_rules.specs.Entries.{is_stray}
 use Rattle.bump_rules.specs.History.{Standing, subject, target, freed_change}
 use Rattle.bump_rules.specs.Labels.{label_of_life, label_word}
@@ -21,7 +21,7 @@ use Rattle.bump_steps.specs.Views.{owns, standing, last_label}
 use Rattle.bump_heads.specs.Seats.{IsClassPart}
 use Rattle.bump_heads.proofs.ClassParts.{noted_part, entered_part}
 use Rattle.bump_steps.specs.Lives.{class_after_load, class_after_put_label, class_after_link, class_after_unlink, class_after_sweep, class_after_sweep_or_load, IsInSegment}
-use Rattle.bump_steps.proofs.LabelLists.{word_stored, word_begun, life_stored, life_begun, life_begun_else}
+use Rattle.bump_steps.proofs.LabelLists.{word_stored, word_linked, life_stored, life_linked, life_linked_else}
 use Rattle.bump_steps.proofs.Entering.{freed_quiet, freed_subject, freed_unused, used_in_place}
 
 -- two lives of two chunks, or of two generations, are two
@@ -83,16 +83,16 @@ module _ (words : ℕ) (k : ClassPart) (o : IsClassPart words k) where
     next_life = life c ((standing k c).1 + 1)
 
     -- it has the label that was stored last for the chunk
-    pub link_label : label_of_life next_life 0 (k.labels ++ Begun next_life ∷ []) ≡ Some (last_label k c)
-    link_label = life_begun next_life 0 k.labels
+    pub link_label : label_of_life next_life 0 (k.labels ++ Linked next_life ∷ []) ≡ Some (last_label k c)
+    link_label = life_linked next_life 0 k.labels
         (and_from (eqb c c) (eqb ((standing k c).1 + 1) ((standing k c).1 + 1)) (eq-eqb c c refl)
         (eq-eqb ((standing k c).1 + 1) ((standing k c).1 + 1) refl))
         (o.unbegun c ((standing k c).1 + 1) (omega arith))
 
     -- which stays the chunk's
-    label_here : label_of_life next_life 0 (k.labels ++ Begun next_life ∷ []) ≡ Some
-        (label_word c 0 (k.labels ++ Begun next_life ∷ []))
-    label_here = link_label ∙ ap (λ (y : ℕ). Some y) (sym (word_begun c 0 k.labels next_life))
+    label_here : label_of_life next_life 0 (k.labels ++ Linked next_life ∷ []) ≡ Some
+        (label_word c 0 (k.labels ++ Linked next_life ∷ []))
+    label_here = link_label ∙ ap (λ (y : ℕ). Some y) (sym (word_linked c 0 k.labels next_life))
 
     -- and what the class keeps, it keeps
     pub keeps_link : IsClassPart words (class_after_link c ((standing k c).1 + 1) n k)
@@ -103,30 +103,30 @@ module _ (words : ℕ) (k : ClassPart) (o : IsClassPart words k) where
       labelled = λ d mine used. dite (ℕ_discrete d c)
           (λ is. subst (λ (j : ℕ). label_of_life
           (life j (standing (record k { history = k.history ++ change.Linked next_life ∷ [] }) j).1) 0
-          (k.labels ++ Begun next_life ∷ []) ≡ Some (label_word j 0 (k.labels ++ Begun next_life ∷ []))) (sym is)
-          (subst (λ (s : Standing). label_of_life (life c s.1) 0 (k.labels ++ Begun next_life ∷ []) ≡ Some
-          (label_word c 0 (k.labels ++ Begun next_life ∷ [])))
+          (k.labels ++ Linked next_life ∷ []) ≡ Some (label_word j 0 (k.labels ++ Linked next_life ∷ []))) (sym is)
+          (subst (λ (s : Standing). label_of_life (life c s.1) 0 (k.labels ++ Linked next_life ∷ []) ≡ Some
+          (label_word c 0 (k.labels ++ Linked next_life ∷ [])))
           (sym (stands_here c own (change.Linked next_life) refl)) label_here))
-          (λ ne. subst (λ (s : Standing). label_of_life (life d s.1) 0 (k.labels ++ Begun next_life ∷ []) ≡ Some
-          (label_word d 0 (k.labels ++ Begun next_life ∷ [])))
+          (λ ne. subst (λ (s : Standing). label_of_life (life d s.1) 0 (k.labels ++ Linked next_life ∷ []) ≡ Some
+          (label_word d 0 (k.labels ++ Linked next_life ∷ [])))
           (sym (stands_there c own (change.Linked next_life) refl d ne))
-          (life_begun_else (life d (standing k d).1) 0 k.labels next_life
+          (life_linked_else (life d (standing k d).1) 0 k.labels next_life
           (other_of_chunk d c (standing k d).1 ((standing k c).1 + 1) ne)
           ∙ o.labelled d mine (subst (λ (s : Standing). IsUsed s.0)
           (stands_there c own (change.Linked next_life) refl d ne) used)
-          ∙ ap (λ (y : ℕ). Some y) (sym (word_begun d 0 k.labels next_life))));
+          ∙ ap (λ (y : ℕ). Some y) (sym (word_linked d 0 k.labels next_life))));
       unbegun = λ d g later. dite (ℕ_discrete d c)
           (λ is.
           let at : (standing (record k { history = k.history ++ change.Linked next_life ∷ [] }) d).1
           ≡ (standing k c).1 + 1 =
           ap (λ (j : ℕ). (standing (record k { history = k.history ++ change.Linked next_life ∷ [] }) j).1) is
           ∙ ap (λ (s : Standing). s.1) (stands_here c own (change.Linked next_life) refl) in
-          subst (λ (j : ℕ). label_of_life (life j g) 0 (k.labels ++ Begun next_life ∷ []) ≡ None) (sym is)
-          (life_begun_else (life c g) 0 k.labels next_life
+          subst (λ (j : ℕ). label_of_life (life j g) 0 (k.labels ++ Linked next_life ∷ []) ≡ None) (sym is)
+          (life_linked_else (life c g) 0 k.labels next_life
           (ap₂ (λ a b. a && b) (eq-eqb c c refl)
           (ne_eqb g ((standing k c).1 + 1) (λ e. omega (arith, e, at, later))))
           ∙ o.unbegun c g (omega (arith, at, later))))
-          (λ ne. life_begun_else (life d g) 0 k.labels next_life (other_of_chunk d c g ((standing k c).1 + 1) ne)
+          (λ ne. life_linked_else (life d g) 0 k.labels next_life (other_of_chunk d c g ((standing k c).1 + 1) ne)
           ∙ o.unbegun d g (subst (λ (n : ℕ). n < g)
           (ap (λ (s : Standing). s.1) (stands_there c own (change.Linked next_life) refl d ne)) later));
     }

@@ -1,5 +1,5 @@
--- What a class's part keeps over a step: over one that only notes itself, and over an entry of its history that
--- begins no life.
+-- What a class's part keeps over a step: over one that only notes itself, and over an entry of its history that begins
+-- no life.
 use Rattle.std.proofs.Common.{◌≡◌, ℕ, ◌+◌, ◌*◌, ◌<◌, cond, eqb, nat_le, nat_lt, Bool, true, false, List, [], ◌∷◌, ◌++◌, refl, ap, ◌∙◌, subst, arith, eqb-true}
 use Rattle.std.proofs.lemmas.Bool.{and_parts, ltb-true}
 use Rattle.bump_rules.specs.declared.places.Place.{Place}
@@ -62,8 +62,7 @@ module _ (words : ℕ) (k : ClassPart) (e : Change) (steps : List OwnStep) (p : 
         by false is = refl
 
     -- An entry of the class's own chunk, in the life that this has, keeps what the class's part keeps: it is no stray
-    -- move, and it leaves
-    -- no free chunk where chunks are used.
+    -- move, and it leaves no free chunk where chunks are used.
     pub entered_part : is_stray e ≡ false → (IsUsed (target e) → IsUsed (standing k (subject e).chunk).0)
         → IsClassPart words entered
     entered_part straight used = record {

@@ -54,8 +54,8 @@ pub after_unlisted_load : (m p w : Sat) (f : ClassPart → ClassPart) → p ≡ 
     → w ≡ (on_class f m.0, m.1)
 after_unlisted_load m p w f same after = after ∙ ap (λ (y : Sat). (on_class f y.0, y.1)) same
 
--- what the class's seat keeps, it keeps by a step on its part that its part keeps, with what it knows of a lane that
--- is joined
+-- what the class's seat keeps, it keeps by a step on its part that its part keeps, with what it knows of a lane that is
+-- joined
 pub seat_kept : (m w : Sat) (now : ClassView) (f : ClassPart → ClassPart) (table id : TableId) (class : ℕ)
     (joined : Option Joined) → class_in m.0 ≡ now → m ≡ class_me (class_in m.0) → w ≡ (on_class f m.0, m.1)
     → id ≡ table

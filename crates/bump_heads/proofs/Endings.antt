@@ -1,5 +1,5 @@
--- How an application goes on: what a caller that has a class's seat and a lane needs for each next step, from what
--- the steps before told.
+-- How an application goes on: what a caller that has a class's seat and a lane needs for each next step, from what the
+-- steps before told.
 use Rattle.std.proofs.Common.{◌≡◌, ℕ, ◌≢◌, not, Bool, true, false, [], ◌∷◌, ◌++◌, Option, None, Some, refl, sym, ap, ap₂, ◌∙◌, subst, if◌then◌else◌}
 use Rattle.std.specs.Prelude.{option_map}
 use Rattle.bump_rules.specs.declared.items.Head.{Head}
@@ -48,9 +48,9 @@ own_aboard c o k is own = let m = carrying c o is in ap (λ (x : Option LanePart
 
 -- the list of a linked item is that of its segment
 linked_in : (s : Segment) → IsInSegment (place_of s)
-linked_in Hot = tt
-linked_in Warm = tt
-linked_in Cold = tt
+linked_in Hot = refl
+linked_in Warm = refl
+linked_in Cold = refl
 
 -- a segment that isn't COLD
 not_cold : (s : Segment) → s ≢ Cold → is_cold s ≡ false
@@ -94,20 +94,16 @@ module _ (v v₁ : ClassView) (o : Option LanePart) (l : LanePart) (b : Bump) (c
   }
 
   -- an item that isn't linked is gone
+  pub gone_as : h.linked ≡ false → EndsAs v₁ lane_tried b h Gone
+  gone_as off = record {
+    joined = ap (λ (x : ClassView). x.lane) tried_is;
+    found_by_try = try_found;
+    ending = ap (λ (on : Bool). option_map (applied_bump b)
+        (if not on then Some Gone else (if is_cold h.segment then None else Some TimeOnly))) off;
+  }
+
   pub ends_gone : h.linked ≡ false → (x : LanePart) × (y : Bump) × (g : Head) × (z : Outcome) × EndsAs v₁ x y g z
-  ends_gone off = (
-    lane_tried,
-    b,
-    h,
-    Gone,
-    record {
-      joined = ap (λ (x : ClassView). x.lane) tried_is;
-      found_by_try =
-          try_found;
-      ending = ap (λ (on : Bool). option_map (applied_bump b)
-          (if not on then Some Gone else (if is_cold h.segment then None else Some TimeOnly))) off;
-    },
-  )
+  ends_gone off = (lane_tried, b, h, Gone, gone_as off)
 
   -- the time of one that is linked may be stored
   pub may_put_time : h.linked ≡ true → (owns c v₁.part ≡ true) × MayPutTime c (standing v₁.part c).0 v₁.lane
@@ -129,20 +125,17 @@ module _ (v v₁ : ClassView) (o : Option LanePart) (l : LanePart) (b : Bump) (c
     put_time_is = timed ∙ ap (seat_after_put_time c now) tried_is
 
     -- one that isn't in COLD gets its time only
+    pub elsewhere_as : h.linked ≡ true → h.segment ≢ Cold → EndsAs w₁ lane_tried b h TimeOnly
+    elsewhere_as on other = record {
+      joined = ap (λ (x : ClassView). x.lane) put_time_is;
+      found_by_try = try_found;
+      ending = ap₂ (λ (there cold : Bool). option_map (applied_bump b)
+          (if not there then Some Gone else (if cold then None else Some TimeOnly))) on (not_cold h.segment other);
+    }
+
     pub ends_elsewhere : h.linked ≡ true → h.segment ≢ Cold → (x : LanePart) × (y : Bump) × (g : Head) × (z : Outcome)
         × EndsAs w₁ x y g z
-    ends_elsewhere on other = (
-      lane_tried,
-      b,
-      h,
-      TimeOnly,
-      record {
-        joined = ap (λ (x : ClassView). x.lane) put_time_is;
-        found_by_try = try_found;
-        ending = ap₂ (λ (there cold : Bool). option_map (applied_bump b)
-            (if not there then Some Gone else (if cold then None else Some TimeOnly))) on (not_cold h.segment other);
-      },
-    )
+    ends_elsewhere on other = (lane_tried, b, h, TimeOnly, elsewhere_as on other)
 
     -- ACTIVE of one in COLD may be cleared
     pub may_clear_active : h.linked ≡ true → h.segment ≡ Cold → (owns c w₁.part ≡ true)
@@ -166,19 +159,18 @@ module _ (v v₁ : ClassView) (o : Option LanePart) (l : LanePart) (b : Bump) (c
       clear_active_is = cleared ∙ ap (seat_after_clear_active c found) put_time_is
 
       -- one without ACTIVE gets its time only
+      pub clear_as : found.active ≡ false
+          → EndsAs v₂ (record lane_tried { stage = lane.Cleared b found.active }) b h TimeOnly
+      clear_as off = record {
+        joined = ap (λ (x : ClassView). x.lane) clear_active_is;
+        found_by_try = record { before = try_found.before; steps = try_found.steps; fits = fits };
+        ending = ap (λ (f : Bool). ending_at (λ d. h) (lane.Cleared b f)) off;
+      }
+
       pub ends_clear : found.active ≡ false → (x : LanePart) × (y : Bump) × (g : Head) × (z : Outcome)
           × EndsAs v₂ x y g z
-      ends_clear off = (
-        record lane_tried { stage = lane.Cleared b found.active },
-        b,
-        h,
-        TimeOnly,
-        record {
-          joined = ap (λ (x : ClassView). x.lane) clear_active_is;
-          found_by_try = record { before = try_found.before; steps = try_found.steps; fits = fits };
-          ending = ap (λ (f : Bool). ending_at (λ d. h) (lane.Cleared b f)) off;
-        },
-      )
+      ends_clear off =
+          (record lane_tried { stage = lane.Cleared b found.active }, b, h, TimeOnly, clear_as off)
 
       -- one with ACTIVE may be moved
       pub may_move_on : h.linked ≡ true → h.segment ≡ Cold → found.active ≡ true → (owns c v₂.part ≡ true)
@@ -203,16 +195,15 @@ module _ (v v₁ : ClassView) (o : Option LanePart) (l : LanePart) (b : Bump) (c
       moved_is last v₃ moved = moved ∙ ap (seat_after_move c Cold Warm last) clear_active_is
 
       -- and its bump ends as moved
+      pub moved_as : (last : Head) (v₃ : ClassView) → v₃ ≡ seat_after_move c Cold Warm last v₂ → found.active ≡ true
+          → EndsAs v₃ (record lane_tried { stage = lane.Moved b }) b h Moved
+      moved_as last v₃ moved some = record {
+        joined = ap (λ (x : ClassView). x.lane) (moved_is last v₃ moved);
+        found_by_try = record { before = try_found.before; steps = try_found.steps; fits = fits };
+        ending = refl;
+      }
+
       pub ends_moved : (last : Head) (v₃ : ClassView) → v₃ ≡ seat_after_move c Cold Warm last v₂ → found.active ≡ true
           → (x : LanePart) × (y : Bump) × (g : Head) × (z : Outcome) × EndsAs v₃ x y g z
-      ends_moved last v₃ moved some = (
-        record lane_tried { stage = lane.Moved b },
-        b,
-        h,
-        Moved,
-        record {
-          joined = ap (λ (x : ClassView). x.lane) (moved_is last v₃ moved);
-          found_by_try = record { before = try_found.before; steps = try_found.steps; fits = fits };
-          ending = refl;
-        },
-      )
+      ends_moved last v₃ moved some =
+          (record lane_tried { stage = lane.Moved b }, b, h, Moved, moved_as last v₃ moved some)

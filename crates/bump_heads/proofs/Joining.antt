@@ -336,6 +336,17 @@ one_try l b d g h x y =
     ∙ last_push 0 y.before (step_of kind.Try d.life.chunk (word_of h) (Some (l.worker, d.number))) in
     one_head (word_of h) g h (sym word, x.fits) (refl, y.fits)
 
+-- so the bump aboard ends with one outcome
+pub one_outcome : (v : ClassView) (l m : LanePart) (b d : Bump) (h g : Head) (o p : Outcome) → EndsAs v l b h o
+    → EndsAs v m d g p → o ≡ p
+one_outcome v l m b d h g o p x y =
+    let lanes : m ≡ l = let e : Some m ≡ Some l = sym y.joined ∙ x.joined in cc e in
+    let z = subst (λ (n : LanePart). EndsAs v n d g p) lanes y in
+    let both : Some (applied_bump b o) ≡ Some (applied_bump d p) =
+    sym x.ending ∙ ap (λ (f : Head). ending_at (λ c. f) l.stage) (one_try l b d h g x.found_by_try z.found_by_try)
+    ∙ z.ending in
+    let e : applied_bump b o ≡ applied_bump d p = cc both in ap (λ (a : AppliedBump). a.outcome) e
+
 -- The bump aboard the joined lane, which is of this chunk of the class, ends with the outcome: its item was moved
 -- exactly where that is Moved, and the entry is true.
 pub record Ending (v : ClassView) (c : ℕ) (o : Outcome) (l : LanePart) (b : Bump) : Type 0 where

@@ -1,6 +1,6 @@
--- What a class's seat knows of the head that it finds, and what it is after a step: with a lane joined, or without
--- one.
-use Rattle.std.proofs.Common.{◌≡◌, ℕ, ◌+◌, ◌<◌, inl, inr, ◌&&◌, ◌++◌, not, cond, eqb, Bool, true, false, [], ◌∷◌, Option, Some, None, refl, sym, ap, ap₂, ◌∙◌, subst, arith, eq-eqb}
+-- What a class's seat knows of the head that it finds, and what it is after a step: with a lane joined, or without one.
+use Rattle.std.proofs.Common.{◌≡◌, ℕ, ◌+◌, ◌<◌, inl, inr, ◌&&◌, ◌++◌, not, cond, eqb, Bool, true, false, [], ◌∷◌, List, Option, Some, None, refl, sym, ap, ap₂, ◌∙◌, subst, arith, eq-eqb}
+use Rattle.std.proofs.lemmas.Bool.{and_parts}
 use Rattle.std.specs.Prelude.{option_map, IfSome, IsSome}
 use Rattle.atomic_table.specs.Seated.{TableId}
 use Rattle.atomic_table.specs.declared.shared.Seat.{Seat}
@@ -13,12 +13,13 @@ use Rattle.bump_rules.specs.declared.bumps.Outcome.{Outcome}
 use Rattle.bump_rules.specs.declared.bumps.Outcome.TheVariants as outcome
 use Rattle.bump_rules.specs.declared.lanes.Lane.{Lane}
 use Rattle.bump_rules.specs.declared.lanes.Lane.TheVariants as lane
-use Rattle.bump_rules.specs.Entries.{is_move_for, is_unlink_of, moves_told}
+use Rattle.bump_rules.specs.Entries.{is_bump, is_move_for, is_unlink_of, moves_told}
 use Rattle.bump_rules.specs.Tables.{is_cold, is_warm}
 use Rattle.bump_rules.specs.declared.places.Place.{Place}
 use Rattle.bump_rules.specs.declared.history.Cause.TheVariants as cause
+use Rattle.bump_rules.specs.declared.history.Change.{Change}
 use Rattle.bump_rules.specs.declared.history.Change.TheVariants as change
-use Rattle.bump_rules.specs.History.{place_of}
+use Rattle.bump_rules.specs.History.{place_of, subject}
 use Rattle.bump_rules.specs.Lives.{is_same}
 use Rattle.bump_rules.specs.Totals.{how_many}
 use Rattle.bump_rules.specs.Lanes.{carried, tried, applied_now, cleared_active, applied_bump}
@@ -36,7 +37,7 @@ use Rattle.bump_steps.specs.Views.{bump_aboard, active_clear, refers, owns, stan
 use Rattle.bump_steps.specs.Plays.{Sat, Told, Found, on_first, step_of}
 use Rattle.bump_steps.specs.Cuts.{joined, lanes_only, without_lanes}
 use Rattle.bump_steps.specs.Applications.{applying, bump_for, lane_after_try, view_after_try, lane_after_clear_active, view_after_clear_active, view_after_put_time, noted_class, stage_after_move, lane_after_move, change_of_move_for, class_after_move, view_after_move, life_in, lane_after_alight, view_after_alight, MayTry, MayMove, MayAlight}
-use Rattle.bump_heads.specs.Applying.{life_aboard, life_of, IsOf, MayClearActive, MayChangeSegment, IsShown, IsJoined, carried_by, joined_after_clear_active, joined_after_move, seat_after_move, seat_after_clear_active, seat_after_put_time, FoundOfBump, NamesNoBumpTwice, TellsMoves}
+use Rattle.bump_heads.specs.Applying.{life_aboard, life_of, IsOf, MayClearActive, MayChangeSegment, IsShown, IsJoined, carried_by, joined_after_clear_active, joined_after_move, seat_after_move, seat_after_clear_active, seat_after_put_time, FoundOfBump, NamesNoBumpTwice, is_own, TellsMoves}
 use Rattle.bump_readers.specs.Seats.{head_or, listed}
 use Rattle.bump_heads.specs.Seats.{class_me, class_in, lane_in, IsLane, IsInRange, IsClassPart, aboard_lane, no_class, no_lane}
 use Rattle.bump_steps.proofs.Applications.{try_going, try_refers, clear_active_refers, alight_refers}
@@ -190,6 +191,30 @@ life_told v c h of told = by v.lane of told
     by None of told = tt
     by (Some l) of told = at l (bump_aboard l.stage) refl of told
 
+-- a class whose history is of its own chunks alone has moves of its own items alone
+own_move : (k : ClassPart) (test : ItemId → Bool) (w n : ℕ) (e : Change) → bit (not (owns (subject e).chunk k)) ≡ 0
+    → is_move_for test w n e ≡ is_move_for (is_own k test) w n e
+own_move k test w n (change.Linked j) own = refl
+own_move k test w n (change.Moved j from to cause) own = by (owns j.chunk k) own
+  where
+    by : (b : Bool) → bit (not b) ≡ 0 → (test j && (is_cold from && (is_warm to && is_bump w n cause)))
+        ≡ ((b && test j) && (is_cold from && (is_warm to && is_bump w n cause)))
+    by true mine = refl
+    by false mine = absurd (omega (arith, mine))
+own_move k test w n (change.Unlinked j) own = refl
+own_move k test w n (change.Swept j) own = refl
+own_move k test w n (change.Retired j) own = refl
+
+own_moves : (k : ClassPart) (test : ItemId → Bool) (w n : ℕ) (es : List Change)
+    → how_many (λ e. not (owns (subject e).chunk k)) es ≡ 0
+    → how_many (is_move_for test w n) es ≡ how_many (is_move_for (is_own k test) w n) es
+own_moves k test w n [] own = refl
+own_moves k test w n (e ∷ es) own = omega (
+  arith,
+  ap bit (own_move k test w n e (omega (arith, own))),
+  own_moves k test w n es (omega (arith, own)),
+)
+
 -- of moves
 pub once_told : (v : ClassView) (c : ℕ) (h : Head) → Told c (class_me v).0 h → NamesNoBumpTwice v.part
 once_told v c h told = λ w n. omega (arith, told.once w n)
@@ -198,8 +223,11 @@ pub moves_told_by : (k : ClassPart) (l : LanePart) (c : ℕ) (h : Head) → Told
 moves_told_by k l c h told = λ test n. let mine : eqb l.worker l.worker ≡ true = eq-eqb l.worker l.worker refl in
     omega (
       arith,
-      told.told (record { test = test; worker = l.worker; number = n }) (omega (arith, ap bit mine)),
-      ap (λ (b : Bool). cond b (moves_told test n l.applied l.stage) 0) mine,
+      own_moves k test l.worker n k.history (omega (arith, told.own)),
+      told.told (record { test = is_own k test; worker = l.worker; number = n })
+          (λ j passes. omega (arith, ap bit (and_parts (owns j.chunk k) (test j) passes).0))
+          (omega (arith, ap bit mine)),
+      ap (λ (b : Bool). cond b (moves_told (is_own k test) n l.applied l.stage) 0) mine,
     )
 
 -- ---- what a move keeps
@@ -429,7 +457,7 @@ module _ (m : Sat) (v w : ClassView) (o : Option (Seat Empty View)) (s : Seat Em
     tried_moves (Some l) t d z = λ test i. omega (
       arith,
       moves_told_by w.part l b.life.chunk h t test i,
-      try_going (record { test = test; worker = 0; number = i }) l.stage,
+      try_going (record { test = is_own w.part test; worker = 0; number = i }) l.stage,
     )
 
     -- of moves for bumps
@@ -519,6 +547,6 @@ module _ (m : Sat) (v w : ClassView) (is : m ≡ class_me v) (same : v ≡ w) (c
                 (λ test i. omega (
                   arith,
                   moves_told_by w.part l c h (told_there found) test i,
-                  alight_refers test i l b out (aboard_now l.stage b ends.aboard) ends.past,
+                  alight_refers (is_own w.part test) i l b out (aboard_now l.stage b ends.aboard) ends.past,
                 )),
           )

@@ -1,7 +1,6 @@
 -- The steps under a class's lock, as the contracts of the class's seat tell them: without a lane they are made for a
--- link or a pull, and
--- with a lane joined for the bump aboard it.
-use Rattle.std.specs.Prelude.{◌≡◌, ℕ, ◌+◌, ◌<◌, ◌≤◌, Bool, true, List, [], ◌∷◌, ◌++◌, Option, Some, None, option_map}
+-- link or a pull, and with a lane joined for the bump aboard it.
+use Rattle.std.specs.Prelude.{◌≡◌, ℕ, ◌+◌, ◌<◌, ◌≤◌, ◌&&◌, Bool, true, List, [], ◌∷◌, ◌++◌, Option, Some, None, option_map}
 use Rattle.bump_rules.specs.declared.items.Head.{Head}
 use Rattle.bump_rules.specs.declared.items.ItemId.{ItemId}
 use Rattle.bump_rules.specs.declared.places.Place.{Place}
@@ -58,9 +57,8 @@ IsOf chunk (Some bump) = bump.life.chunk ≡ chunk
 
 -- ---- when a step may be made
 
--- ACTIVE of a chunk that stands there may be cleared: for a pull where its item is linked; for the bump aboard once
--- its head was looked
--- at, in COLD
+-- ACTIVE of a chunk that stands there may be cleared: for a pull where its item is linked; for the bump aboard once its
+-- head was looked at, in COLD
 abbrev pub MayClearActive : ℕ → Place → Option LanePart → Type 0
 MayClearActive chunk at None = IsInSegment at
 MayClearActive chunk at (Some this_lane) = (at ≡ Cold) × IsOf chunk (tried this_lane.stage)
@@ -71,8 +69,8 @@ abbrev pub MayPutTime : ℕ → Place → Option LanePart → Type 0
 MayPutTime chunk at None = at ≡ Unused
 MayPutTime chunk at (Some this_lane) = IsInSegment at × IsOf chunk (applied_now this_lane.stage)
 
--- it may be moved: by a pull as the tail table has it; for the bump aboard from COLD to WARM, once ACTIVE was found
--- and cleared
+-- it may be moved: by a pull as the tail table has it; for the bump aboard from COLD to WARM, once ACTIVE was found and
+-- cleared
 abbrev pub MayChangeSegment : ℕ → Segment → Segment → Option LanePart → Type 0
 MayChangeSegment chunk from to None = may_move from to ≡ true
 MayChangeSegment chunk from to (Some this_lane) = (from ≡ segment.Cold) × (to ≡ segment.Warm)
@@ -98,8 +96,7 @@ pub record TryFound (this_lane : LanePart) (bump : Bump) (head : Head) : Type 0 
   pub fits : Fits head
 
 -- The bump aboard the joined lane may end, and with this outcome, by how far the lane is and the head that its look
--- found: it isn't linked;
--- or it is linked, but not in COLD; or ACTIVE was cleared and not found; or the item was moved.
+-- found: it isn't linked; or it is linked, but not in COLD; or ACTIVE was cleared and not found; or the item was moved.
 pub record EndsAs (seat : ClassView) (this_lane : LanePart) (bump : Bump) (head : Head) (came_out : Outcome) : Type 0
   where
     pub joined : seat.lane ≡ Some this_lane
@@ -163,8 +160,7 @@ seat_after_move chunk from to head seat =
 -- ---- what a caller learns
 
 -- What the class knows of the head that a bump's lane found: it is of the bump's life, of which there is a reference;
--- and a chunk of the
--- class stands where its history leaves it, in this life, and isn't free.
+-- and a chunk of the class stands where its history leaves it, in this life, and isn't free.
 pub record FoundOfBump (part : ClassPart) (item : ItemId) (head : Head) : Type 0 where
   pub generation : head.generation ≡ item.generation
   pub counted : 0 < head.refs
@@ -175,9 +171,13 @@ pub record FoundOfBump (part : ClassPart) (item : ItemId) (head : Head) : Type 0
 abbrev pub NamesNoBumpTwice : ClassPart → Type 0
 NamesNoBumpTwice class = (w n : ℕ) → how_many (is_move_for (λ l. true) w n) class.history ≤ 1
 
--- each move that the class's history has for a bump of the lane's worker is told by the lane: by its entry of this
--- number, with the
--- same life and outcome Moved, or as the move in progress
+-- the item passes the test, and its chunk is the class's
+abbrev pub is_own : ClassPart → (ItemId → Bool) → ItemId → Bool
+is_own class test item = owns item.chunk class && test item
+
+-- The moves that the class's history has for bumps of the lane's worker are those that the lane tells of items of the
+-- class: by its entries with outcome Moved, and as the move in progress. It is counted by the bump's number and, by any
+-- test, by its item.
 abbrev pub TellsMoves : ClassPart → LanePart → Type 0
 TellsMoves class this_lane = (test : ItemId → Bool) (n : ℕ) → how_many (is_move_for test this_lane.worker n)
-    class.history ≤ moves_told test n this_lane.applied this_lane.stage
+    class.history ≡ moves_told (is_own class test) n this_lane.applied this_lane.stage

@@ -56,8 +56,8 @@ impl<N: Name> ClassSeat<N> {
         ensures found { FoundOfBump self.old.part (life_aboard lane.old) result }
         ensures fits { Fits result }
 
-        // No bump is named twice by the history of the class, and each move for a bump of this lane is told by the
-        // lane.
+        // No bump is named twice by the history of the class, and its moves for bumps of this lane's worker are those
+        // that the lane tells of items of the class.
         ensures once { NamesNoBumpTwice self.new.part }
         ensures moves { IfSome self.new.lane (TellsMoves self.new.part) }
     {
@@ -154,8 +154,8 @@ impl<N: Name> ClassSeat<N> {
         // The entry that was written is true.
         ensures entry { IfSome self.old.lane (λ l. IfSome (bump_aboard l.stage) (λ b. IsShown self.new.part l b result.0)) }
 
-        // No bump is named twice by the history of the class, and each move for a bump of this lane is told by an
-        // entry of it.
+        // No bump is named twice by the history of the class, and its moves for bumps of this lane's worker are those
+        // that entries of the lane tell of items of the class.
         ensures once { NamesNoBumpTwice self.new.part }
         ensures moves { IfSome lane.new (TellsMoves self.new.part) }
     {

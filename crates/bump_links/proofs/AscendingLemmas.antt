@@ -22,7 +22,8 @@ range_within k zero = tt
 range_within k (suc m) = (
   (omega arith, omega arith),
   Each-weaker (λ x. (k + 1 ≤ x) × (x < k + 1 + m)) (λ x. (k ≤ x) × (x < k + suc m))
-      (λ x h. (let low = h.0 in omega arith, let high = h.1 in omega arith)) (range_with_len (k + 1) m) (range_within (k + 1) m),
+      (λ x h. (let low = h.0 in omega arith, let high = h.1 in omega arith)) (range_with_len (k + 1) m)
+      (range_within (k + 1) m),
 )
 
 -- they all differ
@@ -77,11 +78,14 @@ new_headers count lists first = map (only_first count first) (range_with_len 0 l
 
 -- a node of new lists
 new_node_at : (count first n : ℕ) → n < count → node_at (new_nodes count first) n ≡ ascending_node count first n
-new_node_at count first n lt = get_or-map-range_with_len (ascending_node count first) 0 count n n no_node lt (omega arith)
+new_node_at count first n lt = get_or-map-range_with_len (ascending_node count first) 0 count n n no_node lt
+    (omega arith)
 
 -- a header of new lists
-new_header_at : (count lists first l : ℕ) → l < lists → header_at (new_headers count lists first) l ≡ only_first count first l
-new_header_at count lists first l lt = get_or-map-range_with_len (only_first count first) 0 lists l l no_header lt (omega arith)
+new_header_at : (count lists first l : ℕ) → l < lists → header_at (new_headers count lists first) l
+    ≡ only_first count first l
+new_header_at count lists first l lt = get_or-map-range_with_len (only_first count first) 0 lists l l no_header lt
+    (omega arith)
 
 -- a list of new lists: all nodes, ascending, or none
 abbrev pub new_list : ℕ → ℕ → ℕ → List ℕ
@@ -89,7 +93,8 @@ new_list count first l = cond (eqb l first) (range_with_len 0 count) []
 
 -- the first list is spelled
 first_spelled : (count first : ℕ) → 1 ≤ count
-    → SpellsList (new_nodes count first) first (record { head = 0; tail = count - 1; size = count }) (range_with_len 0 count)
+    → SpellsList (new_nodes count first) first (record { head = 0; tail = count - 1; size = count })
+    (range_with_len 0 count)
 first_spelled count first some =
     let nodes = new_nodes count first in
     let len : length nodes ≡ count = length-map-range_with_len (ascending_node count first) 0 count in
@@ -120,7 +125,8 @@ new_spelled count lists first l some lt =
     subst P (sym (new_header_at count lists first l lt))
     (elim (eqb_tells l first) [
       | inl e ↦
-          let Q : ℕ → Type 0 = λ q. SpellsList nodes q (record { head = 0; tail = count - 1; size = count }) (range_with_len 0 count) in
+          let Q : ℕ → Type 0 = λ q. SpellsList nodes q (record { head = 0; tail = count - 1; size = count })
+          (range_with_len 0 count) in
           let R : Bool → Type 0 =
           λ q. SpellsList nodes l
           (cond q (record { head = 0; tail = count - 1; size = count }) (record { head = NONE; tail = NONE; size = 0 }))
@@ -138,7 +144,8 @@ new_spelled count lists first l some lt =
 new_list_is : (count lists first l : ℕ) → 1 ≤ count → l < lists
     → list_under (new_nodes count first) (header_at (new_headers count lists first) l) ≡ new_list count first l
 new_list_is count lists first l some lt =
-    list_under-is (new_nodes count first) l (header_at (new_headers count lists first) l) _ (new_spelled count lists first l some lt)
+    list_under-is (new_nodes count first) l (header_at (new_headers count lists first) l) _
+    (new_spelled count lists first l some lt)
 
 -- new lists are spelled
 pub new_is_spelled : (count lists first : ℕ) → 1 ≤ count → count ≤ NODES_MAX → lists ≤ LISTS_MAX → first < lists

@@ -48,7 +48,8 @@ Spells-removed f b f' b' none head tail n xs ys s d a fo fh bo bh =
     xs exist.0 differ.2 in
     let no_last : AllByRecursion (λ m. m ≢ b n) ys =
     Spells-last_has f b (λ p. AllByRecursion (λ m. m ≢ p) ys) none head xs (b n) n parts.0 exist.1.1
-    (Each-weaker (λ m. AllByRecursion (λ k. k ≢ m) (n ∷ ys)) (λ m. AllByRecursion (λ k. k ≢ m) ys) (λ m h. h.1) xs differ.2) in
+    (Each-weaker (λ m. AllByRecursion (λ k. k ≢ m) (n ∷ ys)) (λ m. AllByRecursion (λ k. k ≢ m) ys)
+    (λ m h. h.1) xs differ.2) in
     let rest : AllByRecursion (λ m. (f' m ≡ f m) × (m ≢ f n → b' m ≡ b m) × (m ≡ f n → b' m ≡ b n)) ys =
     Each-both (λ m. m ≢ none) (λ m. m ≢ b n)
     (λ m. (f' m ≡ f m) × (m ≢ f n → b' m ≡ b m) × (m ≡ f n → b' m ≡ b n))
@@ -102,7 +103,8 @@ pub record PassesBy (nodes nodes1 nodes2 : List Node) (h h2 : Header) (n : ℕ) 
   pub len2 : length nodes2 ≡ length nodes1
   pub forward : LinksForward nodes nodes1 (back_of nodes n) (forward_of nodes n)
   pub back : LinksBack nodes1 nodes2 (forward_of nodes n) (back_of nodes n)
-  pub header : h2 ≡ with_tail (with_head h (back_of nodes n) (forward_of nodes n)) (forward_of nodes n) (back_of nodes n)
+  pub header : h2 ≡ with_tail (with_head h (back_of nodes n) (forward_of nodes n)) (forward_of nodes n)
+      (back_of nodes n)
 
 -- what is spelled once the links pass n by, for a list that is split at n
 removed_parts : (nodes nodes1 nodes2 : List Node) (l : ℕ) (h h2 : Header) (n : ℕ) (xs ys : List ℕ)
@@ -116,27 +118,39 @@ removed_parts nodes nodes1 nodes2 l h h2 n xs ys c s =
     let exist_in = Each-parts (λ m. m ≢ NONE) xs (n ∷ ys) exist in
     let differ = AllDiffer-parts xs (n ∷ ys) s.distinct in
     let member = Each-parts (IsMember nodes l) xs (n ∷ ys) s.members in
-    let header : h2 ≡ record { head = cond (eqb (b n) NONE) (f n) h.head; tail = cond (eqb (f n) NONE) (b n) h.tail; size = h.size } =
+    let header : h2 ≡ record {
+      head = cond (eqb (b n) NONE) (f n) h.head;
+      tail = cond (eqb (f n) NONE)
+          (b n) h.tail;
+      size = h.size;
+    } =
     c.header ∙ ap (λ q. with_tail q (f n) (b n)) (with_head-is (eqb (b n) NONE) h (f n))
-    ∙ with_tail-is (eqb (f n) NONE) (record { head = cond (eqb (b n) NONE) (f n) h.head; tail = h.tail; size = h.size }) (b n) in
+    ∙ with_tail-is (eqb (f n) NONE) (record {
+      head = cond (eqb (b n) NONE) (f n) h.head;
+      tail = h.tail;
+      size = h.size;
+    }) (b n) in
     let head_is : or_none xs h.head (f n) ≡ h2.head =
     head_choice f b NONE h.head xs (b n) n (f n) parts.0 exist_in.0 ∙ sym (ap (λ (q : Header). q.head) header) in
     let tail_is : or_none ys h.tail (b n) ≡ h2.tail =
     tail_choice f b NONE n (f n) ys h.tail (b n) parts.1 exist_in.1.1 ∙ sym (ap (λ (q : Header). q.tail) header) in
-    let run = Spells-removed f b (forward_of nodes2) (back_of nodes2) NONE h.head h.tail n xs ys s.links s.distinct exist
+    let run = Spells-removed f b (forward_of nodes2)
+    (back_of nodes2) NONE h.head h.tail n xs ys s.links s.distinct exist
     (λ m e. c.back.forward m ∙ c.forward.forward m e)
     (λ e. c.back.forward (b n) ∙ c.forward.here e)
     (λ m e. c.back.back m e ∙ c.forward.back m)
     (λ e. c.back.here e) in
     let P : ℕ → Type 0 = λ q. Spells (forward_of nodes2) (back_of nodes2) NONE q (xs ++ ys) h2.tail NONE in
-    let Q : ℕ → Type 0 = λ q. Spells (forward_of nodes2) (back_of nodes2) NONE (or_none xs h.head (f n)) (xs ++ ys) q NONE in
+    let Q : ℕ → Type 0 = λ q. Spells (forward_of nodes2) (back_of nodes2) NONE (or_none xs h.head (f n))
+    (xs ++ ys) q NONE in
     let size_is : h2.size ≡ h.size = ap (λ (q : Header). q.size) header in
     let size_was : h.size ≡ length (xs ++ n ∷ ys) = s.size in
     record {
       links = subst P head_is (subst Q tail_is run);
       size = omega (arith, length-append xs (n ∷ ys), length-append xs ys, size_is, size_was);
       distinct = AllDiffer-append xs ys differ.0 differ.1.1
-          (Each-weaker (λ m. AllByRecursion (λ k. k ≢ m) (n ∷ ys)) (λ m. AllByRecursion (λ k. k ≢ m) ys) (λ m e. e.1) xs differ.2);
+          (Each-weaker (λ m. AllByRecursion (λ k. k ≢ m) (n ∷ ys)) (λ m. AllByRecursion (λ k. k ≢ m) ys)
+          (λ m e. e.1) xs differ.2);
       members = Each-weaker (IsMember nodes l) (IsMember nodes2 l)
           (λ m e. (subst (λ q. m < q) (sym (c.len2 ∙ c.len1)) e.0, c.back.list m ∙ c.forward.list m ∙ e.1))
           (xs ++ ys) (Each-append (IsMember nodes l) xs ys member.0 member.1.1);
@@ -149,7 +163,11 @@ pub SpellsList-removed : (nodes nodes1 nodes2 : List Node) (l : ℕ) (h h2 : Hea
 SpellsList-removed nodes nodes1 nodes2 l h h2 n xs c s once =
     let sp = split_at n xs once in
     let P : List ℕ → Type 0 = λ q. SpellsList nodes l h q in
-    let Q : List ℕ → Type 0 = λ q. SpellsList nodes2 l (record { head = h2.head; tail = h2.tail; size = h2.size - 1 }) q in
+    let Q : List ℕ → Type 0 = λ q. SpellsList nodes2 l (record {
+      head = h2.head;
+      tail = h2.tail;
+      size = h2.size - 1;
+    }) q in
     subst Q (sym sp.others) (removed_parts nodes nodes1 nodes2 l h h2 n sp.front sp.rest c (subst P sp.whole s))
 
 -- a node of a list, and the two that stand beside it, as nodes of that list or none
@@ -237,7 +255,11 @@ put_same : (nodes nodes1 nodes2 : List Node) (l : ℕ) (h h2 : Header) (n : ℕ)
     → PutBefore nodes nodes1 nodes2 l h h2 n → node_at nodes1 n ≡ record { forward = h.head; back = NONE; list = l }
 put_same nodes nodes1 nodes2 l h h2 n p =
     let lt : n < length nodes = p.there in
-    ap (λ q. node_at q n) p.stored ∙ get_or-set_same nodes n (record { forward = h.head; back = NONE; list = l }) no_node lt
+    ap (λ q. node_at q n) p.stored ∙ get_or-set_same nodes n (record {
+      forward = h.head;
+      back = NONE;
+      list = l;
+    }) no_node lt
 
 -- there are as many nodes as before
 put_len : (nodes nodes1 nodes2 : List Node) (l : ℕ) (h h2 : Header) (n : ℕ)
@@ -346,7 +368,8 @@ pub last_of-run : (f b : ℕ → ℕ) (before first : ℕ) (xs : List ℕ) (last
     → Spells f b before first xs last NONE → AllByRecursion (λ m. m ≢ NONE) xs → node_or_none last ≡ last_of xs
 last_of-run f b before first [] last e s a = rw (eq-eqb last NONE (s.1 ∙ e)) refl
 last_of-run f b before first (x ∷ xs) last e s a =
-    rw (ne_eqb last NONE (Spells-last f b (λ m. m ≢ NONE) before first x xs last NONE s a)) (last_is f b before first x xs last NONE s)
+    rw (ne_eqb last NONE (Spells-last f b (λ m. m ≢ NONE) before first x xs last NONE s a))
+    (last_is f b before first x xs last NONE s)
 
 -- behind a node comes what its forward link leads to
 pub next_of-SpellsList : (nodes : List Node) (l : ℕ) (h : Header) (n : ℕ) (xs : List ℕ) → length nodes ≤ NODES_MAX

@@ -19,12 +19,14 @@ Each-both P Q R h [] a b = tt
 Each-both P Q R h (x ∷ xs) a b = (h x a.0 b.0, Each-both P Q R h xs a.1 b.1)
 
 -- a fact of each element of two lists, one behind the other
-pub Each-parts : (P : ℕ → Type 0) (xs ys : List ℕ) → AllByRecursion P (xs ++ ys) → AllByRecursion P xs × AllByRecursion P ys
+pub Each-parts : (P : ℕ → Type 0) (xs ys : List ℕ) → AllByRecursion P (xs ++ ys) → AllByRecursion P xs
+    × AllByRecursion P ys
 Each-parts P [] ys a = (tt, a)
 Each-parts P (x ∷ xs) ys a = let r = Each-parts P xs ys a.1 in ((a.0, r.0), r.1)
 
 -- and back
-pub Each-append : (P : ℕ → Type 0) (xs ys : List ℕ) → AllByRecursion P xs → AllByRecursion P ys → AllByRecursion P (xs ++ ys)
+pub Each-append : (P : ℕ → Type 0) (xs ys : List ℕ) → AllByRecursion P xs → AllByRecursion P ys
+    → AllByRecursion P (xs ++ ys)
 Each-append P [] ys a b = b
 Each-append P (x ∷ xs) ys a b = (a.0, Each-append P xs ys a.1 b)
 

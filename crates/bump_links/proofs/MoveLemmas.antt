@@ -16,7 +16,8 @@ use Rattle.bump_links.proofs.SpellsLemmas.{Spells-kept, followed-Spells}
 use Rattle.bump_links.proofs.ChainLemmas.{exists_apart}
 
 -- the list that is spelled is the one that the forward links lead through
-pub list_under-is : (nodes : List Node) (l : ℕ) (h : Header) (xs : List ℕ) → SpellsList nodes l h xs → list_under nodes h ≡ xs
+pub list_under-is : (nodes : List Node) (l : ℕ) (h : Header) (xs : List ℕ) → SpellsList nodes l h xs
+    → list_under nodes h ≡ xs
 list_under-is nodes l h xs s =
     ap (λ k. followed (forward_of nodes) k h.head) s.size
     ∙ followed-Spells (forward_of nodes) (back_of nodes) NONE h.head xs h.tail NONE s.links
@@ -53,7 +54,8 @@ pub taken_out : (nodes nodes1 : List Node) (headers : List Header) (h1 : Header)
     → IsSpelled nodes headers → l < length headers
     → SpellsList nodes1 (list_of nodes n) h1 (without n (list_under nodes (header_at headers (list_of nodes n))))
     → KeepsOthers nodes nodes1 (list_of nodes n) n
-    → SpellsList nodes1 l (header_at (set headers (list_of nodes n) h1) l) (without n (list_under nodes (header_at headers l)))
+    → SpellsList nodes1 l (header_at (set headers (list_of nodes n) h1) l) (without n (list_under nodes
+    (header_at headers l)))
 taken_out nodes nodes1 headers h1 n l inv lt s c =
     let o = list_of nodes n in
     let P : Header → Type 0 = λ q. SpellsList nodes1 l q (without n (list_under nodes (header_at headers l))) in
@@ -82,7 +84,8 @@ pub record Moves (nodes nodes1 nodes2 : List Node) (headers : List Header) (h1 h
   pub before : IsSpelled nodes headers
   pub node : n < length nodes
   pub target : t < length headers
-  pub taken : SpellsList nodes1 (list_of nodes n) h1 (without n (list_under nodes (header_at headers (list_of nodes n))))
+  pub taken : SpellsList nodes1 (list_of nodes n) h1 (without n (list_under nodes (header_at headers
+      (list_of nodes n))))
   pub kept : KeepsOthers nodes nodes1 (list_of nodes n) n
   pub put : SpellsList nodes2 t h2 (n ∷ list_under nodes1 (header_at (set headers (list_of nodes n) h1) t))
   pub kept_on : KeepsOthers nodes1 nodes2 t n
@@ -107,9 +110,11 @@ moved_spelled nodes nodes1 nodes2 headers h1 h2 n t l m lt =
           let R : List ℕ → Type 0 = λ q. SpellsList nodes2 l h2 (n ∷ q) in
           let S : Bool → Type 0 = λ q. SpellsList nodes2 l h2 (cond q (n ∷ without n xs) (without n xs)) in
           subst P (sym at)
-          (subst S (sym e.0) (subst R (list_under-is nodes1 l (header_at headers1 l) (without n xs) out) (subst Q (sym e.1) m.put)))
+          (subst S (sym e.0) (subst R (list_under-is nodes1 l (header_at headers1 l) (without n xs) out)
+          (subst Q (sym e.1) m.put)))
       | inr f ↦
-          let S : Bool → Type 0 = λ q. SpellsList nodes2 l (header_at headers1 l) (cond q (n ∷ without n xs) (without n xs)) in
+          let S : Bool → Type 0 = λ q. SpellsList nodes2 l (header_at headers1 l) (cond q (n ∷ without n xs)
+          (without n xs)) in
           subst P (sym (get_or-set_other headers1 t l h2 no_header f.1))
           (subst S (sym f.0)
           (SpellsList-other nodes1 nodes2 t l (header_at headers1 l) n (without n xs) m.kept_on f.1
@@ -169,7 +174,8 @@ moved_is_spelled nodes nodes1 nodes2 headers h1 h2 n t m =
             | inr f ↦
                 let was = m.before.each_node k (subst (λ q. k < q) len_nodes lt) in
                 held k (list_of nodes k) was.0
-                (times-moved_list n t (list_of nodes k) k (list_under nodes (header_at headers (list_of nodes k))) f.1 ∙ was.1)
+                (times-moved_list n t (list_of nodes k) k (list_under nodes (header_at headers (list_of nodes k))) f.1
+                ∙ was.1)
           ];
     }
 
@@ -264,7 +270,8 @@ nodes_there nodes headers l inv =
 pub holds_each_once : (nodes : List Node) (headers : List Header) → IsSpelled nodes headers
     → HoldsEachOnce (lists_of nodes headers)
 holds_each_once nodes headers inv = record {
-  only_nodes = λ l. All-from_recursion (λ m. m < length nodes) (list_at (lists_of nodes headers) l) (nodes_there nodes headers l inv);
+  only_nodes = λ l. All-from_recursion (λ m. m < length nodes) (list_at (lists_of nodes headers) l)
+      (nodes_there nodes headers l inv);
   holder = λ n lt. (list_of nodes n, held_by nodes headers n inv lt);
 }
 
@@ -276,15 +283,18 @@ begins : (k : ℕ) (f b : ℕ → ℕ) (head tail n : ℕ) (nodes : List Node) (
 begins zero f b head tail n nodes l s d a ne at = absurd (ne (sym at ∙ s.0))
 begins (suc k) f b head tail n nodes l s d a ne at =
     let ys = followed f k (f head) in
-    let apart : AllByRecursion (λ m. m ≢ n) ys = Each-weaker (λ m. m ≢ head) (λ m. m ≢ n) (λ m e is. e (is ∙ sym at)) ys d.0 in (
+    let apart : AllByRecursion (λ m. m ≢ n) ys = Each-weaker (λ m. m ≢ head) (λ m. m ≢ n) (λ m e is. e (is
+    ∙ sym at)) ys d.0 in (
       ap (λ q. q ∷ ys) at ∙ rw (eq-eqb head n at) (ap (λ q. n ∷ q) (sym (without-absent n ys apart))),
       ap (list_of nodes) (sym at) ∙ a.0.1,
     )
 
 -- a list whose head is a node begins with it, stays as it is when it is put in front again, and holds it
-pub begins_with : (nodes : List Node) (l : ℕ) (h : Header) (n : ℕ) → SpellsList nodes l h (list_under nodes h) → n ≢ NONE
+pub begins_with : (nodes : List Node) (l : ℕ) (h : Header) (n : ℕ) → SpellsList nodes l h (list_under nodes h)
+    → n ≢ NONE
     → h.head ≡ n → (list_under nodes h ≡ n ∷ without n (list_under nodes h)) × (list_of nodes n ≡ l)
-begins_with nodes l h n s ne at = begins h.size (forward_of nodes) (back_of nodes) h.head h.tail n nodes l s.links s.distinct s.members ne at
+begins_with nodes l h n s ne at = begins h.size (forward_of nodes)
+    (back_of nodes) h.head h.tail n nodes l s.links s.distinct s.members ne at
 
 -- where the node is the front of the target already, the lists are those of a move as they stand
 pub moved_in_place : (nodes : List Node) (headers : List Header) (n t : ℕ) → IsSpelled nodes headers → n < length nodes
@@ -293,7 +303,8 @@ pub moved_in_place : (nodes : List Node) (headers : List Header) (n t : ℕ) →
 moved_in_place nodes headers n t inv there lt at =
     let ls = map (list_under nodes) headers in
     let len_ls : length ls ≡ length headers = length-map headers (list_under nodes) in
-    let begins = begins_with nodes t (header_at headers t) n (inv.each_list t lt) (exists_apart nodes n inv.few_nodes there) at in
+    let begins = begins_with nodes t (header_at headers t) n (inv.each_list t lt)
+    (exists_apart nodes n inv.few_nodes there) at in
     let A : List (List ℕ) → Lists = λ q. record { nodes = length nodes; lists = q } in
     ap A (moved_lists_are ls ls n t (subst (λ q. t < q) (sym len_ls) lt) refl
     (λ l below.
@@ -303,10 +314,12 @@ moved_in_place nodes headers n t inv there lt at =
     let stays : xs ≡ moved_list n t l xs =
     elim (eqb_tells l t) [
       | inl e ↦
-          rw e.0 (subst (λ q. list_under nodes (header_at headers q) ≡ n ∷ without n (list_under nodes (header_at headers q))) (sym e.1) begins.0)
+          rw e.0 (subst (λ q. list_under nodes (header_at headers q)
+          ≡ n ∷ without n (list_under nodes (header_at headers q))) (sym e.1) begins.0)
       | inr f ↦
           rw f.0 (sym (without-absent n xs
-          (apart_from_other nodes l (header_at headers l) n xs (inv.each_list l in_headers) (λ e. f.1 (sym e ∙ begins.1)))))
+          (apart_from_other nodes l (header_at headers l) n xs (inv.each_list l in_headers) (λ e. f.1 (sym e
+          ∙ begins.1)))))
     ] in
     is ∙ stays ∙ ap (moved_list n t l) (sym is)))
 

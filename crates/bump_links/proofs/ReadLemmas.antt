@@ -21,7 +21,8 @@ holder_is nodes headers n l inv lt held =
     elim (eqb_tells l (list_of nodes n)) [
       | inl e ↦ e.1
       | inr f ↦
-          let none : times n (list_at (lists_of nodes headers) l) ≡ 0 = (held_by nodes headers n inv lt).elsewhere l f.1 in
+          let none : times n (list_at (lists_of nodes headers) l)
+          ≡ 0 = (held_by nodes headers n inv lt).elsewhere l f.1 in
           let once : times n (list_at (lists_of nodes headers) l) ≡ 1 = held.once in
           absurd (omega (arith, none, once))
     ]

@@ -71,7 +71,8 @@ Spells-begin f b f' b' before first (x ∷ xs) last after p d k r =
     let P : ℕ → Type 0 = λ q. Spells f' b' x q xs last after in (
       r.0,
       k.0.2 (sym r.0),
-      subst P (sym e) (Spells-kept f b f' b' x (f x) xs last after (kept_behind f b f' b' first x xs p (sym r.0) d.0 k.1) r.2),
+      subst P (sym e) (Spells-kept f b f' b' x (f x) xs last after (kept_behind f b f' b' first x xs p
+          (sym r.0) d.0 k.1) r.2),
     )
   where
     kept_behind : (f b f' b' : ℕ → ℕ) (first x : ℕ) (xs : List ℕ) (p : ℕ) → x ≡ first

@@ -68,7 +68,8 @@ pub(crate) fn unlink(nodes: &mut [Node], header: &mut Header, node: u32)
     requires few { length nodes.old ≤ NODES_MAX }
     requires spelled { SpellsList nodes.old (list_of nodes.old node) header.old (list_under nodes.old header.old) }
     requires held { times node (list_under nodes.old header.old) ≡ 1 }
-    ensures spelled { SpellsList nodes.new (list_of nodes.old node) header.new (without node (list_under nodes.old header.old)) }
+    ensures spelled { SpellsList nodes.new (list_of nodes.old node) header.new
+        (without node (list_under nodes.old header.old)) }
     ensures others { KeepsOthers nodes.old nodes.new (list_of nodes.old node) node }
 {
     let Node { forward, back, .. } = nodes[node as usize];

@@ -1,5 +1,5 @@
--- What a call of `ride` comes to, by the heads that it found: the first one by its load, and more by the exchanges
--- that failed, in order.
+-- What a call of `ride` comes to, by the heads that it found: the first one by its load, and more by the exchanges that
+-- failed, in order.
 use Rattle.std.specs.Prelude.{◌≡◌, ℕ, List, Option, Some, None, Result, option_map}
 use Rattle.std.specs.Result.{result_err}
 use Rattle.bump_rules.specs.declared.commands.Dropped.{Dropped}

@@ -1,5 +1,5 @@
--- What a call of `take` comes to, by the heads that it found: the first one by its load, and more by the exchanges
--- that failed, in order.
+-- What a call of `take` comes to, by the heads that it found: the first one by its load, and more by the exchanges that
+-- failed, in order.
 use Rattle.std.specs.Prelude.{◌≡◌, ℕ, List, Option, Some, None, Result, Ok, Err}
 use Rattle.bump_rules.specs.declared.items.Head.{Head}
 use Rattle.bump_rules.specs.declared.items.ItemId.{ItemId}

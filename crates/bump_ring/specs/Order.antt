@@ -7,7 +7,8 @@ use Rattle.bump_steps.specs.declared.views.Ride.{Ride}
 use Rattle.bump_ring.specs.declared.rule.EndPart.{EndPart}
 
 abbrev pub end_part : Bool → Bool → Bool → List Ride → List Ride → EndPart
-end_part pushes pops closed sent received = record { pushes = pushes; pops = pops; closed = closed; sent = sent; received = received }
+end_part pushes pops closed sent received =
+    record { pushes = pushes; pops = pops; closed = closed; sent = sent; received = received }
 
 -- the end that a sender has, that a receiver has, and that a closed sender has
 abbrev pub sending : List Ride → EndPart
@@ -32,7 +33,8 @@ AreNumberedFrom number [] = Unit {0}
 AreNumberedFrom number (ride ∷ rides) = (ride.number ≡ number) × AreNumberedFrom (number + 1) rides
 
 -- What an end knows is so.
-pub record Agrees (writer reader : ℕ) (closed : Bool) (sent received : List Ride) (place : ℕ) (end : EndPart) : Type 0 where
+pub record Agrees (writer reader : ℕ) (closed : Bool) (sent received : List Ride) (place : ℕ) (end : EndPart)
+    : Type 0 where
   -- one end alone may push, while the ring is open, and it knows what was sent
   pub writes : end.pushes ≡ true → (place ≡ writer) × (closed ≡ false) × (end.sent ≡ sent)
   -- one end alone may pop, and it knows what was received
@@ -49,8 +51,24 @@ pub record IsInOrder (items : List Ride) (ends : List EndPart) : Type 0 where
   pub received : List Ride
   pub order : sent ≡ received ++ items
   pub numbers : AreNumberedFrom 0 sent
-  pub agree : (place : ℕ) (end : EndPart) → get_elem? ends place ≡ some end → Agrees writer reader closed sent received place end
+  pub agree : (place : ℕ) (end : EndPart) → get_elem? ends place ≡ some end
+      → Agrees writer reader closed sent received place end
 
 -- what the next takes give: known from when the end was shown a closed sender
 abbrev pub next_known : EndPart → List Ride
 next_known end = cond end.closed (drop (length end.received) end.sent) []
+
+-- what a push makes of the end that pushes
+abbrev pub sent_then : EndPart → Ride → EndPart → Type 0
+sent_then end ride after = after ≡ record end { sent = end.sent ++ ride ∷ [] }
+
+-- what a pop makes of the end that pops, and what it tells
+abbrev pub got_then : EndPart → Ride → EndPart → Type 0
+got_then end ride after =
+    (after ≡ record end { received = end.received ++ ride ∷ [] })
+    × (ride.number ≡ length end.received)
+    × (end.closed ≡ true → next_known end ≡ ride ∷ next_known after)
+
+-- what an end that pops learns where the ring gives nothing: an end that knows what was sent, knows what the ring holds
+abbrev pub got_fact : EndPart → List Ride → Type 0
+got_fact end items = end.closed ≡ true → end.sent ≡ end.received ++ items

@@ -1,9 +1,11 @@
 //! The ends of a ring, and what they do. Contracts see plain data.
-ghost use Rattle.std.specs.Prelude.{◌≡◌, ◌+◌, ◌≤◌, ◌<◌, length, true, false, [], ◌∷◌, ◌++◌, IfSome, IfOk, IfErr, IfNone, MatchOption};
+ghost use Rattle.std.specs.Prelude.{◌≡◌, ◌≤◌, ◌<◌, length, true, false, [], ◌∷◌, ◌++◌};
+ghost use Rattle.std.specs.Prelude.{IfSome, IfOk, IfErr, IfNone};
 ghost use Rattle.std.specs.Arc.{arc_value};
 ghost use Rattle.crossbeam_queue.specs.Passes.{view as seen, IsPassOf, ruled_capacity};
 ghost use Rattle.bump_ring.specs.Order.{next_known, sending, receiving};
-ghost use Rattle.bump_ring.specs.Ends.{SenderView as TheSenderView, ReceiverView as TheReceiverView, ClosedView as TheClosedView};
+ghost use Rattle.bump_ring.specs.Ends.{SenderView as TheSenderView, ReceiverView as TheReceiverView};
+ghost use Rattle.bump_ring.specs.Ends.{ClosedView as TheClosedView};
 
 use crate::rule::{Closing, End, Got, Line, Sent, Showing};
 use bump_readers::{Name, Rider};
@@ -145,13 +147,15 @@ impl<N: Name> Receiver<N> {
         }
     }
 
-    /// Takes the next bump out of the ring: the first that wasn't taken of those that were accepted. Where it sees
-    /// none there it answers None, and nothing is changed; that is so only where none is known.
+    /// Takes the next bump out of the ring: the first that wasn't taken of those that were accepted. Where some are
+    /// known it is the first of them, and the others stay known. Where it sees none there it answers None, and nothing
+    /// is changed; that is so only where none is known.
     pub fn take<R: Wait>(&mut self, rt: &R) -> Option<Rider<N>>
         ensures ring { self.new.ring ≡ self.old.ring }
         ensures number { IfSome result (λ rider. rider.number ≡ length self.old.received) }
         ensures received { IfSome result (λ rider. self.new.received ≡ self.old.received ++ rider ∷ []) }
         ensures known { IfSome result (λ rider. 0 < length self.old.known → self.old.known ≡ rider ∷ self.new.known) }
+        ensures unknown { IfSome result (λ rider. self.old.known ≡ [] → self.new.known ≡ []) }
         ensures none { IfNone result (self.old.known ≡ []) }
         ensures unchanged { IfNone result (self.new ≡ self.old) }
     {

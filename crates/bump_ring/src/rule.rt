@@ -1,6 +1,7 @@
 //! The rule of a ring: what each end knows, and what a push, a pop and a close make of it.
-ghost use Rattle.std.specs.Prelude.{◌≡◌, ◌≤◌, ◌++◌, [], ◌∷◌, length, true, false};
-ghost use Rattle.bump_ring.specs.Order.{end_part, sending, receiving, closed_after, shown, spent, IsInOrder, next_known};
+ghost use Rattle.std.specs.Prelude.{◌≤◌, [], length, true, false};
+ghost use Rattle.bump_ring.specs.Order.{end_part, sending, receiving, closed_after, shown, spent, IsInOrder};
+ghost use Rattle.bump_ring.specs.Order.{sent_then, got_then, got_fact};
 
 use bump_readers::{Name, Rider};
 use bump_steps::Ride;
@@ -77,7 +78,7 @@ pub struct Sent<N: Name> {
 }
 
 impl<N: Name> Outcome<Rider<N>, EndPart> for Sent<N> {
-    ghost then = { λ end ride after. after ≡ end_part end.pushes end.pops end.closed (end.sent ++ ride ∷ []) end.received };
+    ghost then = { sent_then };
 }
 
 impl<N: Name> Lesson<Rider<N>, EndPart> for Sent<N> {
@@ -90,9 +91,9 @@ pub struct Got<N: Name> {
 }
 
 impl<N: Name> Outcome<Rider<N>, EndPart> for Got<N> {
-    ghost then = { λ end ride after. (after ≡ end_part end.pushes end.pops end.closed end.sent (end.received ++ ride ∷ [])) × (ride.number ≡ length end.received) × (end.closed ≡ true → next_known end ≡ ride ∷ next_known after) };
+    ghost then = { got_then };
 }
 
 impl<N: Name> Lesson<Rider<N>, EndPart> for Got<N> {
-    ghost fact = { λ end items. end.closed ≡ true → end.sent ≡ end.received ++ items };
+    ghost fact = { got_fact };
 }

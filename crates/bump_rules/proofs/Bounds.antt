@@ -9,7 +9,8 @@ use Rattle.bump_rules.specs.declared.configs.ConfigFault.TheVariants.{Workers, C
 use Rattle.bump_rules.specs.Configs.{chunks_of, first_fault, is_within, most_refs, HaveChunks, Bounds}
 
 -- a test for a fault that found none failed, and the tests behind it found none
-clear : {A : Type 0} (b : Bool) (x : A) (o : Option A) → is_none (cond b (Some x) o) ≡ true → (b ≡ false) × (is_none o ≡ true)
+clear : {A : Type 0} (b : Bool) (x : A) (o : Option A) → is_none (cond b (Some x) o) ≡ true → (b ≡ false)
+    × (is_none o ≡ true)
 clear true x o e = absurd (let u : ⊥ = cc in u)
 clear false x o e = (refl, e)
 
@@ -18,9 +19,15 @@ have_chunks : (ks : List ClassConfig) → list_any (λ k. k.chunks == 0) ks ≡ 
 have_chunks [] e = tt
 have_chunks (k ∷ ks) e = by (ℕ_discrete k.chunks 0) (λ rest. have_chunks ks rest)
   where
-    by : Dec (k.chunks ≡ 0) → (list_any (λ k. k.chunks == 0) ks ≡ false → HaveChunks ks) → (0 < k.chunks) × HaveChunks ks
-    by (yes none) rest = absurd (let u : ⊥ = cc (sym (ap (λ b. b || list_any (λ k. k.chunks == 0) ks) (eq-eqb k.chunks 0 none)) ∙ e) in u)
-    by (no some) rest = (omega arith, rest (sym (ap (λ b. b || list_any (λ k. k.chunks == 0) ks) (ne_eqb k.chunks 0 some)) ∙ e))
+    by : Dec (k.chunks ≡ 0) → (list_any (λ k. k.chunks == 0) ks ≡ false → HaveChunks ks) → (0 < k.chunks)
+        × HaveChunks ks
+    by (yes none) rest = absurd (let u : ⊥ = cc (sym (ap (λ b. b || list_any (λ k. k.chunks == 0) ks)
+        (eq-eqb k.chunks 0 none)) ∙ e) in u)
+    by (no some) rest = (
+      omega arith,
+      rest (sym (ap (λ b. b || list_any (λ k. k.chunks == 0) ks)
+          (ne_eqb k.chunks 0 some)) ∙ e),
+    )
 
 -- a number that doesn't test as 0 is 1 or more
 some_of : (g : ℕ) → (g == 0) ≡ false → 1 ≤ g
@@ -32,10 +39,13 @@ some_of g e = by (ℕ_discrete g 0)
 
 -- a number that doesn't test as out of its bounds is within them
 within_of : (least most n : ℕ) → not (is_within least most n) ≡ false → (least ≤ n) × (n ≤ most)
-within_of least most n e = let both = and_parts (nat_le least n) (nat_le n most) (not-false _ e) in (leb-true least n both.0, leb-true n most both.1)
+within_of least most n e = let both = and_parts (nat_le least n) (nat_le n most) (not-false _ e) in
+    (leb-true least n both.0, leb-true n most both.1)
 
 -- a configuration without faults is within its bounds
-pub bounds : (workers capacity limit generation : ℕ) (classes : List ClassConfig) → is_none (first_fault workers capacity limit generation classes) ≡ true → Bounds workers capacity limit generation classes
+pub bounds : (workers capacity limit generation : ℕ) (classes : List ClassConfig)
+    → is_none (first_fault workers capacity limit generation classes) ≡ true
+    → Bounds workers capacity limit generation classes
 bounds workers capacity limit generation classes valid =
     let no_workers = clear (not (is_within 1 64 workers)) Workers _ valid in
     let no_capacity = clear (not (is_within 1 65536 capacity)) Capacity _ no_workers.1 in

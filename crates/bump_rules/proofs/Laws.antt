@@ -1,5 +1,6 @@
--- Each kind of change leaves a chunk lawful: facts about a head, a place and two counts alone. The kinds: a reference taken or given back,
--- the first hit and a later one, a mark, a link, an unlink, a sweep and a move; and counts, a head or a place in other words.
+-- Each kind of change leaves a chunk lawful: facts about a head, a place and two counts alone. The kinds: a reference
+-- taken or given back, the first hit and a later one, a mark, a link, an unlink, a sweep and a move; and counts, a
+-- head or a place in other words.
 use Rattle.std.proofs.Common.{◌≡◌, ℕ, ◌+◌, ◌-◌, ◌<◌, ◌≤◌, ◌≢◌, Bool, true, false, refl, sym, ap, ◌∙◌, subst, arith}
 use mathlib.Core.Bool.{false≢true}
 use mathlib.Core.Logic.{dite}
@@ -11,7 +12,7 @@ use Rattle.bump_rules.specs.declared.places.Segment.TheVariants as segment
 use Rattle.bump_rules.specs.declared.places.Place.TheVariants.{Hot, Warm, Cold, Dying, Unused, Retired}
 use Rattle.bump_rules.specs.History.{place_of}
 use Rattle.bump_rules.specs.Lawful.{bit, Shows, IsUsed, Lawful}
-use Rattle.bump_rules.specs.Heads.{newborn, newborn_in, one_more, one_fewer, fetched_head, moved_head, severed_head}
+use Rattle.bump_rules.specs.Heads.{linked_head, linked_head_in, one_more, one_fewer, fetched_head, moved_head, unlinked_head}
 
 -- a mark counts at most 1
 pub bit_at_most : (b : Bool) → bit b ≤ 1
@@ -69,7 +70,8 @@ used_in_segment segment.Warm = tt
 used_in_segment segment.Cold = tt
 
 -- a place asks nothing of the count and of the marks
-pub shows_same : (g h : Head) (at : Place) → g.linked ≡ h.linked → g.segment ≡ h.segment → g.generation ≡ h.generation → Shows g at → Shows h at
+pub shows_same : (g h : Head) (at : Place) → g.linked ≡ h.linked → g.segment ≡ h.segment → g.generation ≡ h.generation
+    → Shows g at → Shows h at
 shows_same g h Hot l s e x = (sym l ∙ x.0, sym s ∙ x.1)
 shows_same g h Warm l s e x = (sym l ∙ x.0, sym s ∙ x.1)
 shows_same g h Cold l s e x = (sym l ∙ x.0, sym s ∙ x.1)
@@ -102,10 +104,12 @@ module _ (limit : ℕ) (h : Head) (at : Place) (r x : ℕ → ℕ) (o : Lawful l
 
   -- a free chunk has no reference
   pub none_where_free : IsUsed at ≡ ⊥ → (g : ℕ) → r g ≡ 0
-  none_where_free free g = dite (ℕ_discrete (r g) 0) (λ e. e) (λ ne. absurd (subst (λ (T : Type 0). T) free (o.used g (omega arith)).1))
+  none_where_free free g = dite (ℕ_discrete (r g) 0) (λ e. e) (λ ne. absurd (subst (λ (T : Type 0). T) free
+      (o.used g (omega arith)).1))
 
   -- one more reference to the chunk's life
-  pub referred : (q : ℕ → ℕ) → IsUsed at → h.refs < limit → q h.generation ≡ r h.generation + 1 → ((g : ℕ) → g ≢ h.generation → q g ≡ r g)
+  pub referred : (q : ℕ → ℕ) → IsUsed at → h.refs < limit → q h.generation ≡ r h.generation + 1
+      → ((g : ℕ) → g ≢ h.generation → q g ≡ r g)
       → Lawful limit (one_more h) at q x
   referred q used few here there = record {
     counted = omega (arith, o.counted);
@@ -120,13 +124,15 @@ module _ (limit : ℕ) (h : Head) (at : Place) (r x : ℕ → ℕ) (o : Lawful l
   }
 
   -- one reference fewer
-  pub unreferred : (q : ℕ → ℕ) → q h.generation + 1 ≡ r h.generation → ((g : ℕ) → g ≢ h.generation → q g ≡ r g) → Lawful limit (one_fewer h) at q x
+  pub unreferred : (q : ℕ → ℕ) → q h.generation + 1 ≡ r h.generation → ((g : ℕ) → g ≢ h.generation → q g ≡ r g)
+      → Lawful limit (one_fewer h) at q x
   unreferred q here there = record {
     counted = omega (arith, o.counted);
     within = omega (arith, o.within);
     generation = o.generation;
     shown = shows_same h (record h { refs = h.refs - 1 }) at refl refl refl o.shown;
-    used = λ g some. dite (ℕ_discrete g h.generation) (λ e. o.used g (omega (arith, ap r e, ap q e))) (λ ne. o.used g (omega (arith, there g ne)));
+    used = λ g some. dite (ℕ_discrete g h.generation) (λ e. o.used g (omega (arith, ap r e, ap q e))) (λ ne. o.used g
+        (omega (arith, there g ne)));
     active = o.active;
     fetched = o.fetched;
     once = o.once;
@@ -134,7 +140,8 @@ module _ (limit : ℕ) (h : Head) (at : Place) (r x : ℕ → ℕ) (o : Lawful l
   }
 
   -- the first hit of the life
-  pub named_first : (y : ℕ → ℕ) → h.fetched ≡ false → y h.generation ≡ x h.generation + 1 → ((g : ℕ) → g ≢ h.generation → y g ≡ x g) → Lawful limit (fetched_head h) at r y
+  pub named_first : (y : ℕ → ℕ) → h.fetched ≡ false → y h.generation ≡ x h.generation + 1
+      → ((g : ℕ) → g ≢ h.generation → y g ≡ x g) → Lawful limit (fetched_head h) at r y
   named_first y clear here there = let none : bit h.fetched ≡ 0 = ap bit clear in record {
     counted = o.counted;
     within = o.within;
@@ -143,7 +150,11 @@ module _ (limit : ℕ) (h : Head) (at : Place) (r x : ℕ → ℕ) (o : Lawful l
     used = o.used;
     active = bit_at_most h.active;
     fetched = omega (arith, o.fetched);
-    once = λ g. dite (ℕ_discrete g h.generation) (λ e. omega (arith, o.fetched, ap y e)) (λ ne. omega (arith, there g ne, o.once g));
+    once = λ g. dite (ℕ_discrete g h.generation) (λ e. omega (arith, o.fetched, ap y e)) (λ ne. omega (
+      arith,
+      there g ne,
+      o.once g,
+    ));
     past = λ g some. dite (ℕ_discrete g h.generation) (λ e. omega arith) (λ ne. o.past g (omega (arith, there g ne)));
   }
 
@@ -162,26 +173,30 @@ module _ (limit : ℕ) (h : Head) (at : Place) (r x : ℕ → ℕ) (o : Lawful l
   }
 
   -- a new life in a segment
-  pub born_in : (to : Segment) → at ≡ Unused → 0 < limit → Lawful limit (newborn_in to (h.generation + 1)) (place_of to) r x
+  pub born_in : (to : Segment) → at ≡ Unused → 0 < limit → Lawful limit (linked_head_in to (h.generation + 1))
+      (place_of to) r x
   born_in to free room = let none = none_where_free (ap IsUsed free) in record {
     counted = omega (arith, none (h.generation + 1));
     within = omega arith;
     generation = let last = (subst (Shows h) free o.shown).1 in omega (arith, last);
-    shown = shows_segment (newborn_in to (h.generation + 1)) to refl;
+    shown = shows_segment (linked_head_in to (h.generation + 1)) to refl;
     used = λ g some. absurd (omega (arith, none g));
     active = omega arith;
-    fetched = dite (ℕ_discrete (x (h.generation + 1)) 0) (λ e. e) (λ ne. absurd (omega (arith, o.past (h.generation + 1) (omega arith))));
+    fetched = dite (ℕ_discrete (x (h.generation + 1)) 0) (λ e. e) (λ ne. absurd (omega (
+      arith,
+      o.past (h.generation + 1) (omega arith),
+    )));
     once = o.once;
     past = λ g some. omega (arith, o.past g some);
   }
 
   -- which begins in HOT
-  pub born : at ≡ Unused → 0 < limit → Lawful limit (newborn (h.generation + 1)) Hot r x
+  pub born : at ≡ Unused → 0 < limit → Lawful limit (linked_head (h.generation + 1)) Hot r x
   born free room = born_in segment.Hot free room
 
   -- the chunk is unlinked, and its holders stay
-  pub severed : h.linked ≡ true → Lawful limit (severed_head h) Dying r x
-  severed on = record {
+  pub unlinked : h.linked ≡ true → Lawful limit (unlinked_head h) Dying r x
+  unlinked on = record {
     counted = omega (arith, o.counted, ap bit on);
     within = omega (arith, o.within);
     generation = o.generation;
@@ -236,6 +251,8 @@ module _ (limit : ℕ) (h : Head) (at : Place) (r x : ℕ → ℕ) (o : Lawful l
   }
 
 -- the same chunk, its head, its place and its references in other words
-pub lawful_same : (limit : ℕ) (g h : Head) (p q : Place) (r u x : ℕ → ℕ) → h ≡ g → q ≡ p → ((n : ℕ) → u n ≡ r n) → Lawful limit g p r x → Lawful limit h q u x
+pub lawful_same : (limit : ℕ) (g h : Head) (p q : Place) (r u x : ℕ → ℕ) → h ≡ g → q ≡ p → ((n : ℕ) → u n ≡ r n)
+    → Lawful limit g p r x → Lawful limit h q u x
 lawful_same limit g h p q r u x head_is place_is count_is o =
-    subst (λ (f : Head). Lawful limit f q u x) (sym head_is) (subst (λ (at : Place). Lawful limit g at u x) (sym place_is) (relawful limit g p r x o u x count_is (λ n. refl)))
+    subst (λ (f : Head). Lawful limit f q u x) (sym head_is) (subst (λ (at : Place). Lawful limit g at u x)
+    (sym place_is) (relawful limit g p r x o u x count_is (λ n. refl)))

@@ -17,7 +17,10 @@ times_other c x xs ne = rw (ne_eqb x c ne) refl
 
 -- with one more in front a list has each chunk as often at least
 pub times_rest : (c x : ℕ) (xs : List ℕ) → times c xs ≤ times c (x ∷ xs)
-times_rest c x xs = dite (ℕ_discrete x c) (λ e. omega (arith, times_same c x xs e)) (λ ne. omega (arith, times_other c x xs ne))
+times_rest c x xs = dite (ℕ_discrete x c) (λ e. omega (arith, times_same c x xs e)) (λ ne. omega (
+  arith,
+  times_other c x xs ne,
+))
 
 -- a chunk that is read in a list is in it
 pub times_at : (c : ℕ) (xs : List ℕ) (i d : ℕ) → i < length xs → slice_index_or xs i d ≡ c → 0 < times c xs
@@ -38,12 +41,34 @@ last_there c (x ∷ y ∷ ys) is = omega (arith, times_rest c x (y ∷ ys), last
 
 -- an ascending row has each of its numbers once
 pub times_ascending : (c first n : ℕ) → times c (range_with_len first n) ≡ bit (leb first c && ltb c (first + n))
-times_ascending c first zero = dite (dec_le first c) (λ le. ap₂ (λ a b. bit (a && b)) (sym (le-leb first c le)) (sym (le-ltb c (first + 0) (omega arith)))) (λ gt. ap (λ a. bit (a && ltb c (first + 0))) (sym (lt-leb first c (omega arith))))
+times_ascending c first zero = dite (dec_le first c) (λ le. ap₂ (λ a b. bit (a && b)) (sym (le-leb first c le))
+    (sym (le-ltb c (first + 0) (omega arith)))) (λ gt. ap (λ a. bit (a && ltb c (first + 0)))
+    (sym (lt-leb first c (omega arith))))
 times_ascending c first (suc n) = dite (ℕ_discrete first c)
-    (λ e. omega (arith, times_same c first (range_with_len (first + 1) n) e, times_ascending c (first + 1) n, ap₂ (λ a b. bit (a && b)) (le-leb first c (omega arith)) (lt-ltb c (first + suc n) (omega arith)), ap (λ a. bit (a && ltb c (first + 1 + n))) (lt-leb (first + 1) c (omega arith))))
+    (λ e. omega (
+      arith,
+      times_same c first (range_with_len (first + 1) n) e,
+      times_ascending c (first + 1) n,
+      ap₂ (λ a b. bit (a && b)) (le-leb first c (omega arith)) (lt-ltb c (first + suc n) (omega arith)),
+      ap (λ a. bit (a && ltb c (first + 1 + n))) (lt-leb (first + 1) c (omega arith)),
+    ))
     (λ ne. dite (dec_le first c)
-    (λ le. omega (arith, times_other c first (range_with_len (first + 1) n) ne, times_ascending c (first + 1) n, ap (λ a. bit (a && ltb c (first + suc n))) (le-leb first c le), ap (λ a. bit (a && ltb c (first + 1 + n))) (le-leb (first + 1) c (omega arith)), ap (λ (k : ℕ). bit (ltb c k)) (shift first n)))
-    (λ gt. omega (arith, times_other c first (range_with_len (first + 1) n) ne, times_ascending c (first + 1) n, ap (λ a. bit (a && ltb c (first + suc n))) (lt-leb first c (omega arith)), ap (λ a. bit (a && ltb c (first + 1 + n))) (lt-leb (first + 1) c (omega arith)))))
+    (λ le. omega (
+      arith,
+      times_other c first (range_with_len (first + 1) n) ne,
+      times_ascending c (first + 1) n,
+      ap (λ a. bit (a && ltb c (first + suc n))) (le-leb first c le),
+      ap (λ a. bit (a && ltb c (first + 1 + n)))
+          (le-leb (first + 1) c (omega arith)),
+      ap (λ (k : ℕ). bit (ltb c k)) (shift first n),
+    ))
+    (λ gt. omega (
+      arith,
+      times_other c first (range_with_len (first + 1) n) ne,
+      times_ascending c (first + 1) n,
+      ap (λ a. bit (a && ltb c (first + suc n))) (lt-leb first c (omega arith)),
+      ap (λ a. bit (a && ltb c (first + 1 + n))) (lt-leb (first + 1) c (omega arith)),
+    )))
   where
     shift : (a b : ℕ) → a + suc b ≡ a + 1 + b
     shift a b = omega arith
@@ -53,5 +78,7 @@ pub same_row : (c first end : ℕ) → bit (leb first c && ltb c (first + (end -
 same_row c first end = dite (dec_le first end)
     (λ le. ap (λ (e : ℕ). bit (leb first c && ltb c e)) (omega arith))
     (λ gt. dite (dec_le first c)
-    (λ le. ap₂ (λ a b. bit (a && b)) refl (le-ltb c (first + (end - first)) (omega arith) ∙ sym (le-ltb c end (omega arith))))
-    (λ less. ap (λ a. bit (a && ltb c (first + (end - first)))) (lt-leb first c (omega arith)) ∙ ap (λ a. bit (a && ltb c end)) (sym (lt-leb first c (omega arith)))))
+    (λ le. ap₂ (λ a b. bit (a && b)) refl (le-ltb c (first + (end - first)) (omega arith)
+    ∙ sym (le-ltb c end (omega arith))))
+    (λ less. ap (λ a. bit (a && ltb c (first + (end - first)))) (lt-leb first c (omega arith))
+    ∙ ap (λ a. bit (a && ltb c end)) (sym (lt-leb first c (omega arith)))))

@@ -23,7 +23,8 @@ numbered_number Retired = refl
 
 -- places that test as one are one
 pub same_place : (p q : Place) → is_place p q ≡ true → p ≡ q
-same_place p q e = sym (numbered_number p) ∙ (ap place_numbered (eqb-true (place_number p) (place_number q) e) ∙ numbered_number q)
+same_place p q e = sym (numbered_number p) ∙ (ap place_numbered (eqb-true (place_number p) (place_number q) e)
+    ∙ numbered_number q)
 
 -- one place tests as itself
 pub place_same : (p q : Place) → p ≡ q → is_place p q ≡ true
@@ -31,7 +32,8 @@ place_same p q e = eq-eqb (place_number p) (place_number q) (ap place_number e)
 
 -- two places test as two
 pub other_place : (p q : Place) → p ≢ q → is_place p q ≡ false
-other_place p q ne = ne_eqb (place_number p) (place_number q) (λ e. ne (sym (numbered_number p) ∙ (ap place_numbered e ∙ numbered_number q)))
+other_place p q ne = ne_eqb (place_number p) (place_number q) (λ e. ne (sym (numbered_number p) ∙ (ap place_numbered e
+    ∙ numbered_number q)))
 
 -- a place is one of all
 pub one_place : (p : Place) → total (λ q. bit (is_place p q)) all_places ≡ 1
@@ -56,4 +58,5 @@ same_standing a b e =
 
 -- one standing tests as itself
 pub standing_same : (a b : Standing) → a ≡ b → is_standing a b ≡ true
-standing_same a b e = ap₂ (λ x y. x && y) (place_same a.0 b.0 (ap (λ (s : Standing). s.0) e)) (eq-eqb a.1 b.1 (ap (λ (s : Standing). s.1) e))
+standing_same a b e = ap₂ (λ x y. x && y) (place_same a.0 b.0 (ap (λ (s : Standing). s.0) e)) (eq-eqb a.1 b.1
+    (ap (λ (s : Standing). s.1) e))

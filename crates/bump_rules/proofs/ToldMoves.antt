@@ -1,4 +1,5 @@
--- The moves for bumps that a history has, and those that a lane tells of, entry by entry: over lists and one lane alone.
+-- The moves for bumps that a history has, and those that a lane tells of, entry by entry:
+-- over lists and one lane alone.
 use Rattle.std.proofs.Common.{◌≡◌, ℕ, suc, ◌+◌, ◌<◌, ◌≤◌, Bool, true, false, ◌&&◌, ◌==◌, List, [], ◌∷◌, ◌++◌, map, slice_get, Some, refl, sym, ap, ◌∙◌, subst, arith, ne_eqb, ◌⊎◌, inl, inr}
 use Rattle.std.proofs.Math.Bool.{and-true, and-false}
 use Rattle.std.proofs.lemmas.Bool.{and_from, and_parts, cases_lt, not_from_false, eqb-true, eq-eqb}
@@ -60,10 +61,12 @@ tests_turned false b c d = sym (ap (λ x. c && x) (and-false d) ∙ and-false c)
 -- Entries of a lane.
 
 -- equal tests tell of equally many moves
-pub told_same : (t u : ItemId → Bool) → ((l : ItemId) → t l ≡ u l) → (n : ℕ) (applied : List AppliedBump) (x : Lane) → moves_told t n applied x ≡ moves_told u n applied x
+pub told_same : (t u : ItemId → Bool) → ((l : ItemId) → t l ≡ u l) → (n : ℕ) (applied : List AppliedBump) (x : Lane)
+    → moves_told t n applied x ≡ moves_told u n applied x
 told_same t u same n applied x = omega (
   arith,
-  total_same (λ (a : AppliedBump). bit (is_told_moved t n a)) (λ a. bit (is_told_moved u n a)) (λ a. ap (λ b. bit (is_moved a.outcome && ((a.number == n) && b))) (same a.life)) applied,
+  total_same (λ (a : AppliedBump). bit (is_told_moved t n a)) (λ a. bit (is_told_moved u n a))
+      (λ a. ap (λ b. bit (is_moved a.outcome && ((a.number == n) && b))) (same a.life)) applied,
   moving_same x,
 )
   where
@@ -75,7 +78,8 @@ told_same t u same n applied x = omega (
     moving_same (lane.Moved b) = ap (λ p. bit ((b.number == n) && p)) (same b.life)
 
 -- tests of which no item passes both tell of no more moves together than there are
-pub told_apart : (t u : ItemId → Bool) → ((l : ItemId) → bit (t l) + bit (u l) ≤ 1) → (n : ℕ) (applied : List AppliedBump) (x : Lane)
+pub told_apart : (t u : ItemId → Bool) → ((l : ItemId) → bit (t l) + bit (u l) ≤ 1)
+    → (n : ℕ) (applied : List AppliedBump) (x : Lane)
     → moves_told t n applied x + moves_told u n applied x ≤ moves_told (λ l. true) n applied x
 told_apart t u apart n applied x = omega (arith, entries applied, last x)
   where
@@ -87,9 +91,14 @@ told_apart t u apart n applied x = omega (arith, entries applied, last x)
     entry true p q r few = one p q r few
     entry false p q r few = omega arith
 
-    entries : (applied : List AppliedBump) → how_many (is_told_moved t n) applied + how_many (is_told_moved u n) applied ≤ how_many (is_told_moved (λ l. true) n) applied
+    entries : (applied : List AppliedBump) → how_many (is_told_moved t n) applied + how_many
+        (is_told_moved u n) applied ≤ how_many (is_told_moved (λ l. true) n) applied
     entries [] = omega arith
-    entries (a ∷ more) = omega (arith, entry (is_moved a.outcome) (a.number == n) (t a.life) (u a.life) (apart a.life), entries more)
+    entries (a ∷ more) = omega (
+      arith,
+      entry (is_moved a.outcome) (a.number == n) (t a.life) (u a.life) (apart a.life),
+      entries more,
+    )
 
     last : (x : Lane) → moving t n x + moving u n x ≤ moving (λ l. true) n x
     last lane.Empty = omega arith
@@ -99,7 +108,8 @@ told_apart t u apart n applied x = omega (arith, entries applied, last x)
     last (lane.Moved b) = one (b.number == n) (t b.life) (u b.life) (apart b.life)
 
 -- a test tells of no more moves than there are
-pub told_below : (test : ItemId → Bool) (n : ℕ) (applied : List AppliedBump) (x : Lane) → moves_told test n applied x ≤ moves_told (λ l. true) n applied x
+pub told_below : (test : ItemId → Bool) (n : ℕ) (applied : List AppliedBump) (x : Lane)
+    → moves_told test n applied x ≤ moves_told (λ l. true) n applied x
 told_below test n applied x = omega (arith, told_apart test (λ l. false) (λ l. few (test l)) n applied x)
   where
     few : (b : Bool) → bit b + bit false ≤ 1
@@ -119,28 +129,42 @@ is_told_unmoved n a = not (is_moved a.outcome) && (a.number == n)
 -- bumps that are numbered from above a number have it never
 numbered_above : (n m : ℕ) (ls : List ItemId) → n < m → how_many (is_number n) (numbered_from m ls) ≡ 0
 numbered_above n m [] above = refl
-numbered_above n m (l ∷ ls) above = omega (arith, ap bit (ne_eqb m n (λ e. absurd (omega arith))), numbered_above n (suc m) ls (omega arith))
+numbered_above n m (l ∷ ls) above = omega (
+  arith,
+  ap bit (ne_eqb m n (λ e. absurd (omega arith))),
+  numbered_above n (suc m) ls (omega arith),
+)
 
 -- bumps that are numbered have a number once at most
 numbered_once : (n m : ℕ) (ls : List ItemId) → how_many (is_number n) (numbered_from m ls) ≤ 1
 numbered_once n m [] = omega arith
 numbered_once n m (l ∷ ls) = by (m == n) refl (numbered_once n (suc m) ls)
   where
-    by : (b : Bool) → (m == n) ≡ b → how_many (is_number n) (numbered_from (suc m) ls) ≤ 1 → how_many (is_number n) (numbered_from m (l ∷ ls)) ≤ 1
+    by : (b : Bool) → (m == n) ≡ b → how_many (is_number n) (numbered_from (suc m) ls) ≤ 1
+        → how_many (is_number n) (numbered_from m (l ∷ ls)) ≤ 1
     by true is later = omega (arith, ap bit is, numbered_above n (suc m) ls (omega (arith, eqb-true m n is)))
     by false is later = omega (arith, ap bit is, later)
 
--- the moves of bump n that a lane tells of, and its entries of bump n that tell of none, are no more than its bumps of that number
+-- the moves of bump n that a lane tells of, and its entries of bump n that tell of none, are no
+-- more than its bumps of that number
 told_numbered : (n : ℕ) (applied : List AppliedBump) (x : Lane)
-    → moves_told (λ l. true) n applied x + how_many (is_told_unmoved n) applied ≤ how_many (is_number n) (map bump_applied applied ++ aboard x)
-told_numbered n applied x = omega (arith, total_append (λ (b : Bump). bit (is_number n b)) (map bump_applied applied) (aboard x), entries applied, last x)
+    → moves_told (λ l. true) n applied x + how_many (is_told_unmoved n) applied ≤ how_many (is_number n)
+    (map bump_applied applied ++ aboard x)
+told_numbered n applied x = omega (
+  arith,
+  total_append (λ (b : Bump). bit (is_number n b)) (map bump_applied applied)
+      (aboard x),
+  entries applied,
+  last x,
+)
   where
     entry : (m p : Bool) → bit (m && (p && true)) + bit (not m && p) ≤ bit p
     entry true true = omega arith
     entry true false = omega arith
     entry false p = omega arith
 
-    entries : (applied : List AppliedBump) → how_many (is_told_moved (λ l. true) n) applied + how_many (is_told_unmoved n) applied ≤ how_many (is_number n) (map bump_applied applied)
+    entries : (applied : List AppliedBump) → how_many (is_told_moved (λ l. true) n) applied + how_many
+        (is_told_unmoved n) applied ≤ how_many (is_number n) (map bump_applied applied)
     entries [] = omega arith
     entries (a ∷ more) = omega (arith, entry (is_moved a.outcome) (a.number == n), entries more)
 
@@ -151,19 +175,27 @@ told_numbered n applied x = omega (arith, total_append (λ (b : Bump). bit (is_n
     last (lane.Cleared b found) = omega arith
     last (lane.Moved b) = omega (arith, ap bit (and-true (b.number == n)))
 
-module _ (applied : List AppliedBump) (x : Lane) (received : List ItemId) (in_order : map bump_applied applied ++ aboard x ≡ numbered_from 0 received) where
+module _ (applied : List AppliedBump) (x : Lane) (received : List ItemId)
+    (in_order : map bump_applied applied ++ aboard x ≡ numbered_from 0 received) where
   -- a lane that applies what it received, in order, tells of one move at most for a bump
   pub told_once : (n : ℕ) → moves_told (λ l. true) n applied x ≤ 1
-  told_once n = omega (arith, told_numbered n applied x, ap (how_many (is_number n)) in_order, numbered_once n 0 received)
+  told_once n = omega (
+    arith,
+    told_numbered n applied x,
+    ap (how_many (is_number n)) in_order,
+    numbered_once n 0 received,
+  )
 
   -- and of none for a bump of which an entry tells otherwise
-  pub told_never : (a : AppliedBump) → Contains applied a → is_moved a.outcome ≡ false → moves_told (λ l. true) a.number applied x ≡ 0
+  pub told_never : (a : AppliedBump) → Contains applied a → is_moved a.outcome ≡ false
+      → moves_told (λ l. true) a.number applied x ≡ 0
   told_never a has stays = omega (
     arith,
     told_numbered a.number applied x,
     ap (how_many (is_number a.number)) in_order,
     numbered_once a.number 0 received,
-    contained_counted (is_told_unmoved a.number) applied a has (and_from (not (is_moved a.outcome)) (a.number == a.number) (not_from_false (is_moved a.outcome) stays) (eq-eqb a.number a.number refl)),
+    contained_counted (is_told_unmoved a.number) applied a has (and_from (not (is_moved a.outcome))
+        (a.number == a.number) (not_from_false (is_moved a.outcome) stays) (eq-eqb a.number a.number refl)),
   )
 
 -- Where a move is told.
@@ -186,8 +218,10 @@ module _ (l : ItemId) (test : ItemId → Bool) (only : (j : ItemId) → test j �
       ∙ ap (applied_bump (bump_of n l)) (moved_from a.outcome parts.0))
 
   -- among entries that are numbered from m it stands at its number
-  entry_at : (m : ℕ) (applied : List AppliedBump) (rest : List Bump) (received : List ItemId) → map bump_applied applied ++ rest ≡ numbered_from m received
-      → 0 < how_many (is_told_moved test n) applied → (k : ℕ) × (n ≡ m + k) × (slice_get applied k ≡ Some (applied_bump (bump_of n l) outcome.Moved))
+  entry_at : (m : ℕ) (applied : List AppliedBump) (rest : List Bump) (received : List ItemId)
+      → map bump_applied applied ++ rest ≡ numbered_from m received
+      → 0 < how_many (is_told_moved test n) applied → (k : ℕ) × (n ≡ m + k) × (slice_get applied k
+      ≡ Some (applied_bump (bump_of n l) outcome.Moved))
   entry_at m [] rest received is some = absurd (omega (arith, some))
   entry_at m (a ∷ more) rest [] is some = absurd (let u : ⊥ = cc in u)
   entry_at m (a ∷ more) rest (j ∷ ls) is some = by (is_told_moved test n a) refl (entry_at (suc m) more rest ls)
@@ -202,8 +236,16 @@ module _ (l : ItemId) (test : ItemId → Bool) (only : (j : ItemId) → test j �
           → (map bump_applied more ++ rest ≡ numbered_from (suc m) ls → 0 < how_many (is_told_moved test n) more
           → (k : ℕ) × (n ≡ suc m + k) × (slice_get more k ≡ Some (applied_bump (bump_of n l) outcome.Moved)))
           → (k : ℕ) × (n ≡ m + k) × (slice_get (a ∷ more) k ≡ Some (applied_bump (bump_of n l) outcome.Moved))
-      by true told later = let e = entry_is a told in (0, omega (arith, first, ap (λ (x : AppliedBump). x.number) e), ap (λ (x : AppliedBump). Some x) e)
-      by false told later = let k = later behind (omega (arith, some, ap bit told)) in (suc k.0, omega (arith, k.1), k.2)
+      by true told later = let e = entry_is a told in (
+        0,
+        omega (arith, first, ap (λ (x : AppliedBump). x.number) e),
+        ap (λ (x : AppliedBump). Some x) e,
+      )
+      by false told later = let k = later behind (omega (arith, some, ap bit told)) in (
+        suc k.0,
+        omega (arith, k.1),
+        k.2,
+      )
 
   -- a lane that has just made the move
   moving_is : (x : Lane) → 0 < moving test n x → x ≡ lane.Moved (bump_of n l)
@@ -216,15 +258,18 @@ module _ (l : ItemId) (test : ItemId → Bool) (only : (j : ItemId) → test j �
       by : (t : Bool) → ((b.number == n) && test b.life) ≡ t → lane.Moved b ≡ lane.Moved (bump_of n l)
       by true is =
           let parts = and_parts (b.number == n) (test b.life) is in
-          ap (λ (k : ℕ). lane.Moved (bump_of k b.life)) (eqb-true b.number n parts.0) ∙ ap (λ (j : ItemId). lane.Moved (bump_of n j)) (only b.life parts.1)
+          ap (λ (k : ℕ). lane.Moved (bump_of k b.life)) (eqb-true b.number n parts.0)
+          ∙ ap (λ (j : ItemId). lane.Moved (bump_of n j)) (only b.life parts.1)
       by false is = absurd (omega (arith, some, ap bit is))
 
   -- a lane that tells of a move for bump n of the life shows it
-  pub told_shows : (applied : List AppliedBump) (x : Lane) (received : List ItemId) → map bump_applied applied ++ aboard x ≡ numbered_from 0 received
+  pub told_shows : (applied : List AppliedBump) (x : Lane) (received : List ItemId)
+      → map bump_applied applied ++ aboard x ≡ numbered_from 0 received
       → 0 < moves_told test n applied x → ShowsMove n l applied x
   told_shows applied x received is some = by (cases_lt 0 (how_many (is_told_moved test n) applied))
     where
-      by : (0 < how_many (is_told_moved test n) applied) ⊎ (how_many (is_told_moved test n) applied ≤ 0) → ShowsMove n l applied x
+      by : (0 < how_many (is_told_moved test n) applied) ⊎ (how_many (is_told_moved test n) applied ≤ 0)
+          → ShowsMove n l applied x
       by (inl told) =
           let k = entry_at 0 applied (aboard x) received is told in
           let same : k.0 ≡ n = omega (arith, k.1) in

@@ -10,7 +10,8 @@ use Rattle.bump_rules.specs.Totals.{total}
 use Rattle.bump_rules.specs.Lives.{one_if, count_of}
 
 -- what is the same of the element that was written is the same of each
-pub same_read : {A B : Type 0} (f : A → B) (xs : List A) (i : ℕ) (v d : A) → f v ≡ f (slice_index_or xs i d) → (j : ℕ) → f (slice_index_or (slice_set xs i v) j d) ≡ f (slice_index_or xs j d)
+pub same_read : {A B : Type 0} (f : A → B) (xs : List A) (i : ℕ) (v d : A) → f v ≡ f (slice_index_or xs i d) → (j : ℕ)
+    → f (slice_index_or (slice_set xs i v) j d) ≡ f (slice_index_or xs j d)
 same_read f [] i v d same j = refl
 same_read f (x ∷ xs) zero v d same zero = same
 same_read f (x ∷ xs) zero v d same (suc j) = refl
@@ -18,12 +19,15 @@ same_read f (x ∷ xs) (suc i) v d same zero = refl
 same_read f (x ∷ xs) (suc i) v d same (suc j) = same_read f xs i v d same j
 
 -- an element changed behind a reference: the seen list has it changed alike
-pub rewritten : {A B : Type 0} (f : A → B) (h : B → B) (xs : List A) (i : ℕ) (a x : A) (d : B) → i < length xs → a ≡ get_or xs i a → f x ≡ h (f a)
+pub rewritten : {A B : Type 0} (f : A → B) (h : B → B) (xs : List A) (i : ℕ) (a x : A) (d : B) → i < length xs → a
+    ≡ get_or xs i a → f x ≡ h (f a)
     → map f (set xs i x) ≡ set (map f xs) i (h (get_or (map f xs) i d))
-rewritten {B = B} f h xs i a x d lt is alike = map-set f xs i x ∙ ap (λ (v : B). set (map f xs) i v) (alike ∙ ap (λ v. h (f v)) is ∙ ap h (sym (get_or-map f xs i a d lt)))
+rewritten {B = B} f h xs i a x d lt is alike = map-set f xs i x ∙ ap (λ (v : B). set (map f xs) i v) (alike
+    ∙ ap (λ v. h (f v)) is ∙ ap h (sym (get_or-map f xs i a d lt)))
 
 -- an element changed behind a reference, and seen as before, leaves the seen list
-pub unchanged : {A B : Type 0} (f : A → B) (xs : List A) (i : ℕ) (a x : A) → i < length xs → a ≡ get_or xs i a → f x ≡ f a → map f (set xs i x) ≡ map f xs
+pub unchanged : {A B : Type 0} (f : A → B) (xs : List A) (i : ℕ) (a x : A) → i < length xs → a ≡ get_or xs i a → f x
+    ≡ f a → map f (set xs i x) ≡ map f xs
 unchanged f xs i a x lt is alike = map-set_same f xs i x a (alike ∙ ap f is)
 
 -- what holds anyway holds of an error
@@ -32,21 +36,25 @@ on_err (Ok x) p = tt
 on_err (Err e) p = p
 
 -- where no element passes the test, and another one doesn't, none does when that one is written
-pub none_written : {A : Type 0} (test : A → Bool) (xs : List A) (i : ℕ) (a : A) → list_any test xs ≡ false → test a ≡ false → list_any test (slice_set xs i a) ≡ false
+pub none_written : {A : Type 0} (test : A → Bool) (xs : List A) (i : ℕ) (a : A) → list_any test xs ≡ false → test a
+    ≡ false → list_any test (slice_set xs i a) ≡ false
 none_written test [] i a none fails = none
-none_written test (x ∷ xs) zero a none fails = or_from (test a) (list_any test xs) fails (or_parts (test x) (list_any test xs) none).1
+none_written test (x ∷ xs) zero a none fails = or_from (test a) (list_any test xs) fails (or_parts (test x)
+    (list_any test xs) none).1
 none_written test (x ∷ xs) (suc i) a none fails = let both = or_parts (test x) (list_any test xs) none in
     or_from (test x) (list_any test (slice_set xs i a)) both.0 (none_written test xs i a both.1 fails)
 
 module _ {A : Type 0} (f : A → ℕ) where
   -- one element changed: the sum loses the old term and gains the new one
-  pub total_written : (xs : List A) (i : ℕ) (y d : A) → i < length xs → total f (slice_set xs i y) + f (slice_index_or xs i d) ≡ total f xs + f y
+  pub total_written : (xs : List A) (i : ℕ) (y d : A) → i < length xs → total f (slice_set xs i y) + f
+      (slice_index_or xs i d) ≡ total f xs + f y
   total_written [] i y d within = absurd (omega arith)
   total_written (x ∷ xs) zero y d within = omega arith
   total_written (x ∷ xs) (suc i) y d within = omega (arith, total_written xs i y d (omega arith))
 
   -- an element of the same term leaves the sum
-  pub total_kept : (xs : List A) (i : ℕ) (y d : A) → i < length xs → f y ≡ f (slice_index_or xs i d) → total f (slice_set xs i y) ≡ total f xs
+  pub total_kept : (xs : List A) (i : ℕ) (y d : A) → i < length xs → f y ≡ f (slice_index_or xs i d)
+      → total f (slice_set xs i y) ≡ total f xs
   total_kept xs i y d within same = omega (arith, total_written xs i y d within)
 
   -- a term is at most the sum
@@ -95,5 +103,6 @@ pub count_push : (l m : ItemId) (xs : List ItemId) → count_of l (xs ++ m ∷ [
 count_push l m xs = total_push (one_if l) xs m
 
 -- how often the rest of a list names a life, by its first and the rest after it
-pub count_drop : (l d : ItemId) (xs : List ItemId) (i : ℕ) → i < length xs → count_of l (drop i xs) ≡ one_if l (slice_index_or xs i d) + count_of l (drop (suc i) xs)
+pub count_drop : (l d : ItemId) (xs : List ItemId) (i : ℕ) → i < length xs → count_of l (drop i xs)
+    ≡ one_if l (slice_index_or xs i d) + count_of l (drop (suc i) xs)
 count_drop l d xs i within = ap (count_of l) (drop-cons xs i d within)

@@ -4,6 +4,7 @@ use Rattle.std.specs.Prelude.{ℕ, ◌+◌, ◌-◌, true, false}
 use Rattle.bump_rules.specs.declared.places.Segment.{Segment}
 use Rattle.bump_rules.specs.declared.places.Segment.TheVariants.{Hot}
 use Rattle.bump_rules.specs.declared.items.Head.{Head}
+use Rattle.bump_rules.specs.Places.{first_segment}
 
 -- the head of a chunk before its first life
 abbrev pub fresh_head : ℕ → Head
@@ -11,13 +12,13 @@ fresh_head generation =
     record { refs = 0; linked = false; fetched = false; active = false; segment = Hot; generation = generation }
 
 -- the head of a new life in a segment
-abbrev pub newborn_in : Segment → ℕ → Head
-newborn_in to generation =
+abbrev pub linked_head_in : Segment → ℕ → Head
+linked_head_in to generation =
     record { refs = 1; linked = true; fetched = false; active = false; segment = to; generation = generation }
 
--- a life begins in HOT
-abbrev pub newborn : ℕ → Head
-newborn generation = newborn_in Hot generation
+-- and of one in the segment in which lives begin
+abbrev pub linked_head : ℕ → Head
+linked_head generation = linked_head_in first_segment generation
 
 -- a reference more, or fewer
 abbrev pub one_more : Head → Head
@@ -30,8 +31,8 @@ one_fewer head = record head { refs = head.refs - 1 }
 abbrev pub fetched_head : Head → Head
 fetched_head head = record head { fetched = true }
 
-abbrev pub active_head : Head → Head
-active_head head = record head { active = true }
+abbrev pub marked_head : Head → Head
+marked_head head = record head { active = true }
 
 abbrev pub cleared_head : Head → Head
 cleared_head head = record head { active = false }
@@ -41,5 +42,5 @@ abbrev pub moved_head : Segment → Head → Head
 moved_head to head = record head { segment = to }
 
 -- the life is unlinked: LINKED is clear, and the link's reference is given back
-abbrev pub severed_head : Head → Head
-severed_head head = record head { refs = head.refs - 1; linked = false }
+abbrev pub unlinked_head : Head → Head
+unlinked_head head = record head { refs = head.refs - 1; linked = false }

@@ -2,11 +2,12 @@
 -- leaves.
 use Rattle.std.specs.Prelude.{◌≡◌, ℕ, ◌-◌, Bool, true, cond, ◌==◌, ◌&&◌, nat_le, nat_lt, List, [], ◌∷◌, if◌then◌else◌}
 use Rattle.bump_rules.specs.declared.places.Place.{Place}
-use Rattle.bump_rules.specs.declared.places.Place.TheVariants.{Hot, Dying, Unused, Retired}
+use Rattle.bump_rules.specs.declared.places.Place.TheVariants.{Dying, Unused, Retired}
 use Rattle.bump_rules.specs.declared.items.ItemId.{ItemId}
 use Rattle.bump_rules.specs.declared.history.Change.{Change}
 use Rattle.bump_rules.specs.declared.history.Change.TheVariants as change
 use Rattle.bump_rules.specs.Lists.{Lists, to_front, opening, IsListed}
+use Rattle.bump_rules.specs.Places.{first_segment}
 pub use Rattle.bump_rules.specs.Places.{place_of, place_number, is_place}
 
 -- the life that an entry speaks of
@@ -19,7 +20,7 @@ subject (change.Retired life) = life
 
 -- the list to whose front an entry puts the chunk
 abbrev pub target : Change → Place
-target (change.Linked life) = Hot
+target (change.Linked life) = place_of first_segment
 target (change.Moved life from to cause) = place_of to
 target (change.Unlinked life) = Dying
 target (change.Swept life) = Unused

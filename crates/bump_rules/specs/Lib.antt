@@ -1,3 +1,4 @@
+pub mod Accounts
 pub mod ClassLists
 pub mod Configs
 pub mod Entries

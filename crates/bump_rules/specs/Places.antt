@@ -1,5 +1,6 @@
 -- The places of a class: the list of each segment, and the numbers that tell places apart.
-use Rattle.std.specs.Prelude.{ℕ, Bool, ◌==◌, List, [], ◌∷◌}
+use Rattle.std.specs.Prelude.{ℕ, Bool, ◌==◌, List, [], ◌∷◌, map}
+use Rattle.std.specs.List.{list_any}
 use Rattle.bump_rules.specs.declared.places.Segment.{Segment}
 use Rattle.bump_rules.specs.declared.places.Segment.TheVariants as segment
 use Rattle.bump_rules.specs.declared.places.Place.{Place}
@@ -10,6 +11,18 @@ abbrev pub place_of : Segment → Place
 place_of segment.Hot = Hot
 place_of segment.Warm = Warm
 place_of segment.Cold = Cold
+
+-- the segment in which a life begins
+abbrev pub first_segment : Segment
+first_segment = segment.Hot
+
+-- all segments
+abbrev pub all_segments : List Segment
+all_segments = segment.Hot ∷ segment.Warm ∷ segment.Cold ∷ []
+
+-- the places of linked items: the lists of the segments
+abbrev pub segment_places : List Place
+segment_places = map place_of all_segments
 
 -- the places, told apart by a number each
 abbrev pub place_number : Place → ℕ
@@ -23,6 +36,10 @@ place_number Retired = 5
 -- whether two places are one
 abbrev pub is_place : Place → Place → Bool
 is_place place other = place_number place == place_number other
+
+-- whether a place is that of a segment
+abbrev pub is_segment_place : Place → Bool
+is_segment_place place = list_any (is_place place) segment_places
 
 -- all places, each at its number
 abbrev pub all_places : List Place

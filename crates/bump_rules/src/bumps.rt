@@ -59,7 +59,8 @@ pub enum Applied {
     /// Its time was stored, and it stays where it is.
     TimeOnly,
 
-    /// It was no longer linked, and nothing was stored. Says what became of its chunk when the bump's reference was given back.
+    /// It was no longer linked, and nothing was stored. Says what became of its chunk when the
+    /// bump's reference was given back.
     Gone(Ended),
 }
 
@@ -76,8 +77,8 @@ pub struct Entry {
     pub applied: Applied,
 }
 
-/// A worker's counts of bumps. `attempted` is the sum of the other four, plus one while an attempt is neither accepted nor
-/// dropped yet.
+/// A worker's counts of bumps. `attempted` is the sum of the other four, plus one while an attempt is
+/// neither accepted nor dropped yet.
 #[derive(Clone, Copy, Debug, PartialEq, Eq)]
 pub struct Accounts {
     /// Bumps attempted: at most 4,611,686,018,427,387,903.

@@ -15,8 +15,8 @@ pub use walk::ListedChunks;
 /// How many lists a class has.
 const LISTS: u32 = 6;
 
-/// The six lists of a class, front first. Its chunks are numbered from a first one on, and each of them stands in exactly
-/// one of the lists at every moment.
+/// The six lists of a class, front first. Its chunks are numbered from a first one on, and each of them stands in
+/// exactly one of the lists at every moment.
 #[derive(Drop)]
 pub struct ClassLists {
     // A node is a chunk, counted from the first one of the class, and a list has the number of its place.

@@ -44,7 +44,8 @@ pub enum Dropped {
     /// The worker's ring had no room.
     Full,
 
-    /// Eight exchanges failed, since other threads were faster. No command answers it: nothing comes between its events.
+    /// Eight exchanges failed, since other threads were faster. No command answers it:
+    /// nothing comes between its events.
     Busy,
 
     /// The reference count was at its limit.

@@ -6,8 +6,8 @@ use std::alloc::AllocError;
 use thiserror::Error;
 
 /// One load, store, exchange or fetch on one word of one chunk, or one push into a ring, or one take from a
-/// ring, or the closing of a ring. Where such a step is made under the class lock and stands for a change of the lists, that
-/// change belongs to it.
+/// ring, or the closing of a ring. Where such a step is made under the class lock and stands for a change of
+/// the lists, that change belongs to it.
 #[derive(Clone, Copy, Debug, PartialEq, Eq)]
 pub enum Event {
     /// A load of a chunk's head. Answers the head.
@@ -35,7 +35,8 @@ pub enum Event {
     /// A worker's ring takes its bump (memcached's `lru_bump_async`). Answers the bump's number.
     Push { worker: u32 },
 
-    /// A worker's bump is dropped for want of room in its ring, and its reference is given back. Answers the head that it found.
+    /// A worker's bump is dropped for want of room in its ring, and its reference is given back.
+    /// Answers the head that it found.
     DropFull { worker: u32 },
 
     /// After a drop a worker clears ACTIVE. Answers the head that it found.
@@ -59,12 +60,12 @@ pub enum Event {
     /// The next item of a class begins its life, at the front of HOT (memcached's `do_item_link`). Answers the item.
     Link { class: u32 },
 
-    /// An item's life ends: LINKED is cleared, the link's reference is given back, and the chunk goes to the front of DYING
-    /// (memcached's `do_item_unlink`). Answers the head that it found.
+    /// An item's life ends: LINKED is cleared, the link's reference is given back, and the chunk goes to the front of
+    /// DYING (memcached's `do_item_unlink`). Answers the head that it found.
     Unlink { life: ItemId },
 
-    /// A chunk of DYING is found without holders, and is free: it goes to the front of UNUSED, or to RETIRED after its last
-    /// generation (memcached's `item_free`). Answers the head.
+    /// A chunk of DYING is found without holders, and is free: it goes to the front of UNUSED, or to RETIRED after
+    /// its last generation (memcached's `item_free`). Answers the head.
     Sweep { chunk: u32 },
 
     /// A pull clears ACTIVE of a chunk. Answers the head that it found.
@@ -73,7 +74,8 @@ pub enum Event {
     /// A pull moves a chunk's item to the front of a segment (memcached's `lru_pull_tail`).
     Move { chunk: u32, to: Segment },
 
-    /// A worker's lane takes the next bump from its ring (memcached's `lru_maintainer_bumps`). Answers the bump's number.
+    /// A worker's lane takes the next bump from its ring (memcached's
+    /// `lru_maintainer_bumps`). Answers the bump's number.
     TakeBump { worker: u32 },
 
     /// A worker's lane looks at the head of its bump's item, under the class lock. Answers the head.

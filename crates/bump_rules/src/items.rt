@@ -1,6 +1,6 @@
 //! Names of items, and what a chunk's head word says.
 ghost use Rattle.std.specs.Prelude.{◌≡◌};
-ghost use Rattle.bump_rules.specs.Heads.{newborn, one_fewer, severed_head};
+ghost use Rattle.bump_rules.specs.Heads.{linked_head, one_fewer, unlinked_head};
 ghost use Rattle.bump_rules.specs.Lives.{is_same};
 
 use crate::places::Segment;
@@ -50,8 +50,8 @@ impl ItemId {
 
 impl Head {
     /// The head of a new life, with its generation: one reference, linked, in HOT, without marks.
-    pub fn newborn(generation: u32) -> Head
-        ensures { result ≡ newborn generation }
+    pub fn after_link(generation: u32) -> Head
+        ensures { result ≡ linked_head generation }
     {
         Head {
             refs: 1,
@@ -74,8 +74,8 @@ impl Head {
     }
 
     /// The head of a life that is unlinked: LINKED is clear, and the link's reference is given back.
-    pub fn severed(self) -> Head
-        ensures { result ≡ severed_head self }
+    pub fn after_unlink(self) -> Head
+        ensures { result ≡ unlinked_head self }
     {
         Head {
             linked: false,

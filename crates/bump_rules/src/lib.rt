@@ -1,5 +1,5 @@
-//! The rules of bump, of which the World and the crates over atomic words both speak: its plain types, the tables, and the
-//! six lists of a class.
+//! The rules of bump, of which the World and the crates over atomic words both speak: its plain types, the
+//! tables, and the six lists of a class.
 #![tactic(auto)]
 
 mod bumps;

@@ -19,8 +19,8 @@ impl Head {
         self.fetched && !self.active
     }
 
-    /// The hit table: what a hit comes to, by the heads that its first step and its second one found. Where no second one is made,
-    /// its head isn't looked at.
+    /// The hit table: what a hit comes to, by the heads that its first step and its second one found. Where no second
+    /// one is made, its head isn't looked at.
     pub fn hit(self, second: Head) -> Hit
         ensures { result ≡ hit_of self second }
     {
@@ -36,7 +36,8 @@ impl Head {
         }
     }
 
-    /// Why no reference is taken for a bump, if none is, by the limit, by how many exchanges failed, and by the head that was found last.
+    /// Why no reference is taken for a bump, if none is, by the limit, by how many exchanges failed, and
+    /// by the head that was found last.
     pub fn refused(self, limit: u32, failed: u32) -> Option<Dropped>
         ensures { result ≡ refused_of limit failed self }
     {
@@ -60,8 +61,8 @@ impl Head {
         }
     }
 
-    /// The update table: what applying a bump comes to, by the head that was found when it was looked at, and by the head that
-    /// the clearing step found. Where there is no such step, its head isn't looked at.
+    /// The update table: what applying a bump comes to, by the head that was found when it was looked at, and by the
+    /// head that the clearing step found. Where there is no such step, its head isn't looked at.
     pub fn outcome(self, cleared: Head) -> Outcome
         ensures { result ≡ outcome_of self cleared }
     {
@@ -125,8 +126,9 @@ impl Tail {
         }
     }
 
-    /// The tail table: what a pull does with the last item of its list, by the head that was found of it, by the lists as
-    /// they stand, by the limits of HOT and WARM, and by what the item's end comes to, which counts for an evict alone.
+    /// The tail table: what a pull does with the last item of its list, by the head that was found of it,
+    /// by the lists as they stand, by the limits of HOT and WARM, and by what the item's end comes to,
+    /// which counts for an evict alone.
     pub fn pulled(
         self,
         found: Head,

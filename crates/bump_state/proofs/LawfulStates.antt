@@ -28,7 +28,8 @@ use Rattle.bump_rules.proofs.Updates.{term_within}
 
 -- a life is itself
 pub same_life : (l : ItemId) → is_same l l ≡ true
-same_life l = and_from (eqb l.chunk l.chunk) (eqb l.generation l.generation) (eq-eqb l.chunk l.chunk refl) (eq-eqb l.generation l.generation refl)
+same_life l = and_from (eqb l.chunk l.chunk) (eqb l.generation l.generation) (eq-eqb l.chunk l.chunk refl)
+    (eq-eqb l.generation l.generation refl)
 
 -- a life counts for itself
 pub one_if_same : (l : ItemId) → one_if l l ≡ 1
@@ -36,11 +37,13 @@ one_if_same l = ap (λ b. cond b 1 0) (same_life l)
 
 -- a life of another chunk doesn't count
 pub one_if_elsewhere : (l m : ItemId) → l.chunk ≢ m.chunk → one_if l m ≡ 0
-one_if_elsewhere l m other = ap (λ b. cond b 1 0) (and_left (eqb l.chunk m.chunk) (eqb l.generation m.generation) (ne_eqb l.chunk m.chunk other))
+one_if_elsewhere l m other = ap (λ b. cond b 1 0) (and_left (eqb l.chunk m.chunk) (eqb l.generation m.generation)
+    (ne_eqb l.chunk m.chunk other))
 
 -- nor does another life of the chunk
 pub one_if_other_life : (l m : ItemId) → l.generation ≢ m.generation → one_if l m ≡ 0
-one_if_other_life l m other = ap (λ b. cond b 1 0) (and_right (eqb l.chunk m.chunk) (eqb l.generation m.generation) (ne_eqb l.generation m.generation other))
+one_if_other_life l m other = ap (λ b. cond b 1 0) (and_right (eqb l.chunk m.chunk) (eqb l.generation m.generation)
+    (ne_eqb l.generation m.generation other))
 
 -- a life of the chunk with the generation counts
 pub one_if_at : (l : ItemId) (g : ℕ) → g ≡ l.generation → one_if (life l.chunk g) l ≡ 1
@@ -53,7 +56,8 @@ one_if_not_at l g ne = one_if_other_life (life l.chunk g) l ne
 -- a life is another, or doesn't count
 pub one_if_cases : (l m : ItemId) → (l ≡ m) ⊎ (one_if l m ≡ 0)
 one_if_cases l m = dite (ℕ_discrete l.chunk m.chunk)
-    (λ e. dite (ℕ_discrete l.generation m.generation) (λ f. inl (λ i. life (e i) (f i))) (λ ne. inr (one_if_other_life l m ne)))
+    (λ e. dite (ℕ_discrete l.generation m.generation) (λ f. inl (λ i. life (e i) (f i)))
+    (λ ne. inr (one_if_other_life l m ne)))
     (λ ne. inr (one_if_elsewhere l m ne))
 
 -- lives that test as one are one
@@ -68,18 +72,29 @@ applied_counts : (x : Lane) (l : ItemId) → applied_life x ≡ Some l → 0 < i
 applied_counts lane.Empty l is = absurd (let u : ⊥ = cc in u)
 applied_counts (lane.Carrying b) l is = absurd (let u : ⊥ = cc in u)
 applied_counts (lane.Tried b) l is = let same : b.life ≡ l = cc in omega (arith, ap (one_if l) same, one_if_same l)
-applied_counts (lane.Cleared b found) l is = let same : b.life ≡ l = cc in omega (arith, ap (one_if l) same, one_if_same l)
+applied_counts (lane.Cleared b found) l is = let same : b.life ≡ l = cc in omega (
+  arith,
+  ap (one_if l) same,
+  one_if_same l,
+)
 applied_counts (lane.Moved b) l is = let same : b.life ≡ l = cc in omega (arith, ap (one_if l) same, one_if_same l)
 
 -- Numbers out of range.
 
 -- a chunk past the end stands nowhere but in UNUSED
 pub place_past : (s : State) → IsLawful s → (c : ℕ) → length s.chunks ≤ c → place s c ≡ Unused
-place_past s o c past = ap (λ k. place_in k c) (get_or_past s.classes (class_of s c) no_class (omega (arith, class_out s o.tiles c past)))
+place_past s o c past = ap (λ k. place_in k c) (get_or_past s.classes (class_of s c) no_class (omega (
+  arith,
+  class_out s o.tiles c past,
+)))
 
 -- a chunk that isn't free is in range
 pub used_in_range : (s : State) → IsLawful s → (c : ℕ) → IsUsed (place s c) → c < length s.chunks
-used_in_range s o c used = elim (cases_lt c (length s.chunks)) [ inl within ↦ within | inr past ↦ absurd (subst IsUsed (place_past s o c past) used) ]
+used_in_range s o c used = elim (cases_lt c (length s.chunks)) [
+  | inl within ↦ within
+  | inr past ↦ absurd
+      (subst IsUsed (place_past s o c past) used)
+]
 
 -- References.
 
@@ -100,15 +115,23 @@ pub held_else : (x : Chunk) (g : ℕ) → g ≢ x.head.generation → held_by x 
 held_else x g other = ap (λ b. cond b x.holds 0) (ne_eqb x.head.generation g (λ e. other (sym e)))
 
 -- a life with holds is its chunk's, and all the chunk's holds are of it
-pub held_current : (s : State) (l : ItemId) → 0 < holds_of s l → ((head_at s l.chunk).generation ≡ l.generation) × (holds_of s l ≡ (chunk_at s l.chunk).holds)
-held_current s l some = dite (ℕ_discrete l.generation (head_at s l.chunk).generation) (λ e. (sym e, held_at (chunk_at s l.chunk) l.generation (sym e))) (λ ne. absurd (omega (arith, held_else (chunk_at s l.chunk) l.generation ne)))
+pub held_current : (s : State) (l : ItemId) → 0 < holds_of s l → ((head_at s l.chunk).generation ≡ l.generation)
+    × (holds_of s l ≡ (chunk_at s l.chunk).holds)
+held_current s l some = dite (ℕ_discrete l.generation (head_at s l.chunk).generation) (λ e. (
+  sym e,
+  held_at (chunk_at s l.chunk) l.generation (sym e),
+)) (λ ne. absurd (omega (
+  arith,
+  held_else (chunk_at s l.chunk) l.generation ne,
+)))
 
 -- the holds of a life are references to it
 pub holds_counted : (s : State) (l : ItemId) → holds_of s l ≤ references s l.chunk l.generation
 holds_counted s l = omega arith
 
 -- and so are the bumps of each worker
-pub bumps_counted : (s : State) (l : ItemId) (w : ℕ) → w < length s.workers → bumps_of l (worker_at s w) ≤ references s l.chunk l.generation
+pub bumps_counted : (s : State) (l : ItemId) (w : ℕ) → w < length s.workers
+    → bumps_of l (worker_at s w) ≤ references s l.chunk l.generation
 bumps_counted s l w within = omega (arith, term_within (bumps_of l) s.workers w new_worker within)
 
 module _ (s : State) (o : IsLawful s) where
@@ -145,7 +168,8 @@ module _ (s : State) (o : IsLawful s) where
   linked_in_range c on = used_in_range s o c (used_where_linked (head_at s c) (place s c) (o.chunks c).shown on)
 
   -- an item that a lane is to move is linked, and in COLD
-  pub waiting_linked : (w : ℕ) (b : Bump) → w < length s.workers → (worker_at s w).lane ≡ lane.Cleared b true → ((head_at s b.life.chunk).linked ≡ true) × ((head_at s b.life.chunk).segment ≡ segment.Cold)
+  pub waiting_linked : (w : ℕ) (b : Bump) → w < length s.workers → (worker_at s w).lane ≡ lane.Cleared b true
+      → ((head_at s b.life.chunk).linked ≡ true) × ((head_at s b.life.chunk).segment ≡ segment.Cold)
   waiting_linked w b within is = subst (WaitsToMove s) is (o.waits w within)
 
   -- Lives in a worker's hand.
@@ -155,7 +179,8 @@ module _ (s : State) (o : IsLawful s) where
   on_held w l within some = omega (arith, o.hands l, term_within (λ x. is_on l x.hand) s.workers w new_worker within)
 
   -- and so references
-  pub on_referred : (w : ℕ) (l : ItemId) → w < length s.workers → 0 < is_on l (worker_at s w).hand → 0 < references s l.chunk l.generation
+  pub on_referred : (w : ℕ) (l : ItemId) → w < length s.workers → 0 < is_on l (worker_at s w).hand
+      → 0 < references s l.chunk l.generation
   on_referred w l within some = omega (arith, on_held w l within some)
 
   -- a worker is on the life of which it tries to take a reference
@@ -175,51 +200,63 @@ module _ (s : State) (o : IsLawful s) where
   tried_held w l within is = on_held w l within (trying_on w l is)
 
   -- and so references
-  pub tried_referred : (w : ℕ) (l : ItemId) → w < length s.workers → (worker_at s w).hand ≡ hand.Trying l → 0 < references s l.chunk l.generation
+  pub tried_referred : (w : ℕ) (l : ItemId) → w < length s.workers → (worker_at s w).hand ≡ hand.Trying l
+      → 0 < references s l.chunk l.generation
   tried_referred w l within is = on_referred w l within (trying_on w l is)
 
   -- its chunk is in range
-  pub tried_in_range : (w : ℕ) (l : ItemId) → w < length s.workers → (worker_at s w).hand ≡ hand.Trying l → l.chunk < length s.chunks
+  pub tried_in_range : (w : ℕ) (l : ItemId) → w < length s.workers → (worker_at s w).hand ≡ hand.Trying l
+      → l.chunk < length s.chunks
   tried_in_range w l within is = referred_in_range l.chunk l.generation (tried_referred w l within is)
 
   -- and it is its chunk's
-  pub tried_current : (w : ℕ) (l : ItemId) → w < length s.workers → (worker_at s w).hand ≡ hand.Trying l → l.generation ≡ (head_at s l.chunk).generation
+  pub tried_current : (w : ℕ) (l : ItemId) → w < length s.workers → (worker_at s w).hand ≡ hand.Trying l
+      → l.generation ≡ (head_at s l.chunk).generation
   tried_current w l within is = referred_current l.chunk l.generation (tried_referred w l within is)
 
   -- a life with a reference in a worker's hand has a hold
-  pub in_hand_held : (w : ℕ) (l : ItemId) → w < length s.workers → (worker_at s w).hand ≡ hand.InHand l → 0 < holds_of s l
+  pub in_hand_held : (w : ℕ) (l : ItemId) → w < length s.workers → (worker_at s w).hand ≡ hand.InHand l
+      → 0 < holds_of s l
   in_hand_held w l within is = on_held w l within (in_hand_on w l is)
 
   -- and so references
-  pub in_hand_referred : (w : ℕ) (l : ItemId) → w < length s.workers → (worker_at s w).hand ≡ hand.InHand l → 0 < references s l.chunk l.generation
+  pub in_hand_referred : (w : ℕ) (l : ItemId) → w < length s.workers → (worker_at s w).hand ≡ hand.InHand l
+      → 0 < references s l.chunk l.generation
   in_hand_referred w l within is = on_referred w l within (in_hand_on w l is)
 
   -- its chunk is in range
-  pub in_hand_in_range : (w : ℕ) (l : ItemId) → w < length s.workers → (worker_at s w).hand ≡ hand.InHand l → l.chunk < length s.chunks
+  pub in_hand_in_range : (w : ℕ) (l : ItemId) → w < length s.workers → (worker_at s w).hand ≡ hand.InHand l
+      → l.chunk < length s.chunks
   in_hand_in_range w l within is = referred_in_range l.chunk l.generation (in_hand_referred w l within is)
 
   -- and it is its chunk's
-  pub in_hand_current : (w : ℕ) (l : ItemId) → w < length s.workers → (worker_at s w).hand ≡ hand.InHand l → l.generation ≡ (head_at s l.chunk).generation
+  pub in_hand_current : (w : ℕ) (l : ItemId) → w < length s.workers → (worker_at s w).hand ≡ hand.InHand l
+      → l.generation ≡ (head_at s l.chunk).generation
   in_hand_current w l within is = referred_current l.chunk l.generation (in_hand_referred w l within is)
 
   -- a life whose ACTIVE a worker is to clear has a hold
-  pub cleared_held : (w : ℕ) (l : ItemId) → w < length s.workers → (worker_at s w).hand ≡ hand.Clearing l → 0 < holds_of s l
+  pub cleared_held : (w : ℕ) (l : ItemId) → w < length s.workers → (worker_at s w).hand ≡ hand.Clearing l
+      → 0 < holds_of s l
   cleared_held w l within is = on_held w l within (clearing_on w l is)
 
   -- and so references
-  pub cleared_referred : (w : ℕ) (l : ItemId) → w < length s.workers → (worker_at s w).hand ≡ hand.Clearing l → 0 < references s l.chunk l.generation
+  pub cleared_referred : (w : ℕ) (l : ItemId) → w < length s.workers → (worker_at s w).hand ≡ hand.Clearing l
+      → 0 < references s l.chunk l.generation
   cleared_referred w l within is = on_referred w l within (clearing_on w l is)
 
   -- its chunk is in range
-  pub cleared_in_range : (w : ℕ) (l : ItemId) → w < length s.workers → (worker_at s w).hand ≡ hand.Clearing l → l.chunk < length s.chunks
+  pub cleared_in_range : (w : ℕ) (l : ItemId) → w < length s.workers → (worker_at s w).hand ≡ hand.Clearing l
+      → l.chunk < length s.chunks
   cleared_in_range w l within is = referred_in_range l.chunk l.generation (cleared_referred w l within is)
 
   -- and it is its chunk's
-  pub cleared_current : (w : ℕ) (l : ItemId) → w < length s.workers → (worker_at s w).hand ≡ hand.Clearing l → l.generation ≡ (head_at s l.chunk).generation
+  pub cleared_current : (w : ℕ) (l : ItemId) → w < length s.workers → (worker_at s w).hand ≡ hand.Clearing l
+      → l.generation ≡ (head_at s l.chunk).generation
   cleared_current w l within is = referred_current l.chunk l.generation (cleared_referred w l within is)
 
   -- the count of a chunk with a reference in a worker's hand is above its holds
-  pub in_hand_above_holds : (w : ℕ) (l : ItemId) → w < length s.workers → (worker_at s w).hand ≡ hand.InHand l → (chunk_at s l.chunk).holds < (head_at s l.chunk).refs
+  pub in_hand_above_holds : (w : ℕ) (l : ItemId) → w < length s.workers → (worker_at s w).hand ≡ hand.InHand l
+      → (chunk_at s l.chunk).holds < (head_at s l.chunk).refs
   in_hand_above_holds w l within is = omega (
     arith,
     (o.chunks l.chunk).counted,
@@ -234,31 +271,38 @@ module _ (s : State) (o : IsLawful s) where
   -- Bumps in a ring or in a lane.
 
   -- a life with a bump in a ring has references
-  pub in_ring_referred : (w : ℕ) (l : ItemId) → w < length s.workers → 0 < count_of l (in_ring (worker_at s w)) → 0 < references s l.chunk l.generation
+  pub in_ring_referred : (w : ℕ) (l : ItemId) → w < length s.workers → 0 < count_of l (in_ring (worker_at s w))
+      → 0 < references s l.chunk l.generation
   in_ring_referred w l within some = omega (arith, bumps_counted s l w within)
 
   -- its chunk is in range
-  pub in_ring_in_range : (w : ℕ) (l : ItemId) → w < length s.workers → 0 < count_of l (in_ring (worker_at s w)) → l.chunk < length s.chunks
+  pub in_ring_in_range : (w : ℕ) (l : ItemId) → w < length s.workers → 0 < count_of l (in_ring (worker_at s w))
+      → l.chunk < length s.chunks
   in_ring_in_range w l within some = referred_in_range l.chunk l.generation (in_ring_referred w l within some)
 
   -- and it is its chunk's
-  pub in_ring_current : (w : ℕ) (l : ItemId) → w < length s.workers → 0 < count_of l (in_ring (worker_at s w)) → l.generation ≡ (head_at s l.chunk).generation
+  pub in_ring_current : (w : ℕ) (l : ItemId) → w < length s.workers → 0 < count_of l (in_ring (worker_at s w))
+      → l.generation ≡ (head_at s l.chunk).generation
   in_ring_current w l within some = referred_current l.chunk l.generation (in_ring_referred w l within some)
 
   -- a life with a bump aboard a lane has references
-  pub aboard_referred : (w : ℕ) (l : ItemId) → w < length s.workers → 0 < in_lane_of l (worker_at s w).lane → 0 < references s l.chunk l.generation
+  pub aboard_referred : (w : ℕ) (l : ItemId) → w < length s.workers → 0 < in_lane_of l (worker_at s w).lane
+      → 0 < references s l.chunk l.generation
   aboard_referred w l within some = omega (arith, bumps_counted s l w within)
 
   -- its chunk is in range
-  pub aboard_in_range : (w : ℕ) (l : ItemId) → w < length s.workers → 0 < in_lane_of l (worker_at s w).lane → l.chunk < length s.chunks
+  pub aboard_in_range : (w : ℕ) (l : ItemId) → w < length s.workers → 0 < in_lane_of l (worker_at s w).lane
+      → l.chunk < length s.chunks
   aboard_in_range w l within some = referred_in_range l.chunk l.generation (aboard_referred w l within some)
 
   -- it is its chunk's
-  pub aboard_current : (w : ℕ) (l : ItemId) → w < length s.workers → 0 < in_lane_of l (worker_at s w).lane → l.generation ≡ (head_at s l.chunk).generation
+  pub aboard_current : (w : ℕ) (l : ItemId) → w < length s.workers → 0 < in_lane_of l (worker_at s w).lane
+      → l.generation ≡ (head_at s l.chunk).generation
   aboard_current w l within some = referred_current l.chunk l.generation (aboard_referred w l within some)
 
   -- the count of its chunk is above the holds
-  pub aboard_above_holds : (w : ℕ) (l : ItemId) → w < length s.workers → 0 < in_lane_of l (worker_at s w).lane → (chunk_at s l.chunk).holds < (head_at s l.chunk).refs
+  pub aboard_above_holds : (w : ℕ) (l : ItemId) → w < length s.workers → 0 < in_lane_of l (worker_at s w).lane
+      → (chunk_at s l.chunk).holds < (head_at s l.chunk).refs
   aboard_above_holds w l within some = omega (
     arith,
     (o.chunks l.chunk).counted,
@@ -269,42 +313,71 @@ module _ (s : State) (o : IsLawful s) where
   )
 
   -- a lane that applies a bump has it aboard
-  pub applied_aboard : (w : ℕ) (l : ItemId) → applied_life (worker_at s w).lane ≡ Some l → 0 < in_lane_of l (worker_at s w).lane
+  pub applied_aboard : (w : ℕ) (l : ItemId) → applied_life (worker_at s w).lane ≡ Some l
+      → 0 < in_lane_of l (worker_at s w).lane
   applied_aboard w l is = applied_counts (worker_at s w).lane l is
 
   -- the chunk of a bump that is applied is in range
-  pub applied_in_range : (w : ℕ) (l : ItemId) → w < length s.workers → applied_life (worker_at s w).lane ≡ Some l → l.chunk < length s.chunks
+  pub applied_in_range : (w : ℕ) (l : ItemId) → w < length s.workers → applied_life (worker_at s w).lane ≡ Some l
+      → l.chunk < length s.chunks
   applied_in_range w l within is = aboard_in_range w l within (applied_aboard w l is)
 
   -- by how far the lane is: the chunk of its bump is in range
-  pub carrying_in_range : (w : ℕ) (b : Bump) → w < length s.workers → (worker_at s w).lane ≡ lane.Carrying b → b.life.chunk < length s.chunks
-  carrying_in_range w b within is = aboard_in_range w b.life within (omega (arith, ap (in_lane_of b.life) is, one_if_same b.life))
+  pub carrying_in_range : (w : ℕ) (b : Bump) → w < length s.workers → (worker_at s w).lane ≡ lane.Carrying b
+      → b.life.chunk < length s.chunks
+  carrying_in_range w b within is = aboard_in_range w b.life within (omega (
+    arith,
+    ap (in_lane_of b.life) is,
+    one_if_same b.life,
+  ))
 
   -- where it looked at the item
-  pub looked_in_range : (w : ℕ) (b : Bump) → w < length s.workers → (worker_at s w).lane ≡ lane.Tried b → b.life.chunk < length s.chunks
-  looked_in_range w b within is = aboard_in_range w b.life within (omega (arith, ap (in_lane_of b.life) is, one_if_same b.life))
+  pub looked_in_range : (w : ℕ) (b : Bump) → w < length s.workers → (worker_at s w).lane ≡ lane.Tried b
+      → b.life.chunk < length s.chunks
+  looked_in_range w b within is = aboard_in_range w b.life within (omega (
+    arith,
+    ap (in_lane_of b.life) is,
+    one_if_same b.life,
+  ))
 
   -- where it cleared ACTIVE
-  pub unmarked_in_range : (w : ℕ) (b : Bump) (found : Bool) → w < length s.workers → (worker_at s w).lane ≡ lane.Cleared b found → b.life.chunk < length s.chunks
-  unmarked_in_range w b found within is = aboard_in_range w b.life within (omega (arith, ap (in_lane_of b.life) is, one_if_same b.life))
+  pub unmarked_in_range : (w : ℕ) (b : Bump) (found : Bool) → w < length s.workers → (worker_at s w).lane
+      ≡ lane.Cleared b found → b.life.chunk < length s.chunks
+  unmarked_in_range w b found within is = aboard_in_range w b.life within (omega (
+    arith,
+    ap (in_lane_of b.life) is,
+    one_if_same b.life,
+  ))
 
   -- and where it moved the item
-  pub moved_in_range : (w : ℕ) (b : Bump) → w < length s.workers → (worker_at s w).lane ≡ lane.Moved b → b.life.chunk < length s.chunks
-  moved_in_range w b within is = aboard_in_range w b.life within (omega (arith, ap (in_lane_of b.life) is, one_if_same b.life))
+  pub moved_in_range : (w : ℕ) (b : Bump) → w < length s.workers → (worker_at s w).lane ≡ lane.Moved b
+      → b.life.chunk < length s.chunks
+  moved_in_range w b within is = aboard_in_range w b.life within (omega (
+    arith,
+    ap (in_lane_of b.life) is,
+    one_if_same b.life,
+  ))
 
   -- Free chunks.
 
   -- no life of a chunk in UNUSED has references
   pub unused_unreferred : (c : ℕ) → place s c ≡ Unused → (g : ℕ) → references s c g ≡ 0
-  unused_unreferred c is = none_where_free s.refs_limit (head_at s c) (place s c) (references s c) (first_hits_of s c) (o.chunks c) (ap IsUsed is)
+  unused_unreferred c is = none_where_free s.refs_limit (head_at s c) (place s c) (references s c) (first_hits_of s c)
+      (o.chunks c) (ap IsUsed is)
 
   -- its head isn't linked, and has not the last generation
-  pub unused_shown : (c : ℕ) → place s c ≡ Unused → ((head_at s c).linked ≡ false) × ((head_at s c).generation < 4294967295)
+  pub unused_shown : (c : ℕ) → place s c ≡ Unused → ((head_at s c).linked ≡ false)
+      × ((head_at s c).generation < 4294967295)
   unused_shown c is = subst (Shows (head_at s c)) is (o.chunks c).shown
 
   -- its count is 0
   pub unused_refs : (c : ℕ) → place s c ≡ Unused → (head_at s c).refs ≡ 0
-  unused_refs c is = omega (arith, (o.chunks c).counted, unused_unreferred c is (head_at s c).generation, ap bit (unused_shown c is).0)
+  unused_refs c is = omega (
+    arith,
+    (o.chunks c).counted,
+    unused_unreferred c is (head_at s c).generation,
+    ap bit (unused_shown c is).0,
+  )
 
   -- and it has no holds
   pub unused_holds : (c : ℕ) → place s c ≡ Unused → (chunk_at s c).holds ≡ 0
@@ -314,22 +387,29 @@ module _ (s : State) (o : IsLawful s) where
 
   -- while an attempt is under way the attempted are one more than the accepted and the dropped
   pub counts_under_way : (w : ℕ) → w < length s.workers → attempts_of (worker_at s w).hand ≡ 1
-      → (worker_at s w).accounts.accepted + (worker_at s w).accounts.full + (worker_at s w).accounts.busy + (worker_at s w).accounts.refs + 1 ≡ (worker_at s w).accounts.attempted
+      → (worker_at s w).accounts.accepted + (worker_at s w).accounts.full + (worker_at s w).accounts.busy +
+      (worker_at s w).accounts.refs + 1 ≡ (worker_at s w).accounts.attempted
   counts_under_way w within one = omega (arith, (o.workers w within).accounts.attempted)
 
   -- so it is while the worker tries to take a reference
   pub tried_under_way : (w : ℕ) (l : ItemId) → w < length s.workers → (worker_at s w).hand ≡ hand.Trying l
-      → (worker_at s w).accounts.accepted + (worker_at s w).accounts.full + (worker_at s w).accounts.busy + (worker_at s w).accounts.refs + 1 ≡ (worker_at s w).accounts.attempted
+      → (worker_at s w).accounts.accepted + (worker_at s w).accounts.full + (worker_at s w).accounts.busy +
+      (worker_at s w).accounts.refs + 1 ≡ (worker_at s w).accounts.attempted
   tried_under_way w l within is = counts_under_way w within (ap attempts_of is)
 
   -- and while it has the reference in its hand
   pub in_hand_under_way : (w : ℕ) (l : ItemId) → w < length s.workers → (worker_at s w).hand ≡ hand.InHand l
-      → (worker_at s w).accounts.accepted + (worker_at s w).accounts.full + (worker_at s w).accounts.busy + (worker_at s w).accounts.refs + 1 ≡ (worker_at s w).accounts.attempted
+      → (worker_at s w).accounts.accepted + (worker_at s w).accounts.full + (worker_at s w).accounts.busy +
+      (worker_at s w).accounts.refs + 1 ≡ (worker_at s w).accounts.attempted
   in_hand_under_way w l within is = counts_under_way w within (ap attempts_of is)
 
   -- a lane received no more than was sent
   pub received_within : (w : ℕ) → w < length s.workers → length (worker_at s w).received ≤ length (worker_at s w).sent
-  received_within w within = omega (arith, ap length (o.workers w within).ring.prefix, length-append (worker_at s w).received (in_ring (worker_at s w)))
+  received_within w within = omega (
+    arith,
+    ap length (o.workers w within).ring.prefix,
+    length-append (worker_at s w).received (in_ring (worker_at s w)),
+  )
 
   -- no more were sent than attempted
   pub sent_within : (w : ℕ) → w < length s.workers → length (worker_at s w).sent ≤ (worker_at s w).accounts.attempted

@@ -15,42 +15,57 @@ use Rattle.bump_state.proofs.LawfulStates.{tried_in_range, in_hand_in_range, cle
 -- A worker's hand.
 module _ (s : State) (o : IsLawful s) (w : ℕ) where
   -- the chunk of a bump that the worker tries to take a reference for is in range
-  pub some_tried : (r : Option ItemId) → w < length s.workers → r ≡ tried_life (worker_at s w).hand → IfSome r (λ l. l.chunk < length s.chunks)
+  pub some_tried : (r : Option ItemId) → w < length s.workers → r ≡ tried_life (worker_at s w).hand
+      → IfSome r (λ l. l.chunk < length s.chunks)
   some_tried None within e = tt
   some_tried (Some l) within e = tried_in_range s o w l within (trying_from (worker_at s w).hand l (sym e))
 
   -- so is that of a bump in its hand
-  pub some_in_hand : (r : Option ItemId) → w < length s.workers → r ≡ life_in_hand (worker_at s w).hand → IfSome r (λ l. l.chunk < length s.chunks)
+  pub some_in_hand : (r : Option ItemId) → w < length s.workers → r ≡ life_in_hand (worker_at s w).hand
+      → IfSome r (λ l. l.chunk < length s.chunks)
   some_in_hand None within e = tt
   some_in_hand (Some l) within e = in_hand_in_range s o w l within (in_hand_from (worker_at s w).hand l (sym e))
 
   -- and the one whose ACTIVE it is to clear
-  pub some_cleared : (r : Option ItemId) → w < length s.workers → r ≡ cleared_life (worker_at s w).hand → IfSome r (λ l. l.chunk < length s.chunks)
+  pub some_cleared : (r : Option ItemId) → w < length s.workers → r ≡ cleared_life (worker_at s w).hand
+      → IfSome r (λ l. l.chunk < length s.chunks)
   some_cleared None within e = tt
   some_cleared (Some l) within e = cleared_in_range s o w l within (clearing_from (worker_at s w).hand l (sym e))
 
   -- a worker with a bump in its hand has accepted fewer than the most that it may attempt
-  pub in_hand_counts : (l : ItemId) → w < length s.workers → Some l ≡ life_in_hand (worker_at s w).hand → (worker_at s w).accounts.accepted < most_attempts
-  in_hand_counts l within e = omega (arith, in_hand_under_way s o w l within (in_hand_from (worker_at s w).hand l (sym e)), (o.workers w within).accounts.most)
+  pub in_hand_counts : (l : ItemId) → w < length s.workers → Some l ≡ life_in_hand (worker_at s w).hand
+      → (worker_at s w).accounts.accepted < most_attempts
+  in_hand_counts l within e = omega (
+    arith,
+    in_hand_under_way s o w l within (in_hand_from (worker_at s w).hand l
+        (sym e)),
+    (o.workers w within).accounts.most,
+  )
 
 -- A lane.
 module _ (s : State) (o : IsLawful s) (w : ℕ) (within : w < length s.workers) where
   -- the chunk of a bump that was taken and not looked at is in range
-  pub some_carried : (r : Option Bump) → r ≡ carried (worker_at s w).lane → IfSome r (λ b. b.life.chunk < length s.chunks)
+  pub some_carried : (r : Option Bump) → r ≡ carried (worker_at s w).lane
+      → IfSome r (λ b. b.life.chunk < length s.chunks)
   some_carried None e = tt
   some_carried (Some b) e = carrying_in_range s o w b within (carrying_from (worker_at s w).lane b (sym e))
 
   -- so is that of a bump that was looked at
-  pub some_tried_bump : (r : Option Bump) → r ≡ tried (worker_at s w).lane → IfSome r (λ b. b.life.chunk < length s.chunks)
+  pub some_tried_bump : (r : Option Bump) → r ≡ tried (worker_at s w).lane
+      → IfSome r (λ b. b.life.chunk < length s.chunks)
   some_tried_bump None e = tt
   some_tried_bump (Some b) e = looked_in_range s o w b within (tried_from (worker_at s w).lane b (sym e))
 
   -- so is that of a bump that is applied
-  pub some_applied : (r : Option Bump) → r ≡ applied_now (worker_at s w).lane → IfSome r (λ b. b.life.chunk < length s.chunks)
+  pub some_applied : (r : Option Bump) → r ≡ applied_now (worker_at s w).lane
+      → IfSome r (λ b. b.life.chunk < length s.chunks)
   some_applied None e = tt
   some_applied (Some b) e = applied_in_range s o w b.life within (applied_from (worker_at s w).lane b (sym e))
 
   -- the chunk of a bump that is to be moved is in range, linked and in COLD
-  pub some_cleared_bump : (r : Option Bump) → r ≡ cleared_active (worker_at s w).lane → IfSome r (λ b. (b.life.chunk < length s.chunks) × ((head_at s b.life.chunk).linked ≡ true) × ((head_at s b.life.chunk).segment ≡ segment.Cold))
+  pub some_cleared_bump : (r : Option Bump) → r ≡ cleared_active (worker_at s w).lane
+      → IfSome r (λ b. (b.life.chunk < length s.chunks) × ((head_at s b.life.chunk).linked ≡ true)
+      × ((head_at s b.life.chunk).segment ≡ segment.Cold))
   some_cleared_bump None e = tt
-  some_cleared_bump (Some b) e = let waits = waiting_linked s o w b within (cleared_from (worker_at s w).lane b (sym e)) in (linked_in_range s o b.life.chunk waits.0, waits.0, waits.1)
+  some_cleared_bump (Some b) e = let waits = waiting_linked s o w b within (cleared_from (worker_at s w).lane b
+      (sym e)) in (linked_in_range s o b.life.chunk waits.0, waits.0, waits.1)

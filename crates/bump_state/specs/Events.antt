@@ -1,7 +1,7 @@
 -- Events: when each is enabled, the state after it, its reply, and what an answer tells of that.
 use Rattle.std.specs.Prelude.{◌≡◌, ℕ, ◌+◌, ◌-◌, Bool, true, false, not, ◌&&◌, nat_lt, [], ◌∷◌, ◌++◌, length, slice_get, is_some, Option, Result, Ok, Err, if◌then◌else◌}
 use Rattle.std.specs.Option.{option_map_or}
-use Rattle.bump_rules.specs.Heads.{newborn, one_more, one_fewer, fetched_head, active_head, cleared_head, moved_head, severed_head}
+use Rattle.bump_rules.specs.Heads.{linked_head, one_more, one_fewer, fetched_head, marked_head, cleared_head, moved_head, unlinked_head}
 use Rattle.bump_rules.specs.declared.places.Segment.{Segment}
 use Rattle.bump_rules.specs.declared.places.Segment.TheVariants as segment
 use Rattle.bump_rules.specs.declared.items.Head.{Head}
@@ -24,7 +24,7 @@ use Rattle.bump_rules.specs.Tables.{is_cold, is_unheld, may_move}
 use Rattle.bump_rules.specs.Rings.{most_attempts}
 use Rattle.bump_links.specs.Lists.{first_of, times}
 use Rattle.bump_rules.specs.History.{freed_change}
-use Rattle.bump_state.specs.State.{State, WorkerState, chunk_at, head_at, class_at, worker_at, is_chunk, is_class, is_worker, with_chunk, with_head, with_worker, with_change, class_of, is_linked, is_held, has_free_hold, is_open, some_and, is_under_application}
+use Rattle.bump_state.specs.State.{State, WorkerState, chunk_at, head_at, class_at, worker_at, is_chunk, is_class, with_chunk, with_head, with_worker, with_change, class_of, is_linked, is_held, has_free_hold, is_open, some_and, is_under_application}
 use Rattle.bump_rules.specs.Hands.{tried_life, life_in_hand, cleared_life, is_idle}
 use Rattle.bump_rules.specs.Lanes.{carried, tried, applied_now, cleared_active, is_empty, bump_of, ending_at}
 
@@ -162,7 +162,7 @@ abbrev pub mark : State → ℕ → ItemId → State
 mark state worker item =
     let old = worker_at state worker in
     let head = head_at state item.chunk in
-    let marked = with_head state item.chunk (active_head head) in
+    let marked = with_head state item.chunk (marked_head head) in
     if not head.active && is_cold head.segment
     then with_worker marked worker (record old {
       hand = hand.Trying item;
@@ -223,13 +223,13 @@ next_life state chunk = life chunk ((head_at state chunk).generation + 1)
 
 abbrev pub link : State → ℕ → ℕ → State
 link state class chunk =
-    let linked = with_head state chunk (newborn ((head_at state chunk).generation + 1)) in
+    let linked = with_head state chunk (linked_head ((head_at state chunk).generation + 1)) in
     with_change linked class (change.Linked (next_life state chunk))
 
 -- the life ends, and its chunk is DYING
 abbrev pub unlink : State → ItemId → State
 unlink state item =
-    let unlinked = with_head state item.chunk (severed_head (head_at state item.chunk)) in
+    let unlinked = with_head state item.chunk (unlinked_head (head_at state item.chunk)) in
     with_change unlinked (class_of state item.chunk) (change.Unlinked item)
 
 -- the chunk is free

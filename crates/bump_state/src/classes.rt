@@ -49,7 +49,8 @@ fn follow(lists: &mut ClassLists, entries: &[Change])
 /// The entries of a sweep join the history of these lists: of the chunks of DYING that nobody holds, front to back.
 fn enter_unheld(history: &mut Vec<Change>, lists: &ClassLists, chunks: &[Chunk])
     requires chunks { All (λ c. c < length chunks.now) lists.now.dying }
-    requires room { vec_len history.old + length (unheld (heads_of chunks.now) lists.now.dying) ≤ vec_capacity history.old }
+    requires room { vec_len history.old + length (unheld (heads_of chunks.now) lists.now.dying)
+        ≤ vec_capacity history.old }
     ensures { history.new.items ≡ history.old.items ++ swept_of (heads_of chunks.now) lists.now.dying }
 {
     for chunk in lists.chunks(Place::Dying) {
@@ -104,7 +105,8 @@ impl Class {
     pub(crate) fn sweep(&mut self, chunks: &[Chunk], count: u32) -> Result<(), AllocError>
         requires chunks { All (λ c. c < length chunks.now) self.old.lists.dying }
         requires count { count ≡ length (unheld (heads_of chunks.now) self.old.lists.dying) }
-        ensures ok { OnOk result (class_view self.new ≡ class_with_changes (class_view self.old) (swept_of (heads_of chunks.now) self.old.lists.dying)) }
+        ensures ok { OnOk result (class_view self.new ≡
+            class_with_changes (class_view self.old) (swept_of (heads_of chunks.now) self.old.lists.dying)) }
         ensures err { OnErr result (class_view self.new ≡ class_view self.old) }
     {
         let n = self.history.len();

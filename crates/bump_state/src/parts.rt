@@ -1,4 +1,5 @@
-//! All that a World keeps, as plain data. Which parts are lawful is not said by their type: each change asks for what it needs.
+//! All that a World keeps, as plain data. Which parts are lawful is not said by their type: each
+//! change asks for what it needs.
 mod changes;
 mod opening;
 mod readers;

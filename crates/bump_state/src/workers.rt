@@ -126,11 +126,11 @@ impl Workers {
     }
 
     /// A worker.
-    pub(crate) fn at(&self, w: u32) -> &Worker
-        requires { w < length self.now }
-        ensures { result.now ≡ slice_index_or self.now w result.now }
+    pub(crate) fn at(&self, worker: u32) -> &Worker
+        requires { worker < length self.now }
+        ensures { result.now ≡ slice_index_or self.now worker result.now }
     {
-        &self.all[w as usize]
+        &self.all[worker as usize]
     }
 
     /// How many workers aren't Idle.

@@ -266,7 +266,8 @@ module _ (key : Config) (slots id : ℕ) (m : Sat) (c : ℕ) (near : c < chunks 
               head = record o.head { active = false };
               at = o.at;
               spells = clear_active n o.head o.spells tt;
-              lawful = marked key.refs_limit o.head o.at (λ g. t (held g)) (λ g. t (named g)) o.lawful false (omega arith);
+              lawful = marked key.refs_limit o.head o.at (λ g. t (held g)) (λ g. t (named g)) o.lawful false
+                  (omega arith);
               owned = o.owned;
               agreed = o.agreed;
               labelled = o.labelled;

@@ -13,18 +13,18 @@ use Rattle.bump_rules.specs.declared.places.Place.TheVariants.{Hot, Warm, Cold, 
 use Rattle.bump_rules.specs.declared.history.Change.{Change}
 use Rattle.bump_rules.specs.declared.history.Change.TheVariants as change
 use Rattle.bump_rules.specs.declared.labels.LabelStep.{LabelStep}
-use Rattle.bump_rules.specs.declared.labels.LabelStep.TheVariants.{Begun}
+use Rattle.bump_rules.specs.declared.labels.LabelStep.TheVariants.{Linked}
 use Rattle.bump_rules.specs.declared.configs.Config.{Config}
 use Rattle.bump_rules.specs.declared.bumps.AppliedBump.{AppliedBump}
 use Rattle.bump_rules.specs.declared.bumps.Outcome.{Outcome}
 use Rattle.bump_rules.specs.declared.bumps.Outcome.TheVariants as outcome
 use Rattle.bump_rules.specs.Entries.{names_bump, is_move_for, is_unlink_of}
-use Rattle.bump_rules.specs.Heads.{newborn, severed_head}
+use Rattle.bump_rules.specs.Heads.{linked_head, unlinked_head}
 use Rattle.bump_rules.specs.History.{Standing, subject, target, freed_change, is_standing}
 use Rattle.bump_rules.specs.Labels.{label_word}
 use Rattle.bump_rules.specs.Lawful.{bit, Shows, IsUsed, Lawful}
 use Rattle.bump_rules.specs.Lives.{life, is_same}
-use Rattle.bump_rules.proofs.Laws.{relawful, none_where_free, born, severed, ended}
+use Rattle.bump_rules.proofs.Laws.{relawful, none_where_free, born, unlinked, ended}
 use Rattle.bump_rules.proofs.Replay.{standing_push}
 use Rattle.bump_rules.proofs.Standings.{standing_same}
 use Rattle.bump_rules.proofs.ToldMoves.{no_move}
@@ -44,7 +44,7 @@ use Rattle.bump_steps.specs.Plays.{Sat, on_chunk, step_of, Stands}
 use Rattle.bump_steps.specs.Lives.{alone, class_after_load, class_after_link, class_after_sweep, IsInSegment, IsLinked, IsDying, MayLink, on_class, link_tells, unlink_tells, sweep_or_load_tells}
 use Rattle.bump_steps.specs.Lives as lives
 use Rattle.bump_steps.proofs.Frame.{Same, Amid, Reaches, on_head, same_sound}
-use Rattle.bump_steps.proofs.LabelLists.{word_begun}
+use Rattle.bump_steps.proofs.LabelLists.{word_linked}
 use Rattle.bump_steps.proofs.LifeLabels.{entered_labels, link_labels}
 use Rattle.bump_steps.proofs.Looking.{load_same, load_backed}
 use Rattle.bump_steps.proofs.StepLemmas.{chunk_is, at_chunk, owned_push, same_counts}
@@ -157,9 +157,9 @@ pub linked_in_segment : (h : Head) (at : Place) → Shows h at → IsInSegment a
 linked_in_segment h Hot shows in_it = shows.0
 linked_in_segment h Warm shows in_it = shows.0
 linked_in_segment h Cold shows in_it = shows.0
-linked_in_segment h Dying shows in_it = absurd in_it
-linked_in_segment h Unused shows in_it = absurd in_it
-linked_in_segment h Retired shows in_it = absurd in_it
+linked_in_segment h Dying shows in_it = absurd (false≢true in_it)
+linked_in_segment h Unused shows in_it = absurd (false≢true in_it)
+linked_in_segment h Retired shows in_it = absurd (false≢true in_it)
 
 -- and isn't free
 pub used_in_place : (at : Place) → IsInSegment at → IsUsed at
@@ -167,8 +167,8 @@ used_in_place Hot in_it = tt
 used_in_place Warm in_it = tt
 used_in_place Cold in_it = tt
 used_in_place Dying in_it = tt
-used_in_place Unused in_it = absurd in_it
-used_in_place Retired in_it = absurd in_it
+used_in_place Unused in_it = absurd (false≢true in_it)
+used_in_place Retired in_it = absurd (false≢true in_it)
 
 -- no chunk is freed to a place of chunks in use
 pub freed_unused : (l : ItemId) → IsUsed (target (freed_change l)) → ⊥
@@ -210,7 +210,7 @@ module _ (key : Config) (slots id c : ℕ) (near : c < chunks key) (sl : List (�
       (stands_alone c (alone k) k refl own)
 
   -- the head of a new life is stored
-  pub links : (new : ℕ) → (standing k c).0 ≡ Unused → new ≡ word_of (newborn ((standing k c).1 + 1))
+  pub links : (new : ℕ) → (standing k c).0 ≡ Unused → new ≡ word_of (linked_head ((standing k c).1 + 1))
       → Allows (Kept key) slots id (alone k, sl) (3 * c + 9) (λ _. new)
       (λ _. link_tells (step slots (3 * c + 9) new 0 none) (alone k, sl) new)
   links new unused is = subst (λ (d : ℕ). Allows (Kept key) slots id (alone k, sl) (3 * c + 9) (λ _. new)
@@ -223,18 +223,18 @@ module _ (key : Config) (slots id c : ℕ) (near : c < chunks key) (sl : List (�
       let gen : o.head.generation ≡ (standing k c).1 = ap (λ (s : Standing). s.1) at in
       let place : o.at ≡ Unused = ap (λ (s : Standing). s.0) at in
       let room : o.head.generation < 4294967295 = (subst (Shows o.head) place o.lawful.shown).1 in
-      let spells : Spells new (newborn (o.head.generation + 1)) =
-      (is ∙ ap (λ (g : ℕ). word_of (newborn (g + 1))) (sym gen), (omega arith, omega arith)) in
+      let spells : Spells new (linked_head (o.head.generation + 1)) =
+      (is ∙ ap (λ (g : ℕ). word_of (linked_head (g + 1))) (sym gen), (omega arith, omega arith)) in
       let here : o.head.generation + 1 ≡ new / 2 ^ generation_first =
-      sym (fields new (newborn (o.head.generation + 1)) spells).generation in
+      sym (fields new (linked_head (o.head.generation + 1)) spells).generation in
       let e : Change = change.Linked (life c (new / 2 ^ generation_first)) in
-      let ls : List LabelStep = k.labels ++ Begun (life c (new / 2 ^ generation_first)) ∷ [] in
-      let same : ((b : ℕ) → label_word b 0 ls ≡ last_label k b) = λ b. word_begun b 0 k.labels
+      let ls : List LabelStep = k.labels ++ Linked (life c (new / 2 ^ generation_first)) ∷ [] in
+      let same : ((b : ℕ) → label_word b 0 ls ≡ last_label k b) = λ b. word_linked b 0 k.labels
       (life c (new / 2 ^ generation_first)) in
       let x : OwnStep = step_of kind.Link c new None in (
         on_class (class_after_link c (new / 2 ^ generation_first) new) (alone k),
         (λ u moves. enter_sound c k own e ls x refl refl same key.refs_limit n new label t u a moves o
-            (newborn (o.head.generation + 1)) spells here
+            (linked_head (o.head.generation + 1)) spells here
             (a.readers (o.head.generation + 1) label
             (none_where_free key.refs_limit o.head o.at (λ g. t (held g)) (λ g. t (named g)) o.lawful
             (ap IsUsed place) (o.head.generation + 1)))
@@ -261,9 +261,9 @@ module _ (key : Config) (slots id c : ℕ) (near : c < chunks key) (sl : List (�
       let x : OwnStep = step_of kind.Unlink c n None in (
         on_class (lives.class_after_unlink c n) (alone k),
         (λ u moves. enter_sound c k own e k.labels x refl refl (λ b. refl) key.refs_limit n
-            ((n + (2 ^ 64 - (2 ^ linked_first + 1))) % 2 ^ 64) label t u a moves o (severed_head o.head)
+            ((n + (2 ^ 64 - (2 ^ linked_first + 1))) % 2 ^ 64) label t u a moves o (unlinked_head o.head)
             (unlink n o.head o.spells (on, omega (arith, many, ap bit on))) gen o.read
-            (severed key.refs_limit o.head o.at (λ g. t (held g)) (λ g. t (named g)) o.lawful on)),
+            (unlinked key.refs_limit o.head o.at (λ g. t (held g)) (λ g. t (named g)) o.lawful on)),
         enter_apart c k own e k.labels x refl refl (λ b. refl),
         enter_backed c k own e k.labels x refl refl (λ b. refl)
             (λ p. entered_labels k e (k.steps ++ x ∷ []) p refl (λ used. used_in_place (standing k c).0 in_it)),
@@ -330,12 +330,12 @@ module _ (key : Config) (slots id c : ℕ) (near : c < chunks key) (sl : List (�
 
 -- a life may begin by the store of its head
 pub may_link : (key : Config) (slots id c g : ℕ) (m : Sat) → c < chunks key → MayLink c g m.0 → (new : ℕ)
-    → new ≡ word_of (newborn g) → Allows (Kept key) slots id m (3 * c + 9) (λ _. new)
+    → new ≡ word_of (linked_head g) → Allows (Kept key) slots id m (3 * c + 9) (λ _. new)
     (λ _. link_tells (step slots (3 * c + 9) new 0 none) m new)
 may_link key slots id c g m near may new is = let k : ClassPart = may.0 in let o = may.1 in
     subst (λ (v : View). Allows (Kept key) slots id (v, m.1) (3 * c + 9) (λ _. new)
     (λ _. link_tells (step slots (3 * c + 9) new 0 none) (v, m.1) new)) (sym o.view)
-    (links key slots id c near m.1 k o.own new o.at (is ∙ ap (λ (j : ℕ). word_of (newborn j)) may.2))
+    (links key slots id c near m.1 k o.own new o.at (is ∙ ap (λ (j : ℕ). word_of (linked_head j)) may.2))
 
 -- a linked chunk may be unlinked
 pub may_unlink : (key : Config) (slots id c : ℕ) (m : Sat) → c < chunks key → IsLinked c m.0

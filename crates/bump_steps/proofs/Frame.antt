@@ -16,8 +16,9 @@ use Rattle.bump_rules.proofs.Updates.{total_append, total_below}
 use Rattle.bump_steps.specs.declared.views.View.{View}
 use Rattle.bump_steps.specs.Views.{Measure, held, owners, strays, mislabels, misreads, misread, differs, owns, standing, last_label, weight, tally, claims, evidence, Query, moves, settled, foreign, HaveLabels, workers_of, lanes_of, untidy, IsBacked}
 use Rattle.bump_steps.specs.Rule.{Sound, SoundAt, chunks, Kept, HasFittingLimit}
-use Rattle.bump_steps.specs.Plays.{every}
+use Rattle.bump_steps.specs.Plays.{every, IsOwn}
 use Rattle.bump_steps.proofs.Once.{settled_once, settled_here}
+use Rattle.bump_steps.proofs.OwnMoves.{moves_here}
 use Rattle.bump_steps.proofs.LifeLabels.{labelled_at, labelled_beside, labelled_set, labelled_push}
 use Rattle.bump_steps.proofs.Sums.{total-set, none_where_none, term_le, others_le}
 
@@ -37,9 +38,11 @@ pub record Amid (c : ℕ) (v : View) (t : Measure → ℕ) : Type 0 where
   -- of the others none is a stray that is no owner
   pub others : (s : Standing) → t (strays s) + weight c owners v ≤ t owners + weight c (strays s) v
   pub other_labels : (x : ℕ) → t (mislabels x) + weight c owners v ≤ t owners + weight c (mislabels x) v
-  -- the histories of the view name no bump twice, and its lanes tell of all moves of their bumps
+  -- the histories of the view name no bump twice, and speak of its classes' own chunks alone
   pub once : (w n : ℕ) → moves (every w n) v ≤ 1
-  pub told : (q : Query) → 0 < lanes_of q.worker v → moves q v ≤ settled q v
+  pub own : foreign v ≡ 0
+  -- they have the moves of own items that its lanes tell
+  pub told : (q : Query) → IsOwn q.test v → 0 < lanes_of q.worker v → moves q v ≡ settled q v
   -- only a reference reads
   pub readers : (g x : ℕ) → t (held g) ≡ 0 → t (misreads g x) ≡ 0
 
@@ -78,28 +81,28 @@ reader_holds c g x v e = none_where_none (λ h. one_if (life c g) h.life) (misre
     (λ h none. ap (λ (k : ℕ). k * total (differs x) h.labels) none ∙ zero-mul (total (differs x) h.labels)) v.holds
     (omega arith)
 
-pub amid : (c : ℕ) (views : List View) (i : ℕ) (v : View) → get_elem? views i ≡ some v
-    → ((q : Query) → total (moves q) views ≡ total (settled q) views) → ((n : ℕ) → total (lanes_of n) views ≤ 1)
-    → total untidy views ≡ 0 → Amid c v (tally views c)
-amid c views i v me even lanes tidy = record {
+-- what the rule says of one of the views
+pub amid : (key : Config) (s : State Empty View) → Kept key s → (c i : ℕ) (v : View) → get_elem? s.views i ≡ some v
+    → Amid c v (tally s.views c)
+amid key s o c i v me = record {
   once = λ w n. omega (
     arith,
-    term_le (moves (every w n)) views i v me,
-    even (every w n),
-    settled_once w n views tidy,
-    lanes w,
+    term_le (moves (every w n)) s.views i v me,
+    o.even_moves (every w n),
+    settled_once w n s.views o.orderly,
+    o.one_lane w,
   );
-  told = λ q mine. omega (
+  own = omega (arith, term_le foreign s.views i v me, o.own_chunks);
+  told = λ q own mine. omega (
     arith,
-    term_le (moves q) views i v me,
-    even q,
-    settled_here q views i v me (lanes q.worker)
-        mine,
+    moves_here q s.views i v me o.one_class o.own_chunks own,
+    o.even_moves q,
+    settled_here q s.views i v me (o.one_lane q.worker) mine,
   );
-  mine = λ m. term_le (weight c m) views i v me;
-  others = λ s. others_le (weight c (strays s)) (weight c owners) (stray_owns c s) views i v me;
-  other_labels = λ x. others_le (weight c (mislabels x)) (weight c owners) (mislabel_owns c x) views i v me;
-  readers = λ g x. none_where_none (weight c (held g)) (weight c (misreads g x)) (reader_holds c g x) views;
+  mine = λ m. term_le (weight c m) s.views i v me;
+  others = λ at. others_le (weight c (strays at)) (weight c owners) (stray_owns c at) s.views i v me;
+  other_labels = λ x. others_le (weight c (mislabels x)) (weight c owners) (mislabel_owns c x) s.views i v me;
+  readers = λ g x. none_where_none (weight c (held g)) (weight c (misreads g x)) (reader_holds c g x) s.views;
 }
 
 -- what one view adds to the entries is backed
@@ -131,6 +134,9 @@ module _ (key : Config) (s : State Empty View) (o : Kept key s) (homes : List (O
           sym (get_or-set_other s.words word (3 * b + 11) p 0 (λ e. ne (omega arith))) k,
           same_tally s.views i b v w me (apart b ne) k,
         )) (o.each b h));
+    one_class = λ b. dite (ℕ_discrete b c)
+        (λ e. omega (arith, ap (λ (d : ℕ). total (weight d owners) (set s.views i w)) e, now.owned))
+        (λ ne. omega (arith, total-set (weight b owners) s.views i v w me, apart b ne owners, o.one_class b));
     true_entries = backed s.views i v w me back o.true_entries;
     even_moves = λ q. omega (
       arith,
@@ -152,7 +158,7 @@ pub on_head : (key : Config) (slots id : ℕ) (m : Sat) (c : ℕ) (f : ℕ → �
 on_head key slots id m c f then near goes s o count me small = let n : ℕ = get_or s.words (3 * c + 9) 0 in let x : ℕ =
     get_or s.words (3 * c + 11) 0 in
     let g = goes n x (tally s.views c) o.small (o.each c near)
-    (amid c s.views id m.0 me o.even_moves o.one_lane o.orderly) in
+    (amid key s o c id m.0 me) in
     let now : Sound key.refs_limit (f n) x (tally (set s.views id g.0) c) = g.1 (tally (set s.views id g.0) c)
     (λ y. total-set (weight c y) s.views id m.0 g.0 me) in (
       g.0,
@@ -173,7 +179,7 @@ pub on_label : (key : Config) (slots id : ℕ) (m : Sat) (c : ℕ) (f : ℕ → 
 on_label key slots id m c f then near goes s o count me small = let n : ℕ = get_or s.words (3 * c + 9) 0 in
     let x : ℕ = get_or s.words (3 * c + 11) 0 in
     let g = goes n x (tally s.views c) o.small (o.each c near)
-    (amid c s.views id m.0 me o.even_moves o.one_lane o.orderly) in
+    (amid key s o c id m.0 me) in
     let now : Sound key.refs_limit n (f x) (tally (set s.views id g.0) c) = g.1 (tally (set s.views id g.0) c)
     (λ y. total-set (weight c y) s.views id m.0 g.0 me) in (
       g.0,
@@ -195,7 +201,7 @@ pub on_time : (key : Config) (slots id : ℕ) (m : Sat) (c : ℕ) (f : ℕ → �
 on_time key slots id m c f then near goes s o count me small = let n : ℕ = get_or s.words (3 * c + 9) 0 in let x : ℕ =
     get_or s.words (3 * c + 11) 0 in let y : ℕ = get_or s.words (3 * c + 10) 0 in
     let g = goes y n x (tally s.views c) o.small (o.each c near)
-    (amid c s.views id m.0 me o.even_moves o.one_lane o.orderly) in
+    (amid key s o c id m.0 me) in
     let now : Sound key.refs_limit n x (tally (set s.views id g.0) c) = g.1 (tally (set s.views id g.0) c)
     (λ y. total-set (weight c y) s.views id m.0 g.0 me) in (
       g.0,
@@ -230,6 +236,7 @@ splits key id v left right even entries rides owned labels workers lanes tidy s 
   each = λ c near. same_sound key.refs_limit (get_or s.words (3 * c + 9) 0) (get_or s.words (3 * c + 11) 0)
       (tally s.views c) (tally (set s.views id left ++ right ∷ []) c) (λ x. keep (weight c x) (even c x))
       (o.each c near);
+  one_class = λ c. omega (arith, keep (weight c owners) (even c owners), o.one_class c);
   true_entries = λ n e many. let old = o.true_entries n e in
       omega (
         arith,
@@ -266,6 +273,7 @@ joins key id v other w both spent even entries rides owned labels workers lanes 
   each = λ c near. same_sound key.refs_limit (get_or s.words (3 * c + 9) 0) (get_or s.words (3 * c + 11) 0)
       (tally s.views c) (tally (set (set s.views id both) other spent) c) (λ x. keep (weight c x) (even c x))
       (o.each c near);
+  one_class = λ c. omega (arith, keep (weight c owners) (even c owners), o.one_class c);
   true_entries = λ n e many. let old = o.true_entries n e in
       omega (arith, keep (evidence n e) (entries n e).1, old (omega (arith, keep (claims n e) (entries n e).0)));
   even_moves = λ q. omega (arith, keep (moves q) (rides q).0, keep (settled q) (rides q).1, o.even_moves q);

@@ -1,6 +1,7 @@
 pub mod Decoded
 pub mod Sums
 pub mod Once
+pub mod OwnMoves
 pub mod LabelLists
 pub mod LifeLabels
 pub mod Frame

@@ -9,7 +9,7 @@ use Rattle.bump_rules.specs.declared.items.ItemId.{ItemId}
 use Rattle.bump_rules.specs.declared.places.Place.TheVariants.{Unused}
 use Rattle.bump_rules.specs.declared.history.Change.{Change}
 use Rattle.bump_rules.specs.declared.history.Change.TheVariants as change
-use Rattle.bump_rules.specs.declared.labels.LabelStep.TheVariants.{Begun}
+use Rattle.bump_rules.specs.declared.labels.LabelStep.TheVariants.{Linked}
 use Rattle.bump_rules.specs.History.{Standing, subject, target}
 use Rattle.bump_rules.specs.Labels.{label_of_life, label_word}
 use Rattle.bump_rules.specs.Lawful.{IsUsed}
@@ -21,7 +21,7 @@ use Rattle.bump_steps.specs.declared.views.View.{View}
 use Rattle.bump_steps.specs.Views.{standing, last_label, HasLabels, HaveLabels, AreLabelled}
 use Rattle.bump_steps.specs.Plays.{behind, first_of, on_first}
 use Rattle.bump_steps.specs.Lives.{class_after_put_label, class_after_link}
-use Rattle.bump_steps.proofs.LabelLists.{word_stored, word_begun, life_stored, life_begun, life_begun_else}
+use Rattle.bump_steps.proofs.LabelLists.{word_stored, word_linked, life_stored, life_linked, life_linked_else}
 
 -- ---- lists of parts and of views
 
@@ -147,31 +147,31 @@ module _ (c g n : ℕ) (k : ClassPart) (p : HasLabels k) (next : g ≡ (standing
       ∙ ap (λ b. cond b (target (change.Linked new_life), g) (standing k d)) (ne_eqb c d (λ q. ne (sym q)))
 
   -- it has the label that was stored last for the chunk
-  label_here : label_of_life new_life 0 (k.labels ++ Begun new_life ∷ []) ≡ Some
-      (label_word c 0 (k.labels ++ Begun new_life ∷ []))
-  label_here = life_begun new_life 0 k.labels (and_from (eqb c c) (eqb g g) (eq-eqb c c refl) (eq-eqb g g refl))
-      (p.unbegun c g (omega (arith, next))) ∙ ap (λ (y : ℕ). Some y) (sym (word_begun c 0 k.labels new_life))
+  label_here : label_of_life new_life 0 (k.labels ++ Linked new_life ∷ []) ≡ Some
+      (label_word c 0 (k.labels ++ Linked new_life ∷ []))
+  label_here = life_linked new_life 0 k.labels (and_from (eqb c c) (eqb g g) (eq-eqb c c refl) (eq-eqb g g refl))
+      (p.unbegun c g (omega (arith, next))) ∙ ap (λ (y : ℕ). Some y) (sym (word_linked c 0 k.labels new_life))
 
   pub link_labels : HasLabels opened
   link_labels = record {
     labelled = λ d mine used. dite (ℕ_discrete d c)
-        (λ is. subst (λ (j : ℕ). label_of_life (life j (standing opened j).1) 0 (k.labels ++ Begun new_life ∷ [])
-        ≡ Some (label_word j 0 (k.labels ++ Begun new_life ∷ []))) (sym is)
-        (subst (λ (s : Standing). label_of_life (life c s.1) 0 (k.labels ++ Begun new_life ∷ []) ≡ Some
-        (label_word c 0 (k.labels ++ Begun new_life ∷ []))) (sym stands_here) label_here))
-        (λ ne. subst (λ (s : Standing). label_of_life (life d s.1) 0 (k.labels ++ Begun new_life ∷ []) ≡ Some
-        (label_word d 0 (k.labels ++ Begun new_life ∷ []))) (sym (stands_there d ne))
-        (life_begun_else (life d (standing k d).1) 0 k.labels new_life (other_of_chunk d c (standing k d).1 g ne)
+        (λ is. subst (λ (j : ℕ). label_of_life (life j (standing opened j).1) 0 (k.labels ++ Linked new_life ∷ [])
+        ≡ Some (label_word j 0 (k.labels ++ Linked new_life ∷ []))) (sym is)
+        (subst (λ (s : Standing). label_of_life (life c s.1) 0 (k.labels ++ Linked new_life ∷ []) ≡ Some
+        (label_word c 0 (k.labels ++ Linked new_life ∷ []))) (sym stands_here) label_here))
+        (λ ne. subst (λ (s : Standing). label_of_life (life d s.1) 0 (k.labels ++ Linked new_life ∷ []) ≡ Some
+        (label_word d 0 (k.labels ++ Linked new_life ∷ []))) (sym (stands_there d ne))
+        (life_linked_else (life d (standing k d).1) 0 k.labels new_life (other_of_chunk d c (standing k d).1 g ne)
         ∙ p.labelled d mine (subst (λ (s : Standing). IsUsed s.0) (stands_there d ne) used)
-        ∙ ap (λ (y : ℕ). Some y) (sym (word_begun d 0 k.labels new_life))));
+        ∙ ap (λ (y : ℕ). Some y) (sym (word_linked d 0 k.labels new_life))));
     unbegun = λ d j later. dite (ℕ_discrete d c)
         (λ is.
         let at : (standing opened d).1 ≡ g = ap (λ (i : ℕ). (standing opened i).1) is
         ∙ ap (λ (s : Standing). s.1) stands_here in
-        subst (λ (i : ℕ). label_of_life (life i j) 0 (k.labels ++ Begun new_life ∷ []) ≡ None) (sym is)
-        (life_begun_else (life c j) 0 k.labels new_life
+        subst (λ (i : ℕ). label_of_life (life i j) 0 (k.labels ++ Linked new_life ∷ []) ≡ None) (sym is)
+        (life_linked_else (life c j) 0 k.labels new_life
         (ap₂ (λ a b. a && b) (eq-eqb c c refl) (ne_eqb j g (λ e. omega (arith, e, at, later))))
         ∙ p.unbegun c j (omega (arith, at, later, next))))
-        (λ ne. life_begun_else (life d j) 0 k.labels new_life (other_of_chunk d c j g ne)
+        (λ ne. life_linked_else (life d j) 0 k.labels new_life (other_of_chunk d c j g ne)
         ∙ p.unbegun d j (subst (λ (i : ℕ). i < j) (ap (λ (s : Standing). s.1) (stands_there d ne)) later));
   }

@@ -13,7 +13,7 @@ use Rattle.bump_rules.specs.declared.bumps.AppliedBump.{AppliedBump}
 use Rattle.bump_rules.specs.declared.bumps.Outcome.{Outcome}
 use Rattle.bump_rules.specs.declared.bumps.Outcome.TheVariants as outcome
 use Rattle.bump_rules.specs.Lawful.{bit, Lawful}
-use Rattle.bump_rules.specs.Heads.{fetched_head, active_head, cleared_head}
+use Rattle.bump_rules.specs.Heads.{fetched_head, marked_head, cleared_head}
 use Rattle.bump_rules.specs.Lives.{life, one_if, count_of}
 use Rattle.bump_rules.specs.Tables.{is_cold}
 use Rattle.bump_rules.specs.Totals.{total, how_many}
@@ -285,7 +285,7 @@ module _ (key : Config) (slots id : ℕ) (m : Sat) (c : ℕ) (near : c < chunks 
         (λ u moves. same_sound key.refs_limit (bit_or n (2 ^ active_first)) x t u
             (same_counts c m.0 (on_worker (worker_after_mark l o.head) m.0) t u
             (quiet_same c (worker_after_mark l o.head) m.0 (mark_quiet c l o.head)) moves) (record {
-              head = active_head o.head;
+              head = marked_head o.head;
               at = o.at;
               spells = set_active n o.head o.spells tt;
               lawful = marked_law key.refs_limit o.head o.at (λ g. t (held g)) (λ g. t (named g)) o.lawful true

@@ -39,8 +39,8 @@ use Rattle.bump_steps.proofs.Frame.{Same, Amid, Reaches, on_label, same_sound}
 use Rattle.bump_steps.proofs.StepLemmas.{at_chunk, label_chunk_is, on_first_total, same_counts, one_life, other_life, other_chunk}
 use Rattle.bump_steps.proofs.Told.{tells}
 
--- Two views count the same for the chunk but for references, and the second one no more labels other than x that
--- holds read.
+-- Two views count the same for the chunk but for references, and the second one no more labels other than x that holds
+-- read.
 record Beside (c x : ℕ) (v w : View) : Type 0 where
   first_hits : (g : ℕ) → weight c (named g) w ≡ weight c (named g) v
   fetches : (g : ℕ) → weight c (saw g) w ≡ weight c (saw g) v
@@ -409,6 +409,7 @@ may_load_without_seat key slots c first near s o count small = let e = o.each c 
     small = o.small;
     each = λ b h. same_sound key.refs_limit _ _ (tally s.views b) (tally (s.views ++ blank ∷ []) b)
         (λ y. omega (arith, total_push (weight b y) s.views blank, nothing b y)) (o.each b h);
+    one_class = λ b. omega (arith, total_push (weight b owners) s.views blank, o.one_class b);
     true_entries = λ w a many. let old = o.true_entries w a in
         omega (
           arith,

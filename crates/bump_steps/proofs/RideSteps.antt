@@ -31,7 +31,8 @@ use Rattle.bump_steps.specs.declared.views.View.{View}
 use Rattle.bump_steps.specs.Views.{Measure, held, named, saw, owners, strays, mislabels, misreads, weight, in_hand, is_fetch, is_fetch_of, shown_by, IsBacked}
 use Rattle.bump_steps.specs.Rule.{Sound, chunks, Kept, HasFittingLimit}
 use Rattle.bump_steps.specs.Plays.{Sat, step_of}
-use Rattle.bump_steps.specs.Rides.{touching, judged_hand, counted_drop, IsOfHeld, load_to_ride_tells, reserve_tells, try_to_ride_tells, release_tells, IsOn, HasRoom}
+use Rattle.bump_rules.specs.Accounts.{counted_drop}
+use Rattle.bump_steps.specs.Rides.{touching, judged_hand, IsOfHeld, load_to_ride_tells, reserve_tells, try_to_ride_tells, release_tells, IsOn, HasRoom}
 use Rattle.bump_steps.proofs.Frame.{Same, Amid, Reaches, on_head, same_sound}
 use Rattle.bump_steps.proofs.StepLemmas.{level, one_life, other_life, other_chunk, same_counts}
 

@@ -15,7 +15,8 @@ use Rattle.bump_steps.specs.declared.views.View.{View}
 use Rattle.bump_steps.specs.declared.views.WorkerPart.{WorkerPart}
 use Rattle.bump_steps.specs.Marks.{on_worker}
 use Rattle.bump_steps.specs.Plays.{Sat, step_of}
-use Rattle.bump_steps.specs.Rides.{IsOfHeld, judged, judged_hand, counted_drop, worker_after_load_to_ride, worker_after_reserve, load_to_ride_tells, reserve_tells, IsOn}
+use Rattle.bump_rules.specs.Accounts.{counted_drop}
+use Rattle.bump_steps.specs.Rides.{IsOfHeld, judged, judged_hand, worker_after_load_to_ride, worker_after_reserve, load_to_ride_tells, reserve_tells, IsOn}
 use Rattle.bump_steps.specs.Tries.{last_found, RideFound, loads, with_more, drop_of, reserved_or_dropped, worker_after_attempt}
 use Rattle.bump_steps.proofs.Tries.{Trying, tries_start, has_head, last_is_one, refused_is, view_is, goes_on, found_so, first_again}
 

@@ -28,6 +28,18 @@ pub some_chunks : (ks : List ClassConfig) → 1 ≤ length ks → HaveChunks ks 
 some_chunks [] one have = absurd (omega (arith, one))
 some_chunks (k ∷ ks) one have = omega (arith, have.0)
 
+-- the part of a class to which nothing happened
+abbrev new_class : ℕ → ℕ → ℕ → ClassConfig → ClassPart
+new_class fresh i first n = record {
+  class = i;
+  first = first;
+  count = n.chunks;
+  fresh = fresh;
+  history = [];
+  labels = [];
+  steps = [];
+}
+
 owns_yes : (c : ℕ) (k : ClassPart) → k.first ≤ c → c < k.first + k.count → bit (owns c k) ≡ 1
 owns_yes c k low high = ap₂ (λ a b. bit (a && b)) (le-leb k.first c low) (lt-ltb c (k.first + k.count) high)
 
@@ -47,16 +59,14 @@ no_owner fresh i first c [] h = refl
 no_owner fresh i first c (n ∷ ns) h =
     omega (
       arith,
-      owns_before c
-          (record { class = i; first = first; count = n.chunks; fresh = fresh; history = []; labels = []; steps = [] }) h,
+      owns_before c (new_class fresh i first n) h,
       no_owner fresh (i + 1) (first + n.chunks) c ns (omega arith),
     )
 
 pub one_owner : (fresh i first c : ℕ) (ns : List ClassConfig) → first ≤ c → c < first + chunks_of ns
     → total (λ k. bit (owns c k)) (class_parts fresh i first ns) ≡ 1
 one_owner fresh i first c [] low high = absurd (omega arith)
-one_owner fresh i first c (n ∷ ns) low high = let k : ClassPart =
-    record { class = i; first = first; count = n.chunks; fresh = fresh; history = []; labels = []; steps = [] } in
+one_owner fresh i first c (n ∷ ns) low high = let k : ClassPart = new_class fresh i first n in
     dite (dec_le (first + n.chunks) c)
     (λ later. omega (
       arith,
@@ -71,6 +81,23 @@ one_owner fresh i first c (n ∷ ns) low high = let k : ClassPart =
           (omega arith),
     ))
 
+-- nor has one that is behind them all
+no_owner_behind : (fresh i first c : ℕ) (ns : List ClassConfig) → first + chunks_of ns ≤ c
+    → total (λ k. bit (owns c k)) (class_parts fresh i first ns) ≡ 0
+no_owner_behind fresh i first c [] h = refl
+no_owner_behind fresh i first c (n ∷ ns) h =
+    omega (
+      arith,
+      owns_behind c (new_class fresh i first n) (omega arith),
+      no_owner_behind fresh (i + 1) (first + n.chunks) c ns (omega arith),
+    )
+
+-- so no chunk has two classes
+few_owners : (fresh c : ℕ) (ns : List ClassConfig) → total (λ k. bit (owns c k)) (class_parts fresh 0 0 ns) ≤ 1
+few_owners fresh c ns = dite (dec_le (chunks_of ns) c)
+    (λ behind. omega (arith, no_owner_behind fresh 0 0 c ns (omega (arith, behind))))
+    (λ among. omega (arith, one_owner fresh 0 0 c ns (omega arith) (omega arith)))
+
 pub no_stray_yet : (fresh i first c : ℕ) (ns : List ClassConfig)
     → total (λ k. bit (owns c k && not (is_standing (standing k c) (Unused, fresh)))) (class_parts fresh i first ns)
     ≡ 0
@@ -78,8 +105,7 @@ no_stray_yet fresh i first c [] = refl
 no_stray_yet fresh i first c (n ∷ ns) =
     omega (
       arith,
-      none (owns c
-          (record { class = i; first = first; count = n.chunks; fresh = fresh; history = []; labels = []; steps = [] })),
+      none (owns c (new_class fresh i first n)),
       no_stray_yet fresh (i + 1) (first + n.chunks) c ns,
     )
   where
@@ -93,8 +119,7 @@ no_mislabel_yet fresh i first c [] = refl
 no_mislabel_yet fresh i first c (n ∷ ns) =
     omega (
       arith,
-      none (owns c
-          (record { class = i; first = first; count = n.chunks; fresh = fresh; history = []; labels = []; steps = [] })),
+      none (owns c (new_class fresh i first n)),
       no_mislabel_yet fresh (i + 1) (first + n.chunks) c ns,
     )
   where
@@ -210,6 +235,7 @@ starts key words fresh limits generations = record {
     read = refl;
     hit = λ g some. absurd (omega (arith, some, no_saw c g key));
   };
+  one_class = λ c. omega (arith, few_owners (key.first_generation - 1) c key.classes);
   true_entries = λ n a many. absurd
       (omega (arith, many, no_lanes (claimed_in n a) (λ w. cond_none (eqb w n)) 0 key.workers));
   even_moves = λ q. omega (

@@ -74,6 +74,7 @@ tells c limit n x v t o a = record {
       ));
   named = λ g. omega (arith, a.mine (named g), o.lawful.once g);
   once = a.once;
+  own = a.own;
   told = a.told;
 }
 

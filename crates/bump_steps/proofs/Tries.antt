@@ -71,9 +71,8 @@ some_first f (x ∷ xs) some = some
 
 -- ---- an attempt
 
--- So many exchanges failed, and the last step found the word. What the seat's view is by then, and why the attempt
--- ends here, if it does,
--- differs: `refused` and `seen` are told of an attempt of one kind.
+-- So many exchanges failed, and the last step found the word. What the seat's view is by then, and why the attempt ends
+-- here, if it does, differs: `refused` and `seen` are told of an attempt of one kind.
 pub record Trying {Refusal : Type 0} (Is IsOpen : Head → Type 0) (refused : ℕ → Head → Option Refusal)
     (seen : Option Refusal → List OwnStep → View → View) (c : ℕ) (before now : Sat) (word failed : ℕ) (first : Head)
     (more : List Head)

@@ -1,6 +1,5 @@
 -- The steps of an application, made by a class's seat with the lane's joined to it. A step made for a bump reads the
--- bump off the
--- view: the lane that is joined.
+-- bump off the view: the lane that is joined.
 use Rattle.std.specs.Prelude.{◌≡◌, ℕ, ◌-◌, ◌^◌, ◌<◌, ◌⊎◌, Bool, true, false, not, List, [], ◌∷◌, ◌++◌, Option, Some, None}
 use Rattle.atomic_table.specs.Table.{Step}
 use Rattle.bump_rules.specs.declared.items.ItemId.{ItemId}
@@ -197,8 +196,8 @@ abbrev pub is_past_move : Lane → Bool
 is_past_move (lane.Moved bump) = true
 is_past_move stage = false
 
--- the bump aboard, of this chunk, can end with this outcome: its item was moved exactly where the outcome is Moved,
--- and the entry is true by the two parts alone
+-- the bump aboard, of this chunk, can end with this outcome: its item was moved exactly where the outcome is Moved, and
+-- the entry is true by the two parts alone
 pub record Alights (here : ℕ) (ending : Outcome) (seat : View) (class : ClassPart) (this_lane : LanePart)
     (bump : Bump) : Type 0 where
   pub view : seat ≡ applying class this_lane

@@ -1,14 +1,14 @@
--- The steps of a class's seat that begin and end lives, and its looks at a chunk: what each leaves of the class's
--- part.
+-- The steps of a class's seat that begin and end lives, and its looks at a chunk: what each leaves of the class's part.
 use Rattle.std.specs.Prelude.{◌≡◌, ℕ, ◌+◌, ◌/◌, ◌%◌, ◌^◌, ◌≤◌, ◌==◌, [], ◌∷◌, ◌++◌, None, true, if◌then◌else◌}
 use Rattle.atomic_table.specs.Table.{Step}
 use Rattle.bump_rules.specs.declared.places.Place.{Place}
-use Rattle.bump_rules.specs.declared.places.Place.TheVariants.{Hot, Warm, Cold, Dying, Unused}
+use Rattle.bump_rules.specs.declared.places.Place.TheVariants.{Dying, Unused}
 use Rattle.bump_rules.specs.declared.history.Change.TheVariants as change
-use Rattle.bump_rules.specs.declared.labels.LabelStep.TheVariants.{Stored, Begun}
+use Rattle.bump_rules.specs.declared.labels.LabelStep.TheVariants.{Stored, Linked}
 use Rattle.bump_rules.specs.History.{freed_change}
 use Rattle.bump_rules.specs.Lawful.{bit}
 use Rattle.bump_rules.specs.Lives.{life}
+use Rattle.bump_rules.specs.Places.{is_segment_place}
 use Rattle.bump_word.specs.Layout.{refs_width, generation_first}
 use Rattle.bump_steps.specs.declared.views.Empty.{Empty}
 use Rattle.bump_steps.specs.declared.views.Kind.TheVariants as kind
@@ -40,7 +40,7 @@ class_after_link chunk generation word class =
     record class {
       history = class.history ++ change.Linked (life chunk generation) ∷ [];
       labels =
-          class.labels ++ Begun (life chunk generation) ∷ [];
+          class.labels ++ Linked (life chunk generation) ∷ [];
       steps = class.steps ++ step_of kind.Link chunk word None
           ∷ [];
     }
@@ -70,10 +70,7 @@ class_after_sweep_or_load chunk refs word class = if refs == 0 then class_after_
 
 -- the place is that of a segment
 abbrev pub IsInSegment : Place → Type 0
-IsInSegment Hot = Unit {0}
-IsInSegment Warm = Unit {0}
-IsInSegment Cold = Unit {0}
-IsInSegment _ = ⊥
+IsInSegment place = is_segment_place place ≡ true
 
 -- the view is that of a class's seat alone, which has the chunk at such a place
 pub record StandsAt (places : Place → Type 0) (chunk : ℕ) (seat : View) (class : ClassPart) : Type 0 where

@@ -1,7 +1,8 @@
 -- What a step tells: of the seat before it, the number found, and the seat after it.
-use Rattle.std.specs.Prelude.{◌≡◌, ℕ, ◌-◌, ◌/◌, ◌<◌, ◌≤◌, true, List, [], ◌∷◌, length, Option}
+use Rattle.std.specs.Prelude.{◌≡◌, ℕ, ◌-◌, ◌/◌, ◌<◌, ◌≤◌, Bool, true, List, [], ◌∷◌, length, Option}
 use Rattle.atomic_table.specs.Table.{Me, Step}
 use Rattle.bump_rules.specs.declared.items.Head.{Head}
+use Rattle.bump_rules.specs.declared.items.ItemId.{ItemId}
 use Rattle.bump_rules.specs.Lawful.{bit, Shows, IsUsed}
 use Rattle.bump_rules.specs.History.{Standing}
 use Rattle.bump_word.specs.Words.{Spells}
@@ -9,7 +10,7 @@ use Rattle.bump_steps.specs.declared.views.Empty.{Empty}
 use Rattle.bump_steps.specs.declared.views.Kind.{Kind}
 use Rattle.bump_steps.specs.declared.views.OwnStep.{OwnStep}
 use Rattle.bump_steps.specs.declared.views.View.{View}
-use Rattle.bump_steps.specs.Views.{named, saw, owners, strays, weight, Query, moves, settled, lanes_of}
+use Rattle.bump_steps.specs.Views.{named, saw, owners, strays, weight, Query, moves, settled, foreign, lanes_of}
 
 abbrev pub Sat : Type 0
 Sat = Me Empty View
@@ -37,6 +38,10 @@ Stands chunk view at = (weight chunk owners view ≡ 1) × (weight chunk (strays
 abbrev pub every : ℕ → ℕ → Query
 every worker number = record { test = λ l. true; worker = worker; number = number }
 
+-- the test lets no item pass whose chunk isn't of one of the view's classes
+abbrev pub IsOwn : (ItemId → Bool) → View → Type 0
+IsOwn test view = (life : ItemId) → test life ≡ true → 0 < weight life.chunk owners view
+
 -- What a view tells of the head that its chunk's word spells.
 pub record Told (chunk : ℕ) (view : View) (head : Head) : Type 0 where
   -- a reference's life is the chunk's
@@ -54,13 +59,14 @@ pub record Told (chunk : ℕ) (view : View) (head : Head) : Type 0 where
   pub saw : 0 < weight chunk (Rattle.bump_steps.specs.Views.saw head.generation) view → head.fetched ≡ true
   -- no life is named twice
   pub named : (g : ℕ) → weight chunk (Rattle.bump_steps.specs.Views.named g) view ≤ 1
-  -- the histories of the view name no bump twice, and each move of a bump whose lane is in the view is told by this
-  -- lane
+  -- the histories of the view name no bump twice, and speak of its classes' own chunks alone
   pub once : (w n : ℕ) → moves (every w n) view ≤ 1
-  pub told : (q : Query) → 0 < lanes_of q.worker view → moves q view ≤ settled q view
+  pub own : foreign view ≡ 0
+  -- they have as many moves of own items for a bump whose lane is in the view as this lane tells
+  pub told : (q : Query) → IsOwn q.test view → 0 < lanes_of q.worker view → moves q view ≡ settled q view
 
--- Each step is noted in the list of a part: a seat that has none makes no such step. The seat has the part of a
--- worker, or of a class.
+-- Each step is noted in the list of a part: a seat that has none makes no such step. The seat has the part of a worker,
+-- or of a class.
 abbrev pub HasWorker : View → Type 0
 HasWorker view = 0 < length view.workers
 

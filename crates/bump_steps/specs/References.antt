@@ -1,6 +1,5 @@
--- What a reader's steps on a reference tell: a worker looks at a head word and takes a reference by an exchange, and
--- a hold gives
--- its reference back, and reads its label. And what is told of a word that is seen without a seat.
+-- What a reader's steps on a reference tell: a worker looks at a head word and takes a reference by an exchange, and a
+-- hold gives its reference back, and reads its label. And what is told of a word that is seen without a seat.
 use Rattle.std.specs.Prelude.{◌≡◌, ◌≢◌, ℕ, ◌/◌, ◌^◌, ◌≤◌, List, [], ◌∷◌, ◌++◌}
 use Rattle.bump_rules.specs.declared.items.Head.{Head}
 use Rattle.bump_rules.specs.declared.items.ItemId.{ItemId}

@@ -1,12 +1,10 @@
--- The steps by which a worker takes the reference of a bump, sends it off, has it back and drops it. Those on the
--- head word are made
--- by the worker's seat with the hold joined to it. They are told what no view has: the limit, the life, and how many
--- exchanges
--- have failed if this step does.
+-- The steps by which a worker takes the reference of a bump, sends it off, has it back and drops it. Those on the head
+-- word are made by the worker's seat with the hold joined to it. They are told what no view has: the limit, the life,
+-- and how many exchanges have failed if this step does.
 use Rattle.std.specs.Prelude.{◌≡◌, ◌≢◌, ℕ, ◌+◌, ◌-◌, ◌<◌, ◌≤◌, List, [], ◌∷◌, Option, Some, None}
 use Rattle.bump_rules.specs.declared.items.Head.{Head}
 use Rattle.bump_rules.specs.declared.items.ItemId.{ItemId}
-use Rattle.bump_rules.specs.declared.bumps.Accounts.{Accounts}
+use Rattle.bump_rules.specs.Accounts.{counted_drop}
 use Rattle.bump_rules.specs.declared.commands.Dropped.{Dropped}
 use Rattle.bump_rules.specs.declared.commands.Dropped.TheVariants as dropped
 use Rattle.bump_rules.specs.Tables.{refused_of}
@@ -41,13 +39,6 @@ dropped_as refused.Busy = dropped.Busy
 abbrev pub judged_hand : Option Dropped → ItemId → Hand
 judged_hand None item = hand.Trying item
 judged_hand (Some why) item = hand.Clearing item
-
--- a drop is counted as one of its kind
-abbrev pub counted_drop : Option Dropped → Accounts → Accounts
-counted_drop None accounts = accounts
-counted_drop (Some dropped.RefsFull) accounts = record accounts { refs = accounts.refs + 1 }
-counted_drop (Some dropped.Busy) accounts = record accounts { busy = accounts.busy + 1 }
-counted_drop (Some dropped.Full) accounts = record accounts { full = accounts.full + 1 }
 
 -- the bump of the life is dropped, or the worker goes on to try
 abbrev pub judged : Option Dropped → ItemId → WorkerPart → WorkerPart

@@ -19,7 +19,7 @@ use Rattle.bump_steps.specs.declared.views.ClassPart.{ClassPart}
 use Rattle.bump_steps.specs.declared.views.LanePart.{LanePart}
 use Rattle.bump_steps.specs.declared.views.WorkerPart.{WorkerPart}
 use Rattle.bump_steps.specs.declared.views.View.{View}
-use Rattle.bump_steps.specs.Views.{Measure, held, named, saw, owners, strays, mislabels, misreads, tally, claims, evidence, Query, moves, settled, foreign, AreLabelled, workers_of, lanes_of, untidy}
+use Rattle.bump_steps.specs.Views.{Measure, held, named, saw, owners, strays, mislabels, misreads, weight, tally, claims, evidence, Query, moves, settled, foreign, AreLabelled, workers_of, lanes_of, untidy}
 
 -- A chunk is sound: n is its head word, x its label word, and t what all views together count of it.
 pub record Sound (limit word label : ℕ) (tally_of : Measure → ℕ) : Type 0 where
@@ -55,6 +55,8 @@ pub record Kept (key : Config) (state : State Empty View) : Type 0 where
   pub wide : length state.words ≡ 3 * chunks key + 9
   pub small : HasFittingLimit key
   pub each : (c : ℕ) → c < chunks key → SoundAt key state c
+  -- no chunk has two classes
+  pub one_class : (c : ℕ) → total (weight c owners) state.views ≤ 1
   -- each applied entry is true
   pub true_entries : (w : ℕ) (a : AppliedBump) → 0 < total (claims w a) state.views
       → 0 < total (evidence w a) state.views

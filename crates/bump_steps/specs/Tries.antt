@@ -1,6 +1,5 @@
--- What an attempt to take a reference comes to, for a hold or for a bump, by the heads that it found: the first one
--- by its load, and more
--- by the exchanges that failed, in order.
+-- What an attempt to take a reference comes to, for a hold or for a bump, by the heads that it found: the first one by
+-- its load, and more by the exchanges that failed, in order.
 use Rattle.std.specs.Prelude.{◌≡◌, ◌≢◌, ℕ, ◌<◌, ◌≤◌, ◌==◌, if◌then◌else◌, List, [], ◌∷◌, ◌++◌, length, Option, Some, None}
 use Rattle.bump_rules.specs.declared.commands.Dropped.{Dropped}
 use Rattle.bump_rules.specs.declared.items.Head.{Head}
@@ -68,9 +67,8 @@ refused_by IsStale = Some Stale
 refused_by IsRefsFull = Some RefsFull
 refused_by IsHeld = None
 
--- Why no reference is taken where so many exchanges failed, and this head was found last, if none is: it is busy
--- where 8 failed, whatever
--- the last of them found, and else the get table decides.
+-- Why no reference is taken where so many exchanges failed, and this head was found last, if none is: it is busy where
+-- 8 failed, whatever the last of them found, and else the get table decides.
 abbrev pub take_refused : ℕ → ItemId → ℕ → Head → Option TakeRefusal
 take_refused limit item failed found = if failed == most_exchanges then Some Busy else refused_by
     (get_of limit item.generation found)
@@ -103,9 +101,8 @@ view_after_attempt limit item first more view = record view {
 
 -- ---- for a bump
 
--- Why the bump is dropped, if it is: the last step decides by the rule of an attempt, which was the load, or one of
--- the exchanges that
--- failed.
+-- Why the bump is dropped, if it is: the last step decides by the rule of an attempt, which was the load, or one of the
+-- exchanges that failed.
 abbrev pub drop_of : ℕ → Head → List Head → Option Dropped
 drop_of limit first more = refused_of limit (length more) (last_found first more)
 

@@ -1,6 +1,5 @@
 -- What views count for one chunk, what they claim of applied bumps, and what they have of moves for bumps. The rule
--- reads views
--- through these sums alone.
+-- reads views through these sums alone.
 use Rattle.std.specs.Prelude.{ℕ, ◌+◌, ◌*◌, ◌/◌, ◌%◌, ◌^◌, ◌<◌, ◌≤◌, ◌≡◌, Bool, true, false, cond, not, ◌&&◌, ◌==◌, List, [], ◌∷◌, Option, Some, None}
 use Rattle.bump_rules.specs.declared.items.ItemId.{ItemId}
 use Rattle.bump_rules.specs.declared.bumps.Outcome.{Outcome}
@@ -172,8 +171,7 @@ abbrev pub of_owner : ℕ → (ClassPart → ℕ) → ClassPart → ℕ
 of_owner chunk counted class = cond (owns chunk class) (counted class) 0
 
 -- How much a view has that shows an entry of worker w's lane to be true, by its outcome: the history and the steps of
--- the class that has
--- the entry's chunk, and the lane's own steps.
+-- the class that has the entry's chunk, and the lane's own steps.
 abbrev pub shown_by : Outcome → ℕ → AppliedBump → View → ℕ
 shown_by outcome.Moved worker entry view =
     total (of_owner entry.life.chunk (λ k. how_many (is_move_for (is_same entry.life) worker entry.number) k.history))
@@ -217,8 +215,7 @@ abbrev pub foreign : View → ℕ
 foreign view = total foreign_in view.classes
 
 -- What a class's part has of labels: each of its chunks that isn't free has its life's label, the last one that was
--- stored for the chunk,
--- and no life to come has begun.
+-- stored for the chunk, and no life to come has begun.
 pub record HasLabels (class : ClassPart) : Type 0 where
   pub labelled : (c : ℕ) → owns c class ≡ true → IsUsed (standing class c).0
       → label_of_life (life c (standing class c).1) 0 class.labels ≡ Some (last_label class c)
@@ -260,10 +257,9 @@ untidy_in this_lane = cond (in_order 0 this_lane.applied (bump_aboard this_lane.
 abbrev pub untidy : View → ℕ
 untidy view = total untidy_in view.lanes
 
--- A view may become another one: what it adds to the entries is shown by what it has, each move is settled, no entry
--- of a chunk of another
--- class joins a history, lives have their labels, the workers and the lanes stay the same ones, and the lanes stay in
--- order.
+-- A view may become another one: what it adds to the entries is shown by what it has, each move is settled, no entry of
+-- a chunk of another class joins a history, lives have their labels, the workers and the lanes stay the same ones, and
+-- the lanes stay in order.
 pub record IsBacked (before after : View) : Type 0 where
   pub backs : (worker : ℕ) (a : AppliedBump) → (evidence worker a before ≤ evidence worker a after)
       × (claims worker a before < claims worker a after → 0 < evidence worker a after)

@@ -1,4 +1,5 @@
--- The table of words, as it is named outside: which table it is, of which configuration, and of which chunks it has the words.
+-- The table of words, as it is named outside: which table it is, of which configuration, and of which chunks it has the
+-- words.
 use Rattle.std.specs.Prelude.{ℕ, ◌+◌, ◌*◌, ◌<◌}
 use Rattle.atomic_table.specs.Seated.{TableId}
 use Rattle.bump_rules.specs.declared.configs.Config.{Config}

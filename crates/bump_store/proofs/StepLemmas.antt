@@ -1,5 +1,7 @@
 -- How many steps a get and a touch make.
-use Rattle.std.proofs.Common.{◌≡◌, ℕ, ◌+◌, ◌≤◌, Bool, true, false, cond, ◌==◌, nat_lt, ltb, if◌then◌else◌, List, [], ◌∷◌, ◌++◌, length, Option, Some, None, refl, sym, ap, ◌∙◌, subst, arith, true≢false}
+use Rattle.std.proofs.Common.{◌≡◌, ℕ, ◌+◌, ◌≤◌, Bool, true, false, cond, ◌==◌, nat_lt, ltb, if◌then◌else◌, List, []}
+use Rattle.std.proofs.Common.{◌∷◌, ◌++◌, length, Option, Some, None, refl, sym, ap, ◌∙◌, subst, arith, true≢false}
+use Rattle.std.proofs.Common.{Result}
 use Rattle.std.proofs.lemmas.Bool.{ltb-false, ltb-true}
 use Rattle.bump_rules.specs.declared.items.Head.{Head}
 use Rattle.bump_rules.specs.declared.items.ItemId.{ItemId}
@@ -17,8 +19,12 @@ use Rattle.bump_steps.specs.declared.refusals.TakeRefusal.{TakeRefusal}
 use Rattle.bump_steps.specs.declared.refusals.TakeRefusal.TheVariants.{Busy}
 use Rattle.bump_steps.specs.declared.views.OwnStep.{OwnStep}
 use Rattle.bump_steps.specs.Tries.{loads, last_found, takes, steps_of, refusal_of, refused_by}
+use Rattle.bump_readers.specs.declared.views.HoldView.{HoldView}
+use Rattle.bump_readers.specs.declared.views.WorkerView.{WorkerView}
+use Rattle.bump_readers.specs.Taking.{Took}
 use Rattle.bump_store.specs.StepCounts.{is_try, is_other, MakesAtMost}
-use Rattle.bump_store.specs.Touches.{Findings, why_dropped, answer_of, is_attempted, second_steps, end_steps, touch_steps}
+use Rattle.bump_store.specs.Touches.{Findings, why_dropped, answer_of, is_attempted, second_steps, end_steps}
+use Rattle.bump_store.specs.Touches.{attempt_steps, touch_steps}
 
 abbrev tries : OwnStep → ℕ
 tries x = cond (is_try x) 1 0
@@ -41,7 +47,8 @@ below n most is = by (ltb n 8) refl
   where
     by : (b : Bool) → ltb n 8 ≡ b → n ≤ 7
     by true e = omega (arith, ltb-true n 8 e)
-    by false e = let eight : n ≡ 8 = omega (arith, most, ltb-false n 8 e) in absurd (true≢false (sym (ap (λ (k : ℕ). k == 8) eight) ∙ is))
+    by false e = let eight : n ≡ 8 = omega (arith, most, ltb-false n 8 e) in
+        absurd (true≢false (sym (ap (λ (k : ℕ). k == 8) eight) ∙ is))
 
 -- ---- a get
 
@@ -50,7 +57,8 @@ took_left : (all : Bool) (o : Option TakeRefusal) → (if all then Some Busy els
 took_left true o e = absurd (cc e)
 took_left false o e = refl
 
-takes_tries : (c : ℕ) (h : Head) (n : ℕ) (o : Option TakeRefusal) → n ≤ 8 → (o ≡ None → n ≤ 7) → n + total tries (takes c o h) ≤ 8
+takes_tries : (c : ℕ) (h : Head) (n : ℕ) (o : Option TakeRefusal) → n ≤ 8 → (o ≡ None → n ≤ 7)
+    → n + total tries (takes c o h) ≤ 8
 takes_tries c h n None most left = omega (arith, left refl)
 takes_tries c h n (Some why) most left = omega (arith, most)
 
@@ -58,16 +66,31 @@ takes_others : (c : ℕ) (h : Head) (o : Option TakeRefusal) → total others (t
 takes_others c h None = refl
 takes_others c h (Some why) = refl
 
-pub get_steps : (limit : ℕ) (l : ItemId) (first : Head) (more : List Head) (before after : List OwnStep) → length more ≤ 8 → after ≡ before ++ steps_of limit l first more → MakesAtMost 9 0 before after
-get_steps limit l first more before after most grown =
+-- the steps of a get that found these heads are few
+found_steps : (limit : ℕ) (l : ItemId) (first : Head) (more : List Head) (before after : List OwnStep)
+    → length more ≤ 8 → after ≡ before ++ steps_of limit l first more → MakesAtMost 9 0 before after
+found_steps limit l first more before after most grown =
+    let c = l.chunk in
+    let decisive = last_found first more in
+    let looked = loads c (first ∷ more) in
     let o = refusal_of limit l first more in
-    let left = λ (none : o ≡ None). below (length more) most (took_left (length more == 8) (refused_by (get_of limit l.generation (last_found first more))) none) in
-    let last = takes l.chunk o (last_found first more) in record {
+    let judged = refused_by (get_of limit l.generation decisive) in
+    let left = λ (none : o ≡ None). below (length more) most (took_left (length more == 8) judged none) in
+    let last = takes c o decisive in
+    let few = takes_tries c decisive (length more) o most left in record {
       made = steps_of limit l first more;
       grown = grown;
-      few_tries = omega (arith, total_append tries (loads l.chunk (first ∷ more)) last, loads_tries l.chunk (first ∷ more), takes_tries l.chunk (last_found first more) (length more) o most left);
-      few_others = omega (arith, total_append others (loads l.chunk (first ∷ more)) last, loads_others l.chunk (first ∷ more), takes_others l.chunk (last_found first more) o);
+      few_tries = omega (arith, total_append tries looked last, loads_tries c (first ∷ more), few);
+      few_others =
+          omega (arith, total_append others looked last, loads_others c (first ∷ more), takes_others c decisive o);
     }
+
+-- so those of a get are, whichever item it was of
+pub get_steps : (limit : ℕ) (l : ItemId) (before after : WorkerView) (answered : Result HoldView TakeRefusal)
+    → ((first : Head) × (more : List Head) × Took limit l before after answered first more)
+    → MakesAtMost 9 0 before.part.steps after.part.steps
+get_steps limit l before after answered t =
+    found_steps limit l t.0 t.1 _ _ t.2.found.most (ap (λ (v : WorkerView). v.part.steps) t.2.steps)
 
 -- ---- a touch
 
@@ -79,17 +102,34 @@ second_others : (two : Bool) (l : ItemId) (f : Findings) → total others (secon
 second_others true l f = omega arith
 second_others false l f = omega arith
 
+-- why an attempt is dropped, by whether all exchanges failed, whether there was room for a reference, and the ring
+abbrev drop_by : Bool → Bool → Room → Option Dropped
+drop_by all below room =
+    dropped_for_room room (if all then Some dropped.Busy else (if below then None else Some dropped.RefsFull))
+
 -- where the reference was had an exchange was left
-had : (all below : Bool) (room : Room) → dropped_for_room room (if all then Some dropped.Busy else (if below then None else Some dropped.RefsFull)) ≡ None → all ≡ false
+had : (all below : Bool) (room : Room) → drop_by all below room ≡ None → all ≡ false
 had true below room e = absurd (cc e)
 had false below room e = refl
 
-had_full : (all below : Bool) (room : Room) → dropped_for_room room (if all then Some dropped.Busy else (if below then None else Some dropped.RefsFull)) ≡ Some dropped.Full → all ≡ false
+had_full : (all below : Bool) (room : Room) → drop_by all below room ≡ Some dropped.Full → all ≡ false
 had_full true below room e = absurd (cc e)
 had_full false below room e = refl
 
 module _ (limit : ℕ) (l : ItemId) (now : ℕ) (f : Findings) (n : ℕ) where
-  few_tries : (is_attempted (answer_of limit f n) ≡ true → length f.failed ≤ 8) → total tries (touch_steps (answer_of limit f n) l now f) ≤ 9
+  -- the load and the exchanges that failed
+  abbrev looked : List OwnStep
+  looked = loads l.chunk (f.look ∷ f.failed)
+
+  -- how many tries and others an attempt makes that ends so
+  attempt_tries : (t : Touch) → total tries (attempt_steps t l f) ≡ length f.failed + 1 + total tries (end_steps t l f)
+  attempt_tries t = omega (arith, total_append tries looked (end_steps t l f), loads_tries l.chunk f.failed)
+
+  attempt_others : (t : Touch) → total others (attempt_steps t l f) ≡ total others (end_steps t l f)
+  attempt_others t = omega (arith, total_append others looked (end_steps t l f), loads_others l.chunk f.failed)
+
+  few_tries : (is_attempted (answer_of limit f n) ≡ true → length f.failed ≤ 8)
+      → total tries (touch_steps (answer_of limit f n) l now f) ≤ 9
   few_tries = by (hit_of f.first f.second) (why_dropped limit f) refl
     where
       all : Bool
@@ -98,14 +138,20 @@ module _ (limit : ℕ) (l : ItemId) (now : ℕ) (f : Findings) (n : ℕ) where
       room_left : Bool
       room_left = nat_lt (last_found f.look f.failed).refs limit
 
-      by : (h : Hit) (d : Option Dropped) → why_dropped limit f ≡ d → (is_attempted (touch_of h d n) ≡ true → length f.failed ≤ 8) → total tries (touch_steps (touch_of h d n) l now f) ≤ 9
+      by : (h : Hit) (d : Option Dropped) → why_dropped limit f ≡ d
+          → (is_attempted (touch_of h d n) ≡ true → length f.failed ≤ 8)
+          → total tries (touch_steps (touch_of h d n) l now f) ≤ 9
       by hit.First d e few = omega arith
       by hit.Already d e few = omega (arith, second_tries (makes_second f.first) l f)
       by hit.Marked d e few = omega arith
-      by hit.Attempts None e few = omega (arith, total_append tries (loads l.chunk (f.look ∷ f.failed)) (end_steps (touch.Queued n) l f), loads_tries l.chunk f.failed, below (length f.failed) (few refl) (had all room_left f.room e))
-      by hit.Attempts (Some dropped.Full) e few = omega (arith, total_append tries (loads l.chunk (f.look ∷ f.failed)) (end_steps (touch.Dropped dropped.Full) l f), loads_tries l.chunk f.failed, below (length f.failed) (few refl) (had_full all room_left f.room e))
-      by hit.Attempts (Some dropped.Busy) e few = omega (arith, total_append tries (loads l.chunk (f.look ∷ f.failed)) (end_steps (touch.Dropped dropped.Busy) l f), loads_tries l.chunk f.failed, few refl)
-      by hit.Attempts (Some dropped.RefsFull) e few = omega (arith, total_append tries (loads l.chunk (f.look ∷ f.failed)) (end_steps (touch.Dropped dropped.RefsFull) l f), loads_tries l.chunk f.failed, few refl)
+      by hit.Attempts None e few = let left = below (length f.failed) (few refl) (had all room_left f.room e) in
+          omega (arith, attempt_tries (touch.Queued n), left)
+      by hit.Attempts (Some dropped.Full) e few =
+          let left = below (length f.failed) (few refl) (had_full all room_left f.room e) in
+          omega (arith, attempt_tries (touch.Dropped dropped.Full), left)
+      by hit.Attempts (Some dropped.Busy) e few = omega (arith, attempt_tries (touch.Dropped dropped.Busy), few refl)
+      by hit.Attempts (Some dropped.RefsFull) e few =
+          omega (arith, attempt_tries (touch.Dropped dropped.RefsFull), few refl)
 
   few_others : total others (touch_steps (answer_of limit f n) l now f) ≤ 4
   few_others = by (hit_of f.first f.second) (why_dropped limit f)
@@ -114,15 +160,18 @@ module _ (limit : ℕ) (l : ItemId) (now : ℕ) (f : Findings) (n : ℕ) where
       by hit.First d = omega arith
       by hit.Already d = omega (arith, second_others (makes_second f.first) l f)
       by hit.Marked d = omega arith
-      by hit.Attempts None = omega (arith, total_append others (loads l.chunk (f.look ∷ f.failed)) (end_steps (touch.Queued n) l f), loads_others l.chunk f.failed)
-      by hit.Attempts (Some dropped.Full) = omega (arith, total_append others (loads l.chunk (f.look ∷ f.failed)) (end_steps (touch.Dropped dropped.Full) l f), loads_others l.chunk f.failed)
-      by hit.Attempts (Some dropped.Busy) = omega (arith, total_append others (loads l.chunk (f.look ∷ f.failed)) (end_steps (touch.Dropped dropped.Busy) l f), loads_others l.chunk f.failed)
-      by hit.Attempts (Some dropped.RefsFull) = omega (arith, total_append others (loads l.chunk (f.look ∷ f.failed)) (end_steps (touch.Dropped dropped.RefsFull) l f), loads_others l.chunk f.failed)
+      by hit.Attempts None = omega (arith, attempt_others (touch.Queued n))
+      by hit.Attempts (Some dropped.Full) = omega (arith, attempt_others (touch.Dropped dropped.Full))
+      by hit.Attempts (Some dropped.Busy) = omega (arith, attempt_others (touch.Dropped dropped.Busy))
+      by hit.Attempts (Some dropped.RefsFull) = omega (arith, attempt_others (touch.Dropped dropped.RefsFull))
 
-  pub touch_makes : (answered : Touch) (before after : List OwnStep) → answered ≡ answer_of limit f n → (is_attempted answered ≡ true → length f.failed ≤ 8) → after ≡ before ++ touch_steps answered l now f → MakesAtMost 9 4 before after
-  touch_makes answered before after is few grown = record {
-    made = touch_steps answered l now f;
-    grown = grown;
-    few_tries = subst (λ (t : Touch). total tries (touch_steps t l now f) ≤ 9) (sym is) (few_tries (subst (λ (t : Touch). is_attempted t ≡ true → length f.failed ≤ 8) is few));
-    few_others = subst (λ (t : Touch). total others (touch_steps t l now f) ≤ 4) (sym is) few_others;
-  }
+  pub touch_makes : (answered : Touch) (before after : List OwnStep) → answered ≡ answer_of limit f n
+      → (is_attempted answered ≡ true → length f.failed ≤ 8) → after ≡ before ++ touch_steps answered l now f
+      → MakesAtMost 9 4 before after
+  touch_makes answered before after is few grown =
+      let few' = subst (λ (t : Touch). is_attempted t ≡ true → length f.failed ≤ 8) is few in record {
+        made = touch_steps answered l now f;
+        grown = grown;
+        few_tries = subst (λ (t : Touch). total tries (touch_steps t l now f) ≤ 9) (sym is) (few_tries few');
+        few_others = subst (λ (t : Touch). total others (touch_steps t l now f) ≤ 4) (sym is) few_others;
+      }

@@ -6,33 +6,29 @@ ghost use Rattle.bump_store.specs.Counts.{counted};
 
 use bump_rules::{Accounts, Dropped, Touch};
 
-// The counts of a worker after a touch with this answer, in one place, so that no drop is forgotten.
-pub fn counted_as(counts: Accounts, touch: Touch) -> Accounts
-    requires add_up { IsAccounts counts counts.accepted hand.Idle }
-    requires room { counts.attempted < most_attempts }
-    ensures { result ≡ counted touch counts }
+// Counts a touch with this answer, in one place, so that no drop is forgotten. One that attempts no bump writes nothing.
+pub fn count(counts: &mut Accounts, touch: Touch)
+    requires add_up { IsAccounts counts.old counts.old.accepted hand.Idle }
+    requires room { counts.old.attempted < most_attempts }
+    ensures { counts.new ≡ counted touch counts.old }
 {
     match touch {
-        Touch::Queued(_) => Accounts {
-            attempted: counts.attempted + 1,
-            accepted: counts.accepted + 1,
-            ..counts
-        },
-        Touch::Dropped(Dropped::Full) => Accounts {
-            attempted: counts.attempted + 1,
-            full: counts.full + 1,
-            ..counts
-        },
-        Touch::Dropped(Dropped::Busy) => Accounts {
-            attempted: counts.attempted + 1,
-            busy: counts.busy + 1,
-            ..counts
-        },
-        Touch::Dropped(Dropped::RefsFull) => Accounts {
-            attempted: counts.attempted + 1,
-            refs: counts.refs + 1,
-            ..counts
-        },
-        _ => counts,
+        Touch::Queued(_) => {
+            counts.attempted += 1;
+            counts.accepted += 1;
+        }
+        Touch::Dropped(Dropped::Full) => {
+            counts.attempted += 1;
+            counts.full += 1;
+        }
+        Touch::Dropped(Dropped::Busy) => {
+            counts.attempted += 1;
+            counts.busy += 1;
+        }
+        Touch::Dropped(Dropped::RefsFull) => {
+            counts.attempted += 1;
+            counts.refs += 1;
+        }
+        _ => {}
     }
 }

@@ -6,6 +6,7 @@ ghost use Rattle.bump_rules.specs.declared.commands.Touch.TheVariants as touch;
 ghost use Rattle.bump_rules.specs.Rings.{most_attempts};
 ghost use Rattle.bump_rules.specs.Tables.{is_cold};
 ghost use Rattle.bump_steps.specs.declared.views.HoldPart.{HoldPart as TheHoldPart};
+ghost use Rattle.bump_steps.specs.Rides.{dropped_as};
 ghost use Rattle.bump_steps.specs.Rule.{chunks as all_chunks};
 ghost use Rattle.bump_readers.specs.Touching.{fetches_of};
 ghost use Rattle.bump_store.specs.declared.refusals.GetRefusal.TheVariants as refused;
@@ -14,7 +15,7 @@ ghost use Rattle.bump_store.specs.StepCounts.{MakesAtMost};
 ghost use Rattle.bump_store.specs.Touches.{Findings as TheFindings, Touched};
 ghost use Rattle.bump_store.specs.Attempts.{Attempted, Hit as DoesHit};
 
-use crate::counting::counted_as;
+use crate::counting::count;
 use crate::holds::Hold;
 use crate::refusals::GetRefusal;
 use crate::workers::Worker;
@@ -31,8 +32,19 @@ fn is_cold(segment: Segment) -> bool
     matches!(segment, Segment::Cold)
 }
 
+// Why a bump is dropped that got no reference.
+fn dropped_as(refusal: RideRefusal) -> Dropped
+    ensures { result ≡ dropped_as refusal }
+{
+    match refusal {
+        RideRefusal::RefsFull => Dropped::RefsFull,
+        RideRefusal::Busy => Dropped::Busy,
+    }
+}
+
 // An attempt to bump the item, which the worker tries: the bump's reference is taken, and it is offered to the ring.
 // After a drop ACTIVE is cleared.
+#[inline(never)]
 fn attempt<N: Name, R: Wait>(
     rt: &R,
     heads: &ReaderHeads<N>,
@@ -56,14 +68,14 @@ fn attempt<N: Name, R: Wait>(
                 Dropped::Full
             }
         },
-        Err(RideRefusal::RefsFull) => Dropped::RefsFull,
-        Err(RideRefusal::Busy) => Dropped::Busy,
+        Err(refusal) => dropped_as(refusal),
     };
     heads.unmark(seat, life);
     Touch::Dropped(dropped)
 }
 
 // A hit of the item, whose hold is joined to the worker's seat.
+#[inline(always)]
 fn hit<N: Name, R: Wait>(
     rt: &R,
     heads: &ReaderHeads<N>,
@@ -109,6 +121,7 @@ impl<N: Name> Worker<N> {
     ///
     /// A refusal changes nothing: all that is new to the worker is the list of its steps, of which none changed a
     /// word.
+    #[inline(always)]
     pub fn get(&mut self, heads: &ReaderHeads<N>, id: ItemId) -> Result<Hold<N>, GetRefusal>
         ensures missing { all_chunks heads.now ≤ id.chunk → (result ≡ Err refused.NoSuchChunk) × (self.new ≡ self.old) }
         ensures got { id.chunk < all_chunks heads.now → (first : TheHead) × (more : List TheHead) × Got heads.now.refs_limit id self.old self.new result first more }
@@ -143,6 +156,7 @@ impl<N: Name> Worker<N> {
     ///
     /// Each attempt is counted, and how it ended. A worker that attempted 4,611,686,018,427,387,903 bumps makes no
     /// further step, and answers Exhausted.
+    #[inline(always)]
     pub fn touch<R: Wait>(
         &mut self,
         rt: &R,
@@ -169,7 +183,7 @@ impl<N: Name> Worker<N> {
         heads.hold_in(seat, &mut hold.held);
         let touch = hit(rt, heads, seat, sender, life, now);
         heads.hold_out(seat, &mut hold.held);
-        *counts = counted_as(*counts, touch);
+        count(counts, touch);
         touch
     }
 }

@@ -54,16 +54,31 @@ pub record Fields (n : ℕ) (h : Head) : Type 0 where
   pub wide : n < 2 ^ 64
 
 -- fields that fit do not touch each other
-fields_apart : (r l f a s g : ℕ) → r < 2 ^ refs_width → l ≤ 1 → f ≤ 1 → a ≤ 1 → s < 2 ^ segment_width → g < 2 ^ generation_width →
-    let n : ℕ = r + 2 ^ linked_first * l + 2 ^ fetched_first * f + 2 ^ active_first * a + 2 ^ segment_first * s + 2 ^ generation_first * g in
-    (n % 2 ^ refs_width ≡ r) × (n / 2 ^ linked_first % 2 ≡ l) × (n / 2 ^ fetched_first % 2 ≡ f) × (n / 2 ^ active_first % 2 ≡ a) × (segment_bits n ≡ s) × (zeros_of n ≡ 0) × (n / 2 ^ generation_first ≡ g) × (n < 2 ^ 64)
+fields_apart : (r l f a s g : ℕ) → r < 2 ^ refs_width → l ≤ 1 → f ≤ 1 → a ≤ 1 → s < 2 ^ segment_width
+    → g < 2 ^ generation_width →
+    let n : ℕ = r + 2 ^ linked_first * l + 2 ^ fetched_first * f + 2 ^ active_first * a + 2 ^ segment_first * s
+    + 2 ^ generation_first * g in
+    (n % 2 ^ refs_width ≡ r) × (n / 2 ^ linked_first % 2 ≡ l) × (n / 2 ^ fetched_first % 2 ≡ f)
+    × (n / 2 ^ active_first % 2 ≡ a) × (segment_bits n ≡ s) × (zeros_of n ≡ 0) × (n / 2 ^ generation_first ≡ g)
+    × (n < 2 ^ 64)
 fields_apart r l f a s g refs_fit linked_fits fetched_fits active_fits segment_fits generation_fits =
     (omega arith, omega arith, omega arith, omega arith, omega arith, omega arith, omega arith, omega arith)
 
 -- the fields of a Head's word
 pub fields : (n : ℕ) (h : Head) → Spells n h → Fields n h
-fields n h spelled = rw spelled.0 (let t = fields_apart h.refs (bit h.linked) (bit h.fetched) (bit h.active) (number_of h.segment) h.generation spelled.1.0 (bit_le h.linked) (bit_le h.fetched) (bit_le h.active) (number_lt h.segment) spelled.1.1 in
-    record { refs = t.0; linked = t.1; fetched = t.2; active = t.3; segment = t.4; zeros = t.5; generation = t.6; wide = t.7 })
+fields n h spelled = rw spelled.0 (let t =
+    fields_apart h.refs (bit h.linked) (bit h.fetched) (bit h.active) (number_of h.segment) h.generation spelled.1.0
+    (bit_le h.linked) (bit_le h.fetched) (bit_le h.active) (number_lt h.segment) spelled.1.1 in
+    record {
+      refs = t.0;
+      linked = t.1;
+      fetched = t.2;
+      active = t.3;
+      segment = t.4;
+      zeros = t.5;
+      generation = t.6;
+      wide = t.7;
+    })
 
 -- a number is the word of one Head at most
 pub one_head : (n : ℕ) (g h : Head) → Spells n g → Spells n h → g ≡ h
@@ -74,10 +89,18 @@ one_head n g h a b = let x = fields n g a in let y = fields n h b in
     let active = bit_one g.active h.active (sym x.active ∙ y.active) in
     let segment = number_one g.segment h.segment (sym x.segment ∙ y.segment) in
     let generation : g.generation ≡ h.generation = sym x.generation ∙ y.generation in
-    λ k. record { refs = refs k; linked = linked k; fetched = fetched k; active = active k; segment = segment k; generation = generation k }
+    λ k. record {
+      refs = refs k;
+      linked = linked k;
+      fetched = fetched k;
+      active = active k;
+      segment = segment k;
+      generation = generation k;
+    }
 
 -- what is found at the word of a Head is that Head
-pub there : (h : Head) (n : ℕ) (answer : Option Head) → h.refs < 2 ^ refs_width → h.generation < 2 ^ generation_width → IsPacked h n → FindsHead n answer → answer ≡ Some h
+pub there : (h : Head) (n : ℕ) (answer : Option Head) → h.refs < 2 ^ refs_width → h.generation < 2 ^ generation_width
+    → IsPacked h n → FindsHead n answer → answer ≡ Some h
 there h n answer refs generation packed every = every h (packed, (refs, generation))
 
 -- the word of a Head that was read is the number that it was read of

@@ -10,7 +10,8 @@ Changes step may change = (n : ℕ) (h : Head) → Spells n h → may h → Spel
 
 -- In the word of a Head the mask's bit is set exactly where the flag is.
 abbrev pub Tests : ℕ → (Head → Bool) → Type 0
-Tests mask flag = (n : ℕ) (h : Head) → Spells n h → ((bit_and n mask ≢ 0) ↔ (flag h ≡ true)) × ((bit_and n mask ≡ 0) ↔ (flag h ≡ false))
+Tests mask flag = (n : ℕ) (h : Head) → Spells n h → ((bit_and n mask ≢ 0) ↔ (flag h ≡ true))
+    × ((bit_and n mask ≡ 0) ↔ (flag h ≡ false))
 
 -- Of the word of a Head, the field is read.
 abbrev pub Reads : (ℕ → ℕ) → (Head → ℕ) → Type 0

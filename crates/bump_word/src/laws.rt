@@ -12,7 +12,7 @@ ghost use Rattle.bump_rules.specs.Configs.{most_refs};
 ghost use Rattle.bump_word.specs.Layout.{refs_width, segment_first, generation_first, generation_width};
 ghost use Rattle.bump_word.specs.Words.{Spells, IsPacked, FindsHead, number_of, word_of, segment_bits, segment_change};
 ghost use Rattle.bump_word.specs.Steps.{Changes, Tests, Reads};
-ghost use Rattle.bump_rules.specs.Heads.{newborn, severed_head, one_more as with_one_more, one_fewer, fetched_head, active_head, cleared_head, moved_head};
+ghost use Rattle.bump_rules.specs.Heads.{linked_head, unlinked_head, one_more as with_one_more, one_fewer, fetched_head, marked_head, cleared_head, moved_head};
 
 use crate::layout::{ACTIVE, FETCHED, GENERATION_AT, LINKED, REFS_AT, REFS_MAX, SEGMENT_AT};
 use bump_rules::MAX_REFS;
@@ -65,7 +65,7 @@ pub fn set_fetched()
 
 /// A further hit sets ACTIVE (memcached's `ITEM_ACTIVE`) by an or.
 pub fn set_active()
-    ensures { Changes (λ n. bit_or n ACTIVE) (λ _. ⊤) active_head }
+    ensures { Changes (λ n. bit_or n ACTIVE) (λ _. ⊤) marked_head }
 {}
 
 /// ACTIVE is cleared by an and. This is the step of a holder whose bump was dropped, and the one that is made under the
@@ -78,7 +78,7 @@ pub fn clear_active()
 /// and the count at least 1.
 pub fn unlink()
     ensures { Changes (λ n. (n + (2 ^ 64 - LINK)) % 2 ^ 64)
-        (λ h. (h.linked ≡ true) × (0 < h.refs)) severed_head }
+        (λ h. (h.linked ≡ true) × (0 < h.refs)) unlinked_head }
 {}
 
 /// An item goes to another segment, or stays in its own, by an exclusive or with what
@@ -109,8 +109,8 @@ pub fn segment_changes()
 /// A new life begins with one store, whatever word was there: one reference, linked, without marks, in HOT.
 pub fn new_life()
     ensures stored { (g : ℕ) → g < 2 ^ generation_width →
-        Changes (λ _. word_of (newborn g)) (λ _. ⊤) (λ _. newborn g) }
-    ensures number { (g : ℕ) → word_of (newborn g) ≡ LINK + g * ONE_GENERATION }
+        Changes (λ _. word_of (linked_head g)) (λ _. ⊤) (λ _. linked_head g) }
+    ensures number { (g : ℕ) → word_of (linked_head g) ≡ LINK + g * ONE_GENERATION }
 {}
 
 /// LINKED is set where the item is linked (memcached's `ITEM_LINKED`).

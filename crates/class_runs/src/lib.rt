@@ -1,8 +1,11 @@
-//! Runs of a class, as tests: the worked calls of a Book with their answers, and a Book beside a World that gets the same commands.
+//! Runs of a class, as tests: the worked calls of a Book and of a lane with their answers, and a Book beside a World
+//! that gets the same commands.
 #![tactic(auto)]
 
 #[cfg(test)]
 mod books;
+#[cfg(test)]
+mod lanes;
 #[cfg(test)]
 mod readers;
 #[cfg(test)]

@@ -37,8 +37,8 @@ fn expect_list(
     Ok(())
 }
 
-// Whether the list that holds a node has others too, or `None` where there is no such node: a function that knows nothing
-// of its arguments, and asks.
+// Whether the list that holds a node has others too, or `None` where there is no such node: a function that knows
+// nothing of its arguments, and asks.
 fn has_company(links: &Links, node: u32) -> Option<bool> {
     if node >= links.nodes() {
         return None;

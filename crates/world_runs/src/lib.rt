@@ -1,4 +1,5 @@
-//! Runs of a World, as tests: known answers of its events and commands, the allocations that they refuse, and what its types answer.
+//! Runs of a World, as tests: known answers of its events and commands, the allocations that they
+//! refuse, and what its types answer.
 #![tactic(auto)]
 
 #[cfg(test)]

@@ -27,7 +27,8 @@ fn world(alloc: Global, capacity: u32, hot: u32, warm: u32) -> Option<World>
     World::new(alloc, &config).ok()
 }
 
-/// A World of some classes, each of so many chunks with limits of HOT and WARM. The numbers are those of a configuration.
+/// A World of some classes, each of so many chunks with limits of HOT and WARM. The
+/// numbers are those of a configuration.
 fn store(alloc: Global, numbers: (u32, u32, u32, u32), sizes: &[(u32, u32, u32)]) -> Option<World> {
     let mut classes = Vec::new(alloc);
     for (chunks, hot, warm) in sizes.iter() {

@@ -20,7 +20,8 @@ use Rattle.bump_core.proofs.commands.HitsAsEvents.{touch_made}
 use Rattle.bump_core.proofs.commands.LanesAsEvents.{next_made}
 
 -- a command leaves the state that its events leave
-pub commands_are_events : (s : State) → IsLawful s → (c : Command) → is_allowed s c ≡ true → run_of s (events_of s c) ≡ Some (command_after s c)
+pub commands_are_events : (s : State) → IsLawful s → (c : Command) → is_allowed s c ≡ true → run_of s (events_of s c)
+    ≡ Some (command_after s c)
 commands_are_events s o (command.Link k x now) allowed = link_made s o k x now allowed
 commands_are_events s o (command.Unlink l) allowed = unlink_made s o l allowed
 commands_are_events s o (command.Sweep k) allowed = sweep_made s o k allowed
@@ -38,21 +39,32 @@ refused_same old c new NotEnabled refused = refused.1
 refused_same old c new OutOfMemory refused = refused.1
 
 -- the events of a command that was made
-pub command_events : (old : State) (c : Command) (new : State) (r : Result Answer Refused) → WorldKeeps old → Commands old c new r → OnOk r (run_of old (events_of old c) ≡ Some new)
-command_events old c new (Ok answer) k made = commands_are_events old k.0 c made.0 ∙ ap (λ (s : State). Some s) (sym made.1)
+pub command_events : (old : State) (c : Command) (new : State) (r : Result Answer Refused) → WorldKeeps old
+    → Commands old c new r → OnOk r (run_of old (events_of old c) ≡ Some new)
+command_events old c new (Ok answer) k made = commands_are_events old k.0 c made.0
+    ∙ ap (λ (s : State). Some s) (sym made.1)
 command_events old c new (Err r) k refused = tt
 
 -- a command keeps what a World keeps, as the run of its events does
-pub command_keeps : (old : State) (c : Command) (new : State) (r : Result Answer Refused) → WorldKeeps old → Commands old c new r → WorldKeeps new
-command_keeps old c new (Ok answer) k made = run_keeps old (events_of old c) new k (command_events old c new (Ok answer) k made)
+pub command_keeps : (old : State) (c : Command) (new : State) (r : Result Answer Refused) → WorldKeeps old
+    → Commands old c new r → WorldKeeps new
+command_keeps old c new (Ok answer) k made = run_keeps old (events_of old c) new k (command_events old c new
+    (Ok answer) k made)
 command_keeps old c new (Err r) k refused = subst WorldKeeps (sym (refused_same old c new r refused)) k
 
 -- and it leaves the sizes
-pub command_sizes : (old : State) (c : Command) (new : State) (r : Result Answer Refused) → WorldKeeps old → Commands old c new r → SameSizes old new
-command_sizes old c new (Ok answer) k made = run_sizes old (events_of old c) new (command_events old c new (Ok answer) k made)
-command_sizes old c new (Err r) k refused = subst (SameSizes old) (sym (refused_same old c new r refused)) (refl, refl, refl)
+pub command_sizes : (old : State) (c : Command) (new : State) (r : Result Answer Refused) → WorldKeeps old
+    → Commands old c new r → SameSizes old new
+command_sizes old c new (Ok answer) k made = run_sizes old (events_of old c) new (command_events old c new
+    (Ok answer) k made)
+command_sizes old c new (Err r) k refused = subst (SameSizes old) (sym (refused_same old c new r refused)) (
+  refl,
+  refl,
+  refl,
+)
 
 -- a command leaves the state that the events that it made leave
-pub command_runs : (old : State) (c : Command) (new : State) (r : Result Answer Refused) → WorldKeeps old → Commands old c new r → run_of old (made_by (events_of old c) r) ≡ Some new
+pub command_runs : (old : State) (c : Command) (new : State) (r : Result Answer Refused) → WorldKeeps old
+    → Commands old c new r → run_of old (made_by (events_of old c) r) ≡ Some new
 command_runs old c new (Ok answer) k made = command_events old c new (Ok answer) k made
 command_runs old c new (Err r) k refused = ap (λ (s : State). Some s) (sym (refused_same old c new r refused))

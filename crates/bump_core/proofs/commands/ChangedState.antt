@@ -1,4 +1,5 @@
--- A state in which a chunk, all classes and a worker are others: what is read there, and changes of the same chunk and worker.
+-- A state in which a chunk, all classes and a worker are others: what is read there, and
+-- changes of the same chunk and worker.
 use Rattle.std.proofs.Common.{◌≡◌, ℕ, ◌<◌, true, List, length, slice_set, sym, ap, ap₂, ◌∙◌, arith}
 use Rattle.std.proofs.lemmas.Bool.{lt-ltb}
 use Rattle.std.proofs.lemmas.List.{get_or-set_same, length-set, set-get_or, set-set}
@@ -11,9 +12,14 @@ at s c w ks x y = record s { chunks = slice_set s.chunks c x; classes = ks; work
 
 -- a state is itself with its own chunk, classes and worker
 pub at_start : (s : State) (c w : ℕ) → s ≡ at s c w s.classes (chunk_at s c) (worker_at s w)
-at_start s c w = λ i. record s { chunks = sym (set-get_or s.chunks c no_chunk) i; workers = sym (set-get_or s.workers w new_worker) i }
+at_start s c w = λ i. record s {
+  chunks = sym (set-get_or s.chunks c no_chunk) i;
+  workers = sym
+      (set-get_or s.workers w new_worker) i;
+}
 
-module _ (s : State) (c w : ℕ) (c_in : c < length s.chunks) (w_in : w < length s.workers) (ks : List ClassState) (x : Chunk) (y : WorkerState) where
+module _ (s : State) (c w : ℕ) (c_in : c < length s.chunks) (w_in : w < length s.workers) (ks : List ClassState)
+    (x : Chunk) (y : WorkerState) where
   -- the chunk is read
   pub chunk_reads : chunk_at (at s c w ks x y) c ≡ x
   chunk_reads = get_or-set_same s.chunks c x no_chunk c_in
@@ -27,15 +33,23 @@ module _ (s : State) (c w : ℕ) (c_in : c < length s.chunks) (w_in : w < length
   is_worker_there = lt-ltb w _ (omega (arith, length-set s.workers w y))
 
   -- a change of the chunk
-  pub on_chunk : (f : Chunk → Chunk) → with_chunk (at s c w ks x y) c (f (chunk_at (at s c w ks x y) c)) ≡ at s c w ks (f x) y
-  on_chunk f = ap (λ xs. record s { chunks = xs; classes = ks; workers = slice_set s.workers w y }) (set-set s.chunks c x (f (chunk_at (at s c w ks x y) c)) ∙ ap (λ z. slice_set s.chunks c (f z)) chunk_reads)
+  pub on_chunk : (f : Chunk → Chunk) → with_chunk (at s c w ks x y) c (f (chunk_at (at s c w ks x y) c))
+      ≡ at s c w ks (f x) y
+  on_chunk f = ap (λ xs. record s { chunks = xs; classes = ks; workers = slice_set s.workers w y })
+      (set-set s.chunks c x (f (chunk_at (at s c w ks x y) c)) ∙ ap (λ z. slice_set s.chunks c (f z)) chunk_reads)
 
   -- a change of the worker
-  pub on_worker : (g : WorkerState → WorkerState) → with_worker (at s c w ks x y) w (g (worker_at (at s c w ks x y) w)) ≡ at s c w ks x (g y)
-  on_worker g = ap (λ xs. record s { chunks = slice_set s.chunks c x; classes = ks; workers = xs }) (set-set s.workers w y (g (worker_at (at s c w ks x y) w)) ∙ ap (λ z. slice_set s.workers w (g z)) worker_reads)
+  pub on_worker : (g : WorkerState → WorkerState) → with_worker (at s c w ks x y) w
+      (g (worker_at (at s c w ks x y) w)) ≡ at s c w ks x (g y)
+  on_worker g = ap (λ xs. record s { chunks = slice_set s.chunks c x; classes = ks; workers = xs })
+      (set-set s.workers w y (g (worker_at (at s c w ks x y) w)) ∙ ap (λ z. slice_set s.workers w (g z)) worker_reads)
 
   -- a change of both
   pub on_both : (f : Chunk → Chunk) (g : Chunk → WorkerState → WorkerState)
-      → with_worker (with_chunk (at s c w ks x y) c (f (chunk_at (at s c w ks x y) c))) w (g (chunk_at (at s c w ks x y) c) (worker_at (at s c w ks x y) w)) ≡ at s c w ks (f x) (g x y)
-  on_both f g = ap (λ t. with_worker t w (g (chunk_at (at s c w ks x y) c) (worker_at (at s c w ks x y) w))) (on_chunk f)
-      ∙ ap (λ xs. record s { chunks = slice_set s.chunks c (f x); classes = ks; workers = xs }) (set-set s.workers w y (g (chunk_at (at s c w ks x y) c) (worker_at (at s c w ks x y) w)) ∙ ap₂ (λ a b. slice_set s.workers w (g a b)) chunk_reads worker_reads)
+      → with_worker (with_chunk (at s c w ks x y) c (f (chunk_at (at s c w ks x y) c))) w
+      (g (chunk_at (at s c w ks x y) c) (worker_at (at s c w ks x y) w)) ≡ at s c w ks (f x) (g x y)
+  on_both f g = ap (λ t. with_worker t w (g (chunk_at (at s c w ks x y) c) (worker_at (at s c w ks x y) w)))
+      (on_chunk f)
+      ∙ ap (λ xs. record s { chunks = slice_set s.chunks c (f x); classes = ks; workers = xs }) (set-set s.workers w y
+      (g (chunk_at (at s c w ks x y) c) (worker_at (at s c w ks x y) w))
+      ∙ ap₂ (λ a b. slice_set s.workers w (g a b)) chunk_reads worker_reads)

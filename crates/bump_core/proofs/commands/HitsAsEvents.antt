@@ -21,7 +21,7 @@ use Rattle.bump_state.specs.State.{State, ClassState, WorkerState, chunk_at, hea
 use Rattle.bump_rules.specs.Hands.{tried_life, life_in_hand, cleared_life, is_idle}
 use Rattle.bump_state.specs.Worlds.{IsLawful}
 use Rattle.bump_rules.specs.Rings.{most_attempts}
-use Rattle.bump_rules.specs.Heads.{one_more, one_fewer, active_head, cleared_head}
+use Rattle.bump_rules.specs.Heads.{one_more, one_fewer, marked_head, cleared_head}
 use Rattle.bump_state.specs.Events.{is_enabled, after, may_hit, is_under_limit, waiting, reserve, drop_refs, push, drop_full, unmark, mark}
 use Rattle.bump_core.specs.Runs.{run_of}
 use Rattle.bump_core.specs.Commands.{is_allowed, events_of, command_after, hit_at, dropped_at, attempt, hit, is_exhausted, hit_events, attempt_events}
@@ -30,7 +30,8 @@ use Rattle.bump_core.proofs.events.Runs.{run_step}
 use Rattle.bump_core.proofs.commands.ChangedState.{at, chunk_reads, worker_reads, is_worker_there, on_worker, on_both}
 
 -- The steps of an attempt, on the life's chunk and the worker.
-module _ (s : State) (l : ItemId) (w : ℕ) (c_in : l.chunk < length s.chunks) (w_in : w < length s.workers) (ks : List ClassState) (x : Chunk) (y : WorkerState) (es : List Event) where
+module _ (s : State) (l : ItemId) (w : ℕ) (c_in : l.chunk < length s.chunks) (w_in : w < length s.workers)
+    (ks : List ClassState) (x : Chunk) (y : WorkerState) (es : List Event) where
   -- the state with the chunk and the worker
   abbrev t : State
   t = at s l.chunk w ks x y
@@ -45,55 +46,91 @@ module _ (s : State) (l : ItemId) (w : ℕ) (c_in : l.chunk < length s.chunks) (
 
   -- the bump gets its reference
   reserve_step : y.hand ≡ hand.Trying l → ltb x.head.refs s.refs_limit ≡ true
-      → run_of t (event.Reserve w ∷ es) ≡ run_of (at s l.chunk w ks (record x { head = one_more x.head }) (record y { hand = hand.InHand l })) es
+      → run_of t (event.Reserve w ∷ es) ≡ run_of (at s l.chunk w ks (record x { head = one_more x.head }) (record y {
+        hand = hand.InHand l;
+      })) es
   reserve_step is under =
       let life : tried_life (worker_at t w).hand ≡ Some l = ap tried_life (hand_at ∙ is) in
       run_step t _ (event.Reserve w) es
       (ap (some_and (λ (m : ItemId). is_under_limit t m.chunk)) life ∙ (under_at ∙ under))
       (ap (λ o. option_map_or (reserve t w) o t) life
-      ∙ on_both s l.chunk w c_in w_in ks x y (λ a. record a { head = one_more a.head }) (λ a b. record b { hand = hand.InHand l }))
+      ∙ on_both s l.chunk w c_in w_in ks x y (λ a. record a { head = one_more a.head }) (λ a b. record b {
+        hand = hand.InHand l;
+      }))
 
   -- the bump is dropped, since the count is at its limit
   drop_refs_step : y.hand ≡ hand.Trying l → ltb x.head.refs s.refs_limit ≡ false
-      → run_of t (event.DropRefs w ∷ es) ≡ run_of (at s l.chunk w ks x (record y { hand = hand.Clearing l; accounts = record y.accounts { refs = y.accounts.refs + 1 } })) es
+      → run_of t (event.DropRefs w ∷ es) ≡ run_of (at s l.chunk w ks x (record y {
+        hand = hand.Clearing l;
+        accounts = record y.accounts { refs = y.accounts.refs + 1 };
+      })) es
   drop_refs_step is over =
       let life : tried_life (worker_at t w).hand ≡ Some l = ap tried_life (hand_at ∙ is) in
       run_step t _ (event.DropRefs w) es
       (ap (some_and (λ (m : ItemId). not (is_under_limit t m.chunk))) life ∙ ap not (under_at ∙ over))
       (ap (λ o. option_map_or (drop_refs t w) o t) life
-      ∙ on_worker s l.chunk w c_in w_in ks x y (λ b. record b { hand = hand.Clearing l; accounts = record b.accounts { refs = b.accounts.refs + 1 } }))
+      ∙ on_worker s l.chunk w c_in w_in ks x y (λ b. record b {
+        hand = hand.Clearing l;
+        accounts = record b.accounts {
+          refs = b.accounts.refs + 1;
+        };
+      }))
 
   -- the ring takes the bump
   push_step : y.hand ≡ hand.InHand l → y.is_open ≡ true → ltb (waiting y) s.capacity ≡ true
-      → run_of t (event.Push w ∷ es) ≡ run_of (at s l.chunk w ks x (record y { hand = hand.Idle; accounts = record y.accounts { accepted = y.accounts.accepted + 1 }; sent = y.sent ++ l ∷ [] })) es
+      → run_of t (event.Push w ∷ es) ≡ run_of (at s l.chunk w ks x (record y {
+        hand = hand.Idle;
+        accounts = record y.accounts { accepted = y.accounts.accepted + 1 };
+        sent =
+            y.sent ++ l ∷ [];
+      })) es
   push_step is takes room =
       let life : life_in_hand (worker_at t w).hand ≡ Some l = ap life_in_hand (hand_at ∙ is) in
       let read = worker_reads s l.chunk w c_in w_in ks x y in
       run_step t _ (event.Push w) es
-      (and_from _ _ (and_from _ _ (is_worker_there s l.chunk w c_in w_in ks x y) (ap (λ (z : WorkerState). z.is_open) read ∙ takes))
-      (and_from _ _ (ap (λ (o : Option ItemId). is_some o) life) (ap (λ (z : WorkerState). ltb (waiting z) s.capacity) read ∙ room)))
+      (and_from _ _ (and_from _ _ (is_worker_there s l.chunk w c_in w_in ks x y)
+      (ap (λ (z : WorkerState). z.is_open) read ∙ takes))
+      (and_from _ _ (ap (λ (o : Option ItemId). is_some o) life) (ap (λ (z : WorkerState). ltb
+      (waiting z) s.capacity) read ∙ room)))
       (ap (λ o. option_map_or (push t w) o t) life
-      ∙ on_worker s l.chunk w c_in w_in ks x y (λ b. record b { hand = hand.Idle; accounts = record b.accounts { accepted = b.accounts.accepted + 1 }; sent = b.sent ++ l ∷ [] }))
+      ∙ on_worker s l.chunk w c_in w_in ks x y (λ b. record b {
+        hand = hand.Idle;
+        accounts = record b.accounts {
+          accepted = b.accounts.accepted + 1;
+        };
+        sent = b.sent ++ l ∷ [];
+      }))
 
   -- the bump is dropped for want of room, and its reference is given back
   drop_full_step : y.hand ≡ hand.InHand l → ltb (length y.sent) s.capacity ≡ false
-      → run_of t (event.DropFull w ∷ es) ≡ run_of (at s l.chunk w ks (record x { head = one_fewer x.head }) (record y { hand = hand.Clearing l; accounts = record y.accounts { full = y.accounts.full + 1 } })) es
+      → run_of t (event.DropFull w ∷ es) ≡ run_of (at s l.chunk w ks (record x { head = one_fewer x.head }) (record y {
+        hand = hand.Clearing l;
+        accounts = record y.accounts { full = y.accounts.full + 1 };
+      })) es
   drop_full_step is full =
       let life : life_in_hand (worker_at t w).hand ≡ Some l = ap life_in_hand (hand_at ∙ is) in
       run_step t _ (event.DropFull w) es
       (and_from _ _ (ap (λ (o : Option ItemId). is_some o) life)
-      (ap (λ (z : WorkerState). not (ltb (length z.sent) s.capacity)) (worker_reads s l.chunk w c_in w_in ks x y) ∙ ap not full))
+      (ap (λ (z : WorkerState). not (ltb (length z.sent) s.capacity)) (worker_reads s l.chunk w c_in w_in ks x y)
+      ∙ ap not full))
       (ap (λ o. option_map_or (drop_full t w) o t) life
-      ∙ on_both s l.chunk w c_in w_in ks x y (λ a. record a { head = one_fewer a.head }) (λ a b. record b { hand = hand.Clearing l; accounts = record b.accounts { full = b.accounts.full + 1 } }))
+      ∙ on_both s l.chunk w c_in w_in ks x y (λ a. record a { head = one_fewer a.head }) (λ a b. record b {
+        hand = hand.Clearing l;
+        accounts = record b.accounts { full = b.accounts.full + 1 };
+      }))
 
   -- ACTIVE is cleared after a drop
-  unmark_step : y.hand ≡ hand.Clearing l → run_of t (event.Unmark w ∷ es) ≡ run_of (at s l.chunk w ks (record x { head = cleared_head x.head }) (record y { hand = hand.Idle })) es
+  unmark_step : y.hand ≡ hand.Clearing l → run_of t (event.Unmark w ∷ es) ≡ run_of (at s l.chunk w ks (record x {
+    head = cleared_head x.head;
+  }) (record y { hand = hand.Idle })) es
   unmark_step is =
       let life : cleared_life (worker_at t w).hand ≡ Some l = ap cleared_life (hand_at ∙ is) in
       run_step t _ (event.Unmark w) es
       (ap (λ (o : Option ItemId). is_some o) life)
       (ap (λ o. option_map_or (unmark t w) o t) life
-      ∙ on_both s l.chunk w c_in w_in ks x y (λ a. record a { head = cleared_head a.head }) (λ a b. record b { hand = hand.Idle }))
+      ∙ on_both s l.chunk w c_in w_in ks x y (λ a. record a { head = cleared_head a.head }) (λ a b. record b {
+        hand = hand.Idle;
+      }))
 
 -- one reference more, and then one fewer
 back_again : (n : ℕ) → n + 1 - 1 ≡ n
@@ -110,11 +147,14 @@ full_where x capacity none = by (cases_lt (length x.sent) capacity)
 -- FETCHED is set where it is set
 fetched_again : (s : State) (w : ℕ) (l : ItemId) → (head_at s l.chunk).fetched ≡ true → after s (event.Fetch w l) ≡ s
 fetched_again s w l set = cond-true (head_at s l.chunk).fetched _ _ set
-    ∙ (ap (λ (b : Bool). with_head s l.chunk (record (head_at s l.chunk) { fetched = b })) (sym set) ∙ ap (λ cs. record s { chunks = cs }) (set-get_or s.chunks l.chunk no_chunk))
+    ∙ (ap (λ (b : Bool). with_head s l.chunk (record (head_at s l.chunk) { fetched = b })) (sym set)
+    ∙ ap (λ cs. record s { chunks = cs }) (set-get_or s.chunks l.chunk no_chunk))
 
 -- A hit of an Idle worker on a life that has a free hold.
-module _ (s : State) (w : ℕ) (l : ItemId) (now : ℕ) (w_in : w < length s.workers) (c_in : l.chunk < length s.chunks) (current : is_current s l ≡ true) (some : 0 < (chunk_at s l.chunk).holds)
-    (takes : (worker_at s w).is_open ≡ true) (idle : (worker_at s w).hand ≡ hand.Idle) (may : may_hit s w l ≡ true) (few : ltb (worker_at s w).accounts.attempted most_attempts ≡ true) where
+module _ (s : State) (w : ℕ) (l : ItemId) (now : ℕ) (w_in : w < length s.workers) (c_in : l.chunk < length s.chunks)
+    (current : is_current s l ≡ true) (some : 0 < (chunk_at s l.chunk).holds)
+    (takes : (worker_at s w).is_open ≡ true) (idle : (worker_at s w).hand ≡ hand.Idle) (may : may_hit s w l
+    ≡ true) (few : ltb (worker_at s w).accounts.attempted most_attempts ≡ true) where
   -- the head that the hit finds
   abbrev h : Head
   h = head_at s l.chunk
@@ -140,18 +180,24 @@ module _ (s : State) (w : ℕ) (l : ItemId) (now : ℕ) (w_in : w < length s.wor
   mark_enabled set = and_from _ _ may (and_from _ _ set few)
 
   -- a hit in HOT or WARM sets ACTIVE and stores the time
-  marked_made : h.fetched ≡ true → is_cold h.segment ≡ false → run_of s (hit_events s w l now IsMarked) ≡ Some (hit s w l now IsMarked)
+  marked_made : h.fetched ≡ true → is_cold h.segment ≡ false → run_of s (hit_events s w l now IsMarked)
+      ≡ Some (hit s w l now IsMarked)
   marked_made set warm =
-      let z : Chunk = record x { head = active_head h } in
+      let z : Chunk = record x { head = marked_head h } in
       let t = with_chunk s l.chunk z in
       let read : chunk_at t l.chunk ≡ z = get_or-set_same s.chunks l.chunk z no_chunk c_in in
       let parts = and_parts (is_chunk s l.chunk) (eqb h.generation l.generation) current in
-      let held : is_held t l ≡ true = and_from _ _ (and_from _ _ (lt-ltb l.chunk _ (omega (arith, length-set s.chunks l.chunk z))) (ap (λ (a : Chunk). eqb a.head.generation l.generation) read ∙ parts.1))
+      let held : is_held t l ≡ true = and_from _ _ (and_from _ _ (lt-ltb l.chunk _ (omega (
+        arith,
+        length-set s.chunks l.chunk z,
+      ))) (ap (λ (a : Chunk). eqb a.head.generation l.generation) read ∙ parts.1))
       (ap (λ (a : Chunk). ltb 0 a.holds) read ∙ lt-ltb 0 x.holds some) in
       run_step s s (event.Fetch w l) (event.Mark w l ∷ event.StoreTime l now ∷ []) may (fetched_again s w l set)
-      ∙ (run_step s t (event.Mark w l) (event.StoreTime l now ∷ []) (mark_enabled set) (cond-false (not h.active && is_cold h.segment) _ _ (and_right (not h.active) (is_cold h.segment) warm))
+      ∙ (run_step s t (event.Mark w l) (event.StoreTime l now ∷ []) (mark_enabled set)
+      (cond-false (not h.active && is_cold h.segment) _ _ (and_right (not h.active) (is_cold h.segment) warm))
       ∙ run_step t (hit s w l now IsMarked) (event.StoreTime l now) [] held
-      (ap (λ cs. record s { chunks = cs }) (set-set s.chunks l.chunk z (record (chunk_at t l.chunk) { time = now }) ∙ ap (λ (a : Chunk). slice_set s.chunks l.chunk (record a { time = now })) read)))
+      (ap (λ cs. record s { chunks = cs }) (set-set s.chunks l.chunk z (record (chunk_at t l.chunk) { time = now })
+      ∙ ap (λ (a : Chunk). slice_set s.chunks l.chunk (record a { time = now })) read)))
 
   -- the accounts once the attempt began
   abbrev began : Accounts
@@ -159,47 +205,107 @@ module _ (s : State) (w : ℕ) (l : ItemId) (now : ℕ) (w_in : w < length s.wor
 
   -- a bump is queued
   queued_made : ltb h.refs s.refs_limit ≡ true → ltb (waiting y) s.capacity ≡ true
-      → run_of (at s l.chunk w s.classes (record x { head = active_head h }) (record y { hand = hand.Trying l; accounts = began })) (attempt_events w None) ≡ Some (attempt s w l None)
+      → run_of (at s l.chunk w s.classes (record x { head = marked_head h }) (record y {
+        hand = hand.Trying l;
+        accounts = began;
+      })) (attempt_events w None) ≡ Some (attempt s w l None)
   queued_made under room =
-      reserve_step s l w c_in w_in s.classes (record x { head = active_head h }) (record y { hand = hand.Trying l; accounts = began }) (event.Push w ∷ []) refl under
-      ∙ (push_step s l w c_in w_in s.classes (record x { head = one_more (active_head h) }) (record y { hand = hand.InHand l; accounts = began }) [] refl takes room
-      ∙ ap (λ (z : Hand). Some (at s l.chunk w s.classes (record x { head = one_more (active_head h) }) (record y { hand = z; accounts = record began { accepted = y.accounts.accepted + 1 }; sent = y.sent ++ l ∷ [] }))) (sym idle))
+      reserve_step s l w c_in w_in s.classes (record x { head = marked_head h }) (record y {
+        hand = hand.Trying l;
+        accounts = began;
+      }) (event.Push w ∷ []) refl under
+      ∙ (push_step s l w c_in w_in s.classes (record x { head = one_more (marked_head h) }) (record y {
+        hand = hand.InHand l;
+        accounts = began;
+      }) [] refl takes room
+      ∙ ap (λ (z : Hand). Some (at s l.chunk w s.classes (record x { head = one_more (marked_head h) }) (record y {
+        hand = z;
+        accounts = record began { accepted = y.accounts.accepted + 1 };
+        sent = y.sent ++ l ∷ [];
+      })))
+      (sym idle))
 
   -- the chunk and the worker as a drop leaves them
   left_made : (n : ℕ) (a : Accounts) → n ≡ h.refs → h.active ≡ false
-      → at s l.chunk w s.classes (record x { head = record h { refs = n; active = false } }) (record y { hand = hand.Idle; accounts = a }) ≡ with_worker s w (record y { accounts = a })
-  left_made n a same clear = ap (λ (m : ℕ). at s l.chunk w s.classes (record x { head = record h { refs = m; active = false } }) (record y { hand = hand.Idle; accounts = a })) same
-      ∙ (ap (λ (b : Bool). at s l.chunk w s.classes (record x { head = record h { active = b } }) (record y { hand = hand.Idle; accounts = a })) (sym clear)
+      → at s l.chunk w s.classes (record x { head = record h { refs = n; active = false } }) (record y {
+        hand = hand.Idle;
+        accounts = a;
+      }) ≡ with_worker s w (record y { accounts = a })
+  left_made n a same clear = ap (λ (m : ℕ). at s l.chunk w s.classes (record x {
+    head = record h {
+      refs = m;
+      active = false;
+    };
+  }) (record y { hand = hand.Idle; accounts = a })) same
+      ∙ (ap (λ (b : Bool). at s l.chunk w s.classes (record x { head = record h { active = b } }) (record y {
+        hand = hand.Idle;
+        accounts = a;
+      })) (sym clear)
       ∙ (ap (λ (z : Hand). at s l.chunk w s.classes x (record y { hand = z; accounts = a })) (sym idle)
-      ∙ ap (λ cs. with_worker (record s { chunks = cs }) w (record y { accounts = a })) (set-get_or s.chunks l.chunk no_chunk)))
+      ∙ ap (λ cs. with_worker (record s { chunks = cs }) w (record y { accounts = a }))
+      (set-get_or s.chunks l.chunk no_chunk)))
 
   -- a bump is dropped at the limit of the count
   refs_full_made : h.active ≡ false → ltb h.refs s.refs_limit ≡ false
-      → run_of (at s l.chunk w s.classes (record x { head = active_head h }) (record y { hand = hand.Trying l; accounts = began })) (attempt_events w (Some RefsFull)) ≡ Some (attempt s w l (Some RefsFull))
+      → run_of (at s l.chunk w s.classes (record x { head = marked_head h }) (record y {
+        hand = hand.Trying l;
+        accounts = began;
+      })) (attempt_events w (Some RefsFull))
+      ≡ Some (attempt s w l (Some RefsFull))
   refs_full_made clear over =
-      drop_refs_step s l w c_in w_in s.classes (record x { head = active_head h }) (record y { hand = hand.Trying l; accounts = began }) (event.Unmark w ∷ []) refl over
-      ∙ (unmark_step s l w c_in w_in s.classes (record x { head = active_head h }) (record y { hand = hand.Clearing l; accounts = record began { refs = y.accounts.refs + 1 } }) [] refl
+      drop_refs_step s l w c_in w_in s.classes (record x { head = marked_head h }) (record y {
+        hand = hand.Trying l;
+        accounts = began;
+      }) (event.Unmark w ∷ []) refl over
+      ∙ (unmark_step s l w c_in w_in s.classes (record x { head = marked_head h }) (record y {
+        hand = hand.Clearing l;
+        accounts = record began { refs = y.accounts.refs + 1 };
+      }) [] refl
       ∙ ap Some (left_made h.refs (record began { refs = y.accounts.refs + 1 }) refl clear))
 
   -- a bump is dropped for want of room
   full_made : h.active ≡ false → ltb h.refs s.refs_limit ≡ true → ltb (waiting y) s.capacity ≡ false
-      → run_of (at s l.chunk w s.classes (record x { head = active_head h }) (record y { hand = hand.Trying l; accounts = began })) (attempt_events w (Some Full)) ≡ Some (attempt s w l (Some Full))
+      → run_of (at s l.chunk w s.classes (record x { head = marked_head h }) (record y {
+        hand = hand.Trying l;
+        accounts = began;
+      })) (attempt_events w (Some Full)) ≡ Some (attempt s w l (Some Full))
   full_made clear under none =
-      reserve_step s l w c_in w_in s.classes (record x { head = active_head h }) (record y { hand = hand.Trying l; accounts = began }) (event.DropFull w ∷ event.Unmark w ∷ []) refl under
-      ∙ (drop_full_step s l w c_in w_in s.classes (record x { head = one_more (active_head h) }) (record y { hand = hand.InHand l; accounts = began }) (event.Unmark w ∷ []) refl (full_where y s.capacity none)
-      ∙ (unmark_step s l w c_in w_in s.classes (record x { head = one_fewer (one_more (active_head h)) }) (record y { hand = hand.Clearing l; accounts = record began { full = y.accounts.full + 1 } }) [] refl
+      reserve_step s l w c_in w_in s.classes (record x { head = marked_head h }) (record y {
+        hand = hand.Trying l;
+        accounts = began;
+      }) (event.DropFull w ∷ event.Unmark w ∷ []) refl under
+      ∙ (drop_full_step s l w c_in w_in s.classes (record x { head = one_more (marked_head h) }) (record y {
+        hand = hand.InHand l;
+        accounts = began;
+      }) (event.Unmark w ∷ []) refl (full_where y s.capacity none)
+      ∙ (unmark_step s l w c_in w_in s.classes (record x { head = one_fewer (one_more (marked_head h)) }) (record y {
+        hand = hand.Clearing l;
+        accounts = record began { full = y.accounts.full + 1 };
+      }) [] refl
       ∙ ap Some (left_made (h.refs + 1 - 1) (record began { full = y.accounts.full + 1 }) (back_again h.refs) clear)))
 
   -- a hit in COLD attempts a bump
-  attempt_made : h.fetched ≡ true → h.active ≡ false → is_cold h.segment ≡ true → run_of s (hit_events s w l now Attempts) ≡ Some (hit s w l now Attempts)
+  attempt_made : h.fetched ≡ true → h.active ≡ false → is_cold h.segment ≡ true
+      → run_of s (hit_events s w l now Attempts) ≡ Some (hit s w l now Attempts)
   attempt_made set clear cold =
-      run_step s s (event.Fetch w l) (event.Mark w l ∷ attempt_events w (dropped_at s w l)) may (fetched_again s w l set)
-      ∙ (run_step s (at s l.chunk w s.classes (record x { head = active_head h }) (record y { hand = hand.Trying l; accounts = began })) (event.Mark w l) (attempt_events w (dropped_at s w l)) (mark_enabled set)
+      run_step s s (event.Fetch w l) (event.Mark w l ∷ attempt_events w (dropped_at s w l)) may
+      (fetched_again s w l set)
+      ∙ (run_step s (at s l.chunk w s.classes (record x { head = marked_head h }) (record y {
+        hand = hand.Trying l;
+        accounts = began;
+      })) (event.Mark w l) (attempt_events w (dropped_at s w l))
+      (mark_enabled set)
       (cond-true (not h.active && is_cold h.segment) _ _ (and_from _ _ (ap not clear) cold))
       ∙ by (is_under_limit s l.chunk) (ltb (waiting y) s.capacity) refl refl)
     where
       by : (a b : Bool) → is_under_limit s l.chunk ≡ a → ltb (waiting y) s.capacity ≡ b
-          → run_of (at s l.chunk w s.classes (record x { head = active_head h }) (record y { hand = hand.Trying l; accounts = began })) (attempt_events w (dropped_for_room (if b then Known else Unknown) (if a then None else Some RefsFull))) ≡ Some (attempt s w l (dropped_for_room (if b then Known else Unknown) (if a then None else Some RefsFull)))
+          → run_of (at s l.chunk w s.classes (record x { head = marked_head h }) (record y {
+            hand = hand.Trying l;
+            accounts = began;
+          })) (attempt_events w (dropped_for_room
+          (if b then Known else Unknown) (if a then None else Some RefsFull)))
+          ≡ Some (attempt s w l (dropped_for_room (if b then Known else Unknown)
+          (if a then None else Some RefsFull)))
       by false b over room = refs_full_made clear over
       by true true under room = queued_made under room
       by true false under none = full_made clear under none
@@ -209,8 +315,10 @@ module _ (s : State) (w : ℕ) (l : ItemId) (now : ℕ) (w_in : w < length s.wor
   hit_made = by h.fetched h.active (is_cold h.segment) refl refl refl
     where
       by : (f a d : Bool) → h.fetched ≡ f → h.active ≡ a → is_cold h.segment ≡ d
-          → run_of s (hit_events s w l now (if not f then IsFirst else (if a then IsAlready else (if a then IsAlready else (if d then Attempts else IsMarked)))))
-          ≡ Some (hit s w l now (if not f then IsFirst else (if a then IsAlready else (if a then IsAlready else (if d then Attempts else IsMarked)))))
+          → run_of s (hit_events s w l now (if not f then IsFirst else (if a then IsAlready else
+          (if a then IsAlready else (if d then Attempts else IsMarked)))))
+          ≡ Some (hit s w l now (if not f then IsFirst else (if a then IsAlready else (if a then IsAlready else
+          (if d then Attempts else IsMarked)))))
       by false a d clear mark cold = first_made clear
       by true true d set mark cold = already_made set
       by true false false set clear warm = marked_made set warm
@@ -225,7 +333,8 @@ few_where a most other = by (cases_lt a most_attempts)
     by (inr above) = absurd (both_ways _ other (eq-eqb a most_attempts (omega arith)))
 
 -- a hit is its events
-pub touch_made : (s : State) → IsLawful s → (w : ℕ) (l : ItemId) (now : ℕ) → is_allowed s (command.Touch w l now) ≡ true → run_of s (events_of s (command.Touch w l now)) ≡ Some (command_after s (command.Touch w l now))
+pub touch_made : (s : State) → IsLawful s → (w : ℕ) (l : ItemId) (now : ℕ) → is_allowed s (command.Touch w l now)
+    ≡ true → run_of s (events_of s (command.Touch w l now)) ≡ Some (command_after s (command.Touch w l now))
 touch_made s o w l now allowed = by (is_exhausted s w) refl
   where
     both : (is_open s w ≡ true) × ((has_free_hold s l && (is_exhausted s w || is_idle (worker_at s w).hand)) ≡ true)
@@ -244,11 +353,18 @@ touch_made s o w l now allowed = by (is_exhausted s w) refl
     w_in = ltb-true w (length s.workers) opened.0
 
     c_in : l.chunk < length s.chunks
-    c_in = ltb-true l.chunk (length s.chunks) (and_parts (is_chunk s l.chunk) (eqb (head_at s l.chunk).generation l.generation) free.0).0
+    c_in = ltb-true l.chunk (length s.chunks) (and_parts (is_chunk s l.chunk)
+        (eqb (head_at s l.chunk).generation l.generation) free.0).0
 
-    by : (b : Bool) → is_exhausted s w ≡ b → run_of s (if b then [] else hit_events s w l now (hit_at s l)) ≡ Some (if b then s else hit s w l now (hit_at s l))
+    by : (b : Bool) → is_exhausted s w ≡ b → run_of s (if b then [] else hit_events s w l now (hit_at s l))
+        ≡ Some (if b then s else hit s w l now (hit_at s l))
     by true done = refl
     by false still =
-        let idle : is_idle (worker_at s w).hand ≡ true = ap (λ (b : Bool). b || is_idle (worker_at s w).hand) (sym still) ∙ more.1 in
-        hit_made s w l now w_in c_in free.0 (omega (arith, ltb-true (workers_on s l) (chunk_at s l.chunk).holds free.1)) opened.1 (idle_from (worker_at s w).hand idle)
-        (and_from _ _ both.0 (and_from _ _ idle more.0)) (few_where (worker_at s w).accounts.attempted (o.workers w w_in).accounts.most still)
+        let idle : is_idle (worker_at s w).hand ≡ true = ap (λ (b : Bool). b || is_idle (worker_at s w).hand)
+        (sym still) ∙ more.1 in
+        hit_made s w l now w_in c_in free.0 (omega (
+          arith,
+          ltb-true (workers_on s l) (chunk_at s l.chunk).holds free.1,
+        )) opened.1 (idle_from (worker_at s w).hand idle)
+        (and_from _ _ both.0 (and_from _ _ idle more.0)) (few_where (worker_at s w).accounts.attempted
+        (o.workers w w_in).accounts.most still)

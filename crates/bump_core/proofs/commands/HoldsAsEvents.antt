@@ -12,27 +12,34 @@ use Rattle.bump_rules.specs.Tables.{Get, IsStale, IsRefsFull, IsHeld}
 use Rattle.bump_core.proofs.events.Runs.{run_step}
 
 -- the label of a held item is one load
-pub label_made : (s : State) (l : ItemId) → is_allowed s (command.Label l) ≡ true → run_of s (events_of s (command.Label l)) ≡ Some (command_after s (command.Label l))
-label_made s l allowed = run_step s s (event.Load l.chunk) [] (and_parts (is_chunk s l.chunk) (eqb (head_at s l.chunk).generation l.generation) (and_parts (is_chunk s l.chunk && eqb (head_at s l.chunk).generation l.generation) (ltb 0 (chunk_at s l.chunk).holds) allowed).0).0 refl
+pub label_made : (s : State) (l : ItemId) → is_allowed s (command.Label l) ≡ true
+    → run_of s (events_of s (command.Label l)) ≡ Some (command_after s (command.Label l))
+label_made s l allowed = run_step s s (event.Load l.chunk) [] (and_parts (is_chunk s l.chunk)
+    (eqb (head_at s l.chunk).generation l.generation) (and_parts (is_chunk s l.chunk && eqb
+    (head_at s l.chunk).generation l.generation) (ltb 0 (chunk_at s l.chunk).holds) allowed).0).0 refl
 
 -- a release is one event
-pub release_made : (s : State) (l : ItemId) → is_allowed s (command.Release l) ≡ true → run_of s (events_of s (command.Release l)) ≡ Some (command_after s (command.Release l))
+pub release_made : (s : State) (l : ItemId) → is_allowed s (command.Release l) ≡ true
+    → run_of s (events_of s (command.Release l)) ≡ Some (command_after s (command.Release l))
 release_made s l allowed = run_step s _ (event.Release l) [] allowed refl
 
 -- a get that comes to a hold found a linked word of the generation, and a count under the limit
-held_from : (on same few : Bool) → (if not (on && same) then IsStale else (if few then IsHeld else IsRefsFull)) ≡ IsHeld → (on ≡ true) × (same ≡ true) × (few ≡ true)
+held_from : (on same few : Bool) → (if not (on && same) then IsStale else (if few then IsHeld else IsRefsFull))
+    ≡ IsHeld → (on ≡ true) × (same ≡ true) × (few ≡ true)
 held_from true true true is = (refl, refl, refl)
 held_from true true false is = absurd (let u : ⊥ = cc in u)
 held_from true false few is = absurd (let u : ⊥ = cc in u)
 held_from false same few is = absurd (let u : ⊥ = cc in u)
 
 -- a hold is taken by a load and, if the item is linked and its count under the limit, an exchange
-pub take_made : (s : State) (w : ℕ) (l : ItemId) → is_allowed s (command.Take w l) ≡ true → run_of s (events_of s (command.Take w l)) ≡ Some (command_after s (command.Take w l))
+pub take_made : (s : State) (w : ℕ) (l : ItemId) → is_allowed s (command.Take w l) ≡ true
+    → run_of s (events_of s (command.Take w l)) ≡ Some (command_after s (command.Take w l))
 take_made s w l allowed = by (is_chunk s l.chunk) (get_at s l) refl refl
   where
     may : is_chunk s l.chunk ≡ true → get_at s l ≡ IsHeld → (is_linked s l && is_under_limit s l.chunk) ≡ true
     may in_range is =
-        let found = held_from (head_at s l.chunk).linked (eqb (head_at s l.chunk).generation l.generation) (ltb (head_at s l.chunk).refs s.refs_limit) is in
+        let found = held_from (head_at s l.chunk).linked (eqb (head_at s l.chunk).generation l.generation)
+        (ltb (head_at s l.chunk).refs s.refs_limit) is in
         and_from _ _ (and_from _ _ (and_from _ _ in_range found.1) found.0) found.2
 
     by : (a : Bool) (g : Get) → is_chunk s l.chunk ≡ a → get_at s l ≡ g

@@ -38,10 +38,11 @@ use Rattle.bump_core.proofs.worlds.StaysLawful.{lawful_after, run_lawful}
 use Rattle.bump_core.proofs.events.Runs.{run_step}
 use Rattle.bump_rules.proofs.Updates.{none_written}
 use Rattle.bump_core.proofs.commands.EndsAsEvents.{look_made}
-use Rattle.bump_core.proofs.commands.ChangedState.{at, at_start, chunk_reads, worker_reads, is_worker_there, on_chunk, on_worker, on_both}
+use Rattle.bump_core.proofs.commands.ChangedState.{at, at_start, chunk_reads, worker_reads, on_chunk, on_worker, on_both}
 
 -- The steps of a bump, on its chunk, its worker and the classes.
-module _ (s : State) (b : Bump) (w : ℕ) (c_in : b.life.chunk < length s.chunks) (w_in : w < length s.workers) (ks : List ClassState) (x : Chunk) (y : WorkerState) (es : List Event) where
+module _ (s : State) (b : Bump) (w : ℕ) (c_in : b.life.chunk < length s.chunks) (w_in : w < length s.workers)
+    (ks : List ClassState) (x : Chunk) (y : WorkerState) (es : List Event) where
   -- the state with the classes, the chunk and the worker
   abbrev t : State
   t = at s b.life.chunk w ks x y
@@ -66,20 +67,25 @@ module _ (s : State) (b : Bump) (w : ℕ) (c_in : b.life.chunk < length s.chunks
   time_step now is on =
       let bump : applied_now (worker_at t w).lane ≡ Some b = ap applied_now lane_at ∙ is in
       run_step t _ (event.BumpTime w now) es
-      (ap (some_and (λ (a : Bump). (head_at t a.life.chunk).linked)) bump ∙ (ap (λ (z : Chunk). z.head.linked) (chunk_reads s b.life.chunk w c_in w_in ks x y) ∙ on))
+      (ap (some_and (λ (a : Bump). (head_at t a.life.chunk).linked)) bump
+      ∙ (ap (λ (z : Chunk). z.head.linked) (chunk_reads s b.life.chunk w c_in w_in ks x y) ∙ on))
       (ap (λ m. option_map_or (λ (a : Bump). with_time t a.life.chunk now) m t) bump
       ∙ on_chunk s b.life.chunk w c_in w_in ks x y (λ z. record z { time = now }))
 
   -- the lane clears ACTIVE
   clear_step : y.lane ≡ lane.Tried b → x.head.linked ≡ true → is_cold x.head.segment ≡ true
-      → run_of t (event.ClearFor w ∷ es) ≡ run_of (at s b.life.chunk w ks (record x { head = cleared_head x.head }) (record y { lane = lane.Cleared b x.head.active })) es
+      → run_of t (event.ClearFor w ∷ es) ≡ run_of (at s b.life.chunk w ks (record x { head = cleared_head x.head })
+      (record y { lane = lane.Cleared b x.head.active })) es
   clear_step is on cold =
       let bump : tried (worker_at t w).lane ≡ Some b = ap tried (lane_at ∙ is) in
       run_step t _ (event.ClearFor w) es
       (ap (some_and (λ (a : Bump). (head_at t a.life.chunk).linked && is_cold (head_at t a.life.chunk).segment)) bump
-      ∙ (ap (λ (z : Chunk). z.head.linked && is_cold z.head.segment) (chunk_reads s b.life.chunk w c_in w_in ks x y) ∙ and_from _ _ on cold))
+      ∙ (ap (λ (z : Chunk). z.head.linked && is_cold z.head.segment) (chunk_reads s b.life.chunk w c_in w_in ks x y)
+      ∙ and_from _ _ on cold))
       (ap (λ m. option_map_or (clear_for t w) m t) bump
-      ∙ on_both s b.life.chunk w c_in w_in ks x y (λ z. record z { head = cleared_head z.head }) (λ a z. record z { lane = lane.Cleared b a.head.active }))
+      ∙ on_both s b.life.chunk w c_in w_in ks x y (λ z. record z { head = cleared_head z.head }) (λ a z. record z {
+        lane = lane.Cleared b a.head.active;
+      }))
 
   -- the class's entry of the move
   abbrev entry : Change
@@ -87,23 +93,33 @@ module _ (s : State) (b : Bump) (w : ℕ) (c_in : b.life.chunk < length s.chunks
 
   -- the lane moves the item
   move_step : y.lane ≡ lane.Cleared b true
-      → run_of t (event.MoveFor w ∷ es) ≡ run_of (with_change (at s b.life.chunk w ks (record x { head = moved_head segment.Warm x.head }) (record y { lane = lane.Moved b })) (class_from ks b.life.chunk) entry) es
+      → run_of t (event.MoveFor w ∷ es) ≡ run_of (with_change (at s b.life.chunk w ks (record x {
+        head = moved_head segment.Warm x.head;
+      }) (record y { lane = lane.Moved b }))
+      (class_from ks b.life.chunk) entry) es
   move_step is =
       let bump : cleared_active (worker_at t w).lane ≡ Some b = ap cleared_active (lane_at ∙ is) in
       run_step t _ (event.MoveFor w) es
       (ap (λ (o : Option Bump). is_some o) bump)
       (ap (λ m. option_map_or (move_for t w) m t) bump
-      ∙ ap (λ u. with_change u (class_from ks b.life.chunk) entry) (on_both s b.life.chunk w c_in w_in ks x y (λ z. record z { head = moved_head segment.Warm z.head }) (λ a z. record z { lane = lane.Moved b })))
+      ∙ ap (λ u. with_change u (class_from ks b.life.chunk) entry) (on_both s b.life.chunk w c_in w_in ks x y
+      (λ z. record z { head = moved_head segment.Warm z.head }) (λ a z. record z { lane = lane.Moved b })))
 
   -- the lane gives the reference back
-  alight_step : (out : Outcome) → ((heads : ℕ → Head) → heads b.life.chunk ≡ x.head → ending_at heads y.lane ≡ Some (applied_bump b out))
-      → run_of t (event.Alight w ∷ es) ≡ run_of (at s b.life.chunk w ks (record x { head = one_fewer x.head }) (record y { lane = lane.Empty; applied = y.applied ++ applied_bump b out ∷ [] })) es
+  alight_step : (out : Outcome) → ((heads : ℕ → Head) → heads b.life.chunk ≡ x.head → ending_at heads y.lane
+      ≡ Some (applied_bump b out))
+      → run_of t (event.Alight w ∷ es) ≡ run_of (at s b.life.chunk w ks (record x { head = one_fewer x.head })
+      (record y { lane = lane.Empty; applied = y.applied ++ applied_bump b out ∷ [] })) es
   alight_step out ends =
-      let comes : ending t w ≡ Some (applied_bump b out) = ap (ending_at (head_at t)) lane_at ∙ ends (head_at t) (ap (λ (z : Chunk). z.head) (chunk_reads s b.life.chunk w c_in w_in ks x y)) in
+      let comes : ending t w ≡ Some (applied_bump b out) = ap (ending_at (head_at t)) lane_at
+      ∙ ends (head_at t) (ap (λ (z : Chunk). z.head) (chunk_reads s b.life.chunk w c_in w_in ks x y)) in
       run_step t _ (event.Alight w) es
       (ap (λ (o : Option AppliedBump). is_some o) comes)
       (ap (λ m. option_map_or (alight t w) m t) comes
-      ∙ on_both s b.life.chunk w c_in w_in ks x y (λ z. record z { head = one_fewer z.head }) (λ a z. record z { lane = lane.Empty; applied = z.applied ++ applied_bump b out ∷ [] }))
+      ∙ on_both s b.life.chunk w c_in w_in ks x y (λ z. record z { head = one_fewer z.head }) (λ a z. record z {
+        lane = lane.Empty;
+        applied = z.applied ++ applied_bump b out ∷ [];
+      }))
 
 -- A bump that a lane carries, while no lane applies one of its class.
 module _ (s : State) (b : Bump) (w now : ℕ) (c_in : b.life.chunk < length s.chunks) (w_in : w < length s.workers)
@@ -135,7 +151,8 @@ module _ (s : State) (b : Bump) (w now : ℕ) (c_in : b.life.chunk < length s.ch
   -- the lane looks at the head
   looked : (es : List Event) → run_of taken (event.Try w ∷ es) ≡ run_of (at s c w s.classes x (y (lane.Tried b))) es
   looked es = try_step s b w c_in w_in s.classes x (y (lane.Carrying b)) es refl
-      (none_written (λ (v : WorkerState). applies_in s (class_of s c) v.lane) s.workers w (y (lane.Carrying b)) rest refl)
+      (none_written (λ (v : WorkerState). applies_in s (class_of s c) v.lane) s.workers w
+      (y (lane.Carrying b)) rest refl)
 
   -- the state when a bump of an item that was gone is applied
   abbrev left : State
@@ -146,11 +163,13 @@ module _ (s : State) (b : Bump) (w now : ℕ) (c_in : b.life.chunk < length s.ch
   let_go off es = looked (event.Alight w ∷ es)
       ∙ alight_step s b w c_in w_in s.classes x (y (lane.Tried b)) es outcome.Gone
       (λ heads same. ap (λ (f : Head). option_map (applied_bump b) (outcome_tried f)) same
-      ∙ ap (option_map (applied_bump b)) (ap (λ i. if not i then Some outcome.Gone else (if is_cold h.segment then None else Some outcome.TimeOnly)) off))
+      ∙ ap (option_map (applied_bump b)) (ap (λ i. if not i then Some outcome.Gone else
+      (if is_cold h.segment then None else Some outcome.TimeOnly)) off))
 
   -- and its head is looked at: it was DYING, since its bump had a reference
   gone : IsLawful s → IsLawful taken → 0 < references s c b.life.generation → h.linked ≡ false
-      → run_of taken (event.Try w ∷ event.Alight w ∷ look_of c (ended_of (one_fewer h)) ∷ []) ≡ Some (freed_by left b.life (gone_as s c))
+      → run_of taken (event.Try w ∷ event.Alight w ∷ look_of c (ended_of (one_fewer h)) ∷ [])
+      ≡ Some (freed_by left b.life (gone_as s c))
   gone o lawful some off =
       let read = chunk_reads s c w c_in w_in s.classes (bumped_chunk x now outcome.Gone) (z outcome.Gone) in
       let_go off (look_of c (ended_of (one_fewer h)) ∷ [])
@@ -163,42 +182,63 @@ module _ (s : State) (b : Bump) (w now : ℕ) (c_in : b.life.chunk < length s.ch
       (ap (λ (a : Chunk). ended_of a.head) read)
 
   -- of a linked item the lane stores the time
-  begun : h.linked ≡ true → (es : List Event) → run_of taken (event.Try w ∷ event.BumpTime w now ∷ es) ≡ run_of (at s c w s.classes (record x { time = now }) (y (lane.Tried b))) es
+  begun : h.linked ≡ true → (es : List Event) → run_of taken (event.Try w ∷ event.BumpTime w now ∷ es)
+      ≡ run_of (at s c w s.classes (record x { time = now }) (y (lane.Tried b))) es
   begun on es = looked (event.BumpTime w now ∷ es)
       ∙ time_step s b w c_in w_in s.classes x (y (lane.Tried b)) es now refl on
 
   -- an item in HOT or WARM gets the time alone
-  timed : h.linked ≡ true → is_cold h.segment ≡ false → run_of taken (event.Try w ∷ event.BumpTime w now ∷ event.Alight w ∷ [])
+  timed : h.linked ≡ true → is_cold h.segment ≡ false
+      → run_of taken (event.Try w ∷ event.BumpTime w now ∷ event.Alight w ∷ [])
       ≡ Some (at s c w s.classes (bumped_chunk x now outcome.TimeOnly) (z outcome.TimeOnly))
   timed on warm = begun on (event.Alight w ∷ [])
       ∙ alight_step s b w c_in w_in s.classes (record x { time = now }) (y (lane.Tried b)) [] outcome.TimeOnly
       (λ heads same. ap (λ (f : Head). option_map (applied_bump b) (outcome_tried f)) same
-      ∙ ap (option_map (applied_bump b)) (ap (λ i. if not i then Some outcome.Gone else (if is_cold h.segment then None else Some outcome.TimeOnly)) on ∙ ap (λ d. if d then None else Some outcome.TimeOnly) warm))
+      ∙ ap (option_map (applied_bump b)) (ap (λ i. if not i then Some outcome.Gone else
+      (if is_cold h.segment then None else Some outcome.TimeOnly)) on
+      ∙ ap (λ d. if d then None else Some outcome.TimeOnly) warm))
 
   -- so does one in COLD whose ACTIVE is clear
-  unmarked : h.linked ≡ true → is_cold h.segment ≡ true → h.active ≡ false → run_of taken (event.Try w ∷ event.BumpTime w now ∷ event.ClearFor w ∷ event.Alight w ∷ [])
+  unmarked : h.linked ≡ true → is_cold h.segment ≡ true → h.active ≡ false
+      → run_of taken (event.Try w ∷ event.BumpTime w now ∷ event.ClearFor w ∷ event.Alight w ∷ [])
       ≡ Some (at s c w s.classes (bumped_chunk x now outcome.TimeOnly) (z outcome.TimeOnly))
   unmarked on cold clear = begun on (event.ClearFor w ∷ event.Alight w ∷ [])
-      ∙ (clear_step s b w c_in w_in s.classes (record x { time = now }) (y (lane.Tried b)) (event.Alight w ∷ []) refl on cold
-      ∙ (alight_step s b w c_in w_in s.classes (record x { head = cleared_head h; time = now }) (y (lane.Cleared b h.active)) [] outcome.TimeOnly (λ heads same. ap (λ d. ending_at heads (lane.Cleared b d)) clear)
-      ∙ ap (λ (a : Bool). Some (at s c w s.classes (record x { head = record (one_fewer h) { active = a }; time = now }) (z outcome.TimeOnly))) (sym clear)))
+      ∙ (clear_step s b w c_in w_in s.classes (record x { time = now }) (y (lane.Tried b))
+      (event.Alight w ∷ []) refl on cold
+      ∙ (alight_step s b w c_in w_in s.classes (record x { head = cleared_head h; time = now })
+      (y (lane.Cleared b h.active)) [] outcome.TimeOnly (λ heads same. ap (λ d. ending_at heads
+      (lane.Cleared b d)) clear)
+      ∙ ap (λ (a : Bool). Some (at s c w s.classes (record x {
+        head = record (one_fewer h) {
+          active = a;
+        };
+        time = now;
+      }) (z outcome.TimeOnly))) (sym clear)))
 
   -- one whose ACTIVE is set is moved
-  moved : h.linked ≡ true → is_cold h.segment ≡ true → h.active ≡ true → run_of taken (event.Try w ∷ event.BumpTime w now ∷ event.ClearFor w ∷ event.MoveFor w ∷ event.Alight w ∷ [])
-      ≡ Some (with_change (at s c w s.classes (bumped_chunk x now outcome.Moved) (z outcome.Moved)) (class_of s c) (change.Moved b.life segment.Cold segment.Warm (BumpOf w b.number)))
+  moved : h.linked ≡ true → is_cold h.segment ≡ true → h.active ≡ true
+      → run_of taken (event.Try w ∷ event.BumpTime w now ∷ event.ClearFor w ∷ event.MoveFor w ∷ event.Alight w ∷ [])
+      ≡ Some (with_change (at s c w s.classes (bumped_chunk x now outcome.Moved) (z outcome.Moved)) (class_of s c)
+      (change.Moved b.life segment.Cold segment.Warm (BumpOf w b.number)))
   moved on cold set = begun on (event.ClearFor w ∷ event.MoveFor w ∷ event.Alight w ∷ [])
-      ∙ (clear_step s b w c_in w_in s.classes (record x { time = now }) (y (lane.Tried b)) (event.MoveFor w ∷ event.Alight w ∷ []) refl on cold
-      ∙ (move_step s b w c_in w_in s.classes (record x { head = cleared_head h; time = now }) (y (lane.Cleared b h.active)) (event.Alight w ∷ []) (ap (lane.Cleared b) set)
-      ∙ alight_step s b w c_in w_in (slice_set s.classes (class_of s c) (class_with_change (class_at s (class_of s c)) (change.Moved b.life segment.Cold segment.Warm (BumpOf w b.number))))
-      (record x { head = moved_head segment.Warm (cleared_head h); time = now }) (y (lane.Moved b)) [] outcome.Moved (λ heads same. refl)))
+      ∙ (clear_step s b w c_in w_in s.classes (record x { time = now }) (y (lane.Tried b))
+      (event.MoveFor w ∷ event.Alight w ∷ []) refl on cold
+      ∙ (move_step s b w c_in w_in s.classes (record x { head = cleared_head h; time = now })
+      (y (lane.Cleared b h.active)) (event.Alight w ∷ []) (ap (lane.Cleared b) set)
+      ∙ alight_step s b w c_in w_in (slice_set s.classes (class_of s c) (class_with_change (class_at s (class_of s c))
+      (change.Moved b.life segment.Cold segment.Warm (BumpOf w b.number))))
+      (record x { head = moved_head segment.Warm (cleared_head h); time = now }) (y (lane.Moved b)) [] outcome.Moved
+      (λ heads same. refl)))
 
   -- the outcome, by LINKED, by whether the segment bits say COLD, and by ACTIVE
   abbrev out : Bool → Bool → Bool → Outcome
   out i d a = if not i then outcome.Gone else (if d && a then outcome.Moved else outcome.TimeOnly)
 
   -- applying the bump is what the update table says
-  applied_made : IsLawful s → IsLawful taken → 0 < references s c b.life.generation → run_of taken (apply_events h w now c)
-      ≡ Some (bumped_lists (at s c w s.classes (bumped_chunk x now (outcome_next s b)) (z (outcome_next s b))) w b (outcome_next s b) (gone_as s c))
+  applied_made : IsLawful s → IsLawful taken → 0 < references s c b.life.generation
+      → run_of taken (apply_events h w now c)
+      ≡ Some (bumped_lists (at s c w s.classes (bumped_chunk x now (outcome_next s b)) (z (outcome_next s b))) w b
+      (outcome_next s b) (gone_as s c))
   applied_made o lawful some = by h.linked (is_cold h.segment) h.active refl refl refl
     where
       by : (i d a : Bool) → h.linked ≡ i → is_cold h.segment ≡ d → h.active ≡ a
@@ -207,7 +247,8 @@ module _ (s : State) (b : Bump) (w now : ℕ) (c_in : b.life.chunk < length s.ch
           else (if not d then event.Try w ∷ event.BumpTime w now ∷ event.Alight w ∷ []
           else (if a then event.Try w ∷ event.BumpTime w now ∷ event.ClearFor w ∷ event.MoveFor w ∷ event.Alight w ∷ []
           else event.Try w ∷ event.BumpTime w now ∷ event.ClearFor w ∷ event.Alight w ∷ [])))
-          ≡ Some (bumped_lists (at s c w s.classes (bumped_chunk x now (out i d a)) (z (out i d a))) w b (out i d a) (gone_as s c))
+          ≡ Some (bumped_lists (at s c w s.classes (bumped_chunk x now (out i d a)) (z (out i d a))) w b (out i d a)
+          (gone_as s c))
       by false d a is cold mark = gone o lawful some is
       by true false a is warm mark = timed is warm
       by true true true is cold set = moved is cold set
@@ -215,20 +256,25 @@ module _ (s : State) (b : Bump) (w now : ℕ) (c_in : b.life.chunk < length s.ch
 
 -- what is to be shown, by the next bump
 abbrev Made : State → ℕ → ℕ → Option Bump → Type 0
-Made s w now m = run_of s (option_map_or (λ (b : Bump). take_events w (worker_at s w).lane ++ apply_events (head_at s b.life.chunk) w now b.life.chunk) m []) ≡ Some (option_map_or (apply_bump s w now) m s)
+Made s w now m = run_of s (option_map_or (λ (b : Bump). take_events w (worker_at s w).lane ++ apply_events
+    (head_at s b.life.chunk) w now b.life.chunk) m []) ≡ Some (option_map_or (apply_bump s w now) m s)
 
 -- the worker when it received these and its lane is so far
 abbrev laned : State → ℕ → List ItemId → Lane → WorkerState
 laned s w r l = record (worker_at s w) { received = r; lane = l }
 
 -- applying the next bump of a worker is its events
-pub next_made : (s : State) → IsLawful s → (w now : ℕ) → is_allowed s (command.Next w now) ≡ true → run_of s (events_of s (command.Next w now)) ≡ Some (command_after s (command.Next w now))
+pub next_made : (s : State) → IsLawful s → (w now : ℕ) → is_allowed s (command.Next w now) ≡ true
+    → run_of s (events_of s (command.Next w now)) ≡ Some (command_after s (command.Next w now))
 next_made s o w now allowed = by (worker_at s w).lane refl
   where
-    both : (is_worker s w ≡ true) × ((not (is_half_made (worker_at s w).lane) && option_map_or (λ b. not (is_under_application s (class_of s b.life.chunk))) (bump_next (worker_at s w)) true) ≡ true)
+    both : (is_worker s w ≡ true) × ((not (is_half_made (worker_at s w).lane) && option_map_or
+        (λ b. not (is_under_application s (class_of s b.life.chunk))) (bump_next (worker_at s w)) true) ≡ true)
     both = and_parts _ _ allowed
 
-    more : (not (is_half_made (worker_at s w).lane) ≡ true) × (option_map_or (λ b. not (is_under_application s (class_of s b.life.chunk))) (bump_next (worker_at s w)) true ≡ true)
+    more : (not (is_half_made (worker_at s w).lane) ≡ true)
+        × (option_map_or (λ b. not (is_under_application s (class_of s b.life.chunk)))
+        (bump_next (worker_at s w)) true ≡ true)
     more = and_parts _ _ both.1
 
     w_in : w < length s.workers
@@ -236,52 +282,80 @@ next_made s o w now allowed = by (worker_at s w).lane refl
 
     -- no lane applies a bump of the class of the next one
     rests : (b : Bump) → bump_next (worker_at s w) ≡ Some b → is_under_application s (class_of s b.life.chunk) ≡ false
-    rests b is = not-true _ (ap (λ m. option_map_or (λ (a : Bump). not (is_under_application s (class_of s a.life.chunk))) m true) (sym is) ∙ more.1)
+    rests b is = not-true _ (ap (λ m. option_map_or (λ (a : Bump). not (is_under_application s
+        (class_of s a.life.chunk))) m true) (sym is) ∙ more.1)
 
     -- the bump that the lane carries is applied
-    ends : (b : Bump) (r : List ItemId) → bump_next (worker_at s w) ≡ Some b → 0 < references s b.life.chunk b.life.generation
+    ends : (b : Bump) (r : List ItemId) → bump_next (worker_at s w) ≡ Some b
+        → 0 < references s b.life.chunk b.life.generation
         → IsLawful (at s b.life.chunk w s.classes (chunk_at s b.life.chunk) (laned s w r (lane.Carrying b)))
         → r ≡ (bumped_worker (worker_at s w) b (outcome_next s b)).received
-        → run_of (at s b.life.chunk w s.classes (chunk_at s b.life.chunk) (laned s w r (lane.Carrying b))) (apply_events (head_at s b.life.chunk) w now b.life.chunk) ≡ Some (apply_bump s w now b)
-    ends b r is some lawful same = applied_made s b w now (referred_in_range s o b.life.chunk b.life.generation some) w_in (rests b is) r o lawful some
-        ∙ ap (λ (q : List ItemId). Some (bumped_lists (at s b.life.chunk w s.classes (bumped_chunk (chunk_at s b.life.chunk) now (outcome_next s b))
-        (record (worker_at s w) { received = q; lane = lane.Empty; applied = (worker_at s w).applied ++ applied_bump b (outcome_next s b) ∷ [] })) w b (outcome_next s b) (gone_as s b.life.chunk))) same
+        → run_of (at s b.life.chunk w s.classes (chunk_at s b.life.chunk) (laned s w r (lane.Carrying b)))
+        (apply_events (head_at s b.life.chunk) w now b.life.chunk) ≡ Some (apply_bump s w now b)
+    ends b r is some lawful same = applied_made s b w now
+        (referred_in_range s o b.life.chunk b.life.generation some) w_in (rests b is) r o lawful some
+        ∙ ap (λ (q : List ItemId). Some (bumped_lists (at s b.life.chunk w s.classes
+        (bumped_chunk (chunk_at s b.life.chunk) now (outcome_next s b))
+        (record (worker_at s w) {
+          received = q;
+          lane = lane.Empty;
+          applied = (worker_at s w).applied ++ applied_bump b
+              (outcome_next s b) ∷ [];
+        })) w b (outcome_next s b) (gone_as s b.life.chunk))) same
 
     -- a bump that is aboard
     aboard_made : (b : Bump) → (worker_at s w).lane ≡ lane.Carrying b → Made s w now (Some b)
     aboard_made b is =
         let bump : bump_next (worker_at s w) ≡ Some b = ap (λ l. bump_next (record (worker_at s w) { lane = l })) is in
         let some = aboard_referred s o w b.life w_in (omega (arith, ap (in_lane_of b.life) is, one_if_same b.life)) in
-        let start = at_start s b.life.chunk w ∙ ap (λ l. at s b.life.chunk w s.classes (chunk_at s b.life.chunk) (laned s w (worker_at s w).received l)) is in
+        let start = at_start s b.life.chunk w ∙ ap (λ l. at s b.life.chunk w s.classes (chunk_at s b.life.chunk)
+        (laned s w (worker_at s w).received l)) is in
         ap (λ l. run_of s (take_events w l ++ apply_events (head_at s b.life.chunk) w now b.life.chunk)) is
         ∙ (ap (λ u. run_of u (apply_events (head_at s b.life.chunk) w now b.life.chunk)) start
-        ∙ ends b (worker_at s w).received bump some (subst IsLawful start o) (ap (λ l. (bumped_worker (record (worker_at s w) { lane = l }) b (outcome_next s b)).received) (sym is)))
+        ∙ ends b (worker_at s w).received bump some (subst IsLawful start o)
+        (ap (λ l. (bumped_worker (record (worker_at s w) { lane = l }) b (outcome_next s b)).received) (sym is)))
 
     -- a bump that waits in the ring
-    waiting_made : (l : ItemId) → (worker_at s w).lane ≡ lane.Empty → next_bump (worker_at s w) ≡ Some l → bump_next (worker_at s w) ≡ Some (bump_of (length (worker_at s w).received) l)
+    waiting_made : (l : ItemId) → (worker_at s w).lane ≡ lane.Empty → next_bump (worker_at s w) ≡ Some l
+        → bump_next (worker_at s w) ≡ Some (bump_of (length (worker_at s w).received) l)
         → Made s w now (Some (bump_of (length (worker_at s w).received) l))
     waiting_made l is next bump =
         let b = bump_of (length (worker_at s w).received) l in
-        let some = in_ring_referred s o w l w_in (omega (arith, ap (count_of l) (next_in_ring (worker_at s w) l next), one_if_same l)) in
+        let some = in_ring_referred s o w l w_in (omega (
+          arith,
+          ap (count_of l) (next_in_ring (worker_at s w) l next),
+          one_if_same l,
+        )) in
         let r = (worker_at s w).received ++ l ∷ [] in
-        let enabled : is_enabled s (event.TakeBump w) ≡ true = and_from _ _ (ap is_empty is) (lt-ltb _ _ (slice_get_within (worker_at s w).sent (length (worker_at s w).received) l next)) in
-        let takes : after s (event.TakeBump w) ≡ at s l.chunk w s.classes (chunk_at s l.chunk) (laned s w r (lane.Carrying b)) =
-        ap (λ m. option_map_or (take_bump s w) m s) next ∙ ap (λ cs. with_worker (record s { chunks = cs }) w (laned s w r (lane.Carrying b))) (sym (set-get_or s.chunks l.chunk no_chunk)) in
+        let enabled : is_enabled s (event.TakeBump w) ≡ true = and_from _ _ (ap is_empty is)
+        (lt-ltb _ _ (slice_get_within (worker_at s w).sent (length (worker_at s w).received) l next)) in
+        let takes : after s (event.TakeBump w) ≡ at s l.chunk w s.classes (chunk_at s l.chunk)
+        (laned s w r (lane.Carrying b)) =
+        ap (λ m. option_map_or (take_bump s w) m s) next ∙ ap (λ cs. with_worker (record s { chunks = cs }) w
+        (laned s w r (lane.Carrying b))) (sym (set-get_or s.chunks l.chunk no_chunk)) in
         ap (λ m. run_of s (take_events w m ++ apply_events (head_at s l.chunk) w now l.chunk)) is
-        ∙ (run_step s (at s l.chunk w s.classes (chunk_at s l.chunk) (laned s w r (lane.Carrying b))) (event.TakeBump w) (apply_events (head_at s l.chunk) w now l.chunk) enabled takes
-        ∙ ends b r bump some (subst IsLawful takes (lawful_after s o (event.TakeBump w) enabled)) (ap (λ m. (bumped_worker (record (worker_at s w) { lane = m }) b (outcome_next s b)).received) (sym is)))
+        ∙ (run_step s (at s l.chunk w s.classes (chunk_at s l.chunk) (laned s w r (lane.Carrying b)))
+        (event.TakeBump w) (apply_events (head_at s l.chunk) w now l.chunk) enabled takes
+        ∙ ends b r bump some (subst IsLawful takes (lawful_after s o (event.TakeBump w) enabled))
+        (ap (λ m. (bumped_worker (record (worker_at s w) { lane = m }) b (outcome_next s b)).received) (sym is)))
 
     -- the lane is empty
-    empty_made : (worker_at s w).lane ≡ lane.Empty → (m : Option ItemId) → next_bump (worker_at s w) ≡ m → Made s w now (bump_next (worker_at s w))
-    empty_made is m next = here m next (ap (λ l. bump_next (record (worker_at s w) { lane = l })) is ∙ ap (λ n. option_map_or (λ l. Some (bump_of (length (worker_at s w).received) l)) n None) next)
+    empty_made : (worker_at s w).lane ≡ lane.Empty → (m : Option ItemId) → next_bump (worker_at s w) ≡ m
+        → Made s w now (bump_next (worker_at s w))
+    empty_made is m next = here m next (ap (λ l. bump_next (record (worker_at s w) { lane = l })) is
+        ∙ ap (λ n. option_map_or (λ l. Some (bump_of (length (worker_at s w).received) l)) n None) next)
       where
-        here : (m : Option ItemId) → next_bump (worker_at s w) ≡ m → bump_next (worker_at s w) ≡ option_map_or (λ l. Some (bump_of (length (worker_at s w).received) l)) m None → Made s w now (bump_next (worker_at s w))
+        here : (m : Option ItemId) → next_bump (worker_at s w) ≡ m → bump_next (worker_at s w)
+            ≡ option_map_or (λ l. Some (bump_of (length (worker_at s w).received) l)) m None
+            → Made s w now (bump_next (worker_at s w))
         here None next bump = subst (Made s w now) (sym bump) refl
         here (Some l) next bump = subst (Made s w now) (sym bump) (waiting_made l is next bump)
 
     by : (l : Lane) → (worker_at s w).lane ≡ l → Made s w now (bump_next (worker_at s w))
     by lane.Empty is = empty_made is (next_bump (worker_at s w)) refl
-    by (lane.Carrying b) is = subst (Made s w now) (sym (ap (λ l. bump_next (record (worker_at s w) { lane = l })) is)) (aboard_made b is)
+    by (lane.Carrying b) is = subst (Made s w now) (sym (ap (λ l. bump_next (record (worker_at s w) {
+      lane = l;
+    })) is)) (aboard_made b is)
     by (lane.Tried b) is = absurd (both_ways _ (not-true _ more.0) (ap is_half_made is))
     by (lane.Cleared b found) is = absurd (both_ways _ (not-true _ more.0) (ap is_half_made is))
     by (lane.Moved b) is = absurd (both_ways _ (not-true _ more.0) (ap is_half_made is))

@@ -34,23 +34,27 @@ use Rattle.bump_core.proofs.commands.ChangedLists.{no_changes}
 use Rattle.bump_core.proofs.commands.UnheldChunks.{sweep_idle, sweep_waits, some_unheld}
 
 -- where no event of a command asks for memory, the command is never refused for want of it
-pub wants_where_asked : (old : State) (c : Command) (new : State) (r : Result Answer Refused) → Commands old c new r → command_asks_for_memory old c ≡ false → IfErr r (λ e. e ≡ NotEnabled)
+pub wants_where_asked : (old : State) (c : Command) (new : State) (r : Result Answer Refused) → Commands old c new r
+    → command_asks_for_memory old c ≡ false → IfErr r (λ e. e ≡ NotEnabled)
 wants_where_asked old c new (Ok answer) made none = tt
 wants_where_asked old c new (Err NotEnabled) refused none = refl
 wants_where_asked old c new (Err OutOfMemory) refused none = absurd (both_ways _ none refused.2)
 
 -- a sweep asks where nobody holds one of its chunks
-pub looks_ask : (heads : ℕ → Head) (cs : List ℕ) (s : State) → list_any (λ c. is_unheld (heads c)) cs ≡ true → one_asks s (looks_at heads cs) ≡ true
+pub looks_ask : (heads : ℕ → Head) (cs : List ℕ) (s : State) → list_any (λ c. is_unheld (heads c)) cs ≡ true
+    → one_asks s (looks_at heads cs) ≡ true
 looks_ask heads [] s some = absurd (let u : ⊥ = cc in u)
 looks_ask heads (c ∷ cs) s some = by (is_unheld (heads c)) some (looks_ask heads cs s)
   where
-    by : (b : Bool) → (b || list_any (λ d. is_unheld (heads d)) cs) ≡ true → (list_any (λ d. is_unheld (heads d)) cs ≡ true → one_asks s (looks_at heads cs) ≡ true)
+    by : (b : Bool) → (b || list_any (λ d. is_unheld (heads d)) cs) ≡ true → (list_any (λ d. is_unheld (heads d)) cs
+        ≡ true → one_asks s (looks_at heads cs) ≡ true)
         → one_asks s (look_of c (if b then Freed else Deferred) ∷ looks_at heads cs) ≡ true
     by true some others = refl
     by false some others = others some
 
 -- a pull asks where it moves its item, and where it ends it
-pub pull_asks : (s : State) (k : ℕ) (t : Tail) (c : ℕ) (to : Segment) → pulled_to (pulled_at s k t c) ≡ Some to → one_asks s (pull_events s k t c) ≡ true
+pub pull_asks : (s : State) (k : ℕ) (t : Tail) (c : ℕ) (to : Segment) → pulled_to (pulled_at s k t c) ≡ Some to
+    → one_asks s (pull_events s k t c) ≡ true
 pull_asks s k tail.Hot c to is = ap (λ o. one_asks (after s (event.ClearActive c)) (move_events c o)) is
 pull_asks s k tail.Warm c to is = ap (λ o. one_asks (after s (event.ClearActive c)) (move_events c o)) is
 pull_asks s k tail.Cold c to is = ap (λ o. one_asks (after s (event.ClearActive c)) (move_events c o)) is
@@ -62,15 +66,18 @@ or_asks true = refl
 or_asks false = refl
 
 -- the first hit of an item asks
-pub first_asks : (s : State) (w : ℕ) (l : ItemId) (now : ℕ) → (head_at s l.chunk).fetched ≡ false → one_asks s (hit_events s w l now (hit_at s l)) ≡ true
+pub first_asks : (s : State) (w : ℕ) (l : ItemId) (now : ℕ) → (head_at s l.chunk).fetched ≡ false
+    → one_asks s (hit_events s w l now (hit_at s l)) ≡ true
 first_asks s w l now clear =
     let is : hit_at s l ≡ IsFirst = cond-true (not (head_at s l.chunk).fetched) _ _ (ap not clear) in
     ap (λ (h : Hit). one_asks s (hit_events s w l now h)) is ∙ ap (λ (b : Bool). not b || false) clear
 
 -- and so does a bump that is queued
-pub queue_asks : (s : State) (w : ℕ) (l : ItemId) (now : ℕ) → hit_at s l ≡ Attempts → dropped_at s w l ≡ None → one_asks s (hit_events s w l now (hit_at s l)) ≡ true
+pub queue_asks : (s : State) (w : ℕ) (l : ItemId) (now : ℕ) → hit_at s l ≡ Attempts → dropped_at s w l ≡ None
+    → one_asks s (hit_events s w l now (hit_at s l)) ≡ true
 queue_asks s w l now is none = ap (λ (h : Hit). one_asks s (hit_events s w l now h)) is
-    ∙ (ap (λ (o : Option Dropped). one_asks s (event.Fetch w l ∷ event.Mark w l ∷ attempt_events w o)) none ∙ or_asks (not (head_at s l.chunk).fetched))
+    ∙ (ap (λ (o : Option Dropped). one_asks s (event.Fetch w l ∷ event.Mark w l ∷ attempt_events w o)) none
+    ∙ or_asks (not (head_at s l.chunk).fetched))
 
 -- to apply a bump asks, whatever it comes to
 applied_asks : (s : State) (w now c : ℕ) (linked cold active : Bool) (e : Ended) → one_asks s
@@ -84,27 +91,44 @@ applied_asks s w now c true true true e = refl
 applied_asks s w now c true true false e = refl
 
 -- whether the bump is taken first or not
-pub apply_asks : (s : State) (w now c : ℕ) (h : Head) (x : Lane) → one_asks s (take_events w x ++ apply_events h w now c) ≡ true
-apply_asks s w now c h lane.Empty = applied_asks (after s (event.TakeBump w)) w now c h.linked (is_cold h.segment) h.active (ended_of (one_fewer h))
-apply_asks s w now c h (lane.Carrying b) = applied_asks s w now c h.linked (is_cold h.segment) h.active (ended_of (one_fewer h))
-apply_asks s w now c h (lane.Tried b) = applied_asks s w now c h.linked (is_cold h.segment) h.active (ended_of (one_fewer h))
-apply_asks s w now c h (lane.Cleared b found) = applied_asks s w now c h.linked (is_cold h.segment) h.active (ended_of (one_fewer h))
-apply_asks s w now c h (lane.Moved b) = applied_asks s w now c h.linked (is_cold h.segment) h.active (ended_of (one_fewer h))
+pub apply_asks : (s : State) (w now c : ℕ) (h : Head) (x : Lane)
+    → one_asks s (take_events w x ++ apply_events h w now c) ≡ true
+apply_asks s w now c h lane.Empty = applied_asks (after s (event.TakeBump w)) w now c h.linked
+    (is_cold h.segment) h.active (ended_of (one_fewer h))
+apply_asks s w now c h (lane.Carrying b) = applied_asks s w now c h.linked (is_cold h.segment) h.active
+    (ended_of (one_fewer h))
+apply_asks s w now c h (lane.Tried b) = applied_asks s w now c h.linked (is_cold h.segment) h.active
+    (ended_of (one_fewer h))
+apply_asks s w now c h (lane.Cleared b found) = applied_asks s w now c h.linked (is_cold h.segment) h.active
+    (ended_of (one_fewer h))
+apply_asks s w now c h (lane.Moved b) = applied_asks s w now c h.linked (is_cold h.segment) h.active
+    (ended_of (one_fewer h))
 
 -- A sweep.
 module _ (s : State) (k : ℕ) (within : k < length s.classes) where
   -- one that frees nothing changes nothing
   pub nothing_swept : length (sweep_of s k) ≡ 0 → Commands s (command.Sweep k) s (Ok (answer.Swept 0))
-  nothing_swept none = (sweep_idle s k within none, sym (by (sweep_of s k) none ∙ no_changes s k), ap answer.Swept (sym none))
+  nothing_swept none = (
+    sweep_idle s k within none,
+    sym (by (sweep_of s k) none ∙ no_changes s k),
+    ap answer.Swept (sym none),
+  )
     where
       by : (es : List Change) → length es ≡ 0 → with_changes s k es ≡ with_changes s k []
       by [] empty = refl
       by (e ∷ es) some = absurd (omega (arith, some))
 
   -- one that frees some waits for the lane that applies a bump of the class
-  pub sweep_refused : (n : ℕ) → n ≡ length (sweep_of s k) → n ≢ 0 → true ≡ is_under_application s k → Commands s (command.Sweep k) s (Err NotEnabled)
+  pub sweep_refused : (n : ℕ) → n ≡ length (sweep_of s k) → n ≢ 0 → true ≡ is_under_application s k
+      → Commands s (command.Sweep k) s (Err NotEnabled)
   sweep_refused n is some busy = (sweep_waits s k within (omega arith) ∙ ap not (sym busy), refl)
 
   -- and it asks for memory
-  pub sweep_wants : (n : ℕ) → n ≡ length (sweep_of s k) → n ≢ 0 → false ≡ is_under_application s k → (new : State) → new ≡ s → Commands s (command.Sweep k) new (Err OutOfMemory)
-  sweep_wants n is some rest new same = (sweep_waits s k within (omega arith) ∙ ap not (sym rest), same, looks_ask (head_at s) (class_at s k).lists.dying s (some_unheld (head_at s) (class_at s k).lists.dying (omega arith)))
+  pub sweep_wants : (n : ℕ) → n ≡ length (sweep_of s k) → n ≢ 0 → false ≡ is_under_application s k → (new : State)
+      → new ≡ s → Commands s (command.Sweep k) new (Err OutOfMemory)
+  sweep_wants n is some rest new same = (
+    sweep_waits s k within (omega arith) ∙ ap not (sym rest),
+    same,
+    looks_ask (head_at s) (class_at s k).lists.dying s (some_unheld (head_at s) (class_at s k).lists.dying
+        (omega arith)),
+  )

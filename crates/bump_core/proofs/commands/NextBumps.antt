@@ -22,13 +22,20 @@ next_counted x b next = by x.lane refl
     read : (z : Lane) → x.lane ≡ z → bump_next (record x { lane = z }) ≡ Some b
     read z is = sym (ap (λ l. bump_next (record x { lane = l })) is) ∙ next
 
-    empty : (m : Option ItemId) → next_bump x ≡ m → option_map_or (λ l. Some (bump_of (length x.received) l)) m None ≡ Some b → 0 < bumps_of b.life x
+    empty : (m : Option ItemId) → next_bump x ≡ m → option_map_or (λ l. Some (bump_of (length x.received) l)) m None
+        ≡ Some b → 0 < bumps_of b.life x
     empty None is e = absurd (let u : ⊥ = cc in u)
-    empty (Some l) is e = let same : l ≡ b.life = cc in omega (arith, ap (count_of b.life) (next_in_ring x l is), ap (one_if b.life) same, one_if_same b.life)
+    empty (Some l) is e = let same : l ≡ b.life = cc in omega (
+      arith,
+      ap (count_of b.life) (next_in_ring x l is),
+      ap (one_if b.life) same,
+      one_if_same b.life,
+    )
 
     by : (z : Lane) → x.lane ≡ z → 0 < bumps_of b.life x
     by lane.Empty is = empty (next_bump x) refl (read lane.Empty is)
-    by (lane.Carrying d) is = let same : d ≡ b = cc (read (lane.Carrying d) is) in omega (arith, ap (in_lane_of b.life) is, ap (λ (z : Bump). one_if b.life z.life) same, one_if_same b.life)
+    by (lane.Carrying d) is = let same : d ≡ b = cc (read (lane.Carrying d) is) in
+        omega (arith, ap (in_lane_of b.life) is, ap (λ (z : Bump). one_if b.life z.life) same, one_if_same b.life)
     by (lane.Tried d) is = absurd (let u : ⊥ = cc (read (lane.Tried d) is) in u)
     by (lane.Cleared d found) is = absurd (let u : ⊥ = cc (read (lane.Cleared d found) is) in u)
     by (lane.Moved d) is = absurd (let u : ⊥ = cc (read (lane.Moved d) is) in u)
@@ -39,6 +46,7 @@ module _ (s : State) (o : IsLawful s) (w : ℕ) (within : w < length s.workers) 
   next_referred b next = omega (arith, bumps_counted s b.life w within, next_counted (worker_at s w) b next)
 
   -- its chunk is in range
-  pub some_next_in_range : (r : Option Bump) → r ≡ bump_next (worker_at s w) → IfSome r (λ b. b.life.chunk < length s.chunks)
+  pub some_next_in_range : (r : Option Bump) → r ≡ bump_next (worker_at s w)
+      → IfSome r (λ b. b.life.chunk < length s.chunks)
   some_next_in_range None is = tt
   some_next_in_range (Some b) is = referred_in_range s o b.life.chunk b.life.generation (next_referred b (sym is))

@@ -10,7 +10,7 @@ use Rattle.std.proofs.lemmas.Bool.{both_ways}
 use Rattle.bump_rules.specs.declared.items.Head.{Head}
 use Rattle.bump_rules.specs.declared.history.Change.TheVariants as change
 use Rattle.bump_state.specs.declared.chunks.Chunk.{Chunk}
-use Rattle.bump_rules.specs.Heads.{newborn}
+use Rattle.bump_rules.specs.Heads.{linked_head}
 use Rattle.bump_state.proofs.Tiles.{class_owns}
 use Rattle.bump_state.proofs.Fronts.{next_front}
 use Rattle.bump_state.proofs.LawfulStates.{unused_shown, held_by, held_here, unused_unreferred, waiting_linked}
@@ -18,7 +18,8 @@ use Rattle.bump_rules.proofs.Laws.{born}
 use Rattle.bump_core.proofs.events.Moves.{change_lawful}
 
 -- where a life has no holds it has none under another head
-held_none : (x : Chunk) (h : Head) → ((g : ℕ) → held_by x g ≡ 0) → (g : ℕ) → held_by (record x { head = h }) g ≡ held_by x g
+held_none : (x : Chunk) (h : Head) → ((g : ℕ) → held_by x g ≡ 0) → (g : ℕ) → held_by (record x { head = h }) g
+    ≡ held_by x g
 held_none x h none g = by (eqb h.generation g) ∙ sym (none g)
   where
     empty : x.holds ≡ 0
@@ -31,18 +32,22 @@ held_none x h none g = by (eqb h.generation g) ∙ sym (none g)
 -- The events.
 
 -- the label of the next item of a class is stored
-pub after_put_label : (s : State) (k x : ℕ) → IsLawful s → is_enabled s (event.PutLabel k x) ≡ true → IsLawful (after s (event.PutLabel k x))
+pub after_put_label : (s : State) (k x : ℕ) → IsLawful s → is_enabled s (event.PutLabel k x) ≡ true
+    → IsLawful (after s (event.PutLabel k x))
 after_put_label s k x o enabled = let next = next_from s k enabled in
     lawful_by_some (λ c. with_label s c x) s (next_chunk s k) next.0 next.2 (label_lawful s next.0 x o)
 
 -- the time of the next item of a class is stored
-pub after_put_time : (s : State) (k t : ℕ) → IsLawful s → is_enabled s (event.PutTime k t) ≡ true → IsLawful (after s (event.PutTime k t))
+pub after_put_time : (s : State) (k t : ℕ) → IsLawful s → is_enabled s (event.PutTime k t) ≡ true
+    → IsLawful (after s (event.PutTime k t))
 after_put_time s k t o enabled = let next = next_from s k enabled in
     lawful_by_some (λ c. with_time s c t) s (next_chunk s k) next.0 next.2 (time_lawful s next.0 t o)
 
 -- a link keeps a World lawful
-pub after_link : (s : State) → IsLawful s → (k : ℕ) → is_enabled s (event.Link k) ≡ true → IsLawful (after s (event.Link k))
-after_link s o k enabled = let next = next_from s k enabled in lawful_by_some (link s k) s (next_chunk s k) next.0 next.2 (linked next.0 next.1 next.2)
+pub after_link : (s : State) → IsLawful s → (k : ℕ) → is_enabled s (event.Link k) ≡ true
+    → IsLawful (after s (event.Link k))
+after_link s o k enabled = let next = next_from s k enabled in
+    lawful_by_some (link s k) s (next_chunk s k) next.0 next.2 (linked next.0 next.1 next.2)
   where
     linked : (c : ℕ) → k < length s.classes → next_chunk s k ≡ Some c → IsLawful (link s k c)
     linked c within next =
@@ -50,9 +55,11 @@ after_link s o k enabled = let next = next_from s k enabled in lawful_by_some (l
         let off = (unused_shown s o c at.2).0 in
         let none = unused_unreferred s o c at.2 in
         let own = subst (λ (j : ℕ). owns (class_at s j) c ≡ true) at.0 (class_owns s o.tiles c at.1) in
-        change_lawful s o c (newborn ((head_at s c).generation + 1)) k (change.Linked (next_life s c)) within own refl
-        (λ g. held_none (chunk_at s c) (newborn ((head_at s c).generation + 1)) (λ n. omega (arith, none n)) g)
+        change_lawful s o c (linked_head ((head_at s c).generation + 1)) k (change.Linked
+        (next_life s c)) within own refl
+        (λ g. held_none (chunk_at s c) (linked_head ((head_at s c).generation + 1)) (λ n. omega (arith, none n)) g)
         (born s.refs_limit (head_at s c) (place s c) (references s c) (first_hits_of s c) (o.chunks c) at.2 o.limit)
         refl
         refl
-        (λ w w_in b is same. both_ways (head_at s c).linked off (subst (λ (d : ℕ). (head_at s d).linked ≡ true) same (waiting_linked s o w b w_in is).0))
+        (λ w w_in b is same. both_ways (head_at s c).linked off (subst (λ (d : ℕ). (head_at s d).linked
+        ≡ true) same (waiting_linked s o w b w_in is).0))

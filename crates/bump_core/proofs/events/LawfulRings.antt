@@ -9,7 +9,8 @@ use Rattle.bump_core.proofs.worlds.Frames.{worker_lawful, alone_kept, tells_kept
 use Rattle.bump_state.proofs.Enabled.{close_from}
 
 -- a worker's ring closes
-pub after_close : (s : State) (w : ℕ) → IsLawful s → is_enabled s (event.Close w) ≡ true → IsLawful (after s (event.Close w))
+pub after_close : (s : State) (w : ℕ) → IsLawful s → is_enabled s (event.Close w) ≡ true
+    → IsLawful (after s (event.Close w))
 after_close s w o enabled = let inside = (close_from s w enabled).0 in
     let y : WorkerState = record (worker_at s w) { is_open = false } in
     let was : IsWorker s.capacity (worker_at s w) = o.workers w inside in

@@ -26,8 +26,10 @@ applies_in_order capacity x p =
     ∙ ap (numbered_from 0) (sym p.ring.prefix))
 
 -- a chunk of a class stands once in its six lists
-pub once_in_all : (s : State) → IsLawful s → (k c : ℕ) → k < length s.classes → owns (class_at s k) c ≡ true → times_in_all c (class_at s k).lists ≡ 1
-once_in_all s o k c within own = once_in_places (place_in (class_at s k) c) (λ q. times c (list_at (class_at s k).lists q)) at
+pub once_in_all : (s : State) → IsLawful s → (k c : ℕ) → k < length s.classes → owns (class_at s k) c ≡ true
+    → times_in_all c (class_at s k).lists ≡ 1
+once_in_all s o k c within own = once_in_places (place_in (class_at s k) c)
+    (λ q. times c (list_at (class_at s k).lists q)) at
   where
     at : (q : Place) → times c (list_at (class_at s k).lists q) ≡ bit (is_place (place_in (class_at s k) c) q)
     at q = times_in s o k c q within ∙ ap (λ (b : Bool). bit (b && is_place (place_in (class_at s k) c) q)) own
@@ -37,7 +39,8 @@ pub stands_to : (s : State) → IsLawful s → (k c : ℕ) (q : Place) → k < l
 stands_to s o k c q within = record {
   listed = times_in s o k c q within;
   shown = λ some. subst (Shows (head_at s c)) (listed s o k c q within some).2 (o.chunks c).shown;
-  generation = λ some. sym (o.generations c) ∙ ap (λ (j : ℕ). (stands_in (class_at s j) c).1) (listed s o k c q within some).0;
+  generation = λ some. sym (o.generations c) ∙ ap (λ (j : ℕ). (stands_in (class_at s j) c).1)
+      (listed s o k c q within some).0;
 }
 
 -- a lawful World is as the headline says
@@ -48,8 +51,10 @@ headline s o = record {
   accounts = λ w within. (o.workers w within).accounts;
   none_free = λ c g some.
       let within = referred_in_range s o c g some in
-      let used = referred_used s o c g some in
-      (never_at s o c (place s c) Unused within refl (other_place (place s c) Unused (λ e. subst IsUsed e used)), never_at s o c (place s c) Retired within refl (other_place (place s c) Retired (λ e. subst IsUsed e used)));
+      let used = referred_used s o c g some in (
+        never_at s o c (place s c) Unused within refl (other_place (place s c) Unused (λ e. subst IsUsed e used)),
+        never_at s o c (place s c) Retired within refl (other_place (place s c) Retired (λ e. subst IsUsed e used)),
+      );
   stands = stands_to s o;
   once = once_in_all s o;
   causes = λ k within. (o.classes k within).causes;

@@ -16,12 +16,12 @@ use Rattle.bump_rules.specs.declared.bumps.Bump.{Bump}
 use Rattle.bump_rules.specs.declared.places.Place.TheVariants.{Unused}
 use Rattle.bump_rules.specs.declared.places.Segment.{Segment}
 use Rattle.bump_rules.specs.declared.places.Segment.TheVariants as segment
-use Rattle.bump_rules.specs.Heads.{newborn, moved_head, one_more, one_fewer, fetched_head, active_head, cleared_head, severed_head}
+use Rattle.bump_rules.specs.Heads.{linked_head, moved_head, one_more, one_fewer, fetched_head, marked_head, cleared_head, unlinked_head}
 use Rattle.bump_state.specs.Events.{is_enabled, after, next_chunk, next_life, next_bump, ending, reserve, drop_refs, drop_busy, push, drop_full, unmark, with_label, with_time, link, take_bump, clear_for, move_for, alight, unlink, sweep}
 use Rattle.bump_rules.specs.Lanes.{carried, tried, applied_now, cleared_active}
 use Rattle.bump_rules.specs.History.{subject, freed_change}
 use Rattle.bump_rules.specs.declared.labels.LabelStep.{LabelStep}
-use Rattle.bump_rules.specs.declared.labels.LabelStep.TheVariants.{Stored, Begun}
+use Rattle.bump_rules.specs.declared.labels.LabelStep.TheVariants.{Stored, Linked}
 use Rattle.bump_rules.specs.Labels.{label_of_life}
 use Rattle.bump_core.specs.Labels.{label_steps, IsLabel, KeepsLabels}
 use Rattle.bump_rules.specs.Lawful.{IsUsed}
@@ -60,7 +60,8 @@ stays_here : (s : State) → AllStay s s
 stays_here s c = record { generation = refl; label = refl; used = λ used. used }
 
 -- one chunk with its generation and its label, and whatever workers
-stays_written : (s : State) (d : ℕ) (x : Chunk) (ws : List WorkerState) → x.head.generation ≡ (head_at s d).generation → x.label ≡ (chunk_at s d).label → AllStay s (record (with_chunk s d x) { workers = ws })
+stays_written : (s : State) (d : ℕ) (x : Chunk) (ws : List WorkerState) → x.head.generation ≡ (head_at s d).generation
+    → x.label ≡ (chunk_at s d).label → AllStay s (record (with_chunk s d x) { workers = ws })
 stays_written s d x ws generations labels c = record {
   generation = same_read (λ (y : Chunk). y.head.generation) s.chunks d x no_chunk generations c;
   label = same_read (λ (y : Chunk). y.label) s.chunks d x no_chunk labels c;
@@ -68,7 +69,8 @@ stays_written s d x ws generations labels c = record {
 }
 
 -- a chunk with another head of its life
-stays_headed : (s : State) (d : ℕ) (h : Head) (ws : List WorkerState) → h.generation ≡ (head_at s d).generation → AllStay s (record (with_head s d h) { workers = ws })
+stays_headed : (s : State) (d : ℕ) (h : Head) (ws : List WorkerState) → h.generation ≡ (head_at s d).generation
+    → AllStay s (record (with_head s d h) { workers = ws })
 stays_headed s d h ws generations = stays_written s d (record (chunk_at s d) { head = h }) ws generations refl
 
 -- no chunk changed
@@ -76,7 +78,8 @@ stays_worked : (s : State) (ws : List WorkerState) → AllStay s (record s { wor
 stays_worked s ws c = record { generation = refl; label = refl; used = λ used. used }
 
 -- a chunk in use with another head of its life, and an entry of it
-stays_changed : (s : State) (o : IsLawful s) (d : ℕ) (h : Head) (k : ℕ) (e : Change) (within : k < length s.classes) (own : owns (class_at s k) d ≡ true) (is : (subject e).chunk ≡ d)
+stays_changed : (s : State) (o : IsLawful s) (d : ℕ) (h : Head) (k : ℕ) (e : Change) (within : k < length s.classes)
+    (own : owns (class_at s k) d ≡ true) (is : (subject e).chunk ≡ d)
     → h.generation ≡ (head_at s d).generation → IsUsed (place s d) → AllStay s (with_change (with_head s d h) k e)
 stays_changed s o d h k e within own is same was c = by (ℕ_discrete c d)
   where
@@ -87,7 +90,12 @@ stays_changed s o d h k e within own is same was c = by (ℕ_discrete c d)
     here = chunk_changed s o d h k e within own is
 
     at : Stays d s t
-    at = record { generation = ap (λ (y : Chunk). y.head.generation) here ∙ same; label = ap (λ (y : Chunk). y.label) here; used = λ used. was }
+    at = record {
+      generation = ap (λ (y : Chunk). y.head.generation) here
+          ∙ same;
+      label = ap (λ (y : Chunk). y.label) here;
+      used = λ used. was;
+    }
 
     by : Dec (c ≡ d) → Stays c s t
     by (yes equal) = subst (λ (j : ℕ). Stays j s t) (sym equal) at
@@ -98,12 +106,16 @@ stays_changed s o d h k e within own is same was c = by (ℕ_discrete c d)
     }
 
 -- a move is of a chunk in use
-moved_stays : (s : State) → IsLawful s → (c : ℕ) (to : Segment) (e : Change) → (subject e).chunk ≡ c → c < length s.chunks → (head_at s c).linked ≡ true → AllStay s (with_change (with_head s c (moved_head to (head_at s c))) (class_of s c) e)
-moved_stays s o c to e is within on = stays_changed s o c (moved_head to (head_at s c)) (class_of s c) e (class_within s o.tiles c within) (class_owns s o.tiles c within) is refl
+moved_stays : (s : State) → IsLawful s → (c : ℕ) (to : Segment) (e : Change) → (subject e).chunk ≡ c
+    → c < length s.chunks → (head_at s c).linked ≡ true
+    → AllStay s (with_change (with_head s c (moved_head to (head_at s c))) (class_of s c) e)
+moved_stays s o c to e is within on = stays_changed s o c (moved_head to (head_at s c)) (class_of s c) e
+    (class_within s o.tiles c within) (class_owns s o.tiles c within) is refl
     (used_where_linked (head_at s c) (place s c) (o.chunks c).shown on)
 
 -- and so is a move for a bump, of an item that its lane found in COLD
-moved_for_stays : (s : State) → IsLawful s → (w : ℕ) (b : Bump) → w < length s.workers → cleared_active (worker_at s w).lane ≡ Some b → AllStay s (move_for s w b)
+moved_for_stays : (s : State) → IsLawful s → (w : ℕ) (b : Bump) → w < length s.workers
+    → cleared_active (worker_at s w).lane ≡ Some b → AllStay s (move_for s w b)
 moved_for_stays s o w b within is c =
     let on = (waiting_linked s o w b within (cleared_from (worker_at s w).lane b is)).0 in
     let e = change.Moved b.life segment.Cold segment.Warm (BumpOf w b.number) in
@@ -113,7 +125,8 @@ moved_for_stays s o w b within is c =
 -- an unlink is of a linked chunk
 unlinked_stays : (s : State) → IsLawful s → (l : ItemId) → is_enabled s (event.Unlink l) ≡ true → AllStay s (unlink s l)
 unlinked_stays s o l enabled = let may = unlink_from s l enabled in
-    stays_changed s o l.chunk (severed_head (head_at s l.chunk)) (class_of s l.chunk) (change.Unlinked l) (class_within s o.tiles l.chunk may.0) (class_owns s o.tiles l.chunk may.0) refl refl
+    stays_changed s o l.chunk (unlinked_head (head_at s l.chunk)) (class_of s l.chunk) (change.Unlinked l)
+    (class_within s o.tiles l.chunk may.0) (class_owns s o.tiles l.chunk may.0) refl refl
     (used_where_linked (head_at s l.chunk) (place s l.chunk) (o.chunks l.chunk).shown may.2)
 
 -- and a sweep of one that is DYING
@@ -122,7 +135,8 @@ swept_stays s o c enabled =
     let may = sweep_from s o c enabled in
     let e = freed_change (life c (head_at s c).generation) in
     subst (λ t. AllStay s (with_change t (class_of s c) e)) (same_head s c)
-    (stays_changed s o c (head_at s c) (class_of s c) e (class_within s o.tiles c may.0) (class_owns s o.tiles c may.0) (ap (λ (l : ItemId). l.chunk) (freed (life c (head_at s c).generation)).is) refl
+    (stays_changed s o c (head_at s c) (class_of s c) e (class_within s o.tiles c may.0)
+    (class_owns s o.tiles c may.0) (ap (λ (l : ItemId). l.chunk) (freed (life c (head_at s c).generation)).is) refl
     (subst IsUsed (sym (swept_dying s o c enabled)) tt))
 
 -- the event stores no label and begins no life
@@ -135,67 +149,98 @@ IsOther _ = Unit {0}
 stays_after : (s : State) → IsLawful s → (e : Event) → is_enabled s e ≡ true → IsOther e → AllStay s (after s e)
 stays_after s o (event.Load c) enabled other = stays_here s
 stays_after s o (event.Take w l) enabled other = stays_written s l.chunk _ s.workers refl refl
-stays_after s o (event.Fetch w l) enabled other = by_test (AllStay s) (head_at s l.chunk).fetched _ _ (λ on. stays_headed s l.chunk (fetched_head (head_at s l.chunk)) s.workers refl) (λ off. stays_headed s l.chunk (fetched_head (head_at s l.chunk)) _ refl)
-stays_after s o (event.Mark w l) enabled other = by_test (AllStay s) (not (head_at s l.chunk).active && is_cold (head_at s l.chunk).segment) _ _ (λ on. stays_headed s l.chunk (active_head (head_at s l.chunk)) _ refl) (λ off. stays_headed s l.chunk (active_head (head_at s l.chunk)) s.workers refl)
-stays_after s o (event.Reserve w) enabled other = by_value (AllStay s) (reserve s w) (tried_life (worker_at s w).hand) s (λ l is. stays_headed s l.chunk (one_more (head_at s l.chunk)) _ refl) (stays_here s)
-stays_after s o (event.DropRefs w) enabled other = by_value (AllStay s) (drop_refs s w) (tried_life (worker_at s w).hand) s (λ l is. stays_worked s _) (stays_here s)
-stays_after s o (event.DropBusy w) enabled other = by_value (AllStay s) (drop_busy s w) (tried_life (worker_at s w).hand) s (λ l is. stays_worked s _) (stays_here s)
-stays_after s o (event.Push w) enabled other = by_value (AllStay s) (push s w) (life_in_hand (worker_at s w).hand) s (λ l is. stays_worked s _) (stays_here s)
-stays_after s o (event.DropFull w) enabled other = by_value (AllStay s) (drop_full s w) (life_in_hand (worker_at s w).hand) s (λ l is. stays_headed s l.chunk (one_fewer (head_at s l.chunk)) _ refl) (stays_here s)
-stays_after s o (event.Unmark w) enabled other = by_value (AllStay s) (unmark s w) (cleared_life (worker_at s w).hand) s (λ l is. stays_headed s l.chunk (cleared_head (head_at s l.chunk)) _ refl) (stays_here s)
+stays_after s o (event.Fetch w l) enabled other = by_test (AllStay s) (head_at s l.chunk).fetched _ _
+    (λ on. stays_headed s l.chunk (fetched_head (head_at s l.chunk)) s.workers refl) (λ off. stays_headed s l.chunk
+    (fetched_head (head_at s l.chunk)) _ refl)
+stays_after s o (event.Mark w l) enabled other = by_test (AllStay s) (not (head_at s l.chunk).active && is_cold
+    (head_at s l.chunk).segment) _ _ (λ on. stays_headed s l.chunk (marked_head (head_at s l.chunk)) _ refl)
+    (λ off. stays_headed s l.chunk (marked_head (head_at s l.chunk)) s.workers refl)
+stays_after s o (event.Reserve w) enabled other = by_value (AllStay s) (reserve s w)
+    (tried_life (worker_at s w).hand) s (λ l is. stays_headed s l.chunk (one_more (head_at s l.chunk)) _ refl)
+    (stays_here s)
+stays_after s o (event.DropRefs w) enabled other = by_value (AllStay s) (drop_refs s w)
+    (tried_life (worker_at s w).hand) s (λ l is. stays_worked s _) (stays_here s)
+stays_after s o (event.DropBusy w) enabled other = by_value (AllStay s) (drop_busy s w)
+    (tried_life (worker_at s w).hand) s (λ l is. stays_worked s _) (stays_here s)
+stays_after s o (event.Push w) enabled other = by_value (AllStay s) (push s w) (life_in_hand (worker_at s w).hand) s
+    (λ l is. stays_worked s _) (stays_here s)
+stays_after s o (event.DropFull w) enabled other = by_value (AllStay s) (drop_full s w)
+    (life_in_hand (worker_at s w).hand) s (λ l is. stays_headed s l.chunk (one_fewer (head_at s l.chunk)) _ refl)
+    (stays_here s)
+stays_after s o (event.Unmark w) enabled other = by_value (AllStay s) (unmark s w)
+    (cleared_life (worker_at s w).hand) s (λ l is. stays_headed s l.chunk (cleared_head (head_at s l.chunk)) _ refl)
+    (stays_here s)
 stays_after s o (event.Close w) enabled other = stays_worked s _
 stays_after s o (event.StoreTime l t) enabled other = stays_written s l.chunk _ s.workers refl refl
 stays_after s o (event.Release l) enabled other = stays_written s l.chunk _ s.workers refl refl
 stays_after s o (event.PutLabel k x) enabled other = absurd other
-stays_after s o (event.PutTime k t) enabled other = by_value (AllStay s) (λ c. with_time s c t) (next_chunk s k) s (λ c is. stays_written s c _ s.workers refl refl) (stays_here s)
+stays_after s o (event.PutTime k t) enabled other = by_value (AllStay s) (λ c. with_time s c t) (next_chunk s k) s
+    (λ c is. stays_written s c _ s.workers refl refl) (stays_here s)
 stays_after s o (event.Link k) enabled other = absurd other
 stays_after s o (event.Unlink l) enabled other = unlinked_stays s o l enabled
 stays_after s o (event.Sweep c) enabled other = swept_stays s o c enabled
 stays_after s o (event.ClearActive c) enabled other = stays_headed s c (cleared_head (head_at s c)) s.workers refl
 stays_after s o (event.Move c to) enabled other = let may = move_from s c to enabled in
     moved_stays s o c to (change.Moved (life c (head_at s c).generation) (head_at s c).segment to Pull) refl may.0 may.1
-stays_after s o (event.TakeBump w) enabled other = by_value (AllStay s) (take_bump s w) (next_bump (worker_at s w)) s (λ l is. stays_worked s _) (stays_here s)
-stays_after s o (event.Try w) enabled other = by_value (AllStay s) _ (carried (worker_at s w).lane) s (λ b is. stays_worked s _) (stays_here s)
-stays_after s o (event.BumpTime w t) enabled other = by_value (AllStay s) _ (applied_now (worker_at s w).lane) s (λ b is. stays_written s b.life.chunk _ s.workers refl refl) (stays_here s)
-stays_after s o (event.ClearFor w) enabled other = by_value (AllStay s) (clear_for s w) (tried (worker_at s w).lane) s (λ b is. stays_headed s b.life.chunk (cleared_head (head_at s b.life.chunk)) _ refl) (stays_here s)
-stays_after s o (event.MoveFor w) enabled other = by_value (AllStay s) (move_for s w) (cleared_active (worker_at s w).lane) s (λ b is. moved_for_stays s o w b (move_for_from s w enabled).1 is) (stays_here s)
-stays_after s o (event.Alight w) enabled other = by_value (AllStay s) (alight s w) (ending s w) s (λ a is. stays_headed s a.life.chunk (one_fewer (head_at s a.life.chunk)) _ refl) (stays_here s)
+stays_after s o (event.TakeBump w) enabled other = by_value (AllStay s) (take_bump s w) (next_bump (worker_at s w)) s
+    (λ l is. stays_worked s _) (stays_here s)
+stays_after s o (event.Try w) enabled other = by_value (AllStay s) _ (carried (worker_at s w).lane) s
+    (λ b is. stays_worked s _) (stays_here s)
+stays_after s o (event.BumpTime w t) enabled other = by_value (AllStay s) _ (applied_now (worker_at s w).lane) s
+    (λ b is. stays_written s b.life.chunk _ s.workers refl refl) (stays_here s)
+stays_after s o (event.ClearFor w) enabled other = by_value (AllStay s) (clear_for s w) (tried (worker_at s w).lane) s
+    (λ b is. stays_headed s b.life.chunk (cleared_head (head_at s b.life.chunk)) _ refl) (stays_here s)
+stays_after s o (event.MoveFor w) enabled other = by_value (AllStay s) (move_for s w) (cleared_active
+    (worker_at s w).lane) s (λ b is. moved_for_stays s o w b (move_for_from s w enabled).1 is) (stays_here s)
+stays_after s o (event.Alight w) enabled other = by_value (AllStay s) (alight s w) (ending s w) s
+    (λ a is. stays_headed s a.life.chunk (one_fewer (head_at s a.life.chunk)) _ refl) (stays_here s)
 
 -- What a link leaves.
 
 module _ (s : State) (o : IsLawful s) (k d : ℕ) (within : k < length s.classes) (next : next_chunk s k ≡ Some d) where
   -- the chunk is of the class
   link_owns : owns (class_at s k) d ≡ true
-  link_owns = let at = next_front s o k d within next in subst (λ (j : ℕ). owns (class_at s j) d ≡ true) at.0 (class_owns s o.tiles d at.1)
+  link_owns = let at = next_front s o k d within next in subst (λ (j : ℕ). owns (class_at s j) d
+      ≡ true) at.0 (class_owns s o.tiles d at.1)
 
   -- it begins the next life, with the label that stands there
-  link_here : chunk_at (link s k d) d ≡ record (chunk_at s d) { head = newborn ((head_at s d).generation + 1) }
-  link_here = chunk_changed s o d (newborn ((head_at s d).generation + 1)) k (change.Linked (next_life s d)) within link_owns refl
+  link_here : chunk_at (link s k d) d ≡ record (chunk_at s d) { head = linked_head ((head_at s d).generation + 1) }
+  link_here = chunk_changed s o d (linked_head ((head_at s d).generation + 1)) k (change.Linked
+      (next_life s d)) within link_owns refl
 
   -- the other chunks stay
   link_else : (c : ℕ) → ((c ≡ d) → ⊥) → Stays c s (link s k d)
-  link_else c other = let there = chunk_unchanged s o d (newborn ((head_at s d).generation + 1)) k (change.Linked (next_life s d)) within link_owns refl c other in record {
-    generation = ap (λ (y : Chunk). y.head.generation) there;
-    label = ap (λ (y : Chunk). y.label) there;
-    used = λ used. subst IsUsed (place_unchanged s o d (newborn ((head_at s d).generation + 1)) k (change.Linked (next_life s d)) within link_owns refl c other) used;
-  }
+  link_else c other = let there = chunk_unchanged s o d (linked_head ((head_at s d).generation + 1)) k (change.Linked
+      (next_life s d)) within link_owns refl c other in record {
+        generation = ap (λ (y : Chunk). y.head.generation) there;
+        label = ap (λ (y : Chunk). y.label) there;
+        used = λ used. subst IsUsed (place_unchanged s o d (linked_head ((head_at s d).generation + 1)) k (change.Linked
+            (next_life s d)) within link_owns refl c other) used;
+      }
 
   -- no label changes
   link_label : (c : ℕ) → (chunk_at (link s k d) c).label ≡ (chunk_at s c).label
   link_label c = by (ℕ_discrete c d)
     where
       by : Dec (c ≡ d) → (chunk_at (link s k d) c).label ≡ (chunk_at s c).label
-      by (yes is) = ap (λ (j : ℕ). (chunk_at (link s k d) j).label) is ∙ (ap (λ (y : Chunk). y.label) link_here ∙ ap (λ (j : ℕ). (chunk_at s j).label) (sym is))
+      by (yes is) = ap (λ (j : ℕ). (chunk_at (link s k d) j).label) is ∙ (ap (λ (y : Chunk). y.label) link_here
+          ∙ ap (λ (j : ℕ). (chunk_at s j).label) (sym is))
       by (no other) = (link_else c other).label
 
 -- The generation of a chunk never falls.
-later_after : (s : State) → IsLawful s → (e : Event) → is_enabled s e ≡ true → (c : ℕ) → (head_at s c).generation ≤ (head_at (after s e) c).generation
-later_after s o (event.PutLabel k x) enabled c = by_value (λ t. (head_at s c).generation ≤ (head_at t c).generation) (λ d. with_label s d x) (next_chunk s k) s
-    (λ d is. let same = same_read (λ (y : Chunk). y.head.generation) s.chunks d (record (chunk_at s d) { label = x }) no_chunk refl c in omega (arith, same)) (omega arith)
-later_after s o (event.Link k) enabled c = by_value (λ t. (head_at s c).generation ≤ (head_at t c).generation) (link s k) (next_chunk s k) s
+later_after : (s : State) → IsLawful s → (e : Event) → is_enabled s e ≡ true → (c : ℕ)
+    → (head_at s c).generation ≤ (head_at (after s e) c).generation
+later_after s o (event.PutLabel k x) enabled c = by_value (λ t. (head_at s c).generation ≤ (head_at t c).generation)
+    (λ d. with_label s d x) (next_chunk s k) s
+    (λ d is. let same = same_read (λ (y : Chunk). y.head.generation) s.chunks d (record (chunk_at s d) {
+      label = x;
+    }) no_chunk refl c in omega (arith, same)) (omega arith)
+later_after s o (event.Link k) enabled c = by_value (λ t. (head_at s c).generation ≤ (head_at t c).generation)
+    (link s k) (next_chunk s k) s
     (λ d is. by d is (ℕ_discrete c d)) (omega arith)
   where
-    by : (d : ℕ) → next_chunk s k ≡ Some d → Dec (c ≡ d) → (head_at s c).generation ≤ (head_at (link s k d) c).generation
+    by : (d : ℕ) → next_chunk s k ≡ Some d → Dec (c ≡ d)
+        → (head_at s c).generation ≤ (head_at (link s k d) c).generation
     by d is (yes same) = subst (λ (j : ℕ). (head_at s j).generation ≤ (head_at (link s k d) j).generation) (sym same)
         (omega (arith, ap (λ (y : Chunk). y.head.generation) (link_here s o k d (next_from s k enabled).1 is)))
     by d is (no other) = omega (arith, (link_else s o k d (next_from s k enabled).1 is c other).generation)
@@ -203,41 +248,61 @@ later_after s o e enabled c = omega (arith, (stays_after s o e enabled tt c).gen
 
 -- a life that tests as this one has its chunk and its generation
 same_life : (l : ItemId) (d g : ℕ) → is_same l (life d g) ≡ true → (l.chunk ≡ d) × (l.generation ≡ g)
-same_life l d g same = let both = and_parts (eqb l.chunk d) (eqb l.generation g) same in (eqb-true l.chunk d both.0, eqb-true l.generation g both.1)
+same_life l d g same = let both = and_parts (eqb l.chunk d) (eqb l.generation g) same in (
+  eqb-true l.chunk d both.0,
+  eqb-true l.generation g both.1,
+)
 
 -- Where a label is stored, a life that begins behind that has another word before it.
-stored_begins : (m : Option ℕ) (z : ℕ) (l : ItemId) (x y : ℕ) (steps : List LabelStep) → label_of_life l x (option_map_or (λ c. Stored c z ∷ []) m [] ++ steps) ≡ Some y
+stored_begins : (m : Option ℕ) (z : ℕ) (l : ItemId) (x y : ℕ) (steps : List LabelStep)
+    → label_of_life l x (option_map_or (λ c. Stored c z ∷ []) m [] ++ steps) ≡ Some y
     → (w : ℕ) × (label_of_life l w steps ≡ Some y)
 stored_begins None z l x y steps is = (x, is)
 stored_begins (Some d) z l x y steps is = (if eqb d l.chunk then z else x, is)
 
 -- Where a life begins, it is this one, and comes later than its chunk's; or this one begins behind that.
-link_begins : (s : State) (m : Option ℕ) (l : ItemId) (x y : ℕ) (steps : List LabelStep) → label_of_life l x (option_map_or (λ c. Begun (next_life s c) ∷ []) m [] ++ steps) ≡ Some y
+link_begins : (s : State) (m : Option ℕ) (l : ItemId) (x y : ℕ) (steps : List LabelStep)
+    → label_of_life l x (option_map_or (λ c. Linked (next_life s c) ∷ []) m [] ++ steps) ≡ Some y
     → ((head_at s l.chunk).generation < l.generation) ⊎ (label_of_life l x steps ≡ Some y)
 link_begins s None l x y steps is = inr is
 link_begins s (Some d) l x y steps is = by (is_same l (next_life s d)) refl
   where
-    by : (b : Bool) → is_same l (next_life s d) ≡ b → ((head_at s l.chunk).generation < l.generation) ⊎ (label_of_life l x steps ≡ Some y)
-    by true same = let both = same_life l d ((head_at s d).generation + 1) same in inl (omega (arith, ap (λ (c : ℕ). (head_at s c).generation) both.0, both.1))
+    by : (b : Bool) → is_same l (next_life s d) ≡ b → ((head_at s l.chunk).generation < l.generation)
+        ⊎ (label_of_life l x steps ≡ Some y)
+    by true same = let both = same_life l d ((head_at s d).generation + 1) same in
+        inl (omega (arith, ap (λ (c : ℕ). (head_at s c).generation) both.0, both.1))
     by false other = inr (sym (ap (λ (b : Bool). if b then Some x else label_of_life l x steps) other) ∙ is)
 
 -- A life that begins in a run had not begun before it.
-begun_later : (es : List Event) (s t : State) → IsLawful s → run_of s es ≡ Some t → (l : ItemId) (x y : ℕ) → label_of_life l x (label_steps s es) ≡ Some y → (head_at s l.chunk).generation < l.generation
+begun_later : (es : List Event) (s t : State) → IsLawful s → run_of s es ≡ Some t → (l : ItemId) (x y : ℕ)
+    → label_of_life l x (label_steps s es) ≡ Some y → (head_at s l.chunk).generation < l.generation
 begun_later [] s t o ends l x y is = absurd (let u : ⊥ = cc in u)
 begun_later (event.PutLabel k z ∷ es) s t o ends l x y is =
     let parts = run_parts s (event.PutLabel k z) es t ends in
     let u = after s (event.PutLabel k z) in
     let rest = stored_begins (next_chunk s k) z l x y (label_steps u es) is in
-    omega (arith, begun_later es u t (lawful_after s o (event.PutLabel k z) parts.0) parts.1 l rest.0 y rest.1, later_after s o (event.PutLabel k z) parts.0 l.chunk)
+    omega (
+      arith,
+      begun_later es u t (lawful_after s o (event.PutLabel k z) parts.0) parts.1 l rest.0 y rest.1,
+      later_after s o (event.PutLabel k z) parts.0 l.chunk,
+    )
 begun_later (event.Link k ∷ es) s t o ends l x y is =
     let parts = run_parts s (event.Link k) es t ends in
     let u = after s (event.Link k) in
     ⊎_elim (λ here. here)
-    (λ behind. omega (arith, begun_later es u t (lawful_after s o (event.Link k) parts.0) parts.1 l x y behind, later_after s o (event.Link k) parts.0 l.chunk))
+    (λ behind. omega (
+      arith,
+      begun_later es u t (lawful_after s o (event.Link k) parts.0) parts.1 l x y behind,
+      later_after s o (event.Link k) parts.0 l.chunk,
+    ))
     (link_begins s (next_chunk s k) l x y (label_steps u es) is)
 begun_later (e ∷ es) s t o ends l x y is =
     let parts = run_parts s e es t ends in
-    omega (arith, begun_later es (after s e) t (lawful_after s o e parts.0) parts.1 l x y is, later_after s o e parts.0 l.chunk)
+    omega (
+      arith,
+      begun_later es (after s e) t (lawful_after s o e parts.0) parts.1 l x y is,
+      later_after s o e parts.0 l.chunk,
+    )
 
 -- Labels from one state to the next.
 
@@ -251,20 +316,25 @@ was_before s u c g x stays None was = record {
 was_before s u c g x stays (Some y) is = is
 
 -- and its life's label is the same
-still : (s u : State) (c g x : ℕ) (steps : List LabelStep) → Stays c s u → IsLabel u c g x (label_of_life (life c g) (chunk_at u c).label steps) → IsLabel s c g x (label_of_life (life c g) (chunk_at s c).label steps)
+still : (s u : State) (c g x : ℕ) (steps : List LabelStep) → Stays c s u
+    → IsLabel u c g x (label_of_life (life c g) (chunk_at u c).label steps)
+    → IsLabel s c g x (label_of_life (life c g) (chunk_at s c).label steps)
 still s u c g x steps stays now = was_before s u c g x stays (label_of_life (life c g) (chunk_at s c).label steps)
     (subst (λ (n : ℕ). IsLabel u c g x (label_of_life (life c g) n steps)) stays.label now)
 
 -- a label is stored for a chunk of UNUSED
 stored_before : (s : State) (d z : ℕ) → d < length s.chunks → place s d ≡ Unused → (c g x : ℕ) (steps : List LabelStep)
-    → IsLabel (with_label s d z) c g x (label_of_life (life c g) (chunk_at (with_label s d z) c).label steps) → IsLabel s c g x (label_of_life (life c g) (if eqb d c then z else (chunk_at s c).label) steps)
+    → IsLabel (with_label s d z) c g x (label_of_life (life c g) (chunk_at (with_label s d z) c).label steps)
+    → IsLabel s c g x (label_of_life (life c g) (if eqb d c then z else (chunk_at s c).label) steps)
 stored_before s d z within unused c g x steps now = by (ℕ_discrete d c)
   where
     u : State
     u = with_label s d z
 
     generations : (head_at u c).generation ≡ (head_at s c).generation
-    generations = same_read (λ (y : Chunk). y.head.generation) s.chunks d (record (chunk_at s d) { label = z }) no_chunk refl c
+    generations = same_read (λ (y : Chunk). y.head.generation) s.chunks d (record (chunk_at s d) {
+      label = z;
+    }) no_chunk refl c
 
     begins : (m : Option ℕ) → d ≡ c → IsLabel u c g x m → IsLabel s c g x m
     begins None same was = absurd (subst IsUsed (ap (place s) (sym same) ∙ unused) was.used)
@@ -272,20 +342,29 @@ stored_before s d z within unused c g x steps now = by (ℕ_discrete d c)
 
     by : Dec (d ≡ c) → IsLabel s c g x (label_of_life (life c g) (if eqb d c then z else (chunk_at s c).label) steps)
     by (yes same) =
-        let word : (chunk_at u c).label ≡ z = ap (λ (j : ℕ). (chunk_at u j).label) (sym same) ∙ ap (λ (y : Chunk). y.label) (get_or-set_same s.chunks d (record (chunk_at s d) { label = z }) no_chunk within) in
-        let read : (if eqb d c then z else (chunk_at s c).label) ≡ z = ap (λ (b : Bool). if b then z else (chunk_at s c).label) (eq-eqb d c same) in
+        let word : (chunk_at u c).label ≡ z = ap (λ (j : ℕ). (chunk_at u j).label) (sym same)
+        ∙ ap (λ (y : Chunk). y.label) (get_or-set_same s.chunks d (record (chunk_at s d) {
+          label = z;
+        }) no_chunk within) in
+        let read : (if eqb d c then z else (chunk_at s c).label)
+        ≡ z = ap (λ (b : Bool). if b then z else (chunk_at s c).label) (eq-eqb d c same) in
         begins _ same (subst (λ (n : ℕ). IsLabel u c g x (label_of_life (life c g) n steps)) (word ∙ sym read) now)
     by (no other) =
-        let word : (chunk_at u c).label ≡ (chunk_at s c).label = ap (λ (y : Chunk). y.label) (get_or-set_other s.chunks d c (record (chunk_at s d) { label = z }) no_chunk (λ e. other (sym e))) in
-        let read : (if eqb d c then z else (chunk_at s c).label) ≡ (chunk_at s c).label = ap (λ (b : Bool). if b then z else (chunk_at s c).label) (ne_eqb d c other) in
+        let word : (chunk_at u c).label ≡ (chunk_at s c).label = ap (λ (y : Chunk). y.label)
+        (get_or-set_other s.chunks d c (record (chunk_at s d) { label = z }) no_chunk (λ e. other (sym e))) in
+        let read : (if eqb d c then z else (chunk_at s c).label) ≡ (chunk_at s c).label =
+        ap (λ (b : Bool). if b then z else (chunk_at s c).label) (ne_eqb d c other) in
         subst (λ (n : ℕ). IsLabel s c g x (label_of_life (life c g) n steps)) (sym read)
         (still s u c g x steps (record { generation = generations; label = word; used = λ used. used }) now)
 
 -- a life begins with the label that stands at its chunk
-begun_before : (s : State) (o : IsLawful s) (k d : ℕ) (within : k < length s.classes) (next : next_chunk s k ≡ Some d) (c g x : ℕ) (steps : List LabelStep)
-    → ((y : ℕ) → label_of_life (life c g) (chunk_at (link s k d) c).label steps ≡ Some y → (head_at (link s k d) c).generation < g)
+begun_before : (s : State) (o : IsLawful s) (k d : ℕ) (within : k < length s.classes) (next : next_chunk s k
+    ≡ Some d) (c g x : ℕ) (steps : List LabelStep)
+    → ((y : ℕ) → label_of_life (life c g) (chunk_at (link s k d) c).label steps ≡ Some y
+    → (head_at (link s k d) c).generation < g)
     → IsLabel (link s k d) c g x (label_of_life (life c g) (chunk_at (link s k d) c).label steps)
-    → IsLabel s c g x (if is_same (life c g) (next_life s d) then Some (chunk_at s c).label else label_of_life (life c g) (chunk_at s c).label steps)
+    → IsLabel s c g x (if is_same (life c g) (next_life s d) then Some (chunk_at s c).label else label_of_life
+    (life c g) (chunk_at s c).label steps)
 begun_before s o k d within next c g x steps later now = by (is_same (life c g) (next_life s d)) refl
   where
     u : State
@@ -294,36 +373,56 @@ begun_before s o k d within next c g x steps later now = by (is_same (life c g) 
     begun : (head_at u d).generation ≡ (head_at s d).generation + 1
     begun = ap (λ (y : Chunk). y.head.generation) (link_here s o k d within next)
 
-    here : c ≡ d → g ≡ (head_at s d).generation + 1 → (m : Option ℕ) → label_of_life (life c g) (chunk_at u c).label steps ≡ m → IsLabel u c g x m → x ≡ (chunk_at s c).label
+    here : c ≡ d → g ≡ (head_at s d).generation + 1 → (m : Option ℕ)
+        → label_of_life (life c g) (chunk_at u c).label steps ≡ m → IsLabel u c g x m → x ≡ (chunk_at s c).label
     here same grown None is was = sym was.label ∙ link_label s o k d within next c
-    here same grown (Some y) is label = absurd (omega (arith, later y is, ap (λ (j : ℕ). (head_at u j).generation) same, begun, grown))
+    here same grown (Some y) is label = absurd (omega (
+      arith,
+      later y is,
+      ap (λ (j : ℕ). (head_at u j).generation) same,
+      begun,
+      grown,
+    ))
 
     there : is_same (life c g) (next_life s d) ≡ false → (m : Option ℕ) → IsLabel u c g x m → IsLabel s c g x m
-    there other None was = was_before s u c g x (link_else s o k d within next c (λ same. both_ways (is_same (life c g) (next_life s d)) other
-        (and_from _ _ (eq-eqb c d same) (eq-eqb g ((head_at s d).generation + 1) (sym was.generation ∙ (ap (λ (j : ℕ). (head_at u j).generation) same ∙ begun)))))) None was
+    there other None was = was_before s u c g x (link_else s o k d within next c (λ same. both_ways
+        (is_same (life c g) (next_life s d)) other
+        (and_from _ _ (eq-eqb c d same) (eq-eqb g ((head_at s d).generation + 1) (sym was.generation
+        ∙ (ap (λ (j : ℕ). (head_at u j).generation) same ∙ begun)))))) None was
     there other (Some y) is = is
 
-    by : (b : Bool) → is_same (life c g) (next_life s d) ≡ b → IsLabel s c g x (if is_same (life c g) (next_life s d) then Some (chunk_at s c).label else label_of_life (life c g) (chunk_at s c).label steps)
+    by : (b : Bool) → is_same (life c g) (next_life s d) ≡ b
+        → IsLabel s c g x (if is_same (life c g) (next_life s d) then Some (chunk_at s c).label else label_of_life
+        (life c g) (chunk_at s c).label steps)
     by true same =
         let both = same_life (life c g) d ((head_at s d).generation + 1) same in
-        subst (λ (b : Bool). IsLabel s c g x (if b then Some (chunk_at s c).label else label_of_life (life c g) (chunk_at s c).label steps)) (sym same)
+        subst (λ (b : Bool). IsLabel s c g x (if b then Some (chunk_at s c).label else label_of_life (life c g)
+        (chunk_at s c).label steps)) (sym same)
         (here both.0 both.1 (label_of_life (life c g) (chunk_at u c).label steps) refl now)
     by false other =
-        subst (λ (b : Bool). IsLabel s c g x (if b then Some (chunk_at s c).label else label_of_life (life c g) (chunk_at s c).label steps)) (sym other)
+        subst (λ (b : Bool). IsLabel s c g x (if b then Some (chunk_at s c).label else label_of_life (life c g)
+        (chunk_at s c).label steps)) (sym other)
         (there other (label_of_life (life c g) (chunk_at s c).label steps)
         (subst (λ (n : ℕ). IsLabel u c g x (label_of_life (life c g) n steps)) (link_label s o k d within next c) now))
 
 -- the same by the next chunk, if there is one
-stored_by : (s : State) (k z c g x : ℕ) (steps : List LabelStep) (m : Option ℕ) → ((d : ℕ) → m ≡ Some d → (d < length s.chunks) × (place s d ≡ Unused))
-    → IsLabel (option_map_or (λ d. with_label s d z) m s) c g x (label_of_life (life c g) (chunk_at (option_map_or (λ d. with_label s d z) m s) c).label steps)
-    → IsLabel s c g x (label_of_life (life c g) (chunk_at s c).label (option_map_or (λ d. Stored d z ∷ []) m [] ++ steps))
+stored_by : (s : State) (k z c g x : ℕ) (steps : List LabelStep) (m : Option ℕ) → ((d : ℕ) → m ≡ Some d
+    → (d < length s.chunks) × (place s d ≡ Unused))
+    → IsLabel (option_map_or (λ d. with_label s d z) m s) c g x (label_of_life (life c g)
+    (chunk_at (option_map_or (λ d. with_label s d z) m s) c).label steps)
+    → IsLabel s c g x (label_of_life (life c g) (chunk_at s c).label (option_map_or
+    (λ d. Stored d z ∷ []) m [] ++ steps))
 stored_by s k z c g x steps None front now = now
 stored_by s k z c g x steps (Some d) front now = stored_before s d z (front d refl).0 (front d refl).1 c g x steps now
 
-begun_by : (s : State) (o : IsLawful s) (k : ℕ) (within : k < length s.classes) (c g x : ℕ) (steps : List LabelStep) (m : Option ℕ) → next_chunk s k ≡ m
-    → ((y : ℕ) → label_of_life (life c g) (chunk_at (option_map_or (link s k) m s) c).label steps ≡ Some y → (head_at (option_map_or (link s k) m s) c).generation < g)
-    → IsLabel (option_map_or (link s k) m s) c g x (label_of_life (life c g) (chunk_at (option_map_or (link s k) m s) c).label steps)
-    → IsLabel s c g x (label_of_life (life c g) (chunk_at s c).label (option_map_or (λ d. Begun (next_life s d) ∷ []) m [] ++ steps))
+begun_by : (s : State) (o : IsLawful s) (k : ℕ) (within : k < length s.classes) (c g x : ℕ) (steps : List LabelStep)
+    (m : Option ℕ) → next_chunk s k ≡ m
+    → ((y : ℕ) → label_of_life (life c g) (chunk_at (option_map_or (link s k) m s) c).label steps ≡ Some y
+    → (head_at (option_map_or (link s k) m s) c).generation < g)
+    → IsLabel (option_map_or (link s k) m s) c g x (label_of_life (life c g)
+    (chunk_at (option_map_or (link s k) m s) c).label steps)
+    → IsLabel s c g x (label_of_life (life c g) (chunk_at s c).label (option_map_or
+    (λ d. Linked (next_life s d) ∷ []) m [] ++ steps))
 begun_by s o k within c g x steps None is later now = now
 begun_by s o k within c g x steps (Some d) is later now = begun_before s o k d within is c g x steps later now
 
@@ -344,10 +443,12 @@ keeps_labels (event.Link k ∷ es) s t o ends c used =
     let parts = run_parts s (event.Link k) es t ends in
     let u = after s (event.Link k) in
     let p = lawful_after s o (event.Link k) parts.0 in
-    begun_by s o k (next_from s k parts.0).1 c (head_at t c).generation (chunk_at t c).label (label_steps u es) (next_chunk s k) refl
+    begun_by s o k (next_from s k parts.0).1 c (head_at t c).generation (chunk_at t c).label (label_steps u es)
+    (next_chunk s k) refl
     (λ y is. begun_later es u t p parts.1 (life c (head_at t c).generation) (chunk_at u c).label y is)
     (keeps_labels es u t p parts.1 c used)
 keeps_labels (e ∷ es) s t o ends c used =
     let parts = run_parts s e es t ends in
-    still s (after s e) c (head_at t c).generation (chunk_at t c).label (label_steps (after s e) es) (stays_after s o e parts.0 tt c)
+    still s (after s e) c (head_at t c).generation (chunk_at t c).label (label_steps (after s e) es)
+    (stays_after s o e parts.0 tt c)
     (keeps_labels es (after s e) t (lawful_after s o e parts.0) parts.1 c used)

@@ -40,8 +40,13 @@ change_sizes : (s : State) (c k : ℕ) (x : Chunk) (e : Change) → SameSizes s 
 change_sizes s c k x e = (length-set s.chunks c x, length-set s.classes k (class_with_change (class_at s k) e), refl)
 
 -- a changed chunk, an entry of a class and a changed worker
-all_sizes : (s : State) (c k w : ℕ) (x : Chunk) (e : Change) (y : WorkerState) → SameSizes s (with_worker (with_change (with_chunk s c x) k e) w y)
-all_sizes s c k w x e y = (length-set s.chunks c x, length-set s.classes k (class_with_change (class_at s k) e), length-set s.workers w y)
+all_sizes : (s : State) (c k w : ℕ) (x : Chunk) (e : Change) (y : WorkerState)
+    → SameSizes s (with_worker (with_change (with_chunk s c x) k e) w y)
+all_sizes s c k w x e y = (
+  length-set s.chunks c x,
+  length-set s.classes k (class_with_change (class_at s k) e),
+  length-set s.workers w y,
+)
 
 -- an event leaves the sizes
 pub after_sizes : (s : State) (e : Event) → SameSizes s (after s e)
@@ -49,37 +54,60 @@ after_sizes s (event.Load c) = (refl, refl, refl)
 after_sizes s (event.Take w l) = chunk_sizes s _ _
 after_sizes s (event.Fetch w l) = by_test (SameSizes s) _ _ _ (λ on. chunk_sizes s _ _) (λ off. both_sizes s _ w _ _)
 after_sizes s (event.Mark w l) = by_test (SameSizes s) _ _ _ (λ on. both_sizes s _ w _ _) (λ off. chunk_sizes s _ _)
-after_sizes s (event.Reserve w) = by_value (SameSizes s) (reserve s w) (tried_life (worker_at s w).hand) s (λ l is. both_sizes s _ w _ _) (refl, refl, refl)
-after_sizes s (event.DropRefs w) = by_value (SameSizes s) (drop_refs s w) (tried_life (worker_at s w).hand) s (λ l is. worker_sizes s w _) (refl, refl, refl)
-after_sizes s (event.DropBusy w) = by_value (SameSizes s) (drop_busy s w) (tried_life (worker_at s w).hand) s (λ l is. worker_sizes s w _) (refl, refl, refl)
-after_sizes s (event.Push w) = by_value (SameSizes s) (push s w) (life_in_hand (worker_at s w).hand) s (λ l is. worker_sizes s w _) (refl, refl, refl)
-after_sizes s (event.DropFull w) = by_value (SameSizes s) (drop_full s w) (life_in_hand (worker_at s w).hand) s (λ l is. both_sizes s _ w _ _) (refl, refl, refl)
-after_sizes s (event.Unmark w) = by_value (SameSizes s) (unmark s w) (cleared_life (worker_at s w).hand) s (λ l is. both_sizes s _ w _ _) (refl, refl, refl)
+after_sizes s (event.Reserve w) = by_value (SameSizes s) (reserve s w) (tried_life (worker_at s w).hand) s
+    (λ l is. both_sizes s _ w _ _) (refl, refl, refl)
+after_sizes s (event.DropRefs w) = by_value (SameSizes s) (drop_refs s w) (tried_life (worker_at s w).hand) s
+    (λ l is. worker_sizes s w _) (refl, refl, refl)
+after_sizes s (event.DropBusy w) = by_value (SameSizes s) (drop_busy s w) (tried_life (worker_at s w).hand) s
+    (λ l is. worker_sizes s w _) (refl, refl, refl)
+after_sizes s (event.Push w) = by_value (SameSizes s) (push s w) (life_in_hand (worker_at s w).hand) s
+    (λ l is. worker_sizes s w _) (refl, refl, refl)
+after_sizes s (event.DropFull w) = by_value (SameSizes s) (drop_full s w) (life_in_hand (worker_at s w).hand) s
+    (λ l is. both_sizes s _ w _ _) (refl, refl, refl)
+after_sizes s (event.Unmark w) = by_value (SameSizes s) (unmark s w) (cleared_life (worker_at s w).hand) s
+    (λ l is. both_sizes s _ w _ _) (refl, refl, refl)
 after_sizes s (event.Close w) = worker_sizes s w _
 after_sizes s (event.StoreTime l t) = chunk_sizes s _ _
 after_sizes s (event.Release l) = chunk_sizes s _ _
-after_sizes s (event.PutLabel k x) = by_value (SameSizes s) (λ c. with_label s c x) (next_chunk s k) s (λ c is. chunk_sizes s c _) (refl, refl, refl)
-after_sizes s (event.PutTime k t) = by_value (SameSizes s) (λ c. with_time s c t) (next_chunk s k) s (λ c is. chunk_sizes s c _) (refl, refl, refl)
-after_sizes s (event.Link k) = by_value (SameSizes s) (link s k) (next_chunk s k) s (λ c is. change_sizes s c k _ (change.Linked (next_life s c))) (refl, refl, refl)
+after_sizes s (event.PutLabel k x) = by_value (SameSizes s) (λ c. with_label s c x) (next_chunk s k) s
+    (λ c is. chunk_sizes s c _) (refl, refl, refl)
+after_sizes s (event.PutTime k t) = by_value (SameSizes s) (λ c. with_time s c t) (next_chunk s k) s
+    (λ c is. chunk_sizes s c _) (refl, refl, refl)
+after_sizes s (event.Link k) = by_value (SameSizes s) (link s k) (next_chunk s k) s (λ c is. change_sizes s c k _
+    (change.Linked (next_life s c))) (refl, refl, refl)
 after_sizes s (event.Unlink l) = change_sizes s l.chunk _ _ (change.Unlinked l)
 after_sizes s (event.Sweep c) = class_sizes s _ _
 after_sizes s (event.ClearActive c) = chunk_sizes s _ _
-after_sizes s (event.Move c to) = change_sizes s c _ _ (change.Moved (life c (head_at s c).generation) (head_at s c).segment to Pull)
-after_sizes s (event.TakeBump w) = by_value (SameSizes s) (take_bump s w) (next_bump (worker_at s w)) s (λ l is. worker_sizes s w _) (refl, refl, refl)
-after_sizes s (event.Try w) = by_value (SameSizes s) _ (carried (worker_at s w).lane) s (λ b is. worker_sizes s w _) (refl, refl, refl)
-after_sizes s (event.BumpTime w t) = by_value (SameSizes s) _ (applied_now (worker_at s w).lane) s (λ b is. chunk_sizes s _ _) (refl, refl, refl)
-after_sizes s (event.ClearFor w) = by_value (SameSizes s) (clear_for s w) (tried (worker_at s w).lane) s (λ b is. both_sizes s _ w _ _) (refl, refl, refl)
-after_sizes s (event.MoveFor w) = by_value (SameSizes s) (move_for s w) (cleared_active (worker_at s w).lane) s (λ b is. all_sizes s _ _ w _ (change.Moved b.life segment.Cold segment.Warm (BumpOf w b.number)) _) (refl, refl, refl)
-after_sizes s (event.Alight w) = by_value (SameSizes s) (alight s w) (ending s w) s (λ a is. both_sizes s _ w _ _) (refl, refl, refl)
+after_sizes s (event.Move c to) = change_sizes s c _ _ (change.Moved (life c (head_at s c).generation)
+    (head_at s c).segment to Pull)
+after_sizes s (event.TakeBump w) = by_value (SameSizes s) (take_bump s w) (next_bump (worker_at s w)) s
+    (λ l is. worker_sizes s w _) (refl, refl, refl)
+after_sizes s (event.Try w) = by_value (SameSizes s) _ (carried (worker_at s w).lane) s (λ b is. worker_sizes s w _)
+    (refl, refl, refl)
+after_sizes s (event.BumpTime w t) = by_value (SameSizes s) _ (applied_now (worker_at s w).lane) s
+    (λ b is. chunk_sizes s _ _) (refl, refl, refl)
+after_sizes s (event.ClearFor w) = by_value (SameSizes s) (clear_for s w) (tried (worker_at s w).lane) s
+    (λ b is. both_sizes s _ w _ _) (refl, refl, refl)
+after_sizes s (event.MoveFor w) = by_value (SameSizes s) (move_for s w) (cleared_active (worker_at s w).lane) s
+    (λ b is. all_sizes s _ _ w _ (change.Moved b.life segment.Cold segment.Warm (BumpOf w b.number)) _) (
+      refl,
+      refl,
+      refl,
+    )
+after_sizes s (event.Alight w) = by_value (SameSizes s) (alight s w) (ending s w) s (λ a is. both_sizes s _ w _ _)
+    (refl, refl, refl)
 
 -- so does a run
 pub run_sizes : (s : State) (es : List Event) (t : State) → run_of s es ≡ Some t → SameSizes s t
-run_sizes s es t ends = by_run (SameSizes s) (λ u sizes e enabled. let one = after_sizes u e in (one.0 ∙ sizes.0, one.1 ∙ sizes.1, one.2 ∙ sizes.2)) s es t (refl, refl, refl) ends
+run_sizes s es t ends = by_run (SameSizes s) (λ u sizes e enabled. let one = after_sizes u e in
+    (one.0 ∙ sizes.0, one.1 ∙ sizes.1, one.2 ∙ sizes.2)) s es t (refl, refl, refl) ends
 
 -- so does a step
-pub step_sizes : (old : State) (e : Event) (new : State) (r : Result Reply Refused) → Steps old e new r → SameSizes old new
+pub step_sizes : (old : State) (e : Event) (new : State) (r : Result Reply Refused) → Steps old e new r
+    → SameSizes old new
 step_sizes old e new r made = by_step (SameSizes old) old e new r (refl, refl, refl) (λ enabled. after_sizes old e) made
 
 -- and a run that ends with a refused event
-pub refused_sizes : (old : State) (es : List Event) (t : State) (e : Event) (new : State) (r : Refused) → run_of old es ≡ Some t → Steps t e new (Err r) → SameSizes old new
+pub refused_sizes : (old : State) (es : List Event) (t : State) (e : Event) (new : State) (r : Refused)
+    → run_of old es ≡ Some t → Steps t e new (Err r) → SameSizes old new
 refused_sizes old es t e new r ends refused = run_sizes old es new (refused_stays old es t e new r ends refused)

@@ -1,4 +1,5 @@
--- Each event that is enabled leaves a lawful state lawful, and so does a run; what a World keeps, a step and a run keep.
+-- Each event that is enabled leaves a lawful state lawful, and so does a run; what a
+-- World keeps, a step and a run keep.
 use Rattle.std.proofs.Common.{◌≡◌, true, List, Some, Result, arith}
 use Rattle.bump_rules.specs.declared.events.Event.{Event}
 use Rattle.bump_rules.specs.declared.events.Event.TheVariants as event
@@ -62,14 +63,23 @@ WorldKeeps s = IsLawful s × IsSized s
 
 -- as many classes, chunks and workers as before are no more than may be
 sized_after : (s t : State) → SameSizes s t → IsSized s → IsSized t
-sized_after s t same sized = record { classes = omega (arith, same.1, sized.classes); chunks = omega (arith, same.0, sized.chunks); workers = omega (arith, same.2, sized.workers) }
+sized_after s t same sized = record {
+  classes = omega (arith, same.1, sized.classes);
+  chunks = omega (
+    arith,
+    same.0,
+    sized.chunks,
+  );
+  workers = omega (arith, same.2, sized.workers);
+}
 
 -- each event that is enabled keeps all
 pub keeps_after : (s : State) → WorldKeeps s → (e : Event) → is_enabled s e ≡ true → WorldKeeps (after s e)
 keeps_after s k e enabled = (lawful_after s k.0 e enabled, sized_after s (after s e) (after_sizes s e) k.1)
 
 -- so does a step
-pub step_keeps : (old : State) (e : Event) (new : State) (r : Result Reply Refused) → WorldKeeps old → Steps old e new r → WorldKeeps new
+pub step_keeps : (old : State) (e : Event) (new : State) (r : Result Reply Refused) → WorldKeeps old
+    → Steps old e new r → WorldKeeps new
 step_keeps old e new r k made = by_step WorldKeeps old e new r k (keeps_after old k e) made
 
 -- and so does a run

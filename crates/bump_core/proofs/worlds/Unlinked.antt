@@ -15,7 +15,9 @@ unused_not_dying : Unused ≢ Dying
 unused_not_dying is = let u : ⊥ = cc in u
 
 -- a life that has references and isn't linked was unlinked
-pub referred_unlinked : (s : State) → IsLawful s → (c g : ℕ) → 0 < references s c g → (head_at s c).linked ≡ false → 0 < how_many (is_unlink_of (life c g)) (class_at s (class_of s c)).history
-referred_unlinked s o c g some off = unlinked_where_dying c g (Unused, (class_at s (class_of s c)).fresh) (class_at s (class_of s c)).history unused_not_dying
+pub referred_unlinked : (s : State) → IsLawful s → (c g : ℕ) → 0 < references s c g → (head_at s c).linked ≡ false
+    → 0 < how_many (is_unlink_of (life c g)) (class_at s (class_of s c)).history
+referred_unlinked s o c g some off = unlinked_where_dying c g (Unused, (class_at s (class_of s c)).fresh)
+    (class_at s (class_of s c)).history unused_not_dying
     (dying_where_unlinked (head_at s c) (place s c) (o.chunks c).shown (referred_used s o c g some) off)
     (o.generations c ∙ sym (referred_current s o c g some))

@@ -1,6 +1,7 @@
 //! An attempted bump in the command of a hit: it is queued or dropped at once.
 ghost use Rattle.std.specs.Prelude.{◌≡◌, ◌<◌, [], ◌∷◌, ◌++◌, IfOk, OnOk, OnErr, None, Some, length};
-ghost use Rattle.bump_core.specs.Commands.{counted, attempt, room_at, dropped_at};
+ghost use Rattle.bump_core.specs.Commands.{attempt, room_at, dropped_at};
+ghost use Rattle.bump_rules.specs.Accounts.{counted};
 ghost use Rattle.bump_rules.specs.Tables.{attempted_of};
 ghost use Rattle.bump_rules.specs.Rings.{most_attempts};
 ghost use Rattle.bump_state.specs.State.{worker_at, with_worker};
@@ -12,16 +13,17 @@ use bump_state::Parts;
 use std::alloc::AllocError;
 
 /// The worker's attempt ends with a drop, which leaves the item as it was.
-fn count_drop(parts: &mut Parts, w: u32, dropped: Dropped)
-    requires worker { w < length (state_of parts.old).workers }
-    requires room { (worker_at (state_of parts.old) w).accounts.attempted < most_attempts }
+fn count_drop(parts: &mut Parts, worker: u32, dropped: Dropped)
+    requires worker { worker < length (state_of parts.old).workers }
+    requires room { (worker_at (state_of parts.old) worker).accounts.attempted < most_attempts }
     requires lawful { IsLawful (state_of parts.old) }
-    ensures { state_of parts.new ≡ with_worker (state_of parts.old) w (record (worker_at (state_of parts.old) w) {
-      accounts = counted (worker_at (state_of parts.old) w).accounts (Some dropped);
-    }) }
+    ensures { state_of parts.new ≡
+        with_worker (state_of parts.old) worker (record (worker_at (state_of parts.old) worker) {
+          accounts = counted (Some dropped) (worker_at (state_of parts.old) worker).accounts;
+        }) }
 {
-    let hand = parts.hand(w);
-    let accounts = parts.accounts(w);
+    let hand = parts.hand(worker);
+    let accounts = parts.accounts(worker);
     let attempted = accounts.attempted + 1;
     let after = match dropped {
         Dropped::Full => Accounts {
@@ -40,16 +42,16 @@ fn count_drop(parts: &mut Parts, w: u32, dropped: Dropped)
             ..accounts
         },
     };
-    parts.set_hand(w, hand, after);
+    parts.set_hand(worker, hand, after);
 }
 
 /// Whether the worker's ring shows room.
-fn room(parts: &Parts, w: u32) -> Room
-    requires worker { w < length (state_of parts.now).workers }
+fn room(parts: &Parts, worker: u32) -> Room
+    requires worker { worker < length (state_of parts.now).workers }
     requires lawful { IsLawful (state_of parts.now) }
-    ensures { result ≡ room_at (state_of parts.now) w }
+    ensures { result ≡ room_at (state_of parts.now) worker }
 {
-    if parts.waiting(w) < parts.capacity as usize {
+    if parts.waiting(worker) < parts.capacity as usize {
         Room::Known
     } else {
         Room::Unknown
@@ -57,26 +59,29 @@ fn room(parts: &Parts, w: u32) -> Room
 }
 
 /// A bump of a held item is attempted.
-pub fn attempt(parts: &mut Parts, w: u32, life: ItemId) -> Result<Touch, AllocError>
-    requires worker { w < length (state_of parts.old).workers }
+pub fn attempt(parts: &mut Parts, worker: u32, life: ItemId) -> Result<Touch, AllocError>
+    requires worker { worker < length (state_of parts.old).workers }
     requires chunk { life.chunk < length (state_of parts.old).chunks }
-    requires room { (worker_at (state_of parts.old) w).accounts.attempted < most_attempts }
+    requires room { (worker_at (state_of parts.old) worker).accounts.attempted < most_attempts }
     requires lawful { IsLawful (state_of parts.old) }
-    ensures ok { OnOk result (state_of parts.new ≡ attempt (state_of parts.old) w life (dropped_at (state_of parts.old) w life)) }
-    ensures answer { IfOk result (λ t. t ≡ attempted_of (dropped_at (state_of parts.old) w life) (length (worker_at (state_of parts.old) w).sent)) }
+    ensures ok { OnOk result (state_of parts.new ≡
+        attempt (state_of parts.old) worker life (dropped_at (state_of parts.old) worker life)) }
+    ensures answer { IfOk result (λ t. t ≡
+        attempted_of (dropped_at (state_of parts.old) worker life)
+        (length (worker_at (state_of parts.old) worker).sent)) }
     ensures err { OnErr result (state_of parts.new ≡ state_of parts.old) }
-    ensures memory { OnErr result (dropped_at (state_of parts.old) w life ≡ None) }
+    ensures memory { OnErr result (dropped_at (state_of parts.old) worker life ≡ None) }
 {
     let head = parts.head(life.chunk);
     // nothing comes between the events of a command, so no exchange fails
-    if let Some(dropped) = head.dropped(parts.refs_limit, 0, room(parts, w)) {
-        count_drop(parts, w, dropped);
+    if let Some(dropped) = head.dropped(parts.refs_limit, 0, room(parts, worker)) {
+        count_drop(parts, worker, dropped);
         return Ok(Touch::Dropped(dropped));
     }
-    let accounts = parts.accounts(w);
-    let number = parts.sent_bumps(w).len() as u64;
+    let accounts = parts.accounts(worker);
+    let number = parts.sent_bumps(worker).len() as u64;
     parts.queue(
-        w,
+        worker,
         life,
         Accounts {
             attempted: accounts.attempted + 1,

@@ -19,8 +19,8 @@ pub fn unlink_item(parts: &mut Parts, life: ItemId) -> Result<Ended, AllocError>
     ensures err { OnErr result (state_of parts.new ≡ state_of parts.old) }
 {
     let class = parts.class_of(life.chunk);
-    let severed = parts.head(life.chunk).severed();
-    let ended = severed.ended();
+    let unlinked = parts.head(life.chunk).after_unlink();
+    let ended = unlinked.ended();
     match ended {
         Ended::Freed => {
             let entries = [Change::Unlinked(life), Change::freed(life)];
@@ -28,7 +28,7 @@ pub fn unlink_item(parts: &mut Parts, life: ItemId) -> Result<Ended, AllocError>
         }
         Ended::Deferred => parts.change_class(class, Change::Unlinked(life))?,
     }
-    parts.set_head(life.chunk, severed);
+    parts.set_head(life.chunk, unlinked);
     Ok(ended)
 }
 
@@ -51,21 +51,21 @@ pub fn call_unlink(parts: &mut Parts, id: ItemId) -> Result<Answer, Refused>
 }
 
 /// Frees the chunks of a class's DYING that nobody holds.
-pub fn call_sweep(parts: &mut Parts, k: u32) -> Result<Answer, Refused>
+pub fn call_sweep(parts: &mut Parts, class: u32) -> Result<Answer, Refused>
     requires { IsLawful (state_of parts.old) }
-    ensures { Commands (state_of parts.old) (command.Sweep k) (state_of parts.new) result }
+    ensures { Commands (state_of parts.old) (command.Sweep class) (state_of parts.new) result }
 {
-    if !parts.has_class(k) {
+    if !parts.has_class(class) {
         return Err(Refused::NotEnabled);
     }
-    let count = parts.count_unheld(k);
+    let count = parts.count_unheld(class);
     // a sweep that frees nothing waits for no lane, and asks for no memory
     if count == 0 {
         return Ok(Answer::Swept(0));
     }
-    if parts.is_under_application(k as usize) {
+    if parts.is_under_application(class as usize) {
         return Err(Refused::NotEnabled);
     }
-    parts.sweep_class(k, count)?;
+    parts.sweep_class(class, count)?;
     Ok(Answer::Swept(count))
 }

@@ -14,15 +14,19 @@ use bump_state::{Chunk, Parts};
 use std::alloc::AllocError;
 
 /// A hit by an idle worker on an item of which it has a hold.
-fn hit(parts: &mut Parts, w: u32, life: ItemId, now: u64) -> Result<Touch, AllocError>
-    requires worker { w < length (state_of parts.old).workers }
+fn hit(parts: &mut Parts, worker: u32, life: ItemId, now: u64) -> Result<Touch, AllocError>
+    requires worker { worker < length (state_of parts.old).workers }
     requires chunk { life.chunk < length (state_of parts.old).chunks }
-    requires room { (worker_at (state_of parts.old) w).accounts.attempted < most_attempts }
+    requires room { (worker_at (state_of parts.old) worker).accounts.attempted < most_attempts }
     requires lawful { IsLawful (state_of parts.old) }
-    ensures ok { OnOk result (state_of parts.new ≡ hit (state_of parts.old) w life now (hit_at (state_of parts.old) life)) }
-    ensures answer { IfOk result (λ t. t ≡ hit_answer (state_of parts.old) w life (hit_at (state_of parts.old) life)) }
+    ensures ok { OnOk result (state_of parts.new ≡
+        hit (state_of parts.old) worker life now (hit_at (state_of parts.old) life)) }
+    ensures answer { IfOk result (λ t. t ≡
+        hit_answer (state_of parts.old) worker life (hit_at (state_of parts.old) life)) }
     ensures err { OnErr result (state_of parts.new ≡ state_of parts.old) }
-    ensures memory { OnErr result (one_asks (state_of parts.old) (hit_events (state_of parts.old) w life now (hit_at (state_of parts.old) life)) ≡ true) }
+    ensures memory { OnErr result
+        (one_asks (state_of parts.old)
+        (hit_events (state_of parts.old) worker life now (hit_at (state_of parts.old) life)) ≡ true) }
 {
     let chunk = parts.chunk(life.chunk);
     let head = chunk.head;
@@ -32,7 +36,7 @@ fn hit(parts: &mut Parts, w: u32, life: ItemId, now: u64) -> Result<Touch, Alloc
     };
     match head.hit(second) {
         Hit::First => {
-            parts.push_first_hit(w, life)?;
+            parts.push_first_hit(worker, life)?;
             parts.set_head(life.chunk, second);
             Ok(Touch::First)
         }
@@ -52,7 +56,7 @@ fn hit(parts: &mut Parts, w: u32, life: ItemId, now: u64) -> Result<Touch, Alloc
             );
             Ok(Touch::Marked)
         }
-        Hit::Attempts => attempt(parts, w, life),
+        Hit::Attempts => attempt(parts, worker, life),
     }
 }
 

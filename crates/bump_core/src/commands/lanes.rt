@@ -44,14 +44,14 @@ fn bumped(chunk: Chunk, now: u64, outcome: Outcome) -> Chunk
 }
 
 /// The bump that a lane applies next: the one aboard, or else the first that waits.
-fn bump_of(parts: &Parts, w: u32) -> Option<Bump>
-    requires { w < length (state_of parts.now).workers }
-    ensures { result ≡ bump_next (worker_at (state_of parts.now) w) }
+fn bump_of(parts: &Parts, worker: u32) -> Option<Bump>
+    requires { worker < length (state_of parts.now).workers }
+    ensures { result ≡ bump_next (worker_at (state_of parts.now) worker) }
 {
-    match parts.lane(w) {
+    match parts.lane(worker) {
         Lane::Empty => {
-            let number = parts.received_bumps(w).len() as u64;
-            match parts.next_bump(w) {
+            let number = parts.received_bumps(worker).len() as u64;
+            match parts.next_bump(worker) {
                 Some(life) => Some(Bump { number, life }),
                 None => None,
             }
@@ -62,26 +62,27 @@ fn bump_of(parts: &Parts, w: u32) -> Option<Bump>
 }
 
 /// The same, with its chunk in range.
-fn bump_next(parts: &Parts, w: u32) -> Option<Bump>
-    requires worker { w < length (state_of parts.now).workers }
+fn bump_next(parts: &Parts, worker: u32) -> Option<Bump>
+    requires worker { worker < length (state_of parts.now).workers }
     requires lawful { IsLawful (state_of parts.now) }
-    ensures bump { result ≡ bump_next (worker_at (state_of parts.now) w) }
+    ensures bump { result ≡ bump_next (worker_at (state_of parts.now) worker) }
     ensures chunk { IfSome result (λ b. b.life.chunk < length (state_of parts.now).chunks) }
 {
-    bump_of(parts, w)
+    bump_of(parts, worker)
 }
 
 /// A lane is done with a bump.
-fn finish(parts: &mut Parts, w: u32, bump: Bump, outcome: Outcome)
-    requires worker { w < length (state_of parts.old).workers }
-    requires room { HasRoom parts.old.workers w }
-    requires next { bump_next (worker_at (state_of parts.old) w) ≡ Some bump }
-    ensures { state_of parts.new ≡ with_worker (state_of parts.old) w (bumped_worker (worker_at (state_of parts.old) w) bump outcome) }
+fn finish(parts: &mut Parts, worker: u32, bump: Bump, outcome: Outcome)
+    requires worker { worker < length (state_of parts.old).workers }
+    requires room { HasRoom parts.old.workers worker }
+    requires next { bump_next (worker_at (state_of parts.old) worker) ≡ Some bump }
+    ensures { state_of parts.new ≡
+        with_worker (state_of parts.old) worker (bumped_worker (worker_at (state_of parts.old) worker) bump outcome) }
 {
-    match parts.lane(w) {
-        Lane::Empty => parts.finish_taken(w, bump, outcome),
+    match parts.lane(worker) {
+        Lane::Empty => parts.finish_taken(worker, bump, outcome),
         Lane::Carrying(_) | Lane::Tried(_) | Lane::Cleared(_, _) | Lane::Moved(_) => {
-            parts.finish_aboard(w, bump, outcome)
+            parts.finish_aboard(worker, bump, outcome)
         }
     }
 }
@@ -89,14 +90,14 @@ fn finish(parts: &mut Parts, w: u32, bump: Bump, outcome: Outcome)
 /// The lists of the bump's class: its item is moved, or its chunk is free.
 fn change_for(
     parts: &mut Parts,
-    w: u32,
+    worker: u32,
     bump: Bump,
     outcome: Outcome,
     ended: Ended,
 ) -> Result<(), AllocError>
     requires chunk { bump.life.chunk < length (state_of parts.old).chunks }
     requires lawful { IsLawful (state_of parts.old) }
-    ensures ok { OnOk result (state_of parts.new ≡ bumped_lists (state_of parts.old) w bump outcome ended) }
+    ensures ok { OnOk result (state_of parts.new ≡ bumped_lists (state_of parts.old) worker bump outcome ended) }
     ensures err { OnErr result (state_of parts.new ≡ state_of parts.old) }
     ensures workers { parts.new.workers ≡ parts.old.workers }
 {
@@ -108,7 +109,7 @@ fn change_for(
                 bump.life,
                 Segment::Cold,
                 Segment::Warm,
-                Cause::Bump(w, bump.number),
+                Cause::Bump(worker, bump.number),
             ),
         ),
         (Outcome::Gone, Ended::Freed) => parts.change_class(class, Change::freed(bump.life)),
@@ -117,21 +118,21 @@ fn change_for(
 }
 
 /// Applies a bump.
-fn apply(parts: &mut Parts, w: u32, now: u64, bump: Bump) -> Result<Entry, AllocError>
-    requires worker { w < length (state_of parts.old).workers }
+fn apply(parts: &mut Parts, worker: u32, now: u64, bump: Bump) -> Result<Entry, AllocError>
+    requires worker { worker < length (state_of parts.old).workers }
     requires lawful { IsLawful (state_of parts.old) }
-    requires next { bump_next (worker_at (state_of parts.old) w) ≡ Some bump }
+    requires next { bump_next (worker_at (state_of parts.old) worker) ≡ Some bump }
     requires chunk { bump.life.chunk < length (state_of parts.old).chunks }
-    ensures ok { OnOk result (state_of parts.new ≡ apply_bump (state_of parts.old) w now bump) }
+    ensures ok { OnOk result (state_of parts.new ≡ apply_bump (state_of parts.old) worker now bump) }
     ensures entry { IfOk result (λ e. e ≡ entry_next (state_of parts.old) bump) }
     ensures err { OnErr result (state_of parts.new ≡ state_of parts.old) }
 {
     let chunk = parts.chunk(bump.life.chunk);
     let outcome = chunk.head.outcome(chunk.head);
     let ended = chunk.head.one_fewer().ended();
-    parts.reserve_applied(w)?;
-    change_for(parts, w, bump, outcome, ended)?;
-    finish(parts, w, bump, outcome);
+    parts.reserve_applied(worker)?;
+    change_for(parts, worker, bump, outcome, ended)?;
+    finish(parts, worker, bump, outcome);
     parts.set_chunk(bump.life.chunk, bumped(chunk, now, outcome));
     let applied = match outcome {
         Outcome::Moved => Applied::Moved,

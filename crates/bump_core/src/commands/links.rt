@@ -9,17 +9,17 @@ use bump_rules::{Answer, Change, Head, ItemId, Refused};
 use bump_state::{Chunk, Parts};
 
 /// Stores an item in a class.
-pub fn call_link(parts: &mut Parts, k: u32, label: u64, now: u64) -> Result<Answer, Refused>
+pub fn call_link(parts: &mut Parts, class: u32, label: u64, now: u64) -> Result<Answer, Refused>
     requires { IsLawful (state_of parts.old) }
-    ensures { Commands (state_of parts.old) (command.Link k label now) (state_of parts.new) result }
+    ensures { Commands (state_of parts.old) (command.Link class label now) (state_of parts.new) result }
 {
-    if !parts.has_class(k) {
+    if !parts.has_class(class) {
         return Err(Refused::NotEnabled);
     }
-    let Some(next) = parts.next_chunk(k) else {
+    let Some(next) = parts.next_chunk(class) else {
         return Ok(Answer::NoFreeChunk);
     };
-    if parts.is_under_application(k as usize) {
+    if parts.is_under_application(class as usize) {
         return Err(Refused::NotEnabled);
     }
     let chunk = parts.chunk(next);
@@ -27,11 +27,11 @@ pub fn call_link(parts: &mut Parts, k: u32, label: u64, now: u64) -> Result<Answ
         chunk: next,
         generation: chunk.head.generation + 1,
     };
-    parts.change_class(k as usize, Change::Linked(life))?;
+    parts.change_class(class as usize, Change::Linked(life))?;
     parts.set_chunk(
         next,
         Chunk {
-            head: Head::newborn(life.generation),
+            head: Head::after_link(life.generation),
             time: now,
             label,
             ..chunk

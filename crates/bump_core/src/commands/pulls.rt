@@ -15,30 +15,38 @@ use bump_state::Parts;
 use std::alloc::AllocError;
 
 /// The last chunk of a class's HOT, WARM or COLD.
-fn tail_chunk(parts: &Parts, k: u32, tail: Tail) -> Option<u32>
-    requires { k < length (state_of parts.now).classes }
-    ensures { result ≡ last_pulled_in (state_of parts.now) k tail }
+fn tail_chunk(parts: &Parts, class: u32, tail: Tail) -> Option<u32>
+    requires { class < length (state_of parts.now).classes }
+    ensures { result ≡ last_pulled_in (state_of parts.now) class tail }
 {
-    parts.list_back(k, tail.segment().place())
+    parts.list_back(class, tail.segment().place())
 }
 
 /// The chunk that a pull looks at.
-fn last(parts: &Parts, k: u32, tail: Tail) -> Option<u32>
-    requires class { k < length (state_of parts.now).classes }
+fn last(parts: &Parts, class: u32, tail: Tail) -> Option<u32>
+    requires class { class < length (state_of parts.now).classes }
     requires lawful { IsLawful (state_of parts.now) }
-    ensures last { result ≡ last_pulled_in (state_of parts.now) k tail }
-    ensures linked { IfSome result (λ c. (c < length (state_of parts.now).chunks) × (class_of (state_of parts.now) c ≡ k)
-        × ((head_at (state_of parts.now) c).linked ≡ true) × ((head_at (state_of parts.now) c).segment ≡ segment_of tail)) }
+    ensures last { result ≡ last_pulled_in (state_of parts.now) class tail }
+    ensures linked { IfSome result (λ c. (c < length (state_of parts.now).chunks)
+        × (class_of (state_of parts.now) c ≡ class)
+        × ((head_at (state_of parts.now) c).linked ≡ true)
+        × ((head_at (state_of parts.now) c).segment ≡ segment_of tail)) }
 {
-    tail_chunk(parts, k, tail)
+    tail_chunk(parts, class, tail)
 }
 
 /// The last item of a list goes to the front of a segment, without ACTIVE.
-fn pull_to(parts: &mut Parts, k: u32, tail: Tail, last: u32, to: Segment) -> Result<(), AllocError>
-    requires class { k < length (state_of parts.old).classes }
+fn pull_to(
+    parts: &mut Parts,
+    class: u32,
+    tail: Tail,
+    last: u32,
+    to: Segment,
+) -> Result<(), AllocError>
+    requires class { class < length (state_of parts.old).classes }
     requires chunk { last < length (state_of parts.old).chunks }
-    requires listed { IsListed last (class_at (state_of parts.old) k).lists }
-    ensures ok { OnOk result (state_of parts.new ≡ pull_to (state_of parts.old) k tail last (Some to)) }
+    requires listed { IsListed last (class_at (state_of parts.old) class).lists }
+    ensures ok { OnOk result (state_of parts.new ≡ pull_to (state_of parts.old) class tail last (Some to)) }
     ensures err { OnErr result (state_of parts.new ≡ state_of parts.old) }
 {
     let head = parts.head(last);
@@ -47,7 +55,7 @@ fn pull_to(parts: &mut Parts, k: u32, tail: Tail, last: u32, to: Segment) -> Res
         generation: head.generation,
     };
     parts.change_class(
-        k as usize,
+        class as usize,
         Change::Moved(id, tail.segment(), to, Cause::Pull),
     )?;
     parts.set_head(
@@ -62,34 +70,35 @@ fn pull_to(parts: &mut Parts, k: u32, tail: Tail, last: u32, to: Segment) -> Res
 }
 
 /// What a pull does with the last item of a list.
-fn pulled_at(parts: &Parts, k: u32, tail: Tail, last: u32) -> Pulled
-    requires class { k < length (state_of parts.now).classes }
+fn pulled_at(parts: &Parts, class: u32, tail: Tail, last: u32) -> Pulled
+    requires class { class < length (state_of parts.now).classes }
     requires chunk { last < length (state_of parts.now).chunks }
-    ensures { result ≡ pulled_at (state_of parts.now) k tail last }
+    ensures { result ≡ pulled_at (state_of parts.now) class tail last }
 {
     let head = parts.head(last);
     let id = ItemId {
         chunk: last,
         generation: head.generation,
     };
-    let class = &parts.classes[k as usize];
+    let class = &parts.classes[class as usize];
     let limits = Limits {
         hot: class.hot_limit,
         warm: class.warm_limit,
     };
-    tail.pulled(head, &class.lists, limits, head.severed().ended(), id)
+    tail.pulled(head, &class.lists, limits, head.after_unlink().ended(), id)
 }
 
 /// The last item of a list is moved by the tail table, or ended.
-fn pull(parts: &mut Parts, k: u32, tail: Tail, last: u32) -> Result<(), AllocError>
-    requires class { k < length (state_of parts.old).classes }
+fn pull(parts: &mut Parts, class: u32, tail: Tail, last: u32) -> Result<(), AllocError>
+    requires class { class < length (state_of parts.old).classes }
     requires chunk { last < length (state_of parts.old).chunks }
     requires lawful { IsLawful (state_of parts.old) }
-    requires owner { class_of (state_of parts.old) last ≡ k }
+    requires owner { class_of (state_of parts.old) last ≡ class }
     requires linked { (head_at (state_of parts.old) last).linked ≡ true }
-    ensures ok { OnOk result (state_of parts.new ≡ pull (state_of parts.old) k tail last) }
+    ensures ok { OnOk result (state_of parts.new ≡ pull (state_of parts.old) class tail last) }
     ensures err { OnErr result (state_of parts.new ≡ state_of parts.old) }
-    ensures memory { OnErr result (one_asks (state_of parts.old) (pull_events (state_of parts.old) k tail last) ≡ true) }
+    ensures memory { OnErr result
+        (one_asks (state_of parts.old) (pull_events (state_of parts.old) class tail last) ≡ true) }
 {
     if matches!(tail, Tail::Evict) {
         let generation = parts.head(last).generation;
@@ -98,27 +107,27 @@ fn pull(parts: &mut Parts, k: u32, tail: Tail, last: u32) -> Result<(), AllocErr
             generation,
         };
         unlink_item(parts, life)?;
-    } else if let Some(to) = pulled_at(parts, k, tail, last).to() {
-        pull_to(parts, k, tail, last, to)?;
+    } else if let Some(to) = pulled_at(parts, class, tail, last).to() {
+        pull_to(parts, class, tail, last, to)?;
     }
     Ok(())
 }
 
 /// Looks at the last item of a list, and moves it by the tail table, or ends it.
-pub fn call_pull(parts: &mut Parts, k: u32, tail: Tail) -> Result<Answer, Refused>
+pub fn call_pull(parts: &mut Parts, class: u32, tail: Tail) -> Result<Answer, Refused>
     requires { IsLawful (state_of parts.old) }
-    ensures { Commands (state_of parts.old) (command.Pull k tail) (state_of parts.new) result }
+    ensures { Commands (state_of parts.old) (command.Pull class tail) (state_of parts.new) result }
 {
-    if !parts.has_class(k) {
+    if !parts.has_class(class) {
         return Err(Refused::NotEnabled);
     }
-    let Some(last) = last(parts, k, tail) else {
+    let Some(last) = last(parts, class, tail) else {
         return Ok(Answer::Pulled(Pulled::Empty));
     };
-    if parts.is_under_application(k as usize) {
+    if parts.is_under_application(class as usize) {
         return Err(Refused::NotEnabled);
     }
-    let pulled = pulled_at(parts, k, tail, last);
-    pull(parts, k, tail, last)?;
+    let pulled = pulled_at(parts, class, tail, last);
+    pull(parts, class, tail, last)?;
     Ok(Answer::Pulled(pulled))
 }

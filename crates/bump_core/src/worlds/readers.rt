@@ -45,8 +45,8 @@ impl World {
         self.parts.refs_limit
     }
 
-    /// The limits of a class: a pull takes from HOT where it has more items than the first, and from WARM where it has more
-    /// than the second. The class is one of the configuration's.
+    /// The limits of a class: a pull takes from HOT where it has more items than the first, and from WARM where it
+    /// has more than the second. The class is one of the configuration's.
     pub fn limits(&self, class: u32) -> (u32, u32)
         requires { class < length self.now.classes }
         ensures { result ≡ limits_of self.now class }
@@ -81,8 +81,8 @@ impl World {
         self.parts.list(class, place)
     }
 
-    /// The last chunk of a class's list, or `None` where it is empty: the one that a pull looks at in HOT, WARM or COLD.
-    /// The class is one of the configuration's. It takes constant time.
+    /// The last chunk of a class's list, or `None` where it is empty: the one that a pull looks at in HOT, WARM or
+    /// COLD. The class is one of the configuration's. It takes constant time.
     pub fn list_back(&self, class: u32, place: Place) -> Option<u32>
         requires { class < length self.now.classes }
         ensures { result ≡ last_of (list_of self.now class place) }
@@ -98,8 +98,8 @@ impl World {
         self.parts.classes[class as usize].lists.len(place)
     }
 
-    /// What happened to the lists of a class, in order: they are its replay. The class is one of the configuration's. The World
-    /// keeps all of it.
+    /// What happened to the lists of a class, in order: they are its replay. The class is one of the
+    /// configuration's. The World keeps all of it.
     pub fn history(&self, class: u32) -> &[Change]
         requires { class < length self.now.classes }
         ensures { result.now ≡ history_of self.now class }

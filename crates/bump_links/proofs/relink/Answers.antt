@@ -12,7 +12,11 @@ use Rattle.bump_links.proofs.relink.Goals as goal
 -- the list that the code read is the one that the record names
 from_is : (nodes : List Node) (n : ℕ) → n < length nodes
     → (get_or nodes n (record { forward = 0; back = 0; list = 0 })).list ≡ list_of nodes n
-from_is nodes n lt = ap (λ (q : Node). q.list) (get_or_default nodes n (record { forward = 0; back = 0; list = 0 }) no_node lt)
+from_is nodes n lt = ap (λ (q : Node). q.list) (get_or_default nodes n (record {
+  forward = 0;
+  back = 0;
+  list = 0;
+}) no_node lt)
 
 -- the header that the code lends is that of the list
 header_is : (headers : List Header) (l o : ℕ) → l ≡ o → o < length headers
@@ -32,7 +36,11 @@ target_is headers l o t h e lt =
 -- what is spelled by the header that the code lends
 taken_is : (nodes nodes1 : List Node) (headers : List Header) (h1 : Header) (n o : ℕ) → o ≡ list_of nodes n
     → list_of nodes n < length headers
-    → SpellsList nodes1 (list_of nodes n) h1 (without n (list_under nodes (get_or headers o (record { head = 0; tail = 0; size = 0 }))))
+    → SpellsList nodes1 (list_of nodes n) h1 (without n (list_under nodes (get_or headers o (record {
+      head = 0;
+      tail = 0;
+      size = 0;
+    }))))
     → SpellsList nodes1 (list_of nodes n) h1 (without n (list_under nodes (header_at headers (list_of nodes n))))
 taken_is nodes nodes1 headers h1 n o e lt s =
     let P : Header → Type 0 = λ q. SpellsList nodes1 (list_of nodes n) h1 (without n (list_under nodes q)) in
@@ -67,9 +75,17 @@ put_front-requires-clause-free c =
 -- the two steps make a move
 moves : (nodes nodes1 nodes2 : List Node) (headers : List Header) (h1 h2 : Header) (n t o : ℕ)
     → IsSpelled nodes headers → n < length nodes → t < length headers → o ≡ list_of nodes n
-    → SpellsList nodes1 (list_of nodes n) h1 (without n (list_under nodes (get_or headers o (record { head = 0; tail = 0; size = 0 }))))
+    → SpellsList nodes1 (list_of nodes n) h1 (without n (list_under nodes (get_or headers o (record {
+      head = 0;
+      tail = 0;
+      size = 0;
+    }))))
     → KeepsOthers nodes nodes1 (list_of nodes n) n
-    → SpellsList nodes2 t h2 (n ∷ list_under nodes1 (get_or (set headers o h1) t (record { head = 0; tail = 0; size = 0 })))
+    → SpellsList nodes2 t h2 (n ∷ list_under nodes1 (get_or (set headers o h1) t (record {
+      head = 0;
+      tail = 0;
+      size = 0;
+    })))
     → KeepsOthers nodes1 nodes2 t n
     → Moves nodes nodes1 nodes2 headers h1 h2 n t
 moves nodes nodes1 nodes2 headers h1 h2 n t o inv node target e taken kept put kept_on =
@@ -94,9 +110,11 @@ returns-clause-spelled c =
     let m = moves nodes c.unlink.new.nodes nodes2 headers c.unlink.new.header c.put_front.new.header n c.args.list _
     c.requires.spelled c.requires.node c.requires.list from c.unlink.ensures.spelled c.unlink.ensures.others
     c.put_front.ensures.spelled c.put_front.ensures.others in
-    let P : ℕ → Type 0 = λ q. IsSpelled nodes2 (set (set headers q c.unlink.new.header) c.args.list c.put_front.new.header) in
+    let P : ℕ → Type 0 = λ q. IsSpelled nodes2
+    (set (set headers q c.unlink.new.header) c.args.list c.put_front.new.header) in
     subst P (sym from)
-    (moved_is_spelled nodes c.unlink.new.nodes nodes2 headers c.unlink.new.header c.put_front.new.header n c.args.list m)
+    (moved_is_spelled nodes c.unlink.new.nodes nodes2 headers c.unlink.new.header c.put_front.new.header n c.args.list
+    m)
 
 pub returns-clause-each_once : goal.returns-clause-each_once
 returns-clause-each_once c =
@@ -108,10 +126,12 @@ returns-clause-each_once c =
     let m = moves nodes c.unlink.new.nodes nodes2 headers c.unlink.new.header c.put_front.new.header n c.args.list _
     c.requires.spelled c.requires.node c.requires.list from c.unlink.ensures.spelled c.unlink.ensures.others
     c.put_front.ensures.spelled c.put_front.ensures.others in
-    let P : ℕ → Type 0 = λ q. HoldsEachOnce (lists_of nodes2 (set (set headers q c.unlink.new.header) c.args.list c.put_front.new.header)) in
+    let P : ℕ → Type 0 = λ q. HoldsEachOnce (lists_of nodes2
+    (set (set headers q c.unlink.new.header) c.args.list c.put_front.new.header)) in
     subst P (sym from)
     (holds_each_once nodes2 _
-    (moved_is_spelled nodes c.unlink.new.nodes nodes2 headers c.unlink.new.header c.put_front.new.header n c.args.list m))
+    (moved_is_spelled nodes c.unlink.new.nodes nodes2 headers c.unlink.new.header c.put_front.new.header n c.args.list
+    m))
 
 pub returns-clause-moved : goal.returns-clause-moved
 returns-clause-moved c =

@@ -1,4 +1,5 @@
--- Nodes as chunks: the lists of a class that links stand for, what a move of a node does to them, and what is read of them.
+-- Nodes as chunks: the lists of a class that links stand for, what a move of a node does to
+-- them, and what is read of them.
 use Rattle.std.proofs.Common.{◌≡◌, ◌≢◌, ℕ, zero, suc, ◌+◌, ◌-◌, ◌<◌, ◌≤◌, cond, eqb, ltb, List, [], ◌∷◌, length, get_or, set, map, Option, Some, None, IfSome, refl, sym, ◌∙◌, ap, subst, arith, inl, inr}
 use Rattle.std.specs.Prelude.{option_map}
 use Rattle.std.specs.List.{AllByRecursion, range_with_len}
@@ -41,14 +42,16 @@ chunks_range first a (suc n) =
     ap (λ xs. (first + a) ∷ xs) (chunks_range first (a + 1) n ∙ ap (λ k. range_with_len k n) next)
 
 -- new lists are those at the start
-pub new_from : (first n : ℕ) → lists_from first (links.all_in_first n place_count (place_number Unused)) ≡ opening first n
+pub new_from : (first n : ℕ) → lists_from first (links.all_in_first n place_count (place_number Unused))
+    ≡ opening first n
 new_from first n =
     let none : first + 0 ≡ first = omega arith in
     let row = chunks_range first 0 n ∙ ap (λ k. range_with_len k n) none in
     λ i. lists_by (λ q. cond (is_place Unused q) (row i) [])
 
 -- without a node is without its chunk
-pub chunks_without : (first n : ℕ) (xs : List ℕ) → chunks_from first (without n xs) ≡ without (first + n) (chunks_from first xs)
+pub chunks_without : (first n : ℕ) (xs : List ℕ) → chunks_from first (without n xs)
+    ≡ without (first + n) (chunks_from first xs)
 chunks_without first n [] = refl
 chunks_without first n (x ∷ xs) =
     elim (eqb_tells x n) [
@@ -70,7 +73,8 @@ chunks_times first n (x ∷ xs) =
     ]
 
 -- the first node is the first chunk
-pub chunks_first : (first : ℕ) (xs : List ℕ) → option_map (λ n. first + n) (first_of xs) ≡ first_of (chunks_from first xs)
+pub chunks_first : (first : ℕ) (xs : List ℕ) → option_map (λ n. first + n) (first_of xs)
+    ≡ first_of (chunks_from first xs)
 chunks_first first [] = refl
 chunks_first first (x ∷ xs) = refl
 
@@ -81,7 +85,8 @@ chunks_last first (x ∷ []) = refl
 chunks_last first (x ∷ y ∷ ys) = chunks_last first (y ∷ ys)
 
 -- the node that follows is the chunk that follows
-pub chunks_next : (first n : ℕ) (xs : List ℕ) → option_map (λ k. first + k) (next_of n xs) ≡ next_of (first + n) (chunks_from first xs)
+pub chunks_next : (first n : ℕ) (xs : List ℕ) → option_map (λ k. first + k) (next_of n xs)
+    ≡ next_of (first + n) (chunks_from first xs)
 chunks_next first n [] = refl
 chunks_next first n (x ∷ xs) =
     elim (eqb_tells x n) [
@@ -95,11 +100,13 @@ chunks_next first n (x ∷ xs) =
 
 -- a list by its number after a move: with the node in front where it is the target, and without it elsewhere
 list_at_moved : (n t l : ℕ) (s : links.Lists) → l < length s.lists
-    → links.list_at (moved_to_front n t s) l ≡ cond (eqb l t) (n ∷ without n (links.list_at s l)) (without n (links.list_at s l))
+    → links.list_at (moved_to_front n t s) l ≡ cond (eqb l t) (n ∷ without n (links.list_at s l))
+    (without n (links.list_at s l))
 list_at_moved n t l s below =
     let without_n = map (without n) s.lists in
     let at : get_or without_n l [] ≡ without n (get_or s.lists l []) = get_or-map (without n) s.lists l [] [] below in
-    elim (eqb_tells l t) as (λ _. links.list_at (moved_to_front n t s) l ≡ cond (eqb l t) (n ∷ without n (links.list_at s l)) (without n (links.list_at s l))) [
+    elim (eqb_tells l t) as (λ _. links.list_at (moved_to_front n t s) l
+    ≡ cond (eqb l t) (n ∷ without n (links.list_at s l)) (without n (links.list_at s l))) [
       | inl e ↦
           let in_map : l < length without_n = subst (λ q. l < q) (sym (length-map s.lists (without n))) below in
           let put : get_or (set without_n l (n ∷ get_or without_n l [])) l [] ≡ n ∷ without n (get_or s.lists l []) =
@@ -112,10 +119,12 @@ list_at_moved n t l s below =
 -- that list as one of chunks
 chunks_moved : (first n : ℕ) (p q : Place) (xs : List ℕ)
     → chunks_from first (cond (eqb (place_number q) (place_number p)) (n ∷ without n xs) (without n xs))
-    ≡ cond (is_place p q) ((first + n) ∷ without (first + n) (chunks_from first xs)) (without (first + n) (chunks_from first xs))
+    ≡ cond (is_place p q) ((first + n) ∷ without (first + n) (chunks_from first xs)) (without (first + n)
+    (chunks_from first xs))
 chunks_moved first n p q xs =
     elim (eqb_tells (place_number q) (place_number p)) [
-      | inl t ↦ rw (t.0, eq-eqb (place_number p) (place_number q) (sym t.1)) (ap (λ r. (first + n) ∷ r) (chunks_without first n xs))
+      | inl t ↦ rw (t.0, eq-eqb (place_number p) (place_number q) (sym t.1)) (ap (λ r. (first + n) ∷ r)
+          (chunks_without first n xs))
       | inr f ↦
           let apart : place_number p ≢ place_number q = (λ e. f.1 (sym e)) in
           rw (f.0, ne_eqb (place_number p) (place_number q) apart) (chunks_without first n xs)
@@ -128,7 +137,8 @@ moved_from first n p s six =
     same_lists (lists_from first (moved_to_front n (place_number p) s)) (to_front (first + n) p (lists_from first s))
     (λ q.
     let below : place_number q < length s.lists = omega (arith, six, number_below q) in
-    let C : List ℕ → List ℕ = λ xs. cond (is_place p q) ((first + n) ∷ without (first + n) xs) (without (first + n) xs) in
+    let C : List ℕ → List ℕ = λ xs. cond (is_place p q) ((first + n) ∷ without (first + n) xs)
+    (without (first + n) xs) in
     list_at_from first (moved_to_front n (place_number p) s) q
     ∙ ap (chunks_from first) (list_at_moved n (place_number p) (place_number q) s below)
     ∙ chunks_moved first n p q (links.list_at s (place_number q))
@@ -138,11 +148,19 @@ moved_from first n p s six =
 -- Which chunks have a node.
 
 -- a chunk of a list of nodes is counted from the first one, and its node is one of those
-among : (first count c : ℕ) (xs : List ℕ) → AllByRecursion (λ n. n < count) xs → 0 < times c (chunks_from first xs) → (first ≤ c) × (c - first < count)
+among : (first count c : ℕ) (xs : List ℕ) → AllByRecursion (λ n. n < count) xs → 0 < times c (chunks_from first xs)
+    → (first ≤ c) × (c - first < count)
 among first count c [] all some = absurd (omega (arith, some))
 among first count c (x ∷ xs) all some =
     elim (eqb_tells (first + x) c) [
-      | inl t ↦ (let is : first + x ≡ c = t.1 in let below : x < count = all.0 in (omega (arith, is), omega (arith, is, below)))
+      | inl t ↦ (let is : first + x ≡ c = t.1 in let below : x < count = all.0 in (
+        omega (arith, is),
+        omega (
+          arith,
+          is,
+          below,
+        ),
+      ))
       | inr f ↦ among first count c xs all.1 (rw f.0 at some)
     ]
 
@@ -157,7 +175,8 @@ module _ (first c : ℕ) (s : links.Lists) (six : AreSixLists first s) where
   pub node_at : (p : Place) → 0 < times c (list_at (lists_from first s) p) → HasNode first c s
   node_at p some =
       let l = place_number p in
-      let in_nodes = among first s.nodes c (links.list_at s l) (recursion_from_All (λ n. n < s.nodes) (links.list_at s l) (six.each_once.only_nodes l))
+      let in_nodes = among first s.nodes c (links.list_at s l) (recursion_from_All (λ n. n < s.nodes)
+      (links.list_at s l) (six.each_once.only_nodes l))
       (subst (λ xs. 0 < times c xs) (list_at_from first s p) some) in
       let from : first ≤ c = in_nodes.0 in
       record { from = in_nodes.0; node = in_nodes.1; is = omega (arith, from) }
@@ -167,8 +186,10 @@ module _ (first c : ℕ) (s : links.Lists) (six : AreSixLists first s) where
   node_of listed = node_at listed.0 listed.1
 
   -- a chunk stands in the list at a place as often as its node in that list
-  counted_at : (p : Place) → HasNode first c s → times c (list_at (lists_from first s) p) ≡ times (c - first) (links.list_at s (place_number p))
-  counted_at p has = ap (times c) (list_at_from first s p) ∙ ap (λ k. times k (listed_from first s p)) (sym has.is) ∙ chunks_times first (c - first) (links.list_at s (place_number p))
+  counted_at : (p : Place) → HasNode first c s → times c (list_at (lists_from first s) p)
+      ≡ times (c - first) (links.list_at s (place_number p))
+  counted_at p has = ap (times c) (list_at_from first s p) ∙ ap (λ k. times k (listed_from first s p)) (sym has.is)
+      ∙ chunks_times first (c - first) (links.list_at s (place_number p))
 
   -- the list at a place that has the chunk is the one that holds its node
   pub held_at : (p : Place) → 0 < times c (list_at (lists_from first s) p) → IsHeldBy s (c - first) (place_number p)
@@ -185,23 +206,28 @@ module _ (first c : ℕ) (s : links.Lists) (six : AreSixLists first s) where
       ]
 
   -- the list that holds the chunk's node is the one of a place exactly where the chunk stands there
-  pub tells_at : (p : Place) (l n : ℕ) → HasNode first c s → IsHeldBy s (c - first) l → n ≡ place_number p → eqb l n ≡ ltb 0 (times c (list_at (lists_from first s) p))
+  pub tells_at : (p : Place) (l n : ℕ) → HasNode first c s → IsHeldBy s (c - first) l → n ≡ place_number p → eqb l n
+      ≡ ltb 0 (times c (list_at (lists_from first s) p))
   tells_at p l n has held is =
       elim (eqb_tells l n) [
         | inl t ↦
-            let once : times (c - first) (links.list_at s (place_number p)) ≡ 1 = ap (λ k. times (c - first) (links.list_at s k)) (sym is ∙ sym t.1) ∙ held.once in
+            let once : times (c - first) (links.list_at s (place_number p))
+            ≡ 1 = ap (λ k. times (c - first) (links.list_at s k)) (sym is ∙ sym t.1) ∙ held.once in
             t.0 ∙ sym (ap (ltb 0) (counted_at p has ∙ once))
         | inr f ↦ f.0 ∙ sym (ap (ltb 0) (counted_at p has ∙ held.elsewhere (place_number p) (λ e. f.1 (sym (is ∙ e)))))
       ]
 
   -- a chunk that stands in the list at a place stands there once
-  pub once_at : (p : Place) → 0 < times c (list_at (lists_from first s) p) → times c (list_at (lists_from first s) p) ≡ 1
+  pub once_at : (p : Place) → 0 < times c (list_at (lists_from first s) p) → times c (list_at (lists_from first s) p)
+      ≡ 1
   once_at p some = counted_at p (node_at p some) ∙ (held_at p some).once
 
 -- the chunk of a node has a number
-pub node_numbered : (first : ℕ) (s : links.Lists) (o : Option ℕ) → AreSixLists first s → IfSome o (λ n. n < s.nodes) → IfSome o (λ n. first + n < 4294967296)
+pub node_numbered : (first : ℕ) (s : links.Lists) (o : Option ℕ) → AreSixLists first s → IfSome o (λ n. n < s.nodes)
+    → IfSome o (λ n. first + n < 4294967296)
 node_numbered first s None six below = tt
-node_numbered first s (Some n) six below = let last : first + s.nodes < 4294967296 = six.numbered in omega (arith, last, below)
+node_numbered first s (Some n) six below = let last : first + s.nodes < 4294967296 = six.numbered in
+    omega (arith, last, below)
 
 -- What the readers of the links answer, of the list that has the number of a place.
 module _ (first l : ℕ) (s : links.Lists) (p : Place) (is : l ≡ place_number p) where
@@ -210,25 +236,33 @@ module _ (first l : ℕ) (s : links.Lists) (p : Place) (is : l ≡ place_number 
   numbered_at = ap (λ k. chunks_from first (links.list_at s k)) is ∙ sym (list_at_from first s p)
 
   -- its first chunk
-  pub first_is : (o r : Option ℕ) → o ≡ first_of (links.list_at s l) → r ≡ option_map (λ n. first + n) o → r ≡ first_of (list_at (lists_from first s) p)
-  first_is o r read as_chunk = as_chunk ∙ ap (option_map (λ n. first + n)) read ∙ chunks_first first (links.list_at s l) ∙ ap first_of numbered_at
+  pub first_is : (o r : Option ℕ) → o ≡ first_of (links.list_at s l) → r ≡ option_map (λ n. first + n) o → r
+      ≡ first_of (list_at (lists_from first s) p)
+  first_is o r read as_chunk = as_chunk ∙ ap (option_map (λ n. first + n)) read
+      ∙ chunks_first first (links.list_at s l) ∙ ap first_of numbered_at
 
   -- its last chunk
-  pub last_is : (o r : Option ℕ) → o ≡ last_of (links.list_at s l) → r ≡ option_map (λ n. first + n) o → r ≡ last_of (list_at (lists_from first s) p)
-  last_is o r read as_chunk = as_chunk ∙ ap (option_map (λ n. first + n)) read ∙ chunks_last first (links.list_at s l) ∙ ap last_of numbered_at
+  pub last_is : (o r : Option ℕ) → o ≡ last_of (links.list_at s l) → r ≡ option_map (λ n. first + n) o → r
+      ≡ last_of (list_at (lists_from first s) p)
+  last_is o r read as_chunk = as_chunk ∙ ap (option_map (λ n. first + n)) read ∙ chunks_last first (links.list_at s l)
+      ∙ ap last_of numbered_at
 
   -- how many chunks it has
   pub length_is : length (links.list_at s l) ≡ length (list_at (lists_from first s) p)
   length_is = sym (length-map (links.list_at s l) (λ n. first + n)) ∙ ap length numbered_at
 
   -- a chunk that moves to its front
-  pub moved_is : (c : ℕ) → AreSixLists first s → HasNode first c s → lists_from first (moved_to_front (c - first) l s) ≡ to_front c p (lists_from first s)
-  moved_is c six has = ap (λ k. lists_from first (moved_to_front (c - first) k s)) is ∙ moved_from first (c - first) p s six.six
+  pub moved_is : (c : ℕ) → AreSixLists first s → HasNode first c s → lists_from first (moved_to_front (c - first) l s)
+      ≡ to_front c p (lists_from first s)
+  moved_is c six has = ap (λ k. lists_from first (moved_to_front (c - first) k s)) is
+      ∙ moved_from first (c - first) p s six.six
       ∙ ap (λ k. to_front k p (lists_from first s)) has.is
 
 -- the chunk that follows one that stands in the list at a place
-pub next_is : (first c : ℕ) (s : links.Lists) (p : Place) (o r : Option ℕ) → AreSixLists first s → 0 < times c (list_at (lists_from first s) p)
-    → links.IsNextOf s (c - first) o → r ≡ option_map (λ n. first + n) o → r ≡ next_of c (list_at (lists_from first s) p)
+pub next_is : (first c : ℕ) (s : links.Lists) (p : Place) (o r : Option ℕ) → AreSixLists first s
+    → 0 < times c (list_at (lists_from first s) p)
+    → links.IsNextOf s (c - first) o → r ≡ option_map (λ n. first + n) o → r
+    ≡ next_of c (list_at (lists_from first s) p)
 next_is first c s p o r six some read as_chunk =
     let xs = links.list_at s (place_number p) in
     as_chunk ∙ ap (option_map (λ n. first + n)) (read (place_number p) (held_at first c s six p some))
@@ -237,7 +271,8 @@ next_is first c s p o r six some read as_chunk =
     ∙ ap (next_of c) (sym (list_at_from first s p))
 
 -- lists of six that were moved in are lists of six
-pub six_moved : (first n l : ℕ) (s t : links.Lists) → AreSixLists first s → t.nodes ≡ s.nodes → length t.lists ≡ length s.lists → HoldsEachOnce t → AreSixLists first t
+pub six_moved : (first n l : ℕ) (s t : links.Lists) → AreSixLists first s → t.nodes ≡ s.nodes → length t.lists
+    ≡ length s.lists → HoldsEachOnce t → AreSixLists first t
 six_moved first n l s t six nodes lists each =
     let last : first + s.nodes < 4294967296 = six.numbered in
     record { six = lists ∙ six.six; each_once = each; numbered = omega (arith, last, nodes) }

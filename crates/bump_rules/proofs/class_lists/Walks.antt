@@ -10,13 +10,14 @@ pub last_part-whole : (xs : List ℕ) → last_part (length xs) xs ≡ xs
 last_part-whole xs = let none : length xs - length xs ≡ 0 = omega arith in ap (λ k. drop k xs) none
 
 -- a walk that has all of a list before it begins with its first
-pub starts : (xs : List ℕ) (left : ℕ) (next : Option ℕ) → left ≡ length xs → next ≡ first_of xs → IsAmid xs left next × (last_part left xs ≡ xs)
+pub starts : (xs : List ℕ) (left : ℕ) (next : Option ℕ) → left ≡ length xs → next ≡ first_of xs → IsAmid xs left next
+    × (last_part left xs ≡ xs)
 starts xs left next all is =
     let whole : last_part left xs ≡ xs = ap (λ n. last_part n xs) all ∙ last_part-whole xs in
     (record { within = omega (arith, all); next = is ∙ ap first_of (sym whole) }, whole)
 
--- a part of a list that begins with an element: that one is in the list, and the part is it and what is behind it; where it
--- stands in the list once, what follows it there is the first behind it
+-- a part of a list that begins with an element: that one is in the list, and the part is it and what is behind it;
+-- where it stands in the list once, what follows it there is the first behind it
 pub record Begins (c k : ℕ) (xs : List ℕ) : Type 0 where
   pub is : drop k xs ≡ c ∷ drop (suc k) xs
   pub within : k < length xs

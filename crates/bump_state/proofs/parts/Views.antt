@@ -7,5 +7,10 @@ use Rattle.bump_state.specs.State.{class_at, no_class}
 use Rattle.bump_state.specs.Views.{state_of, class_view}
 
 -- a class as it is read
-pub class_seen : (p : Parts) (k : ℕ) (a : Class) → k < length (map class_view p.classes.items) → a ≡ get_or p.classes.items k a → class_at (state_of p) k ≡ class_view a
-class_seen p k a within is = get_or-map class_view p.classes.items k a no_class (omega (arith, within, length-map p.classes.items class_view)) ∙ ap class_view (sym is)
+pub class_seen : (p : Parts) (k : ℕ) (a : Class) → k < length (map class_view p.classes.items) → a
+    ≡ get_or p.classes.items k a → class_at (state_of p) k ≡ class_view a
+class_seen p k a within is = get_or-map class_view p.classes.items k a no_class (omega (
+  arith,
+  within,
+  length-map p.classes.items class_view,
+)) ∙ ap class_view (sym is)

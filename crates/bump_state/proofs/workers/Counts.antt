@@ -29,66 +29,111 @@ at_most_all test [] = omega arith
 at_most_all test (x ∷ xs) = omega (arith, bit_most (test x), at_most_all test xs)
 
 -- where an element fails a test, fewer than all pass it
-all_but_one : {A : Type 0} (test : A → Bool) (xs : List A) (i : ℕ) (a : A) → i < length xs → how_many test xs + 1 ≤ length xs + bit (test (get_or xs i a))
+all_but_one : {A : Type 0} (test : A → Bool) (xs : List A) (i : ℕ) (a : A) → i < length xs
+    → how_many test xs + 1 ≤ length xs + bit (test (get_or xs i a))
 all_but_one test [] i a within = absurd (omega arith)
 all_but_one test (x ∷ xs) zero a within = omega (arith, at_most_all test xs)
 all_but_one test (x ∷ xs) (suc i) a within = omega (arith, bit_most (test x), all_but_one test xs i a (omega arith))
 
 -- a worker in a list whose count is n: `was` says whether it passes
-module _ (test : Worker → Bool) (xs : List Worker) (i : ℕ) (a : Worker) (within : i < length xs) (is : a ≡ get_or xs i a) (n : ℕ) (counted : n ≡ how_many test xs) (few : length xs < 2 ^ 32) (was : Bool) (was_so : was ≡ test a) where
+module _ (test : Worker → Bool) (xs : List Worker) (i : ℕ) (a : Worker) (within : i < length xs) (is : a
+    ≡ get_or xs i a) (n : ℕ) (counted : n ≡ how_many test xs) (few : length xs < 2 ^ 32) (was : Bool) (was_so : was
+    ≡ test a) where
   -- what it was is counted
   pub counted_in : bit was ≤ n
-  counted_in = omega (arith, counted, ap bit was_so, term_within (λ v. bit (test v)) xs i a within, ap (λ v. bit (test v)) is)
+  counted_in = omega (
+    arith,
+    counted,
+    ap bit was_so,
+    term_within (λ v. bit (test v)) xs i a within,
+    ap (λ v. bit (test v)) is,
+  )
 
   -- there is room to count it anew
   pub counted_few : (now : Bool) → n + bit now < 2 ^ 32 + bit was
-  counted_few now = omega (arith, counted, few, ap bit was_so, bit_most now, all_but_one test xs i a within, ap (λ v. bit (test v)) is)
+  counted_few now = omega (
+    arith,
+    counted,
+    few,
+    ap bit was_so,
+    bit_most now,
+    all_but_one test xs i a within,
+    ap (λ v. bit (test v)) is,
+  )
 
   -- the new count follows from the old one
-  counted_anew : (x : Worker) (m : ℕ) (now : Bool) → now ≡ test x → m + bit was ≡ n + bit now → m ≡ how_many test (set xs i x)
-  counted_anew x m now now_so anew = omega (arith, counted, anew, ap bit was_so, ap bit now_so, total_written (λ v. bit (test v)) xs i x a within, ap (λ v. bit (test v)) is)
+  counted_anew : (x : Worker) (m : ℕ) (now : Bool) → now ≡ test x → m + bit was ≡ n + bit now → m
+      ≡ how_many test (set xs i x)
+  counted_anew x m now now_so anew = omega (
+    arith,
+    counted,
+    anew,
+    ap bit was_so,
+    ap bit now_so,
+    total_written (λ v. bit (test v)) xs i x a within,
+    ap (λ v. bit (test v)) is,
+  )
 
 -- one worker changed behind a reference
-module _ (xs : List Worker) (i : ℕ) (a x : Worker) (within : i < length xs) (is : a ≡ get_or xs i a) (n m : ℕ) (o : AreCounted n m xs) where
+module _ (xs : List Worker) (i : ℕ) (a x : Worker) (within : i < length xs) (is : a ≡ get_or xs i a) (n m : ℕ)
+    (o : AreCounted n m xs) where
   -- the length stays, and so it stays few
   still_few : length (set xs i x) < 2 ^ 32
   still_few = omega (arith, o.few, length-set xs i x)
 
   -- a hand that is under way as before leaves the count
   hands_still : is_not_idle x ≡ is_not_idle a → n ≡ how_many is_not_idle (set xs i x)
-  hands_still same = counted_anew is_not_idle xs i a within is n o.not_idle o.few (is_not_idle x) same x n (is_not_idle x) refl refl
+  hands_still same = counted_anew is_not_idle xs i a within is n o.not_idle o.few (is_not_idle x) same x n
+      (is_not_idle x) refl refl
 
   -- and so does a lane
   applying_still : is_applying x ≡ is_applying a → m ≡ how_many is_applying (set xs i x)
-  applying_still same = counted_anew is_applying xs i a within is m o.applying o.few (is_applying x) same x m (is_applying x) refl refl
+  applying_still same = counted_anew is_applying xs i a within is m o.applying o.few (is_applying x) same x m
+      (is_applying x) refl refl
 
   -- a worker that is under way as before leaves both counts
   pub both_still : is_not_idle x ≡ is_not_idle a → is_applying x ≡ is_applying a → AreCounted n m (set xs i x)
   both_still hand lane = record { not_idle = hands_still hand; applying = applying_still lane; few = still_few }
 
   -- one whose hand changed is counted anew
-  pub hand_anew : (r : ℕ) (was now : Bool) → was ≡ is_not_idle a → now ≡ is_not_idle x → r + bit was ≡ n + bit now → is_applying x ≡ is_applying a → AreCounted r m (set xs i x)
-  hand_anew r was now was_so now_so anew lane = record { not_idle = counted_anew is_not_idle xs i a within is n o.not_idle o.few was was_so x r now now_so anew; applying = applying_still lane; few = still_few }
+  pub hand_anew : (r : ℕ) (was now : Bool) → was ≡ is_not_idle a → now ≡ is_not_idle x → r + bit was ≡ n + bit now
+      → is_applying x ≡ is_applying a → AreCounted r m (set xs i x)
+  hand_anew r was now was_so now_so anew lane = record {
+    not_idle = counted_anew is_not_idle xs i a within is n o.not_idle o.few was was_so x r now now_so anew;
+    applying =
+        applying_still lane;
+    few = still_few;
+  }
 
   -- one whose lane changed is counted anew
-  pub lane_anew : (r : ℕ) (was now : Bool) → was ≡ is_applying a → now ≡ is_applying x → r + bit was ≡ m + bit now → is_not_idle x ≡ is_not_idle a → AreCounted n r (set xs i x)
-  lane_anew r was now was_so now_so anew hand = record { not_idle = hands_still hand; applying = counted_anew is_applying xs i a within is m o.applying o.few was was_so x r now now_so anew; few = still_few }
+  pub lane_anew : (r : ℕ) (was now : Bool) → was ≡ is_applying a → now ≡ is_applying x → r + bit was ≡ m + bit now
+      → is_not_idle x ≡ is_not_idle a → AreCounted n r (set xs i x)
+  lane_anew r was now was_so now_so anew hand = record {
+    not_idle = hands_still hand;
+    applying =
+        counted_anew is_applying xs i a within is m o.applying o.few was was_so x r now now_so anew;
+    few = still_few;
+  }
 
 -- where no worker is under way, none is on a life
-pub none_on : (l : ItemId) (xs : List Worker) → how_many is_not_idle xs ≡ 0 → total (λ w. is_on l w.hand) (worker_views xs) ≡ 0
+pub none_on : (l : ItemId) (xs : List Worker) → how_many is_not_idle xs ≡ 0
+    → total (λ w. is_on l w.hand) (worker_views xs) ≡ 0
 none_on l [] none = refl
 none_on l (x ∷ xs) none = by x.hand (omega arith) (none_on l xs (omega (arith, none)))
   where
-    by : (h : Hand) → bit (not (is_idle h)) ≡ 0 → total (λ w. is_on l w.hand) (worker_views xs) ≡ 0 → is_on l h + total (λ w. is_on l w.hand) (worker_views xs) ≡ 0
+    by : (h : Hand) → bit (not (is_idle h)) ≡ 0 → total (λ w. is_on l w.hand) (worker_views xs) ≡ 0
+        → is_on l h + total (λ w. is_on l w.hand) (worker_views xs) ≡ 0
     by hand.Idle idle rest = omega (arith, rest)
     by (hand.Trying m) idle rest = absurd (omega (arith, idle))
     by (hand.InHand m) idle rest = absurd (omega (arith, idle))
     by (hand.Clearing m) idle rest = absurd (omega (arith, idle))
 
 -- where no lane applies a bump, none applies one of a class
-pub none_applies : (s : State) (k : ℕ) (xs : List Worker) → how_many is_applying xs ≡ 0 → list_any (λ w. applies_in s k w.lane) (worker_views xs) ≡ false
+pub none_applies : (s : State) (k : ℕ) (xs : List Worker) → how_many is_applying xs ≡ 0
+    → list_any (λ w. applies_in s k w.lane) (worker_views xs) ≡ false
 none_applies s k [] none = refl
-none_applies s k (x ∷ xs) none = or_from (applies_in s k x.lane) (list_any (λ w. applies_in s k w.lane) (worker_views xs)) (by x.lane (omega (arith, none))) (none_applies s k xs (omega (arith, none)))
+none_applies s k (x ∷ xs) none = or_from (applies_in s k x.lane) (list_any (λ w. applies_in s k w.lane)
+    (worker_views xs)) (by x.lane (omega (arith, none))) (none_applies s k xs (omega (arith, none)))
   where
     by : (y : Lane) → bit (is_some (applied_life y)) ≡ 0 → applies_in s k y ≡ false
     by lane.Empty rests = refl
@@ -98,7 +143,8 @@ none_applies s k (x ∷ xs) none = or_from (applies_in s k x.lane) (list_any (λ
     by (lane.Moved b) rests = absurd (omega (arith, rests))
 
 -- of workers that have done nothing, none passes a test that a new one fails
-none_new : (test : Worker → Bool) → ((x : Worker) → worker_view x ≡ new_worker → test x ≡ false) → (xs : List Worker) (n : ℕ) → worker_views xs ≡ replicate n new_worker → (how_many test xs ≡ 0) × (length xs ≡ n)
+none_new : (test : Worker → Bool) → ((x : Worker) → worker_view x ≡ new_worker → test x ≡ false)
+    → (xs : List Worker) (n : ℕ) → worker_views xs ≡ replicate n new_worker → (how_many test xs ≡ 0) × (length xs ≡ n)
 none_new test fails [] zero new = (refl, refl)
 none_new test fails [] (suc n) new = absurd (let u : ⊥ = cc in u)
 none_new test fails (x ∷ xs) zero new = absurd (let u : ⊥ = cc in u)

@@ -13,42 +13,42 @@ use bump_rules::{Accounts, Hand, Head, ItemId, Refused, Reply};
 
 impl Parts {
     /// The life of the bump that a worker tries to take a reference for, if it does.
-    fn tried_by(&self, w: u32) -> Option<ItemId>
+    fn tried_by(&self, worker: u32) -> Option<ItemId>
         requires { IsLawful (state_of self.now) }
-        ensures life { result ≡ tried_life (worker_at (state_of self.now) w).hand }
-        ensures worker { IsSome result → w < length (state_of self.now).workers }
+        ensures life { result ≡ tried_life (worker_at (state_of self.now) worker).hand }
+        ensures worker { IsSome result → worker < length (state_of self.now).workers }
         ensures chunk { IfSome result (λ l. l.chunk < length (state_of self.now).chunks) }
     {
-        if !self.has_worker(w) {
+        if !self.has_worker(worker) {
             return None;
         }
-        self.hand(w).tried()
+        self.hand(worker).tried()
     }
 
     /// The life of the bump in a worker's hand, if there is one.
-    fn in_hand_by(&self, w: u32) -> Option<ItemId>
+    fn in_hand_by(&self, worker: u32) -> Option<ItemId>
         requires { IsLawful (state_of self.now) }
-        ensures life { result ≡ life_in_hand (worker_at (state_of self.now) w).hand }
-        ensures worker { IsSome result → w < length (state_of self.now).workers }
+        ensures life { result ≡ life_in_hand (worker_at (state_of self.now) worker).hand }
+        ensures worker { IsSome result → worker < length (state_of self.now).workers }
         ensures chunk { IfSome result (λ l. l.chunk < length (state_of self.now).chunks) }
     {
-        if !self.has_worker(w) {
+        if !self.has_worker(worker) {
             return None;
         }
-        self.hand(w).in_hand()
+        self.hand(worker).in_hand()
     }
 
     /// The life whose ACTIVE a worker is to clear, if there is one.
-    fn cleared_by(&self, w: u32) -> Option<ItemId>
+    fn cleared_by(&self, worker: u32) -> Option<ItemId>
         requires { IsLawful (state_of self.now) }
-        ensures life { result ≡ cleared_life (worker_at (state_of self.now) w).hand }
-        ensures worker { IsSome result → w < length (state_of self.now).workers }
+        ensures life { result ≡ cleared_life (worker_at (state_of self.now) worker).hand }
+        ensures worker { IsSome result → worker < length (state_of self.now).workers }
         ensures chunk { IfSome result (λ l. l.chunk < length (state_of self.now).chunks) }
     {
-        if !self.has_worker(w) {
+        if !self.has_worker(worker) {
             return None;
         }
-        self.hand(w).cleared()
+        self.hand(worker).cleared()
     }
 
     /// The attempted bump gets its reference. Refused where the worker tries for none, or the count is at its limit.
@@ -79,8 +79,8 @@ impl Parts {
         Ok(Reply::Done)
     }
 
-    /// The attempted bump is dropped: the count is at its limit. Answers the head. Refused where the worker tries for no reference, or the
-    /// count is under its limit.
+    /// The attempted bump is dropped: the count is at its limit. Answers the head. Refused where the worker tries for
+    /// no reference, or the count is under its limit.
     pub fn drop_refs(&mut self, worker: u32) -> Result<Reply, Refused>
         requires { IsLawful (state_of self.old) }
         ensures enabled { IsEnabledBy (is_enabled (state_of self.old) (event.DropRefs worker)) result }
@@ -108,8 +108,8 @@ impl Parts {
         Ok(Reply::Word(head))
     }
 
-    /// The attempted bump is dropped: other threads were faster too often. Answers the head. Refused where the worker tries for no
-    /// reference.
+    /// The attempted bump is dropped: other threads were faster too often. Answers the head. Refused where the
+    /// worker tries for no reference.
     pub fn drop_busy(&mut self, worker: u32) -> Result<Reply, Refused>
         requires { IsLawful (state_of self.old) }
         ensures enabled { IsEnabledBy (is_enabled (state_of self.old) (event.DropBusy worker)) result }
@@ -134,7 +134,8 @@ impl Parts {
         Ok(Reply::Word(head))
     }
 
-    /// The worker's ring takes the bump, and answers its number, from 0. Refused where none is in its hand, or the ring is closed or full.
+    /// The worker's ring takes the bump, and answers its number, from 0. Refused where none is in its hand,
+    /// or the ring is closed or full.
     pub fn push(&mut self, worker: u32) -> Result<Reply, Refused>
         requires { IsLawful (state_of self.old) }
         ensures enabled { IsEnabledBy (is_enabled (state_of self.old) (event.Push worker)) result }
@@ -153,8 +154,8 @@ impl Parts {
         Ok(Reply::Number(number))
     }
 
-    /// The bump is dropped for want of room in the ring, and its reference is given back; answers the head that it found. Refused where
-    /// none is in its hand, or the ring has accepted fewer bumps than it has room for.
+    /// The bump is dropped for want of room in the ring, and its reference is given back; answers the head that it
+    /// found. Refused where none is in its hand, or the ring has accepted fewer bumps than it has room for.
     pub fn drop_full(&mut self, worker: u32) -> Result<Reply, Refused>
         requires { IsLawful (state_of self.old) }
         ensures enabled { IsEnabledBy (is_enabled (state_of self.old) (event.DropFull worker)) result }

@@ -10,17 +10,17 @@ use bump_rules::{Change, Head, ItemId, Place, Refused, Reply};
 
 impl Parts {
     /// Whether a chunk stands in its class's DYING.
-    fn is_dying(&self, c: u32) -> bool
-        requires chunk { c < length (state_of self.now).chunks }
+    fn is_dying(&self, chunk: u32) -> bool
+        requires chunk { chunk < length (state_of self.now).chunks }
         requires lawful { IsLawful (state_of self.now) }
-        ensures { result ≡ is_dying (state_of self.now) c }
+        ensures { result ≡ is_dying (state_of self.now) chunk }
     {
-        let class = self.class_of(c);
-        self.list_has(class, c, Place::Dying)
+        let class = self.class_of(chunk);
+        self.list_has(class, chunk, Place::Dying)
     }
 
-    /// An item's life ends, and its chunk goes to DYING; answers the head that it found. Refused where the life isn't linked, or a lane
-    /// applies a bump of its class.
+    /// An item's life ends, and its chunk goes to DYING; answers the head that it found. Refused where the life isn't
+    /// linked, or a lane applies a bump of its class.
     pub fn unlink(&mut self, life: ItemId) -> Result<Reply, Refused>
         requires { IsLawful (state_of self.old) }
         ensures enabled { IsEnabledBy (is_enabled (state_of self.old) (event.Unlink life)) result }
@@ -37,12 +37,12 @@ impl Parts {
         }
         let head = self.head(life.chunk);
         self.change_class(class, Change::Unlinked(life))?;
-        self.set_head(life.chunk, head.severed());
+        self.set_head(life.chunk, head.after_unlink());
         Ok(Reply::Word(head))
     }
 
-    /// A chunk of DYING without holders is free; answers its head. Refused where there is no such chunk, it isn't in DYING, somebody holds
-    /// it, or a lane applies a bump of its class.
+    /// A chunk of DYING without holders is free; answers its head. Refused where there is no such chunk, it isn't in
+    /// DYING, somebody holds it, or a lane applies a bump of its class.
     pub fn sweep(&mut self, chunk: u32) -> Result<Reply, Refused>
         requires { IsLawful (state_of self.old) }
         ensures enabled { IsEnabledBy (is_enabled (state_of self.old) (event.Sweep chunk)) result }

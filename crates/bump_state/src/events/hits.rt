@@ -34,8 +34,8 @@ impl Parts {
         self.is_open(worker) && self.hand(worker).is_idle() && self.has_free_hold(life)
     }
 
-    /// A hit sets FETCHED, and where it was clear the worker is named as the first; answers the head that it found. Refused where the
-    /// worker's ring is closed or it isn't idle, or where the life has no free hold.
+    /// A hit sets FETCHED, and where it was clear the worker is named as the first; answers the head that it found.
+    /// Refused where the worker's ring is closed or it isn't idle, or where the life has no free hold.
     pub fn fetch(&mut self, worker: u32, life: ItemId) -> Result<Reply, Refused>
         ensures enabled { IsEnabledBy (is_enabled (state_of self.old) (event.Fetch worker life)) result }
         ensures state { OnOk result (state_of self.new ≡ after (state_of self.old) (event.Fetch worker life)) }
@@ -60,8 +60,9 @@ impl Parts {
         Ok(Reply::Word(head))
     }
 
-    /// A hit sets ACTIVE, and where it was clear in COLD, a bump is attempted; answers the head that it found. Refused as the first
-    /// step of a hit is, and where FETCHED is clear or the worker has attempted as many bumps as any may.
+    /// A hit sets ACTIVE, and where it was clear in COLD, a bump is attempted; answers the head that it
+    /// found. Refused as the first step of a hit is, and where FETCHED is clear or the worker has
+    /// attempted as many bumps as any may.
     pub fn mark(&mut self, worker: u32, life: ItemId) -> Result<Reply, Refused>
         ensures enabled { IsEnabledBy (is_enabled (state_of self.old) (event.Mark worker life)) result }
         ensures state { OnOk result (state_of self.new ≡ after (state_of self.old) (event.Mark worker life)) }

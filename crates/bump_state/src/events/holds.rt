@@ -23,7 +23,8 @@ impl Parts {
         Ok(Reply::Word(self.head(chunk)))
     }
 
-    /// A reader's hold is taken. Refused where the worker's ring is closed, the life isn't linked, or the count is at its limit.
+    /// A reader's hold is taken. Refused where the worker's ring is closed, the life isn't
+    /// linked, or the count is at its limit.
     pub fn take(&mut self, worker: u32, life: ItemId) -> Result<Reply, Refused>
         requires { IsLawful (state_of self.old) }
         ensures enabled { IsEnabledBy (is_enabled (state_of self.old) (event.Take worker life)) result }

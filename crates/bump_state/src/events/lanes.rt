@@ -15,59 +15,61 @@ use bump_rules::{Bump, Cause, Change, Head, Lane, Refused, Reply, Segment};
 
 impl Parts {
     /// The bump that a lane took and has not looked at yet, if there is one.
-    fn carried_by(&self, w: u32) -> Option<Bump>
+    fn carried_by(&self, worker: u32) -> Option<Bump>
         requires { IsLawful (state_of self.now) }
-        ensures bump { result ≡ carried (worker_at (state_of self.now) w).lane }
-        ensures worker { IsSome result → w < length (state_of self.now).workers }
+        ensures bump { result ≡ carried (worker_at (state_of self.now) worker).lane }
+        ensures worker { IsSome result → worker < length (state_of self.now).workers }
         ensures chunk { IfSome result (λ b. b.life.chunk < length (state_of self.now).chunks) }
     {
-        if !self.has_worker(w) {
+        if !self.has_worker(worker) {
             return None;
         }
-        self.lane(w).carried()
+        self.lane(worker).carried()
     }
 
     /// The bump that a lane looked at, and whose ACTIVE it has not cleared yet, if there is one.
-    fn looked_at_by(&self, w: u32) -> Option<Bump>
+    fn looked_at_by(&self, worker: u32) -> Option<Bump>
         requires { IsLawful (state_of self.now) }
-        ensures bump { result ≡ tried (worker_at (state_of self.now) w).lane }
-        ensures worker { IsSome result → w < length (state_of self.now).workers }
+        ensures bump { result ≡ tried (worker_at (state_of self.now) worker).lane }
+        ensures worker { IsSome result → worker < length (state_of self.now).workers }
         ensures chunk { IfSome result (λ b. b.life.chunk < length (state_of self.now).chunks) }
     {
-        if !self.has_worker(w) {
+        if !self.has_worker(worker) {
             return None;
         }
-        self.lane(w).tried()
+        self.lane(worker).tried()
     }
 
     /// The bump that a lane applies, if it does.
-    fn applied_by(&self, w: u32) -> Option<Bump>
+    fn applied_by(&self, worker: u32) -> Option<Bump>
         requires { IsLawful (state_of self.now) }
-        ensures bump { result ≡ applied_now (worker_at (state_of self.now) w).lane }
-        ensures worker { IsSome result → w < length (state_of self.now).workers }
+        ensures bump { result ≡ applied_now (worker_at (state_of self.now) worker).lane }
+        ensures worker { IsSome result → worker < length (state_of self.now).workers }
         ensures chunk { IfSome result (λ b. b.life.chunk < length (state_of self.now).chunks) }
     {
-        if !self.has_worker(w) {
+        if !self.has_worker(worker) {
             return None;
         }
-        self.lane(w).applied_now()
+        self.lane(worker).applied_now()
     }
 
     /// The bump whose item a lane is to move, if it is.
-    fn moving_by(&self, w: u32) -> Option<Bump>
+    fn moving_by(&self, worker: u32) -> Option<Bump>
         requires { IsLawful (state_of self.now) }
-        ensures bump { result ≡ cleared_active (worker_at (state_of self.now) w).lane }
-        ensures worker { IsSome result → w < length (state_of self.now).workers }
+        ensures bump { result ≡ cleared_active (worker_at (state_of self.now) worker).lane }
+        ensures worker { IsSome result → worker < length (state_of self.now).workers }
         ensures chunk { IfSome result (λ b. (b.life.chunk < length (state_of self.now).chunks)
-            × ((head_at (state_of self.now) b.life.chunk).linked ≡ true) × ((head_at (state_of self.now) b.life.chunk).segment ≡ Cold)) }
+            × ((head_at (state_of self.now) b.life.chunk).linked ≡ true)
+            × ((head_at (state_of self.now) b.life.chunk).segment ≡ Cold)) }
     {
-        if !self.has_worker(w) {
+        if !self.has_worker(worker) {
             return None;
         }
-        self.lane(w).cleared_active()
+        self.lane(worker).cleared_active()
     }
 
-    /// A lane takes the next bump from its worker's ring, and answers its number, from 0. Refused where it has one aboard, or none waits.
+    /// A lane takes the next bump from its worker's ring, and answers its number, from 0. Refused where it
+    /// has one aboard, or none waits.
     pub fn take_bump(&mut self, worker: u32) -> Result<Reply, Refused>
         ensures enabled { IsEnabledBy (is_enabled (state_of self.old) (event.TakeBump worker)) result }
         ensures state { OnOk result (state_of self.new ≡ after (state_of self.old) (event.TakeBump worker)) }
@@ -84,8 +86,8 @@ impl Parts {
         Ok(Reply::Number(self.take_next(worker, life)))
     }
 
-    /// The lane looks at the head of its bump's item, and answers it. Refused where it has taken no bump or has looked already, or a lane
-    /// applies a bump of the item's class.
+    /// The lane looks at the head of its bump's item, and answers it. Refused where it has taken no bump or has
+    /// looked already, or a lane applies a bump of the item's class.
     pub fn try_bump(&mut self, worker: u32) -> Result<Reply, Refused>
         requires { IsLawful (state_of self.old) }
         ensures enabled { IsEnabledBy (is_enabled (state_of self.old) (event.Try worker)) result }
@@ -125,8 +127,8 @@ impl Parts {
         Ok(Reply::Done)
     }
 
-    /// The lane clears ACTIVE, and answers the head that it found. Refused where it has looked at no bump, or the item isn't linked or
-    /// isn't in COLD.
+    /// The lane clears ACTIVE, and answers the head that it found. Refused where it has looked at no bump, or the
+    /// item isn't linked or isn't in COLD.
     pub fn clear_for(&mut self, worker: u32) -> Result<Reply, Refused>
         requires { IsLawful (state_of self.old) }
         ensures enabled { IsEnabledBy (is_enabled (state_of self.old) (event.ClearFor worker)) result }
@@ -186,7 +188,8 @@ impl Parts {
         Ok(Reply::Done)
     }
 
-    /// The lane gives the bump's reference back, and answers what applying it came to. Refused where it isn't done with it.
+    /// The lane gives the bump's reference back, and answers what applying it came to.
+    /// Refused where it isn't done with it.
     pub fn alight(&mut self, worker: u32) -> Result<Reply, Refused>
         requires { IsLawful (state_of self.old) }
         ensures enabled { IsEnabledBy (is_enabled (state_of self.old) (event.Alight worker)) result }

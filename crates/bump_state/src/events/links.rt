@@ -12,26 +12,26 @@ use bump_rules::{Change, Head, ItemId, Refused, Reply};
 
 impl Parts {
     /// Whether a class exists and no lane applies a bump of it.
-    fn is_class_at_rest(&self, k: u32) -> bool
-        ensures { result ≡ is_class_at_rest (state_of self.now) k }
+    fn is_class_at_rest(&self, class: u32) -> bool
+        ensures { result ≡ is_class_at_rest (state_of self.now) class }
     {
-        self.has_class(k) && !self.is_under_application(k as usize)
+        self.has_class(class) && !self.is_under_application(class as usize)
     }
 
-    /// The label of the next item of a class is stored. Refused where there is no such class, a lane applies a bump of it, or its UNUSED is
-    /// empty.
-    pub fn put_label(&mut self, k: u32, label: u64) -> Result<Reply, Refused>
+    /// The label of the next item of a class is stored. Refused where there is no such class, a lane applies a bump
+    /// of it, or its UNUSED is empty.
+    pub fn put_label(&mut self, class: u32, label: u64) -> Result<Reply, Refused>
         requires { IsLawful (state_of self.old) }
-        ensures enabled { IsEnabledBy (is_enabled (state_of self.old) (event.PutLabel k label)) result }
-        ensures state { OnOk result (state_of self.new ≡ after (state_of self.old) (event.PutLabel k label)) }
-        ensures reply { IfOk result (λ r. r ≡ reply_of (state_of self.old) (event.PutLabel k label)) }
+        ensures enabled { IsEnabledBy (is_enabled (state_of self.old) (event.PutLabel class label)) result }
+        ensures state { OnOk result (state_of self.new ≡ after (state_of self.old) (event.PutLabel class label)) }
+        ensures reply { IfOk result (λ r. r ≡ reply_of (state_of self.old) (event.PutLabel class label)) }
         ensures unchanged { OnErr result (state_of self.new ≡ state_of self.old) }
         ensures memory { IfErr result (λ r. r ≡ NotEnabled) }
     {
-        if !self.is_class_at_rest(k) {
+        if !self.is_class_at_rest(class) {
             return Err(Refused::NotEnabled);
         }
-        let Some(next) = self.next_chunk(k) else {
+        let Some(next) = self.next_chunk(class) else {
             return Err(Refused::NotEnabled);
         };
         let chunk = self.chunk(next);
@@ -40,18 +40,18 @@ impl Parts {
     }
 
     /// The time of the next item of a class is stored. Refused as its label is.
-    pub fn put_time(&mut self, k: u32, time: u64) -> Result<Reply, Refused>
+    pub fn put_time(&mut self, class: u32, time: u64) -> Result<Reply, Refused>
         requires { IsLawful (state_of self.old) }
-        ensures enabled { IsEnabledBy (is_enabled (state_of self.old) (event.PutTime k time)) result }
-        ensures state { OnOk result (state_of self.new ≡ after (state_of self.old) (event.PutTime k time)) }
-        ensures reply { IfOk result (λ r. r ≡ reply_of (state_of self.old) (event.PutTime k time)) }
+        ensures enabled { IsEnabledBy (is_enabled (state_of self.old) (event.PutTime class time)) result }
+        ensures state { OnOk result (state_of self.new ≡ after (state_of self.old) (event.PutTime class time)) }
+        ensures reply { IfOk result (λ r. r ≡ reply_of (state_of self.old) (event.PutTime class time)) }
         ensures unchanged { OnErr result (state_of self.new ≡ state_of self.old) }
         ensures memory { IfErr result (λ r. r ≡ NotEnabled) }
     {
-        if !self.is_class_at_rest(k) {
+        if !self.is_class_at_rest(class) {
             return Err(Refused::NotEnabled);
         }
-        let Some(next) = self.next_chunk(k) else {
+        let Some(next) = self.next_chunk(class) else {
             return Err(Refused::NotEnabled);
         };
         let chunk = self.chunk(next);
@@ -59,26 +59,27 @@ impl Parts {
         Ok(Reply::Done)
     }
 
-    /// The next item of a class begins its life, at the front of HOT, and its life is answered. Refused as its label is.
-    pub fn link(&mut self, k: u32) -> Result<Reply, Refused>
+    /// The next item of a class begins its life, at the front of HOT, and its life is
+    /// answered. Refused as its label is.
+    pub fn link(&mut self, class: u32) -> Result<Reply, Refused>
         requires { IsLawful (state_of self.old) }
-        ensures enabled { IsEnabledBy (is_enabled (state_of self.old) (event.Link k)) result }
-        ensures state { OnOk result (state_of self.new ≡ after (state_of self.old) (event.Link k)) }
-        ensures reply { IfOk result (λ r. r ≡ reply_of (state_of self.old) (event.Link k)) }
+        ensures enabled { IsEnabledBy (is_enabled (state_of self.old) (event.Link class)) result }
+        ensures state { OnOk result (state_of self.new ≡ after (state_of self.old) (event.Link class)) }
+        ensures reply { IfOk result (λ r. r ≡ reply_of (state_of self.old) (event.Link class)) }
         ensures unchanged { OnErr result (state_of self.new ≡ state_of self.old) }
     {
-        if !self.is_class_at_rest(k) {
+        if !self.is_class_at_rest(class) {
             return Err(Refused::NotEnabled);
         }
-        let Some(next) = self.next_chunk(k) else {
+        let Some(next) = self.next_chunk(class) else {
             return Err(Refused::NotEnabled);
         };
         let life = ItemId {
             chunk: next,
             generation: self.head(next).generation + 1,
         };
-        self.change_class(k as usize, Change::Linked(life))?;
-        self.set_head(next, Head::newborn(life.generation));
+        self.change_class(class as usize, Change::Linked(life))?;
+        self.set_head(next, Head::after_link(life.generation));
         Ok(Reply::Life(life))
     }
 }

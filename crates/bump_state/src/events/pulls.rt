@@ -11,8 +11,8 @@ use crate::parts::Parts;
 use bump_rules::{Cause, Change, Head, ItemId, Refused, Reply, Segment};
 
 impl Parts {
-    /// A pull clears ACTIVE; answers the head that it found. Refused where there is no such chunk, it isn't linked, or a lane applies a bump
-    /// of its class.
+    /// A pull clears ACTIVE; answers the head that it found. Refused where there is no such chunk, it isn't linked,
+    /// or a lane applies a bump of its class.
     pub fn clear_active(&mut self, chunk: u32) -> Result<Reply, Refused>
         ensures enabled { IsEnabledBy (is_enabled (state_of self.old) (event.ClearActive chunk)) result }
         ensures state { OnOk result (state_of self.new ≡ after (state_of self.old) (event.ClearActive chunk)) }
@@ -37,7 +37,8 @@ impl Parts {
         Ok(Reply::Word(head))
     }
 
-    /// A pull moves an item to the front of a segment. Refused as clearing ACTIVE is, and where no pull moves from its segment to that.
+    /// A pull moves an item to the front of a segment. Refused as clearing ACTIVE is, and where no pull
+    /// moves from its segment to that.
     pub fn move_chunk(&mut self, chunk: u32, to: Segment) -> Result<Reply, Refused>
         requires { IsLawful (state_of self.old) }
         ensures enabled { IsEnabledBy (is_enabled (state_of self.old) (event.Move chunk to)) result }

@@ -71,7 +71,8 @@ impl Chunk {
 }
 
 impl Parts {
-    /// The parts of a new World: every chunk is UNUSED, in ascending order, and every worker is idle. Want of memory is refused.
+    /// The parts of a new World: every chunk is UNUSED, in ascending order, and every worker is
+    /// idle. Want of memory is refused.
     pub fn new(alloc: Global, config: &Config) -> Result<Parts, AllocError>
         ensures state { IfOk result (λ p. state_of p ≡ new_state config.now) }
         ensures generation { config.now.first_generation < 2 ^ 32 }

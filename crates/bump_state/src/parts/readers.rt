@@ -14,48 +14,48 @@ use bump_rules::{Accounts, AppliedBump, Hand, Head, ItemId, Lane, ListedChunks, 
 
 impl Parts {
     /// Whether there is a chunk of this number.
-    pub fn has_chunk(&self, c: u32) -> bool
-        ensures { result ≡ is_chunk (state_of self.now) c }
+    pub fn has_chunk(&self, chunk: u32) -> bool
+        ensures { result ≡ is_chunk (state_of self.now) chunk }
     {
-        (c as usize) < self.chunks.len()
+        (chunk as usize) < self.chunks.len()
     }
 
     /// Whether there is a class of this number.
-    pub fn has_class(&self, k: u32) -> bool
-        ensures { result ≡ is_class (state_of self.now) k }
+    pub fn has_class(&self, class: u32) -> bool
+        ensures { result ≡ is_class (state_of self.now) class }
     {
-        (k as usize) < self.classes.len()
+        (class as usize) < self.classes.len()
     }
 
     /// Whether there is a worker of this number.
-    pub fn has_worker(&self, w: u32) -> bool
-        ensures { result ≡ is_worker (state_of self.now) w }
+    pub fn has_worker(&self, worker: u32) -> bool
+        ensures { result ≡ is_worker (state_of self.now) worker }
     {
-        w < self.workers.len()
+        worker < self.workers.len()
     }
 
     /// A chunk. Its number is in range.
-    pub fn chunk(&self, c: u32) -> Chunk
-        requires { c < length (state_of self.now).chunks }
-        ensures { result ≡ chunk_at (state_of self.now) c }
+    pub fn chunk(&self, chunk: u32) -> Chunk
+        requires { chunk < length (state_of self.now).chunks }
+        ensures { result ≡ chunk_at (state_of self.now) chunk }
     {
-        self.chunks[c as usize]
+        self.chunks[chunk as usize]
     }
 
     /// A chunk's head. The chunk's number is in range.
-    pub fn head(&self, c: u32) -> Head
-        requires { c < length (state_of self.now).chunks }
-        ensures { result ≡ head_at (state_of self.now) c }
+    pub fn head(&self, chunk: u32) -> Head
+        requires { chunk < length (state_of self.now).chunks }
+        ensures { result ≡ head_at (state_of self.now) chunk }
     {
-        self.chunk(c).head
+        self.chunk(chunk).head
     }
 
     /// How far a worker is with an attempt. The worker's number is in range.
-    pub fn hand(&self, w: u32) -> Hand
-        requires { w < length (state_of self.now).workers }
-        ensures { result ≡ (worker_at (state_of self.now) w).hand }
+    pub fn hand(&self, worker: u32) -> Hand
+        requires { worker < length (state_of self.now).workers }
+        ensures { result ≡ (worker_at (state_of self.now) worker).hand }
     {
-        self.workers.at(w).hand
+        self.workers.at(worker).hand
     }
 
     /// Whether a life is its chunk's.
@@ -80,10 +80,10 @@ impl Parts {
     }
 
     /// Whether a worker's ring still takes bumps.
-    pub fn is_open(&self, w: u32) -> bool
-        ensures { result ≡ is_open (state_of self.now) w }
+    pub fn is_open(&self, worker: u32) -> bool
+        ensures { result ≡ is_open (state_of self.now) worker }
     {
-        self.has_worker(w) && self.workers.at(w).is_open
+        self.has_worker(worker) && self.workers.at(worker).is_open
     }
 
     /// How many workers that aren't idle are on a life.
@@ -111,11 +111,11 @@ impl Parts {
     }
 
     /// The number of a chunk's class: of the first class that ends behind it, or else the number of classes.
-    pub fn class_of(&self, c: u32) -> usize
-        ensures { result ≡ class_of (state_of self.now) c }
+    pub fn class_of(&self, chunk: u32) -> usize
+        ensures { result ≡ class_of (state_of self.now) chunk }
     {
         for (k, class) in self.classes.iter().enumerate() {
-            if c < class.end {
+            if chunk < class.end {
                 return k;
             }
         }
@@ -123,8 +123,8 @@ impl Parts {
     }
 
     /// Whether a lane applies a bump of a class.
-    pub fn is_under_application(&self, k: usize) -> bool
-        ensures { result ≡ is_under_application (state_of self.now) k }
+    pub fn is_under_application(&self, class: usize) -> bool
+        ensures { result ≡ is_under_application (state_of self.now) class }
     {
         // mostly none does, and then there is no need to look at each
         if self.workers.applying() == 0 {
@@ -132,7 +132,7 @@ impl Parts {
         }
         for worker in self.workers.as_slice() {
             if let Some(life) = worker.lane.applied_life() {
-                if self.class_of(life.chunk) == k {
+                if self.class_of(life.chunk) == class {
                     return true;
                 }
             }
@@ -141,115 +141,118 @@ impl Parts {
     }
 
     /// A worker's counts. The worker's number is in range.
-    pub fn accounts(&self, w: u32) -> Accounts
-        requires { w < length (state_of self.now).workers }
-        ensures { result ≡ (worker_at (state_of self.now) w).accounts }
+    pub fn accounts(&self, worker: u32) -> Accounts
+        requires { worker < length (state_of self.now).workers }
+        ensures { result ≡ (worker_at (state_of self.now) worker).accounts }
     {
-        self.workers.at(w).accounts
+        self.workers.at(worker).accounts
     }
 
     /// How far a lane is. The worker's number is in range.
-    pub fn lane(&self, w: u32) -> Lane
-        requires { w < length (state_of self.now).workers }
-        ensures { result ≡ (worker_at (state_of self.now) w).lane }
+    pub fn lane(&self, worker: u32) -> Lane
+        requires { worker < length (state_of self.now).workers }
+        ensures { result ≡ (worker_at (state_of self.now) worker).lane }
     {
-        self.workers.at(w).lane
+        self.workers.at(worker).lane
     }
 
     /// The front of a class's UNUSED.
-    fn unused_front(&self, k: u32) -> Option<u32>
-        requires { k < length (state_of self.now).classes }
-        ensures { result ≡ next_chunk (state_of self.now) k }
+    fn unused_front(&self, class: u32) -> Option<u32>
+        requires { class < length (state_of self.now).classes }
+        ensures { result ≡ next_chunk (state_of self.now) class }
     {
-        self.classes[k as usize].lists.front(Place::Unused)
+        self.classes[class as usize].lists.front(Place::Unused)
     }
 
-    /// The chunk that the next link of a class takes, or `None` where its UNUSED is empty. The class's number is in range.
-    pub fn next_chunk(&self, k: u32) -> Option<u32>
-        requires class { k < length (state_of self.now).classes }
+    /// The chunk that the next link of a class takes, or `None` where its UNUSED is empty.
+    /// The class's number is in range.
+    pub fn next_chunk(&self, class: u32) -> Option<u32>
+        requires class { class < length (state_of self.now).classes }
         requires lawful { IsLawful (state_of self.now) }
-        ensures front { result ≡ next_chunk (state_of self.now) k }
-        ensures free { IfSome result (λ c. (c < length (state_of self.now).chunks) × (class_of (state_of self.now) c ≡ k)
+        ensures front { result ≡ next_chunk (state_of self.now) class }
+        ensures free { IfSome result (λ c. (c < length (state_of self.now).chunks)
+            × (class_of (state_of self.now) c ≡ class)
             × ((head_at (state_of self.now) c).generation < 4294967295)) }
     {
-        self.unused_front(k)
+        self.unused_front(class)
     }
 
     /// How many bumps wait in a worker's ring. The worker's number is in range.
-    pub fn waiting(&self, w: u32) -> usize
-        requires { w < length (state_of self.now).workers }
-        ensures { result ≡ waiting (worker_at (state_of self.now) w) }
+    pub fn waiting(&self, worker: u32) -> usize
+        requires { worker < length (state_of self.now).workers }
+        ensures { result ≡ waiting (worker_at (state_of self.now) worker) }
     {
-        let worker = self.workers.at(w);
+        let worker = self.workers.at(worker);
         worker.sent.len() - worker.received
     }
 
     /// The next bump that a worker's lane takes, if one waits. The worker's number is in range.
-    pub fn next_bump(&self, w: u32) -> Option<ItemId>
-        requires { w < length (state_of self.now).workers }
-        ensures { result ≡ next_bump (worker_at (state_of self.now) w) }
+    pub fn next_bump(&self, worker: u32) -> Option<ItemId>
+        requires { worker < length (state_of self.now).workers }
+        ensures { result ≡ next_bump (worker_at (state_of self.now) worker) }
     {
-        let worker = self.workers.at(w);
+        let worker = self.workers.at(worker);
         worker.sent.get(worker.received).copied()
     }
 
     /// The chunks of a list of a class, front first. The class's number is in range.
-    pub fn list(&self, k: u32, place: Place) -> ListedChunks<'_>
-        requires { k < length (state_of self.now).classes }
-        ensures { result ≡ list_at (class_at (state_of self.now) k).lists place }
+    pub fn list(&self, class: u32, place: Place) -> ListedChunks<'_>
+        requires { class < length (state_of self.now).classes }
+        ensures { result ≡ list_at (class_at (state_of self.now) class).lists place }
     {
-        self.classes[k as usize].lists.chunks(place)
+        self.classes[class as usize].lists.chunks(place)
     }
 
     /// The last chunk of a list of a class, or `None` where it is empty. The class's number is in range.
-    pub fn list_back(&self, k: u32, place: Place) -> Option<u32>
-        requires { k < length (state_of self.now).classes }
-        ensures { result ≡ last_of (list_at (class_at (state_of self.now) k).lists place) }
+    pub fn list_back(&self, class: u32, place: Place) -> Option<u32>
+        requires { class < length (state_of self.now).classes }
+        ensures { result ≡ last_of (list_at (class_at (state_of self.now) class).lists place) }
     {
-        self.classes[k as usize].lists.back(place)
+        self.classes[class as usize].lists.back(place)
     }
 
     /// Whether a chunk stands in a list of a class. The chunk is one of the class.
-    pub(crate) fn list_has(&self, k: usize, c: u32, place: Place) -> bool
-        requires class { k < length (state_of self.now).classes }
-        requires listed { IsListed c (class_at (state_of self.now) k).lists }
-        ensures { result ≡ nat_lt 0 (times c (list_at (class_at (state_of self.now) k).lists place)) }
+    pub(crate) fn list_has(&self, class: usize, chunk: u32, place: Place) -> bool
+        requires class { class < length (state_of self.now).classes }
+        requires listed { IsListed chunk (class_at (state_of self.now) class).lists }
+        ensures { result ≡ nat_lt 0 (times chunk (list_at (class_at (state_of self.now) class).lists place)) }
     {
-        self.classes[k].lists.has(c, place)
+        self.classes[class].lists.has(chunk, place)
     }
 
     /// The bumps that a worker's ring accepted, in order. The worker's number is in range.
-    pub fn sent_bumps(&self, w: u32) -> &[ItemId]
-        requires { w < length (state_of self.now).workers }
-        ensures { result.now ≡ (worker_at (state_of self.now) w).sent }
+    pub fn sent_bumps(&self, worker: u32) -> &[ItemId]
+        requires { worker < length (state_of self.now).workers }
+        ensures { result.now ≡ (worker_at (state_of self.now) worker).sent }
     {
-        self.workers.at(w).sent.as_slice()
+        self.workers.at(worker).sent.as_slice()
     }
 
     /// The bumps that a worker's lane took, in order. The worker's number is in range.
-    pub fn received_bumps(&self, w: u32) -> &[ItemId]
-        requires { w < length (state_of self.now).workers }
-        ensures { result.now ≡ (worker_at (state_of self.now) w).received }
+    pub fn received_bumps(&self, worker: u32) -> &[ItemId]
+        requires { worker < length (state_of self.now).workers }
+        ensures { result.now ≡ (worker_at (state_of self.now) worker).received }
     {
-        let worker = self.workers.at(w);
+        let worker = self.workers.at(worker);
         let sent = worker.sent.as_slice();
         &sent[..worker.received]
     }
 
     /// The bumps that a worker's lane applied, in order. The worker's number is in range.
-    pub fn applied_bumps(&self, w: u32) -> &[AppliedBump]
-        requires { w < length (state_of self.now).workers }
-        ensures { result.now ≡ (worker_at (state_of self.now) w).applied }
+    pub fn applied_bumps(&self, worker: u32) -> &[AppliedBump]
+        requires { worker < length (state_of self.now).workers }
+        ensures { result.now ≡ (worker_at (state_of self.now) worker).applied }
     {
-        self.workers.at(w).applied.as_slice()
+        self.workers.at(worker).applied.as_slice()
     }
 
-    /// How many chunks of a class's DYING nobody holds. The class's number is in range. It takes the time of DYING's length.
-    pub fn count_unheld(&self, k: u32) -> u32
-        requires class { k < length (state_of self.now).classes }
+    /// How many chunks of a class's DYING nobody holds. The class's number is in range. It
+    /// takes the time of DYING's length.
+    pub fn count_unheld(&self, class: u32) -> u32
+        requires class { class < length (state_of self.now).classes }
         requires lawful { IsLawful (state_of self.now) }
-        ensures { result ≡ length (sweep_of (state_of self.now) k) }
+        ensures { result ≡ length (sweep_of (state_of self.now) class) }
     {
-        self.classes[k as usize].count_unheld(self.chunks.as_slice())
+        self.classes[class as usize].count_unheld(self.chunks.as_slice())
     }
 }

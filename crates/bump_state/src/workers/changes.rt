@@ -21,11 +21,13 @@ fn recounted(count: u32, was: bool, is: bool) -> u32
 
 impl Workers {
     /// Writes how far a worker is with an attempt, and its counts.
-    pub(crate) fn set_hand(&mut self, w: u32, hand: Hand, accounts: Accounts)
-        requires { w < length self.old }
-        ensures { worker_views self.new ≡ slice_set (worker_views self.old) w (record (worker_view_at self.old w) { hand = hand; accounts = accounts }) }
+    pub(crate) fn set_hand(&mut self, worker: u32, hand: Hand, accounts: Accounts)
+        requires { worker < length self.old }
+        ensures { worker_views self.new ≡
+            slice_set (worker_views self.old) worker
+            (record (worker_view_at self.old worker) { hand = hand; accounts = accounts }) }
     {
-        let worker = &mut self.all[w as usize];
+        let worker = &mut self.all[worker as usize];
         let was = worker.hand;
         worker.hand = hand;
         worker.accounts = accounts;
@@ -33,32 +35,38 @@ impl Workers {
     }
 
     /// A worker's ring closes.
-    pub(crate) fn close(&mut self, w: u32)
-        requires { w < length self.old }
-        ensures { worker_views self.new ≡ slice_set (worker_views self.old) w (record (worker_view_at self.old w) { is_open = false }) }
+    pub(crate) fn close(&mut self, worker: u32)
+        requires { worker < length self.old }
+        ensures { worker_views self.new ≡
+            slice_set (worker_views self.old) worker (record (worker_view_at self.old worker) { is_open = false }) }
     {
-        let worker = &mut self.all[w as usize];
+        let worker = &mut self.all[worker as usize];
         worker.is_open = false;
     }
 
     /// Writes how far a lane is.
-    pub(crate) fn set_lane(&mut self, w: u32, lane: Lane)
-        requires { w < length self.old }
-        ensures { worker_views self.new ≡ slice_set (worker_views self.old) w (record (worker_view_at self.old w) { lane = lane }) }
+    pub(crate) fn set_lane(&mut self, worker: u32, lane: Lane)
+        requires { worker < length self.old }
+        ensures { worker_views self.new ≡
+            slice_set (worker_views self.old) worker (record (worker_view_at self.old worker) { lane = lane }) }
     {
-        let worker = &mut self.all[w as usize];
+        let worker = &mut self.all[worker as usize];
         let was = worker.lane;
         worker.lane = lane;
         self.applying = recounted(self.applying, was.is_applying(), lane.is_applying());
     }
 
     /// Names an item among those that a worker was the first to hit.
-    pub(crate) fn push_first_hit(&mut self, w: u32, life: ItemId) -> Result<(), AllocError>
-        requires { w < length self.old }
-        ensures ok { OnOk result (worker_views self.new ≡ slice_set (worker_views self.old) w (record (worker_view_at self.old w) { first_hits = (worker_view_at self.old w).first_hits ++ life ∷ [] })) }
+    pub(crate) fn push_first_hit(&mut self, worker: u32, life: ItemId) -> Result<(), AllocError>
+        requires { worker < length self.old }
+        ensures ok { OnOk result (worker_views self.new ≡
+            slice_set (worker_views self.old) worker
+            (record (worker_view_at self.old worker) {
+              first_hits = (worker_view_at self.old worker).first_hits ++ life ∷ [];
+            })) }
         ensures err { OnErr result (worker_views self.new ≡ worker_views self.old) }
     {
-        let worker = &mut self.all[w as usize];
+        let worker = &mut self.all[worker as usize];
         worker.first_hits.push(life)?;
         Ok(())
     }
@@ -66,20 +74,21 @@ impl Workers {
     /// A worker's ring takes a bump, and its hand and its counts are written.
     pub(crate) fn queue(
         &mut self,
-        w: u32,
+        worker: u32,
         life: ItemId,
         hand: Hand,
         accounts: Accounts,
     ) -> Result<(), AllocError>
-        requires { w < length self.old }
-        ensures ok { OnOk result (worker_views self.new ≡ slice_set (worker_views self.old) w (record (worker_view_at self.old w) {
-          hand = hand;
-          accounts = accounts;
-          sent = (worker_view_at self.old w).sent ++ life ∷ [];
-        })) }
+        requires { worker < length self.old }
+        ensures ok { OnOk result (worker_views self.new ≡
+            slice_set (worker_views self.old) worker (record (worker_view_at self.old worker) {
+              hand = hand;
+              accounts = accounts;
+              sent = (worker_view_at self.old worker).sent ++ life ∷ [];
+            })) }
         ensures err { OnErr result (worker_views self.new ≡ worker_views self.old) }
     {
-        let worker = &mut self.all[w as usize];
+        let worker = &mut self.all[worker as usize];
         let was_not_idle = !worker.hand.is_idle();
         worker.sent.push(life)?;
         worker.hand = hand;
@@ -89,16 +98,17 @@ impl Workers {
     }
 
     /// A lane takes the next bump from its ring, where one waits. Answers its number.
-    pub(crate) fn take_next(&mut self, w: u32, life: ItemId) -> u64
-        requires worker { w < length self.old }
-        requires next { next_bump (worker_view_at self.old w) ≡ Some life }
-        ensures after { worker_views self.new ≡ slice_set (worker_views self.old) w (record (worker_view_at self.old w) {
-          received = (worker_view_at self.old w).received ++ life ∷ [];
-          lane = lane.Carrying (bump_of (length (worker_view_at self.old w).received) life);
-        }) }
-        ensures number { result ≡ length (worker_view_at self.old w).received }
+    pub(crate) fn take_next(&mut self, worker: u32, life: ItemId) -> u64
+        requires worker { worker < length self.old }
+        requires next { next_bump (worker_view_at self.old worker) ≡ Some life }
+        ensures after { worker_views self.new ≡
+            slice_set (worker_views self.old) worker (record (worker_view_at self.old worker) {
+              received = (worker_view_at self.old worker).received ++ life ∷ [];
+              lane = lane.Carrying (bump_of (length (worker_view_at self.old worker).received) life);
+            }) }
+        ensures number { result ≡ length (worker_view_at self.old worker).received }
     {
-        let worker = &mut self.all[w as usize];
+        let worker = &mut self.all[worker as usize];
         let was = worker.lane;
         let number = worker.received as u64;
         worker.received += 1;
@@ -108,15 +118,20 @@ impl Workers {
     }
 
     /// A lane is done with its bump.
-    pub(crate) fn push_applied(&mut self, w: u32, applied: AppliedBump) -> Result<(), AllocError>
-        requires { w < length self.old }
-        ensures ok { OnOk result (worker_views self.new ≡ slice_set (worker_views self.old) w (record (worker_view_at self.old w) {
-          lane = lane.Empty;
-          applied = (worker_view_at self.old w).applied ++ applied ∷ [];
-        })) }
+    pub(crate) fn push_applied(
+        &mut self,
+        worker: u32,
+        applied: AppliedBump,
+    ) -> Result<(), AllocError>
+        requires { worker < length self.old }
+        ensures ok { OnOk result (worker_views self.new ≡
+            slice_set (worker_views self.old) worker (record (worker_view_at self.old worker) {
+              lane = lane.Empty;
+              applied = (worker_view_at self.old worker).applied ++ applied ∷ [];
+            })) }
         ensures err { OnErr result (worker_views self.new ≡ worker_views self.old) }
     {
-        let worker = &mut self.all[w as usize];
+        let worker = &mut self.all[worker as usize];
         let was = worker.lane;
         worker.applied.push(applied)?;
         worker.lane = Lane::Empty;
@@ -125,28 +140,29 @@ impl Workers {
     }
 
     /// Makes room for one more applied bump.
-    pub(crate) fn reserve_applied(&mut self, w: u32) -> Result<(), AllocError>
-        requires { w < length self.old }
+    pub(crate) fn reserve_applied(&mut self, worker: u32) -> Result<(), AllocError>
+        requires { worker < length self.old }
         ensures workers { worker_views self.new ≡ worker_views self.old }
-        ensures room { OnOk result (HasRoom self.new w) }
+        ensures room { OnOk result (HasRoom self.new worker) }
     {
-        let worker = &mut self.all[w as usize];
+        let worker = &mut self.all[worker as usize];
         worker.applied.reserve(1)?;
         Ok(())
     }
 
     /// A lane is done with a bump that it took just now.
-    pub(crate) fn finish_taken(&mut self, w: u32, applied: AppliedBump)
-        requires worker { w < length self.old }
-        requires room { HasRoom self.old w }
-        requires next { next_bump (worker_view_at self.old w) ≡ Some applied.life }
-        ensures { worker_views self.new ≡ slice_set (worker_views self.old) w (record (worker_view_at self.old w) {
-          received = (worker_view_at self.old w).received ++ applied.life ∷ [];
-          lane = lane.Empty;
-          applied = (worker_view_at self.old w).applied ++ applied ∷ [];
-        }) }
+    pub(crate) fn finish_taken(&mut self, worker: u32, applied: AppliedBump)
+        requires worker { worker < length self.old }
+        requires room { HasRoom self.old worker }
+        requires next { next_bump (worker_view_at self.old worker) ≡ Some applied.life }
+        ensures { worker_views self.new ≡
+            slice_set (worker_views self.old) worker (record (worker_view_at self.old worker) {
+              received = (worker_view_at self.old worker).received ++ applied.life ∷ [];
+              lane = lane.Empty;
+              applied = (worker_view_at self.old worker).applied ++ applied ∷ [];
+            }) }
     {
-        let worker = &mut self.all[w as usize];
+        let worker = &mut self.all[worker as usize];
         let was = worker.lane;
         worker.received += 1;
         worker.lane = Lane::Empty;
@@ -155,15 +171,16 @@ impl Workers {
     }
 
     /// A lane is done with the bump aboard.
-    pub(crate) fn finish_aboard(&mut self, w: u32, applied: AppliedBump)
-        requires worker { w < length self.old }
-        requires room { HasRoom self.old w }
-        ensures { worker_views self.new ≡ slice_set (worker_views self.old) w (record (worker_view_at self.old w) {
-          lane = lane.Empty;
-          applied = (worker_view_at self.old w).applied ++ applied ∷ [];
-        }) }
+    pub(crate) fn finish_aboard(&mut self, worker: u32, applied: AppliedBump)
+        requires worker { worker < length self.old }
+        requires room { HasRoom self.old worker }
+        ensures { worker_views self.new ≡
+            slice_set (worker_views self.old) worker (record (worker_view_at self.old worker) {
+              lane = lane.Empty;
+              applied = (worker_view_at self.old worker).applied ++ applied ∷ [];
+            }) }
     {
-        let worker = &mut self.all[w as usize];
+        let worker = &mut self.all[worker as usize];
         let was = worker.lane;
         worker.lane = Lane::Empty;
         worker.applied.push_reserved(applied);

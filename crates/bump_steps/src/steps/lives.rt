@@ -3,7 +3,7 @@ ghost use Rattle.std.specs.Prelude.{◌≡◌};
 ghost use Rattle.bump_steps.specs.Words.{HasChunk, words_id};
 ghost use Rattle.bump_steps.specs.Plays.{on_chunk, HasClass};
 ghost use Rattle.bump_word.specs.Words.{word_of};
-ghost use Rattle.bump_rules.specs.Heads.{newborn};
+ghost use Rattle.bump_rules.specs.Heads.{linked_head};
 ghost use Rattle.bump_steps.specs.Lives.{unlisted_load_tells, load_tells, put_label_tells, link_tells, unlink_tells, sweep_or_load_tells, class_after_put_label, class_after_link, on_class, IsUnused, IsDying, IsLinked, MayLink};
 
 use crate::views::{Empty, View};
@@ -89,7 +89,7 @@ impl Words {
         requires seat { (seat.old.table_id ≡ words_id self.now) × HasChunk (words_id self.now) chunk }
         requires may { MayLink chunk generation seat.old.me.0 }
         ensures same { (seat.new.table_id ≡ seat.old.table_id) × (seat.new.id ≡ seat.old.id) }
-        ensures told { seat.new.me ≡ (on_class (class_after_link chunk generation (word_of (newborn generation))) seat.old.me.0, seat.old.me.1) }
+        ensures told { seat.new.me ≡ (on_class (class_after_link chunk generation (word_of (linked_head generation))) seat.old.me.0, seat.old.me.1) }
     {
         let word = LINK + u64::from(generation) * ONE_GENERATION;
         self.table

@@ -1,4 +1,5 @@
-//! Tables of commands with their answers: ends, sweeps, evicts and closings, and each command in a World of two workers.
+//! Tables of commands with their answers: ends, sweeps, evicts and closings, and each
+//! command in a World of two workers.
 use super::*;
 
 type Row = (Command, Result<Answer, Refused>);
@@ -282,7 +283,8 @@ fn commands_out_of_range_are_refused(rt: HostRuntime) -> Result<(), Fail> {
     Ok(())
 }
 
-// Where an allocation of an end, a sweep or an evict is refused, whichever it is, nothing has changed, and the call is made again.
+// Where an allocation of an end, a sweep or an evict is refused, whichever it is, nothing has
+// changed, and the call is made again.
 #[test]
 fn ends_and_refusals_change_nothing(rt: HostRuntime) -> Result<(), Fail> {
     let Some(mut world) = world(rt.alloc(), 4, 0, 5) else {

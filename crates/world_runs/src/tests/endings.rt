@@ -1,4 +1,5 @@
-//! Ends by single events: what comes between an end and the sweep of its chunk, and between a drop and the clearing of ACTIVE.
+//! Ends by single events: what comes between an end and the sweep of its chunk, and between a
+//! drop and the clearing of ACTIVE.
 use super::*;
 
 /// The head of a chunk, where there is one.
@@ -66,8 +67,8 @@ fn warm(refs: u32, active: bool) -> Head {
     }
 }
 
-// A worker in the middle of an attempt can't close its ring, nor can its hold be given back. After a drop it clears ACTIVE, also
-// where another worker has set it again.
+// A worker in the middle of an attempt can't close its ring, nor can its hold be given back. After a drop it clears
+// ACTIVE, also where another worker has set it again.
 #[test]
 fn a_late_unmark_clears_the_mark_of_another(rt: HostRuntime) -> Result<(), Fail> {
     let sizes = [(2, 0, 5)];

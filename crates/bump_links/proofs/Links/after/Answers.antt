@@ -24,7 +24,8 @@ returns-clause-next c =
 
 pub returns-clause-each_once : goal.returns-clause-each_once
 returns-clause-each_once c =
-    subst HoldsEachOnce c.self.view_is (holds_each_once c.self.inside.nodes.items c.self.inside.headers.items c.self.invariant)
+    subst HoldsEachOnce c.self.view_is
+    (holds_each_once c.self.inside.nodes.items c.self.inside.headers.items c.self.invariant)
 
 pub returns-clause-in_range : goal.returns-clause-in_range
 returns-clause-in_range c =
@@ -38,4 +39,5 @@ returns-clause-in_range c =
     let InRange : Lists → Type 0 = λ s. IfSome c.some_node.result (λ k. k < s.nodes) in
     let P : Option ℕ → Type 0 = λ q. IfSome q (λ k. k < length nodes) in
     subst InRange c.self.view_is
-    (subst P (sym is) (link_in (length nodes) (node_at nodes n).forward (links_in nodes headers n c.self.invariant there).forward))
+    (subst P (sym is) (link_in (length nodes) (node_at nodes n).forward
+    (links_in nodes headers n c.self.invariant there).forward))

@@ -21,4 +21,5 @@ returns-clause-in_range c =
     let InRange : Lists → Type 0 = λ s. IfSome c.some_node.result (λ k. k < s.nodes) in
     let P : Option ℕ → Type 0 = λ q. IfSome q (λ k. k < length nodes) in
     subst InRange c.self.view_is
-    (subst P (sym is) (link_in (length nodes) (header_at headers l).head (ends_in nodes headers l c.self.invariant among).head))
+    (subst P (sym is) (link_in (length nodes) (header_at headers l).head
+    (ends_in nodes headers l c.self.invariant among).head))

@@ -19,7 +19,8 @@ returns-then-index-node-clause-moved c =
     let there : n < length nodes = subst There (sym c.self.view_is) c.requires.node in
     let among : t < length headers =
     subst (λ q. t < q) (length-map headers (list_under nodes)) (subst Among (sym c.self.view_is) c.requires.list) in
-    let at = sym (ap (λ (q : Header). q.head) (get_or_read headers t c.index.result.now among c.index.ensures no_header))
+    let at = sym (ap (λ (q : Header). q.head)
+    (get_or_read headers t c.index.result.now among c.index.ensures no_header))
     ∙ c.if-index-node.true in
     let Same : Lists → Type 0 = λ s. s ≡ moved_to_front n t s in
     subst Same c.self.view_is (moved_in_place nodes headers n t c.self.invariant there among at)

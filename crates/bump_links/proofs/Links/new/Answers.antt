@@ -19,12 +19,15 @@ of_made P count lists first nodes headers d e p =
 
 pub invariant_of-links : goal.invariant_of-links
 invariant_of-links c =
-    of_made (λ n h. IsSpelled n h) c.args.nodes c.args.lists c.args.first _ _ c.in_ok-ascending_nodes.ensures c.in_ok-first_headers.ensures
-    (new_is_spelled c.args.nodes c.args.lists c.args.first c.requires.some_nodes c.requires.few_nodes c.requires.few_lists c.requires.first)
+    of_made (λ n h. IsSpelled n h) c.args.nodes c.args.lists c.args.first _ _ c.in_ok-ascending_nodes.ensures
+    c.in_ok-first_headers.ensures
+    (new_is_spelled c.args.nodes c.args.lists c.args.first c.requires.some_nodes c.requires.few_nodes
+    c.requires.few_lists c.requires.first)
 
 pub returns-clause-made : goal.returns-clause-made
 returns-clause-made c =
-    of_made (λ n h. lists_of n h ≡ all_in_first c.args.nodes c.args.lists c.args.first) c.args.nodes c.args.lists c.args.first _ _
+    of_made (λ n h. lists_of n h
+    ≡ all_in_first c.args.nodes c.args.lists c.args.first) c.args.nodes c.args.lists c.args.first _ _
     c.in_ok-ascending_nodes.ensures c.in_ok-first_headers.ensures
     (new_shows c.args.nodes c.args.lists c.args.first c.requires.some_nodes c.requires.first)
 
@@ -33,4 +36,5 @@ returns-clause-each_once c =
     of_made (λ n h. HoldsEachOnce (lists_of n h)) c.args.nodes c.args.lists c.args.first _ _
     c.in_ok-ascending_nodes.ensures c.in_ok-first_headers.ensures
     (holds_each_once _ _
-    (new_is_spelled c.args.nodes c.args.lists c.args.first c.requires.some_nodes c.requires.few_nodes c.requires.few_lists c.requires.first))
+    (new_is_spelled c.args.nodes c.args.lists c.args.first c.requires.some_nodes c.requires.few_nodes
+    c.requires.few_lists c.requires.first))

@@ -6,4 +6,5 @@ use Rattle.bump_links.proofs.Links.nodes.Goals as goal
 
 pub returns-clause-each_once : goal.returns-clause-each_once
 returns-clause-each_once c =
-    subst HoldsEachOnce c.self.view_is (holds_each_once c.self.inside.nodes.items c.self.inside.headers.items c.self.invariant)
+    subst HoldsEachOnce c.self.view_is
+    (holds_each_once c.self.inside.nodes.items c.self.inside.headers.items c.self.invariant)

@@ -34,10 +34,12 @@ loop-step-preserved c =
     let inside = walks_in _ _ _ _ _ _ c.loop-step.invariant c.loop-step-test.true in
     let next = ap (λ (q : Node). q.forward) (get_or_read nodes at c.index.result.now inside c.index.ensures no_node) in
     let P : List ℕ → Type 0 =
-    λ q. WalksOn nodes (list_at (lists_of nodes c.self.inside.headers.items) c.args.list) c.index-header.result.now.size q
+    λ q. WalksOn nodes (list_at
+    (lists_of nodes c.self.inside.headers.items) c.args.list) c.index-header.result.now.size q
     (c.loop-step._step + 1) c.index.result.now.forward in
     subst P (sym c.in_ok-push.ensures.items)
-    (walks_more nodes _ _ _ c.loop-step._step at c.index.result.now.forward c.loop-step.invariant c.loop-step-test.true next)
+    (walks_more nodes _ _ _ c.loop-step._step at c.index.result.now.forward c.loop-step.invariant
+    c.loop-step-test.true next)
 
 pub returns-clause-found : goal.returns-clause-found
 returns-clause-found c =

@@ -17,7 +17,8 @@ read : (nodes : List Node) (n : ℕ) → n < length nodes
 read nodes n lt = get_or_default nodes n (record { forward = 0; back = 0; list = 0 }) no_node lt
 
 -- a node of a list that is spelled is there
-there : (nodes : List Node) (l : ℕ) (h : Header) (n : ℕ) (xs : List ℕ) → SpellsList nodes l h xs → times n xs ≡ 1 → n < length nodes
+there : (nodes : List Node) (l : ℕ) (h : Header) (n : ℕ) (xs : List ℕ) → SpellsList nodes l h xs → times n xs ≡ 1
+    → n < length nodes
 there nodes l h n xs s once = (Each-at (IsMember nodes l) n xs s.members once).0
 
 pub bounds-nodes-node : goal.bounds-nodes-node
@@ -71,7 +72,8 @@ returns-clause-spelled c =
     c.link_back.new.header n _ (read nodes n (there _ _ _ n _ c.requires.spelled c.requires.held)) c.requires.few
     c.link_forward.ensures.len c.link_back.ensures.len c.link_forward.ensures.nodes c.link_forward.ensures.header
     c.link_back.ensures.nodes c.link_back.ensures.header in
-    SpellsList-removed nodes c.link_forward.new.nodes c.link_back.new.nodes _ c.args.header.now c.link_back.new.header n _
+    SpellsList-removed nodes c.link_forward.new.nodes c.link_back.new.nodes _ c.args.header.now c.link_back.new.header
+    n _
     passes c.requires.spelled c.requires.held
 
 pub returns-clause-others : goal.returns-clause-others
@@ -83,5 +85,6 @@ returns-clause-others c =
     c.link_back.new.header n _ (read nodes n (there _ _ _ n _ c.requires.spelled c.requires.held)) c.requires.few
     c.link_forward.ensures.len c.link_back.ensures.len c.link_forward.ensures.nodes c.link_forward.ensures.header
     c.link_back.ensures.nodes c.link_back.ensures.header in
-    KeepsOthers-removed nodes c.link_forward.new.nodes c.link_back.new.nodes _ c.args.header.now c.link_back.new.header n _
+    KeepsOthers-removed nodes c.link_forward.new.nodes c.link_back.new.nodes _ c.args.header.now
+    c.link_back.new.header n _
     passes c.requires.spelled c.requires.held

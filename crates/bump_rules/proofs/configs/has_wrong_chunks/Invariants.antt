@@ -6,4 +6,6 @@ use Rattle.bump_rules.proofs.configs.has_wrong_chunks.Given as goal
 
 -- what is left decides, with what the classes so far left of the greatest number
 abbrev pub invariant-loop-class : goal.invariant-loop-class
-invariant-loop-class l = have_wrong_chunks l.classes ≡ (list_any (λ k. k.chunks == 0) (drop l.class-index l.classes) || nat_lt l.left (chunks_of (drop l.class-index l.classes)))
+invariant-loop-class l = have_wrong_chunks l.classes
+    ≡ (list_any (λ k. k.chunks == 0) (drop l.class-index l.classes) || nat_lt l.left
+    (chunks_of (drop l.class-index l.classes)))

@@ -9,5 +9,6 @@ abbrev pub invariant-loop-chunk : goal.invariant-loop-chunk
 invariant-loop-chunk l =
     (goal.iterator-loop-chunk).can_next l.chunk-iterator ×
     (goal.iterator-loop-chunk).is_finite l.chunk-iterator ×
-    (l.history.items ++ swept_of (heads_of l.chunks) l.chunk-iterator ≡ l.fn.history.items ++ swept_of (heads_of l.chunks) l.lists.dying) ×
+    (l.history.items ++ swept_of (heads_of l.chunks) l.chunk-iterator ≡ l.fn.history.items ++ swept_of
+    (heads_of l.chunks) l.lists.dying) ×
     (vec_len l.history + length (unheld (heads_of l.chunks) l.chunk-iterator) ≤ vec_capacity l.history)

@@ -3,7 +3,8 @@ use Rattle.bump_word.proofs.Words.{there, back}
 use Rattle.bump_word.proofs.laws.there_and_back.Goals as goal
 
 pub returns-clause-there : goal.returns-clause-there
-returns-clause-there c = λ h n answer refs generation packed every. there h n answer (omega (arith, refs)) generation packed every
+returns-clause-there c = λ h n answer refs generation packed every. there h n answer
+    (omega (arith, refs)) generation packed every
 
 pub returns-clause-back : goal.returns-clause-back
 returns-clause-back c = back

@@ -4,4 +4,5 @@ use Rattle.bump_state.proofs.Fronts.{some_last}
 use Rattle.bump_core.proofs.commands.pulls.last.Goals as goal
 
 pub returns-clause-linked : goal.returns-clause-linked
-returns-clause-linked c = some_last (state_of c.args.parts.now) c.requires.lawful c.args.k (segment_of c.args.tail) c.tail_chunk.result c.requires.class c.tail_chunk.ensures
+returns-clause-linked c = some_last (state_of c.args.parts.now) c.requires.lawful c.args.class
+    (segment_of c.args.tail) c.tail_chunk.result c.requires.class c.tail_chunk.ensures

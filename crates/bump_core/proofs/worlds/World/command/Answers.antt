@@ -15,32 +15,47 @@ use Rattle.bump_rules.specs.declared.events.Refused.TheVariants.{NotEnabled}
 use Rattle.bump_core.proofs.worlds.World.command.Goals as goal
 
 pub invariant_of-self : goal.invariant_of-self
-invariant_of-self c = command_keeps (state_of c.self.inside.parts) c.args.command (state_of c.command.new.parts) c.command.result c.self.invariant c.command.ensures
+invariant_of-self c = command_keeps (state_of c.self.inside.parts) c.args.command
+    (state_of c.command.new.parts) c.command.result c.self.invariant c.command.ensures
 
 pub returns-clause-events : goal.returns-clause-events
-returns-clause-events c = subst (λ (s : State). OnOk c.command.result (run_of s (events_of s c.args.command) ≡ Some (state_of c.command.new.parts))) c.self.view_is
-    (command_events (state_of c.self.inside.parts) c.args.command (state_of c.command.new.parts) c.command.result c.self.invariant c.command.ensures)
+returns-clause-events c = subst (λ (s : State). OnOk c.command.result (run_of s (events_of s c.args.command)
+    ≡ Some (state_of c.command.new.parts))) c.self.view_is
+    (command_events (state_of c.self.inside.parts) c.args.command
+    (state_of c.command.new.parts) c.command.result c.self.invariant c.command.ensures)
 
 pub returns-clause-lawful : goal.returns-clause-lawful
-returns-clause-lawful c = (command_keeps (state_of c.self.inside.parts) c.args.command (state_of c.command.new.parts) c.command.result c.self.invariant c.command.ensures).0
+returns-clause-lawful c = (command_keeps (state_of c.self.inside.parts) c.args.command
+    (state_of c.command.new.parts) c.command.result c.self.invariant c.command.ensures).0
 
 pub returns-clause-sizes : goal.returns-clause-sizes
 returns-clause-sizes c = subst (λ (s : State). SameSizes s (state_of c.command.new.parts)) c.self.view_is
-    (command_sizes (state_of c.self.inside.parts) c.args.command (state_of c.command.new.parts) c.command.result c.self.invariant c.command.ensures)
+    (command_sizes (state_of c.self.inside.parts) c.args.command
+    (state_of c.command.new.parts) c.command.result c.self.invariant c.command.ensures)
 
 pub returns-clause-headline : goal.returns-clause-headline
-returns-clause-headline c = headline (state_of c.command.new.parts) (command_keeps (state_of c.self.inside.parts) c.args.command (state_of c.command.new.parts) c.command.result c.self.invariant c.command.ensures).0
+returns-clause-headline c = headline (state_of c.command.new.parts) (command_keeps
+    (state_of c.self.inside.parts) c.args.command
+    (state_of c.command.new.parts) c.command.result c.self.invariant c.command.ensures).0
 
 pub returns-clause-memory : goal.returns-clause-memory
-returns-clause-memory c = subst (λ (s : State). command_asks_for_memory s c.args.command ≡ false → IfErr c.command.result (λ r. r ≡ NotEnabled)) c.self.view_is
-    (wants_where_asked (state_of c.self.inside.parts) c.args.command (state_of c.command.new.parts) c.command.result c.command.ensures)
+returns-clause-memory c = subst (λ (s : State). command_asks_for_memory s c.args.command ≡ false
+    → IfErr c.command.result (λ r. r ≡ NotEnabled)) c.self.view_is
+    (wants_where_asked (state_of c.self.inside.parts) c.args.command
+    (state_of c.command.new.parts) c.command.result c.command.ensures)
 
 pub returns-clause-labels : goal.returns-clause-labels
-returns-clause-labels c = subst (λ (s : State). KeepsLabels s (made_by (events_of s c.args.command) c.command.result) (state_of c.command.new.parts)) c.self.view_is
-    (keeps_labels (made_by (events_of (state_of c.self.inside.parts) c.args.command) c.command.result) (state_of c.self.inside.parts) (state_of c.command.new.parts) c.self.invariant.0
-    (command_runs (state_of c.self.inside.parts) c.args.command (state_of c.command.new.parts) c.command.result c.self.invariant c.command.ensures))
+returns-clause-labels c = subst (λ (s : State). KeepsLabels s (made_by (events_of s c.args.command) c.command.result)
+    (state_of c.command.new.parts)) c.self.view_is
+    (keeps_labels (made_by (events_of (state_of c.self.inside.parts) c.args.command) c.command.result)
+    (state_of c.self.inside.parts) (state_of c.command.new.parts) c.self.invariant.0
+    (command_runs (state_of c.self.inside.parts) c.args.command
+    (state_of c.command.new.parts) c.command.result c.self.invariant c.command.ensures))
 
 pub returns-clause-closed : goal.returns-clause-closed
 returns-clause-closed c = subst (λ (s : State). ClosedStay s (state_of c.command.new.parts)) c.self.view_is
-    (closed_stay (state_of c.self.inside.parts) (made_by (events_of (state_of c.self.inside.parts) c.args.command) c.command.result) (state_of c.command.new.parts)
-    (command_runs (state_of c.self.inside.parts) c.args.command (state_of c.command.new.parts) c.command.result c.self.invariant c.command.ensures))
+    (closed_stay (state_of c.self.inside.parts)
+    (made_by (events_of (state_of c.self.inside.parts) c.args.command) c.command.result)
+    (state_of c.command.new.parts)
+    (command_runs (state_of c.self.inside.parts) c.args.command
+    (state_of c.command.new.parts) c.command.result c.self.invariant c.command.ensures))

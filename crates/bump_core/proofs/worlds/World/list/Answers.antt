@@ -6,4 +6,6 @@ use Rattle.bump_state.proofs.Fronts.{listed_in_range}
 use Rattle.bump_core.proofs.worlds.World.list.Goals as goal
 
 pub returns-clause-in_range : goal.returns-clause-in_range
-returns-clause-in_range c = listed_in_range c.args.self.now (subst IsLawful c.self.view_is c.self.invariant.0) c.args.class c.args.place c.list.result c.requires (c.list.ensures ∙ ap (λ s. list_at (class_at s c.args.class).lists c.args.place) c.self.view_is)
+returns-clause-in_range c = listed_in_range c.args.self.now
+    (subst IsLawful c.self.view_is c.self.invariant.0) c.args.class c.args.place c.list.result c.requires
+    (c.list.ensures ∙ ap (λ s. list_at (class_at s c.args.class).lists c.args.place) c.self.view_is)

@@ -13,23 +13,33 @@ use Rattle.bump_core.proofs.worlds.StaysLawful.{step_keeps}
 use Rattle.bump_core.proofs.worlds.World.step.Goals as goal
 
 pub invariant_of-self : goal.invariant_of-self
-invariant_of-self c = step_keeps (state_of c.self.inside.parts) c.args.event (state_of c.step.new.parts) c.step.result c.self.invariant c.step.ensures.step
+invariant_of-self c = step_keeps (state_of c.self.inside.parts) c.args.event
+    (state_of c.step.new.parts) c.step.result c.self.invariant c.step.ensures.step
 
 pub returns-clause-lawful : goal.returns-clause-lawful
-returns-clause-lawful c = (step_keeps (state_of c.self.inside.parts) c.args.event (state_of c.step.new.parts) c.step.result c.self.invariant c.step.ensures.step).0
+returns-clause-lawful c = (step_keeps (state_of c.self.inside.parts) c.args.event
+    (state_of c.step.new.parts) c.step.result c.self.invariant c.step.ensures.step).0
 
 pub returns-clause-sizes : goal.returns-clause-sizes
-returns-clause-sizes c = subst (λ (s : State). SameSizes s (state_of c.step.new.parts)) c.self.view_is (step_sizes (state_of c.self.inside.parts) c.args.event (state_of c.step.new.parts) c.step.result c.step.ensures.step)
+returns-clause-sizes c = subst (λ (s : State). SameSizes s (state_of c.step.new.parts)) c.self.view_is
+    (step_sizes (state_of c.self.inside.parts) c.args.event
+    (state_of c.step.new.parts) c.step.result c.step.ensures.step)
 
 pub returns-clause-headline : goal.returns-clause-headline
-returns-clause-headline c = headline (state_of c.step.new.parts) (step_keeps (state_of c.self.inside.parts) c.args.event (state_of c.step.new.parts) c.step.result c.self.invariant c.step.ensures.step).0
+returns-clause-headline c = headline (state_of c.step.new.parts)
+    (step_keeps (state_of c.self.inside.parts) c.args.event
+    (state_of c.step.new.parts) c.step.result c.self.invariant c.step.ensures.step).0
 
 pub returns-clause-labels : goal.returns-clause-labels
-returns-clause-labels c = subst (λ (s : State). KeepsLabels s (made_by (c.args.event ∷ []) c.step.result) (state_of c.step.new.parts)) c.self.view_is
-    (keeps_labels (made_by (c.args.event ∷ []) c.step.result) (state_of c.self.inside.parts) (state_of c.step.new.parts) c.self.invariant.0
-    (step_runs (state_of c.self.inside.parts) c.args.event (state_of c.step.new.parts) c.step.result c.step.ensures.step))
+returns-clause-labels c = subst (λ (s : State). KeepsLabels s (made_by (c.args.event ∷ []) c.step.result)
+    (state_of c.step.new.parts)) c.self.view_is
+    (keeps_labels (made_by (c.args.event ∷ []) c.step.result) (state_of c.self.inside.parts)
+    (state_of c.step.new.parts) c.self.invariant.0
+    (step_runs (state_of c.self.inside.parts) c.args.event
+    (state_of c.step.new.parts) c.step.result c.step.ensures.step))
 
 pub returns-clause-closed : goal.returns-clause-closed
 returns-clause-closed c = subst (λ (s : State). ClosedStay s (state_of c.step.new.parts)) c.self.view_is
     (closed_stay (state_of c.self.inside.parts) (made_by (c.args.event ∷ []) c.step.result) (state_of c.step.new.parts)
-    (step_runs (state_of c.self.inside.parts) c.args.event (state_of c.step.new.parts) c.step.result c.step.ensures.step))
+    (step_runs (state_of c.self.inside.parts) c.args.event
+    (state_of c.step.new.parts) c.step.result c.step.ensures.step))

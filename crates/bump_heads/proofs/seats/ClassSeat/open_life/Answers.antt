@@ -1,6 +1,6 @@
 use Rattle.std.proofs.Common.{◌≡◌, Some, ℕ, ◌+◌, refl, ap, ◌∙◌, sym, subst, arith}
 use Rattle.bump_rules.specs.declared.places.Place.{Place}
-use Rattle.bump_rules.specs.Heads.{newborn}
+use Rattle.bump_rules.specs.Heads.{linked_head}
 use Rattle.bump_rules.specs.Labels.{label_of_life}
 use Rattle.bump_rules.specs.Lawful.{Shows}
 use Rattle.bump_rules.specs.Lives.{life}
@@ -34,7 +34,7 @@ open_life-requires-clause-may g c = let gen =
     )
 
 pub invariant_of-self : goal.invariant_of-self
-invariant_of-self g c = let n : ℕ = c.head_of-found.result.generation + 1 in let word : ℕ = word_of (newborn n) in
+invariant_of-self g c = let n : ℕ = c.head_of-found.result.generation + 1 in let word : ℕ = word_of (linked_head n) in
     let gen = (finds c.args.chunk c.peek.result c.self.inside.seat.me c.args.self.now c.head_of-found.result
     c.self.view_is c.self.invariant.0 c.requires.own c.head_of-found.ensures c.peek.ensures.told.1).1 in
     seat_kept c.self.inside.seat.me c.open_life.new.seat.me c.args.self.now (class_after_link c.args.chunk n word)
@@ -55,7 +55,7 @@ returns-clause-next g c = ap (λ (j : ℕ). life c.args.chunk (j + 1))
     c.self.invariant.0 c.requires.own c.head_of-found.ensures c.peek.ensures.told.1).1
 
 pub returns-clause-label : goal.returns-clause-label
-returns-clause-label g c = let n : ℕ = c.head_of-found.result.generation + 1 in let word : ℕ = word_of (newborn n) in
+returns-clause-label g c = let n : ℕ = c.head_of-found.result.generation + 1 in let word : ℕ = word_of (linked_head n) in
     let gen = (finds c.args.chunk c.peek.result c.self.inside.seat.me c.args.self.now c.head_of-found.result
     c.self.view_is c.self.invariant.0 c.requires.own c.head_of-found.ensures c.peek.ensures.told.1).1 in
     let part = subst (λ (v : ClassView). IsClassPart g.N.Name.table.words v.part) c.self.view_is c.self.invariant.4 in

@@ -8,10 +8,27 @@ pub overflow_sub-count : goal.overflow_sub-count
 overflow_sub-count c =
     let heads = heads_of c.args.chunks.now in
     let steps = c.in-Some.ensures.steps in
-    omega (arith, c.loop-chunk.invariant.2, ap length steps, ap (λ cs. length (unheld heads cs)) steps, ap length (unheld_held heads c.in-Some.chunk c.next.new.self c.if-chunks-chunk-gt0.true), unheld_within heads c.next.new.self)
+    omega (
+      arith,
+      c.loop-chunk.invariant.2,
+      ap length steps,
+      ap (λ cs. length (unheld heads cs)) steps,
+      ap length (unheld_held heads c.in-Some.chunk c.next.new.self c.if-chunks-chunk-gt0.true),
+      unheld_within heads c.next.new.self,
+    )
 
 pub loop-chunk-preserved-then-chunks-chunk-gt0 : goal.loop-chunk-preserved-then-chunks-chunk-gt0
 loop-chunk-preserved-then-chunks-chunk-gt0 c =
     let heads = heads_of c.args.chunks.now in
-    let steps = c.in-Some.ensures.steps in
-    (tt, tt, omega (arith, c.loop-chunk.invariant.2, ap length steps, ap (λ cs. length (unheld heads cs)) steps, ap length (unheld_held heads c.in-Some.chunk c.next.new.self c.if-chunks-chunk-gt0.true), unheld_within heads c.next.new.self))
+    let steps = c.in-Some.ensures.steps in (
+      tt,
+      tt,
+      omega (
+        arith,
+        c.loop-chunk.invariant.2,
+        ap length steps,
+        ap (λ cs. length (unheld heads cs)) steps,
+        ap length (unheld_held heads c.in-Some.chunk c.next.new.self c.if-chunks-chunk-gt0.true),
+        unheld_within heads c.next.new.self,
+      ),
+    )

@@ -8,4 +8,5 @@ abbrev pub invariant-loop-chunk : goal.invariant-loop-chunk
 invariant-loop-chunk l =
     (goal.iterator-loop-chunk).can_next l.chunk-iterator ×
     (goal.iterator-loop-chunk).is_finite l.chunk-iterator ×
-    (l.count + length (unheld (heads_of l.chunks) l.chunk-iterator) ≡ length (unheld (heads_of l.chunks) l.self.lists.dying) + length l.chunk-iterator)
+    (l.count + length (unheld (heads_of l.chunks) l.chunk-iterator)
+    ≡ length (unheld (heads_of l.chunks) l.self.lists.dying) + length l.chunk-iterator)

@@ -5,4 +5,5 @@ use Rattle.bump_state.proofs.parts.Parts.class_of.Given as goal
 
 -- no class so far ends behind the chunk
 abbrev pub invariant-loop-k : goal.invariant-loop-k
-invariant-loop-k l = class_from (map class_view l.self.classes.items) l.c ≡ l.k + class_from (map class_view (drop l.k l.self.classes.items)) l.c
+invariant-loop-k l = class_from (map class_view l.self.classes.items) l.chunk
+    ≡ l.k + class_from (map class_view (drop l.k l.self.classes.items)) l.chunk

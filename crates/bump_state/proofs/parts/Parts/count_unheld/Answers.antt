@@ -7,6 +7,9 @@ use Rattle.bump_state.proofs.Fronts.{listed_in_range}
 use Rattle.bump_state.proofs.parts.Parts.count_unheld.Goals as goal
 
 pub count_unheld-requires : goal.count_unheld-requires
-count_unheld-requires c = λ i d below. subst (λ (cs : List Chunk). slice_index_or c.index.result.now.lists.dying i d < length cs) (sym c.as_slice.ensures.value)
-    (listed_in_range (state_of c.args.self.now) c.requires.lawful c.args.k Dying c.index.result.now.lists.dying c.requires.class
-    (sym (ap (λ v. v.lists.dying) (class_seen c.args.self.now c.args.k c.index.result.now c.requires.class c.index.ensures))) i d below)
+count_unheld-requires c = λ i d below. subst
+    (λ (cs : List Chunk). slice_index_or c.index.result.now.lists.dying i d < length cs) (sym c.as_slice.ensures.value)
+    (listed_in_range (state_of c.args.self.now) c.requires.lawful c.args.class Dying c.index.result.now.lists.dying
+    c.requires.class
+    (sym (ap (λ v. v.lists.dying)
+    (class_seen c.args.self.now c.args.class c.index.result.now c.requires.class c.index.ensures))) i d below)

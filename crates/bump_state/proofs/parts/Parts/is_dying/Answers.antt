@@ -7,7 +7,10 @@ use Rattle.bump_state.proofs.parts.Parts.is_dying.Goals as goal
 pub list_has-requires-clause-class : goal.list_has-requires-clause-class
 list_has-requires-clause-class c =
     let s = state_of c.args.self.now in
-    subst (λ (k : ℕ). k < length s.classes) (sym c.class_of-class.ensures) (class_within s c.requires.lawful.tiles c.args.c c.requires.chunk)
+    subst (λ (k : ℕ). k < length s.classes) (sym c.class_of-class.ensures)
+    (class_within s c.requires.lawful.tiles c.args.chunk c.requires.chunk)
 
 pub list_has-requires-clause-listed : goal.list_has-requires-clause-listed
-list_has-requires-clause-listed c = listed_at (state_of c.args.self.now) c.requires.lawful c.args.c c.class_of-class.result c.requires.chunk c.class_of-class.ensures
+list_has-requires-clause-listed c =
+    listed_at (state_of c.args.self.now) c.requires.lawful c.args.chunk c.class_of-class.result c.requires.chunk
+    c.class_of-class.ensures

@@ -7,4 +7,5 @@ use Rattle.bump_state.proofs.parts.Parts.is_under_application.Given as goal
 
 -- no lane so far applies a bump of the class
 abbrev pub invariant-loop-worker : goal.invariant-loop-worker
-invariant-loop-worker l = list_any (λ w. applies_in (state_of l.self) l.k w.lane) (worker_views l.self.workers) ≡ list_any (λ w. applies_in (state_of l.self) l.k w.lane) (worker_views (drop l.worker-index l.self.workers))
+invariant-loop-worker l = list_any (λ w. applies_in (state_of l.self) l.class w.lane) (worker_views l.self.workers)
+    ≡ list_any (λ w. applies_in (state_of l.self) l.class w.lane) (worker_views (drop l.worker-index l.self.workers))

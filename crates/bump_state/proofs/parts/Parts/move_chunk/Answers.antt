@@ -8,4 +8,5 @@ pub change_class-requires-clause-listed : goal.change_class-requires-clause-list
 change_class-requires-clause-listed c =
     let s = state_of c.args.self.now in
     listed_at s c.requires c.args.chunk c.class_of-class.result
-    (ltb-true c.args.chunk (length s.chunks) (sym c.has_chunk.ensures ∙ c.if-not-has_chunk.false)) c.class_of-class.ensures
+    (ltb-true c.args.chunk (length s.chunks) (sym c.has_chunk.ensures
+    ∙ c.if-not-has_chunk.false)) c.class_of-class.ensures

@@ -7,4 +7,5 @@ pub new_classes-requires-clause-some : goal.new_classes-requires-clause-some
 new_classes-requires-clause-some c =
     let config = c.args.config.now in
     subst HaveChunks (sym c.as_slice-classes.ensures)
-    (bounds config.workers config.capacity config.refs_limit config.first_generation config.classes config.valid).chunks_each
+    (bounds config.workers config.capacity config.refs_limit config.first_generation config.classes
+    config.valid).chunks_each

@@ -3,4 +3,6 @@ use Rattle.bump_state.proofs.Fronts.{some_next}
 use Rattle.bump_state.proofs.parts.Parts.next_chunk.Goals as goal
 
 pub returns-clause-free : goal.returns-clause-free
-returns-clause-free c = some_next (state_of c.args.self.now) c.requires.lawful c.args.k c.unused_front.result c.requires.class c.unused_front.ensures
+returns-clause-free c = some_next
+    (state_of c.args.self.now) c.requires.lawful c.args.class c.unused_front.result c.requires.class
+    c.unused_front.ensures

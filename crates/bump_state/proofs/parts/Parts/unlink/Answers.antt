@@ -10,5 +10,6 @@ pub change_class-requires-clause-listed : goal.change_class-requires-clause-list
 change_class-requires-clause-listed c =
     let s = state_of c.args.self.now in
     let l = c.args.life in
-    let both = and_parts (is_current s l) (head_at s l.chunk).linked (sym c.is_linked.ensures ∙ c.if-not-is_linked.false) in
+    let both = and_parts (is_current s l) (head_at s l.chunk).linked (sym c.is_linked.ensures
+    ∙ c.if-not-is_linked.false) in
     listed_at s c.requires l.chunk c.class_of-class.result (current_from s l both.0).0 c.class_of-class.ensures

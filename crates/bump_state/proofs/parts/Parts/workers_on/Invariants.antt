@@ -8,5 +8,6 @@ use Rattle.bump_state.proofs.parts.Parts.workers_on.Given as goal
 abbrev pub invariant-loop-worker : goal.invariant-loop-worker
 invariant-loop-worker l = record {
   few : l.count ≤ l.worker-index;
-  all : l.count + total (λ w. is_on l.life w.hand) (worker_views (drop l.worker-index l.self.workers)) ≡ total (λ w. is_on l.life w.hand) (worker_views l.self.workers);
+  all : l.count + total (λ w. is_on l.life w.hand) (worker_views (drop l.worker-index l.self.workers))
+      ≡ total (λ w. is_on l.life w.hand) (worker_views l.self.workers);
 }

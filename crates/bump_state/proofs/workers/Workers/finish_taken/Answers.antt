@@ -12,13 +12,37 @@ use Rattle.bump_state.proofs.workers.Workers.finish_taken.Goals as goal
 
 pub returns : goal.returns
 returns c = rw (← c.self.view_is) (rewritten worker_view
-    (λ v. record v { received = v.received ++ c.args.applied.life ∷ []; lane = Empty; applied = v.applied ++ c.args.applied ∷ [] }) c.self.inside.all.items c.args.w c.index_mut-worker.result.now _ new_worker (omega (arith, c.requires.worker, ap length c.self.view_is)) c.index_mut-worker.ensures.value
-    (ap₂ (λ (rs : List ItemId) (bs : List AppliedBump). record (worker_view c.index_mut-worker.result.now) { received = rs; lane = Empty; applied = bs })
-    (next_received c.self.inside.all.items c.args.w c.index_mut-worker.result.now c.args.applied.life (omega (arith, c.requires.worker, ap length c.self.view_is)) c.index_mut-worker.ensures.value (subst (λ xs. next_bump (worker_view_at xs c.args.w) ≡ Some c.args.applied.life) (sym c.self.view_is) c.requires.next)).2 c.push_reserved.ensures.items))
+    (λ v. record v {
+      received = v.received ++ c.args.applied.life ∷ [];
+      lane = Empty;
+      applied = v.applied ++
+          c.args.applied ∷ [];
+    }) c.self.inside.all.items c.args.worker c.index_mut-worker.result.now _ new_worker
+    (omega (arith, c.requires.worker, ap length c.self.view_is)) c.index_mut-worker.ensures.value
+    (ap₂ (λ (rs : List ItemId) (bs : List AppliedBump). record (worker_view c.index_mut-worker.result.now) {
+      received = rs;
+      lane = Empty;
+      applied = bs;
+    })
+    (next_received c.self.inside.all.items c.args.worker c.index_mut-worker.result.now c.args.applied.life
+    (omega (arith, c.requires.worker, ap length c.self.view_is)) c.index_mut-worker.ensures.value
+    (subst (λ xs. next_bump (worker_view_at xs c.args.worker) ≡ Some c.args.applied.life)
+    (sym c.self.view_is) c.requires.next)).2 c.push_reserved.ensures.items))
 
 pub recounted-self-inside-requires-clause-counted : goal.recounted-self-inside-requires-clause-counted
-recounted-self-inside-requires-clause-counted c = counted_in is_applying c.self.inside.all.items c.args.w c.index_mut-worker.result.now (omega (arith, c.requires.worker, ap length c.self.view_is)) c.index_mut-worker.ensures.value c.self.inside.applying c.self.invariant.applying c.self.invariant.few c.is_applying.result c.is_applying.ensures
+recounted-self-inside-requires-clause-counted c =
+    counted_in is_applying c.self.inside.all.items c.args.worker c.index_mut-worker.result.now (omega (
+      arith,
+      c.requires.worker,
+      ap length c.self.view_is,
+    )) c.index_mut-worker.ensures.value c.self.inside.applying
+    c.self.invariant.applying c.self.invariant.few c.is_applying.result c.is_applying.ensures
 
 pub invariant_of-self : goal.invariant_of-self
-invariant_of-self c = lane_anew c.self.inside.all.items c.args.w c.index_mut-worker.result.now _ (omega (arith, c.requires.worker, ap length c.self.view_is)) c.index_mut-worker.ensures.value
-    c.self.inside.not_idle c.self.inside.applying c.self.invariant c.recounted-self-inside.result c.is_applying.result false c.is_applying.ensures refl c.recounted-self-inside.ensures refl
+invariant_of-self c = lane_anew c.self.inside.all.items c.args.worker c.index_mut-worker.result.now _ (omega (
+  arith,
+  c.requires.worker,
+  ap length c.self.view_is,
+)) c.index_mut-worker.ensures.value
+    c.self.inside.not_idle c.self.inside.applying c.self.invariant c.recounted-self-inside.result c.is_applying.result
+    false c.is_applying.ensures refl c.recounted-self-inside.ensures refl

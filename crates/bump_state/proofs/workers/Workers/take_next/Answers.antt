@@ -11,17 +11,55 @@ use Rattle.bump_state.proofs.workers.Counts.{counted_in, lane_anew}
 use Rattle.bump_state.proofs.workers.Workers.take_next.Goals as goal
 
 pub returns-clause-after : goal.returns-clause-after
-returns-clause-after c = let next = next_received c.self.inside.all.items c.args.w c.index_mut-worker.result.now c.args.life (omega (arith, c.requires.worker, ap length c.self.view_is)) c.index_mut-worker.ensures.value (subst (λ xs. next_bump (worker_view_at xs c.args.w) ≡ Some c.args.life) (sym c.self.view_is) c.requires.next) in
+returns-clause-after c = let next =
+    next_received c.self.inside.all.items c.args.worker c.index_mut-worker.result.now c.args.life (omega (
+      arith,
+      c.requires.worker,
+      ap length c.self.view_is,
+    )) c.index_mut-worker.ensures.value
+    (subst (λ xs. next_bump (worker_view_at xs c.args.worker) ≡ Some c.args.life)
+    (sym c.self.view_is) c.requires.next) in
     rw (← c.self.view_is) (rewritten worker_view
-    (λ v. record v { received = v.received ++ c.args.life ∷ []; lane = Carrying (bump_of (length v.received) c.args.life) }) c.self.inside.all.items c.args.w c.index_mut-worker.result.now _ new_worker (omega (arith, c.requires.worker, ap length c.self.view_is)) c.index_mut-worker.ensures.value
-    (ap₂ (λ (rs : List ItemId) (n : ℕ). record (worker_view c.index_mut-worker.result.now) { received = rs; lane = Carrying (bump_of n c.args.life) }) next.2 (sym next.0 ∙ ap (λ v. length v.received) next.1)))
+    (λ v. record v {
+      received = v.received ++ c.args.life ∷ [];
+      lane = Carrying
+          (bump_of (length v.received) c.args.life);
+    }) c.self.inside.all.items c.args.worker
+    c.index_mut-worker.result.now _ new_worker (omega (
+      arith,
+      c.requires.worker,
+      ap length c.self.view_is,
+    )) c.index_mut-worker.ensures.value
+    (ap₂ (λ (rs : List ItemId) (n : ℕ). record (worker_view c.index_mut-worker.result.now) {
+      received = rs;
+      lane = Carrying (bump_of n c.args.life);
+    }) next.2 (sym next.0
+    ∙ ap (λ v. length v.received) next.1)))
 
 pub returns-clause-number : goal.returns-clause-number
-returns-clause-number c = rw (← c.self.view_is) (sym (next_received c.self.inside.all.items c.args.w c.index_mut-worker.result.now c.args.life (omega (arith, c.requires.worker, ap length c.self.view_is)) c.index_mut-worker.ensures.value (subst (λ xs. next_bump (worker_view_at xs c.args.w) ≡ Some c.args.life) (sym c.self.view_is) c.requires.next)).0)
+returns-clause-number c = rw (← c.self.view_is)
+    (sym (next_received c.self.inside.all.items c.args.worker c.index_mut-worker.result.now c.args.life (omega (
+      arith,
+      c.requires.worker,
+      ap length c.self.view_is,
+    )) c.index_mut-worker.ensures.value
+    (subst (λ xs. next_bump (worker_view_at xs c.args.worker) ≡ Some c.args.life)
+    (sym c.self.view_is) c.requires.next)).0)
 
 pub recounted-self-inside-requires-clause-counted : goal.recounted-self-inside-requires-clause-counted
-recounted-self-inside-requires-clause-counted c = counted_in is_applying c.self.inside.all.items c.args.w c.index_mut-worker.result.now (omega (arith, c.requires.worker, ap length c.self.view_is)) c.index_mut-worker.ensures.value c.self.inside.applying c.self.invariant.applying c.self.invariant.few c.is_applying.result c.is_applying.ensures
+recounted-self-inside-requires-clause-counted c =
+    counted_in is_applying c.self.inside.all.items c.args.worker c.index_mut-worker.result.now (omega (
+      arith,
+      c.requires.worker,
+      ap length c.self.view_is,
+    )) c.index_mut-worker.ensures.value c.self.inside.applying
+    c.self.invariant.applying c.self.invariant.few c.is_applying.result c.is_applying.ensures
 
 pub invariant_of-self : goal.invariant_of-self
-invariant_of-self c = lane_anew c.self.inside.all.items c.args.w c.index_mut-worker.result.now _ (omega (arith, c.requires.worker, ap length c.self.view_is)) c.index_mut-worker.ensures.value
-    c.self.inside.not_idle c.self.inside.applying c.self.invariant c.recounted-self-inside.result c.is_applying.result false c.is_applying.ensures refl c.recounted-self-inside.ensures refl
+invariant_of-self c = lane_anew c.self.inside.all.items c.args.worker c.index_mut-worker.result.now _ (omega (
+  arith,
+  c.requires.worker,
+  ap length c.self.view_is,
+)) c.index_mut-worker.ensures.value
+    c.self.inside.not_idle c.self.inside.applying c.self.invariant c.recounted-self-inside.result c.is_applying.result
+    false c.is_applying.ensures refl c.recounted-self-inside.ensures refl

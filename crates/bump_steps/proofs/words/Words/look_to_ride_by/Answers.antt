@@ -11,7 +11,8 @@ load-requires g c = let t = c.args.self.now.table.shared in let m = c.args.seat.
     c.requires.attempt in (
       c.requires.seat.0,
       omega (arith, c.requires.seat.1),
-      subst (λ (z : ℕ × ℕ × ItemId). Allows (Kept t.key) t.table_id.slots c.args.seat.now.id m (3 * c.args.life.chunk + 9)
+      subst (λ (z : ℕ × ℕ × ItemId). Allows (Kept t.key) t.table_id.slots c.args.seat.now.id m
+          (3 * c.args.life.chunk + 9)
           (λ n. n) (load_to_ride_tells z.0 z.1 z.2 m)) (λ i. (sym is.0 i, sym is.1 i, sym is.2 i))
           (may_load_to_ride t.key t.table_id.slots c.args.seat.now.id m c.args.life c.args.limit 0
           (omega (arith, c.args.self.now.sized, c.requires.seat.1)) c.requires.limit c.requires.trying),

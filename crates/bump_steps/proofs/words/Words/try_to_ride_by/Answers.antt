@@ -12,7 +12,8 @@ compare_exchange-requires g c = let t = c.args.self.now.table.shared in let m = 
     c.requires.attempt in (
       c.requires.seat.0,
       omega (arith, c.requires.seat.1),
-      subst (λ (z : ℕ × ℕ × ItemId). Allows (Kept t.key) t.table_id.slots c.args.seat.now.id m (3 * c.args.life.chunk + 9)
+      subst (λ (z : ℕ × ℕ × ItemId). Allows (Kept t.key) t.table_id.slots c.args.seat.now.id m
+          (3 * c.args.life.chunk + 9)
           (λ n. either (n == c.args.seen) (c.args.seen + 1) n) (try_to_ride_tells z.0 z.1 z.2 c.args.seen m))
           (λ i. (sym is.0 i, sym is.1 i, sym is.2 i))
           (may_reserve t.key t.table_id.slots c.args.seat.now.id m c.args.life c.args.limit c.args.failed c.args.seen

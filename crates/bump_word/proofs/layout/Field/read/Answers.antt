@@ -4,4 +4,5 @@ use Rattle.std.proofs.lemmas.Nat.{and_mask, one_shl}
 use Rattle.bump_word.proofs.layout.Field.read.Goals as goal
 
 pub returns : goal.returns
-returns c = rw (one_shl c.args.self.width 64 c.requires.width) (and_mask (c.args.word / 2 ^ c.args.self.first) c.args.self.width)
+returns c = rw (one_shl c.args.self.width 64 c.requires.width)
+    (and_mask (c.args.word / 2 ^ c.args.self.first) c.args.self.width)

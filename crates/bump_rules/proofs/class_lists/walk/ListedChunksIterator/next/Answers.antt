@@ -12,10 +12,12 @@ after-self-inside-requires c =
 pub invariant_of-self : goal.invariant_of-self
 invariant_of-self c =
     let a = c.self.inside in
-    let on = (goes_on c.in_ok-chunk.chunk a.left (list_at a.lists.now a.place) a.next c.self.invariant c.in_ok-chunk.was).on c.after-self-inside.ensures.once in
+    let on = (goes_on c.in_ok-chunk.chunk a.left
+    (list_at a.lists.now a.place) a.next c.self.invariant c.in_ok-chunk.was).on c.after-self-inside.ensures.once in
     rw c.after-self-inside.ensures.next on
 
 pub returns-clause-steps : goal.returns-clause-steps
 returns-clause-steps c =
     let a = c.self.inside in
-    sym c.self.view_is ∙ (goes_on c.in_ok-chunk.chunk a.left (list_at a.lists.now a.place) a.next c.self.invariant c.in_ok-chunk.was).is
+    sym c.self.view_is ∙ (goes_on c.in_ok-chunk.chunk a.left
+    (list_at a.lists.now a.place) a.next c.self.invariant c.in_ok-chunk.was).is

@@ -1,0 +1,213 @@
+//! A worker's calls of a store in plain Rust, and the workloads of `store_bench`. `bench/run` builds and runs both programs.
+//! rustc --edition 2024 -C opt-level=3 -C codegen-units=1 -C panic=abort bench/reads.rs -o reads && ./reads all
+
+mod apart;
+mod measure;
+mod rings;
+mod words;
+mod workers;
+
+use apart::{Start, work_apart};
+use measure::{Measured, Tally, measure_named, one_more};
+use rings::Receiver;
+use std::time::Instant;
+use words::{ItemId, lives};
+use workers::{Dropped, Store, Touch, Worker};
+
+/// What each touch of a pass comes to.
+#[derive(Clone, Copy)]
+enum Answer {
+    First,
+    Already,
+    Marked,
+    Queued,
+    Full,
+}
+
+/// One of the answers: the loop that wants it is compiled for it alone, as each caller of a touch has code of its own.
+trait Wanted {
+    fn is(touch: Touch) -> bool;
+}
+
+struct First;
+
+impl Wanted for First {
+    fn is(touch: Touch) -> bool {
+        matches!(touch, Touch::First)
+    }
+}
+
+struct Already;
+
+impl Wanted for Already {
+    fn is(touch: Touch) -> bool {
+        matches!(touch, Touch::Already)
+    }
+}
+
+struct Marked;
+
+impl Wanted for Marked {
+    fn is(touch: Touch) -> bool {
+        matches!(touch, Touch::Marked)
+    }
+}
+
+struct Queued;
+
+impl Wanted for Queued {
+    fn is(touch: Touch) -> bool {
+        matches!(touch, Touch::Queued(_))
+    }
+}
+
+struct Full;
+
+impl Wanted for Full {
+    fn is(touch: Touch) -> bool {
+        matches!(touch, Touch::Dropped(Dropped::Full))
+    }
+}
+
+fn gets(store: &Store, worker: &mut Worker, items: &[ItemId], rounds: u32) -> Tally {
+    let mut refused: u64 = 0;
+    for _ in 0..rounds {
+        for &item in items {
+            match worker.get(store, item) {
+                Ok(hold) => hold.release(store),
+                Err(_) => refused = one_more(refused),
+            }
+        }
+    }
+    Tally { refused, right: 0, labels: 0 }
+}
+
+fn hits<W: Wanted>(store: &Store, worker: &mut Worker, items: &[ItemId], rounds: u32) -> Tally {
+    let mut refused: u64 = 0;
+    let mut right: u64 = 0;
+    let mut labels: u64 = 0;
+    for _ in 0..rounds {
+        for &item in items {
+            match worker.get(store, item) {
+                Ok(mut hold) => {
+                    let touch = worker.touch(store, &mut hold, 5);
+                    let label = hold.label(store);
+                    hold.release(store);
+                    if W::is(touch) {
+                        right = right.wrapping_add(1);
+                    }
+                    labels = labels.wrapping_add(label);
+                }
+                Err(_) => refused = one_more(refused),
+            }
+        }
+    }
+    Tally { refused, right, labels }
+}
+
+/// Its name is what callgrind is told to count.
+#[inline(never)]
+fn timed_pass(store: &Store, worker: &mut Worker, items: &[ItemId], rounds: u32, wanted: Option<Answer>) -> Tally {
+    match wanted {
+        Some(Answer::First) => hits::<First>(store, worker, items, rounds),
+        Some(Answer::Already) => hits::<Already>(store, worker, items, rounds),
+        Some(Answer::Marked) => hits::<Marked>(store, worker, items, rounds),
+        Some(Answer::Queued) => hits::<Queued>(store, worker, items, rounds),
+        Some(Answer::Full) => hits::<Full>(store, worker, items, rounds),
+        None => gets(store, worker, items, rounds),
+    }
+}
+
+#[derive(Clone, Copy)]
+struct Workload {
+    name: &'static str,
+    threads: u32,
+    items: u32,
+    cold: bool,
+    capacity: u32,
+    touches: u32,
+    wanted: Option<Answer>,
+    rounds: u32,
+}
+
+const GET: Workload = Workload {
+    name: "store_get",
+    threads: 1,
+    items: 1_024,
+    cold: false,
+    capacity: 1,
+    touches: 0,
+    wanted: None,
+    rounds: 64,
+};
+
+const HIT: Workload = Workload { name: "store_hit", touches: 2, wanted: Some(Answer::Already), ..GET };
+
+const FIRST: Workload = Workload { name: "store_first", items: 8_192, wanted: Some(Answer::First), rounds: 1, ..GET };
+
+const MARKED: Workload = Workload { name: "store_marked", touches: 1, wanted: Some(Answer::Marked), ..FIRST };
+
+const QUEUED: Workload = Workload {
+    name: "store_queued",
+    cold: true,
+    capacity: 8_192,
+    touches: 1,
+    wanted: Some(Answer::Queued),
+    ..FIRST
+};
+
+const FULL: Workload = Workload { name: "store_full", capacity: 1, wanted: Some(Answer::Full), ..QUEUED };
+
+/// Each on 1, 2 and 4 threads, and hits in stores of two sizes.
+fn workloads() -> Vec<Workload> {
+    let mut all = Vec::new();
+    for workload in [GET, HIT, FIRST, MARKED, QUEUED, FULL] {
+        for threads in [1, 2, 4] {
+            all.push(Workload { threads, ..workload });
+        }
+    }
+    all.push(Workload { name: "store_hit_1000", items: 1_000, rounds: 1_000, ..HIT });
+    all.push(Workload { name: "store_hit_1000000", items: 1_000_000, rounds: 1, ..HIT });
+    all
+}
+
+/// What one worker's thread does. It ends with the worker's ring.
+fn work(store: &Store, mut worker: Worker, mut receiver: Receiver, first: u32, workload: Workload, start: &Start) -> (u64, Tally) {
+    let items = lives(first, workload.items);
+    if workload.touches > 0 {
+        hits::<First>(store, &mut worker, &items, workload.touches);
+    }
+    start.meet();
+    let start = Instant::now();
+    let mut tally = timed_pass(store, &mut worker, &items, workload.rounds, workload.wanted);
+    let nanos = start.elapsed().as_nanos() as u64;
+    let counts = worker.counts();
+    assert_eq!(counts.attempted, counts.accepted + counts.full + counts.busy + counts.refs);
+    let mut bumps = 0;
+    while let Some((number, _)) = receiver.take() {
+        assert_eq!(number, bumps);
+        bumps += 1;
+    }
+    assert_eq!(counts.accepted, bumps);
+    tally.labels = tally.labels.wrapping_add(bumps);
+    (nanos, tally)
+}
+
+fn pass(workload: Workload) -> (u64, Tally) {
+    let Workload { threads, items, cold, capacity, .. } = workload;
+    let (store, workers, receivers) = Store::new(items * threads, cold, threads, capacity);
+    let ends = workers.into_iter().zip(receivers).zip(0..threads).collect();
+    work_apart(ends, |((worker, receiver), number), start| {
+        work(&store, worker, receiver, number * items, workload, start)
+    })
+}
+
+fn main() {
+    let measured = workloads().into_iter().map(|workload| Measured {
+        name: workload.name,
+        threads: workload.threads,
+        operations: workload.items as u64 * workload.rounds as u64,
+        pass: Box::new(move || pass(workload)),
+    });
+    measure_named(measured.collect());
+}

@@ -1,0 +1,172 @@
+-- What an application comes to on a Book and a lane.
+use Rattle.std.proofs.Common.{◌≡◌, ℕ, ◌&&◌, ◌==◌, not, Bool, true, false, List, Option, Some, IfSome, if◌then◌else◌, refl, sym, ap, ◌∙◌, subst, arith}
+use Rattle.bump_rules.specs.declared.bumps.Applied.{Applied}
+use Rattle.bump_rules.specs.declared.bumps.Bump.{Bump}
+use Rattle.bump_rules.specs.declared.bumps.Outcome.{Outcome}
+use Rattle.bump_rules.specs.declared.bumps.Outcome.TheVariants.{Moved, TimeOnly, Gone}
+use Rattle.bump_rules.specs.declared.items.Head.{Head}
+use Rattle.bump_rules.specs.declared.items.ItemId.{ItemId}
+use Rattle.bump_rules.specs.declared.places.Place.TheVariants.{Dying}
+use Rattle.atomic_table.specs.Seated.{TableId}
+use Rattle.bump_rules.specs.Entries.{is_unlink_of, is_move_for, moves_told}
+use Rattle.bump_rules.specs.History.{freed_change}
+use Rattle.bump_rules.specs.Lanes.{carried}
+use Rattle.bump_rules.specs.Lists.{Lists}
+use Rattle.bump_rules.specs.Lawful.{bit}
+use Rattle.bump_rules.specs.Tables.{is_cold, outcome_of, ended_of}
+use Rattle.bump_rules.specs.Totals.{how_many}
+use Rattle.bump_rules.proofs.Counted.{how_many_push}
+use Rattle.bump_rules.proofs.Laws.{dying_where_unlinked}
+use Rattle.bump_rules.proofs.ToldMoves.{no_move}
+use Rattle.bump_word.specs.Words.{word_of, Fits}
+use Rattle.bump_steps.specs.declared.views.ClassPart.{ClassPart}
+use Rattle.bump_steps.specs.declared.views.LanePart.{LanePart}
+use Rattle.bump_steps.specs.declared.views.Ride.{Ride}
+use Rattle.bump_steps.specs.Applications.{life_in}
+use Rattle.bump_steps.specs.Lives.{class_after_load, class_after_sweep, class_after_sweep_or_load}
+use Rattle.bump_steps.specs.Views.{owns, standing}
+use Rattle.bump_steps.proofs.Entering.{freed_quiet}
+use Rattle.bump_heads.specs.declared.views.ClassView.{ClassView}
+use Rattle.bump_heads.specs.Applying.{IsShown, FoundOfBump, NamesNoBumpTwice, TellsMoves, is_own}
+use Rattle.bump_class.specs.Applications.{FoundHeads, Updates, Applies, AppliesFront, with_time, with_clearing, book_after_update, answer_of}
+use Rattle.bump_class.specs.Books.{BookView}
+use Rattle.bump_class.specs.Lanes.{LaneView, carries, part_or}
+
+-- where the update table says Gone, the item isn't linked
+not_linked : (h a : Head) → Gone ≡ outcome_of h a → h.linked ≡ false
+not_linked h a is = by h.linked (is_cold h.segment && a.active) is
+  where
+    by : (x y : Bool) → Gone ≡ (if not x then Gone else (if y then Moved else TimeOnly)) → x ≡ false
+    by false y e = refl
+    by true true e = absurd (cc e)
+    by true false e = absurd (cc e)
+
+-- so its chunk is DYING
+pub gone_dies : (k : ClassPart) (b : Bump) (h a : Head) → FoundOfBump k b.life h → owns b.life.chunk k ≡ true
+    → Gone ≡ outcome_of h a → (standing k b.life.chunk).0 ≡ Dying
+gone_dies k b h a sight own is = let s = sight.stands own in
+    dying_where_unlinked h (standing k b.life.chunk).0 s.0 s.2 (not_linked h a is)
+
+-- What a look at a chunk of DYING leaves true of the class's history, whether or not it frees the chunk.
+module _ (k : ClassPart) (c : ℕ) (h : Head) where
+  -- no entry is lost
+  pub shown_behind : (l : LanePart) (b : Bump) → IsShown k l b Gone
+      → IsShown (class_after_sweep_or_load c h.refs (word_of h) k) l b Gone
+  shown_behind l b is = by (h.refs == 0)
+    where
+      by : (x : Bool)
+          → IsShown (if x then class_after_sweep c (word_of h) k else class_after_load c (word_of h) k) l b Gone
+      by true = omega (arith, is, how_many_push (is_unlink_of b.life) k.history (freed_change (life_in k c)))
+      by false = is
+
+  -- and no move is added
+  same_moves : (test : ItemId → Bool) (w n : ℕ)
+      → how_many (is_move_for test w n) (class_after_sweep_or_load c h.refs (word_of h) k).history
+      ≡ how_many (is_move_for test w n) k.history
+  same_moves test w n = by (h.refs == 0)
+    where
+      by : (x : Bool) → how_many (is_move_for test w n)
+          (if x then class_after_sweep c (word_of h) k else class_after_load c (word_of h) k).history
+          ≡ how_many (is_move_for test w n) k.history
+      by true = omega (
+        arith,
+        how_many_push (is_move_for test w n) k.history (freed_change (life_in k c)),
+        ap bit (no_move test w n (freed_change (life_in k c)) (freed_quiet (life_in k c))),
+      )
+      by false = refl
+
+  pub once_behind : NamesNoBumpTwice k → NamesNoBumpTwice (class_after_sweep_or_load c h.refs (word_of h) k)
+  once_behind once w n = omega (arith, same_moves (λ l. true) w n, once w n)
+
+  pub told_behind : (l : LanePart) → TellsMoves k l → TellsMoves (class_after_sweep_or_load c h.refs (word_of h) k) l
+  told_behind l told test n = by (h.refs == 0)
+    where
+      after : Bool → ClassPart
+      after x = if x then class_after_sweep c (word_of h) k else class_after_load c (word_of h) k
+
+      by : (x : Bool) → how_many (is_move_for test l.worker n) (after x).history
+          ≡ moves_told (is_own (after x) test) n l.applied l.stage
+      by true =
+          let same : how_many (is_move_for test l.worker n) (after true).history
+          ≡ how_many (is_move_for test l.worker n) k.history = omega (
+            arith,
+            how_many_push (is_move_for test l.worker n) k.history (freed_change (life_in k c)),
+            ap bit (no_move test l.worker n (freed_change (life_in k c)) (freed_quiet (life_in k c))),
+          ) in same ∙ told test n
+      by false = told test n
+
+-- What the update of seat and lane, and the change of the lists, come to together: on the Book and the lane of which
+-- they are parts, and on those that contracts see.
+module _ (v : ClassView) (lists : Lists) (hot warm : ℕ) (ring : TableId) (rs ks : List Ride) (o x : Option LanePart)
+    (b : Bump) (now : ℕ) (out : Outcome) (f : FoundHeads) (w : ClassView)
+    (u : Updates v (part_or o) b now out w (part_or x) f) (own : owns b.life.chunk v.part ≡ true) where
+  abbrev pub book : BookView
+  book = record { part = v.part; lists = lists; hot_limit = hot; warm_limit = warm }
+
+  abbrev pub this_lane : LaneView
+  this_lane = record { ring = ring; received = rs; known = ks; part = part_or o }
+
+  abbrev pub lane_left : LaneView
+  lane_left = record { ring = ring; received = rs; known = ks; part = part_or x }
+
+  pub applies : (behind : Head) (answer : Applied) (a : BookView) → Fits behind
+      → answer ≡ answer_of out (ended_of behind)
+      → a ≡ book_after_update out (part_or o).worker b now (record f { behind = behind }) book
+      → IsShown a.part (part_or x) b out
+      → Applies book this_lane b now out answer a lane_left (record f { behind = behind })
+  applies behind answer a fits answered is entry = record {
+    fit = record { tried = u.fit.tried; cleared = u.fit.cleared; moved = u.fit.moved; last = u.fit.last };
+    behind_fits = fits;
+    generation = u.sight.generation;
+    counted = u.sight.counted;
+    shows = (u.sight.stands own).0;
+    table = u.table;
+    answered = answered;
+    book_after = is;
+    lane_after = ap (λ (p : LanePart). record this_lane { part = p }) u.lane;
+    entry = entry;
+  }
+
+  pub fronts : (k : BookView) (l : LaneView) → book ≡ k → this_lane ≡ l → carried (part_or o).stage ≡ Some b
+      → (behind : Head) (answer : Applied) (a : BookView) → Fits behind
+      → answer ≡ answer_of out (ended_of behind)
+      → a ≡ book_after_update out (part_or o).worker b now (record f { behind = behind }) book
+      → IsShown a.part (part_or x) b out → AppliesFront now k l answer a lane_left
+  fronts k l books lanes aboard behind answer a fits answered is entry = (
+    b,
+    out,
+    record f { behind = behind },
+    ap (λ (y : LaneView). carries y) (sym lanes) ∙ aboard,
+    subst (λ (y : BookView). Applies y l b now out answer a lane_left (record f { behind = behind })) books
+        (subst (λ (y : LaneView). Applies book y b now out answer a lane_left (record f { behind = behind })) lanes
+        (applies behind answer a fits answered is entry)),
+  )
+
+-- the bump that a lane carries is of a chunk of the class, by what contracts see of both
+pub owned : (v k : BookView) (x l : LaneView) (b : Bump) → v ≡ k → x ≡ l → carries x ≡ Some b
+    → IfSome (carries l) (λ d. owns d.life.chunk k.part ≡ true) → owns b.life.chunk v.part ≡ true
+owned v k x l b books lanes is own = subst (λ (y : BookView). owns b.life.chunk y.part ≡ true) (sym books)
+    (subst (λ (o : Option Bump). IfSome o (λ d. owns d.life.chunk k.part ≡ true))
+    (ap (λ (y : LaneView). carries y) (sym lanes) ∙ is) own)
+
+-- which class it is, and which chunks it has
+abbrev pub IsSameClass : ClassPart → ClassPart → Type 0
+IsSameClass after before =
+    (after.class ≡ before.class) × (after.first ≡ before.first) × (after.count ≡ before.count)
+
+-- no application changes that
+pub same_class : (out : Outcome) (w : ℕ) (b : Bump) (now : ℕ) (f : FoundHeads) (k : BookView)
+    → IsSameClass (book_after_update out w b now f k).part k.part
+same_class Moved w b now f k = (refl, refl, refl)
+same_class TimeOnly w b now f k = by (is_cold f.tried.segment)
+  where
+    by : (x : Bool) → IsSameClass (if x then with_clearing w b f.cleared (with_time w b now k.part) else
+        with_time w b now k.part) k.part
+    by true = (refl, refl, refl)
+    by false = (refl, refl, refl)
+same_class Gone w b now f k = by (f.behind.refs == 0)
+  where
+    by : (x : Bool) → IsSameClass (if x then class_after_sweep b.life.chunk (word_of f.behind) k.part else
+        class_after_load b.life.chunk (word_of f.behind) k.part) k.part
+    by true = (refl, refl, refl)
+    by false = (refl, refl, refl)

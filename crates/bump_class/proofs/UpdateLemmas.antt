@@ -1,0 +1,132 @@
+-- An application on a class's seat: what its steps come to, by its outcome.
+use Rattle.std.proofs.Common.{◌≡◌, ◌≢◌, ℕ, ◌&&◌, not, Bool, true, false, Option, None, Some, IfSome, if◌then◌else◌, refl, sym, ap, ap₂, ◌∙◌, subst, arith}
+use Rattle.std.specs.Prelude.{option_map}
+use Rattle.bump_rules.specs.declared.bumps.Bump.{Bump}
+use Rattle.bump_rules.specs.declared.bumps.Outcome.{Outcome}
+use Rattle.bump_rules.specs.declared.bumps.Outcome.TheVariants.{Moved, TimeOnly, Gone}
+use Rattle.bump_rules.specs.declared.items.Head.{Head}
+use Rattle.bump_rules.specs.declared.lanes.Lane.{Lane}
+use Rattle.bump_rules.specs.declared.lanes.Lane.TheVariants as lane
+use Rattle.bump_rules.specs.declared.places.Segment.{Segment}
+use Rattle.bump_rules.specs.declared.places.Segment.TheVariants.{Hot, Warm, Cold}
+use Rattle.bump_rules.specs.Lanes.{carried}
+use Rattle.bump_rules.specs.Tables.{is_cold, outcome_of}
+use Rattle.bump_rules.proofs.Counted.{how_many_push}
+use Rattle.bump_word.specs.Words.{word_of}
+use Rattle.bump_steps.specs.declared.views.ClassPart.{ClassPart}
+use Rattle.bump_steps.specs.declared.views.Kind.TheVariants as kind
+use Rattle.bump_steps.specs.declared.views.LanePart.{LanePart}
+use Rattle.bump_steps.specs.Views.{bump_aboard, shows_time_only}
+use Rattle.bump_steps.specs.Plays.{step_of}
+use Rattle.bump_steps.specs.Applications.{for_bump, lane_after_alight}
+use Rattle.bump_heads.specs.declared.views.ClassView.{ClassView}
+use Rattle.bump_heads.specs.Applying.{carried_by, life_aboard, IsShown, FoundOfBump, NamesNoBumpTwice, TellsMoves}
+use Rattle.bump_class.specs.Lanes.{part_or}
+use Rattle.bump_class.specs.Applications.{FoundHeads, AllFit, Updates, class_after_update, lane_after_update}
+
+-- a lane that carries this bump
+pub carrying_it : (o : Option LanePart) (b : Bump) → carried_by o ≡ Some b → (l : LanePart)
+    × (o ≡ Some (record l { stage = lane.Carrying b }))
+carrying_it None b is = absurd (cc is)
+carrying_it (Some l) b is = by l.stage refl is
+  where
+    by : (s : Lane) → l.stage ≡ s → carried s ≡ Some b → (m : LanePart)
+        × (Some l ≡ Some (record m { stage = lane.Carrying b }))
+    by lane.Empty at is = absurd (cc is)
+    by (lane.Carrying d) at is = let e : d ≡ b = cc is in
+        (l, ap (λ (s : Lane). Some (record l { stage = s })) (at ∙ ap (λ (x : Bump). lane.Carrying x) e))
+    by (lane.Tried d) at is = absurd (cc is)
+    by (lane.Cleared d f) at is = absurd (cc is)
+    by (lane.Moved d) at is = absurd (cc is)
+
+-- a segment that isn't COLD
+pub not_cold : (s : Segment) → s ≢ Cold → is_cold s ≡ false
+not_cold Hot other = refl
+not_cold Warm other = refl
+not_cold Cold other = absurd (other refl)
+
+-- ---- the update table, by what was found
+
+pub gone_by : (h a : Head) → h.linked ≡ false → outcome_of h a ≡ Gone
+gone_by h a off = ap (λ (x : Bool). if not x then Gone else (if is_cold h.segment && a.active then Moved else TimeOnly))
+    off
+
+pub elsewhere_by : (h a : Head) → h.linked ≡ true → is_cold h.segment ≡ false → outcome_of h a ≡ TimeOnly
+elsewhere_by h a on other =
+    ap₂ (λ (x y : Bool). if not x then Gone else (if y && a.active then Moved else TimeOnly)) on other
+
+pub clear_by : (h a : Head) → h.linked ≡ true → is_cold h.segment ≡ true → a.active ≡ false
+    → outcome_of h a ≡ TimeOnly
+clear_by h a on cold off =
+    ap₂ (λ (x y : Bool). if not x then Gone else (if y && a.active then Moved else TimeOnly)) on cold
+    ∙ ap (λ (x : Bool). if x then Moved else TimeOnly) off
+
+pub moved_by : (h a : Head) → h.linked ≡ true → is_cold h.segment ≡ true → a.active ≡ true → outcome_of h a ≡ Moved
+moved_by h a on cold off =
+    ap₂ (λ (x y : Bool). if not x then Gone else (if y && a.active then Moved else TimeOnly)) on cold
+    ∙ ap (λ (x : Bool). if x then Moved else TimeOnly) off
+
+-- an entry that is shown stays so when the lane's last step is noted
+shown_on : (k : ClassPart) (l : LanePart) (b : Bump) (o : Outcome) (c n : ℕ) → IsShown k l b o
+    → IsShown k (lane_after_alight o c n l) b o
+shown_on k l b Moved c n is = is
+shown_on k l b Gone c n is = is
+shown_on k l b TimeOnly c n is = omega (
+  arith,
+  is,
+  how_many_push (shows_time_only l.worker b.number b.life.chunk) l.steps (step_of kind.Alight c n (for_bump l)),
+)
+
+-- What the class's seat and the lane are once the bump has alighted, by what they were just before.
+module _ (v : ClassView) (o : Option LanePart) (l : LanePart) (b : Bump) (now : ℕ) (alone : v.lane ≡ None)
+    (carries : o ≡ Some (record l { stage = lane.Carrying b })) (out : Outcome) (f : FoundHeads) (fit : AllFit f)
+    (sight : FoundOfBump v.part (life_aboard o) f.tried) (table : out ≡ outcome_of f.tried f.cleared)
+    (w a : ClassView) (x : Option LanePart) (p : ClassPart) (m : LanePart)
+    (is : w ≡ record { part = p; lane = Some m })
+    (part : p ≡ class_after_update out l.worker b now f v.part) (aboard : bump_aboard m.stage ≡ Some b)
+    (same : lane_after_alight out b.life.chunk (word_of f.last) m ≡ lane_after_update out b f
+    (record l { stage = lane.Carrying b })) (came : Outcome) (came_is : came ≡ out)
+    (class : a ≡ record w { lane = None })
+    (left : x ≡ option_map (lane_after_alight came (life_aboard w.lane).chunk (word_of f.last)) w.lane)
+    (entry : IfSome w.lane (λ y. IfSome (bump_aboard y.stage) (λ d. IsShown a.part y d came)))
+    (once : NamesNoBumpTwice a.part) (told : IfSome x (TellsMoves a.part)) where
+  abbrev lane_left : LanePart
+  lane_left = lane_after_update out b f (record l { stage = lane.Carrying b })
+
+  life_is : (life_aboard w.lane).chunk ≡ b.life.chunk
+  life_is = ap (λ (y : ClassView). (life_aboard y.lane).chunk) is
+      ∙ ap (λ (d : Option Bump). (Rattle.bump_heads.specs.Applying.life_of d).chunk) aboard
+
+  left_is : x ≡ Some lane_left
+  left_is = left
+      ∙ (λ i. option_map (lane_after_alight (came_is i) (life_is i) (word_of f.last)) ((is i).lane))
+      ∙ ap (λ (y : LanePart). Some y) same
+
+  entry_is : IsShown a.part lane_left b out
+  entry_is = subst (λ (y : LanePart). IsShown a.part y b out) same (shown_on a.part m b out b.life.chunk
+      (word_of f.last) (subst (λ (d : Option Bump). IfSome d (λ e. IsShown a.part m e out)) aboard
+      (subst (λ (y : ClassView). IfSome y.lane (λ z. IfSome (bump_aboard z.stage) (λ d. IsShown a.part z d out))) is
+      (subst (λ (u : Outcome). IfSome w.lane (λ z. IfSome (bump_aboard z.stage) (λ d. IsShown a.part z d u))) came_is
+      entry))))
+
+  told_is : TellsMoves a.part lane_left
+  told_is = subst (λ (y : Option LanePart). IfSome y (TellsMoves a.part)) left_is told
+
+  pub updates : (x ≡ Some (part_or x)) × Updates v (part_or o) b now came a (part_or x) f
+  updates = (
+    left_is ∙ sym (ap (λ (y : Option LanePart). Some (part_or y)) left_is),
+    subst (λ (y : Option LanePart). Updates v (part_or y) b now came a (part_or x) f) (sym carries)
+        (subst (λ (y : Option LanePart). Updates v (record l { stage = lane.Carrying b }) b now came a (part_or y) f)
+        (sym left_is) (subst (λ (u : Outcome). Updates v (record l { stage = lane.Carrying b }) b now u a lane_left f)
+        (sym came_is) (record {
+          fit = fit;
+          sight = subst (λ (y : Option LanePart). FoundOfBump v.part (life_aboard y) f.tried) carries sight;
+          table = table;
+          class = class ∙ ap (λ (y : ClassView). record y { lane = None }) is
+              ∙ (λ i. record { part = part i; lane = sym alone i });
+          lane = refl;
+          entry = entry_is;
+          once = once;
+          told = told_is;
+        }))),
+  )

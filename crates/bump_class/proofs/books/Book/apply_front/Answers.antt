@@ -1,0 +1,174 @@
+use Rattle.std.proofs.Common.{refl, sym, ap, ◌∙◌, subst, arith}
+use Rattle.bump_rules.specs.declared.bumps.Applied.TheVariants as applied
+use Rattle.bump_rules.specs.declared.bumps.Outcome.TheVariants.{Moved, TimeOnly, Gone}
+use Rattle.bump_rules.specs.declared.history.Cause.TheVariants as cause
+use Rattle.bump_rules.specs.declared.history.Change.TheVariants as change
+use Rattle.bump_rules.specs.declared.places.Segment.TheVariants.{Warm, Cold}
+use Rattle.bump_heads.specs.declared.views.ClassView.{ClassView}
+use Rattle.bump_heads.specs.Applying.{IsShown, NamesNoBumpTwice, TellsMoves}
+use Rattle.bump_heads.specs.Linking.{place_of_chunk}
+use Rattle.bump_steps.specs.declared.views.LanePart.{LanePart}
+use Rattle.bump_class.specs.Books.{BookView}
+use Rattle.bump_class.specs.Changes.{book_after_sweep_or_load}
+use Rattle.bump_class.specs.Lanes.{part_or}
+use Rattle.bump_class.proofs.Keeping.{listed, entered}
+use Rattle.bump_class.proofs.LaneLemmas.{few_aboard, applied_keeps, carried_part, each_told}
+use Rattle.bump_class.proofs.ApplicationLemmas.{gone_dies, shown_behind, once_behind, told_behind, fronts, owned, IsSameClass, same_class}
+use Rattle.bump_class.proofs.books.Book.apply_front.Goals as goal
+use Rattle.bump_class.proofs.books.Book.apply_front.Goals.{in-Moved, in-TimeOnly, in-Gone}
+
+pub overflow_add-lane : goal.overflow_add-lane
+overflow_add-lane g c =
+    let y = c.lane.inside in
+    omega (
+      arith,
+      few_aboard y.seat y.applied y.receiver.received c.in-Some.bump c.lane.invariant
+          (sym c.aboard.ensures.carried ∙ c.in-Some.is),
+    )
+
+pub to_front-requires : goal.to_front-requires
+to_front-requires g c =
+    let i = c.self.inside in
+    let y = c.lane.inside in
+    let b = c.in-Some.bump in
+    let k : BookView = record {
+      part = i.seat.part;
+      lists = i.lists;
+      hot_limit = i.hot_limit;
+      warm_limit = i.warm_limit;
+    } in
+    let carried = carried_part y.seat b (sym c.aboard.ensures.carried ∙ c.in-Some.is) in
+    listed k b.life.chunk c.self.invariant.3 (owned k c.args.self.now _ c.args.lane.now b c.self.view_is
+    c.lane.view_is carried c.requires.own)
+
+pub invariant_of-self : goal.invariant_of-self
+invariant_of-self g c =
+    let i = c.self.inside in
+    let y = c.lane.inside in
+    let b = c.in-Some.bump in
+    let k : BookView = record {
+      part = i.seat.part;
+      lists = i.lists;
+      hot_limit = i.hot_limit;
+      warm_limit = i.warm_limit;
+    } in
+    let carried = carried_part y.seat b (sym c.aboard.ensures.carried ∙ c.in-Some.is) in
+    let own = owned k c.args.self.now _ c.args.lane.now b c.self.view_is c.lane.view_is carried c.requires.own in
+    let e = change.Moved b.life Cold Warm (cause.Bump (part_or y.seat).worker b.number) in
+    entered i.seat c.update-outcome.new.class i.first i.end i.hot_limit i.warm_limit i.lists c.to_front.new.self e _ _
+    c.self.invariant c.in-Moved.ensures.updates.1.class c.to_front.ensures own refl
+
+pub seen_unheld-requires-clause-dying : goal.seen_unheld-requires-clause-dying
+seen_unheld-requires-clause-dying g c =
+    let i = c.self.inside in
+    let y = c.lane.inside in
+    let b = c.in-Some.bump in
+    let u = c.in-Gone.ensures.updates in
+    let k : BookView = record {
+      part = i.seat.part;
+      lists = i.lists;
+      hot_limit = i.hot_limit;
+      warm_limit = i.warm_limit;
+    } in
+    let carried = carried_part y.seat b (sym c.aboard.ensures.carried ∙ c.in-Some.is) in
+    let own = owned k c.args.self.now _ c.args.lane.now b c.self.view_is c.lane.view_is carried c.requires.own in
+    ap (λ x. place_of_chunk x.part b.life.chunk) u.1.class
+    ∙ gone_dies i.seat.part b u.0.tried u.0.cleared u.1.sight own u.1.table
+
+pub invariant_of-lane : goal.invariant_of-lane
+invariant_of-lane g c =
+    let y = c.lane.inside in
+    let u = c.update-outcome.ensures.updates in
+    applied_keeps y.seat c.update-outcome.new.lane y.applied y.receiver.received c.in-Some.bump
+    c.update-outcome.result u.0 c.lane.invariant (sym c.aboard.ensures.carried ∙ c.in-Some.is)
+    c.update-outcome.ensures.whole u.1.lane
+
+pub returns-clause-applied : goal.returns-clause-applied
+returns-clause-applied g c =
+    let i = c.self.inside in
+    let y = c.lane.inside in
+    let b = c.in-Some.bump in
+    let m = c.match-outcome in
+    let x = c.update-outcome.new.lane in
+    let after = c.update-outcome.new.class in
+    let old = c.args.self.now in
+    let from = c.args.lane.now in
+    let k : BookView = record {
+      part = i.seat.part;
+      lists = i.lists;
+      hot_limit = i.hot_limit;
+      warm_limit = i.warm_limit;
+    } in
+    let carried = carried_part y.seat b (sym c.aboard.ensures.carried ∙ c.in-Some.is) in
+    let own = owned k old _ from b c.self.view_is c.lane.view_is carried c.requires.own in
+    let made = fronts i.seat i.lists i.hot_limit i.warm_limit y.receiver.ring y.receiver.received y.receiver.known
+    y.seat x b c.args.now in
+    elim c.match-outcome.branch [
+      | in-Moved w ↦ let u = w.in-Moved.ensures.updates in
+          made Moved u.0 after u.1 own old from c.self.view_is c.lane.view_is carried u.0.tried m.result m.self
+          u.1.fit.tried w.result-is (w.self-is ∙ (λ j. record {
+            part = (u.1.class j).part;
+            lists = w.to_front.ensures j;
+            hot_limit = i.hot_limit;
+            warm_limit = i.warm_limit;
+          })) (subst (λ (z : BookView). IsShown z.part (part_or x) b Moved) (sym w.self-is) u.1.entry)
+      | in-TimeOnly w ↦ let u = w.in-TimeOnly.ensures.updates in
+          made TimeOnly u.0 after u.1 own old from c.self.view_is c.lane.view_is carried u.0.tried m.result m.self
+          u.1.fit.tried w.result-is (w.self-is ∙ ap (λ (z : ClassView). record {
+            part = z.part;
+            lists = i.lists;
+            hot_limit = i.hot_limit;
+            warm_limit = i.warm_limit;
+          }) u.1.class) (subst (λ (z : BookView). IsShown z.part (part_or x) b TimeOnly) (sym w.self-is) u.1.entry)
+      | in-Gone w ↦ let u = w.in-Gone.ensures.updates in
+          let h = w.seen_unheld.result in
+          let left = w.self-is ∙ w.seen_unheld.ensures.seen in
+          made Gone u.0 after u.1 own old from c.self.view_is c.lane.view_is carried h m.result m.self
+          w.seen_unheld.ensures.fits (w.result-is ∙ ap (λ e. applied.Gone e) w.ended.ensures)
+          (left ∙ ap (λ (z : ClassView). book_after_sweep_or_load b.life.chunk h (record {
+            part = z.part;
+            lists = i.lists;
+            hot_limit = i.hot_limit;
+            warm_limit = i.warm_limit;
+          })) u.1.class) (subst (λ (z : BookView). IsShown z.part (part_or x) b Gone) (sym left)
+          (shown_behind after.part b.life.chunk h (part_or x) b u.1.entry))
+    ]
+
+pub returns-clause-class : goal.returns-clause-class
+returns-clause-class g c =
+    let all = returns-clause-applied g c in
+    subst (λ (z : BookView). IsSameClass z.part c.args.self.now.part) (sym all.4.book_after)
+    (same_class all.1 c.args.lane.now.part.worker all.0 c.args.now all.2 c.args.self.now)
+
+pub returns-clause-once : goal.returns-clause-once
+returns-clause-once g c =
+    let after = c.update-outcome.new.class in
+    elim c.match-outcome.branch [
+      | in-Moved w ↦ subst (λ (z : BookView). NamesNoBumpTwice z.part) (sym w.self-is)
+          w.in-Moved.ensures.updates.1.once
+      | in-TimeOnly w ↦ subst (λ (z : BookView). NamesNoBumpTwice z.part) (sym w.self-is)
+          w.in-TimeOnly.ensures.updates.1.once
+      | in-Gone w ↦ subst (λ (z : BookView). NamesNoBumpTwice z.part) (sym (w.self-is ∙ w.seen_unheld.ensures.seen))
+          (once_behind after.part c.in-Some.bump.life.chunk w.seen_unheld.result w.in-Gone.ensures.updates.1.once)
+    ]
+
+pub returns-clause-told : goal.returns-clause-told
+returns-clause-told g c =
+    let y = c.lane.inside in
+    let x = c.update-outcome.new.lane in
+    let after = c.update-outcome.new.class in
+    let m = c.match-outcome in
+    let b = c.in-Some.bump in
+    let u = c.update-outcome.ensures.updates in
+    let keeps = applied_keeps y.seat x y.applied y.receiver.received b c.update-outcome.result u.0 c.lane.invariant
+    (sym c.aboard.ensures.carried ∙ c.in-Some.is) c.update-outcome.ensures.whole u.1.lane in
+    let tells : TellsMoves m.self.part (part_or x) = elim c.match-outcome.branch [
+      | in-Moved w ↦ subst (λ (z : BookView). TellsMoves z.part (part_or x)) (sym w.self-is)
+          w.in-Moved.ensures.updates.1.told
+      | in-TimeOnly w ↦ subst (λ (z : BookView). TellsMoves z.part (part_or x)) (sym w.self-is)
+          w.in-TimeOnly.ensures.updates.1.told
+      | in-Gone w ↦ subst (λ (z : BookView). TellsMoves z.part (part_or x))
+          (sym (w.self-is ∙ w.seen_unheld.ensures.seen))
+          (told_behind after.part b.life.chunk w.seen_unheld.result (part_or x) w.in-Gone.ensures.updates.1.told)
+    ] in
+    each_told m.self.part (part_or x) y.receiver.received keeps.lane (ap (λ (p : LanePart). p.stage) u.1.lane) tells

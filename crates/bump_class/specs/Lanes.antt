@@ -1,0 +1,74 @@
+-- What contracts see of a lane: the ring that it drains, and its part. And what every lane keeps.
+use Rattle.std.specs.Prelude.{◌≡◌, ℕ, ◌<◌, ◌++◌, List, [], ◌∷◌, length, map, Option, Some, None, IfSome, false}
+use Rattle.atomic_table.specs.Seated.{TableId}
+use Rattle.bump_rules.specs.declared.bumps.AppliedBump.{AppliedBump}
+use Rattle.bump_rules.specs.declared.bumps.Bump.{Bump}
+use Rattle.bump_rules.specs.declared.items.ItemId.{ItemId}
+use Rattle.bump_rules.specs.Lanes.{carried, is_half_made}
+use Rattle.bump_rules.specs.Rings.{aboard, bump_applied, numbered_from, most_attempts}
+use Rattle.bump_steps.specs.declared.views.LanePart.{LanePart}
+use Rattle.bump_steps.specs.declared.views.Ride.{Ride}
+use Rattle.bump_steps.specs.Riders.{lane_after_board, bump_of_ride}
+use Rattle.bump_heads.specs.Seats.{no_lane}
+
+-- What contracts see of a lane.
+pub record LaneView : Type 0 where
+  -- which ring it drains
+  pub ring : TableId
+  -- the bumps that were taken from the ring, in order
+  pub received : List Ride
+  -- the bumps that the next takes give, in order, as far as they are known
+  pub known : List Ride
+  -- what its seat knows
+  pub part : LanePart
+
+-- the bump that it carries, if any
+abbrev pub carries : LaneView → Option Bump
+carries lane = carried lane.part.stage
+
+-- the bumps that it applied, in order
+abbrev pub entries : LaneView → List AppliedBump
+entries lane = lane.part.applied
+
+-- the lives of bumps, in order
+abbrev pub lives : List Ride → List ItemId
+lives rides = map (λ ride. ride.life) rides
+
+-- What every lane keeps, as each lane of a World does.
+pub record IsLane (part : LanePart) (received : List Ride) : Type 0 where
+  -- what was applied, followed by the bump aboard, is what was received, and the numbers are 0, 1, 2 and so on
+  pub in_order : map bump_applied part.applied ++ aboard part.stage ≡ numbered_from 0 (lives received)
+  -- no bump is half applied
+  pub at_rest : is_half_made part.stage ≡ false
+
+-- the part of a lane's seat that is whole
+abbrev pub part_or : Option LanePart → LanePart
+part_or None = no_lane
+part_or (Some this_lane) = this_lane
+
+-- What the type of a lane keeps, by what its seat knows, its count and what it received.
+pub record KeepsLane (seat : Option LanePart) (count : ℕ) (received : List Ride) : Type 0 where
+  -- its seat is whole
+  pub whole : seat ≡ Some (part_or seat)
+  -- its count is that of the bumps that it applied
+  pub counted : count ≡ length (part_or seat).applied
+  pub lane : IsLane (part_or seat) received
+  -- and one more has a number too
+  pub few : IfSome (carried (part_or seat).stage) (λ bump. count < most_attempts)
+
+-- a lane whose bumps wait in this ring, with nothing aboard
+abbrev pub new_lane : TableId → List Ride → LanePart → LaneView
+new_lane ring known part = record { ring = ring; received = []; known = known; part = part }
+
+-- What it means that the next bump goes aboard.
+pub record Boards (before : LaneView) (bump : Bump) (after : LaneView) (ride : Ride) : Type 0 where
+  -- it is the next that was taken, and has the next number
+  pub bump_taken : bump ≡ bump_of_ride ride
+  pub number : bump.number ≡ length before.received
+  -- where bumps were known, it is the first of them
+  pub first_known : 0 < length before.known → before.known ≡ ride ∷ after.known
+  pub lane : after ≡ record before {
+    received = before.received ++ ride ∷ [];
+    known = after.known;
+    part = lane_after_board bump before.part;
+  }

@@ -1,0 +1,81 @@
+//! The bump aboard a lane is applied.
+ghost use Rattle.std.specs.Prelude.{◌≡◌, ◌+◌, length, None, Some, IsSome, IfSome, true};
+ghost use Rattle.bump_steps.specs.Views.{owns};
+ghost use Rattle.bump_heads.specs.Applying.{carried_by, NamesNoBumpTwice};
+ghost use Rattle.bump_class.specs.Applications.{FoundHeads as TheFoundHeads, Updates, AppliesFront, EachMoveIsTold};
+ghost use Rattle.bump_class.specs.Lanes.{carries, entries, part_or};
+
+use crate::books::Book;
+use crate::lanes::RawLane;
+use bump_heads::{ClassSeat, LaneSeat, Name};
+use bump_rules::{Applied, Bump, Outcome, Place, Segment};
+
+// Applies the bump aboard the lane on its item's words: one look; then, where the item is linked, its time is stored;
+// in COLD, ACTIVE is cleared, and where it was set the segment is changed; last the bump's reference is given back.
+fn update<N: Name>(
+    class: &mut ClassSeat<N>,
+    lane: &mut LaneSeat<N>,
+    bump: Bump,
+    now: u64,
+) -> Outcome
+    requires alone { class.old.lane ≡ None }
+    requires own { owns bump.life.chunk class.old.part ≡ true }
+    requires carries { carried_by lane.old ≡ Some bump }
+    ensures whole { lane.new ≡ Some (part_or lane.new) }
+    ensures updates { (found : TheFoundHeads) × Updates class.old (part_or lane.old) bump now result class.new (part_or lane.new) found }
+{
+    let chunk = bump.life.chunk;
+    let tried = class.try_front(lane);
+    if !tried.linked {
+        return class.alight(lane).0;
+    }
+    class.put_time(chunk, now);
+    if !matches!(tried.segment, Segment::Cold) {
+        return class.alight(lane).0;
+    }
+    let cleared = class.clear_active(chunk);
+    if !cleared.active {
+        return class.alight(lane).0;
+    }
+    class.change_segment(chunk, Segment::Cold, Segment::Warm);
+    class.alight(lane).0
+}
+
+impl<N: Name> Book<N> {
+    /// Applies the bump aboard the lane, whose chunk is of this class (memcached's `do_item_bump` and
+    /// `do_item_update`), and gives its reference back. `now` is the item's new time. By the head that one look finds,
+    /// and in COLD by the one that the clearing of ACTIVE finds, it answers
+    /// 1. Gone, where the item isn't linked: nothing is stored. One more look finds whether its chunk is free now.
+    /// 2. Moved, where it is linked in COLD and ACTIVE was set: its time is stored, and it goes to the front of WARM.
+    /// 3. TimeOnly, where it is linked, and not that: its time is stored, and it stays where it is.
+    pub fn apply_front(&mut self, lane: &mut RawLane<N>, now: u64) -> Applied
+        requires carries { IsSome (carries lane.old) }
+        requires own { IfSome (carries lane.old) (λ bump. owns bump.life.chunk self.old.part ≡ true) }
+        ensures applied { AppliesFront now self.old lane.old result self.new lane.new }
+        ensures ring { lane.new.ring ≡ lane.old.ring }
+        ensures known { lane.new.known ≡ lane.old.known }
+        ensures empty { carries lane.new ≡ None }
+        ensures count { length (entries lane.new) ≡ length (entries lane.old) + 1 }
+        ensures class { (self.new.part.class ≡ self.old.part.class) × (self.new.part.first ≡ self.old.part.first) × (self.new.part.count ≡ self.old.part.count) }
+
+        // No bump is named twice by the class's history, and each move that it has for a bump of the lane's worker is
+        // this lane's entry.
+        ensures once { NamesNoBumpTwice self.new.part }
+        ensures told { EachMoveIsTold self.new.part lane.new.part }
+    {
+        let Some(bump) = lane.seat.aboard() else {
+            unreachable!()
+        };
+        let chunk = bump.life.chunk;
+        let outcome = update(&mut self.seat, &mut lane.seat, bump, now);
+        lane.applied += 1;
+        match outcome {
+            Outcome::Moved => {
+                self.lists.to_front(chunk, Place::Warm);
+                Applied::Moved
+            }
+            Outcome::TimeOnly => Applied::TimeOnly,
+            Outcome::Gone => Applied::Gone(self.seen_unheld(chunk).ended()),
+        }
+    }
+}

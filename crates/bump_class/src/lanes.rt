@@ -1,0 +1,101 @@
+//! A lane: the receiving end of a worker's ring, and the seat that applies what comes.
+ghost use Rattle.std.specs.Prelude.{◌≡◌, length, [], ◌++◌, None, IsSome, IfSome, IfNone, false};
+ghost use Rattle.bump_rules.specs.declared.lanes.Lane.TheVariants.{Empty as IsEmpty};
+ghost use Rattle.bump_steps.specs.declared.views.Ride.{Ride as TheRide};
+ghost use Rattle.bump_steps.specs.Riders.{applied_by};
+ghost use Rattle.bump_heads.specs.Applying.{stage_of};
+ghost use Rattle.bump_class.specs.Lanes.{LaneView as TheLaneView, carries, entries, part_or, IsLane, KeepsLane, new_lane, Boards};
+
+use bump_heads::{LaneSeat, Name};
+use bump_ring::{ClosedSender, Receiver};
+use bump_rules::Bump;
+use std::marker::Model;
+use std::sync::Wait;
+
+/// The lane of a worker's ring: it takes the ring's bumps in order, and each is applied by the Book of its chunk's
+/// class (memcached's `lru_bump_async` buffer of a worker, as `lru_maintainer_bumps` drains it).
+#[derive(Drop)]
+pub struct RawLane<N: Name> {
+    receiver: Receiver<N>,
+    pub(crate) seat: LaneSeat<N>,
+    pub(crate) applied: u64,
+}
+
+impl<N: Name> Model for RawLane<N> {
+    ghost Value = { TheLaneView };
+
+    ghost view = { λ l. record { ring = l.receiver.ring; received = l.receiver.received; known = l.receiver.known; part = part_or l.seat } };
+
+    ghost invariant = { λ l. KeepsLane l.seat l.applied l.receiver.received };
+}
+
+impl<N: Name> RawLane<N> {
+    /// A lane, by the receiving end of a ring and the seat of a worker's lane. Nothing was taken from the ring, and
+    /// nothing boarded the seat.
+    pub fn new(receiver: Receiver<N>, seat: LaneSeat<N>) -> RawLane<N>
+        requires untaken { receiver.received ≡ [] }
+        requires whole { IsSome seat }
+        requires empty { stage_of seat ≡ IsEmpty }
+        requires fresh { applied_by seat ≡ [] }
+        ensures { result ≡ new_lane receiver.ring receiver.known (part_or seat) }
+    {
+        RawLane {
+            receiver,
+            seat,
+            applied: 0,
+        }
+    }
+
+    /// What every lane keeps: what it applied, followed by the bump aboard, is what it received, with the numbers 0,
+    /// 1, 2 and so on; and no bump is half applied.
+    pub fn promise(&self)
+        ensures { IsLane self.now.part self.now.received }
+    {
+        let _applied = &self.applied;
+    }
+
+    /// How many bumps it applied.
+    pub fn applied(&self) -> u64
+        ensures { result ≡ length (entries self.now) }
+    {
+        self.applied
+    }
+
+    /// Takes the next bump out of the ring and aboard, where none is aboard, and tells the one aboard. It answers
+    /// None only where none is aboard or known, and nothing is changed then.
+    pub fn fetch<R: Wait>(&mut self, rt: &R) -> Option<Bump>
+        ensures ring { self.new.ring ≡ self.old.ring }
+        ensures entries { entries self.new ≡ entries self.old }
+        ensures aboard { carries self.new ≡ result }
+        ensures kept { IsSome (carries self.old) → self.new ≡ self.old }
+        ensures next { IfSome result (λ bump. carries self.old ≡ None → (ride : TheRide) × Boards self.old bump self.new ride) }
+        ensures none { IfNone result (self.old.known ≡ []) }
+        ensures unchanged { IfNone result (self.new ≡ self.old) }
+    {
+        if let Some(bump) = self.seat.aboard() {
+            return Some(bump);
+        }
+        let rider = self.receiver.take(rt)?;
+        let bump = Bump {
+            number: rider.number(),
+            life: rider.life(),
+        };
+        self.seat.board(rider);
+        Some(bump)
+    }
+
+    /// How many bumps are left in the ring, by the closed sender of this ring: all of them are known from then on, and
+    /// no other will come. The bump aboard isn't counted. It may be asked again. Where the closed sender can't show
+    /// the ring's end, it answers None, and nothing is changed.
+    pub fn rest(&mut self, closed: &mut ClosedSender<N>) -> Option<u64>
+        requires ring { closed.old.ring ≡ self.old.ring }
+        ensures closed { closed.new ≡ closed.old }
+        ensures lane { self.new ≡ record self.old { known = self.new.known } }
+        ensures number { IfSome result (λ left. left ≡ length self.new.known) }
+        ensures rest { IfSome result (λ left. closed.old.sent ≡ self.new.received ++ self.new.known) }
+        ensures none { IfNone result (closed.old.shows_end ≡ false) }
+        ensures unchanged { IfNone result (self.new ≡ self.old) }
+    {
+        self.receiver.rest(closed)
+    }
+}

@@ -1,0 +1,109 @@
+//! Measures what a worker's calls of `bump_store` cost. It prints only when it is given a word: the name of a workload, or `all`. Behind it may stand how many
+//! passes are wanted, and then of how many threads.
+#![tactic(auto)]
+
+ghost use Rattle.std.specs.Prelude.{◌≡◌, ◌<◌, ◌≤◌, [], ◌∷◌};
+
+mod jobs;
+mod passes;
+mod workloads;
+
+use bump_class::Book;
+use bump_heads::{Blank, Name};
+use bump_rules::{ClassConfig, Config, MAX_CHUNKS, Tail};
+use jobs::{readers_of, work_apart};
+use measuring::{Asked, Line, Spent, Store, config_of, link_all, open};
+use std::alloc::{AllocError, Global};
+use std::marker::Brand;
+use std::rt::Clock;
+use std::sync::Wait;
+use std::thread::Threads;
+use std::{env, io};
+use workloads::{Workload, workloads};
+
+// Links an item in each chunk, and pulls all of them to COLD, if that is wanted: the limit of HOT is 0.
+fn fill<N: Name>(book: &mut Book<N>, workload: Workload) {
+    link_all(book, workload.chunks);
+    if workload.cold {
+        for _chunk in 0..workload.chunks {
+            book.pull(Tail::Hot);
+        }
+    }
+}
+
+// Opens a store under a name, and passes through it once. Answers the mean of the threads, and what all of them counted.
+fn pass_in<N: Name + Send + Sync, R: Threads + Clock + Wait + Sync>(
+    rt: &R,
+    alloc: Global,
+    blank: Blank,
+    config: &Config,
+    class: ClassConfig,
+    workload: Workload,
+) -> io::Result<Spent>
+    requires name { blank.table ≡ N.table }
+    requires config { blank.config ≡ config.now }
+    requires one { config.now.classes ≡ class ∷ [] }
+    requires some { 1 ≤ class.chunks }
+    requires few { class.chunks ≤ 1000000 }
+    requires room { 0 < workload.capacity }
+{
+    let Store {
+        heads,
+        mut book,
+        workers,
+    } = open::<N>(alloc, blank, config, class, workload.capacity)?;
+    fill(&mut book, workload);
+    let readers = readers_of(alloc, workers, workload)?;
+    let mut all = Spent::NONE;
+    for spent in work_apart(rt, alloc, &heads, readers, workload)? {
+        all = all.with_one_of(workload.threads, spent.ok_or(AllocError)?);
+    }
+    Ok(all)
+}
+
+// Opens a store, and picks its name.
+fn pass<R: Threads + Clock + Wait + Sync>(
+    rt: &R,
+    alloc: Global,
+    workload: Workload,
+) -> io::Result<Spent> {
+    let class = ClassConfig {
+        chunks: workload.chunks,
+        hot: 0,
+        warm: 0,
+    };
+    if class.chunks == 0 || class.chunks > MAX_CHUNKS || workload.capacity == 0 {
+        return Err(AllocError.into());
+    }
+    let config = config_of(alloc, class, workload.threads, workload.capacity).ok_or(AllocError)?;
+    let blank = Blank::new(alloc, &config)?;
+    pass_in::<Brand, _>(rt, alloc, blank, &config, class, workload)
+}
+
+// Passes so often, and once more before that, and prints what it took.
+fn measure<R: Threads + Clock + Wait + Sync + Print>(
+    rt: &R,
+    alloc: Global,
+    workload: Workload,
+    passes: u32,
+) -> io::Result<()> {
+    let first = pass(rt, alloc, workload)?;
+    let mut times = Vec::new(alloc);
+    for _pass in 0..passes {
+        times.push(pass(rt, alloc, workload)?.nanos)?;
+    }
+    Line::new(workload.subject(), first, times)?.print(rt)
+}
+
+fn main(rt: HostRuntime) -> io::Result<()> {
+    let words = env::args(&rt)?.collect::<Vec<String>>(rt.alloc())?;
+    let Some(asked) = Asked::by(rt.alloc(), &words)? else {
+        return Ok(());
+    };
+    for workload in workloads(rt.alloc())? {
+        if asked.wants(workload.subject()) {
+            measure(&rt, rt.alloc(), workload, asked.passes())?;
+        }
+    }
+    Ok(())
+}

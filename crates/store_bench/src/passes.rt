@@ -1,0 +1,148 @@
+//! The loops that are timed.
+use bump_readers::{Name, ReaderHeads};
+use bump_rules::{Dropped, ItemId, Touch};
+use bump_store::Worker;
+use measuring::{Tally, one_more};
+use std::sync::Wait;
+
+/// What each touch of a pass comes to.
+#[derive(Clone, Copy)]
+pub enum Answer {
+    First,
+    Already,
+    Marked,
+    Queued,
+    Full,
+}
+
+/// One of the answers: the loop that wants it is compiled for it alone, as each caller of a touch has code of its own.
+trait Wanted {
+    fn is(touch: Touch) -> bool;
+}
+
+struct First;
+
+impl Wanted for First {
+    fn is(touch: Touch) -> bool {
+        matches!(touch, Touch::First)
+    }
+}
+
+struct Already;
+
+impl Wanted for Already {
+    fn is(touch: Touch) -> bool {
+        matches!(touch, Touch::Already)
+    }
+}
+
+struct Marked;
+
+impl Wanted for Marked {
+    fn is(touch: Touch) -> bool {
+        matches!(touch, Touch::Marked)
+    }
+}
+
+struct Queued;
+
+impl Wanted for Queued {
+    fn is(touch: Touch) -> bool {
+        matches!(touch, Touch::Queued(_))
+    }
+}
+
+struct Full;
+
+impl Wanted for Full {
+    fn is(touch: Touch) -> bool {
+        matches!(touch, Touch::Dropped(Dropped::Full))
+    }
+}
+
+// Gets and releases each item, as often as there are rounds.
+fn gets<N: Name>(
+    heads: &ReaderHeads<N>,
+    worker: &mut Worker<N>,
+    items: &[ItemId],
+    rounds: u32,
+) -> Tally {
+    let mut refused: u64 = 0;
+    for _round in 0..rounds {
+        for item in items {
+            match worker.get(heads, *item) {
+                Ok(hold) => hold.release(heads),
+                Err(_) => refused = one_more(refused),
+            }
+        }
+    }
+    Tally {
+        refused,
+        ..Tally::NONE
+    }
+}
+
+// Gets, touches, reads the label of and releases each item, as often as there are rounds. This answer of each touch is wanted.
+fn hits<W: Wanted, N: Name, R: Wait>(
+    rt: &R,
+    heads: &ReaderHeads<N>,
+    worker: &mut Worker<N>,
+    items: &[ItemId],
+    rounds: u32,
+) -> Tally {
+    let mut refused: u64 = 0;
+    let mut right: u64 = 0;
+    let mut labels: u64 = 0;
+    for _round in 0..rounds {
+        for item in items {
+            match worker.get(heads, *item) {
+                Ok(mut hold) => {
+                    let touch = worker.touch(rt, heads, &mut hold, 5);
+                    let label = hold.label(heads);
+                    hold.release(heads);
+                    if W::is(touch) {
+                        right = right.wrapping_add(1);
+                    }
+                    labels = labels.wrapping_add(label);
+                }
+                Err(_) => refused = one_more(refused),
+            }
+        }
+    }
+    Tally {
+        refused,
+        right,
+        labels,
+    }
+}
+
+/// Hits each item so often: the first hit sets FETCHED, and the second one in HOT sets ACTIVE.
+pub fn touch_all<N: Name, R: Wait>(
+    rt: &R,
+    heads: &ReaderHeads<N>,
+    worker: &mut Worker<N>,
+    items: &[ItemId],
+    times: u32,
+) {
+    hits::<First, N, R>(rt, heads, worker, items, times);
+}
+
+/// The pass that is timed: hits where an answer is wanted, else gets. Its name is what callgrind is told to count.
+#[inline(never)]
+pub fn timed_pass<N: Name, R: Wait>(
+    rt: &R,
+    heads: &ReaderHeads<N>,
+    worker: &mut Worker<N>,
+    items: &[ItemId],
+    rounds: u32,
+    wanted: Option<Answer>,
+) -> Tally {
+    match wanted {
+        Some(Answer::First) => hits::<First, N, R>(rt, heads, worker, items, rounds),
+        Some(Answer::Already) => hits::<Already, N, R>(rt, heads, worker, items, rounds),
+        Some(Answer::Marked) => hits::<Marked, N, R>(rt, heads, worker, items, rounds),
+        Some(Answer::Queued) => hits::<Queued, N, R>(rt, heads, worker, items, rounds),
+        Some(Answer::Full) => hits::<Full, N, R>(rt, heads, worker, items, rounds),
+        None => gets(heads, worker, items, rounds),
+    }
+}
