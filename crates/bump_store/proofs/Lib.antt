@@ -1,3 +1,6 @@
 mod AttemptLemmas
 mod HitLemmas
 mod StepLemmas
+mod GrowingLists
+mod Starts
+mod LaneLemmas

@@ -5,3 +5,6 @@ pub mod Touches
 pub mod Counts
 pub mod StepCounts
 pub mod Attempts
+pub mod Stores
+pub mod Lanes
+pub mod Loans

@@ -1,13 +1,24 @@
-//! The worker's side of a store: gets, touches and holds.
+//! A store: its workers' gets, touches and holds, the locks of its classes, and the lanes that apply what the workers
+//! queued.
 #![tactic(auto)]
 
+mod classes;
 mod counting;
 mod holds;
+mod lanes;
+mod maintainers;
+mod meeting;
+mod opening;
 mod refusals;
+mod stores;
 mod touching;
 mod workers;
 
-pub use bump_readers::Name;
+pub use bump_heads::{Blank, Name};
+pub use classes::NoSuchChunk;
 pub use holds::Hold;
+pub use lanes::Lane;
+pub use maintainers::Maintainer;
 pub use refusals::GetRefusal;
+pub use stores::{NoSuchClass, Store};
 pub use workers::Worker;

@@ -1,6 +1,10 @@
 //! What no clause says: that calls succeed, and known answers.
+mod classes;
+mod drains;
 mod gets;
+mod pairs;
 mod rings;
 mod stores;
 mod threads;
 mod touches;
+mod whole;

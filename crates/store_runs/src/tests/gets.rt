@@ -1,4 +1,4 @@
-//! Every answer of a get that one thread can make, and what a holder reads.
+//! Every answer of a get that one thread can make for certain, so all but Busy, and what a holder reads.
 use super::stores::{Scene, Small, head, id, play, sized};
 use bump_heads::Name;
 use bump_rules::{Ended, Segment};

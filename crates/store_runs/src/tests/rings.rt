@@ -1,4 +1,4 @@
-//! A ring by itself: order, room, and what a closed one shows.
+//! A ring by itself: order, room, what a closed one shows, and want of memory.
 use super::stores::{Scene, Small, play, sized};
 use bump_heads::Name;
 use bump_ring::ring;
@@ -42,6 +42,36 @@ pub fn close_ring<N: Name, R: Abort + Wait>(rt: &R, alloc: Global) -> Result<(),
     assert_eq!(rt; receiver.rest(&mut closed), Some(0));
     assert!(rt; receiver.take(rt).is_none());
     assert_eq!(rt; receiver.known(), 0);
+    Ok(())
+}
+
+// `checks/refused_allocations` looks for these words, so as to know that the allocation was one of this test.
+fn tell_refused(rt: &impl Eprint) -> Result<(), Fail> {
+    eprintln!(rt; "an allocation was refused")?;
+    Ok(())
+}
+
+/// A ring that is refused for want of memory may be asked for again, and is then as any other. It is refused where the
+/// first one was, so that this is told.
+pub fn make_again<N: Name, R: Abort + Wait>(rt: &R, alloc: Global) -> Result<(), AllocError> {
+    let refused = ring::<N>(alloc, 2).is_err();
+    let (sender, mut receiver) = ring::<N>(alloc, 2)?;
+    assert_eq!(rt; (sender.accepted(), receiver.known()), (0, 0));
+    assert!(rt; receiver.take(rt).is_none());
+    if refused {
+        return Err(AllocError);
+    }
+    Ok(())
+}
+
+// Holds whichever one allocation is refused: no store or no ring is made, and both may be made then.
+#[test]
+fn a_refused_allocation_makes_no_ring(rt: HostRuntime) -> Result<(), Fail> {
+    let sizes = sized(4, 4, 2, 0, 5);
+    if play(&rt, rt.alloc(), sizes, Scene::MadeAgain).is_err() {
+        tell_refused(&rt)?;
+        play(&rt, rt.alloc(), sizes, Scene::MadeAgain)?;
+    }
     Ok(())
 }
 

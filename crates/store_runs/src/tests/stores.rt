@@ -4,7 +4,7 @@ ghost use Rattle.bump_readers.specs.Workers.{worker_seen};
 ghost use Rattle.bump_steps.specs.Rule.{worker_part};
 
 use super::gets::{reuse, stay_unlinked, tell_refusals};
-use super::rings::{close_ring, take_in_order};
+use super::rings::{close_ring, make_again, take_in_order};
 use super::touches::{
     drop_at_limit, drop_without_room, mark_in_hot, mark_in_warm, queue_in_cold, touch_unlinked,
 };
@@ -60,6 +60,7 @@ pub enum Scene {
     Reused,
     TakenInOrder,
     Closed,
+    MadeAgain,
 }
 
 // None where memory is refused.
@@ -129,6 +130,7 @@ fn play_in<N: Name, R: Abort + Wait>(
         Scene::Reused => reuse(rt, &mut small),
         Scene::TakenInOrder => take_in_order(rt, &mut small),
         Scene::Closed => close_ring::<N, R>(rt, alloc)?,
+        Scene::MadeAgain => make_again::<N, R>(rt, alloc)?,
     }
     Ok(())
 }

@@ -1,4 +1,5 @@
-//! Every answer of a touch that one thread can make.
+//! Every answer of a touch that one thread can make for certain. Busy isn't among them: it takes a change of the head
+//! word by another thread before each of eight exchanges, and no call can make one come in between.
 use super::stores::{Scene, Small, head, play, sized};
 use bump_heads::Name;
 use bump_rules::{Dropped, Ended, Pulled, Segment, Tail, Touch};
@@ -113,7 +114,9 @@ fn a_bump_at_the_limit_is_dropped(rt: HostRuntime) -> Result<(), Fail> {
     Ok(play(&rt, rt.alloc(), sized(4, 2, 2, 0, 5), Scene::DroppedAtLimit)?)
 }
 
-/// An item that was unlinked while it was held is judged by the segment that it had. Its bump holds it.
+/// An item that was unlinked while it was held is judged by the segment that it had. Its bump comes out of the ring as
+/// any other, and holds the chunk on its way: no sweep finds it free. The test ends there. That a lane then finds the
+/// item gone, and gives the bump's reference back, is for the tests of lanes to show.
 pub fn touch_unlinked<N: Name, R: Abort + Wait>(rt: &R, small: &mut Small<N>) {
     let item = small.link_cold(rt, 7, 3);
     let mut hold = small
@@ -128,7 +131,15 @@ pub fn touch_unlinked<N: Name, R: Abort + Wait>(rt: &R, small: &mut Small<N>) {
     assert_eq!(rt; touch, Touch::Queued(0));
     hold.release(&small.heads);
     assert_eq!(rt; small.see(rt, 0), (head(1, "fa", Segment::Cold), 3));
+    assert_eq!(rt; small.refusal(item), Some(bump_store::GetRefusal::Stale));
     assert_eq!(rt; small.book.sweep(), 0);
+    let rider = small.receiver.take(rt).expect(rt, "there is one");
+    assert_eq!(rt;
+        (rider.worker(), rider.number(), rider.life()),
+        (0, 0, item)
+    );
+    assert_eq!(rt; small.book.sweep(), 0);
+    assert_eq!(rt; small.counts(), [1, 1, 0, 0, 0]);
 }
 
 #[test]

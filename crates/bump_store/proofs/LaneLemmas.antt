@@ -1,0 +1,68 @@
+-- A lane's next bump: its number, and the entry that is kept of it.
+use Rattle.std.proofs.Common.{◌≡◌, ℕ, suc, ◌++◌, List, [], ◌∷◌, length, map, false, Option, None, Some, refl, sym, ap, ◌∙◌, arith, length-append}
+use Rattle.std.proofs.lemmas.List.{length-map, append_assoc}
+use mathlib.Core.List.{IsPrefix}
+use Rattle.bump_rules.specs.declared.bumps.Applied.{Applied}
+use Rattle.bump_rules.specs.declared.bumps.AppliedBump.{AppliedBump}
+use Rattle.bump_rules.specs.declared.bumps.Bump.{Bump}
+use Rattle.bump_rules.specs.declared.bumps.Ended.{Ended}
+use Rattle.bump_rules.specs.declared.bumps.Outcome.{Outcome}
+use Rattle.bump_rules.specs.declared.bumps.Outcome.TheVariants as outcome
+use Rattle.bump_rules.specs.declared.items.ItemId.{ItemId}
+use Rattle.bump_rules.specs.declared.lanes.Lane.{Lane}
+use Rattle.bump_rules.specs.declared.lanes.Lane.TheVariants as lane
+use Rattle.bump_rules.specs.Lanes.{carried, is_half_made}
+use Rattle.bump_rules.specs.Rings.{aboard, bump_applied, numbered_from}
+use Rattle.bump_steps.specs.declared.views.Ride.{Ride}
+use Rattle.bump_class.specs.Applications.{answer_of, AppliesFront}
+use Rattle.bump_class.specs.Books.{BookView}
+use Rattle.bump_class.specs.Lanes.{LaneView, IsLane, carries, entries, lives}
+use Rattle.bump_store.specs.Lanes.{outcome_told, told}
+
+-- a numbered list is as long as its lives
+numbered_long : (first : ℕ) (items : List ItemId) → length (numbered_from first items) ≡ length items
+numbered_long first [] = refl
+numbered_long first (item ∷ items) = ap suc (numbered_long (suc first) items)
+
+-- a lane at rest that carries nothing has nothing aboard
+none_aboard : (stage : Lane) → is_half_made stage ≡ false → carried stage ≡ None → aboard stage ≡ []
+none_aboard lane.Empty rest none = refl
+none_aboard (lane.Carrying bump) rest none = absurd (cc none)
+none_aboard (lane.Tried bump) rest none = absurd (cc rest)
+none_aboard (lane.Cleared bump found) rest none = absurd (cc rest)
+none_aboard (lane.Moved bump) rest none = absurd (cc rest)
+
+-- then it applied as many bumps as it took
+pub all_applied : (this_lane : LaneView) → IsLane this_lane.part this_lane.received → carries this_lane ≡ None
+    → length this_lane.received ≡ length (entries this_lane)
+all_applied this_lane keeps none = omega (
+  arith,
+  ap length keeps.in_order,
+  length-append (map bump_applied (entries this_lane)) (aboard this_lane.part.stage),
+  ap length (none_aboard this_lane.part.stage keeps.at_rest none),
+  length-map (entries this_lane) bump_applied,
+  numbered_long 0 (lives this_lane.received),
+  length-map this_lane.received (λ (ride : Ride). ride.life),
+)
+
+-- what grew by more entries has the same first ones
+pub first_ones_kept : (before between after more : List AppliedBump) → IsPrefix before between → after ≡ between ++ more
+    → IsPrefix before after
+first_ones_kept before between after more grown next =
+    (grown.0 ++ more, sym (append_assoc before grown.0 more) ∙ ap (λ xs. xs ++ more) grown.1 ∙ sym next)
+
+-- what was answered tells the outcome
+pub told_outcome : (came_out : Outcome) (ended : Ended) → outcome_told (answer_of came_out ended) ≡ came_out
+told_outcome outcome.Moved ended = refl
+told_outcome outcome.TimeOnly ended = refl
+told_outcome outcome.Gone ended = refl
+
+-- so the entry that is answered is the one that the lane keeps
+pub entry_kept : (now : ℕ) (book left : BookView) (from to : LaneView) (answer : Applied) (bump : Bump)
+    → carries from ≡ Some bump → AppliesFront now book from answer left to
+    → entries to ≡ entries from ++ told (record { number = bump.number; life = bump.life; applied = answer }) ∷ []
+entry_kept now book left from to answer bump aboard front =
+    let same : front.0 ≡ bump = cc (sym front.3 ∙ aboard) in
+    let outcome : outcome_told answer ≡ front.1 = ap outcome_told front.4.answered ∙ told_outcome front.1 _ in
+    ap entries front.4.lane_after
+    ∙ (λ i. entries from ++ record { number = (same i).number; life = (same i).life; outcome = sym outcome i } ∷ [])

@@ -1,0 +1,123 @@
+-- Where classes' chunks start, and the parts of new workers and lanes.
+use Rattle.std.proofs.Common.{◌≡◌, ℕ, zero, suc, ◌+◌, ◌-◌, ◌<◌, ◌≤◌, ◌↔◌, List, [], ◌∷◌, Option, None, Some, IfSome, IfNone, IsErr, ok_or, length, take, refl, sym, ap, ◌∙◌, arith}
+use Rattle.std.proofs.lemmas.List.{length-map}
+use Rattle.std.specs.Prelude.{slice_index}
+use Rattle.bump_rules.specs.declared.configs.ClassConfig.{ClassConfig}
+use Rattle.bump_rules.specs.Configs.{chunks_of}
+use Rattle.bump_steps.specs.declared.views.ClassPart.{ClassPart}
+use Rattle.bump_steps.specs.Rule.{worker_part, worker_parts, lane_part, lane_parts}
+use Rattle.bump_readers.proofs.WorkerTurns.{length_workers}
+use Rattle.bump_heads.proofs.Makings.{length_lanes}
+use Rattle.bump_store.specs.Lanes.{LaneState, worker_parts_of, lane_parts_of}
+use Rattle.bump_store.specs.Workers.{WorkerState}
+use Rattle.bump_store.specs.Stores.{first_chunk, starts_from, HasChunk, IsBetweenStarts, IsOfClass, IsStore}
+
+-- there is one more than there are classes
+pub length_starts : (first : ℕ) (classes : List ClassConfig) → length (starts_from first classes) ≡ length classes + 1
+length_starts first [] = refl
+length_starts first (config ∷ configs) = omega (arith, length_starts (first + config.chunks) configs)
+
+-- each is behind the chunks of the classes before
+pub start_at : (first : ℕ) (classes : List ClassConfig) (class : ℕ) → class ≤ length classes
+    → slice_index (starts_from first classes) class ≡ first + first_chunk class classes
+start_at first [] zero most = omega arith
+start_at first [] (suc class) most = absurd (omega (arith, most))
+start_at first (config ∷ configs) zero most = omega arith
+start_at first (config ∷ configs) (suc class) most =
+    omega (arith, start_at (first + config.chunks) configs class (omega (arith, most)))
+
+-- those before the place behind the last class are all
+pub all_before : (classes : List ClassConfig) → first_chunk (length classes) classes ≡ chunks_of classes
+all_before [] = refl
+all_before (config ∷ configs) = ap (λ n. config.chunks + n) (all_before configs)
+
+-- and those of some classes are no more than those of all
+pub some_of_all : (class : ℕ) (classes : List ClassConfig) → first_chunk class classes ≤ chunks_of classes
+some_of_all zero classes = omega arith
+some_of_all (suc class) [] = omega arith
+some_of_all (suc class) (config ∷ configs) = omega (arith, some_of_all class configs)
+
+-- the first of those that are still to be made
+pub next_worker : (number count : ℕ) → number < count
+    → worker_parts number (count - number) ≡ worker_part number ∷ worker_parts (number + 1) (count - (number + 1))
+next_worker number count low =
+    let more : count - number ≡ suc (count - (number + 1)) = omega (arith, low) in ap (worker_parts number) more
+
+pub next_lane : (number count : ℕ) → number < count
+    → lane_parts number (count - number) ≡ lane_part number ∷ lane_parts (number + 1) (count - (number + 1))
+next_lane number count low =
+    let more : count - number ≡ suc (count - (number + 1)) = omega (arith, low) in ap (lane_parts number) more
+
+-- so many workers have the parts of so many, and so many lanes
+pub count_of_workers : (count : ℕ) (workers : List WorkerState) → worker_parts_of workers ≡ worker_parts 0 count
+    → length workers ≡ count
+count_of_workers count workers are =
+    omega (arith, ap length are, length-map workers (λ (x : WorkerState). x.part), length_workers 0 count)
+
+pub count_of_lanes : (count : ℕ) (lanes : List LaneState) → lane_parts_of lanes ≡ lane_parts 0 count → length lanes ≡ count
+count_of_lanes count lanes are =
+    omega (arith, ap length are, length-map lanes (λ (x : LaneState). x.lane.part), length_lanes 0 count)
+
+-- what was made is a store
+pub made_store : (classes : List ClassConfig) (starts : List ℕ) (locks : ℕ) → starts ≡ starts_from 0 classes
+    → locks ≡ length classes → 1 ≤ locks → locks ≤ 16 → IsStore classes starts locks
+made_store classes starts locks made same some few = record {
+  each = λ class most. ap (λ xs. slice_index xs class) made ∙ start_at 0 classes class most ∙ omega arith;
+  count = ap length made ∙ length_starts 0 classes;
+  one_each = same;
+  some = some;
+  few = few;
+}
+
+-- a chunk between two starts is of the class at the first of them
+pub between_starts : (classes : List ClassConfig) (starts : List ℕ) (locks chunk place : ℕ) → IsStore classes starts locks
+    → IsBetweenStarts chunk starts place → (place < length classes) × HasChunk chunk place classes
+between_starts classes starts locks chunk place store found =
+    let low : place < length classes = omega (arith, store.count, found.in_range) in (
+      low,
+      (
+        omega (arith, store.each place (omega (arith, low)), found.behind),
+        omega (arith, store.each (place + 1) (omega (arith, low)), found.before),
+      ),
+    )
+
+-- one that is not before the last start is of none
+pub behind_all : (classes : List ClassConfig) (starts : List ℕ) (locks chunk : ℕ) → IsStore classes starts locks
+    → slice_index starts (length starts - 1) ≤ chunk → chunks_of classes ≤ chunk
+behind_all classes starts locks chunk store last =
+    let place : length starts - 1 ≡ length classes = omega (arith, store.count) in
+    omega (
+      arith,
+      last,
+      ap (slice_index starts) place,
+      store.each (length classes) (omega arith),
+      all_before classes,
+    )
+
+-- a class's chunk is one of all chunks
+pub among_all : (classes : List ClassConfig) (chunk class : ℕ) → HasChunk chunk class classes → chunk < chunks_of classes
+among_all classes chunk class has = omega (arith, has.1, some_of_all (class + 1) classes)
+
+-- a part that has a class's number and its chunks is that of the class
+pub part_of_class : (classes : List ClassConfig) (starts : List ℕ) (locks class : ℕ) (part : ClassPart)
+    → IsStore classes starts locks → class < length classes → part.class ≡ class
+    → part.first ≡ slice_index starts class → part.first + part.count ≡ slice_index starts (class + 1)
+    → IsOfClass class classes part
+part_of_class classes starts locks class part store low number first end = record {
+  number = number;
+  first = first ∙ store.each class (omega (arith, low));
+  end = end ∙ store.each (class + 1) (omega (arith, low));
+}
+
+-- a chunk is refused exactly where no class has it
+pub refused_exactly : {E : Type 0} (classes : List ClassConfig) (starts : List ℕ) (locks chunk : ℕ) (place : Option ℕ) (error : E)
+    → IsStore classes starts locks → IfSome place (λ n. IsBetweenStarts chunk starts n)
+    → IfNone place (slice_index starts (length starts - 1) ≤ chunk)
+    → IsErr (ok_or place error) ↔ (chunks_of classes ≤ chunk)
+refused_exactly classes starts locks chunk None error store found none =
+    (λ is. behind_all classes starts locks chunk store none, λ most. refl)
+refused_exactly classes starts locks chunk (Some place) error store found none = (
+  λ is. absurd (cc is),
+  λ most. absurd
+      (omega (arith, most, among_all classes chunk place (between_starts classes starts locks chunk place store found).1)),
+)

@@ -1,0 +1,70 @@
+-- What contracts see of lanes, of the rings that workers and lanes share, and what applying the next bump comes to.
+use Rattle.std.specs.Prelude.{◌≡◌, ℕ, zero, suc, true, List, map}
+use Rattle.atomic_table.specs.Seated.{TableId}
+use Rattle.bump_rules.specs.declared.bumps.Applied.{Applied}
+use Rattle.bump_rules.specs.declared.bumps.Applied.TheVariants as applied
+use Rattle.bump_rules.specs.declared.bumps.AppliedBump.{AppliedBump}
+use Rattle.bump_rules.specs.declared.bumps.Entry.{Entry}
+use Rattle.bump_rules.specs.declared.bumps.Outcome.{Outcome}
+use Rattle.bump_rules.specs.declared.bumps.Outcome.TheVariants as outcome
+use Rattle.bump_rules.specs.Lanes.{bump_of}
+use Rattle.bump_steps.specs.declared.views.LanePart.{LanePart}
+use Rattle.bump_steps.specs.declared.views.Ride.{Ride}
+use Rattle.bump_steps.specs.declared.views.WorkerPart.{WorkerPart}
+use Rattle.bump_steps.specs.Views.{owns}
+use Rattle.bump_heads.specs.Applying.{NamesNoBumpTwice}
+use Rattle.bump_class.specs.Applications.{AppliesFront, EachMoveIsTold}
+use Rattle.bump_class.specs.Books.{BookView}
+use Rattle.bump_class.specs.Lanes.{LaneView, Boards}
+use Rattle.bump_store.specs.Workers.{WorkerState}
+
+-- a lane of a store: its ring with what its seat knows, and how many bumps it applies in one drain
+pub record LaneState : Type 0 where
+  pub lane : LaneView
+  pub capacity : ℕ
+
+-- which rings workers send into, and which ones lanes drain, in order
+abbrev pub worker_rings : List WorkerState → List TableId
+worker_rings workers = map (λ worker. worker.sender.ring) workers
+
+abbrev pub lane_rings : List LaneState → List TableId
+lane_rings lanes = map (λ this_lane. this_lane.lane.ring) lanes
+
+-- what their seats know
+abbrev pub worker_parts_of : List WorkerState → List WorkerPart
+worker_parts_of workers = map (λ worker. worker.part) workers
+
+abbrev pub lane_parts_of : List LaneState → List LanePart
+lane_parts_of lanes = map (λ this_lane. this_lane.lane.part) lanes
+
+-- what a lane keeps of what was answered
+abbrev pub outcome_told : Applied → Outcome
+outcome_told applied.Moved = outcome.Moved
+outcome_told applied.TimeOnly = outcome.TimeOnly
+outcome_told (applied.Gone ended) = outcome.Gone
+
+abbrev pub told : Entry → AppliedBump
+told entry = record { number = entry.number; life = entry.life; outcome = outcome_told entry.applied }
+
+-- The next bump of a lane's ring was applied, as this entry tells it, to a Book that was locked for it.
+pub record IsNextApplied (now : ℕ) (before : LaneView) (entry : Entry) (after : LaneView) (ride : Ride)
+    (fetched : LaneView) (book left : BookView) : Type 0 where
+  -- it was taken out of the ring, and went aboard
+  pub boards : Boards before (bump_of entry.number entry.life) fetched ride
+  -- the Book is that of its chunk's class
+  pub own : owns entry.life.chunk book.part ≡ true
+  -- what that comes to is the update table's, and the entry is true
+  pub front : AppliesFront now book fetched entry.applied left after
+  -- no bump is named twice by the class's history, and each move that it has for a bump of the lane is the lane's entry
+  pub once : NamesNoBumpTwice left.part
+  pub tells : EachMoveIsTold left.part after.part
+
+abbrev pub AppliesNext : ℕ → LaneView → Entry → LaneView → Type 0
+AppliesNext now before entry after = (ride : Ride) × (fetched : LaneView) × (book : BookView) × (left : BookView)
+    × IsNextApplied now before entry after ride fetched book left
+
+-- so many next bumps were applied, one after the other
+abbrev pub AppliesMany : ℕ → LaneView → ℕ → LaneView → Type 0
+AppliesMany now before zero after = after ≡ before
+AppliesMany now before (suc count) after = (between : LaneView) × (entry : Entry)
+    × AppliesMany now before count between × AppliesNext now between entry after

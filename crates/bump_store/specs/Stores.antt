@@ -1,0 +1,40 @@
+-- Which class of a store has which chunks, and what a store keeps.
+use Rattle.std.specs.Prelude.{◌≡◌, ℕ, ◌+◌, ◌≤◌, ◌<◌, List, [], ◌∷◌, length, take, slice_index}
+use Rattle.bump_rules.specs.declared.configs.ClassConfig.{ClassConfig}
+use Rattle.bump_rules.specs.Configs.{chunks_of}
+use Rattle.bump_steps.specs.declared.views.ClassPart.{ClassPart}
+
+-- a class's first chunk: as many as the classes before it have together
+abbrev pub first_chunk : ℕ → List ClassConfig → ℕ
+first_chunk class classes = chunks_of (take class classes)
+
+-- The class has the chunk: it has those from its first one up to the first one of the next class.
+abbrev pub HasChunk : ℕ → ℕ → List ClassConfig → Type 0
+HasChunk chunk class classes = (first_chunk class classes ≤ chunk) × (chunk < first_chunk (class + 1) classes)
+
+-- The part of a Book is that of the class with this number: it has the number, and the class's chunks.
+pub record IsOfClass (class : ℕ) (classes : List ClassConfig) (part : ClassPart) : Type 0 where
+  pub number : part.class ≡ class
+  pub first : part.first ≡ first_chunk class classes
+  pub end : part.first + part.count ≡ first_chunk (class + 1) classes
+
+-- the first chunk of each of these classes, of which the first begins here, and the chunk behind them all
+abbrev pub starts_from : ℕ → List ClassConfig → List ℕ
+starts_from first [] = first ∷ []
+starts_from first (config ∷ configs) = first ∷ starts_from (first + config.chunks) configs
+
+-- What every store keeps: by its configuration's classes, where its classes' chunks start, and the number of its locks.
+pub record IsStore (classes : List ClassConfig) (starts : List ℕ) (locks : ℕ) : Type 0 where
+  -- where each class's chunks start, and behind them where the last one's end
+  pub each : (class : ℕ) → class ≤ length classes → slice_index starts class ≡ first_chunk class classes
+  pub count : length starts ≡ length classes + 1
+  -- a lock for each class
+  pub one_each : locks ≡ length classes
+  pub some : 1 ≤ locks
+  pub few : locks ≤ 16
+
+-- The chunk is between the start at this place and the next one.
+pub record IsBetweenStarts (chunk : ℕ) (starts : List ℕ) (place : ℕ) : Type 0 where
+  pub in_range : place + 1 < length starts
+  pub behind : slice_index starts place ≤ chunk
+  pub before : chunk < slice_index starts (place + 1)

@@ -1,0 +1,134 @@
+//! A store that is opened: its locks, its workers and its lanes.
+ghost use Rattle.std.specs.Prelude.{◌≡◌, ◌≤◌, ◌<◌, ◌-◌, [], ◌∷◌, ◌++◌, IfOk, OnOk, length, map, vec_len, All};
+ghost use Rattle.bump_rules.specs.Configs.{chunks_of, HaveChunks};
+ghost use Rattle.bump_steps.specs.Rule.{class_parts, worker_parts, lane_parts};
+ghost use Rattle.bump_readers.specs.Workers.{worker_seen};
+ghost use Rattle.bump_heads.specs.Making.{class_seen, lane_seen};
+ghost use Rattle.bump_store.specs.Lanes.{worker_rings, lane_rings, worker_parts_of, lane_parts_of};
+ghost use Rattle.bump_store.specs.Stores.{starts_from};
+
+use crate::lanes::Lane;
+use crate::maintainers::Maintainer;
+use crate::stores::Store;
+use crate::workers::Worker;
+use bump_class::{Book, RawLane};
+use bump_heads::{Blank, ClassSeat, HeadParts, Heads, LaneSeat, Name, WorkerSeat};
+use bump_ring::ring;
+use bump_rules::{ClassConfig, Config};
+use std::alloc::{AllocError, Global};
+use std::sync::Mutex;
+
+// Puts a worker behind the others, and a lane.
+fn add<N: Name>(
+    workers: &mut Vec<Worker<N>>,
+    lanes: &mut Vec<Lane<N>>,
+    worker: Worker<N>,
+    lane: Lane<N>,
+) -> Result<(), AllocError>
+    ensures { OnOk result ((workers.new.items ≡ workers.old.items ++ worker ∷ []) × (lanes.new.items ≡ lanes.old.items ++ lane ∷ [])) }
+{
+    workers.push(worker)?;
+    lanes.push(lane)?;
+    Ok(())
+}
+
+// The workers and lanes of so many new rings.
+fn make_rings<N: Name>(
+    alloc: Global,
+    seats: Vec<WorkerSeat<N>>,
+    lane_seats: Vec<LaneSeat<N>>,
+    count: u32,
+    capacity: u32,
+) -> Result<(Vec<Worker<N>>, Vec<Lane<N>>), AllocError>
+    requires seats { seats.items ≡ map worker_seen (worker_parts 0 count) }
+    requires lanes { lane_seats.items ≡ map lane_seen (lane_parts 0 count) }
+    requires some { 0 < capacity }
+    ensures rings { IfOk result (λ r. worker_rings r.0.items ≡ lane_rings r.1.items) }
+    ensures workers { IfOk result (λ r. worker_parts_of r.0.items ≡ worker_parts 0 count) }
+    ensures lanes { IfOk result (λ r. lane_parts_of r.1.items ≡ lane_parts 0 count) }
+    ensures capacity { IfOk result (λ r. All (λ w. w.sender.capacity ≡ capacity) r.0.items × All (λ l. l.capacity ≡ capacity) r.1.items) }
+{
+    let mut workers = Vec::with_capacity(alloc, count as usize)?;
+    let mut lanes = Vec::with_capacity(alloc, count as usize)?;
+    let mut left = seats.into_iter();
+    let mut lanes_left = lane_seats.into_iter();
+    for number in 0..count {
+        let Some(seat) = left.next() else {
+            unreachable!()
+        };
+        let Some(lane_seat) = lanes_left.next() else {
+            unreachable!()
+        };
+        let (sender, receiver) = ring::<N>(alloc, capacity)?;
+        let worker = Worker::new(seat, sender);
+        let raw = RawLane::new(receiver, lane_seat);
+        add(&mut workers, &mut lanes, worker, Lane { raw, capacity })?;
+    }
+    Ok((workers, lanes))
+}
+
+// The Books of all classes, each under its lock, and where the classes' chunks start and the last one's end.
+fn make_books<N: Name>(
+    alloc: Global,
+    seats: Vec<ClassSeat<N>>,
+    classes: &[ClassConfig],
+    first_generation: u32,
+) -> Result<(Vec<Mutex<Book<N>>>, Vec<u32>), AllocError>
+    requires seats { seats.items ≡ map class_seen (class_parts (first_generation - 1) 0 0 classes.now) }
+    requires chunks { HaveChunks classes.now }
+    requires few { chunks_of classes.now ≤ 1000000 }
+    ensures books { IfOk result (λ r. vec_len r.0 ≡ length classes.now) }
+    ensures starts { IfOk result (λ r. r.1.items ≡ starts_from 0 classes.now) }
+{
+    let mut books = Vec::with_capacity(alloc, classes.len())?;
+    let mut starts = Vec::with_capacity(alloc, classes.len())?;
+    let mut left = seats.into_iter();
+    let mut first = 0;
+    for class in classes {
+        let Some(seat) = left.next() else {
+            unreachable!()
+        };
+        books.push(Mutex::new(Book::new(alloc, seat, first, *class)?))?;
+        starts.push(first)?;
+        first += class.chunks;
+    }
+    starts.push(first)?;
+    Ok((books, starts))
+}
+
+impl<N: Name> Store<N> {
+    /// Opens a store over a blank, under the name that the blank's table has: a lock for each class, with its Book, in
+    /// which all chunks are in UNUSED; and a worker and a lane for each ring, both by number. No worker has made a
+    /// step, no ring has accepted a bump, and no lane has applied one. It is refused only for want of memory, and the
+    /// blank is gone then.
+    pub fn new(
+        alloc: Global,
+        blank: Blank,
+        config: &Config,
+    ) -> Result<(Store<N>, Vec<Worker<N>>, Maintainer<N>), AllocError>
+        requires name { blank.table ≡ N.table }
+        requires config { blank.config ≡ config.now }
+        ensures store { IfOk result (λ r. r.0 ≡ config.now) }
+        ensures count { IfOk result (λ r. (length r.1.items ≡ config.now.workers) × (length r.2 ≡ config.now.workers)) }
+        ensures rings { IfOk result (λ r. worker_rings r.1.items ≡ lane_rings r.2) }
+        ensures workers { IfOk result (λ r. worker_parts_of r.1.items ≡ worker_parts 0 config.now.workers) }
+        ensures lanes { IfOk result (λ r. lane_parts_of r.2 ≡ lane_parts 0 config.now.workers) }
+        ensures capacity { IfOk result (λ r. All (λ w. w.sender.capacity ≡ config.now.capacity) r.1.items × All (λ l. l.capacity ≡ config.now.capacity) r.2) }
+    {
+        let HeadParts {
+            heads,
+            classes,
+            workers,
+            lanes,
+        } = Heads::<N>::new(alloc, blank, config)?;
+        let slice = config.classes.as_slice();
+        let (books, starts) = make_books(alloc, classes, slice, config.first_generation)?;
+        let (workers, lanes) = make_rings(alloc, workers, lanes, config.workers, config.capacity)?;
+        let store = Store {
+            heads,
+            books,
+            starts,
+        };
+        Ok((store, workers, Maintainer { lanes }))
+    }
+}
