@@ -33,7 +33,7 @@ use Rattle.bump_class.specs.Books.{BookView}
 use Rattle.bump_class.specs.Changes.{book_after_sweep_or_load}
 use Rattle.bump_class.specs.Lanes.{LaneView, carries}
 
--- The heads that the steps of one application found. Where a step isn't made, its head is that of the first one.
+-- The heads that the steps of one application found. Of a step that wasn't made it says nothing.
 pub record FoundHeads : Type 0 where
   -- the look at the item
   pub tried : Head

@@ -42,9 +42,10 @@ fn update<N: Name>(
 }
 
 impl<N: Name> Book<N> {
-    /// Applies the bump aboard the lane, whose chunk is of this class (memcached's `do_item_bump` and
-    /// `do_item_update`), and gives its reference back. `now` is the item's new time. By the head that one look finds,
-    /// and in COLD by the one that the clearing of ACTIVE finds, it answers
+    /// Applies the bump aboard the lane, whose chunk is of this class, and gives its reference back (memcached's
+    /// `do_item_update` and `do_item_remove`, in `lru_maintainer_bumps`). `now` is the item's new time, in the
+    /// caller's ticks. By the head that one look finds, and in COLD by the one that the clearing of ACTIVE finds, it
+    /// answers
     /// 1. Gone, where the item isn't linked: nothing is stored. One more look finds whether its chunk is free now.
     /// 2. Moved, where it is linked in COLD and ACTIVE was set: its time is stored, and it goes to the front of WARM.
     /// 3. TimeOnly, where it is linked, and not that: its time is stored, and it stays where it is.

@@ -13,7 +13,7 @@ use std::marker::Model;
 use std::sync::Wait;
 
 /// The lane of a worker's ring: it takes the ring's bumps in order, and each is applied by the Book of its chunk's
-/// class (memcached's `lru_bump_async` buffer of a worker, as `lru_maintainer_bumps` drains it).
+/// class (memcached's `lru_maintainer_bumps`, of one worker's `lru_bump_buf`).
 #[derive(Drop)]
 pub struct RawLane<N: Name> {
     receiver: Receiver<N>,
