@@ -6,7 +6,6 @@ use bump_rules::{Ended, ItemId, Pulled, Tail};
 use bump_store::Worker;
 use measuring::{Tally, lives, one_more};
 use std::alloc::{AllocError, Global};
-use std::sync::Wait;
 
 /// What is called, again and again.
 #[derive(Clone, Copy)]
@@ -35,15 +34,14 @@ pub enum Before {
 }
 
 // Hits each item.
-fn hit_all<N: Name, R: Wait>(
-    rt: &R,
+fn hit_all<N: Name>(
     heads: &ReaderHeads<N>,
     worker: &mut Worker<N>,
     items: &[ItemId],
 ) {
     for item in items {
         if let Ok(mut hold) = worker.get(heads, *item) {
-            worker.touch(rt, heads, &mut hold, 0);
+            worker.touch(heads, &mut hold, 0);
             hold.release(heads);
         }
     }
@@ -65,8 +63,7 @@ fn end_held<N: Name>(
 }
 
 /// Does what the calls want done before, with all items, one thing after another.
-pub fn prepare_all<N: Name, R: Wait>(
-    rt: &R,
+pub fn prepare_all<N: Name>(
     alloc: Global,
     heads: &ReaderHeads<N>,
     worker: &mut Worker<N>,
@@ -76,7 +73,7 @@ pub fn prepare_all<N: Name, R: Wait>(
     let items = lives(alloc, 0, calls.items)?;
     for before in calls.before {
         match *before {
-            Before::Hit => hit_all(rt, heads, worker, &items),
+            Before::Hit => hit_all(heads, worker, &items),
             Before::End => end_held(heads, worker, book, &items),
             Before::Pull(tail) => {
                 for _item in &items {

@@ -18,7 +18,6 @@ use moves::{MOVES, Moves, TIMES};
 use std::alloc::{AllocError, Global};
 use std::marker::Brand;
 use std::rt::Clock;
-use std::sync::Wait;
 use std::time::Instant;
 use std::{env, io};
 
@@ -26,7 +25,7 @@ use std::{env, io};
 const CAPACITY: u32 = 8_192;
 
 // Opens a store under a name, prepares its class, and makes the calls.
-fn calls_in<N: Name, R: Clock + Wait>(
+fn calls_in<N: Name, R: Clock>(
     rt: &R,
     alloc: Global,
     blank: Blank,
@@ -46,7 +45,7 @@ fn calls_in<N: Name, R: Clock + Wait>(
     } = open::<N>(alloc, blank, config, calls.class, CAPACITY)?;
     link_all(&mut book, calls.items);
     let mut worker = workers.pop().ok_or(AllocError)?;
-    prepare_all(rt, alloc, &heads, &mut worker, &mut book, calls)?;
+    prepare_all(alloc, &heads, &mut worker, &mut book, calls)?;
     time_calls(rt, &mut book, calls)
 }
 
@@ -62,7 +61,7 @@ fn time_calls<N: Name, R: Clock>(rt: &R, book: &mut Book<N>, calls: Calls) -> io
 }
 
 // Opens a store of one class and one worker, and picks its name.
-fn pass_calls<R: Clock + Wait>(rt: &R, alloc: Global, calls: Calls) -> io::Result<Spent> {
+fn pass_calls<R: Clock>(rt: &R, alloc: Global, calls: Calls) -> io::Result<Spent> {
     let chunks = calls.class.chunks;
     if chunks == 0 || chunks > MAX_CHUNKS {
         return Err(AllocError.into());
@@ -94,7 +93,7 @@ impl Measured {
     }
 
     // One pass, on a store or lists that are made for it.
-    fn pass<R: Clock + Wait>(self, rt: &R, alloc: Global) -> io::Result<Spent> {
+    fn pass<R: Clock>(self, rt: &R, alloc: Global) -> io::Result<Spent> {
         match self {
             Measured::Calls(calls) => pass_calls(rt, alloc, calls),
             Measured::Moves(moves) => moves.pass(rt, alloc),
@@ -102,7 +101,7 @@ impl Measured {
     }
 
     // Passes so often, and once more before that, and prints what it took.
-    fn measure<R: Clock + Wait + Print>(
+    fn measure<R: Clock + Print>(
         self,
         rt: &R,
         alloc: Global,

@@ -7,7 +7,6 @@ use Rattle.bump_rules.specs.declared.bumps.Outcome.TheVariants.{Moved, TimeOnly,
 use Rattle.bump_rules.specs.declared.items.Head.{Head}
 use Rattle.bump_rules.specs.declared.items.ItemId.{ItemId}
 use Rattle.bump_rules.specs.declared.places.Place.TheVariants.{Dying}
-use Rattle.atomic_table.specs.Seated.{TableId}
 use Rattle.bump_rules.specs.Entries.{is_unlink_of, is_move_for, moves_told}
 use Rattle.bump_rules.specs.History.{freed_change}
 use Rattle.bump_rules.specs.Lanes.{carried}
@@ -28,6 +27,7 @@ use Rattle.bump_steps.specs.Views.{owns, standing}
 use Rattle.bump_steps.proofs.Entering.{freed_quiet}
 use Rattle.bump_heads.specs.declared.views.ClassView.{ClassView}
 use Rattle.bump_heads.specs.Applying.{IsShown, FoundOfBump, NamesNoBumpTwice, TellsMoves, is_own}
+use Rattle.bump_ring.specs.Ends.{Ring}
 use Rattle.bump_class.specs.Applications.{FoundHeads, Updates, Applies, AppliesFront, with_time, with_clearing, book_after_update, answer_of}
 use Rattle.bump_class.specs.Books.{BookView}
 use Rattle.bump_class.specs.Lanes.{LaneView, carries, part_or}
@@ -97,7 +97,7 @@ module _ (k : ClassPart) (c : ℕ) (h : Head) where
 
 -- What the update of seat and lane, and the change of the lists, come to together: on the Book and the lane of which
 -- they are parts, and on those that contracts see.
-module _ (v : ClassView) (lists : Lists) (hot warm : ℕ) (ring : TableId) (rs ks : List Ride) (o x : Option LanePart)
+module _ (v : ClassView) (lists : Lists) (hot warm : ℕ) (ring : Ring) (rs ks : List Ride) (o x : Option LanePart)
     (b : Bump) (now : ℕ) (out : Outcome) (f : FoundHeads) (w : ClassView)
     (u : Updates v (part_or o) b now out w (part_or x) f) (own : owns b.life.chunk v.part ≡ true) where
   abbrev pub book : BookView

@@ -1,6 +1,5 @@
 -- What contracts see of a lane: the ring that it drains, and its part. And what every lane keeps.
 use Rattle.std.specs.Prelude.{◌≡◌, ℕ, ◌<◌, ◌++◌, List, [], ◌∷◌, length, map, Option, Some, None, IfSome, false}
-use Rattle.atomic_table.specs.Seated.{TableId}
 use Rattle.bump_rules.specs.declared.bumps.AppliedBump.{AppliedBump}
 use Rattle.bump_rules.specs.declared.bumps.Bump.{Bump}
 use Rattle.bump_rules.specs.declared.items.ItemId.{ItemId}
@@ -10,11 +9,12 @@ use Rattle.bump_steps.specs.declared.views.LanePart.{LanePart}
 use Rattle.bump_steps.specs.declared.views.Ride.{Ride}
 use Rattle.bump_steps.specs.Riders.{lane_after_board, bump_of_ride}
 use Rattle.bump_heads.specs.Seats.{no_lane}
+use Rattle.bump_ring.specs.Ends.{Ring}
 
 -- What contracts see of a lane.
 pub record LaneView : Type 0 where
   -- which ring it drains
-  pub ring : TableId
+  pub ring : Ring
   -- the bumps that were taken from the ring, in order
   pub received : List Ride
   -- the bumps that the next takes give, in order, as far as they are known
@@ -57,7 +57,7 @@ pub record KeepsLane (seat : Option LanePart) (count : ℕ) (received : List Rid
   pub few : IfSome (carried (part_or seat).stage) (λ bump. count < most_attempts)
 
 -- a lane whose bumps wait in this ring, with nothing aboard
-abbrev pub new_lane : TableId → List Ride → LanePart → LaneView
+abbrev pub new_lane : Ring → List Ride → LanePart → LaneView
 new_lane ring known part = record { ring = ring; received = []; known = known; part = part }
 
 -- What it means that the next bump goes aboard.

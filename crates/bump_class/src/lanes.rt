@@ -1,5 +1,5 @@
 //! A lane: the receiving end of a worker's ring, and the seat that applies what comes.
-ghost use Rattle.std.specs.Prelude.{◌≡◌, length, [], ◌++◌, None, IsSome, IfSome, IfNone, false};
+ghost use Rattle.std.specs.Prelude.{◌≡◌, ◌↔◌, length, [], ◌++◌, None, IsSome, IsNone, IfSome, IfNone, false};
 ghost use Rattle.bump_rules.specs.declared.lanes.Lane.TheVariants.{Empty as IsEmpty};
 ghost use Rattle.bump_steps.specs.declared.views.Ride.{Ride as TheRide};
 ghost use Rattle.bump_steps.specs.Riders.{applied_by};
@@ -10,7 +10,6 @@ use bump_heads::{LaneSeat, Name};
 use bump_ring::{ClosedSender, Receiver};
 use bump_rules::Bump;
 use std::marker::Model;
-use std::sync::Wait;
 
 /// The lane of a worker's ring: it takes the ring's bumps in order, and each is applied by the Book of its chunk's
 /// class (memcached's `lru_maintainer_bumps`, of one worker's `lru_bump_buf`).
@@ -63,7 +62,7 @@ impl<N: Name> RawLane<N> {
 
     /// Takes the next bump out of the ring and aboard, where none is aboard, and tells the one aboard. It answers
     /// None only where none is aboard or known, and nothing is changed then.
-    pub fn fetch<R: Wait>(&mut self, rt: &R) -> Option<Bump>
+    pub fn fetch(&mut self) -> Option<Bump>
         ensures ring { self.new.ring ≡ self.old.ring }
         ensures entries { entries self.new ≡ entries self.old }
         ensures aboard { carries self.new ≡ result }
@@ -75,7 +74,7 @@ impl<N: Name> RawLane<N> {
         if let Some(bump) = self.seat.aboard() {
             return Some(bump);
         }
-        let rider = self.receiver.take(rt)?;
+        let rider = self.receiver.take()?;
         let bump = Bump {
             number: rider.number(),
             life: rider.life(),
@@ -85,15 +84,15 @@ impl<N: Name> RawLane<N> {
     }
 
     /// How many bumps are left in the ring, by the closed sender of this ring: all of them are known from then on, and
-    /// no other will come. The bump aboard isn't counted. It may be asked again. Where the closed sender can't show
-    /// the ring's end, it answers None, and nothing is changed.
+    /// no other will come. The bump aboard isn't counted. It may be asked again. It answers None exactly where the
+    /// closed sender can't show the ring's end, and nothing is changed then.
     pub fn rest(&mut self, closed: &mut ClosedSender<N>) -> Option<u64>
         requires ring { closed.old.ring ≡ self.old.ring }
         ensures closed { closed.new ≡ closed.old }
         ensures lane { self.new ≡ record self.old { known = self.new.known } }
         ensures number { IfSome result (λ left. left ≡ length self.new.known) }
         ensures rest { IfSome result (λ left. closed.old.sent ≡ self.new.received ++ self.new.known) }
-        ensures none { IfNone result (closed.old.shows_end ≡ false) }
+        ensures none { IsNone result ↔ (closed.old.shows_end ≡ false) }
         ensures unchanged { IfNone result (self.new ≡ self.old) }
     {
         self.receiver.rest(closed)

@@ -1,80 +1,66 @@
 //! The ends of a ring, and what they do. Contracts see plain data.
-ghost use Rattle.std.specs.Prelude.{◌≡◌, ◌≤◌, ◌<◌, length, true, false, [], ◌∷◌, ◌++◌};
-ghost use Rattle.std.specs.Prelude.{IfSome, IfOk, IfErr, IfNone};
-ghost use Rattle.std.specs.Arc.{arc_value};
-ghost use Rattle.crossbeam_queue.specs.Passes.{view as seen, IsPassOf, ruled_capacity};
-ghost use Rattle.bump_ring.specs.Order.{next_known, sending, receiving};
+ghost use Rattle.std.specs.Prelude.{◌≡◌, ◌+◌, ◌≤◌, ◌<◌, ◌↔◌, length, cond, is_some, true, false, [], ◌∷◌, ◌++◌};
+ghost use Rattle.std.specs.Prelude.{IfSome, IfOk, IfErr, IfNone, IsNone};
+ghost use Rattle.std.specs.Option.{ForSome};
+ghost use Rattle.rtrb.specs.Ring.{sent, received, known_items, known_free, producer_capacity, Finishes};
 ghost use Rattle.bump_ring.specs.Ends.{SenderView as TheSenderView, ReceiverView as TheReceiverView};
-ghost use Rattle.bump_ring.specs.Ends.{ClosedView as TheClosedView};
+ghost use Rattle.bump_ring.specs.Ends.{ClosedView as TheClosedView, ring_of};
 
-use crate::rule::{Closing, End, Got, Line, Sent, Showing};
+use crate::numbered::Numbered;
 use bump_readers::{Name, Rider};
+use rtrb::{Consumer, Finished, Producer, PushError};
 use std::alloc::Global;
 use std::marker::Model;
-use std::sync::{Arc, Wait};
+use std::snapshot::Snapshot;
 
 /// The end of a worker's ring that takes bumps in: the worker has it.
 #[derive(Drop)]
 pub struct Sender<N: Name> {
-    line: Arc<Line<N>, Global>,
-    end: End<N>,
-    accepted: u64,
+    pub(crate) producer: Producer<Rider<N>, Global, Numbered<N>>,
+    pub(crate) accepted: u64,
 }
 
 impl<N: Name> Model for Sender<N> {
     ghost Value = { TheSenderView };
 
-    ghost view = { λ s. record { ring = s.end.table_id; capacity = ruled_capacity (arc_value s.line); sent = (seen s.end).sent } };
+    ghost view = { λ s. record { ring = ring_of s.producer.end; capacity = producer_capacity s.producer; sent = sent s.producer } };
 
-    ghost invariant = { λ s. IsPassOf (arc_value s.line) s.end × ((seen s.end).pushes ≡ true) × (s.accepted ≡ length (seen s.end).sent) };
+    // There is room for as many bumps as weren't accepted yet, so the ring is full only behind so many.
+    ghost invariant = { λ s. (s.accepted ≡ length (sent s.producer)) × (producer_capacity s.producer ≤ known_free s.producer + length (sent s.producer)) };
 }
 
 /// The end of a worker's ring that gives bumps out: the worker's lane has it.
 #[derive(Drop)]
 pub struct Receiver<N: Name> {
-    line: Arc<Line<N>, Global>,
-    end: End<N>,
-    taken: u64,
-    ahead: u64,
+    pub(crate) consumer: Consumer<Rider<N>, Global, Numbered<N>>,
+    // Whether a closed sender showed it the ring's end: no bump comes behind those that it has seen.
+    pub(crate) end_seen: bool,
 }
 
 impl<N: Name> Model for Receiver<N> {
     ghost Value = { TheReceiverView };
 
-    ghost view = { λ r. record { ring = r.end.table_id; received = (seen r.end).received; known = next_known (seen r.end) } };
-
-    ghost invariant = { λ r. IsPassOf (arc_value r.line) r.end × ((seen r.end).pops ≡ true) × (r.taken ≡ length (seen r.end).received) × (r.ahead ≡ length (next_known (seen r.end))) };
+    ghost view = { λ r. record { ring = ring_of r.consumer.end; received = received r.consumer; known = cond r.end_seen (known_items r.consumer) [] } };
 }
 
 /// A sender that takes no more bumps in.
 #[derive(Drop)]
 pub struct ClosedSender<N: Name> {
-    end: End<N>,
+    finished: Option<Finished<Rider<N>, Global, Numbered<N>>>,
     accepted: u64,
+    // The sending end as it was closed. It is there for proofs alone.
+    last: Snapshot<Producer<Rider<N>, Global, Numbered<N>>>,
 }
 
 impl<N: Name> Model for ClosedSender<N> {
     ghost Value = { TheClosedView };
 
-    ghost view = { λ c. record { ring = c.end.table_id; sent = (seen c.end).sent; shows_end = true } };
+    ghost view = { λ c. record { ring = ring_of c.last.value.end; sent = sent c.last.value; shows_end = is_some c.finished } };
 
-    ghost invariant = { λ c. ((seen c.end).closed ≡ true) × (c.end.me.1 ≡ []) × (c.accepted ≡ length (seen c.end).sent) };
+    ghost invariant = { λ c. (c.accepted ≡ length (sent c.last.value)) × ForSome c.finished (λ f. Finishes c.last.value f) };
 }
 
 impl<N: Name> Sender<N> {
-    /// The sending end of a new ring.
-    pub(crate) fn new(line: Arc<Line<N>, Global>, end: End<N>) -> Sender<N>
-        requires line { IsPassOf (arc_value line) end }
-        requires new { seen end ≡ sending [] }
-        ensures { result ≡ record { ring = end.table_id; capacity = ruled_capacity (arc_value line); sent = [] } }
-    {
-        Sender {
-            line,
-            end,
-            accepted: 0,
-        }
-    }
-
     /// How many bumps the ring accepted.
     pub fn accepted(&self) -> u64
         ensures { result ≡ length self.now.sent }
@@ -86,8 +72,8 @@ impl<N: Name> Sender<N> {
     /// its number. The bump's number is how many the ring accepted before.
     ///
     /// Where the ring has no room the bump comes back, and nothing is changed. That is so only where the ring
-    /// accepted at least as many bumps before as its capacity is.
-    pub fn offer<R: Wait>(&mut self, rt: &R, rider: Rider<N>) -> Result<u64, Rider<N>>
+    /// accepted at least as many bumps before as its capacity is. It waits for nobody.
+    pub fn offer(&mut self, rider: Rider<N>) -> Result<u64, Rider<N>>
         requires next { rider.number ≡ length self.old.sent }
         ensures number { IfOk result (λ number. number ≡ length self.old.sent) }
         ensures sent { IfOk result (λ number. self.new ≡ record self.old { sent = self.old.sent ++ rider ∷ [] }) }
@@ -96,29 +82,27 @@ impl<N: Name> Sender<N> {
         ensures full { IfErr result (λ back. self.old.capacity ≤ length self.old.sent) }
     {
         let number = rider.number();
-        match self.line.push_as::<Sent<N>, R>(rt, &mut self.end, rider) {
+        match self.producer.push(rider) {
             Ok(()) => {
                 self.accepted = number + 1;
                 Ok(number)
             }
-            Err(back) => Err(back),
+            Err(PushError::Full(back)) => Err(back),
         }
     }
 
-    /// Closes the ring: it accepts no more bumps from then on. Those that it accepted are still to be taken.
+    /// Closes the ring: it accepts no more bumps from then on. Those that it accepted are still to be taken. Whether
+    /// it can show the receiver the ring's end is settled here: where the receiver is gone it can't.
     pub fn close(self) -> ClosedSender<N>
-        ensures { result ≡ record { ring = self.ring; sent = self.sent; shows_end = true } }
+        ensures { result ≡ record { ring = self.ring; sent = self.sent; shows_end = result.shows_end } }
     {
-        let Sender {
-            line,
-            end,
-            accepted,
-        } = self;
-        let mut closed = end;
-        line.another::<Closing>(&mut closed);
+        let Sender { producer, accepted } = self;
+        let last = Snapshot::of(&producer);
+        let finished = producer.finish();
         ClosedSender {
-            end: closed,
+            finished,
             accepted,
+            last,
         }
     }
 }
@@ -133,24 +117,10 @@ impl<N: Name> ClosedSender<N> {
 }
 
 impl<N: Name> Receiver<N> {
-    /// The receiving end of a new ring.
-    pub(crate) fn new(line: Arc<Line<N>, Global>, end: End<N>) -> Receiver<N>
-        requires line { IsPassOf (arc_value line) end }
-        requires new { seen end ≡ receiving [] }
-        ensures { result ≡ record { ring = end.table_id; received = []; known = [] } }
-    {
-        Receiver {
-            line,
-            end,
-            taken: 0,
-            ahead: 0,
-        }
-    }
-
     /// Takes the next bump out of the ring: the first that wasn't taken of those that were accepted. Where some are
     /// known it is the first of them, and the others stay known. Where it sees none there it answers None, and nothing
-    /// is changed; that is so only where none is known.
-    pub fn take<R: Wait>(&mut self, rt: &R) -> Option<Rider<N>>
+    /// is changed; that is so only where none is known. It waits for nobody.
+    pub fn take(&mut self) -> Option<Rider<N>>
         ensures ring { self.new.ring ≡ self.old.ring }
         ensures number { IfSome result (λ rider. rider.number ≡ length self.old.received) }
         ensures received { IfSome result (λ rider. self.new.received ≡ self.old.received ++ rider ∷ []) }
@@ -159,35 +129,45 @@ impl<N: Name> Receiver<N> {
         ensures none { IfNone result (self.old.known ≡ []) }
         ensures unchanged { IfNone result (self.new ≡ self.old) }
     {
-        let rider = self.line.pop_as::<Got<N>, R>(rt, &mut self.end)?;
-        self.taken = rider.number() + 1;
-        self.ahead = self.ahead.saturating_sub(1);
-        Some(rider)
+        if !self.end_seen {
+            return self.consumer.pop().ok();
+        }
+        if self.consumer.cached_slots() == 0 {
+            return None;
+        }
+        Some(self.consumer.pop_known())
     }
 
     /// How many bumps are known to be left in the ring: so many next takes succeed. Before `rest` none is known.
     pub fn known(&self) -> u64
         ensures { result ≡ length self.now.known }
     {
-        self.ahead
+        if self.end_seen {
+            self.consumer.cached_slots() as u64
+        } else {
+            0
+        }
     }
 
     /// How many bumps are left in the ring, by the closed sender of this ring: all of them are known from then on,
-    /// and no other will come. It may be asked again. Where the closed sender can't show the ring's end, it answers
-    /// None, and nothing is changed.
+    /// and no other will come. It may be asked again. It answers None exactly where the closed sender can't show the
+    /// ring's end, and nothing is changed then.
     pub fn rest(&mut self, closed: &mut ClosedSender<N>) -> Option<u64>
         requires ring { closed.old.ring ≡ self.old.ring }
         ensures closed { closed.new ≡ closed.old }
         ensures kept { (self.new.ring ≡ self.old.ring) × (self.new.received ≡ self.old.received) }
         ensures number { IfSome result (λ left. left ≡ length self.new.known) }
         ensures rest { IfSome result (λ left. closed.old.sent ≡ self.new.received ++ self.new.known) }
-        ensures none { IfNone result (closed.old.shows_end ≡ false) }
+        ensures none { IsNone result ↔ (closed.old.shows_end ≡ false) }
         ensures unchanged { IfNone result (self.new ≡ self.old) }
     {
-        let copy = self.line.another::<Closing>(&mut closed.end);
-        self.line.absorb::<Showing>(&mut self.end, copy);
-        self.line.learn_as::<Got<N>>(&mut self.end);
-        self.ahead = closed.accepted - self.taken;
-        Some(self.ahead)
+        match &mut closed.finished {
+            Some(finished) => {
+                let left = self.consumer.slots_after(finished);
+                self.end_seen = true;
+                Some(left as u64)
+            }
+            None => None,
+        }
     }
 }

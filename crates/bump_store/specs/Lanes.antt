@@ -1,6 +1,5 @@
 -- What contracts see of lanes, of the rings that workers and lanes share, and what applying the next bump comes to.
 use Rattle.std.specs.Prelude.{◌≡◌, ℕ, zero, suc, true, List, map}
-use Rattle.atomic_table.specs.Seated.{TableId}
 use Rattle.bump_rules.specs.declared.bumps.Applied.{Applied}
 use Rattle.bump_rules.specs.declared.bumps.Applied.TheVariants as applied
 use Rattle.bump_rules.specs.declared.bumps.AppliedBump.{AppliedBump}
@@ -16,6 +15,7 @@ use Rattle.bump_heads.specs.Applying.{NamesNoBumpTwice}
 use Rattle.bump_class.specs.Applications.{AppliesFront, EachMoveIsTold}
 use Rattle.bump_class.specs.Books.{BookView}
 use Rattle.bump_class.specs.Lanes.{LaneView, Boards}
+use Rattle.bump_ring.specs.Ends.{Ring}
 use Rattle.bump_store.specs.Workers.{WorkerState}
 
 -- a lane of a store: its ring with what its seat knows, and how many bumps it applies in one drain
@@ -24,10 +24,10 @@ pub record LaneState : Type 0 where
   pub capacity : ℕ
 
 -- which rings workers send into, and which ones lanes drain, in order
-abbrev pub worker_rings : List WorkerState → List TableId
+abbrev pub worker_rings : List WorkerState → List Ring
 worker_rings workers = map (λ worker. worker.sender.ring) workers
 
-abbrev pub lane_rings : List LaneState → List TableId
+abbrev pub lane_rings : List LaneState → List Ring
 lane_rings lanes = map (λ this_lane. this_lane.lane.ring) lanes
 
 -- what their seats know

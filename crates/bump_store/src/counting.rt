@@ -6,7 +6,8 @@ ghost use Rattle.bump_store.specs.Counts.{counted};
 
 use bump_rules::{Accounts, Dropped, Touch};
 
-// Counts a touch with this answer, in one place, so that no drop is forgotten. One that attempts no bump writes nothing.
+// Counts a touch with this answer, in one place, so that no drop is forgotten.
+#[inline(always)]
 pub fn count(counts: &mut Accounts, touch: Touch)
     requires add_up { IsAccounts counts.old counts.old.accepted hand.Idle }
     requires room { counts.old.attempted < most_attempts }

@@ -52,7 +52,7 @@ impl<N: Name> Lane<N> {
         ensures unchanged { IfNone result (self.new ≡ self.old) }
     {
         self.raw.promise();
-        let bump = self.raw.fetch(rt)?;
+        let bump = self.raw.fetch()?;
         let mut guard = store.lock_of_chunk(rt, bump.life.chunk);
         let book = &mut *guard;
         let applied = book.apply_front(&mut self.raw, now);

@@ -3,13 +3,14 @@ ghost use Rattle.std.specs.Prelude.{◌≡◌, ◌<◌, ◌≤◌, ◌+◌, List
 ghost use Rattle.bump_rules.specs.declared.hands.Hand.TheVariants as hand;
 ghost use Rattle.bump_rules.specs.declared.items.Head.{Head as TheHead};
 ghost use Rattle.bump_rules.specs.declared.commands.Touch.TheVariants as touch;
-ghost use Rattle.bump_rules.specs.Rings.{most_attempts};
+ghost use Rattle.bump_rules.specs.Rings.{IsAccounts, most_attempts};
 ghost use Rattle.bump_rules.specs.Tables.{is_cold};
 ghost use Rattle.bump_steps.specs.declared.views.HoldPart.{HoldPart as TheHoldPart};
 ghost use Rattle.bump_steps.specs.Rides.{dropped_as};
 ghost use Rattle.bump_steps.specs.Rule.{chunks as all_chunks};
 ghost use Rattle.bump_readers.specs.Touching.{fetches_of};
 ghost use Rattle.bump_store.specs.declared.refusals.GetRefusal.TheVariants as refused;
+ghost use Rattle.bump_store.specs.Counts.{counted};
 ghost use Rattle.bump_store.specs.Gets.{Got};
 ghost use Rattle.bump_store.specs.StepCounts.{MakesAtMost};
 ghost use Rattle.bump_store.specs.Touches.{Findings as TheFindings, Touched};
@@ -21,9 +22,8 @@ use crate::refusals::GetRefusal;
 use crate::workers::Worker;
 use bump_readers::{Name, ReaderHeads, WorkerSeat};
 use bump_ring::Sender;
-use bump_rules::{Dropped, ItemId, MOST_ATTEMPTS, Segment, Touch};
+use bump_rules::{Accounts, Dropped, ItemId, MOST_ATTEMPTS, Segment, Touch};
 use bump_steps::{RideRefusal, TakeRefusal};
-use std::sync::Wait;
 
 // A condition that proofs read as an equation.
 fn is_cold(segment: Segment) -> bool
@@ -44,9 +44,8 @@ fn dropped_as(refusal: RideRefusal) -> Dropped
 
 // An attempt to bump the item, which the worker tries: the bump's reference is taken, and it is offered to the ring.
 // After a drop ACTIVE is cleared.
-#[inline(never)]
-fn attempt<N: Name, R: Wait>(
-    rt: &R,
+#[inline(always)]
+fn attempt<N: Name>(
     heads: &ReaderHeads<N>,
     seat: &mut WorkerSeat<N>,
     sender: &mut Sender<N>,
@@ -60,7 +59,7 @@ fn attempt<N: Name, R: Wait>(
 {
     let number = sender.accepted();
     let dropped = match heads.ride(seat, life, number) {
-        Ok(rider) => match sender.offer(rt, rider) {
+        Ok(rider) => match sender.offer(rider) {
             Ok(number) => return Touch::Queued(number),
             Err(rider) => {
                 heads.rider_back(seat, rider);
@@ -74,13 +73,36 @@ fn attempt<N: Name, R: Wait>(
     Touch::Dropped(dropped)
 }
 
-// A hit of the item, whose hold is joined to the worker's seat.
-#[inline(always)]
-fn hit<N: Name, R: Wait>(
-    rt: &R,
+// An attempt, and what it counts. A touch that attempts no bump counts nothing, so counts are looked at here alone.
+#[inline(never)]
+fn attempt_counted<N: Name>(
     heads: &ReaderHeads<N>,
     seat: &mut WorkerSeat<N>,
     sender: &mut Sender<N>,
+    counts: &mut Accounts,
+    life: ItemId,
+) -> Touch
+    requires held { (h : TheHoldPart) × (seat.old.hold ≡ Some h) × (h.life ≡ life) }
+    requires trying { seat.old.part.hand ≡ hand.Trying life }
+    requires accepted { seat.old.part.accounts.accepted ≡ length sender.old.sent }
+    requires fetched { 0 < fetches_of life seat.old.part }
+    requires add_up { IsAccounts counts.old counts.old.accepted hand.Idle }
+    requires room { counts.old.attempted < most_attempts }
+    ensures attempted { (found : TheFindings) × Attempted heads.now.refs_limit life seat.old seat.new sender.old sender.new result found }
+    ensures counted { counts.new ≡ counted result counts.old }
+{
+    let touch = attempt(heads, seat, sender, life);
+    count(counts, touch);
+    touch
+}
+
+// A hit of the item, whose hold is joined to the worker's seat.
+#[inline(always)]
+fn hit<N: Name>(
+    heads: &ReaderHeads<N>,
+    seat: &mut WorkerSeat<N>,
+    sender: &mut Sender<N>,
+    counts: &mut Accounts,
     life: ItemId,
     now: u64,
 ) -> Touch
@@ -88,7 +110,10 @@ fn hit<N: Name, R: Wait>(
     requires idle { seat.old.part.hand ≡ hand.Idle }
     requires accepted { seat.old.part.accounts.accepted ≡ length sender.old.sent }
     requires attempts { seat.old.part.accounts.attempted < most_attempts }
-    ensures { (found : TheFindings) × DoesHit heads.now.refs_limit life now seat.old seat.new sender.old sender.new result found }
+    requires add_up { IsAccounts counts.old counts.old.accepted hand.Idle }
+    requires room { counts.old.attempted < most_attempts }
+    ensures hit { (found : TheFindings) × DoesHit heads.now.refs_limit life now seat.old seat.new sender.old sender.new result found }
+    ensures counted { counts.new ≡ counted result counts.old }
 {
     let first = heads.mark_fetched(seat, life);
     if !first.fetched {
@@ -105,7 +130,7 @@ fn hit<N: Name, R: Wait>(
         heads.set_time(seat, life, now);
         return Touch::Marked;
     }
-    attempt(rt, heads, seat, sender, life)
+    attempt_counted(heads, seat, sender, counts, life)
 }
 
 impl<N: Name> Worker<N> {
@@ -139,8 +164,8 @@ impl<N: Name> Worker<N> {
         }
     }
 
-    /// A hit of the item that is held, as memcached's `do_item_bump` with `lru_bump_async`. No lock is taken. `now`
-    /// is the time that it stores, in the caller's ticks, where it stores one.
+    /// A hit of the item that is held, as memcached's `do_item_bump` with `lru_bump_async`. No lock is taken, and it waits for
+    /// no other thread. `now` is the time that it stores, in the caller's ticks, where it stores one.
     ///
     /// A first step sets FETCHED, and a second one ACTIVE, where the first found FETCHED set and ACTIVE clear. By the
     /// heads that they found it answers
@@ -157,13 +182,7 @@ impl<N: Name> Worker<N> {
     /// Each attempt is counted, and how it ended. A worker that attempted 4,611,686,018,427,387,903 bumps makes no
     /// further step, and answers Exhausted.
     #[inline(always)]
-    pub fn touch<R: Wait>(
-        &mut self,
-        rt: &R,
-        heads: &ReaderHeads<N>,
-        hold: &mut Hold<N>,
-        now: u64,
-    ) -> Touch
+    pub fn touch(&mut self, heads: &ReaderHeads<N>, hold: &mut Hold<N>, now: u64) -> Touch
         ensures exhausted { self.old.part.accounts.attempted ≡ most_attempts → (result ≡ touch.Exhausted) × (self.new ≡ self.old) }
         ensures touched { self.old.part.accounts.attempted < most_attempts → (found : TheFindings) × Touched heads.now.refs_limit hold.old.life now self.old self.new result found }
         ensures few { MakesAtMost 9 4 self.old.part.steps self.new.part.steps }
@@ -181,9 +200,8 @@ impl<N: Name> Worker<N> {
         } = self;
         seat.promise();
         heads.hold_in(seat, &mut hold.held);
-        let touch = hit(rt, heads, seat, sender, life, now);
+        let touch = hit(heads, seat, sender, counts, life, now);
         heads.hold_out(seat, &mut hold.held);
-        count(counts, touch);
         touch
     }
 }

@@ -7,7 +7,6 @@ use bump_store::Worker;
 use measuring::{Spent, lives, meet};
 use std::alloc::{AllocError, Global};
 use std::rt::Clock;
-use std::sync::Wait;
 use std::sync::atomic::AtomicU64;
 use std::thread;
 use std::thread::Threads;
@@ -36,7 +35,7 @@ pub fn readers_of<N: Name>(
 }
 
 // What one reader's thread does. None where memory or the clock is refused.
-fn work<N: Name, R: Clock + Wait>(
+fn work<N: Name, R: Clock>(
     rt: &R,
     alloc: Global,
     heads: &ReaderHeads<N>,
@@ -46,11 +45,10 @@ fn work<N: Name, R: Clock + Wait>(
 ) -> Option<Spent> {
     let Reader { mut worker, first } = reader;
     let items = lives(alloc, first, workload.items).ok()?;
-    touch_all(rt, heads, &mut worker, &items, workload.touches);
+    touch_all(heads, &mut worker, &items, workload.touches);
     meet(arrived, workload.threads);
     let start = Instant::now(rt).ok()?;
     let mut tally = timed_pass(
-        rt,
         heads,
         &mut worker,
         &items,
@@ -63,7 +61,7 @@ fn work<N: Name, R: Clock + Wait>(
 }
 
 /// Each reader passes through the workload in a thread of its own.
-pub fn work_apart<N: Name + Send + Sync, R: Threads + Clock + Wait + Sync>(
+pub fn work_apart<N: Name + Send + Sync, R: Threads + Clock + Sync>(
     rt: &R,
     alloc: Global,
     heads: &ReaderHeads<N>,

@@ -16,7 +16,6 @@ use measuring::{Asked, Line, Spent, Store, config_of, link_all, open};
 use std::alloc::{AllocError, Global};
 use std::marker::Brand;
 use std::rt::Clock;
-use std::sync::Wait;
 use std::thread::Threads;
 use std::{env, io};
 use workloads::{Workload, workloads};
@@ -32,7 +31,7 @@ fn fill<N: Name>(book: &mut Book<N>, workload: Workload) {
 }
 
 // Opens a store under a name, and passes through it once. Answers the mean of the threads, and what all of them counted.
-fn pass_in<N: Name + Send + Sync, R: Threads + Clock + Wait + Sync>(
+fn pass_in<N: Name + Send + Sync, R: Threads + Clock + Sync>(
     rt: &R,
     alloc: Global,
     blank: Blank,
@@ -62,7 +61,7 @@ fn pass_in<N: Name + Send + Sync, R: Threads + Clock + Wait + Sync>(
 }
 
 // Opens a store, and picks its name.
-fn pass<R: Threads + Clock + Wait + Sync>(
+fn pass<R: Threads + Clock + Sync>(
     rt: &R,
     alloc: Global,
     workload: Workload,
@@ -81,7 +80,7 @@ fn pass<R: Threads + Clock + Wait + Sync>(
 }
 
 // Passes so often, and once more before that, and prints what it took.
-fn measure<R: Threads + Clock + Wait + Sync + Print>(
+fn measure<R: Threads + Clock + Sync + Print>(
     rt: &R,
     alloc: Global,
     workload: Workload,

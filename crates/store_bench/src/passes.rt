@@ -3,7 +3,6 @@ use bump_readers::{Name, ReaderHeads};
 use bump_rules::{Dropped, ItemId, Touch};
 use bump_store::Worker;
 use measuring::{Tally, one_more};
-use std::sync::Wait;
 
 /// What each touch of a pass comes to.
 #[derive(Clone, Copy)]
@@ -83,8 +82,7 @@ fn gets<N: Name>(
 }
 
 // Gets, touches, reads the label of and releases each item, as often as there are rounds. This answer of each touch is wanted.
-fn hits<W: Wanted, N: Name, R: Wait>(
-    rt: &R,
+fn hits<W: Wanted, N: Name>(
     heads: &ReaderHeads<N>,
     worker: &mut Worker<N>,
     items: &[ItemId],
@@ -97,7 +95,7 @@ fn hits<W: Wanted, N: Name, R: Wait>(
         for item in items {
             match worker.get(heads, *item) {
                 Ok(mut hold) => {
-                    let touch = worker.touch(rt, heads, &mut hold, 5);
+                    let touch = worker.touch(heads, &mut hold, 5);
                     let label = hold.label(heads);
                     hold.release(heads);
                     if W::is(touch) {
@@ -117,20 +115,18 @@ fn hits<W: Wanted, N: Name, R: Wait>(
 }
 
 /// Hits each item so often: the first hit sets FETCHED, and the second one in HOT sets ACTIVE.
-pub fn touch_all<N: Name, R: Wait>(
-    rt: &R,
+pub fn touch_all<N: Name>(
     heads: &ReaderHeads<N>,
     worker: &mut Worker<N>,
     items: &[ItemId],
     times: u32,
 ) {
-    hits::<First, N, R>(rt, heads, worker, items, times);
+    hits::<First, N>(heads, worker, items, times);
 }
 
 /// The pass that is timed: hits where an answer is wanted, else gets. Its name is what callgrind is told to count.
 #[inline(never)]
-pub fn timed_pass<N: Name, R: Wait>(
-    rt: &R,
+pub fn timed_pass<N: Name>(
     heads: &ReaderHeads<N>,
     worker: &mut Worker<N>,
     items: &[ItemId],
@@ -138,11 +134,11 @@ pub fn timed_pass<N: Name, R: Wait>(
     wanted: Option<Answer>,
 ) -> Tally {
     match wanted {
-        Some(Answer::First) => hits::<First, N, R>(rt, heads, worker, items, rounds),
-        Some(Answer::Already) => hits::<Already, N, R>(rt, heads, worker, items, rounds),
-        Some(Answer::Marked) => hits::<Marked, N, R>(rt, heads, worker, items, rounds),
-        Some(Answer::Queued) => hits::<Queued, N, R>(rt, heads, worker, items, rounds),
-        Some(Answer::Full) => hits::<Full, N, R>(rt, heads, worker, items, rounds),
+        Some(Answer::First) => hits::<First, N>(heads, worker, items, rounds),
+        Some(Answer::Already) => hits::<Already, N>(heads, worker, items, rounds),
+        Some(Answer::Marked) => hits::<Marked, N>(heads, worker, items, rounds),
+        Some(Answer::Queued) => hits::<Queued, N>(heads, worker, items, rounds),
+        Some(Answer::Full) => hits::<Full, N>(heads, worker, items, rounds),
         None => gets(heads, worker, items, rounds),
     }
 }

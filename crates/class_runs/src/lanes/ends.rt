@@ -9,11 +9,10 @@ use bump_rules::{Applied, Config, Ended, Place, Segment};
 use std::alloc::{AllocError, Global};
 use std::marker::Brand;
 use std::process::Abort;
-use std::sync::Wait;
 use std::test::Fail;
 
 /// A bump of an unlinked item, whose reference is the last one: its chunk is free.
-pub fn free_gone<N: Name, R: Abort + Wait>(rt: &R, small: &mut Small<N>) {
+pub fn free_gone<N: Name, R: Abort>(rt: &R, small: &mut Small<N>) {
     let item = small.queue(rt, 7, 0);
     let ended = small.book.unlink(item).expect(rt, "it is linked");
     assert_eq!(rt; ended, Ended::Deferred);
@@ -34,7 +33,7 @@ fn the_last_bump_of_a_gone_item_frees_it(rt: HostRuntime) -> Result<(), Fail> {
 }
 
 /// A bump of an unlinked item that a reader still holds: its chunk is DYING until a sweep finds it given back.
-pub fn defer_gone<N: Name, R: Abort + Wait>(rt: &R, small: &mut Small<N>) {
+pub fn defer_gone<N: Name, R: Abort>(rt: &R, small: &mut Small<N>) {
     let item = small.queue(rt, 7, 0);
     let hold = small
         .worker
@@ -57,7 +56,7 @@ fn a_gone_item_that_is_held_is_freed_later(rt: HostRuntime) -> Result<(), Fail> 
 }
 
 // The lane of a ring that was closed while it was empty knows that nothing will come, again and again.
-fn close_in<N: Name, R: Abort + Wait>(
+fn close_in<N: Name, R: Abort>(
     rt: &R,
     alloc: Global,
     blank: Blank,
@@ -77,11 +76,11 @@ fn close_in<N: Name, R: Abort + Wait>(
     let (sender, receiver) = ring(alloc, 4)?;
     let mut lane = RawLane::new(receiver, seat);
     lane.promise();
-    assert!(rt; lane.fetch(rt).is_none());
+    assert!(rt; lane.fetch().is_none());
     let mut closed = sender.close();
     assert_eq!(rt; lane.rest(&mut closed), Some(0));
     assert_eq!(rt; lane.rest(&mut closed), Some(0));
-    assert!(rt; lane.fetch(rt).is_none());
+    assert!(rt; lane.fetch().is_none());
     assert_eq!(rt; lane.applied(), 0);
     Ok(())
 }

@@ -11,7 +11,7 @@ use bump_store::Worker;
 use std::alloc::{AllocError, Global};
 use std::marker::Brand;
 use std::process::Abort;
-use std::sync::{Arc, Wait};
+use std::sync::Arc;
 
 /// The class of such a store: three chunks, and each item that is pulled goes on, since HOT and WARM have the limit 0.
 const CLASS: ClassConfig = ClassConfig {
@@ -72,7 +72,7 @@ fn open<N: Name>(alloc: Global, blank: Blank, config: &Config) -> Result<Small<N
     })
 }
 
-fn play_in<N: Name, R: Abort + Wait>(
+fn play_in<N: Name, R: Abort>(
     rt: &R,
     alloc: Global,
     blank: Blank,
@@ -96,7 +96,7 @@ fn play_in<N: Name, R: Abort + Wait>(
 }
 
 /// Plays a scene in a new store, whose first generation is 1.
-pub fn play<R: Abort + Wait>(rt: &R, alloc: Global, scene: Scene) -> Result<(), AllocError> {
+pub fn play<R: Abort>(rt: &R, alloc: Global, scene: Scene) -> Result<(), AllocError> {
     let config = config_of(alloc).ok_or(AllocError)?;
     let blank = Blank::new(alloc, &config)?;
     play_in::<Brand, R>(rt, alloc, blank, &config, scene)
@@ -123,18 +123,18 @@ impl<N: Name> Small<N> {
     }
 
     /// A hit, and what it did.
-    pub fn hit<R: Abort + Wait>(&mut self, rt: &R, item: ItemId) -> Touch {
+    pub fn hit<R: Abort>(&mut self, rt: &R, item: ItemId) -> Touch {
         let mut hold = self
             .worker
             .get(&self.heads, item)
             .expect(rt, "it is linked");
-        let touch = self.worker.touch(rt, &self.heads, &mut hold, 2);
+        let touch = self.worker.touch(&self.heads, &mut hold, 2);
         hold.release(&self.heads);
         touch
     }
 
     /// A new item in COLD that was hit twice: its bump is queued, with this number.
-    pub fn queue<R: Abort + Wait>(&mut self, rt: &R, label: u64, number: u64) -> ItemId {
+    pub fn queue<R: Abort>(&mut self, rt: &R, label: u64, number: u64) -> ItemId {
         let item = self.link_cold(rt, label);
         assert_eq!(rt; self.hit(rt, item), Touch::First);
         assert_eq!(rt; self.hit(rt, item), Touch::Queued(number));
@@ -142,8 +142,8 @@ impl<N: Name> Small<N> {
     }
 
     /// Applies the next bump, if there is one.
-    pub fn apply<R: Abort + Wait>(&mut self, rt: &R, now: u64) -> Option<Entry> {
-        let bump = self.lane.fetch(rt)?;
+    pub fn apply<R: Abort>(&mut self, rt: &R, now: u64) -> Option<Entry> {
+        let bump = self.lane.fetch()?;
         assert!(rt; self.book.has_chunk(bump.life.chunk));
         let applied = self.book.apply_front(&mut self.lane, now);
         Some(Entry {

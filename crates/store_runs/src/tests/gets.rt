@@ -4,11 +4,10 @@ use bump_heads::Name;
 use bump_rules::{Ended, Segment};
 use bump_store::GetRefusal;
 use std::process::Abort;
-use std::sync::Wait;
 use std::test::Fail;
 
 /// A get of no chunk, of one that was never linked, of another generation, and of the item.
-pub fn tell_refusals<N: Name, R: Abort + Wait>(rt: &R, small: &mut Small<N>) {
+pub fn tell_refusals<N: Name, R: Abort>(rt: &R, small: &mut Small<N>) {
     assert_eq!(rt; small.refusal(id(2, 1)), Some(GetRefusal::NoSuchChunk));
     assert_eq!(rt; small.refusal(id(0, 1)), Some(GetRefusal::Stale));
     let item = small.link(rt, 7, 3);
@@ -24,7 +23,7 @@ fn gets_are_refused(rt: HostRuntime) -> Result<(), Fail> {
 }
 
 /// A freed item is stale.
-pub fn stay_unlinked<N: Name, R: Abort + Wait>(rt: &R, small: &mut Small<N>) {
+pub fn stay_unlinked<N: Name, R: Abort>(rt: &R, small: &mut Small<N>) {
     let item = small.link(rt, 7, 3);
     let ended = small.book.unlink(item).expect(rt, "it is linked");
     assert_eq!(rt; ended, Ended::Freed);
@@ -38,7 +37,7 @@ fn a_freed_item_is_stale(rt: HostRuntime) -> Result<(), Fail> {
 
 /// A holder reads the label of its item after it was unlinked, and its chunk isn't used again until the hold is given
 /// back.
-pub fn reuse<N: Name, R: Abort + Wait>(rt: &R, small: &mut Small<N>) {
+pub fn reuse<N: Name, R: Abort>(rt: &R, small: &mut Small<N>) {
     let item = small.link(rt, 7, 3);
     let mut hold = small
         .worker

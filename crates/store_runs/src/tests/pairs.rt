@@ -31,7 +31,7 @@ impl<N: Name> Pair<N> {
     // A hit of the item.
     fn hit<R: Abort + Wait>(&mut self, rt: &R, store: &Store<N>, item: ItemId, now: u64) -> Touch {
         let mut hold = self.worker.get(store, item).expect(rt, "it is linked");
-        let touch = self.worker.touch(rt, store, &mut hold, now);
+        let touch = self.worker.touch(store, &mut hold, now);
         hold.release(store);
         touch
     }

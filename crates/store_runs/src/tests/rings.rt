@@ -5,12 +5,11 @@ use bump_ring::ring;
 use bump_rules::Touch;
 use std::alloc::{AllocError, Global};
 use std::process::Abort;
-use std::sync::Wait;
 use std::test::Fail;
 
 /// Bumps come out in the order in which they were queued, and none comes twice.
-pub fn take_in_order<N: Name, R: Abort + Wait>(rt: &R, small: &mut Small<N>) {
-    assert!(rt; small.receiver.take(rt).is_none());
+pub fn take_in_order<N: Name, R: Abort>(rt: &R, small: &mut Small<N>) {
+    assert!(rt; small.receiver.take().is_none());
     for chunk in 0..3u64 {
         let item = small.link_cold(rt, chunk, 1);
         small.hit(rt, item, 2);
@@ -18,13 +17,13 @@ pub fn take_in_order<N: Name, R: Abort + Wait>(rt: &R, small: &mut Small<N>) {
     }
     assert_eq!(rt; small.receiver.known(), 0);
     for chunk in 0..3u32 {
-        let rider = small.receiver.take(rt).expect(rt, "there is one");
+        let rider = small.receiver.take().expect(rt, "there is one");
         assert_eq!(rt;
             (rider.number(), rider.life().chunk),
             (u64::from(chunk), chunk)
         );
     }
-    assert!(rt; small.receiver.take(rt).is_none());
+    assert!(rt; small.receiver.take().is_none());
 }
 
 #[test]
@@ -33,14 +32,14 @@ fn bumps_are_taken_in_order(rt: HostRuntime) -> Result<(), Fail> {
 }
 
 /// A ring that was closed while it was empty shows its end, again and again.
-pub fn close_ring<N: Name, R: Abort + Wait>(rt: &R, alloc: Global) -> Result<(), AllocError> {
+pub fn close_ring<N: Name, R: Abort>(rt: &R, alloc: Global) -> Result<(), AllocError> {
     let (sender, mut receiver) = ring::<N>(alloc, 2)?;
     assert_eq!(rt; sender.accepted(), 0);
     let mut closed = sender.close();
     assert_eq!(rt; closed.accepted(), 0);
     assert_eq!(rt; receiver.rest(&mut closed), Some(0));
     assert_eq!(rt; receiver.rest(&mut closed), Some(0));
-    assert!(rt; receiver.take(rt).is_none());
+    assert!(rt; receiver.take().is_none());
     assert_eq!(rt; receiver.known(), 0);
     Ok(())
 }
@@ -53,11 +52,11 @@ fn tell_refused(rt: &impl Eprint) -> Result<(), Fail> {
 
 /// A ring that is refused for want of memory may be asked for again, and is then as any other. It is refused where the
 /// first one was, so that this is told.
-pub fn make_again<N: Name, R: Abort + Wait>(rt: &R, alloc: Global) -> Result<(), AllocError> {
+pub fn make_again<N: Name, R: Abort>(rt: &R, alloc: Global) -> Result<(), AllocError> {
     let refused = ring::<N>(alloc, 2).is_err();
     let (sender, mut receiver) = ring::<N>(alloc, 2)?;
     assert_eq!(rt; (sender.accepted(), receiver.known()), (0, 0));
-    assert!(rt; receiver.take(rt).is_none());
+    assert!(rt; receiver.take().is_none());
     if refused {
         return Err(AllocError);
     }

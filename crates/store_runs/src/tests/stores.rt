@@ -16,7 +16,7 @@ use bump_store::{GetRefusal, Worker};
 use std::alloc::{AllocError, Global};
 use std::marker::Brand;
 use std::process::Abort;
-use std::sync::{Arc, Wait};
+use std::sync::Arc;
 
 /// The sizes of a store of one class and one worker, whose first generation is 1.
 #[derive(Clone, Copy)]
@@ -102,7 +102,7 @@ fn open<N: Name>(
     })
 }
 
-fn play_in<N: Name, R: Abort + Wait>(
+fn play_in<N: Name, R: Abort>(
     rt: &R,
     alloc: Global,
     blank: Blank,
@@ -137,7 +137,7 @@ fn play_in<N: Name, R: Abort + Wait>(
 
 /// Plays a scene in a new store of these sizes. It has room for a bump at least, and its class has 1 to 1,000,000
 /// chunks.
-pub fn play<R: Abort + Wait>(
+pub fn play<R: Abort>(
     rt: &R,
     alloc: Global,
     sizes: Sizes,
@@ -183,14 +183,14 @@ impl<N: Name> Small<N> {
     }
 
     /// A hit, as a reader makes it who wants the label, and what it did.
-    pub fn hit<R: Abort + Wait>(&mut self, rt: &R, item: ItemId, now: u64) -> (u64, Touch) {
+    pub fn hit<R: Abort>(&mut self, rt: &R, item: ItemId, now: u64) -> (u64, Touch) {
         let mut hold = self
             .worker
             .get(&self.heads, item)
             .expect(rt, "it is linked");
         assert_eq!(rt; hold.life(), item);
         let label = hold.label(&self.heads);
-        let touch = self.worker.touch(rt, &self.heads, &mut hold, now);
+        let touch = self.worker.touch(&self.heads, &mut hold, now);
         hold.release(&self.heads);
         (label, touch)
     }

@@ -11,7 +11,6 @@ use bump_store::Worker;
 use std::alloc::{AllocError, Global};
 use std::marker::Brand;
 use std::process::Abort;
-use std::sync::Wait;
 use std::test::Fail;
 use std::thread;
 use std::thread::Threads;
@@ -73,7 +72,7 @@ fn counted(answers: Accounts, touch: Touch) -> Accounts {
 
 impl<N: Name> Told<N> {
     // Gets the chunk's item, as its head shows it, reads its label twice, and touches it.
-    fn touch<R: Abort + Wait>(
+    fn touch<R: Abort>(
         &mut self,
         rt: &R,
         heads: &Heads<N>,
@@ -87,7 +86,7 @@ impl<N: Name> Told<N> {
             return Ok(());
         };
         let label = hold.label(heads);
-        let touch = self.worker.touch(rt, heads, &mut hold, now);
+        let touch = self.worker.touch(heads, &mut hold, now);
         let again = hold.label(heads);
         hold.release(heads);
         assert_eq!(rt; label, again);
@@ -100,7 +99,7 @@ impl<N: Name> Told<N> {
     }
 }
 
-fn touch_all<N: Name, R: Abort + Wait>(
+fn touch_all<N: Name, R: Abort>(
     rt: &R,
     alloc: Global,
     heads: &Heads<N>,
@@ -124,7 +123,7 @@ fn touch_all<N: Name, R: Abort + Wait>(
     Ok(told)
 }
 
-fn touch_apart<N: Name + Send + Sync, R: Threads + Abort + Wait + Sync>(
+fn touch_apart<N: Name + Send + Sync, R: Threads + Abort + Sync>(
     rt: &R,
     alloc: Global,
     heads: &Heads<N>,
@@ -184,19 +183,19 @@ fn with_rings<N: Name>(
 }
 
 // How many bumps are left in the rings, by chunk, and how many there are.
-fn bumps_left<N: Name, R: Abort + Wait>(rt: &R, receivers: Vec<Receiver<N>>) -> ([u32; 64], u64) {
+fn bumps_left<N: Name, R: Abort>(rt: &R, receivers: Vec<Receiver<N>>) -> ([u32; 64], u64) {
     let mut left = [0u32; 64];
     let mut all = 0u64;
     for mut receiver in receivers {
         for _ in 0..CAPACITY {
-            if let Some(rider) = receiver.take(rt) {
+            if let Some(rider) = receiver.take() {
                 let chunk = rider.life().chunk as usize;
                 assert!(rt; chunk < 64);
                 left[chunk] = left[chunk].saturating_add(1);
                 all = all.saturating_add(1);
             }
         }
-        assert!(rt; receiver.take(rt).is_none());
+        assert!(rt; receiver.take().is_none());
     }
     (left, all)
 }
@@ -212,7 +211,7 @@ fn expect_once(rt: &impl Abort, keys: &mut Vec<u64>) -> Result<(), AllocError> {
 }
 
 // The accounts are those of the answers, First came once for a life, and each chunk has the references that are left.
-fn expect_told<N: Name, R: Abort + Wait>(
+fn expect_told<N: Name, R: Abort>(
     rt: &R,
     alloc: Global,
     heads: &Heads<N>,
@@ -250,7 +249,7 @@ fn config_of_four(alloc: Global) -> Option<Config>
     Config::new(4, CAPACITY, 64, 1, vec![in alloc; CLASS].ok()?).ok()
 }
 
-fn run_in<N: Name + Send + Sync, R: Threads + Abort + Wait + Sync>(
+fn run_in<N: Name + Send + Sync, R: Threads + Abort + Sync>(
     rt: &R,
     alloc: Global,
     blank: Blank,

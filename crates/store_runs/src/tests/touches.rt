@@ -4,11 +4,10 @@ use super::stores::{Scene, Small, head, play, sized};
 use bump_heads::Name;
 use bump_rules::{Dropped, Ended, Pulled, Segment, Tail, Touch};
 use std::process::Abort;
-use std::sync::Wait;
 use std::test::Fail;
 
 /// The second hit in HOT marks the item, and bumps nothing.
-pub fn mark_in_hot<N: Name, R: Abort + Wait>(rt: &R, small: &mut Small<N>) {
+pub fn mark_in_hot<N: Name, R: Abort>(rt: &R, small: &mut Small<N>) {
     let item = small.link(rt, 7, 3);
     assert_eq!(rt; small.hit(rt, item, 4), (7, Touch::First));
     assert_eq!(rt; small.see(rt, 0), (head(1, "lf", Segment::Hot), 3));
@@ -25,7 +24,7 @@ fn the_second_hit_in_hot_marks(rt: HostRuntime) -> Result<(), Fail> {
 }
 
 /// So does a hit in WARM, where a pull took the mark away.
-pub fn mark_in_warm<N: Name, R: Abort + Wait>(rt: &R, small: &mut Small<N>) {
+pub fn mark_in_warm<N: Name, R: Abort>(rt: &R, small: &mut Small<N>) {
     let item = small.link(rt, 7, 3);
     small.hit(rt, item, 4);
     small.hit(rt, item, 5);
@@ -42,7 +41,7 @@ fn a_rescued_item_is_marked_again(rt: HostRuntime) -> Result<(), Fail> {
 }
 
 /// The second hit in COLD queues a bump, which has a reference, and a third one finds the item ACTIVE.
-pub fn queue_in_cold<N: Name, R: Abort + Wait>(rt: &R, small: &mut Small<N>) {
+pub fn queue_in_cold<N: Name, R: Abort>(rt: &R, small: &mut Small<N>) {
     let item = small.link_cold(rt, 7, 3);
     assert_eq!(rt; small.hit(rt, item, 5), (7, Touch::First));
     assert_eq!(rt; small.hit(rt, item, 6), (7, Touch::Queued(0)));
@@ -58,7 +57,7 @@ fn a_bump_is_queued_once(rt: HostRuntime) -> Result<(), Fail> {
 
 /// A bump that finds no room is dropped: FETCHED stays, ACTIVE is clear again, and the reference was given back. Once
 /// a bump was taken out of the ring, one more hit queues it.
-pub fn drop_without_room<N: Name, R: Abort + Wait>(rt: &R, small: &mut Small<N>) {
+pub fn drop_without_room<N: Name, R: Abort>(rt: &R, small: &mut Small<N>) {
     let first = small.link_cold(rt, 7, 3);
     let second = small.link_cold(rt, 8, 4);
     small.hit(rt, first, 7);
@@ -71,7 +70,7 @@ pub fn drop_without_room<N: Name, R: Abort + Wait>(rt: &R, small: &mut Small<N>)
     assert_eq!(rt; small.see(rt, 0), (head(2, "lfa", Segment::Cold), 3));
     assert_eq!(rt; small.see(rt, 1), (head(1, "lf", Segment::Cold), 4));
     assert_eq!(rt; small.counts(), [2, 1, 1, 0, 0]);
-    let rider = small.receiver.take(rt).expect(rt, "there is one");
+    let rider = small.receiver.take().expect(rt, "there is one");
     assert_eq!(rt;
         (rider.worker(), rider.number(), rider.life()),
         (0, 0, first)
@@ -91,7 +90,7 @@ fn a_bump_without_room_is_dropped(rt: HostRuntime) -> Result<(), Fail> {
 }
 
 /// Where the count is at its limit, neither a hold nor a bump gets a reference.
-pub fn drop_at_limit<N: Name, R: Abort + Wait>(rt: &R, small: &mut Small<N>) {
+pub fn drop_at_limit<N: Name, R: Abort>(rt: &R, small: &mut Small<N>) {
     let item = small.link(rt, 7, 3);
     let hold = small
         .worker
@@ -117,7 +116,7 @@ fn a_bump_at_the_limit_is_dropped(rt: HostRuntime) -> Result<(), Fail> {
 /// An item that was unlinked while it was held is judged by the segment that it had. Its bump comes out of the ring as
 /// any other, and holds the chunk on its way: no sweep finds it free. The test ends there. That a lane then finds the
 /// item gone, and gives the bump's reference back, is for the tests of lanes to show.
-pub fn touch_unlinked<N: Name, R: Abort + Wait>(rt: &R, small: &mut Small<N>) {
+pub fn touch_unlinked<N: Name, R: Abort>(rt: &R, small: &mut Small<N>) {
     let item = small.link_cold(rt, 7, 3);
     let mut hold = small
         .worker
@@ -125,15 +124,15 @@ pub fn touch_unlinked<N: Name, R: Abort + Wait>(rt: &R, small: &mut Small<N>) {
         .expect(rt, "it is linked");
     let ended = small.book.unlink(item).expect(rt, "it is linked");
     assert_eq!(rt; ended, Ended::Deferred);
-    let touch = small.worker.touch(rt, &small.heads, &mut hold, 7);
+    let touch = small.worker.touch(&small.heads, &mut hold, 7);
     assert_eq!(rt; touch, Touch::First);
-    let touch = small.worker.touch(rt, &small.heads, &mut hold, 8);
+    let touch = small.worker.touch(&small.heads, &mut hold, 8);
     assert_eq!(rt; touch, Touch::Queued(0));
     hold.release(&small.heads);
     assert_eq!(rt; small.see(rt, 0), (head(1, "fa", Segment::Cold), 3));
     assert_eq!(rt; small.refusal(item), Some(bump_store::GetRefusal::Stale));
     assert_eq!(rt; small.book.sweep(), 0);
-    let rider = small.receiver.take(rt).expect(rt, "there is one");
+    let rider = small.receiver.take().expect(rt, "there is one");
     assert_eq!(rt;
         (rider.worker(), rider.number(), rider.life()),
         (0, 0, item)

@@ -132,7 +132,7 @@ impl<N: Name> Whole<N> {
         let reader = self.workers.get_mut(worker).expect(rt, "it is a worker");
         let mut hold = reader.get(&self.store, item).expect(rt, "it is linked");
         let label = hold.label(&self.store);
-        let touch = reader.touch(rt, &self.store, &mut hold, now);
+        let touch = reader.touch(&self.store, &mut hold, now);
         hold.release(&self.store);
         (label, touch)
     }

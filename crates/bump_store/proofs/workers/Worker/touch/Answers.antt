@@ -11,7 +11,7 @@ use Rattle.bump_store.proofs.workers.Worker.touch.Goals as goal
 pub hold_out-requires-clause-joined : goal.hold_out-requires-clause-joined
 hold_out-requires-clause-joined g c = (
   part_of c.hold.inside.held,
-  ap (λ (v : WorkerView). v.hold) c.hit-touch.ensures.1.part ∙ ap (λ (v : WorkerView). v.hold) c.hold_in.ensures.worker
+  ap (λ (v : WorkerView). v.hold) c.hit-touch.ensures.hit.1.part ∙ ap (λ (v : WorkerView). v.hold) c.hold_in.ensures.worker
       ∙ ap (λ (v : HoldView). v.part) c.hold.invariant,
   sym (ap (λ (v : HoldView). v.life) c.hold_in.ensures.hollow),
 )
@@ -21,8 +21,8 @@ returns-clause-few g c =
     let l = c.life-life.result in
     let now = c.args.now in
     let answered = c.hit-touch.result in
-    let f = c.hit-touch.ensures.0 in
-    let m = c.hit-touch.ensures.1 in
+    let f = c.hit-touch.ensures.hit.0 in
+    let m = c.hit-touch.ensures.hit.1 in
     let part = ap (λ (v : WorkerView). v.part) c.hold_out.ensures.worker ∙ ap (λ (v : WorkerView). v.part) m.part
     ∙ ap (λ (v : WorkerView). touched_part answered l now f v.part) c.hold_in.ensures.worker in
     let steps = ap (λ (p : WorkerPart). p.steps) part
