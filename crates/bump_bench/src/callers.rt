@@ -34,11 +34,7 @@ pub enum Before {
 }
 
 // Hits each item.
-fn hit_all<N: Name>(
-    heads: &ReaderHeads<N>,
-    worker: &mut Worker<N>,
-    items: &[ItemId],
-) {
+fn hit_all<N: Name>(heads: &ReaderHeads<N>, worker: &mut Worker<N>, items: &[ItemId]) {
     for item in items {
         if let Ok(mut hold) = worker.get(heads, *item) {
             worker.touch(heads, &mut hold, 0);

@@ -101,12 +101,7 @@ impl Measured {
     }
 
     // Passes so often, and once more before that, and prints what it took.
-    fn measure<R: Clock + Print>(
-        self,
-        rt: &R,
-        alloc: Global,
-        passes: u32,
-    ) -> io::Result<()> {
+    fn measure<R: Clock + Print>(self, rt: &R, alloc: Global, passes: u32) -> io::Result<()> {
         let first = self.pass(rt, alloc)?;
         let mut times = Vec::new(alloc);
         for _pass in 0..passes {

@@ -48,13 +48,7 @@ fn work<N: Name, R: Clock>(
     touch_all(heads, &mut worker, &items, workload.touches);
     meet(arrived, workload.threads);
     let start = Instant::now(rt).ok()?;
-    let mut tally = timed_pass(
-        heads,
-        &mut worker,
-        &items,
-        workload.rounds,
-        workload.wanted,
-    );
+    let mut tally = timed_pass(heads, &mut worker, &items, workload.rounds, workload.wanted);
     let spent = start.elapsed(rt).ok()?;
     tally.labels = tally.labels.wrapping_add(worker.counts().accepted);
     Some(Spent::new(spent, tally))

@@ -61,11 +61,7 @@ fn pass_in<N: Name + Send + Sync, R: Threads + Clock + Sync>(
 }
 
 // Opens a store, and picks its name.
-fn pass<R: Threads + Clock + Sync>(
-    rt: &R,
-    alloc: Global,
-    workload: Workload,
-) -> io::Result<Spent> {
+fn pass<R: Threads + Clock + Sync>(rt: &R, alloc: Global, workload: Workload) -> io::Result<Spent> {
     let class = ClassConfig {
         chunks: workload.chunks,
         hot: 0,

@@ -4,7 +4,7 @@ ghost use Rattle.bump_readers.specs.Workers.{worker_seen};
 ghost use Rattle.bump_steps.specs.Rule.{worker_part};
 
 use super::gets::{reuse, stay_unlinked, tell_refusals};
-use super::rings::{close_ring, make_again, take_in_order};
+use super::rings::{close_ring, cross, make_again, send_in_rounds, take_in_order};
 use super::touches::{
     drop_at_limit, drop_without_room, mark_in_hot, mark_in_warm, queue_in_cold, touch_unlinked,
 };
@@ -17,6 +17,7 @@ use std::alloc::{AllocError, Global};
 use std::marker::Brand;
 use std::process::Abort;
 use std::sync::Arc;
+use std::thread::Threads;
 
 /// The sizes of a store of one class and one worker, whose first generation is 1.
 #[derive(Clone, Copy)]
@@ -59,6 +60,8 @@ pub enum Scene {
     UnlinkedStays,
     Reused,
     TakenInOrder,
+    SentInRounds,
+    Crossed { bumps: u64 },
     Closed,
     MadeAgain,
 }
@@ -102,7 +105,7 @@ fn open<N: Name>(
     })
 }
 
-fn play_in<N: Name, R: Abort>(
+fn play_in<N: Name + Send + Sync, R: Threads + Abort + Sync>(
     rt: &R,
     alloc: Global,
     blank: Blank,
@@ -129,6 +132,8 @@ fn play_in<N: Name, R: Abort>(
         Scene::UnlinkedStays => stay_unlinked(rt, &mut small),
         Scene::Reused => reuse(rt, &mut small),
         Scene::TakenInOrder => take_in_order(rt, &mut small),
+        Scene::SentInRounds => send_in_rounds(rt, alloc, &mut small)?,
+        Scene::Crossed { bumps } => cross(rt, small, bumps),
         Scene::Closed => close_ring::<N, R>(rt, alloc)?,
         Scene::MadeAgain => make_again::<N, R>(rt, alloc)?,
     }
@@ -137,7 +142,7 @@ fn play_in<N: Name, R: Abort>(
 
 /// Plays a scene in a new store of these sizes. It has room for a bump at least, and its class has 1 to 1,000,000
 /// chunks.
-pub fn play<R: Abort>(
+pub fn play<R: Threads + Abort + Sync>(
     rt: &R,
     alloc: Global,
     sizes: Sizes,
