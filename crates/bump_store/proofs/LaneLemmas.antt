@@ -20,12 +20,12 @@ use Rattle.bump_class.specs.Lanes.{LaneView, IsLane, carries, entries, lives}
 use Rattle.bump_store.specs.Lanes.{outcome_told, told}
 
 -- a numbered list is as long as its lives
-numbered_long : (first : ℕ) (items : List ItemId) → length (numbered_from first items) ≡ length items
+pub numbered_long : (first : ℕ) (items : List ItemId) → length (numbered_from first items) ≡ length items
 numbered_long first [] = refl
 numbered_long first (item ∷ items) = ap suc (numbered_long (suc first) items)
 
 -- a lane at rest that carries nothing has nothing aboard
-none_aboard : (stage : Lane) → is_half_made stage ≡ false → carried stage ≡ None → aboard stage ≡ []
+pub none_aboard : (stage : Lane) → is_half_made stage ≡ false → carried stage ≡ None → aboard stage ≡ []
 none_aboard lane.Empty rest none = refl
 none_aboard (lane.Carrying bump) rest none = absurd (cc none)
 none_aboard (lane.Tried bump) rest none = absurd (cc rest)

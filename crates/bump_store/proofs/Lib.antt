@@ -4,3 +4,6 @@ mod StepLemmas
 mod GrowingLists
 mod Starts
 mod LaneLemmas
+mod SettlingLemmas
+mod PassLemmas
+mod FinishingLemmas

@@ -8,3 +8,7 @@ pub mod Attempts
 pub mod Stores
 pub mod Lanes
 pub mod Loans
+pub mod Closing
+pub mod Settling
+pub mod Passes
+pub mod Finishing

@@ -69,6 +69,7 @@ impl<N: Name> Lane<N> {
     pub fn drain<R: Wait>(&mut self, rt: &R, store: &Store<N>, now: u64) -> u64
         ensures ring { (self.new.lane.ring ≡ self.old.lane.ring) × (self.new.capacity ≡ self.old.capacity) }
         ensures most { result ≤ self.old.capacity }
+        ensures few { result < 4294967296 }
         ensures count { length (entries self.new.lane) ≡ length (entries self.old.lane) + result }
         ensures grown { IsPrefix (entries self.old.lane) (entries self.new.lane) }
         ensures drained { AppliesMany now self.old.lane result self.new.lane }

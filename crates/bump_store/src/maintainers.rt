@@ -1,10 +1,13 @@
 //! The maintainer, which has the lanes of all workers.
-ghost use Rattle.std.specs.Prelude.{◌≡◌, ◌<◌, List as TheList, Some, length, slice_get};
+ghost use Rattle.std.specs.Prelude.{◌≡◌, ◌<◌, ◌≤◌, ◌+◌, List as TheList, Some, length, slice_get};
 ghost use Rattle.bump_store.specs.Lanes.{LaneState as TheLaneState};
+ghost use Rattle.bump_store.specs.Passes.{all_applied, AllDrained};
 
 use crate::lanes::Lane;
+use crate::stores::Store;
 use bump_heads::Name;
 use std::marker::Model;
+use std::sync::Wait;
 
 /// The lanes of all workers, by number, which one thread has at a time (memcached's `lru_maintainer_thread`).
 #[derive(Drop)]
@@ -16,6 +19,9 @@ impl<N: Name> Model for Maintainer<N> {
     ghost Value = { TheList TheLaneState };
 
     ghost view = { λ m. m.lanes.items };
+
+    // as many as a store has workers at most
+    ghost invariant = { λ m. length m.lanes.items ≤ 64 };
 }
 
 impl<N: Name> Maintainer<N> {
@@ -30,6 +36,20 @@ impl<N: Name> Maintainer<N> {
         ensures lane { slice_get self.old worker ≡ Some result.now }
     {
         &mut self.lanes[worker as usize]
+    }
+
+    /// Drains each lane once, ascending (a turn of memcached's `lru_maintainer_bumps`, which goes through all bump
+    /// buffers), and answers how many bumps were applied: by so many entries all lanes grew together. `now` is the
+    /// time of the applications, in the caller's ticks.
+    pub fn pass<R: Wait>(&mut self, rt: &R, store: &Store<N>, now: u64) -> u64
+        ensures lanes { AllDrained now self.old self.new }
+        ensures count { all_applied self.new ≡ all_applied self.old + result }
+    {
+        let mut count = 0;
+        for worker in 0..self.lanes.len() {
+            count += self.lanes[worker].drain(rt, store, now);
+        }
+        count
     }
 
     /// The lanes, by number.

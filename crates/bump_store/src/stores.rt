@@ -67,7 +67,7 @@ impl<N: Name> Store<N> {
     }
 
     // The Book of a class that there is.
-    fn lock_class<R: Wait>(&self, rt: &R, class: u32) -> MutexGuard<'_, Book<N>>
+    pub(crate) fn lock_class<R: Wait>(&self, rt: &R, class: u32) -> MutexGuard<'_, Book<N>>
         requires { class < length self.now.classes }
         ensures { IsOfClass class self.now.classes (mutex_guard_value result).part }
     {

@@ -4,6 +4,8 @@ mod drains;
 mod gets;
 mod pairs;
 mod rings;
+mod settling;
+mod shared_item;
 mod stores;
 mod threads;
 mod touches;

@@ -7,6 +7,7 @@ use super::drains::{
     apply_in_cold, apply_unlinked, drain_again, drain_both, free_the_last, leave_outside_cold,
 };
 use super::pairs::hit_and_drain;
+use super::settling::{finish_new, pass_twice, settle_at_once, settle_one_by_one};
 use bump_heads::{Blank, Name};
 use bump_rules::{ClassConfig, Config, Entry, Head, ItemId, Pulled, Tail, Touch};
 use bump_store::{Maintainer, Store, Worker};
@@ -36,6 +37,9 @@ pub enum Story {
     DrainedAgain,
     DrainedBoth,
     HitAndDrained,
+    SettledAtOnce,
+    SettledOneByOne,
+    PassedTwice,
 }
 
 // None where memory is refused.
@@ -61,17 +65,38 @@ fn tell_in<N: Name, R: Abort + Wait>(
     requires two { config.now.workers ≡ 2 }
 {
     let (store, workers, maintainer) = Store::<N>::new(alloc, blank, config)?;
-    if matches!(story, Story::HitAndDrained) {
-        hit_and_drain(rt, &store, workers, maintainer);
-        return Ok(());
+    match story {
+        Story::HitAndDrained => hit_and_drain(rt, &store, workers, maintainer),
+        Story::SettledAtOnce => settle_at_once(rt, &store, workers, maintainer),
+        Story::SettledOneByOne => settle_one_by_one(rt, &store, workers, maintainer),
+        Story::PassedTwice => pass_twice(rt, &store, workers, maintainer),
+        _ => tell_whole(rt, alloc, store, workers, maintainer, story)?,
     }
+    Ok(())
+}
+
+// A story of a store whose workers and lanes stay as they are.
+fn tell_whole<N: Name, R: Abort + Wait>(
+    rt: &R,
+    alloc: Global,
+    store: Store<N>,
+    workers: Vec<Worker<N>>,
+    maintainer: Maintainer<N>,
+    story: Story,
+) -> Result<(), AllocError>
+    requires two { length maintainer ≡ 2 }
+{
     let mut whole = Whole {
         store,
         workers,
         maintainer,
     };
     match story {
-        Story::RefusalsTold => tell_refusals(rt, alloc, &mut whole)?,
+        Story::RefusalsTold => {
+            tell_refusals(rt, alloc, &mut whole)?;
+            finish_new(rt, alloc, whole.store)?;
+            return Ok(());
+        }
         Story::ClassesTold => tell_classes(rt, &mut whole),
         Story::AppliedInCold => apply_in_cold(rt, &mut whole),
         Story::LeftOutsideCold => leave_outside_cold(rt, &mut whole),

@@ -1,4 +1,4 @@
-use Rattle.std.proofs.Common.{◌≡◌, length, sym, ap, ◌∙◌, subst, vec_len, arith}
+use Rattle.std.proofs.Common.{◌≡◌, ◌≤◌, length, sym, ap, ◌∙◌, subst, vec_len, arith}
 use Rattle.std.specs.Arc.{arc_value}
 use Rattle.bump_rules.specs.Configs.{HaveChunks}
 use Rattle.bump_rules.specs.declared.configs.Config.{Config}
@@ -23,3 +23,14 @@ invariant_of-store g c =
 pub returns-clause-count : goal.returns-clause-count
 returns-clause-count g c =
     (count_of_workers _ _ c.in_ok-workers.ensures.workers, count_of_lanes _ _ c.in_ok-workers.ensures.lanes)
+
+pub invariant_of-result : goal.invariant_of-result
+invariant_of-result g c =
+    let key = c.args.config.now in
+    let b = bounds key.workers key.capacity key.refs_limit key.first_generation key.classes key.valid in
+    let few : length c.in_ok-workers.lanes.items ≤ 64 = omega (
+      arith,
+      count_of_lanes _ _ c.in_ok-workers.ensures.lanes,
+      b.workers_most,
+    ) in
+    few

@@ -1,0 +1,79 @@
+//! A store that is finished: the sizes of its classes' lists.
+ghost use Rattle.std.specs.Prelude.{◌≡◌, ◌<◌, length, map, IfOk, IfErr};
+ghost use Rattle.bump_class.specs.Books.{BookView as TheBookView};
+ghost use Rattle.bump_store.specs.Finishing.{sum_of, size_at, AreSizesOf, AreOfClasses};
+
+use crate::stores::Store;
+use bump_class::Book;
+use bump_heads::Name;
+use bump_rules::Place;
+use std::alloc::Global;
+use std::sync::Wait;
+
+/// How many chunks stand in each of a class's six lists (memcached's `sizes` of `items.c`).
+#[derive(Debug, PartialEq, Eq, Clone, Copy)]
+pub struct ClassSizes {
+    /// In HOT.
+    pub hot: u32,
+
+    /// In WARM.
+    pub warm: u32,
+
+    /// In COLD.
+    pub cold: u32,
+
+    /// In DYING: unlinked, and at the last look still held.
+    pub dying: u32,
+
+    /// In UNUSED.
+    pub unused: u32,
+
+    /// In RETIRED: they had their last generation.
+    pub retired: u32,
+}
+
+/// Why `finish` told no sizes: memory was refused. The store comes back.
+#[derive(Drop)]
+pub struct Unfinished<N: Name> {
+    /// The store, as it was.
+    pub store: Store<N>,
+}
+
+impl<N: Name> Store<N> {
+    // The sizes of a class's lists, which its lock shows.
+    fn class_sizes<R: Wait>(&self, rt: &R, class: u32) -> ClassSizes
+        requires { class < length self.now.classes }
+        ensures { (book : TheBookView) × AreSizesOf class self.now.classes result book }
+    {
+        let guard = self.lock_class(rt, class);
+        let book: &Book<N> = &guard;
+        book.promise();
+        ClassSizes {
+            hot: book.size(Place::Hot),
+            warm: book.size(Place::Warm),
+            cold: book.size(Place::Cold),
+            dying: book.size(Place::Dying),
+            unused: book.size(Place::Unused),
+            retired: book.size(Place::Retired),
+        }
+    }
+
+    /// Ends the store, and tells the sizes of its classes' lists, by class: it waits until no other thread has the
+    /// lock of a class, for one class after the other. A class's sizes add up to the number of its chunks. It is
+    /// refused only for want of memory, and the store comes back.
+    pub fn finish<R: Wait>(self, alloc: Global, rt: &R) -> Result<Vec<ClassSizes>, Unfinished<N>>
+        ensures books { IfOk result (λ sizes. AreOfClasses 0 self.classes sizes.items) }
+        ensures sums { IfOk result (λ sizes. map sum_of sizes.items ≡ map (λ class. class.chunks) self.classes) }
+        ensures store { IfErr result (λ unfinished. unfinished.store ≡ self) }
+    {
+        let Ok(mut all) = Vec::with_capacity(alloc, self.books.len()) else {
+            return Err(Unfinished { store: self });
+        };
+        for class in 0..self.books.len() {
+            let Ok(()) = all.push(self.class_sizes(rt, class as u32)) else {
+                unreachable!()
+            };
+        }
+        Ok(all)
+    }
+}

@@ -1,0 +1,166 @@
+//! Two workers touch one item while a third thread applies what they queue; then both rings are settled.
+ghost use Rattle.std.specs.Prelude.{◌≡◌};
+
+use super::pairs::{Pair, link_cold, two_pairs};
+use super::whole::class;
+use bump_heads::{Blank, Name};
+use bump_rules::{Applied, Config, Entry, ItemId};
+use bump_store::{Lane, Store, Worker};
+use std::alloc::{AllocError, Global};
+use std::marker::Brand;
+use std::process::Abort;
+use std::sync::Wait;
+use std::test::Fail;
+use std::thread;
+use std::thread::Threads;
+
+/// How many applied bumps had each outcome.
+#[derive(Clone, Copy)]
+struct Tally {
+    moved: u32,
+    time_only: u32,
+    gone: u32,
+}
+
+impl Tally {
+    fn new() -> Tally {
+        Tally {
+            moved: 0,
+            time_only: 0,
+            gone: 0,
+        }
+    }
+
+    fn add(&mut self, entry: Entry) {
+        let count = match entry.applied {
+            Applied::Moved => &mut self.moved,
+            Applied::TimeOnly => &mut self.time_only,
+            Applied::Gone(_) => &mut self.gone,
+        };
+        *count = count.saturating_add(1);
+    }
+}
+
+// Gets the item twice, as a reader who wants the label, and hits it.
+fn hit_twice<N: Name, R: Abort + Wait>(
+    rt: &R,
+    store: &Store<N>,
+    worker: Worker<N>,
+    item: ItemId,
+) -> Worker<N>
+    ensures ring { result.sender.ring ≡ worker.sender.ring }
+{
+    let mut worker = worker;
+    for now in 4..6 {
+        let mut hold = worker.get(store, item).expect(rt, "it is linked");
+        assert_eq!(rt; hold.label(store), 7);
+        worker.touch(rt, store, &mut hold, now);
+        hold.release(store);
+    }
+    worker
+}
+
+// Applies what comes through both rings, and counts what it did.
+fn apply_both<N: Name, R: Wait>(
+    rt: &R,
+    store: &Store<N>,
+    first: Lane<N>,
+    second: Lane<N>,
+) -> (Lane<N>, Lane<N>, Tally)
+    ensures first { result.0.lane.ring ≡ first.lane.ring }
+    ensures second { result.1.lane.ring ≡ second.lane.ring }
+{
+    let mut lanes = (first, second);
+    let mut tally = Tally::new();
+    for _ in 0..100 {
+        if let Some(entry) = lanes.0.next(rt, store, 6) {
+            tally.add(entry);
+        }
+        if let Some(entry) = lanes.1.next(rt, store, 6) {
+            tally.add(entry);
+        }
+    }
+    (lanes.0, lanes.1, tally)
+}
+
+// Closes the worker, applies what is left in its ring one by one, and settles it. It answers how many were accepted.
+fn close_pair<N: Name, R: Abort + Wait>(
+    rt: &R,
+    store: &Store<N>,
+    pair: Pair<N>,
+    tally: &mut Tally,
+) -> u64 {
+    let Pair { worker, mut lane } = pair;
+    let mut closed = worker.close();
+    for _ in 0..2 {
+        if let Some(entry) = lane
+            .next_of(rt, store, &mut closed, 7)
+            .expect(rt, "the end is seen")
+        {
+            tally.add(entry);
+        }
+    }
+    assert_eq!(rt; lane.next_of(rt, store, &mut closed, 7), Ok(None));
+    let settled = lane
+        .settle(rt, store, closed, 7)
+        .ok()
+        .expect(rt, "the end is seen");
+    assert_eq!(rt; settled.counts.accepted, lane.applied());
+    settled.applied
+}
+
+fn run_in<N: Name + Send + Sync, R: Threads + Abort + Wait + Sync>(
+    rt: &R,
+    alloc: Global,
+    blank: Blank,
+    config: &Config,
+) -> Result<(), AllocError>
+    requires name { blank.table ≡ N.table }
+    requires config { blank.config ≡ config.now }
+{
+    let (store, workers, maintainer) = Store::<N>::new(alloc, blank, config)?;
+    let (first, second) = two_pairs(workers, maintainer.into_lanes()).expect(rt, "there are two");
+    let item = link_cold(rt, &store, 7, 3);
+    let shared: &Store<N> = &store;
+    let Pair { worker, lane } = first;
+    let Pair {
+        worker: other_worker,
+        lane: other_lane,
+    } = second;
+    let ((worker, other_worker), (lane, other_lane, told)) = thread::join(
+        rt,
+        move || {
+            thread::join(
+                rt,
+                move || hit_twice(rt, shared, worker, item),
+                move || hit_twice(rt, shared, other_worker, item),
+            )
+        },
+        move || apply_both(rt, shared, lane, other_lane),
+    );
+    let mut tally = told;
+    let first = Pair { worker, lane };
+    let second = Pair {
+        worker: other_worker,
+        lane: other_lane,
+    };
+    let accepted = close_pair(rt, shared, first, &mut tally);
+    let accepted = accepted.saturating_add(close_pair(rt, shared, second, &mut tally));
+    assert_eq!(rt; (tally.moved, tally.gone), (1, 0));
+    assert!(rt; tally.time_only <= 1);
+    assert_eq!(rt; accepted, u64::from(tally.time_only) + 1);
+    Ok(())
+}
+
+// None where memory is refused.
+fn config_of_two(alloc: Global) -> Option<Config> {
+    Config::new(2, 4, 8, 1, vec![in alloc; class(1, 0, 5)].ok()?).ok()
+}
+
+#[test]
+fn two_workers_and_a_lane_share_an_item(rt: HostRuntime) -> Result<(), Fail> {
+    let alloc = rt.alloc();
+    let config = config_of_two(alloc).ok_or("no memory")?;
+    let blank = Blank::new(alloc, &config)?;
+    Ok(run_in::<Brand, _>(&rt, alloc, blank, &config)?)
+}
