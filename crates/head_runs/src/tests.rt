@@ -7,9 +7,7 @@ use bump_heads::{
 mod applications;
 mod bumps;
 mod fresh;
-mod keeping;
 mod lives;
 mod refusals;
 mod refused_memory;
 mod stores;
-mod threads;

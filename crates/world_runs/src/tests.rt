@@ -2,12 +2,11 @@
 ghost use Rattle.std.specs.Prelude.{◌≡◌, ◌<◌, IfOk, IfSome, length};
 ghost use Rattle.bump_core.specs.Headline.{Headline};
 ghost use Rattle.bump_core.specs.Readers.{list_of};
-ghost use Rattle.bump_state.specs.State.{SameSizes};
 ghost use Rattle.bump_state.specs.Worlds.{IsLawful};
 
 use bump_core::{
     Accounts, Answer, Applied, AppliedBump, ClassConfig, Command, Config, Ended, Entry, Event,
-    Hand, Head, ItemId, Outcome, Place, Pulled, Refused, Reply, Segment, Tail, Touch, World,
+    Head, ItemId, Outcome, Place, Pulled, Refused, Reply, Segment, Tail, Touch, World,
 };
 use std::alloc::{AllocError, Global};
 use std::process::Abort;
@@ -15,7 +14,6 @@ use std::test::Fail;
 
 mod commands;
 mod endings;
-mod walks;
 
 /// A World of one worker and one class of two chunks, as a trace begins one, where memory is not refused.
 fn world(alloc: Global, capacity: u32, hot: u32, warm: u32) -> Option<World>
@@ -96,49 +94,6 @@ fn told_by(world: &World) -> Readers
         received: (received.len(), received.last().copied()),
         applied: (applied.len(), applied.last().copied()),
     }
-}
-
-/// Makes commands in turn, each of which gives its answer.
-fn expect_answers(rt: &impl Abort, world: &mut World, rows: &[(Command, Answer)])
-    ensures { SameSizes world.old world.new }
-{
-    for (command, answer) in rows.iter() {
-        assert_eq!(rt; world.command(*command), Ok(*answer));
-    }
-}
-
-fn linked(now: u64) -> (Command, Answer) {
-    let command = Command::Link {
-        class: 0,
-        label: 7,
-        now,
-    };
-    (command, Answer::Linked(FIRST))
-}
-
-fn pulled(tail: Tail, pulled: Pulled) -> (Command, Answer) {
-    (Command::Pull { class: 0, tail }, Answer::Pulled(pulled))
-}
-
-fn held() -> (Command, Answer) {
-    let command = Command::Take {
-        worker: 0,
-        id: FIRST,
-    };
-    (command, Answer::Held)
-}
-
-fn touched(now: u64, touch: Touch) -> (Command, Answer) {
-    let command = Command::Touch {
-        worker: 0,
-        id: FIRST,
-        now,
-    };
-    (command, Answer::Touched(touch))
-}
-
-fn released() -> (Command, Answer) {
-    (Command::Release { id: FIRST }, Answer::Done)
 }
 
 /// A promotion: an item is stored, pulled to COLD, hit twice, and its bump applied. Each command with its answer.
@@ -368,105 +323,6 @@ const NO_BUMPS: Accounts = Accounts {
     busy: 0,
     refs: 0,
 };
-
-// In HOT the second hit stores the time and attempts no bump, and the third finds the item ACTIVE and stores nothing.
-#[test]
-fn the_second_hit_in_hot_marks(rt: HostRuntime) -> Result<(), Fail> {
-    let mut world = world(rt.alloc(), 4, 5, 5).ok_or("no memory")?;
-    let rows = [
-        linked(3),
-        held(),
-        touched(4, Touch::First),
-        touched(5, Touch::Marked),
-        touched(6, Touch::Already),
-        released(),
-    ];
-    expect_answers(&rt, &mut world, &rows);
-    let told = told_by(&world);
-    let head = Head {
-        refs: 1,
-        linked: true,
-        fetched: true,
-        active: true,
-        segment: Segment::Hot,
-        generation: 1,
-    };
-    assert_eq!(rt; told.heads.0, head);
-    assert_eq!(rt; told.times, (5, 0));
-    assert_eq!(rt; told.hot, (1, Some(0), Some(0)));
-    assert_eq!(rt; told.accounts, NO_BUMPS);
-    assert_eq!(rt; told.sent, (0, None));
-    Ok(())
-}
-
-// A pull rescues a marked item and clears ACTIVE, but not FETCHED, so that one more hit marks it again.
-#[test]
-fn a_rescued_item_is_marked_by_one_more_hit(rt: HostRuntime) -> Result<(), Fail> {
-    let mut world = world(rt.alloc(), 4, 0, 1).ok_or("no memory")?;
-    let rows = [
-        linked(3),
-        held(),
-        touched(4, Touch::First),
-        touched(5, Touch::Marked),
-        pulled(Tail::Hot, Pulled::Warm(FIRST)),
-        touched(7, Touch::Marked),
-        pulled(Tail::Warm, Pulled::Again(FIRST)),
-        pulled(Tail::Warm, Pulled::Stay(FIRST)),
-        released(),
-    ];
-    expect_answers(&rt, &mut world, &rows);
-    let told = told_by(&world);
-    let head = Head {
-        refs: 1,
-        linked: true,
-        fetched: true,
-        active: false,
-        segment: Segment::Warm,
-        generation: 1,
-    };
-    assert_eq!(rt; told.heads.0, head);
-    assert_eq!(rt; told.times, (7, 0));
-    assert_eq!(rt; told.warm, (1, Some(0), Some(0)));
-    assert_eq!(rt; told.accounts, NO_BUMPS);
-    Ok(())
-}
-
-// In COLD the second hit queues a bump, and the third finds the item ACTIVE: no second bump, and no time.
-#[test]
-fn a_queued_item_is_marked_already(rt: HostRuntime) -> Result<(), Fail> {
-    let mut world = world(rt.alloc(), 4, 0, 5).ok_or("no memory")?;
-    let rows = [
-        linked(3),
-        pulled(Tail::Hot, Pulled::Cold(FIRST)),
-        held(),
-        touched(5, Touch::First),
-        touched(6, Touch::Queued(0)),
-        touched(7, Touch::Already),
-        released(),
-    ];
-    expect_answers(&rt, &mut world, &rows);
-    let told = told_by(&world);
-    let head = Head {
-        refs: 2,
-        linked: true,
-        fetched: true,
-        active: true,
-        segment: Segment::Cold,
-        generation: 1,
-    };
-    let accounts = Accounts {
-        attempted: 1,
-        accepted: 1,
-        ..NO_BUMPS
-    };
-    assert_eq!(rt; told.heads.0, head);
-    assert_eq!(rt; told.times, (3, 0));
-    assert_eq!(rt; told.cold, (1, Some(0), Some(0)));
-    assert_eq!(rt; told.accounts, accounts);
-    assert_eq!(rt; told.sent, (1, Some(FIRST)));
-    assert_eq!(rt; told.received, (0, None));
-    Ok(())
-}
 
 #[test]
 fn links_take_the_front_of_unused(rt: HostRuntime) -> Result<(), Fail> {

@@ -1,5 +1,4 @@
-//! Tables of commands with their answers: ends, sweeps, evicts and closings, and each
-//! command in a World of two workers.
+//! Tables of commands with their answers: a sweep, commands that are refused, and refused allocations.
 use super::*;
 
 type Row = (Command, Result<Answer, Refused>);
@@ -74,31 +73,6 @@ fn closed(worker: u32) -> Row {
     (Command::Close { worker }, Ok(Answer::Done))
 }
 
-// An item that nobody holds is freed by its end, one that somebody holds by the next sweep.
-#[test]
-fn ends_free_or_defer(rt: HostRuntime) -> Result<(), Fail> {
-    let mut world = world(rt.alloc(), 4, 0, 5).ok_or("no memory")?;
-    let rows = [
-        linked_in(0, FIRST),
-        unlinked(item(0, 2), Answer::NotLinked),
-        unlinked(item(7, 1), Answer::NoSuchChunk),
-        ended(FIRST, Ended::Freed),
-        unlinked(FIRST, Answer::NotLinked),
-        linked_in(0, item(0, 2)),
-        unlinked(FIRST, Answer::NotLinked),
-        took(0, item(0, 2), Answer::Held),
-        ended(item(0, 2), Ended::Deferred),
-        took(0, item(0, 2), Answer::Stale),
-        swept(0, 0),
-        released_once(item(0, 2)),
-        swept(0, 1),
-        swept(0, 0),
-        linked_in(0, item(0, 3)),
-    ];
-    expect_rows(&rt, &mut world, &rows);
-    Ok(())
-}
-
 // A sweep frees front to back as the list stands, and passes by what is held.
 #[test]
 fn a_sweep_passes_by_what_is_held(rt: HostRuntime) -> Result<(), Fail> {
@@ -126,138 +100,6 @@ fn a_sweep_passes_by_what_is_held(rt: HostRuntime) -> Result<(), Fail> {
         let unused = chunks_met(alloc, &world, 0, Place::Unused)?;
         assert_eq!(rt; unused.as_slice(), [0, 2, 3].as_slice());
     }
-    Ok(())
-}
-
-// An evict ends the last item of COLD, whatever its marks.
-#[test]
-fn evicts_end_the_last_item(rt: HostRuntime) -> Result<(), Fail> {
-    let mut world = world(rt.alloc(), 4, 0, 5).ok_or("no memory")?;
-    let rows = [
-        pulled_in(0, Tail::Evict, Pulled::Empty),
-        linked_in(0, FIRST),
-        linked_in(0, item(1, 1)),
-        pulled_in(0, Tail::Evict, Pulled::Empty),
-        pulled_in(0, Tail::Hot, Pulled::Cold(FIRST)),
-        pulled_in(0, Tail::Hot, Pulled::Cold(item(1, 1))),
-        took(0, item(1, 1), Answer::Held),
-        touched_by(0, item(1, 1), Touch::First),
-        touched_by(0, item(1, 1), Touch::Queued(0)),
-        pulled_in(0, Tail::Evict, Pulled::Freed(FIRST)),
-        pulled_in(0, Tail::Evict, Pulled::Deferred(item(1, 1))),
-        pulled_in(0, Tail::Evict, Pulled::Empty),
-        released_once(item(1, 1)),
-        swept(0, 0),
-        applied_by(0, 0, item(1, 1), Applied::Gone(Ended::Freed)),
-        swept(0, 0),
-        linked_in(0, item(1, 2)),
-    ];
-    expect_rows(&rt, &mut world, &rows);
-    Ok(())
-}
-
-// A bump of an item that ended frees its chunk where it was the last holder.
-#[test]
-fn bumps_of_ended_items_are_let_go(rt: HostRuntime) -> Result<(), Fail> {
-    let mut world = world(rt.alloc(), 4, 0, 5).ok_or("no memory")?;
-    let rows = [
-        linked_in(0, FIRST),
-        pulled_in(0, Tail::Hot, Pulled::Cold(FIRST)),
-        took(0, FIRST, Answer::Held),
-        touched_by(0, FIRST, Touch::First),
-        touched_by(0, FIRST, Touch::Queued(0)),
-        ended(FIRST, Ended::Deferred),
-        applied_by(0, 0, FIRST, Applied::Gone(Ended::Deferred)),
-        nothing(0),
-        released_once(FIRST),
-        swept(0, 1),
-    ];
-    expect_rows(&rt, &mut world, &rows);
-    Ok(())
-}
-
-// After its last generation a chunk is RETIRED, and never linked again.
-#[test]
-fn the_last_generation_retires_its_chunk(rt: HostRuntime) -> Result<(), Fail> {
-    let alloc = rt.alloc();
-    let last = item(0, 4_294_967_295);
-    let sizes = [(1, 5, 5)];
-    let numbers = (1, 4, 4, 4_294_967_295);
-    let mut world = store(alloc, numbers, sizes.as_slice()).ok_or("no memory")?;
-    let rows = [
-        linked_in(0, last),
-        link(0, Answer::NoFreeChunk),
-        ended(last, Ended::Freed),
-        link(0, Answer::NoFreeChunk),
-        swept(0, 0),
-    ];
-    expect_rows(&rt, &mut world, &rows);
-    if world.classes() == 1 {
-        let retired = chunks_met(alloc, &world, 0, Place::Retired)?;
-        assert_eq!(rt; retired.as_slice(), [0].as_slice());
-    }
-    Ok(())
-}
-
-// A closed ring takes no bump, and what it accepted is still applied.
-#[test]
-fn a_closed_ring_is_drained(rt: HostRuntime) -> Result<(), Fail> {
-    let mut world = world(rt.alloc(), 4, 0, 5).ok_or("no memory")?;
-    let rows = [
-        linked_in(0, FIRST),
-        pulled_in(0, Tail::Hot, Pulled::Cold(FIRST)),
-        took(0, FIRST, Answer::Held),
-        touched_by(0, FIRST, Touch::First),
-        touched_by(0, FIRST, Touch::Queued(0)),
-        closed(0),
-        refused(Command::Close { worker: 0 }),
-        refused(touched_by(0, FIRST, Touch::Already).0),
-        refused(took(0, FIRST, Answer::Held).0),
-        released_once(FIRST),
-        applied_by(0, 0, FIRST, Applied::Moved),
-        nothing(0),
-    ];
-    expect_rows(&rt, &mut world, &rows);
-    Ok(())
-}
-
-// Two workers on an item of the second class, whose reference count comes to its limit.
-#[test]
-fn two_workers_share_an_item(rt: HostRuntime) -> Result<(), Fail> {
-    let shared = item(2, 1);
-    let sizes = [(2, 0, 1), (1, 0, 0)];
-    let mut world = store(rt.alloc(), (2, 1, 4, 1), sizes.as_slice()).ok_or("no memory")?;
-    let rows = [
-        linked_in(0, FIRST),
-        linked_in(1, shared),
-        link(1, Answer::NoFreeChunk),
-        pulled_in(1, Tail::Hot, Pulled::Cold(shared)),
-        pulled_in(1, Tail::Cold, Pulled::Stay(shared)),
-        pulled_in(1, Tail::Warm, Pulled::Empty),
-        took(0, shared, Answer::Held),
-        took(1, shared, Answer::Held),
-        took(1, item(2, 2), Answer::Stale),
-        took(0, item(3, 1), Answer::NoSuchChunk),
-        touched_by(0, shared, Touch::First),
-        touched_by(1, shared, Touch::Queued(0)),
-        touched_by(0, shared, Touch::Already),
-        took(0, shared, Answer::RefsFull),
-        (Command::Label { id: shared }, Ok(Answer::Label(7))),
-        ended(shared, Ended::Deferred),
-        swept(1, 0),
-        nothing(0),
-        applied_by(1, 0, shared, Applied::Gone(Ended::Deferred)),
-        released_once(shared),
-        released_once(shared),
-        refused(Command::Release { id: shared }),
-        swept(1, 1),
-        linked_in(1, item(2, 2)),
-        closed(1),
-        took(0, FIRST, Answer::Held),
-        refused(took(1, FIRST, Answer::Held).0),
-        nothing(1),
-    ];
-    expect_rows(&rt, &mut world, &rows);
     Ok(())
 }
 
