@@ -119,8 +119,8 @@ pub fn pass_twice<N: Name, R: Abort + Wait>(
     for mut worker in workers {
         let item = link_cold(rt, store, 7, 3);
         let mut hold = worker.get(store, item).expect(rt, "it is linked");
-        worker.touch(rt, store, &mut hold, 5);
-        assert_eq!(rt; worker.touch(rt, store, &mut hold, 6), Touch::Queued(0));
+        worker.touch(store, &mut hold, 5);
+        assert_eq!(rt; worker.touch(store, &mut hold, 6), Touch::Queued(0));
         hold.release(store);
     }
     assert_eq!(rt; maintainer.pass(rt, store, 7), 2);

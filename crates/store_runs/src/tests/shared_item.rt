@@ -42,7 +42,7 @@ impl Tally {
 }
 
 // Gets the item twice, as a reader who wants the label, and hits it.
-fn hit_twice<N: Name, R: Abort + Wait>(
+fn hit_twice<N: Name, R: Abort>(
     rt: &R,
     store: &Store<N>,
     worker: Worker<N>,
@@ -54,7 +54,7 @@ fn hit_twice<N: Name, R: Abort + Wait>(
     for now in 4..6 {
         let mut hold = worker.get(store, item).expect(rt, "it is linked");
         assert_eq!(rt; hold.label(store), 7);
-        worker.touch(rt, store, &mut hold, now);
+        worker.touch(store, &mut hold, now);
         hold.release(store);
     }
     worker
