@@ -1,5 +1,5 @@
 //! Lanes of closed workers: what is left in a closed ring is applied.
-ghost use Rattle.std.specs.Prelude.{◌≡◌, ◌+◌, ◌++◌, ◌∷◌, ◌↔◌, [], length, None, Ok, IfOk, IfErr, IfSome, IfNone, false};
+ghost use Rattle.std.specs.Prelude.{◌≡◌, ◌+◌, ◌++◌, ◌∷◌, ◌↔◌, [], length, None, Ok, IfOk, IfErr, IfSome, IfNone, false, true};
 ghost use mathlib.Core.List.{IsPrefix};
 ghost use Rattle.bump_class.specs.Lanes.{LaneView as TheLaneView, entries};
 ghost use Rattle.bump_store.specs.Lanes.{told, AppliesNext};
@@ -53,11 +53,19 @@ impl<N: Name> Lane<N> {
         self.raw.rest(&mut closed.sender)
     }
 
-    // What is told where nothing is left.
+    // Whether it applied as many bumps as its closed ring accepted.
+    fn applied_as_many(&self, closed: &ClosedWorker<N>) -> bool
+        ensures { (result ≡ true) ↔ (length (entries self.now.lane) ≡ length closed.now.sender.sent) }
+    {
+        self.applied() == closed.counts().accepted
+    }
+
+    // What is told of a lane that applied all.
     fn settled(&self, closed: &ClosedWorker<N>) -> Settled
+        requires all { AppliedAll closed.now.sender.sent self.now.lane }
         ensures counts { result.counts ≡ closed.now.part.accounts }
         ensures applied { result.applied ≡ length (entries self.now.lane) }
-        ensures accepted { result.counts.accepted ≡ length closed.now.sender.sent }
+        ensures accepted { result.applied ≡ result.counts.accepted }
         ensures attempted { result.counts.attempted ≡ result.counts.accepted + result.counts.full + result.counts.busy + result.counts.refs }
     {
         Settled {
@@ -91,8 +99,7 @@ impl<N: Name> Lane<N> {
         ensures unseen { IfErr result (λ e. closed.old.sender.shows_end ≡ false) }
         ensures unchanged { IfErr result (λ e. self.new ≡ self.old) }
     {
-        let accepted = closed.counts().accepted;
-        if self.applied() == accepted {
+        if self.applied_as_many(closed) {
             return Ok(None);
         }
         if let Some(entry) = self.next(rt, store, now) {

@@ -1,4 +1,5 @@
-use Rattle.std.proofs.Common.{◌≡◌, ap, ◌∙◌, length, arith}
+use Rattle.std.proofs.Common.{◌≡◌, refl, sym, ap, ◌∙◌, length, arith}
+use Rattle.std.proofs.lemmas.Bool.{false≢true}
 use Rattle.bump_class.specs.Lanes.{entries}
 use Rattle.bump_store.specs.Lanes.{LaneState}
 use Rattle.bump_store.proofs.SettlingLemmas.{as_many}
@@ -9,12 +10,20 @@ unreachable-requires g c =
     let seen = c.rest.new.self.lane in
     let none : length seen.known ≡ 0 = ap length c.in-None.ensures.none in
     let all = c.in-Some-rest.ensures.all (c.in-Some-rest.ensures.number ∙ none) in
-    omega (
+    let same : length (entries c.args.self.now.lane) ≡ length c.args.closed.now.sender.sent = omega (
       arith,
       as_many seen _ all,
       ap length c.rest.ensures.entries,
       ap (λ (s : LaneState). length (entries s.lane)) c.in_default.ensures.unchanged,
-      c.applied.ensures.count,
-      c.counts-accepted.ensures.add_up.accepted,
-      c.if-applied-accepted.false,
-    )
+    ) in
+    false≢true (sym c.if-applied_as_many.false ∙ c.applied_as_many.ensures.1 same)
+
+pub returns-then-applied_as_many-clause-none : goal.returns-then-applied_as_many-clause-none
+returns-then-applied_as_many-clause-none g c =
+    (λ _. c.applied_as_many.ensures.0 c.if-applied_as_many.true, λ _. refl)
+
+pub returns-then-applied_as_many-clause-unknown : goal.returns-then-applied_as_many-clause-unknown
+returns-then-applied_as_many-clause-unknown g c = tt
+
+pub returns-then-applied_as_many-clause-unseen : goal.returns-then-applied_as_many-clause-unseen
+returns-then-applied_as_many-clause-unseen g c = tt

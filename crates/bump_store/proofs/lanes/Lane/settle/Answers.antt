@@ -5,7 +5,7 @@ use Rattle.bump_store.specs.Closing.{ClosedState}
 use Rattle.bump_store.specs.Lanes.{LaneState}
 use Rattle.bump_store.specs.Settling.{MaySeeEnd}
 use Rattle.bump_store.proofs.LaneLemmas.{first_ones_kept}
-use Rattle.bump_store.proofs.SettlingLemmas.{applied_next, as_many, looked}
+use Rattle.bump_store.proofs.SettlingLemmas.{applied_next, looked}
 use Rattle.bump_store.proofs.lanes.Lane.settle.Goals as goal
 
 pub loop-preserved-in-Some-next : goal.loop-preserved-in-Some-next
@@ -18,16 +18,8 @@ loop-preserved-in-Some-next g c =
       grown = first_ones_kept (entries c.args.self.now.lane) (entries c.loop.self.lane) _ _ i.grown e.entry;
     }
 
-pub returns-in-Some-eq0-clause-accepted : goal.returns-in-Some-eq0-clause-accepted
-returns-in-Some-eq0-clause-accepted g c =
-    let none : c.in-Some-eq0.field-0 ≡ 0 = omega (arith, c.in-Some-eq0.field-0-is) in
-    omega (
-      arith,
-      c.settled.ensures.applied,
-      c.settled.ensures.accepted,
-      as_many c.rest.new.self.lane _ (c.in-Some-eq0.ensures.all none),
-      ap (λ (w : ClosedState). length w.sender.sent) c.rest.ensures.closed,
-    )
+pub returns-in-Some-eq0-clause-unseen : goal.returns-in-Some-eq0-clause-unseen
+returns-in-Some-eq0-clause-unseen g c = tt
 
 pub loop-preserved : goal.loop-preserved
 loop-preserved g c =

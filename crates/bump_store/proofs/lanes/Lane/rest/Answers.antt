@@ -1,0 +1,23 @@
+use Rattle.std.proofs.Common.{◌≡◌, IfSome, subst}
+use Rattle.bump_store.specs.Closing.{ClosedState}
+use Rattle.bump_store.specs.Lanes.{LaneState}
+use Rattle.bump_store.specs.Settling.{AppliedAll, MaySeeEnd}
+use Rattle.bump_store.proofs.SettlingLemmas.{looked_once, all_at_end}
+use Rattle.bump_store.proofs.lanes.Lane.rest.Goals as goal
+
+pub returns-clause-seen : goal.returns-clause-seen
+returns-clause-seen g c =
+    let sent = c.closed.inside.sender.sent in
+    let after = c.rest.new.self in
+    let e = c.rest.ensures in
+    subst (λ (w : ClosedState). MaySeeEnd w.sender.sent c.args.self.now.lane after) c.closed.view_is
+    (subst (λ (s : LaneState). MaySeeEnd sent s.lane after) c.self.view_is
+    (looked_once sent c.self.inside.raw after c.rest.result e.lane e.rest e.unchanged))
+
+pub returns-clause-all : goal.returns-clause-all
+returns-clause-all g c =
+    let sent = c.closed.inside.sender.sent in
+    let after = c.rest.new.self in
+    let e = c.rest.ensures in
+    subst (λ (w : ClosedState). IfSome c.rest.result (λ left. left ≡ 0 → AppliedAll w.sender.sent after)) c.closed.view_is
+    (all_at_end sent c.self.inside.raw after c.rest.result c.promise.ensures c.self.invariant e.lane e.number e.rest)
