@@ -1,4 +1,6 @@
 //! A ring by itself: order, room, what a closed one shows, two threads at its ends, and want of memory.
+ghost use Rattle.std.specs.Prelude.{◌≡◌};
+
 use super::stores::{Scene, Small, id, play, sized};
 use bump_class::Book;
 use bump_heads::{Heads, Name};
@@ -65,9 +67,14 @@ fn offer_next<N: Name>(
     rt: &impl Abort,
     sender: &mut Sender<N>,
     rider: Rider<N>,
-) -> Result<u64, Rider<N>> {
+) -> Result<u64, Rider<N>>
+    ensures { sender.new.ring ≡ sender.old.ring }
+{
     assert!(rt; rider.number() == sender.accepted());
-    sender.offer(rider)
+    match sender.offer(rider) {
+        Ok(number) => Ok(number),
+        Err(back) => Err(back),
+    }
 }
 
 /// A ring with room for one bump takes one in each round, and hands a second one back. Closed, it has nothing left.
@@ -111,6 +118,16 @@ const ITEMS: u32 = 64;
 /// How often a thread tries before the test fails.
 const TRIES: u32 = u32::MAX;
 
+// What a thread does behind a try that failed: it lets another one run now and then, where there are more threads
+// than processors.
+fn pause(tries: u32) {
+    if tries % 64 == 63 {
+        thread::yield_now();
+    } else {
+        spin_loop();
+    }
+}
+
 // The item whose bump has this number.
 fn item_of(number: u64) -> ItemId {
     id((number % u64::from(ITEMS)) as u32, 1)
@@ -123,13 +140,13 @@ fn queue<N: Name>(
     worker: &mut Worker<N>,
     item: ItemId,
 ) -> Option<u64> {
-    for _try in 0..TRIES {
+    for tries in 0..TRIES {
         let mut hold = worker.get(heads, item).expect(rt, "it is linked");
         let touch = worker.touch(heads, &mut hold, 5);
         hold.release(heads);
         match touch {
             Touch::Queued(number) => return Some(number),
-            Touch::Dropped(Dropped::Full) => spin_loop(),
+            Touch::Dropped(Dropped::Full) => pause(tries),
             _ => return None,
         }
     }
@@ -155,11 +172,11 @@ fn queue_all<N: Name>(
 
 // The next bump of a ring. None where it never comes.
 fn take_next<N: Name>(receiver: &mut Receiver<N>) -> Option<Rider<N>> {
-    for _try in 0..TRIES {
+    for tries in 0..TRIES {
         if let Some(rider) = receiver.take() {
             return Some(rider);
         }
-        spin_loop();
+        pause(tries);
     }
     None
 }
@@ -207,7 +224,7 @@ fn a_ring_of_one_between_two_threads(rt: HostRuntime) -> Result<(), Fail> {
         &rt,
         rt.alloc(),
         sized(1, 65_535, ITEMS, 0, 0),
-        Scene::Crossed { bumps: 200_000 },
+        Scene::Crossed { bumps: 100_000 },
     )?)
 }
 
@@ -217,7 +234,7 @@ fn a_ring_of_65536_between_two_threads(rt: HostRuntime) -> Result<(), Fail> {
         &rt,
         rt.alloc(),
         sized(65_536, 65_535, ITEMS, 0, 0),
-        Scene::Crossed { bumps: 1_000_000 },
+        Scene::Crossed { bumps: 500_000 },
     )?)
 }
 
