@@ -41,7 +41,22 @@ impl Tally {
     }
 }
 
-// Gets the item twice, as a reader who wants the label, and hits it.
+// Gets the item, as a reader who wants the label, and hits it.
+fn hit<N: Name, R: Abort>(
+    rt: &R,
+    store: &Store<N>,
+    worker: &mut Worker<N>,
+    item: ItemId,
+    now: u64,
+)
+    ensures ring { worker.new.sender.ring ≡ worker.old.sender.ring }
+{
+    let mut hold = worker.get(store, item).expect(rt, "it is linked");
+    assert_eq!(rt; hold.label(store), 7);
+    worker.touch(store, &mut hold, now);
+    hold.release(store);
+}
+
 fn hit_twice<N: Name, R: Abort>(
     rt: &R,
     store: &Store<N>,
@@ -50,17 +65,22 @@ fn hit_twice<N: Name, R: Abort>(
 ) -> Worker<N>
     ensures ring { result.sender.ring ≡ worker.sender.ring }
 {
-    let mut worker = worker;
-    for now in 4..6 {
-        let mut hold = worker.get(store, item).expect(rt, "it is linked");
-        assert_eq!(rt; hold.label(store), 7);
-        worker.touch(store, &mut hold, now);
-        hold.release(store);
-    }
-    worker
+    let mut hitting = worker;
+    hit(rt, store, &mut hitting, item, 4);
+    hit(rt, store, &mut hitting, item, 5);
+    hitting
 }
 
-// Applies what comes through both rings, and counts what it did.
+// Applies what comes through a ring next, and counts what it did.
+fn apply_next<N: Name, R: Wait>(rt: &R, store: &Store<N>, lane: &mut Lane<N>, tally: &mut Tally)
+    ensures ring { lane.new.lane.ring ≡ lane.old.lane.ring }
+{
+    if let Some(entry) = lane.next(rt, store, 6) {
+        tally.add(entry);
+    }
+}
+
+// Applies what comes through both rings.
 fn apply_both<N: Name, R: Wait>(
     rt: &R,
     store: &Store<N>,
@@ -70,17 +90,14 @@ fn apply_both<N: Name, R: Wait>(
     ensures first { result.0.lane.ring ≡ first.lane.ring }
     ensures second { result.1.lane.ring ≡ second.lane.ring }
 {
-    let mut lanes = (first, second);
+    let mut lane = first;
+    let mut other = second;
     let mut tally = Tally::new();
     for _ in 0..100 {
-        if let Some(entry) = lanes.0.next(rt, store, 6) {
-            tally.add(entry);
-        }
-        if let Some(entry) = lanes.1.next(rt, store, 6) {
-            tally.add(entry);
-        }
+        apply_next(rt, store, &mut lane, &mut tally);
+        apply_next(rt, store, &mut other, &mut tally);
     }
-    (lanes.0, lanes.1, tally)
+    (lane, other, tally)
 }
 
 // Closes the worker, applies what is left in its ring one by one, and settles it. It answers how many were accepted.
