@@ -234,7 +234,7 @@ fn a_ring_of_65536_between_two_threads(rt: HostRuntime) -> Result<(), Fail> {
         &rt,
         rt.alloc(),
         sized(65_536, 65_535, ITEMS, 0, 0),
-        Scene::Crossed { bumps: 500_000 },
+        Scene::Crossed { bumps: 150_000 },
     )?)
 }
 
