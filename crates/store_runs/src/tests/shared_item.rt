@@ -42,13 +42,7 @@ impl Tally {
 }
 
 // Gets the item, as a reader who wants the label, and hits it.
-fn hit<N: Name, R: Abort>(
-    rt: &R,
-    store: &Store<N>,
-    worker: &mut Worker<N>,
-    item: ItemId,
-    now: u64,
-)
+fn hit<N: Name, R: Abort>(rt: &R, store: &Store<N>, worker: &mut Worker<N>, item: ItemId, now: u64)
     ensures ring { worker.new.sender.ring ≡ worker.old.sender.ring }
 {
     let mut hold = worker.get(store, item).expect(rt, "it is linked");
