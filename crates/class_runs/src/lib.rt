@@ -1,4 +1,4 @@
-//! Runs of a class, as tests: the worked calls of a Book and of a lane with their answers, and a Book beside a World
+//! Runs of classes, as tests: the worked calls of a Book and of a lane with their answers, and a Store beside a World
 //! that gets the same commands.
 #![tactic(auto)]
 

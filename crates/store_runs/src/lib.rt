@@ -1,5 +1,5 @@
-//! Runs of workers beside a class, as tests: worked calls with their answers, and four threads that touch what a
-//! fifth links and moves.
+//! Runs of stores, as tests: worked calls with their answers, and four threads that touch what a fifth links, moves and
+//! drains.
 #![tactic(auto)]
 
 #[cfg(test)]

@@ -1,119 +1,105 @@
-//! A reader's turns, which a World gets too: a hit of an item, and a hold that is kept for a while.
-ghost use Rattle.std.specs.Prelude.{◌≡◌, None, Some, IfSome};
-ghost use Rattle.bump_rules.specs.declared.hands.Hand.TheVariants.{Idle};
-ghost use Rattle.bump_readers.specs.Taking.{whole_hold};
-ghost use Rattle.bump_steps.specs.References.{new_hold};
-ghost use Rattle.bump_steps.specs.Rule.{no_accounts};
-
-use crate::readers::{hit_cold, let_out, taken};
-use bump_core::World;
-use bump_heads::{Heads, Hold, Name, WorkerSeat};
-use bump_rules::{Command, ItemId, Segment};
+//! Readers' commands, and those of lanes.
+use super::sides::{Sides, told};
+use bump_heads::Name;
+use bump_rules::{Answer, Command, ItemId};
+use bump_store::{GetRefusal, Hold};
 use std::process::Abort;
+use std::sync::Wait;
 
-/// The World makes a reader's command.
-fn tell(rt: &impl Abort, world: &mut World, command: Command) {
-    world.command(command).expect(rt, "it is allowed");
+/// What the World answers where a worker gets no hold. It never tells a worker that others were faster.
+fn refused(refusal: GetRefusal) -> Option<Answer> {
+    match refusal {
+        GetRefusal::NoSuchChunk => Some(Answer::NoSuchChunk),
+        GetRefusal::Stale => Some(Answer::Stale),
+        GetRefusal::RefsFull => Some(Answer::RefsFull),
+        GetRefusal::Busy => None,
+    }
 }
 
-/// Both get a hit of an item of HOT or WARM, by the hit table.
-pub fn touch<N: Name>(
+/// A worker's hold of the item, if both give one.
+fn take<N: Name>(
     rt: &impl Abort,
-    heads: &Heads<N>,
-    worker: &mut WorkerSeat<N>,
-    world: &mut World,
-    item: ItemId,
+    sides: &mut Sides<N>,
+    worker: u32,
+    id: ItemId,
+) -> Option<Hold<N>> {
+    let told = told(rt, sides, Command::Take { worker, id });
+    let reader = sides.workers.get_mut(worker as usize);
+    match reader.expect(rt, "it is a worker").get(&sides.store, id) {
+        Ok(hold) => {
+            assert_eq!(rt; told, Answer::Held);
+            assert_eq!(rt; hold.life(), id);
+            Some(hold)
+        }
+        Err(refusal) => {
+            assert_eq!(rt; refused(refusal), Some(told));
+            None
+        }
+    }
+}
+
+/// Both hit the held item, and its label is read.
+fn touch<N: Name, R: Abort>(
+    rt: &R,
+    sides: &mut Sides<N>,
+    worker: u32,
+    hold: &mut Hold<N>,
     now: u64,
-)
-    requires idle { worker.old.part.hand ≡ Idle }
-    requires alone { worker.old.hold ≡ None }
-    requires fresh { worker.old.part.accounts ≡ no_accounts }
-    ensures idle { worker.new.part.hand ≡ Idle }
-    ensures alone { worker.new.hold ≡ None }
-    ensures fresh { worker.new.part.accounts ≡ no_accounts }
-{
-    let mut hold = taken(rt, heads, worker, item);
-    heads.hold_in(worker, &mut hold);
-    let first = heads.mark_fetched(worker, item);
-    if first.fetched && !first.active {
-        let second = heads.mark_active(worker, item);
-        assert!(rt; matches!(second.segment, Segment::Hot | Segment::Warm));
-        heads.set_time(worker, item, now);
-    }
-    let_out(heads, worker, &mut hold);
-    heads.give_back(hold);
-    tell(
-        rt,
-        world,
-        Command::Take {
-            worker: 0,
-            id: item,
-        },
-    );
-    tell(
-        rt,
-        world,
-        Command::Touch {
-            worker: 0,
-            id: item,
-            now,
-        },
-    );
-    tell(rt, world, Command::Release { id: item });
+) {
+    let id = hold.life();
+    let told_touch = told(rt, sides, Command::Touch { worker, id, now });
+    let reader = sides.workers.get_mut(worker as usize);
+    let reader = reader.expect(rt, "it is a worker");
+    let touch = reader.touch(&sides.store, hold, now);
+    assert_eq!(rt; Answer::Touched(touch), told_touch);
+    let told_label = told(rt, sides, Command::Label { id });
+    assert_eq!(rt; Answer::Label(hold.label(&sides.store)), told_label);
 }
 
-/// Both get two hits of an item of COLD that nobody hit yet, so that it is ACTIVE and its bump waits. The bump's reference stays.
-pub fn touch_cold<N: Name>(
-    rt: &impl Abort,
-    heads: &Heads<N>,
-    worker: &mut WorkerSeat<N>,
-    world: &mut World,
-    item: ItemId,
-)
-    requires idle { worker.old.part.hand ≡ Idle }
-    requires alone { worker.old.hold ≡ None }
-    requires fresh { worker.old.part.accounts ≡ no_accounts }
-{
-    hit_cold(rt, heads, worker, item);
-    let (worker, id) = (0, item);
-    tell(rt, world, Command::Take { worker, id });
-    for now in 3..5 {
-        tell(rt, world, Command::Touch { worker, id, now });
-    }
-    tell(rt, world, Command::Release { id });
+/// Both give the hold back.
+pub fn release<N: Name>(rt: &impl Abort, sides: &mut Sides<N>, hold: Hold<N>) {
+    let told = told(rt, sides, Command::Release { id: hold.life() });
+    assert_eq!(rt; told, Answer::Done);
+    hold.release(&sides.store);
 }
 
-/// A hold that is kept is given back, or one of the item is taken and kept, if it is linked.
-pub fn turn<N: Name>(
-    rt: &impl Abort,
-    heads: &Heads<N>,
-    worker: &mut WorkerSeat<N>,
-    world: &mut World,
+/// A hit as a reader makes it: a hold is taken, and given back behind the touch.
+pub fn hit<N: Name, R: Abort>(rt: &R, sides: &mut Sides<N>, worker: u32, item: ItemId, now: u64) {
+    if let Some(mut hold) = take(rt, sides, worker, item) {
+        touch(rt, sides, worker, &mut hold, now);
+        release(rt, sides, hold);
+    }
+}
+
+/// A hold that is kept is touched, and given back in one turn of four; where there is none, one of the item is taken
+/// and kept.
+pub fn turn<N: Name, R: Abort>(
+    rt: &R,
+    sides: &mut Sides<N>,
+    worker: u32,
     held: Option<Hold<N>>,
     item: ItemId,
-) -> Option<Hold<N>>
-    requires alone { worker.old.hold ≡ None }
-    requires whole { IfSome held (λ h. h ≡ whole_hold h.life) }
-    ensures alone { worker.new.hold ≡ None }
-    ensures hand { worker.new.part.hand ≡ worker.old.part.hand }
-    ensures accounts { worker.new.part.accounts ≡ worker.old.part.accounts }
-    ensures whole { IfSome result (λ h. h ≡ whole_hold h.life) }
-{
-    let Some(hold) = held else {
-        if item.chunk >= world.chunks() || !world.head(item.chunk).linked {
-            return None;
-        }
-        tell(
-            rt,
-            world,
-            Command::Take {
-                worker: 0,
-                id: item,
-            },
-        );
-        return Some(taken(rt, heads, worker, item));
+    now: u64,
+) -> Option<Hold<N>> {
+    let Some(mut hold) = held else {
+        return take(rt, sides, worker, item);
     };
-    tell(rt, world, Command::Release { id: hold.life() });
-    heads.give_back(hold);
+    touch(rt, sides, worker, &mut hold, now);
+    if now % 4 != 0 {
+        return Some(hold);
+    }
+    release(rt, sides, hold);
     None
+}
+
+/// Both apply the next bump of a worker's ring, if one waits.
+pub fn drain_next<N: Name, R: Abort + Wait>(rt: &R, sides: &mut Sides<N>, worker: u32, now: u64) {
+    let told = told(rt, sides, Command::Next { worker, now });
+    let lane = sides.lanes.get_mut(worker as usize);
+    let entry = lane.expect(rt, "it is a lane").next(rt, &sides.store, now);
+    let answer = match entry {
+        Some(entry) => Answer::Bumped(entry),
+        None => Answer::Nothing,
+    };
+    assert_eq!(rt; answer, told);
 }

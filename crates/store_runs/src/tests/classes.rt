@@ -1,9 +1,9 @@
 //! The classes of a store, and its refusals.
 use super::whole::{Story, Whole, class, tell};
-use bump_class::UnlinkRefusal;
+use bump_class::{Book, UnlinkRefusal};
 use bump_heads::Name;
 use bump_rules::{ItemId, Place};
-use bump_store::{GetRefusal, NoSuchChunk, NoSuchClass};
+use bump_store::{GetRefusal, NoSuchChunk, NoSuchClass, Store};
 use std::alloc::{AllocError, Global};
 use std::process::Abort;
 use std::sync::Wait;
@@ -62,4 +62,32 @@ pub fn tell_classes<N: Name, R: Abort + Wait>(rt: &R, whole: &mut Whole<N>) {
 fn a_store_knows_its_classes(rt: HostRuntime) -> Result<(), Fail> {
     let classes = [class(1, 0, 0), class(2, 1, 1), class(3, 2, 2)];
     Ok(tell(&rt, rt.alloc(), 4, &classes, Story::ClassesTold)?)
+}
+
+// Exchanges this Book and that of the second class, as whoever has the guards of both could.
+fn exchange<N: Name, R: Abort + Wait>(rt: &R, store: &Store<N>, first: &mut Book<N>) {
+    let mut second = store.lock(rt, 1).expect(rt, "it is a class");
+    std::mem::swap(first, &mut second);
+}
+
+/// Where two Books were exchanged, a lock goes round until it finds that of its class, and so does a lane.
+pub fn find_exchanged<N: Name, R: Abort + Wait>(rt: &R, whole: &mut Whole<N>) {
+    let item = whole.link_cold(rt, 1, 7, 3);
+    whole.hit(rt, 0, item, 5);
+    whole.hit(rt, 0, item, 6);
+    {
+        let mut first = whole.store.lock(rt, 0).expect(rt, "it is a class");
+        exchange(rt, &whole.store, &mut first);
+    }
+    for class in 0..2 {
+        let book = whole.store.lock(rt, class).expect(rt, "it is a class");
+        assert_eq!(rt; book.class(), class);
+    }
+    assert!(rt; whole.next(rt, 0, 8).is_some());
+}
+
+#[test]
+fn a_lock_finds_an_exchanged_book(rt: HostRuntime) -> Result<(), Fail> {
+    let classes = [class(1, 5, 5), class(2, 0, 5)];
+    Ok(tell(&rt, rt.alloc(), 4, &classes, Story::Exchanged)?)
 }

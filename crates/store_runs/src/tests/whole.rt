@@ -2,7 +2,7 @@
 ghost use Rattle.std.specs.Prelude.{◌≡◌, ◌<◌, length, IfSome, true};
 ghost use Rattle.bump_steps.specs.Views.{owns};
 
-use super::classes::{tell_classes, tell_refusals};
+use super::classes::{find_exchanged, tell_classes, tell_refusals};
 use super::drains::{
     apply_in_cold, apply_unlinked, drain_again, drain_both, free_the_last, leave_outside_cold,
 };
@@ -30,6 +30,7 @@ pub struct Whole<N: Name> {
 pub enum Story {
     RefusalsTold,
     ClassesTold,
+    Exchanged,
     AppliedInCold,
     LeftOutsideCold,
     AppliedUnlinked,
@@ -98,6 +99,7 @@ fn tell_whole<N: Name, R: Abort + Wait>(
             return Ok(());
         }
         Story::ClassesTold => tell_classes(rt, &mut whole),
+        Story::Exchanged => find_exchanged(rt, &mut whole),
         Story::AppliedInCold => apply_in_cold(rt, &mut whole),
         Story::LeftOutsideCold => leave_outside_cold(rt, &mut whole),
         Story::AppliedUnlinked => apply_unlinked(rt, &mut whole),
