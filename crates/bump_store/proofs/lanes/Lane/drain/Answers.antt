@@ -14,3 +14,6 @@ loop-done-preserved g c =
       drained = subst (λ n. AppliesMany c.args.now c.args.self.now.lane n c.next.new.self.lane) one_more
           (c.loop-done.self.lane, c.in-Some._entry, i.drained, c.in-Some.ensures.next);
     }
+
+pub returns-clause-none : goal.returns-clause-none
+returns-clause-none g c = search rules
