@@ -74,7 +74,7 @@ fn attempt<N: Name>(
 }
 
 // An attempt, and what it counts. A touch that attempts no bump counts nothing, so counts are looked at here alone.
-#[inline(never)]
+#[inline(always)]
 fn attempt_counted<N: Name>(
     heads: &ReaderHeads<N>,
     seat: &mut WorkerSeat<N>,
