@@ -14,6 +14,7 @@ mod stages;
 pub use cutting::cut;
 pub use gathering::{ROOM, flush, gather, stop};
 pub use names::Names;
+pub use open_store::PLACES;
 pub use openings::{Opening, configure, declare};
 pub use reading::read_all;
 pub use runs::{SimFault, run_model};

@@ -63,7 +63,7 @@ pub fn declare(
 ) -> Result<(), LineError>
     ensures { Does (opening_of opening.new) [] result (declared (opening_of opening.old) declaration) }
 {
-    match (opening, declaration) {
+    match (&mut *opening, declaration) {
         (Opening::Before, Declaration::Store(shape)) => {
             *opening = Opening::Classes(shape, Vec::new(alloc));
             Ok(())

@@ -20,7 +20,7 @@ fn put_number(out: &mut Vec<u8>, n: u64) -> Result<(), AllocError>
 }
 
 /// A word, and a number behind it.
-fn put_word(out: &mut Vec<u8>, word: &[u8], number: u64) -> Result<(), AllocError>
+pub fn put_word(out: &mut Vec<u8>, word: &[u8], number: u64) -> Result<(), AllocError>
     ensures { OnOk result (out.new.items ≡ out.old.items ++ word.now ++ decimal number) }
 {
     out.extend_from_slice(word)?;
