@@ -1,11 +1,13 @@
 //! All threads of a run at once.
-ghost use Rattle.std.specs.Prelude.{◌≡◌, IfOk};
+ghost use Rattle.std.specs.Prelude.{◌≡◌, IfOk, IfErr};
 ghost use Rattle.bump_store.specs.Lanes.{lane_rings};
 ghost use Rattle.store_trace.specs.Slots.{slot_ring, slot_rings};
 ghost use Rattle.store_trace.specs.Jobs.{job_ring, job_rings};
+ghost use Rattle.store_trace.specs.Runs.{IsOfThreads};
 
 use crate::gates::Gate;
-use crate::jobs::{Job, SameLanes, SameSlot};
+use crate::jobs::{Job, Joined, Running, SameLanes, SameWorker};
+use crate::joining::join_workers;
 use crate::slots::Slot;
 use crate::tasks::{ChoreTask, GetTask, Tasks};
 use crate::threads::{tend, work};
@@ -27,7 +29,7 @@ pub struct Crossed<N: Name> {
     pub(crate) is_stopped: bool,
 }
 
-// Starts a worker's thread. A worker that was closed needs none.
+// Starts a worker's thread. One that was closed needs none.
 fn start_worker<'s, E, G: Gate + Sync + 's, R: Wait + Sync + 's, N: Name + Send + Sync + 's>(
     scope: &Scope<'s, E>,
     rt: &'s R,
@@ -37,14 +39,35 @@ fn start_worker<'s, E, G: Gate + Sync + 's, R: Wait + Sync + 's, N: Name + Send 
     slot: Slot<N>,
     tasks: Vec<GetTask>,
 ) -> Result<Job<N>, SimFault>
-    ensures { IfOk result (λ job. job_ring job ≡ slot_ring slot) }
+    ensures ring { IfOk result (λ job. job_ring job ≡ slot_ring slot) }
+    ensures err { IfErr result (λ e. IsOfThreads 0 e) }
 {
-    if slot.worker.is_none() {
-        return Ok(Job::Done(work(rt, gate, store, number, slot, tasks)));
-    }
-    let promise = SameSlot(Snapshot::of(&slot));
-    match scope.spawn_with(promise, move || work(rt, gate, store, number, slot, tasks)) {
-        Ok(handle) => Ok(Job::Runs(handle)),
+    let Slot {
+        worker,
+        counts,
+        lane_was,
+    } = slot;
+    let Some(worker) = worker else {
+        return Ok(Job::Done(Joined {
+            slot: Slot {
+                worker: None,
+                counts,
+                lane_was,
+            },
+            totals: Totals::of_closed(tasks.len() as u64),
+            is_stopped: false,
+        }));
+    };
+    let promise = SameWorker(Snapshot::of(&worker));
+    match scope.spawn_with(
+        promise,
+        move || work(rt, gate, store, number, worker, tasks),
+    ) {
+        Ok(handle) => Ok(Job::Runs(Running {
+            handle,
+            counts,
+            lane_was,
+        })),
         Err(_) => Err(SimFault::Threads),
     }
 }
@@ -59,7 +82,8 @@ fn start_workers<'s, E, G: Gate + Sync + 's, R: Wait + Sync + 's, N: Name + Send
     slots: Vec<Slot<N>>,
     gets: Vec<Vec<GetTask>>,
 ) -> Result<Vec<Job<N>>, SimFault>
-    ensures { IfOk result (λ jobs. job_rings jobs.items ≡ slot_rings slots.items) }
+    ensures rings { IfOk result (λ jobs. job_rings jobs.items ≡ slot_rings slots.items) }
+    ensures err { IfErr result (λ e. IsOfThreads 0 e) }
 {
     let mut jobs = Vec::with_capacity(alloc, slots.len())?;
     let mut left = gets.into_iter();
@@ -81,33 +105,14 @@ fn start_maintenance<'s, E, R: Wait + Sync + 's, N: Name + Send + Sync + 's>(
     lanes: Vec<Lane<N>>,
     chores: Vec<ChoreTask>,
 ) -> Result<PromisedHandle<Vec<Lane<N>>, SameLanes<N>>, SimFault>
-    ensures { IfOk result (λ handle. lane_rings handle.promise.0.value.items ≡ lane_rings lanes.items) }
+    ensures rings { IfOk result (λ handle. lane_rings handle.promise.0.value.items ≡ lane_rings lanes.items) }
+    ensures err { IfErr result (λ e. IsOfThreads 0 e) }
 {
     let promise = SameLanes(Snapshot::of(&lanes));
     match scope.spawn_with(promise, move || tend(rt, store, lanes, chores)) {
         Ok(handle) => Ok(handle),
         Err(_) => Err(SimFault::Threads),
     }
-}
-
-// Joins the threads of all workers.
-fn join_workers<R: Threads, N: Name>(
-    rt: &R,
-    alloc: Global,
-    jobs: Vec<Job<N>>,
-) -> Result<(Vec<Slot<N>>, Totals, bool), AllocError>
-    ensures { IfOk result (λ r. slot_rings r.0.items ≡ job_rings jobs.items) }
-{
-    let mut slots = Vec::with_capacity(alloc, jobs.len())?;
-    let mut totals = Totals::none();
-    let mut is_stopped = false;
-    for job in jobs {
-        let worked = job.join(rt);
-        totals.add(worked.totals);
-        is_stopped = is_stopped || worked.is_stopped;
-        slots.push(worked.slot)?;
-    }
-    Ok((slots, totals, is_stopped))
 }
 
 /// A thread for each open worker, and one for maintenance, all at once. Each worker and each lane comes back of the ring
@@ -122,7 +127,8 @@ pub fn cross<G: Gate + Sync, R: Threads + Wait + Sync, N: Name + Send + Sync>(
     tasks: Tasks,
 ) -> Result<Crossed<N>, SimFault>
     requires { slot_rings slots.items ≡ lane_rings lanes.items }
-    ensures { IfOk result (λ crossed. slot_rings crossed.slots.items ≡ lane_rings crossed.lanes.items) }
+    ensures rings { IfOk result (λ crossed. slot_rings crossed.slots.items ≡ lane_rings crossed.lanes.items) }
+    ensures err { IfErr result (λ e. IsOfThreads 0 e) }
 {
     let Tasks { gets, chores, .. } = tasks;
     thread::scope(
@@ -130,7 +136,8 @@ pub fn cross<G: Gate + Sync, R: Threads + Wait + Sync, N: Name + Send + Sync>(
         rt,
         move |scope| -> Result<Crossed<N>, SimFault>
             requires { slot_rings slots.items ≡ lane_rings lanes.items }
-            ensures { IfOk result (λ crossed. slot_rings crossed.slots.items ≡ lane_rings crossed.lanes.items) }
+            ensures rings { IfOk result (λ crossed. slot_rings crossed.slots.items ≡ lane_rings crossed.lanes.items) }
+            ensures err { IfErr result (λ e. IsOfThreads 0 e) }
         {
             let working = start_workers(scope, alloc, rt, gate, store, slots, gets)?;
             let tending = start_maintenance(scope, rt, store, lanes, chores)?;

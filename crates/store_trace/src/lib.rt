@@ -7,6 +7,7 @@ mod commands;
 mod crossing;
 mod gates;
 mod jobs;
+mod joining;
 mod keeping;
 mod open_store;
 mod openings;

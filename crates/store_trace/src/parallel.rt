@@ -1,7 +1,7 @@
 //! The whole run of a trace on a store, by threads.
-ghost use Rattle.std.specs.Prelude.{◌≡◌, ◌≤◌, ◌+◌, length, IfOk, IfErr};
+ghost use Rattle.std.specs.Prelude.{◌≡◌, ◌≤◌, ◌+◌, true, false, length, MatchOption, IfOk, IfErr};
 ghost use Rattle.bump_trace.specs.Runs.{most_bytes, most_reads, FailsAsCounted, IsUncalled};
-ghost use Rattle.store_trace.specs.Runs.{StoreRuns};
+ghost use Rattle.store_trace.specs.Runs.{Tells, TellsInto, StoreRuns, IsOfThreads};
 ghost use Rattle.trace_lines.specs.Counted.{inner_of, calls_of, failed_of};
 
 use crate::gates::Gate;
@@ -38,6 +38,8 @@ fn run_all<'a, N: Name + Send + Sync, R: Threads + Wait + Sync, G: Gate + Sync, 
     gathered: &mut Vec<u8>,
 ) -> Result<Option<Ended>, SimFault>
     requires { first.number + length first.rest.now ≤ most_bytes + 1 }
+    ensures err { IfErr result (λ e. IsOfThreads (failed_of writer.new) e) }
+    ensures text { IfOk result (λ ended. MatchOption ended (TellsInto (W.contents (inner_of writer.old)) (W.contents (inner_of writer.new)) gathered.new.items true) (λ e. TellsInto (W.contents (inner_of writer.old)) (W.contents (inner_of writer.new)) gathered.new.items false)) }
 {
     let Some(place) = run_lines(rt, alloc, open, first, true, writer, gathered)? else {
         return Ok(None);
@@ -71,6 +73,8 @@ fn run_named<N: Name + Send + Sync, R: Threads + Wait + Sync, G: Gate + Sync, W:
     requires name { blank.table ≡ N.table }
     requires config { blank.config ≡ beginning.now.config }
     requires room { beginning.now.place.number + length beginning.now.place.rest.now ≤ most_bytes + 1 }
+    ensures err { IfErr result (λ e. IsOfThreads (failed_of writer.new) e) }
+    ensures text { IfOk result (λ is_fault. TellsInto (W.contents (inner_of writer.old)) (W.contents (inner_of writer.new)) gathered.new.items is_fault) }
 {
     let mut open = open::<N>(alloc, keys, blank, &beginning.config)?;
     let ended = run_all(
@@ -107,6 +111,8 @@ fn run_on<R: Threads + Wait + Sync, G: Gate + Sync, W: Sink>(
     gathered: &mut Vec<u8>,
 ) -> Result<bool, SimFault>
     requires { length input.now ≤ most_bytes }
+    ensures err { IfErr result (λ e. IsOfThreads (failed_of writer.new) e) }
+    ensures text { IfOk result (λ is_fault. TellsInto (W.contents (inner_of writer.old)) (W.contents (inner_of writer.new)) gathered.new.items is_fault) }
 {
     let Some(beginning) = read_beginning(alloc, input, writer, gathered)? else {
         return Ok(true);
@@ -115,7 +121,36 @@ fn run_on<R: Threads + Wait + Sync, G: Gate + Sync, W: Sink>(
     run_named::<Brand, R, G, W>(rt, alloc, keys, gate, blank, &beginning, writer, gathered)
 }
 
-/// Runs a trace on a store by threads.
+// Runs what was read, and writes its text before any answer but that a write failed.
+fn run_input<R: Threads + Wait + Sync, G: Gate + Sync, W: Sink>(
+    rt: &R,
+    alloc: Global,
+    keys: RandomState,
+    gate: &G,
+    input: &[u8],
+    writer: &mut Counted<W>,
+) -> Result<bool, SimFault>
+    requires { length input.now ≤ most_bytes }
+    ensures err { IfErr result (λ e. IsOfThreads (failed_of writer.new) e) }
+    ensures text { IfOk result (λ is_fault. Tells (W.contents (inner_of writer.old)) (W.contents (inner_of writer.new)) is_fault) }
+{
+    let mut gathered = Vec::with_capacity(alloc, ROOM)?;
+    let ended = run_on(rt, alloc, keys, gate, input, writer, &mut gathered);
+    write_last(writer, &mut gathered, ended)
+}
+
+/// Runs a trace on a store by threads. The lines up to `par` are made and told as `run_serial` does. The lines behind it are all
+/// checked before a thread starts: where one has a fault, its line is all that follows. Else a thread for each open worker makes that
+/// worker's `get` lines in their order, and one for maintenance the others in theirs; these tell nothing. After all have ended the
+/// holds that are kept are given back, open workers are closed and settled, ascending, and it is reported. A trace without `par` is
+/// run whole, and then reported.
+///
+/// `gate` is asked before each `get` line of a thread, and told after it. Reading is as that of `run_serial`, and so are its
+/// refusals. Two more are
+/// - Threads, where a thread can't be started: those that run are joined;
+/// - Gate, where the gate let a line not pass: that thread makes no further line, and it is answered once all threads have ended.
+///
+/// After both what was written before stays.
 pub fn run_par<R: Threads + Wait + Sync, G: Gate + Sync, S: Source, W: Sink>(
     rt: &R,
     alloc: Global,
@@ -126,11 +161,13 @@ pub fn run_par<R: Threads + Wait + Sync, G: Gate + Sync, S: Source, W: Sink>(
 ) -> Result<(), SimFault>
     requires reader { (calls_of reader.old ≡ 0) × (failed_of reader.old ≡ 0) }
     requires writer { (calls_of writer.old ≡ 0) × (failed_of writer.old ≡ 0) }
+    ensures reads { calls_of reader.new ≤ most_reads }
+    ensures unwritten { IfErr result (λ e. IsUncalled (calls_of writer.new) e) }
+    ensures failed { IfErr result (λ e. FailsAsCounted (calls_of reader.new) (failed_of reader.new) (failed_of writer.new) e) }
+    ensures text { StoreRuns (S.remaining (inner_of reader.old)) (S.remaining (inner_of reader.new)) (W.contents (inner_of writer.old)) (W.contents (inner_of writer.new)) result }
 {
     let input = read_all(alloc, reader)?;
-    let mut gathered = Vec::with_capacity(alloc, ROOM)?;
-    let ended = run_on(rt, alloc, keys, gate, &input, writer, &mut gathered);
-    if write_last(writer, &mut gathered, ended)? {
+    if run_input(rt, alloc, keys, gate, &input, writer)? {
         Err(SimFault::Trace)
     } else {
         Ok(())

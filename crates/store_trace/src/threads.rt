@@ -1,11 +1,9 @@
 //! What each thread does.
 ghost use Rattle.std.specs.Prelude.{◌≡◌};
 ghost use Rattle.bump_store.specs.Lanes.{lane_rings};
-ghost use Rattle.store_trace.specs.Slots.{slot_ring};
 
 use crate::commands::{get, pull, sweep, unlink};
 use crate::gates::Gate;
-use crate::slots::Slot;
 use crate::tasks::{Chore, ChoreTask, GetTask};
 use crate::totals::Totals;
 use bump_store::{Lane, Name, Store, Worker};
@@ -14,7 +12,7 @@ use std::sync::Wait;
 /// A worker that made its lines, or those up to one that the gate let not pass.
 #[derive(Drop)]
 pub struct Worked<N: Name> {
-    pub(crate) slot: Slot<N>,
+    pub(crate) worker: Worker<N>,
     pub(crate) totals: Totals,
     pub(crate) is_stopped: bool,
 }
@@ -65,24 +63,18 @@ pub fn work<G: Gate, N: Name, R: Wait>(
     gate: &G,
     store: &Store<N>,
     number: u32,
-    slot: Slot<N>,
+    worker: Worker<N>,
     tasks: Vec<GetTask>,
 ) -> Worked<N>
-    ensures { slot_ring result.slot ≡ slot_ring slot }
+    ensures { result.worker.sender.ring ≡ worker.sender.ring }
 {
     let mut totals = Totals::none();
-    let mut mine = slot;
-    let is_stopped = match &mut mine.worker {
-        Some(worker) => !make_gets(rt, gate, store, number, worker, &tasks, &mut totals),
-        None => {
-            totals.closed = tasks.len() as u64;
-            false
-        }
-    };
+    let mut mine = worker;
+    let passed = make_gets(rt, gate, store, number, &mut mine, &tasks, &mut totals);
     Worked {
-        slot: mine,
+        worker: mine,
         totals,
-        is_stopped,
+        is_stopped: !passed,
     }
 }
 

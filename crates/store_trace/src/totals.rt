@@ -51,6 +51,13 @@ impl Totals {
         }
     }
 
+    /// So many lines of a worker that was closed before.
+    pub fn of_closed(lines: u64) -> Totals {
+        let mut totals = Totals::none();
+        totals.closed = lines;
+        totals
+    }
+
     /// Counts a hit. One of a worker that may attempt no bump any more is counted nowhere.
     pub fn note_touch(&mut self, touch: Touch) {
         match touch {

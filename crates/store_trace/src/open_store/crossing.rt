@@ -1,5 +1,6 @@
 //! The lines behind `par` are made by threads.
-ghost use Rattle.std.specs.Prelude.{◌≡◌};
+ghost use Rattle.std.specs.Prelude.{◌≡◌, IfErr};
+ghost use Rattle.store_trace.specs.Runs.{IsOfThreads};
 
 use super::OpenStore;
 use crate::crossing::cross;
@@ -22,7 +23,9 @@ impl<'a, N: Name + Send + Sync> OpenStore<'a, N> {
         alloc: Global,
         gate: &G,
         tasks: Tasks,
-    ) -> Result<Totals, SimFault> {
+    ) -> Result<Totals, SimFault>
+        ensures { IfErr result (λ e. IsOfThreads 0 e) }
+    {
         let pairs = mem::replace(&mut self.pairs, Vec::new(alloc));
         let (slots, lanes) = part(alloc, pairs)?;
         let crossed = cross(rt, alloc, &self.store, gate, slots, lanes, tasks)?;

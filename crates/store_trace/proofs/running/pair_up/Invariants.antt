@@ -1,7 +1,7 @@
 use Rattle.std.proofs.Common.{◌≡◌}
 use Rattle.std.specs.Vec.Iter.{into_iter_items}
 use Rattle.bump_store.specs.Lanes.{worker_rings, lane_rings}
-use Rattle.store_trace.proofs.runs.pair_up.Given as goal
+use Rattle.store_trace.proofs.running.pair_up.Given as goal
 
 -- the workers and the lanes still to come are of the same rings
 abbrev pub invariant-loop-worker : goal.invariant-loop-worker

@@ -1,4 +1,4 @@
-use Rattle.store_trace.proofs.runs.run_on.Given as goal
+use Rattle.store_trace.proofs.serial.run_on.Given as goal
 
 -- the store's name has the number of the blank's table
 abbrev pub ghosts-run_named : goal.ghosts-run_named

@@ -1,6 +1,6 @@
 use Rattle.std.proofs.Common.{◌≡◌, ℕ, ◌+◌, ◌≤◌, List, length}
 use Rattle.std.specs.Io.KnownBytes.{Appends}
-use Rattle.store_trace.proofs.runs.run_lines.Given as goal
+use Rattle.store_trace.proofs.running.run_lines.Given as goal
 
 -- what was written, and that each line took a byte
 abbrev pub invariant-loop-line : goal.invariant-loop-line
