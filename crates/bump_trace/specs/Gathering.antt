@@ -29,3 +29,6 @@ IsOfWriting failed faults.Read = ⊥
 IsOfWriting failed faults.Size = ⊥
 IsOfWriting failed faults.Write = 0 < failed
 IsOfWriting failed faults.Memory = Unit {0}
+IsOfWriting failed faults.Threads = ⊥
+IsOfWriting failed faults.Ring = ⊥
+IsOfWriting failed faults.Gate = ⊥

@@ -1,8 +1,8 @@
 -- What a trace means: its text, and whether it ends with a fault.
-use Rattle.std.specs.Prelude.{ℕ, ◌+◌, Bool, true, false, not, ◌==◌, nat_lt, List, [], ◌∷◌, ◌++◌, length, Option, Some, None, Result, Ok, Err, if◌then◌else◌}
+use Rattle.std.specs.Prelude.{ℕ, ◌+◌, Bool, true, false, ◌==◌, List, [], ◌∷◌, ◌++◌, Option, Some, None, Result, Ok, Err}
 use Rattle.std.specs.List.{slice_split}
 use Rattle.trace_lines.specs.Faults.{◌>>=◌}
-use Rattle.trace_lines.specs.Lines.{Line, Declares, Makes, split_at_spaces, line_of_words}
+use Rattle.trace_lines.specs.Lines.{Line, Declares, Makes, line_said, rest_fault}
 use Rattle.trace_lines.specs.Text.{fault_line}
 use Rattle.bump_trace.specs.Stages.{Stage, Before, Said, say, opened, declared}
 use Rattle.bump_trace.specs.OpenStore.{instruction_said}
@@ -14,31 +14,28 @@ unfoldable pub effect : Stage → ℕ → Line → Result Said Fault
 effect stage now (Declares declaration) = declared stage declaration
 effect stage now (Makes instruction) = opened stage >>= (λ store. instruction_said store now instruction)
 
--- more than 255 bytes
-abbrev pub is_long : List ℕ → Bool
-is_long line = nat_lt 255 (length line)
-
--- a line without bytes, or a comment: its first byte is #
-abbrev pub is_skipped : List ℕ → Bool
-is_skipped [] = true
-is_skipped (byte ∷ bytes) = byte == 35
+-- what a line does that says something, or nothing
+abbrev pub effect_of : Stage → ℕ → Option Line → Result Said Fault
+effect_of stage now None = Ok (say stage [])
+effect_of stage now (Some line) = effect stage now line
 
 -- a whole line, whose number is the time
 unfoldable pub step : Stage → ℕ → List ℕ → Result Said Fault
-step stage number line =
-    if is_long line then Err fault.Long
-    else (if is_skipped line then Ok (say stage []) else (line_of_words (split_at_spaces line) >>= effect stage number))
+step stage number line = line_said line >>= effect_of stage number
 
 -- the fault, if it is one
 abbrev pub fault_in : {A : Type 0} → Result A Fault → Option Fault
 fault_in (Ok value) = None
 fault_in (Err what) = Some what
 
+-- the first fault, or the second
+abbrev pub or_else : Option Fault → Option Fault → Option Fault
+or_else (Some what) other = Some what
+or_else None other = other
+
 -- what is wrong with what stands behind the last line feed, or with the stage there
 unfoldable pub fault_at_end : Stage → List ℕ → Option Fault
-fault_at_end stage rest =
-    if is_long rest then Some fault.Long
-    else (if not (length rest == 0) then Some fault.Truncated else fault_in (opened stage))
+fault_at_end stage rest = or_else (rest_fault rest) (fault_in (opened stage))
 
 -- a text, and whether it ends with the line of a fault
 pub record Verdict : Type 0 where

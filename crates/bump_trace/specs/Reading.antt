@@ -11,6 +11,9 @@ IsOfReading calls failed faults.Read = (0 < failed) ⊎ (calls ≡ most_reads)
 IsOfReading calls failed faults.Size = Unit {0}
 IsOfReading calls failed faults.Write = ⊥
 IsOfReading calls failed faults.Memory = Unit {0}
+IsOfReading calls failed faults.Threads = ⊥
+IsOfReading calls failed faults.Ring = ⊥
+IsOfReading calls failed faults.Gate = ⊥
 
 -- more came than a trace may have, where that is the fault
 abbrev pub IsOfSize : Option (List ℕ) → Option (List ℕ) → SimFault → Type 0
@@ -19,3 +22,6 @@ IsOfSize had left faults.Read = Unit {0}
 IsOfSize had left faults.Size = TooManyCame had left
 IsOfSize had left faults.Write = Unit {0}
 IsOfSize had left faults.Memory = Unit {0}
+IsOfSize had left faults.Threads = Unit {0}
+IsOfSize had left faults.Ring = Unit {0}
+IsOfSize had left faults.Gate = Unit {0}

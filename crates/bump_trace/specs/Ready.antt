@@ -77,6 +77,5 @@ pub record MayRun (store : OpenStore) (text : List ℕ) : Type 0 where
 
 -- a store that is open is steady
 abbrev pub IsSettled : Stage → Type 0
-IsSettled stage.Before = Unit {0}
-IsSettled (stage.Classes shape classes) = Unit {0}
+IsSettled (stage.Opens opening) = Unit {0}
 IsSettled (stage.Open store) = IsSteady store

@@ -26,13 +26,17 @@ pub record Ran (had left held holds : Option (List ℕ)) (is_fault : Bool) : Typ
 abbrev pub TooManyCame : Option (List ℕ) → Option (List ℕ) → Type 0
 TooManyCame had left = (input : List ℕ) × Consumes had left input × (most_bytes < length input)
 
--- a fault of the trace is the end of its text; where the trace could not be read, nothing was written
+-- A fault of the trace is the end of its text; where the trace could not be read, nothing was written. A run on a World has no
+-- threads, no ring and no gate.
 abbrev pub StoppedBy : Option (List ℕ) → Option (List ℕ) → Option (List ℕ) → Option (List ℕ) → SimFault → Type 0
 StoppedBy had left held holds faults.Trace = Ran had left held holds true
 StoppedBy had left held holds faults.Read = Keeps held holds
 StoppedBy had left held holds faults.Size = Keeps held holds × TooManyCame had left
 StoppedBy had left held holds faults.Write = Unit {0}
 StoppedBy had left held holds faults.Memory = Unit {0}
+StoppedBy had left held holds faults.Threads = ⊥
+StoppedBy had left held holds faults.Ring = ⊥
+StoppedBy had left held holds faults.Gate = ⊥
 
 -- what a reader had and has left, and what a writer held and holds, by the answer of the run
 abbrev pub ModelRuns : Option (List ℕ) → Option (List ℕ) → Option (List ℕ) → Option (List ℕ) → Result ⊤ SimFault → Type 0
@@ -46,6 +50,9 @@ FailsAsCounted reads read_failed write_failed faults.Read = (0 < read_failed) �
 FailsAsCounted reads read_failed write_failed faults.Size = Unit {0}
 FailsAsCounted reads read_failed write_failed faults.Write = 0 < write_failed
 FailsAsCounted reads read_failed write_failed faults.Memory = Unit {0}
+FailsAsCounted reads read_failed write_failed faults.Threads = Unit {0}
+FailsAsCounted reads read_failed write_failed faults.Ring = Unit {0}
+FailsAsCounted reads read_failed write_failed faults.Gate = Unit {0}
 
 -- Where the trace could not be read the writer was not called.
 abbrev pub IsUncalled : ℕ → SimFault → Type 0
@@ -54,3 +61,6 @@ IsUncalled writes faults.Read = writes ≡ 0
 IsUncalled writes faults.Size = writes ≡ 0
 IsUncalled writes faults.Write = Unit {0}
 IsUncalled writes faults.Memory = Unit {0}
+IsUncalled writes faults.Threads = Unit {0}
+IsUncalled writes faults.Ring = Unit {0}
+IsUncalled writes faults.Gate = Unit {0}

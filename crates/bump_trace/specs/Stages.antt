@@ -41,14 +41,14 @@ config_fault shape classes =
     option_map fault_of_config
     (first_fault shape.workers shape.capacity shape.refs_limit shape.first_generation classes)
 
+-- a store in this state, without names
+abbrev pub nameless : State → StoreState
+nameless state = record { state = state; names = no_names; holds = no_names; is_past_par = false }
+
 -- a store of this shape in which nothing was done
 abbrev pub new_store : Shape → List ClassConfig → StoreState
-new_store shape classes = record {
-  state = opening_state shape.workers shape.capacity shape.refs_limit shape.first_generation classes;
-  names = no_names;
-  holds = no_names;
-  is_past_par = false;
-}
+new_store shape classes =
+    nameless (opening_state shape.workers shape.capacity shape.refs_limit shape.first_generation classes)
 
 -- a store, unless there is a fault
 abbrev pub unless_fault : Option Fault → StoreState → Result StoreState Fault

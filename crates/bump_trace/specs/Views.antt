@@ -3,7 +3,9 @@ use Rattle.std.specs.Prelude.{◌≡◌, ⊤, ℕ, List, ◌++◌, Result, Ok, E
 use Rattle.std.specs.HashMap.{HashMap, get_by}
 use Rattle.std.specs.Str.{bytes_eq}
 use denote.Ref.{Bor}
+use Rattle.bump_rules.specs.declared.configs.Config.{Config}
 use Rattle.bump_rules.specs.declared.items.ItemId.{ItemId}
+use Rattle.bump_state.specs.Opening.{new_state}
 use Rattle.bump_trace.specs.Names as names
 use Rattle.bump_trace.specs.OpenStore.{Drained}
 use Rattle.bump_trace.specs.Stages as stages
@@ -12,6 +14,8 @@ use Rattle.trace_lines.specs.declared.faults.LineError.{LineError}
 use Rattle.trace_lines.specs.declared.faults.LineError.TheVariants as errors
 use Rattle.bump_trace.specs.declared.names.Names.{Names}
 use Rattle.bump_trace.specs.declared.open_store.OpenStore.{OpenStore}
+use Rattle.bump_trace.specs.declared.openings.Opening.{Opening}
+use Rattle.bump_trace.specs.declared.openings.Opening.TheVariants as opening
 use Rattle.bump_trace.specs.declared.stages.Stage.{Stage}
 use Rattle.bump_trace.specs.declared.stages.Stage.TheVariants as stage
 
@@ -32,10 +36,14 @@ store_of store = record {
   is_past_par = store.is_past_par;
 }
 
+-- the lines before the first command as the definitions see them
+abbrev pub opening_of : Opening → stages.Stage
+opening_of opening.Before = stages.Before
+opening_of (opening.Classes shape classes) = stages.Classes shape classes.items
+
 -- a stage as the definitions see it
 abbrev pub stage_of : Stage → stages.Stage
-stage_of stage.Before = stages.Before
-stage_of (stage.Classes shape classes) = stages.Classes shape classes.items
+stage_of (stage.Opens opening) = opening_of opening
 stage_of (stage.Open store) = stages.Open (store_of store)
 
 -- a fault that isn't want of memory is the one that is meant
@@ -47,6 +55,11 @@ FailsBy (errors.Fault fault) meant = meant ≡ Err fault
 abbrev pub Does : stages.Stage → List ℕ → Result ⊤ LineError → Result stages.Said Fault → Type 0
 Does new text (Ok _) meant = meant ≡ Ok (record { stage = new; text = text })
 Does new text (Err what) meant = FailsBy what meant
+
+-- The configuration is that of the store that is meant.
+abbrev pub Configures : Result Config Fault → Result stages.StoreState Fault → Type 0
+Configures (Ok config) meant = meant ≡ Ok (stages.nameless (new_state config))
+Configures (Err fault) meant = meant ≡ Err fault
 
 -- The bumps that a call applied, their text and their number are those that are meant, unless memory ran out.
 abbrev pub Drains : OpenStore → OpenStore → List ℕ → List ℕ → Result ℕ LineError → Drained → Type 0

@@ -6,9 +6,16 @@ mod cutting;
 mod gathering;
 mod names;
 mod open_store;
+mod openings;
 mod reading;
 mod runs;
 mod stages;
 
+pub use cutting::cut;
+pub use gathering::{ROOM, flush, gather, stop};
+pub use names::Names;
+pub use open_store::PLACES;
+pub use openings::{Opening, configure, declare};
+pub use reading::read_all;
 pub use runs::{SimFault, run_model};
 pub use trace_lines::Counted;

@@ -15,6 +15,7 @@ mod shows;
 
 use crate::names::Names;
 use bump_core::{Answer, Command, Config, ItemId, Refused, Tail, World};
+pub use shows::PLACES;
 use std::alloc::Global;
 use std::hash::RandomState;
 use trace_lines::{

@@ -37,6 +37,18 @@ pub enum SimFault {
     /// There was no memory.
     #[error("out of memory")]
     Memory,
+
+    /// A thread could not be started. A run on a World has none.
+    #[error("a thread could not be started")]
+    Threads,
+
+    /// A ring that was closed could not show its end. A World's rings are lists.
+    #[error("a ring could not show its end")]
+    Ring,
+
+    /// The gate let a thread's call not pass. A run on a World has no gate.
+    #[error("the gate did not open")]
+    Gate,
 }
 
 impl From<AllocError> for SimFault {

@@ -1,26 +1,21 @@
 //! How far a trace is, and what a line does there.
 
-ghost use Rattle.std.specs.Prelude.{◌≡◌, ◌∷◌, [], IfOk, OnOk, length};
-ghost use Rattle.std.specs.Result.{result_err};
-ghost use Rattle.trace_lines.specs.Faults.{fault_of_config};
-ghost use Rattle.bump_trace.specs.Stages.{Before, config_fault, declared, opened};
-ghost use Rattle.bump_trace.specs.Meaning.{effect, is_long, is_skipped, step, fault_at_end};
+ghost use Rattle.std.specs.Prelude.{◌≡◌, ◌∷◌, [], OnOk};
+ghost use Rattle.bump_trace.specs.Stages.{Before, declared, opened};
+ghost use Rattle.bump_trace.specs.Meaning.{effect, step, fault_at_end};
 
 use crate::open_store::OpenStore;
-use bump_core::{ClassConfig, Config, ConfigFault};
+use crate::openings::{Opening, configure, declare};
 use std::alloc::Global;
 use std::hash::RandomState;
 use std::mem;
-use trace_lines::{Declaration, Fault, Line, LineError, Shape, read, words};
+use trace_lines::{Declaration, Fault, Line, LineError, read_line, rest_fault};
 
 /// How far a trace is.
 #[derive(Drop)]
 pub enum Stage<'a> {
-    /// No line but skipped ones.
-    Before,
-
-    /// After `store`, among the lines `class`: what they said.
-    Classes(Shape, Vec<ClassConfig>),
+    /// Before the first command.
+    Opens(Opening),
 
     /// With a store on which commands were made.
     Open(OpenStore<'a>),
@@ -31,56 +26,6 @@ pub enum Stage<'a> {
 pub struct Session<'a> {
     stage: Stage<'a>,
     keys: RandomState,
-}
-
-/// The fault that a configuration's fault is.
-fn fault_of(fault: ConfigFault) -> Fault
-    ensures { result ≡ fault_of_config fault }
-{
-    match fault {
-        ConfigFault::Workers => Fault::Workers,
-        ConfigFault::Capacity => Fault::Capacity,
-        ConfigFault::RefsLimit => Fault::Refs,
-        ConfigFault::Generation => Fault::Generation,
-        ConfigFault::Classes => Fault::Classes,
-        ConfigFault::Chunks => Fault::Chunks,
-    }
-}
-
-/// The configuration that the lines `store` and `class` say.
-fn config(shape: Shape, classes: Vec<ClassConfig>) -> Result<Config, Fault>
-    ensures fault { result_err result ≡ config_fault shape classes.items }
-    ensures counts { IfOk result (λ c. (c.workers ≡ shape.workers) × (c.capacity ≡ shape.capacity)) }
-    ensures limits { IfOk result (λ c. (c.refs_limit ≡ shape.refs_limit) × (c.first_generation ≡ shape.first_generation)) }
-    ensures classes { IfOk result (λ c. c.classes ≡ classes.items) }
-{
-    match Config::new(
-        shape.workers,
-        shape.capacity,
-        shape.refs_limit,
-        shape.first_generation,
-        classes,
-    ) {
-        Ok(config) => Ok(config),
-        Err(fault) => Err(fault_of(fault)),
-    }
-}
-
-/// More bytes than a line may have.
-fn is_long(line: &[u8]) -> bool
-    ensures { result ≡ is_long line.now }
-{
-    line.len() > 255
-}
-
-/// A line without bytes, or a comment.
-fn is_skipped(line: &[u8]) -> bool
-    ensures { result ≡ is_skipped line.now }
-{
-    match line {
-        [] => true,
-        [first, ..] => *first == b'#',
-    }
 }
 
 impl<'a> Session<'a> {
@@ -94,7 +39,7 @@ impl<'a> Session<'a> {
         ensures settled { IsSettled result.stage }
     {
         Session {
-            stage: Stage::Before,
+            stage: Stage::Opens(Opening::Before),
             keys,
         }
     }
@@ -105,16 +50,9 @@ impl<'a> Session<'a> {
         ensures said { Does (stage_of self.new.stage) [] result (declared (stage_of self.old.stage) declaration) }
         ensures settled { OnOk result (IsSettled self.new.stage) }
     {
-        match (&mut self.stage, declaration) {
-            (Stage::Before, Declaration::Store(shape)) => {
-                self.stage = Stage::Classes(shape, Vec::new(alloc));
-                Ok(())
-            }
-            (Stage::Classes(_, classes), Declaration::Class(class)) => {
-                classes.push(class)?;
-                Ok(())
-            }
-            _ => Err(LineError::Fault(Fault::Order)),
+        match &mut self.stage {
+            Stage::Opens(opening) => declare(opening, alloc, declaration),
+            Stage::Open(_) => Err(LineError::Fault(Fault::Order)),
         }
     }
 
@@ -128,10 +66,11 @@ impl<'a> Session<'a> {
         if let Stage::Open(_) = self.stage {
             return Ok(());
         }
-        let Stage::Classes(shape, classes) = mem::replace(&mut self.stage, Stage::Before) else {
-            return Err(LineError::Fault(Fault::Order));
+        let Stage::Opens(opening) = mem::replace(&mut self.stage, Stage::Opens(Opening::Before))
+        else {
+            unreachable!()
         };
-        match config(shape, classes) {
+        match configure(opening) {
             Ok(config) => {
                 self.stage = Stage::Open(OpenStore::new(alloc, self.keys, &config)?);
                 Ok(())
@@ -181,16 +120,9 @@ impl<'a> Session<'a> {
         ensures said { Does (stage_of self.new.stage) out.new.items result (step (stage_of self.old.stage) number line.entry.now) }
         ensures settled { OnOk result (IsSettled self.new.stage) }
     {
-        if is_long(line) {
-            return Err(LineError::Fault(Fault::Long));
-        }
-        if is_skipped(line) {
-            return Ok(());
-        }
-        let words = words(alloc, line)?;
-        match read(&words) {
-            Ok(line) => self.apply(alloc, number, line, out),
-            Err(fault) => Err(LineError::Fault(fault)),
+        match read_line(alloc, line)? {
+            Some(line) => self.apply(alloc, number, line, out),
+            None => Ok(()),
         }
     }
 
@@ -199,16 +131,12 @@ impl<'a> Session<'a> {
     pub fn fault_at_end(self, rest: &[u8]) -> Option<Fault>
         ensures { result ≡ fault_at_end (stage_of self.entry.stage) rest.now }
     {
-        if is_long(rest) {
-            return Some(Fault::Long);
-        }
-        if !rest.is_empty() {
-            return Some(Fault::Truncated);
+        if let Some(fault) = rest_fault(rest) {
+            return Some(fault);
         }
         let Session { stage, .. } = self;
         match stage {
-            Stage::Before => Some(Fault::Order),
-            Stage::Classes(shape, classes) => config(shape, classes).err(),
+            Stage::Opens(opening) => configure(opening).err(),
             Stage::Open(_) => None,
         }
     }

@@ -13,6 +13,9 @@ status_of (failure.Run fault.Read) = 1
 status_of (failure.Run fault.Size) = 1
 status_of (failure.Run fault.Write) = 1
 status_of (failure.Run fault.Memory) = 1
+status_of (failure.Run fault.Threads) = 1
+status_of (failure.Run fault.Ring) = 1
+status_of (failure.Run fault.Gate) = 1
 
 -- the word is this text
 abbrev pub IsText : Option (Bor (List ℕ)) → List ℕ → Type 0
@@ -27,3 +30,6 @@ IsWordOf (failure.Run fault.Read) word = IsText word (codes "read")
 IsWordOf (failure.Run fault.Size) word = IsText word (codes "size")
 IsWordOf (failure.Run fault.Write) word = IsText word (codes "write")
 IsWordOf (failure.Run fault.Memory) word = IsText word (codes "memory")
+IsWordOf (failure.Run fault.Threads) word = IsText word (codes "threads")
+IsWordOf (failure.Run fault.Ring) word = IsText word (codes "ring")
+IsWordOf (failure.Run fault.Gate) word = IsText word (codes "gate")

@@ -8,11 +8,12 @@ mod command_line;
 pub mod worked_command_lines;
 
 use bump_trace::{Counted, SimFault, run_model};
-use command_line::{Refusal, file};
+use command_line::{Mode, Refusal};
 use std::env;
 use std::fs::File;
 use std::hash::RandomState;
 use std::process::ExitCode;
+use store_trace::{OpenGate, run_par, run_serial};
 
 /// Why the program ends with another status than 0.
 #[derive(Clone, Copy)]
@@ -32,6 +33,7 @@ fn status(failure: Failure) -> u8
         Failure::Usage => 3,
         Failure::Run(SimFault::Trace) => 2,
         Failure::Run(SimFault::Read | SimFault::Size | SimFault::Write | SimFault::Memory) => 1,
+        Failure::Run(SimFault::Threads | SimFault::Ring | SimFault::Gate) => 1,
     }
 }
 
@@ -46,6 +48,9 @@ fn word(failure: Failure) -> Option<&'static str>
         Failure::Run(SimFault::Size) => Some("size"),
         Failure::Run(SimFault::Write) => Some("write"),
         Failure::Run(SimFault::Memory) => Some("memory"),
+        Failure::Run(SimFault::Threads) => Some("threads"),
+        Failure::Run(SimFault::Ring) => Some("ring"),
+        Failure::Run(SimFault::Gate) => Some("gate"),
     }
 }
 
@@ -66,12 +71,12 @@ fn run(rt: &HostRuntime) -> u8 {
     let Ok(words) = args.collect::<Vec<String>>(rt.alloc()) else {
         return failed(rt, Failure::Run(SimFault::Memory));
     };
-    let path = match file(rt.alloc(), &words) {
-        Ok(path) => path,
+    let chosen = match command_line::run(rt.alloc(), &words) {
+        Ok(chosen) => chosen,
         Err(Refusal::Memory) => return failed(rt, Failure::Run(SimFault::Memory)),
         Err(Refusal::Usage) => return failed(rt, Failure::Usage),
     };
-    let Ok(file) = File::open(rt, path) else {
+    let Ok(file) = File::open(rt, chosen.file) else {
         return failed(rt, Failure::Run(SimFault::Read));
     };
     let Ok(keys) = RandomState::new(rt) else {
@@ -79,7 +84,12 @@ fn run(rt: &HostRuntime) -> u8 {
     };
     let mut reader = Counted::new(file);
     let mut writer = Counted::new(std::io::writer(rt));
-    match run_model(rt.alloc(), keys, &mut reader, &mut writer) {
+    let ended = match chosen.mode {
+        Mode::Model => run_model(rt.alloc(), keys, &mut reader, &mut writer),
+        Mode::Serial => run_serial(rt, rt.alloc(), keys, &mut reader, &mut writer),
+        Mode::Par => run_par(rt, rt.alloc(), keys, &OpenGate, &mut reader, &mut writer),
+    };
+    match ended {
         Ok(()) => 0,
         Err(fault) => failed(rt, Failure::Run(fault)),
     }

@@ -1,5 +1,5 @@
 -- The lines of a trace: the table of their first words and fields, and how a line is read by it.
-use Rattle.std.specs.Prelude.{ℕ, Bool, true, false, ◌==◌, List, [], ◌∷◌, find, length, codes, Option, Some, None, Result, Ok, Err, if◌then◌else◌}
+use Rattle.std.specs.Prelude.{ℕ, Bool, true, false, ◌==◌, nat_lt, List, [], ◌∷◌, find, length, codes, Option, Some, None, Result, Ok, Err, if◌then◌else◌}
 use Rattle.std.specs.List.{slice_split}
 use Rattle.std.specs.Str.{bytes_eq}
 use Rattle.bump_rules.specs.declared.places.Tail.{Tail}
@@ -150,3 +150,23 @@ split_at_spaces line = slice_split (λ b. b == 32) line
 unfoldable pub line_of_words : List (List ℕ) → Result Line Fault
 line_of_words [] = Err fault.Command
 line_of_words (word ∷ fields) = line_of word fields
+
+-- more than 255 bytes
+abbrev pub is_long : List ℕ → Bool
+is_long line = nat_lt 255 (length line)
+
+-- a line without bytes, or a comment: its first byte is #
+abbrev pub is_skipped : List ℕ → Bool
+is_skipped [] = true
+is_skipped (byte ∷ bytes) = byte == 35
+
+-- what a whole line says: nothing, where it is skipped
+unfoldable pub line_said : List ℕ → Result (Option Line) Fault
+line_said line =
+    if is_long line then Err fault.Long
+    else (if is_skipped line then Ok None else (line_of_words (split_at_spaces line) >>= (λ said. Ok (Some said))))
+
+-- what is wrong with what stands behind the last line feed
+abbrev pub rest_fault : List ℕ → Option Fault
+rest_fault rest =
+    if is_long rest then Some fault.Long else (if length rest == 0 then None else Some fault.Truncated)

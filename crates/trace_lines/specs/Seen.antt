@@ -1,7 +1,9 @@
 -- The program's lines as the definitions see them, and what its functions return.
-use Rattle.std.specs.Prelude.{◌≡◌, Result, Ok, Err}
+use Rattle.std.specs.Prelude.{◌≡◌, Option, Some, None, Result, Ok, Err}
 use Rattle.trace_lines.specs.Lines as lines
 use Rattle.trace_lines.specs.declared.faults.Fault.{Fault}
+use Rattle.trace_lines.specs.declared.faults.LineError.{LineError}
+use Rattle.trace_lines.specs.declared.faults.LineError.TheVariants as errors
 use Rattle.trace_lines.specs.declared.lines.Instruction.{Instruction}
 use Rattle.trace_lines.specs.declared.lines.Instruction.TheVariants as instruction
 use Rattle.trace_lines.specs.declared.lines.Line.{Line}
@@ -32,3 +34,14 @@ seen_line (Makes instruction) = lines.Makes (seen_instruction instruction)
 abbrev pub Gives : {X Y : Type 0} → (X → Y) → Result X Fault → Result Y Fault → Type 0
 Gives view (Ok value) read = read ≡ Ok (view value)
 Gives view (Err what) read = read ≡ Err what
+
+-- a line, if there is one
+abbrev pub seen_said : Option Line → Option lines.Line
+seen_said None = None
+seen_said (Some line) = Some (seen_line line)
+
+-- What a line was read as is what it says, unless memory ran out.
+abbrev pub Says : Result (Option Line) LineError → Result (Option lines.Line) Fault → Type 0
+Says (Ok read) said = said ≡ Ok (seen_said read)
+Says (Err errors.Memory) said = Unit {0}
+Says (Err (errors.Fault fault)) said = said ≡ Err fault

@@ -137,6 +137,10 @@ get_start worker name = codes "get " ++ decimal worker ++ codes " " ++ name ++ c
 abbrev pub get_line : ℕ → List ℕ → Option Answer → List ℕ
 get_line worker name given = get_start worker name ++ told given ++ codes "\n"
 
+-- get WORKER NAME busy: all tries to take a hold failed
+abbrev pub busy_get_line : ℕ → List ℕ → List ℕ
+busy_get_line worker name = get_start worker name ++ codes "busy\n"
+
 -- get WORKER NAME LABEL HIT, of an item that was held
 abbrev pub get_held_line : ℕ → List ℕ → Answer → Answer → List ℕ
 get_held_line worker name label hit =
@@ -146,6 +150,11 @@ get_held_line worker name label hit =
 abbrev pub hold_line : ℕ → List ℕ → List ℕ → Option Answer → List ℕ
 hold_line worker name hold given =
     codes "hold " ++ decimal worker ++ codes " " ++ name ++ codes " " ++ hold ++ codes " " ++ told given ++ codes "\n"
+
+-- hold WORKER NAME HOLD busy: all tries to take a hold failed
+abbrev pub busy_hold_line : ℕ → List ℕ → List ℕ → List ℕ
+busy_hold_line worker name hold =
+    codes "hold " ++ decimal worker ++ codes " " ++ name ++ codes " " ++ hold ++ codes " busy\n"
 
 -- hit WORKER HOLD, and the answer
 abbrev pub hit_line : ℕ → List ℕ → Option Answer → List ℕ

@@ -1,7 +1,7 @@
 //! The faults of a trace, and why a line was not run.
 
 ghost use Rattle.std.specs.Prelude.{◌≡◌};
-ghost use Rattle.trace_lines.specs.declared.faults.LineError.TheVariants.{Memory};
+ghost use Rattle.trace_lines.specs.declared.faults.LineError.TheVariants as errors;
 ghost use Rattle.trace_lines.specs.Faults.{fault_word};
 
 use std::alloc::{AllocError, AllocFailed};
@@ -102,8 +102,16 @@ pub enum LineError {
     Fault(Fault),
 }
 
+impl From<Fault> for LineError {
+    ghost from_gives = { λ f e. e ≡ errors.Fault f };
+
+    fn from(fault: Fault) -> LineError {
+        LineError::Fault(fault)
+    }
+}
+
 impl From<AllocError> for LineError {
-    ghost from_gives = { λ _ e. e ≡ Memory };
+    ghost from_gives = { λ _ e. e ≡ errors.Memory };
 
     fn from(_e: AllocError) -> LineError {
         LineError::Memory
@@ -111,7 +119,7 @@ impl From<AllocError> for LineError {
 }
 
 impl<T: Drop> From<AllocFailed<T>> for LineError {
-    ghost from_gives = { λ _ e. e ≡ Memory };
+    ghost from_gives = { λ _ e. e ≡ errors.Memory };
 
     fn from(_e: AllocFailed<T>) -> LineError {
         LineError::Memory

@@ -13,9 +13,9 @@ mod text;
 pub use calls::{Sink, Source};
 pub use counted::{Counted, is_interruption};
 pub use faults::{Fault, LineError};
-pub use lines::{Declaration, Instruction, Line, Shape, read, words};
+pub use lines::{Declaration, Instruction, Line, Shape, read_line, rest_fault};
 pub use text::{
     put_bump, put_chunk, put_close, put_closed, put_del, put_drain, put_drop, put_fault, put_get,
-    put_get_held, put_hit, put_hold, put_list_start, put_pull, put_read, put_set, put_sweep,
-    put_worker,
+    put_get_busy, put_get_held, put_hit, put_hold, put_hold_busy, put_list_start, put_pull,
+    put_read, put_set, put_sweep, put_word, put_worker,
 };

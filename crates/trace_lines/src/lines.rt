@@ -2,10 +2,10 @@
 
 ghost use Rattle.std.specs.Prelude.{◌≡◌, ◌∷◌, [], IfOk, map};
 ghost use Rattle.trace_lines.specs.Fields.{U32, U64, Name, Segment};
-ghost use Rattle.trace_lines.specs.Lines.{split_at_spaces, values_of, by_row, line_of_words};
-ghost use Rattle.trace_lines.specs.Seen.{seen_line, Gives};
+ghost use Rattle.trace_lines.specs.Lines.{split_at_spaces, values_of, by_row, line_of_words, is_long, is_skipped, line_said, rest_fault};
+ghost use Rattle.trace_lines.specs.Seen.{seen_line, Gives, Says};
 
-use crate::faults::Fault;
+use crate::faults::{Fault, LineError};
 use crate::fields::{name_field, segment_field, u32_field, u64_field};
 use crate::keywords::{Keyword, read_keyword};
 use bump_rules::{ClassConfig, Tail};
@@ -168,7 +168,7 @@ pub enum Line<'a> {
 }
 
 /// The words of a line: what stands between spaces.
-pub fn words(alloc: Global, line: &[u8]) -> Result<Vec<&[u8]>, AllocError>
+fn words(alloc: Global, line: &[u8]) -> Result<Vec<&[u8]>, AllocError>
     ensures { IfOk result (λ words. map (λ w. w.now) words.items ≡ split_at_spaces line.now) }
 {
     line.split(|b| *b == b' ').collect(alloc)
@@ -322,7 +322,7 @@ fn by_keyword<'a>(keyword: Keyword, words: &[&'a [u8]]) -> Result<Line<'a>, Faul
 
 /// What a line says, by its words.
 #[tactic(auto, unfolding(crate::specs::Lines::line_of_words, crate::specs::Lines::line_of))]
-pub fn read<'a>(words: &[&'a [u8]]) -> Result<Line<'a>, Fault>
+fn read<'a>(words: &[&'a [u8]]) -> Result<Line<'a>, Fault>
     ensures { Gives seen_line result (line_of_words (map (λ w. w.now) words.now)) }
 {
     match words {
@@ -331,5 +331,55 @@ pub fn read<'a>(words: &[&'a [u8]]) -> Result<Line<'a>, Fault>
             Some(keyword) => by_keyword(keyword, fields),
             None => Err(Fault::Command),
         },
+    }
+}
+
+/// More bytes than a line may have.
+fn is_long(line: &[u8]) -> bool
+    ensures { result ≡ is_long line.now }
+{
+    line.len() > 255
+}
+
+/// A line without bytes, or a comment.
+fn is_skipped(line: &[u8]) -> bool
+    ensures { result ≡ is_skipped line.now }
+{
+    match line {
+        [] => true,
+        [first, ..] => *first == b'#',
+    }
+}
+
+/// What a whole line says, or nothing where it is skipped. It is refused by its first fault: LONG, COMMAND, COUNT, and then
+/// field by field from the left NUMBER, NAME and SEGMENT.
+#[tactic(auto, unfolding(crate::specs::Lines::line_said))]
+pub fn read_line<'a>(alloc: Global, line: &'a [u8]) -> Result<Option<Line<'a>>, LineError>
+    ensures { Says result (line_said line.entry.now) }
+{
+    if is_long(line) {
+        return Err(LineError::Fault(Fault::Long));
+    }
+    if is_skipped(line) {
+        return Ok(None);
+    }
+    let words = words(alloc, line)?;
+    match read(&words) {
+        Ok(line) => Ok(Some(line)),
+        Err(fault) => Err(LineError::Fault(fault)),
+    }
+}
+
+/// What is wrong with the bytes behind the last line feed: LONG, or TRUNCATED where there are any.
+pub fn rest_fault(rest: &[u8]) -> Option<Fault>
+    ensures { result ≡ rest_fault rest.now }
+{
+    if is_long(rest) {
+        return Some(Fault::Long);
+    }
+    if rest.is_empty() {
+        None
+    } else {
+        Some(Fault::Truncated)
     }
 }

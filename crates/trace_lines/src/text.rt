@@ -2,7 +2,7 @@
 //! there.
 
 ghost use Rattle.std.specs.Prelude.{◌≡◌, ◌++◌, OnOk, codes, decimal};
-ghost use Rattle.trace_lines.specs.Text.{id_text, flags_text, item_text, chunk_text, place_word, list_start, accounts_text, accounts_line, touch_text, pulled_text, applied_text, entry_text, answer_text, told, set_line, get_line, get_held_line, hold_line, hit_line, read_line, drop_line, del_line, pull_line, sweep_line, bump_line, drain_line, close_start, closed_line, fault_line};
+ghost use Rattle.trace_lines.specs.Text.{id_text, flags_text, item_text, chunk_text, place_word, list_start, accounts_text, accounts_line, touch_text, pulled_text, applied_text, entry_text, answer_text, told, set_line, get_line, busy_get_line, get_held_line, hold_line, busy_hold_line, hit_line, read_line, drop_line, del_line, pull_line, sweep_line, bump_line, drain_line, close_start, closed_line, fault_line};
 ghost use Rattle.trace_lines.specs.Fields.{tail_word};
 
 use crate::faults::Fault;
@@ -20,7 +20,7 @@ fn put_number(out: &mut Vec<u8>, n: u64) -> Result<(), AllocError>
 }
 
 /// A word, and a number behind it.
-fn put_word(out: &mut Vec<u8>, word: &[u8], number: u64) -> Result<(), AllocError>
+pub fn put_word(out: &mut Vec<u8>, word: &[u8], number: u64) -> Result<(), AllocError>
     ensures { OnOk result (out.new.items ≡ out.old.items ++ word.now ++ decimal number) }
 {
     out.extend_from_slice(word)?;
@@ -260,6 +260,14 @@ pub fn put_get(
     out.extend_from_slice(b"\n")
 }
 
+/// The line of a `get` that took no hold since all its tries failed: an answer of a running store alone.
+pub fn put_get_busy(out: &mut Vec<u8>, worker: u32, name: &[u8]) -> Result<(), AllocError>
+    ensures { OnOk result (out.new.items ≡ out.old.items ++ busy_get_line worker name.now) }
+{
+    put_start(out, b"get ", worker, name)?;
+    out.extend_from_slice(b"busy\n")
+}
+
 /// The line of a `get` that held its item: what was read, and what the hit did.
 pub fn put_get_held(
     out: &mut Vec<u8>,
@@ -292,6 +300,20 @@ pub fn put_hold(
     out.extend_from_slice(b" ")?;
     put_told(out, answer)?;
     out.extend_from_slice(b"\n")
+}
+
+/// The line of a `hold` that took none since all its tries failed: an answer of a running store alone.
+pub fn put_hold_busy(
+    out: &mut Vec<u8>,
+    worker: u32,
+    name: &[u8],
+    hold: &[u8],
+) -> Result<(), AllocError>
+    ensures { OnOk result (out.new.items ≡ out.old.items ++ busy_hold_line worker name.now hold.now) }
+{
+    put_start(out, b"hold ", worker, name)?;
+    out.extend_from_slice(hold)?;
+    out.extend_from_slice(b" busy\n")
 }
 
 /// The line of a `hit`.

@@ -1,14 +1,17 @@
-//! Worked traces through the whole run, and readers and writers that take little at a time.
+//! Worked traces through the whole run, by the model and on a store, and readers and writers that take little at a time.
 use bump_trace::{Counted, SimFault, run_model};
 use std::alloc::{AllocError, Global};
 use std::hash::RandomState;
 use std::process::Abort;
+use std::sync::Wait;
 use std::test::*;
+use store_trace::run_serial;
 
 mod ends;
 mod expecting;
 mod faults;
 mod slow;
+mod threads;
 mod worked;
 
 use ends::{ENDS, EVERY_LINE, HOLDS, LATE_FAULTS, MIXED_LINES};
@@ -30,14 +33,27 @@ fn text_by(alloc: Global, keys: RandomState, trace: &[u8]) -> (Vec<u8>, Result<(
     (writer.into_inner(), ended)
 }
 
-/// The same, with keys of its own.
+/// The same of a run on a store.
+fn serial_text_by(
+    rt: &impl Wait,
+    alloc: Global,
+    keys: RandomState,
+    trace: &[u8],
+) -> (Vec<u8>, Result<(), SimFault>) {
+    let mut reader = Counted::new(trace);
+    let mut writer = Counted::new(Vec::new(alloc));
+    let ended = run_serial(rt, alloc, keys, &mut reader, &mut writer);
+    (writer.into_inner(), ended)
+}
+
+/// The text by the model, with keys of its own.
 fn text_of(rt: &HostRuntime, trace: &[u8]) -> Result<(Vec<u8>, Result<(), SimFault>), Fail> {
     Ok(text_by(rt.alloc(), RandomState::new(rt)?, trace))
 }
 
-/// Each trace gives its text, and its run ends so.
+/// Each trace gives its text, and its run ends so, by the model and on a store.
 fn all_give(
-    rt: &impl Abort,
+    rt: &(impl Abort + Wait),
     alloc: Global,
     keys: RandomState,
     rows: &[(&str, &str)],
@@ -46,6 +62,9 @@ fn all_give(
     for row in rows {
         let (trace, text) = *row;
         let (written, ended) = text_by(alloc, keys, trace.as_bytes());
+        assert!(rt; ended == end, "{trace}");
+        assert!(rt; written.as_slice() == text.as_bytes(), "{trace}");
+        let (written, ended) = serial_text_by(rt, alloc, keys, trace.as_bytes());
         assert!(rt; ended == end, "{trace}");
         assert!(rt; written.as_slice() == text.as_bytes(), "{trace}");
     }

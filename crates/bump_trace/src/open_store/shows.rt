@@ -14,7 +14,7 @@ use std::alloc::AllocError;
 use trace_lines::{LineError, put_chunk, put_close, put_list_start, put_worker};
 
 /// The lists of a class, in the order in which they are printed.
-const PLACES: [Place; 6] = [
+pub const PLACES: [Place; 6] = [
     Place::Hot,
     Place::Warm,
     Place::Cold,

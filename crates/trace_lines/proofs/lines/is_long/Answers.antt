@@ -1,5 +1,5 @@
 use Rattle.std.proofs.Common.{rules}
-use Rattle.bump_trace.proofs.stages.is_long.Goals as goal
+use Rattle.trace_lines.proofs.lines.is_long.Goals as goal
 
 pub returns : goal.returns
 returns c = search rules

@@ -1,0 +1,2 @@
+pub mod ListedChunks
+pub mod ToldText

@@ -1,0 +1,9 @@
+use Rattle.std.proofs.Common.{◌≡◌}
+use Rattle.store_trace.proofs.pairs.put_rest.Given as goal
+
+-- the lane stays that of the closed worker's ring
+abbrev pub invariant-loop : goal.invariant-loop
+invariant-loop g l = record {
+  ring : l.lane.lane.ring ≡ l.fn.lane.lane.ring;
+  closed : l.closed ≡ l.fn.closed;
+}

@@ -1,0 +1,8 @@
+use Rattle.std.proofs.Common.{◌≡◌}
+use Rattle.std.specs.Vec.Iter.{into_iter_items}
+use Rattle.bump_store.specs.Lanes.{worker_rings, lane_rings}
+use Rattle.store_trace.proofs.running.pair_up.Given as goal
+
+-- the workers and the lanes still to come are of the same rings
+abbrev pub invariant-loop-worker : goal.invariant-loop-worker
+invariant-loop-worker g l = worker_rings (into_iter_items l.worker-iterator) ≡ lane_rings (into_iter_items l.left)

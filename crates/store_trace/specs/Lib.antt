@@ -1,0 +1,4 @@
+pub mod Runs
+pub mod Slots
+pub mod Jobs
+pub mod Reports
