@@ -30,9 +30,8 @@ pub struct Crossed<N: Name> {
 }
 
 // Starts a worker's thread. One that was closed needs none.
-fn start_worker<'s, E, G: Gate + Sync + 's, R: Wait + Sync + 's, N: Name + Send + Sync + 's>(
+fn start_worker<'s, E, G: Gate + Sync + 's, N: Name + Send + Sync + 's>(
     scope: &Scope<'s, E>,
-    rt: &'s R,
     gate: &'s G,
     store: &'s Store<N>,
     number: u32,
@@ -59,10 +58,7 @@ fn start_worker<'s, E, G: Gate + Sync + 's, R: Wait + Sync + 's, N: Name + Send 
         }));
     };
     let promise = SameWorker(Snapshot::of(&worker));
-    match scope.spawn_with(
-        promise,
-        move || work(rt, gate, store, number, worker, tasks),
-    ) {
+    match scope.spawn_with(promise, move || work(gate, store, number, worker, tasks)) {
         Ok(handle) => Ok(Job::Runs(Running {
             handle,
             counts,
@@ -73,10 +69,9 @@ fn start_worker<'s, E, G: Gate + Sync + 's, R: Wait + Sync + 's, N: Name + Send 
 }
 
 // Starts the threads of all workers.
-fn start_workers<'s, E, G: Gate + Sync + 's, R: Wait + Sync + 's, N: Name + Send + Sync + 's>(
+fn start_workers<'s, E, G: Gate + Sync + 's, N: Name + Send + Sync + 's>(
     scope: &Scope<'s, E>,
     alloc: Global,
-    rt: &'s R,
     gate: &'s G,
     store: &'s Store<N>,
     slots: Vec<Slot<N>>,
@@ -90,7 +85,7 @@ fn start_workers<'s, E, G: Gate + Sync + 's, R: Wait + Sync + 's, N: Name + Send
     let mut number = 0u32;
     for slot in slots {
         let tasks = left.next().unwrap_or(Vec::new(alloc));
-        let job = start_worker(scope, rt, gate, store, number, slot, tasks)?;
+        let job = start_worker(scope, gate, store, number, slot, tasks)?;
         jobs.push(job).map_err(AllocError::from)?;
         number = number.saturating_add(1);
     }
@@ -139,7 +134,7 @@ pub fn cross<G: Gate + Sync, R: Threads + Wait + Sync, N: Name + Send + Sync>(
             ensures rings { IfOk result (λ crossed. slot_rings crossed.slots.items ≡ lane_rings crossed.lanes.items) }
             ensures err { IfErr result (λ e. IsOfThreads 0 e) }
         {
-            let working = start_workers(scope, alloc, rt, gate, store, slots, gets)?;
+            let working = start_workers(scope, alloc, gate, store, slots, gets)?;
             let tending = start_maintenance(scope, rt, store, lanes, chores)?;
             let (slots, totals, is_stopped) = join_workers(rt, alloc, working)?;
             Ok(Crossed {

@@ -18,24 +18,17 @@ pub struct Worked<N: Name> {
 }
 
 // Makes a `get` line, and counts its answer.
-fn make_get<N: Name, R: Wait>(
-    rt: &R,
-    store: &Store<N>,
-    worker: &mut Worker<N>,
-    task: GetTask,
-    totals: &mut Totals,
-)
+fn make_get<N: Name>(store: &Store<N>, worker: &mut Worker<N>, task: GetTask, totals: &mut Totals)
     ensures { worker.new.sender.ring ≡ worker.old.sender.ring }
 {
-    match get(rt, store, worker, task.id, task.now) {
+    match get(store, worker, task.id, task.now) {
         Ok((_label, touch)) => totals.note_touch(touch),
         Err(refusal) => totals.note_refusal(refusal),
     }
 }
 
 // Makes a worker's `get` lines in order, and counts their answers. False where the gate let one not pass.
-fn make_gets<G: Gate, N: Name, R: Wait>(
-    rt: &R,
+fn make_gets<G: Gate, N: Name>(
     gate: &G,
     store: &Store<N>,
     number: u32,
@@ -50,7 +43,7 @@ fn make_gets<G: Gate, N: Name, R: Wait>(
         if !gate.enter(number, call) {
             return false;
         }
-        make_get(rt, store, worker, *task, totals);
+        make_get(store, worker, *task, totals);
         gate.leave(number, call);
         call = call.saturating_add(1);
     }
@@ -58,8 +51,7 @@ fn make_gets<G: Gate, N: Name, R: Wait>(
 }
 
 /// A worker's thread: it makes the worker's `get` lines, in their order.
-pub fn work<G: Gate, N: Name, R: Wait>(
-    rt: &R,
+pub fn work<G: Gate, N: Name>(
     gate: &G,
     store: &Store<N>,
     number: u32,
@@ -70,7 +62,7 @@ pub fn work<G: Gate, N: Name, R: Wait>(
 {
     let mut totals = Totals::none();
     let mut mine = worker;
-    let passed = make_gets(rt, gate, store, number, &mut mine, &tasks, &mut totals);
+    let passed = make_gets(gate, store, number, &mut mine, &tasks, &mut totals);
     Worked {
         worker: mine,
         totals,
