@@ -6,7 +6,7 @@ use super::pairs::{Pair, link_cold, two_pairs};
 use super::whole::{Story, class, tell};
 use bump_heads::Name;
 use bump_rules::{Accounts, Applied, Entry, ItemId, Place, Touch};
-use bump_store::{ClassSizes, Maintainer, Settled, Store, Worker};
+use bump_store::{ClassSizes, Maintainer, Settled, Store, Unseen, Worker};
 use std::alloc::{AllocError, Global};
 use std::process::Abort;
 use std::sync::Wait;
@@ -24,6 +24,15 @@ fn settled(bumps: u64) -> Option<Settled> {
         },
         applied: bumps,
     })
+}
+
+// What `next_of` answers of a bump that moved its item.
+fn moved(number: u64, life: ItemId) -> Result<Option<Entry>, Unseen> {
+    Ok(Some(Entry {
+        number,
+        life,
+        applied: Applied::Moved,
+    }))
 }
 
 // The worker queues a bump of each of two new items in COLD.
@@ -81,14 +90,10 @@ pub fn settle_one_by_one<N: Name, R: Abort + Wait>(
     let items = queue_two(rt, store, &mut pair);
     let Pair { worker, mut lane } = pair;
     let mut closed = worker.close();
-    for (number, life) in [(0, items[0]), (1, items[1])] {
-        let entry = Entry {
-            number,
-            life,
-            applied: Applied::Moved,
-        };
-        assert_eq!(rt; lane.next_of(rt, store, &mut closed, 9), Ok(Some(entry)));
-    }
+    let first = lane.next_of(rt, store, &mut closed, 9);
+    assert_eq!(rt; first, moved(0, items[0]));
+    let second = lane.next_of(rt, store, &mut closed, 9);
+    assert_eq!(rt; second, moved(1, items[1]));
     assert_eq!(rt; lane.next_of(rt, store, &mut closed, 9), Ok(None));
     assert_eq!(rt; lane.settle(rt, store, closed, 9).ok(), settled(2));
     let Pair { worker, mut lane } = other;

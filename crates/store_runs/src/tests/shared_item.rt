@@ -5,7 +5,7 @@ use super::pairs::{Pair, link_cold, two_pairs};
 use super::whole::class;
 use bump_heads::{Blank, Name};
 use bump_rules::{Applied, Config, Entry, ItemId};
-use bump_store::{Lane, Store, Worker};
+use bump_store::{ClosedWorker, Lane, Store, Worker};
 use std::alloc::{AllocError, Global};
 use std::marker::Brand;
 use std::process::Abort;
@@ -94,6 +94,26 @@ fn apply_both<N: Name, R: Wait>(
     (lane, other, tally)
 }
 
+// Applies the next bump that is left in a closed ring, if there is one, and counts what it did.
+fn apply_left<N: Name, R: Abort + Wait>(
+    rt: &R,
+    store: &Store<N>,
+    lane: &mut Lane<N>,
+    closed: &mut ClosedWorker<N>,
+    tally: &mut Tally,
+)
+    requires ring { closed.old.sender.ring ≡ lane.old.lane.ring }
+    ensures closed { closed.new ≡ closed.old }
+    ensures ring { lane.new.lane.ring ≡ lane.old.lane.ring }
+{
+    let told = lane
+        .next_of(rt, store, closed, 7)
+        .expect(rt, "the end is seen");
+    if let Some(entry) = told {
+        tally.add(entry);
+    }
+}
+
 // Closes the worker, applies what is left in its ring one by one, and settles it. It answers how many were accepted.
 fn close_pair<N: Name, R: Abort + Wait>(
     rt: &R,
@@ -103,14 +123,8 @@ fn close_pair<N: Name, R: Abort + Wait>(
 ) -> u64 {
     let Pair { worker, mut lane } = pair;
     let mut closed = worker.close();
-    for _ in 0..2 {
-        if let Some(entry) = lane
-            .next_of(rt, store, &mut closed, 7)
-            .expect(rt, "the end is seen")
-        {
-            tally.add(entry);
-        }
-    }
+    apply_left(rt, store, &mut lane, &mut closed, tally);
+    apply_left(rt, store, &mut lane, &mut closed, tally);
     assert_eq!(rt; lane.next_of(rt, store, &mut closed, 7), Ok(None));
     let settled = lane
         .settle(rt, store, closed, 7)
