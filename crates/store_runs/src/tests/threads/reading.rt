@@ -10,7 +10,7 @@ use std::thread;
 use std::thread::Threads;
 
 /// Touches that each thread makes.
-const TOUCHES: u32 = 250_000;
+const TOUCHES: u32 = 1_000_000;
 
 /// A worker after its touches, and what they answered.
 #[derive(Drop)]
