@@ -15,13 +15,13 @@ use std::sync::atomic::{AtomicBool, Ordering};
 use std::sync::{RwLock, Wait};
 use std::thread;
 use std::thread::Threads;
-use upkeep::{drain, keep, waiting};
+use upkeep::{drain, keep, put, waiting};
 
 /// Keys, from 0. Those of class 0 are even, those of class 1 odd; a real cache has a class for each size of values.
 pub const KEYS: u32 = 24;
 
 /// How often each reader asks for each key.
-const ROUNDS: u64 = 2_000;
+const ROUNDS: u64 = 10_000;
 
 /// What all threads share.
 #[derive(Drop)]
@@ -150,6 +150,10 @@ fn run<N: Name + Send + Sync, R: Print + Threads + Wait + Sync>(
         index: RwLock::new(index),
         done: AtomicBool::new(false),
     };
+    // Each key once, so that readers find some, whichever thread is first.
+    for key in 0..KEYS {
+        put(rt, &cache, key, 0);
+    }
     let (readers, lanes) = work(rt, &cache, workers, maintainer.into_lanes());
     tell(rt, &cache, readers?, lanes)
 }

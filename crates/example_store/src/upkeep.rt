@@ -18,8 +18,8 @@ fn age<N: Name>(book: &mut Book<N>) {
     }
 }
 
-// Stores a key under the lock of its class. Readers go on meanwhile.
-fn store<N: Name, R: Wait>(rt: &R, cache: &Cache<N>, key: u32, now: u64) {
+/// Stores a key under the lock of its class. Readers go on meanwhile.
+pub fn put<N: Name, R: Wait>(rt: &R, cache: &Cache<N>, key: u32, now: u64) {
     let Ok(mut guard) = cache.store.lock(rt, key % 2) else {
         return;
     };
@@ -54,7 +54,7 @@ pub fn keep<N: Name, R: Wait>(rt: &R, cache: &Cache<N>, mut lanes: Vec<Lane<N>>)
         if cache.done.load(Ordering::SeqCst) {
             return lanes;
         }
-        store(rt, cache, (now % u64::from(KEYS)) as u32, now);
+        put(rt, cache, (now % u64::from(KEYS)) as u32, now);
         drain(rt, cache, &mut lanes, now);
         now = now.saturating_add(1);
     }
