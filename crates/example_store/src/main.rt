@@ -68,7 +68,7 @@ impl<N: Name> Reader<N> {
             self.wrong = self.wrong.saturating_add(1);
         }
         // The hit. What it answers (First, Marked, Queued ..) is there for statistics.
-        let _touch = self.worker.touch(rt, &cache.store, &mut hold, now);
+        let _touch = self.worker.touch(&cache.store, &mut hold, now);
         // A hold is given back: a program that lets one go in another way isn't proved.
         hold.release(&cache.store);
     }
