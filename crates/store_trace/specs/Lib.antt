@@ -1,4 +1,5 @@
 pub mod Runs
 pub mod Slots
 pub mod Jobs
+pub mod Totals
 pub mod Reports

@@ -349,6 +349,41 @@ fn a_refused_allocation_leaves_a_front_of_the_text(rt: HostRuntime) -> Result<()
     Ok(())
 }
 
+/// How the run of a trace on a store ends, and the writer that looked at its text.
+fn run_serial_expecting<'a>(
+    rt: &impl Wait,
+    alloc: Global,
+    keys: RandomState,
+    trace: &str,
+    text: &'a str,
+) -> (Result<(), SimFault>, Expecting<'a>) {
+    let mut reader = Counted::new(trace.as_bytes());
+    let mut writer = Counted::new(Expecting::new(text.as_bytes()));
+    let ended = run_serial(rt, alloc, keys, &mut reader, &mut writer);
+    (ended, writer.into_inner())
+}
+
+/// The same of a run on a store.
+#[test]
+fn a_refused_allocation_of_a_serial_run(rt: HostRuntime) -> Result<(), Fail> {
+    let keys = RandomState::new(&rt)?;
+    let (trace, text) = EVERY_LINE;
+    let (mut ended, mut written) = run_serial_expecting(&rt, rt.alloc(), keys, trace, text);
+    assert!(rt; written.is_front());
+    if ended == Err(SimFault::Memory) {
+        eprintln!(rt; "an allocation was refused")?;
+        (ended, written) = run_serial_expecting(&rt, rt.alloc(), keys, trace, text);
+    }
+    assert!(rt; ended == Ok(()));
+    assert!(rt; written.is_front());
+    assert_eq!(rt; written.left(), 0);
+    let mut behind = Vec::new(rt.alloc());
+    if behind.push(0u8).is_err() {
+        eprintln!(rt; "no allocation was left")?;
+    }
+    Ok(())
+}
+
 /// A line of `show` that is longer than what is gathered before it is written.
 #[test]
 fn a_line_over_64_kib(rt: HostRuntime) -> Result<(), Fail> {
@@ -415,6 +450,9 @@ fn faults_are_told(rt: HostRuntime) -> Result<(), Fail> {
         (SimFault::Size, "the trace has more than 16777216 bytes"),
         (SimFault::Write, "the text could not be written"),
         (SimFault::Memory, "out of memory"),
+        (SimFault::Threads, "a thread could not be started"),
+        (SimFault::Ring, "a ring could not show its end"),
+        (SimFault::Gate, "the gate did not open"),
     ];
     for (fault, words) in told {
         assert!(rt;

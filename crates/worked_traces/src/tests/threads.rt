@@ -1,4 +1,5 @@
 //! Worked traces whose lines behind `par` are made by threads, and a gate that shows that they are several.
+use super::expecting::Expecting;
 use bump_trace::{Counted, SimFault};
 use std::alloc::Global;
 use std::hash::RandomState;
@@ -29,13 +30,99 @@ const OWN_ITEMS: (&str, &str) = (
     "set a 0.1\nset b 1.1\npull 0 hot cold 0.1\npull 0 hot cold 1.1\nworker 0 attempted 1 accepted 1 full 0 busy 0 refs 0 applied 1\nworker 1 attempted 1 accepted 1 full 0 busy 0 refs 0 applied 1\ntotal first 2 already 0 marked 0 queued 2 dropped 0 miss 0 refs 0 busy 0 closed 0\nsizes 0 hot 0 warm 2 cold 0 dying 0 unused 0 retired 0\n",
 );
 
+/// Both workers hit one item, which one of them queues.
+const ONE_ITEM: (&str, &str) = (
+    "store 2 4 8 1\nclass 1 0 5\nset a 0 7\npull 0 hot\npar\nget 0 a\nget 0 a\nget 1 a\nget 1 a\n",
+    "total first 1 already 2 marked 0 queued 1 dropped 0 miss 0 refs 0 busy 0 closed 0\nsizes 0 hot 0 warm 1 cold 0 dying 0 unused 0 retired 0\n",
+);
+
+/// Traces whose text is the same for each schedule: each worker with an item of its own; a worker that was closed before, a hold
+/// that is kept, and lines of maintenance alone; no `par`; and nothing at all.
+const REPORTED: [(&str, &str); 4] = [
+    OWN_ITEMS,
+    (
+        "store 2 4 8 1\nclass 2 0 5\nset a 0 7\nhold 1 a h\nclose 0\npar\nget 0 a\nget 0 a\ndel a\nsweep 0\npull 0 hot\ndrain\n",
+        "set a 0.1\nhold 1 a h held\nclose 0 attempted 0 accepted 0 full 0 busy 0 refs 0 applied 0\nworker 0 attempted 0 accepted 0 full 0 busy 0 refs 0 applied 0\nworker 1 attempted 0 accepted 0 full 0 busy 0 refs 0 applied 0\ntotal first 0 already 0 marked 0 queued 0 dropped 0 miss 0 refs 0 busy 0 closed 2\nsizes 0 hot 0 warm 0 cold 0 dying 1 unused 1 retired 0\n",
+    ),
+    (
+        "store 1 4 4 1\nclass 2 0 5\nset a 0 7\npull 0 hot\nget 0 a\nget 0 a\n",
+        "set a 0.1\npull 0 hot cold 0.1\nget 0 a 7 first\nget 0 a 7 queued 0\nworker 0 attempted 1 accepted 1 full 0 busy 0 refs 0 applied 1\ntotal first 0 already 0 marked 0 queued 0 dropped 0 miss 0 refs 0 busy 0 closed 0\nsizes 0 hot 0 warm 1 cold 0 dying 0 unused 1 retired 0\n",
+    ),
+    (
+        "store 1 4 4 1\nclass 2 0 5\n",
+        "worker 0 attempted 0 accepted 0 full 0 busy 0 refs 0 applied 0\ntotal first 0 already 0 marked 0 queued 0 dropped 0 miss 0 refs 0 busy 0 closed 0\nsizes 0 hot 0 warm 0 cold 0 dying 0 unused 2 retired 0\n",
+    ),
+];
+
+/// Where a line has a fault, its line is all that follows: no line behind `par` is made before.
+const FAULTS_BEHIND_PAR: [(&str, &str); 6] = [
+    ("", "line 1: ORDER\n"),
+    (
+        "store 1 4 4 1\nclass 2 5 5\nset a 0 7\npar\nget 0 a\nshow\n",
+        "set a 0.1\nline 6: ORDER\n",
+    ),
+    (
+        "store 1 4 4 1\nclass 2 5 5\nset a 0 7\npar\nget 0 a\nget 1 a\n",
+        "set a 0.1\nline 6: WORKER\n",
+    ),
+    (
+        "store 1 4 4 1\nclass 2 5 5\nset a 0 7\npar\nget 0 a\ndel b\n",
+        "set a 0.1\nline 6: UNBOUND\n",
+    ),
+    (
+        "store 1 4 4 1\nclass 2 5 5\nset a 0 7\npar\nget 0 a\nsweep 1\n",
+        "set a 0.1\nline 6: CLASS\n",
+    ),
+    (
+        "store 1 4 4 1\nclass 2 5 5\nset a 0 7\npar\nget 0 a\ndrain",
+        "set a 0.1\nline 6: TRUNCATED\n",
+    ),
+];
+
+/// Each trace gives its text by threads, and its run ends so.
+fn all_give<R: Threads + Wait + Abort + Sync>(
+    rt: &R,
+    alloc: Global,
+    keys: RandomState,
+    rows: &[(&str, &str)],
+    end: Result<(), SimFault>,
+) {
+    for row in rows {
+        let (trace, text) = *row;
+        let (written, ended) = text_by(rt, alloc, keys, &OpenGate, trace.as_bytes());
+        assert!(rt; ended == end, "{trace}");
+        assert!(rt; written.as_slice() == text.as_bytes(), "{trace}");
+    }
+}
+
 #[test]
-fn each_worker_hits_its_own_item(rt: HostRuntime) -> Result<(), Fail> {
+fn reports(rt: HostRuntime) -> Result<(), Fail> {
     let keys = RandomState::new(&rt)?;
-    let (trace, text) = OWN_ITEMS;
+    all_give(&rt, rt.alloc(), keys, &REPORTED, Ok(()));
+    Ok(())
+}
+
+#[test]
+fn faults_behind_par(rt: HostRuntime) -> Result<(), Fail> {
+    let keys = RandomState::new(&rt)?;
+    all_give(
+        &rt,
+        rt.alloc(),
+        keys,
+        &FAULTS_BEHIND_PAR,
+        Err(SimFault::Trace),
+    );
+    Ok(())
+}
+
+/// Two workers hit one item twice each: one hit is its first, and one bump is queued, whoever makes which.
+#[test]
+fn two_workers_hit_one_item(rt: HostRuntime) -> Result<(), Fail> {
+    let keys = RandomState::new(&rt)?;
+    let (trace, text) = ONE_ITEM;
     let (written, ended) = text_by(&rt, rt.alloc(), keys, &OpenGate, trace.as_bytes());
     assert!(rt; ended == Ok(()));
-    assert!(rt; written.as_slice() == text.as_bytes());
+    assert!(rt; written.ends_with(text.as_bytes()));
     Ok(())
 }
 
@@ -72,5 +159,62 @@ fn two_workers_are_in_their_lines_at_once(rt: HostRuntime) -> Result<(), Fail> {
     let (written, ended) = text_by(&rt, rt.alloc(), keys, &gate, trace.as_bytes());
     assert!(rt; ended == Ok(()));
     assert!(rt; written.as_slice() == text.as_bytes());
+    Ok(())
+}
+
+/// Lets no line pass.
+#[derive(Drop)]
+struct Shut;
+
+impl Gate for Shut {
+    fn enter(&self, _worker: u32, _call: u64) -> bool {
+        false
+    }
+
+    fn leave(&self, _worker: u32, _call: u64) {}
+}
+
+/// Where the gate lets a line not pass, the run says so, and what was written before stays.
+#[test]
+fn a_gate_that_does_not_open(rt: HostRuntime) -> Result<(), Fail> {
+    let keys = RandomState::new(&rt)?;
+    let (trace, _) = OWN_ITEMS;
+    let (written, ended) = text_by(&rt, rt.alloc(), keys, &Shut, trace.as_bytes());
+    assert!(rt; ended == Err(SimFault::Gate));
+    assert!(rt; written.as_slice() == b"set a 0.1\nset b 1.1\npull 0 hot cold 0.1\npull 0 hot cold 1.1\n".as_slice());
+    Ok(())
+}
+
+/// How a run by threads ends, and the writer that looked at its text.
+fn run_expecting<'a, R: Threads + Wait + Sync>(
+    rt: &R,
+    alloc: Global,
+    keys: RandomState,
+) -> (Result<(), SimFault>, Expecting<'a>) {
+    let (trace, text) = OWN_ITEMS;
+    let mut reader = Counted::new(trace.as_bytes());
+    let mut writer = Counted::new(Expecting::new(text.as_bytes()));
+    let ended = run_par(rt, alloc, keys, &OpenGate, &mut reader, &mut writer);
+    (ended, writer.into_inner())
+}
+
+/// Whichever one allocation is refused: the run ends with its whole text, or as Memory or Threads with a front of it, and then
+/// the same run made again ends with its whole text.
+#[test]
+fn a_refused_allocation_by_threads(rt: HostRuntime) -> Result<(), Fail> {
+    let keys = RandomState::new(&rt)?;
+    let (mut ended, mut written) = run_expecting(&rt, rt.alloc(), keys);
+    assert!(rt; written.is_front());
+    if ended == Err(SimFault::Memory) || ended == Err(SimFault::Threads) {
+        eprintln!(rt; "an allocation was refused")?;
+        (ended, written) = run_expecting(&rt, rt.alloc(), keys);
+    }
+    assert!(rt; ended == Ok(()));
+    assert!(rt; written.is_front());
+    assert_eq!(rt; written.left(), 0);
+    let mut behind = Vec::new(rt.alloc());
+    if behind.push(0u8).is_err() {
+        eprintln!(rt; "no allocation was left")?;
+    }
     Ok(())
 }

@@ -1,4 +1,3 @@
-use Rattle.std.proofs.Common.{◌≡◌}
 use Rattle.trace_lines.specs.Counted.{inner_of}
 use Rattle.store_trace.proofs.ToldText.{told_fault}
 use Rattle.store_trace.proofs.serial.run_all.Goals as goal
