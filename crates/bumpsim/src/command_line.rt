@@ -67,7 +67,7 @@ fn why_refused(error: &Error) -> Refusal
 }
 
 /// The way of running that a word names.
-fn mode(word: &str) -> Option<Mode>
+fn read_mode(word: &str) -> Option<Mode>
     ensures { result ≡ mode_of word.now }
 {
     if word == "model" {
@@ -83,7 +83,7 @@ fn mode(word: &str) -> Option<Mode>
 
 /// The run that `model FILE`, `serial FILE` or `par FILE` asks for, of which the program's own name is the first word. All other
 /// words are refused.
-pub fn run<'a>(alloc: Global, words: &'a [String]) -> Result<Run<'a>, Refusal>
+pub fn choose<'a>(alloc: Global, words: &'a [String]) -> Result<Run<'a>, Refusal>
     ensures { TakesRun (run_of (map string_bytes words.entry.now)) result }
 {
     let matches = match parsed(alloc, words) {
@@ -93,7 +93,7 @@ pub fn run<'a>(alloc: Global, words: &'a [String]) -> Result<Run<'a>, Refusal>
     let Some(word) = matches.get_str("mode") else {
         return Err(Refusal::Usage);
     };
-    let Some(mode) = mode(word) else {
+    let Some(mode) = read_mode(word) else {
         return Err(Refusal::Usage);
     };
     match matches.get_str("file") {

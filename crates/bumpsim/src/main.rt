@@ -8,11 +8,15 @@ mod command_line;
 pub mod worked_command_lines;
 
 use bump_trace::{Counted, SimFault, run_model};
-use command_line::{Mode, Refusal};
+use command_line::{Mode, Refusal, Run};
 use std::env;
 use std::fs::File;
 use std::hash::RandomState;
 use std::process::ExitCode;
+use std::random::RandomSource;
+use std::rt::{Env, Files};
+use std::sync::Wait;
+use std::thread::Threads;
 use store_trace::{OpenGate, run_par, run_serial};
 
 /// Why the program ends with another status than 0.
@@ -64,18 +68,11 @@ fn failed(rt: &impl Eprint, failure: Failure) -> u8
     status(failure)
 }
 
-fn run(rt: &HostRuntime) -> u8 {
-    let Ok(args) = env::args(rt) else {
-        return failed(rt, Failure::Run(SimFault::Read));
-    };
-    let Ok(words) = args.collect::<Vec<String>>(rt.alloc()) else {
-        return failed(rt, Failure::Run(SimFault::Memory));
-    };
-    let chosen = match command_line::run(rt.alloc(), &words) {
-        Ok(chosen) => chosen,
-        Err(Refusal::Memory) => return failed(rt, Failure::Run(SimFault::Memory)),
-        Err(Refusal::Usage) => return failed(rt, Failure::Usage),
-    };
+/// Runs the trace of a file, and answers the status with which the program ends.
+fn run_file<R: Print + Eprint + Files + AllocGlobal + RandomSource + Threads + Wait + Sync>(
+    rt: &R,
+    chosen: Run<'_>,
+) -> u8 {
     let Ok(file) = File::open(rt, chosen.file) else {
         return failed(rt, Failure::Run(SimFault::Read));
     };
@@ -92,6 +89,23 @@ fn run(rt: &HostRuntime) -> u8 {
     match ended {
         Ok(()) => 0,
         Err(fault) => failed(rt, Failure::Run(fault)),
+    }
+}
+
+/// Does what the words of the command line ask for, and answers the status with which the program ends.
+fn run<R: Print + Eprint + Env + Files + AllocGlobal + RandomSource + Threads + Wait + Sync>(
+    rt: &R,
+) -> u8 {
+    let Ok(args) = env::args(rt) else {
+        return failed(rt, Failure::Run(SimFault::Read));
+    };
+    let Ok(words) = args.collect::<Vec<String>>(rt.alloc()) else {
+        return failed(rt, Failure::Run(SimFault::Memory));
+    };
+    match command_line::choose(rt.alloc(), &words) {
+        Ok(chosen) => run_file(rt, chosen),
+        Err(Refusal::Memory) => failed(rt, Failure::Run(SimFault::Memory)),
+        Err(Refusal::Usage) => failed(rt, Failure::Usage),
     }
 }
 
