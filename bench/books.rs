@@ -1,9 +1,9 @@
-//! The calls of a `Book` of `bump_class`: index lists in safe Rust, over plain atomics. A module of changes.rs. As in `bump_class`, whoever
-//! has the Book has the class's lock: none is taken here.
+//! The calls of a `Book` of `bump_class`: index lists in safe Rust, over plain atomics. A module of changes.rs and of reads.rs, each of which makes some
+//! of the calls. As in `bump_class`, whoever has the Book has the class's lock: none is taken here.
 
 use crate::lists::Lists;
 use crate::places::{Ended, Place, Tail};
-use crate::words::{ACTIVE, COLD, Chunk, ItemId, LINKED, REFS, generation_of};
+use crate::words::{ACTIVE, COLD, Chunk, ItemId, LINKED, REFS, SEGMENT, generation_of};
 use std::sync::Arc;
 use std::sync::atomic::Ordering::SeqCst;
 
@@ -45,6 +45,15 @@ pub enum Pulled {
     Cold(ItemId),
     Freed(ItemId),
     Deferred(ItemId),
+}
+
+/// What applying a bump did to its item. The loop that is timed doesn't look at what became of the chunk.
+#[allow(dead_code)]
+#[derive(Clone, Copy)]
+pub enum Applied {
+    Moved,
+    TimeOnly,
+    Gone(Ended),
 }
 
 pub struct NoFreeChunk;
@@ -144,6 +153,24 @@ impl Book {
 
     pub fn size(&self, place: Place) -> u32 {
         self.lists.len(place)
+    }
+
+    /// Applies a bump of this class: its item goes to the front of WARM where it stands in COLD and is ACTIVE. The bump's reference is given back last.
+    pub fn apply(&mut self, life: ItemId, now: u64) -> Applied {
+        let node = life.chunk - self.first;
+        let chunk = self.chunk(node);
+        let word = chunk.head.load(SeqCst);
+        if word & LINKED == 0 {
+            chunk.head.fetch_sub(1, SeqCst);
+            return Applied::Gone(if self.free_unheld(node) { Ended::Freed } else { Ended::Deferred });
+        }
+        chunk.time.store(now, SeqCst);
+        let moves = word & SEGMENT == COLD && chunk.head.fetch_and(!ACTIVE, SeqCst) & ACTIVE != 0;
+        if moves {
+            self.shift(node, Segment::Cold, Segment::Warm);
+        }
+        self.chunk(node).head.fetch_sub(1, SeqCst);
+        if moves { Applied::Moved } else { Applied::TimeOnly }
     }
 
     fn shift(&mut self, node: u32, from: Segment, to: Segment) {

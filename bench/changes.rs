@@ -1,6 +1,8 @@
 //! The calls of a Book and moves among lists in plain Rust, and the workloads of `bump_bench`. `bench/run` builds and runs both programs.
 //! rustc --edition 2024 -C opt-level=3 -C codegen-units=1 -C panic=abort bench/changes.rs -o changes && ./changes all
 
+// Bumps are applied by reads.rs.
+#[allow(dead_code)]
 mod books;
 mod calls;
 mod lists;

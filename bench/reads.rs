@@ -2,12 +2,22 @@
 //! rustc --edition 2024 -C opt-level=3 -C codegen-units=1 -C panic=abort bench/reads.rs -o reads && ./reads all
 
 mod apart;
+// Their other calls are made by changes.rs.
+#[allow(dead_code)]
+mod books;
+mod lanes;
+#[allow(dead_code)]
+mod lists;
 mod measure;
+#[allow(dead_code)]
+mod places;
 mod rings;
 mod words;
 mod workers;
 
 use apart::{Start, work_apart};
+use books::Applied;
+use lanes::{Classes, Lane};
 use measure::{Measured, Tally, measure_named, one_more};
 use rings::Receiver;
 use std::time::Instant;
@@ -118,6 +128,20 @@ fn timed_pass(store: &Store, worker: &mut Worker, items: &[ItemId], rounds: u32,
     }
 }
 
+/// Applies bumps until none is left in the ring. Its name is what callgrind is told to count.
+#[inline(never)]
+fn timed_drain(classes: &Classes, lane: &mut Lane) -> Tally {
+    let mut right: u64 = 0;
+    let mut labels: u64 = 0;
+    while let Some(entry) = lane.next(classes, 5) {
+        if let Applied::Moved = entry.applied {
+            right = right.wrapping_add(1);
+        }
+        labels = labels.wrapping_add(entry.number);
+    }
+    Tally { refused: 0, right, labels }
+}
+
 #[derive(Clone, Copy)]
 struct Workload {
     name: &'static str,
@@ -128,6 +152,8 @@ struct Workload {
     touches: u32,
     wanted: Option<Answer>,
     rounds: u32,
+    /// Whether the bumps that wait in the ring are applied, in place of hits.
+    drained: bool,
 }
 
 const GET: Workload = Workload {
@@ -139,6 +165,7 @@ const GET: Workload = Workload {
     touches: 0,
     wanted: None,
     rounds: 64,
+    drained: false,
 };
 
 const HIT: Workload = Workload { name: "store_hit", touches: 2, wanted: Some(Answer::Already), ..GET };
@@ -158,7 +185,10 @@ const QUEUED: Workload = Workload {
 
 const FULL: Workload = Workload { name: "store_full", capacity: 1, wanted: Some(Answer::Full), ..QUEUED };
 
-/// Each on 1, 2 and 4 threads, and hits in stores of two sizes.
+/// The second hit of each item has queued its bump.
+const DRAINED: Workload = Workload { name: "store_drained", touches: 2, drained: true, ..QUEUED };
+
+/// Each on 1, 2 and 4 threads, bumps that are applied, and hits in stores of two sizes.
 fn workloads() -> Vec<Workload> {
     let mut all = Vec::new();
     for workload in [GET, HIT, FIRST, MARKED, QUEUED, FULL] {
@@ -166,6 +196,7 @@ fn workloads() -> Vec<Workload> {
             all.push(Workload { threads, ..workload });
         }
     }
+    all.push(DRAINED);
     all.push(Workload { name: "store_hit_1000", items: 1_000, rounds: 1_000, ..HIT });
     all.push(Workload { name: "store_hit_1000000", items: 1_000_000, rounds: 1, ..HIT });
     all
@@ -193,7 +224,19 @@ fn work(store: &Store, mut worker: Worker, mut receiver: Receiver, first: u32, w
     (nanos, tally)
 }
 
+fn drained(workload: Workload) -> (u64, Tally) {
+    let (classes, mut lane) = Classes::queued(workload.items, workload.capacity);
+    let start = Instant::now();
+    let tally = timed_drain(&classes, &mut lane);
+    let nanos = start.elapsed().as_nanos() as u64;
+    assert_eq!(lane.applied(), workload.items as u64);
+    (nanos, tally)
+}
+
 fn pass(workload: Workload) -> (u64, Tally) {
+    if workload.drained {
+        return drained(workload);
+    }
     let Workload { threads, items, cold, capacity, .. } = workload;
     let (store, workers, receivers) = Store::new(items * threads, cold, threads, capacity);
     let ends = workers.into_iter().zip(receivers).zip(0..threads).collect();

@@ -4,31 +4,23 @@
 
 ghost use Rattle.std.specs.Prelude.{◌≡◌, ◌<◌, ◌≤◌, [], ◌∷◌};
 
+mod draining;
 mod jobs;
 mod passes;
 mod workloads;
 
-use bump_class::Book;
 use bump_heads::{Blank, Name};
-use bump_rules::{ClassConfig, Config, MAX_CHUNKS, Tail};
+use bump_rules::{ClassConfig, Config, MAX_CHUNKS};
+use draining::drained_in;
 use jobs::{readers_of, work_apart};
-use measuring::{Asked, Line, Spent, Store, config_of, link_all, open};
+use measuring::{Asked, Line, Spent, Store, config_of, open};
 use std::alloc::{AllocError, Global};
 use std::marker::Brand;
 use std::rt::Clock;
+use std::sync::Wait;
 use std::thread::Threads;
 use std::{env, io};
 use workloads::{Workload, workloads};
-
-// Links an item in each chunk, and pulls all of them to COLD, if that is wanted: the limit of HOT is 0.
-fn fill<N: Name>(book: &mut Book<N>, workload: Workload) {
-    link_all(book, workload.chunks);
-    if workload.cold {
-        for _chunk in 0..workload.chunks {
-            book.pull(Tail::Hot);
-        }
-    }
-}
 
 // Opens a store under a name, and passes through it once. Answers the mean of the threads, and what all of them counted.
 fn pass_in<N: Name + Send + Sync, R: Threads + Clock + Sync>(
@@ -51,7 +43,7 @@ fn pass_in<N: Name + Send + Sync, R: Threads + Clock + Sync>(
         mut book,
         workers,
     } = open::<N>(alloc, blank, config, class, workload.capacity)?;
-    fill(&mut book, workload);
+    workload.fill(&mut book);
     let readers = readers_of(alloc, workers, workload)?;
     let mut all = Spent::NONE;
     for spent in work_apart(rt, alloc, &heads, readers, workload)? {
@@ -61,7 +53,11 @@ fn pass_in<N: Name + Send + Sync, R: Threads + Clock + Sync>(
 }
 
 // Opens a store, and picks its name.
-fn pass<R: Threads + Clock + Sync>(rt: &R, alloc: Global, workload: Workload) -> io::Result<Spent> {
+fn pass<R: Threads + Clock + Wait + Sync>(
+    rt: &R,
+    alloc: Global,
+    workload: Workload,
+) -> io::Result<Spent> {
     let class = ClassConfig {
         chunks: workload.chunks,
         hot: 0,
@@ -72,11 +68,14 @@ fn pass<R: Threads + Clock + Sync>(rt: &R, alloc: Global, workload: Workload) ->
     }
     let config = config_of(alloc, class, workload.threads, workload.capacity).ok_or(AllocError)?;
     let blank = Blank::new(alloc, &config)?;
+    if workload.drained {
+        return drained_in::<Brand, _>(rt, alloc, blank, &config, workload);
+    }
     pass_in::<Brand, _>(rt, alloc, blank, &config, class, workload)
 }
 
 // Passes so often, and once more before that, and prints what it took.
-fn measure<R: Threads + Clock + Sync + Print>(
+fn measure<R: Threads + Clock + Wait + Sync + Print>(
     rt: &R,
     alloc: Global,
     workload: Workload,

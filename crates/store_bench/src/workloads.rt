@@ -1,6 +1,9 @@
 //! What is measured.
 use crate::passes::Answer;
-use measuring::Subject;
+use bump_class::Book;
+use bump_heads::Name;
+use bump_rules::Tail;
+use measuring::{Subject, link_all};
 use std::alloc::{AllocError, Global};
 
 /// A workload: each thread has a worker, and hits items of its own.
@@ -27,6 +30,9 @@ pub struct Workload {
 
     /// How often the items are gone through.
     pub rounds: u32,
+
+    /// Whether the bumps that wait in the ring are applied, in place of hits. Then there is one thread.
+    pub drained: bool,
 }
 
 // A workload of items that are only got and released.
@@ -40,6 +46,7 @@ const GET: Workload = Workload {
     touches: 0,
     wanted: None,
     rounds: 64,
+    drained: false,
 };
 
 const HIT: Workload = Workload {
@@ -82,6 +89,14 @@ const FULL: Workload = Workload {
     ..QUEUED
 };
 
+// The second hit of each item has queued its bump.
+const DRAINED: Workload = Workload {
+    name: "store_drained",
+    touches: 2,
+    drained: true,
+    ..QUEUED
+};
+
 // Those that are measured on 1, 2 and 4 threads.
 const APART: [Workload; 6] = [GET, HIT, FIRST, MARKED, QUEUED, FULL];
 
@@ -104,6 +119,16 @@ const SIZES: [Workload; 2] = [
 ];
 
 impl Workload {
+    /// Links an item in each chunk, and pulls all of them to COLD, if that is wanted: the limit of HOT is 0.
+    pub fn fill<N: Name>(self, book: &mut Book<N>) {
+        link_all(book, self.chunks);
+        if self.cold {
+            for _chunk in 0..self.chunks {
+                book.pull(Tail::Hot);
+            }
+        }
+    }
+
     /// What it is for what is printed.
     pub fn subject(self) -> Subject {
         Subject {
@@ -131,6 +156,7 @@ pub fn workloads(alloc: Global) -> Result<Vec<Workload>, AllocError> {
         all.push(workload.of_threads(2))?;
         all.push(workload.of_threads(4))?;
     }
+    all.push(DRAINED)?;
     for workload in &SIZES {
         all.push(*workload)?;
     }
