@@ -27,32 +27,32 @@ pub value_found : (m : ArgMatches) (words : List Text) (id : Text) → rows_of (
 value_found m words id h = first_value-rows (found_of m) id ∙ ap (first_of id) h
 
 abbrev chosen : Bool → Option Mode → Option Text → Option (Mode × Text)
-chosen whole mode file = if whole then both mode file else None
+chosen whole way file = if whole then both way file else None
 
 no_mode_chosen : (whole : Bool) (file : Option Text) → chosen whole None file ≡ None
 no_mode_chosen true file = refl
 no_mode_chosen false file = refl
 
 no_file_chosen : (whole : Bool) (mode : Option Mode) → chosen whole mode None ≡ None
-no_file_chosen true (Some mode) = refl
+no_file_chosen true (Some way) = refl
 no_file_chosen true None = refl
-no_file_chosen false mode = refl
+no_file_chosen false way = refl
 
-pub run_meant : (words : List Text) (word file : Text) (mode : Mode) → fault_of app words ≡ [] → value_in words (codes "mode") ≡ Some word
-    → mode_of word ≡ Some mode → value_in words (codes "file") ≡ Some file → run_of words ≡ Some (mode, file)
-run_meant words word file mode whole named known given =
+pub run_meant : (words : List Text) (word file : Text) (way : Mode) → fault_of app words ≡ [] → value_in words (codes "mode") ≡ Some word
+    → mode_of word ≡ Some way → value_in words (codes "file") ≡ Some file → run_of words ≡ Some (way, file)
+run_meant words word file way whole named known given =
     ap (λ b. chosen b (mode_in (value_in words (codes "mode"))) (value_in words (codes "file"))) (ap has_none whole)
-    ∙ ap (λ m. both m (value_in words (codes "file"))) (ap mode_in named ∙ known) ∙ ap (both (Some mode)) given
+    ∙ ap (λ m. both m (value_in words (codes "file"))) (ap mode_in named ∙ known) ∙ ap (both (Some way)) given
 
 -- words without a way of running mean no run
 pub no_mode : (words : List Text) → mode_in (value_in words (codes "mode")) ≡ None → run_of words ≡ None
 no_mode words named =
-    ap (λ m. chosen (has_none (fault_of app words)) m (value_in words (codes "file"))) named ∙ no_mode_chosen _ _
+    ap (λ m. chosen (has_none (fault_of app words)) m (value_in words (codes "file"))) named ∙ no_mode_chosen (has_none (fault_of app words)) (value_in words (codes "file"))
 
 -- words without a file mean no run
 pub no_file : (words : List Text) → value_in words (codes "file") ≡ None → run_of words ≡ None
 no_file words given =
-    ap (chosen (has_none (fault_of app words)) (mode_in (value_in words (codes "mode")))) given ∙ no_file_chosen _ _
+    ap (chosen (has_none (fault_of app words)) (mode_in (value_in words (codes "mode")))) given ∙ no_file_chosen (has_none (fault_of app words)) (mode_in (value_in words (codes "mode")))
 
 not_free : (kinds : Kinds) (e : Error) → HasKind kinds e → (kind_of e ≡ OutOfMemory → ⊥) → has_none kinds ≡ false
 not_free [] e (inl h) other = absurd (other h)
