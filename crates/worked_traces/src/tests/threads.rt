@@ -181,7 +181,10 @@ fn a_gate_that_does_not_open(rt: HostRuntime) -> Result<(), Fail> {
     let (trace, _) = OWN_ITEMS;
     let (written, ended) = text_by(&rt, rt.alloc(), keys, &Shut, trace.as_bytes());
     assert!(rt; ended == Err(SimFault::Gate));
-    assert!(rt; written.as_slice() == b"set a 0.1\nset b 1.1\npull 0 hot cold 0.1\npull 0 hot cold 1.1\n".as_slice());
+    assert!(rt;
+        written.as_slice()
+            == b"set a 0.1\nset b 1.1\npull 0 hot cold 0.1\npull 0 hot cold 1.1\n".as_slice()
+    );
     Ok(())
 }
 
