@@ -5,3 +5,4 @@ pub mod SizeLemmas
 pub mod LaneLemmas
 pub mod UpdateLemmas
 pub mod ApplicationLemmas
+pub mod RunLemmas

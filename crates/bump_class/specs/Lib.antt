@@ -7,3 +7,4 @@ pub mod Pulls
 pub mod Lanes
 pub mod Applications
 pub mod Sizes
+pub mod Runs

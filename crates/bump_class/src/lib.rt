@@ -10,6 +10,7 @@ mod lanes;
 mod linking;
 mod meeting;
 mod pulling;
+mod running;
 mod sweeping;
 
 pub use books::Book;

@@ -57,7 +57,7 @@ after_unlisted_load m p w f same after = after ∙ ap (λ (y : Sat). (on_class f
 -- what the class's seat keeps, it keeps by a step on its part that its part keeps, with what it knows of a lane that is
 -- joined
 pub seat_kept : (m w : Sat) (now : ClassView) (f : ClassPart → ClassPart) (table id : TableId) (class : ℕ)
-    (joined : Option Joined) → class_in m.0 ≡ now → m ≡ class_me (class_in m.0) → w ≡ (on_class f m.0, m.1)
+    (joined : Joined) → class_in m.0 ≡ now → m ≡ class_me (class_in m.0) → w ≡ (on_class f m.0, m.1)
     → id ≡ table
     → IsInRange table (aboard_lane (class_in m.0).lane) → class ≡ (class_in m.0).part.class → IsClassPart table.words
     (class_in m.0).part → IsJoined (class_in m.0).part (class_in m.0).lane joined

@@ -1,9 +1,8 @@
 -- What a class's seat keeps of the lane that is joined to it, over each step, and what the lane's bump may end with.
-use Rattle.std.proofs.Common.{◌≡◌, ℕ, ◌+◌, ◌/◌, ◌%◌, ◌^◌, ◌≢◌, ◌&&◌, ◌==◌, not, Bool, true, false, List, [], ◌∷◌, ◌++◌, Option, None, Some, IsSome, if◌then◌else◌, refl, sym, ap, ap₂, ◌∙◌, subst, arith, eq-eqb, ne_eqb}
+use Rattle.std.proofs.Common.{◌≡◌, ℕ, ◌/◌, ◌%◌, ◌^◌, ◌≢◌, ◌&&◌, ◌==◌, not, Bool, true, false, List, [], ◌∷◌, ◌++◌, Option, None, Some, IsSome, if◌then◌else◌, refl, sym, ap, ap₂, ◌∙◌, subst, arith, eq-eqb, ne_eqb}
 use Rattle.std.specs.Prelude.{option_map}
 use mathlib.Core.Bool.{false≢true}
 use Rattle.bump_rules.specs.declared.items.Head.{Head}
-use Rattle.bump_rules.specs.declared.places.Place.{Place}
 use Rattle.bump_rules.specs.declared.places.Place.TheVariants as place
 use Rattle.bump_rules.specs.declared.places.Segment.{Segment}
 use Rattle.bump_rules.specs.declared.places.Segment.TheVariants.{Warm, Cold}
@@ -16,6 +15,7 @@ use Rattle.bump_rules.specs.declared.bumps.Outcome.TheVariants as outcome
 use Rattle.bump_rules.specs.declared.lanes.Lane.{Lane}
 use Rattle.bump_rules.specs.declared.lanes.Lane.TheVariants as lane
 use Rattle.bump_rules.specs.Entries.{is_move_for, is_moved}
+use Rattle.bump_rules.specs.History.{place_of}
 use Rattle.bump_rules.specs.Lanes.{carried, tried, applied_now, cleared_active, applied_bump, ending_at}
 use Rattle.bump_rules.specs.Lawful.{bit}
 use Rattle.bump_rules.specs.Lives.{is_same}
@@ -32,12 +32,12 @@ use Rattle.bump_steps.specs.declared.views.LanePart.{LanePart}
 use Rattle.bump_steps.specs.declared.views.OwnStep.{OwnStep}
 use Rattle.bump_steps.specs.Views.{bump_aboard, owns, standing, is_for, linked_elsewhere, active_clear, shows_time_only}
 use Rattle.bump_steps.specs.Plays.{step_of}
-use Rattle.bump_steps.specs.Applications.{is_past_move, lane_after_try, stage_after_clear_active, lane_after_clear_active, stage_after_move, lane_after_move, noted_class, class_after_move}
+use Rattle.bump_steps.specs.Applications.{is_past_move, lane_after_try, lane_after_clear_active, lane_after_move, noted_class, class_after_move}
 use Rattle.bump_heads.specs.declared.joined.Joined.{Joined}
 use Rattle.bump_heads.specs.declared.views.ClassView.{ClassView}
 use Rattle.bump_readers.specs.Seats.{listed}
 use Rattle.bump_heads.specs.Seats.{aboard_lane}
-use Rattle.bump_heads.specs.Applying.{carried_by, life_of, life_aboard, IsOf, MayClearActive, MayChangeSegment, IsShown, TryFound, EndsAs, Joins, IsJoined, joined_after_clear_active, joined_after_move, FoundOfBump}
+use Rattle.bump_heads.specs.Applying.{carried_by, life_of, life_aboard, IsOf, MayClearActive, MayChangeSegment, IsShown, TryFound, EndsAs, Joins, IsJoined, outcome_by, joined_after_try, joined_after_move, FoundOfBump}
 
 -- ---- words
 
@@ -95,25 +95,25 @@ more_steps k l x b outcome.TimeOnly is =
 -- ---- steps
 
 -- a step of the class that is only noted
-pub noted_joined : (k : ClassPart) (x : OwnStep) (o : Option LanePart) (j : Option Joined) → IsJoined k o j
+pub noted_joined : (k : ClassPart) (x : OwnStep) (o : Option LanePart) (j : Joined) → IsJoined k o j
     → IsJoined (record k { steps = k.steps ++ x ∷ [] }) o j
-noted_joined k x None None is = tt
-noted_joined k x None (Some j) is = absurd is
-noted_joined k x (Some l) None is = absurd is
-noted_joined k x (Some l) (Some j) is = record {
-  stage = is.stage;
+noted_joined k x None j is = tt
+noted_joined k x (Some l) j is = record {
   bump = is.bump;
   aboard = is.aboard;
+  chunk = is.chunk;
   own = is.own;
+  found = is.found;
   found_by_try = is.found_by_try;
+  gone = is.gone;
+  outcome = is.outcome;
   entry = λ b o may. more_steps k l x b o (is.entry b o may);
 }
 
 -- any step while no lane is joined
-pub alone_joined : (k m : ClassPart) (o : Option LanePart) (j : Option Joined) → o ≡ None → IsJoined k o j
+pub alone_joined : (k m : ClassPart) (o : Option LanePart) (j : Joined) → o ≡ None → IsJoined k o j
     → IsJoined m o j
-alone_joined k m None None none is = tt
-alone_joined k m None (Some j) none is = absurd is
+alone_joined k m None j none is = tt
 alone_joined k m (Some l) j none is = absurd (cc none)
 
 module _ (h : Head) (k : ClassPart) (l : LanePart) (b : Bump) (fits : Fits h) (seen : FoundOfBump k b.life h)
@@ -123,22 +123,28 @@ module _ (h : Head) (k : ClassPart) (l : LanePart) (b : Bump) (fits : Fits h) (s
   after_look = lane_after_try b.life.chunk (word_of h) (record l { stage = lane.Carrying b })
 
   -- a lane's look at the head of its bump's item
-  pub tries : Joins k after_look (record { stage = lane.Tried b; found = h })
+  pub tries : Joins k after_look (joined_after_try b.life.chunk h)
   tries = record {
-    stage = refl;
     bump = b;
     aboard = refl;
+    chunk = refl;
     own = own;
+    found = h;
     found_by_try =
         record { before = l.steps; steps = refl; fits = fits };
+    gone = dying;
+    outcome = refl;
     entry = λ d o may. by h.linked (is_cold h.segment) refl
         refl d o may;
   }
     where
+      dying : h.linked ≡ false → (standing k b.life.chunk).0 ≡ place.Dying
+      dying off = let st = seen.stands own in
+          dying_where_unlinked h (standing k b.life.chunk).0 st.0 st.2 off
+
       gone : h.linked ≡ false → IsShown k after_look b outcome.Gone
-      gone off = let st = seen.stands own in unlinked_where_dying b.life.chunk b.life.generation
-          (place.Unused, k.fresh) k.history (λ e. absurd (cc e))
-          (dying_where_unlinked h (standing k b.life.chunk).0 st.0 st.2 off) st.1
+      gone off = unlinked_where_dying b.life.chunk b.life.generation (place.Unused, k.fresh) k.history
+          (λ e. absurd (cc e)) (dying off) (seen.stands own).1
 
       time_only : h.linked ≡ true → is_cold h.segment ≡ false → IsShown k after_look b outcome.TimeOnly
       time_only on other = omega (
@@ -157,38 +163,24 @@ module _ (h : Head) (k : ClassPart) (l : LanePart) (b : Bump) (fits : Fits h) (s
       by true true on is d o may = absurd (cc may)
       by true false on is d o may = shown_as k after_look b d outcome.TimeOnly o may (time_only on is)
 
--- what the class's seat keeps then
-abbrev pub joined_tried : Bump → Head → Joined
-joined_tried b h = record { stage = lane.Tried b; found = h }
-
 -- a lane that carries a bump joins, and looks
 pub tried_joined : (h : Head) (k : ClassPart) (o : Option LanePart) (b : Bump) → IsSome (carried_by o)
     → aboard_lane o ≡ Some b → Fits h → FoundOfBump k (life_aboard o) h → owns (life_aboard o).chunk k ≡ true
-    → IsJoined k (option_map (lane_after_try (life_aboard o).chunk (word_of h)) o) (Some (joined_tried b h))
+    → IsJoined k (option_map (lane_after_try (life_aboard o).chunk (word_of h)) o) (joined_after_try b.life.chunk h)
 tried_joined h k None b some is fits seen own = absurd (cc some)
 tried_joined h k (Some l) b some is fits seen own = by l.stage some is seen own
   where
     by : (s : Lane) → IsSome (carried s) → bump_aboard s ≡ Some b → FoundOfBump k (life_of (bump_aboard s)) h
         → owns (life_of (bump_aboard s)).chunk k ≡ true
         → Joins k (lane_after_try (life_of (bump_aboard s)).chunk (word_of h) (record l { stage = s }))
-        (record { stage = lane.Tried b; found = h })
+        (joined_after_try b.life.chunk h)
     by lane.Empty some is seen own = absurd (cc some)
     by (lane.Carrying d) some is seen own = let e : d ≡ b = cc is in
         subst (λ (x : Bump). Joins k (lane_after_try d.life.chunk (word_of h) (record l { stage = lane.Carrying d }))
-        (record { stage = lane.Tried x; found = h })) e (tries h k l d fits seen own)
+        (joined_after_try x.life.chunk h)) e (tries h k l d fits seen own)
     by (lane.Tried d) some is seen own = absurd (cc some)
     by (lane.Cleared d f) some is seen own = absurd (cc some)
     by (lane.Moved d) some is seen own = absurd (cc some)
-
--- the lane's steps stay as they were
-same_try : (l m : LanePart) (d b : Bump) (h : Head) → d ≡ b → m.worker ≡ l.worker → m.steps ≡ l.steps → TryFound l d h
-    → TryFound m b h
-same_try l m d b h e worker steps x = record {
-  before = x.before;
-  steps = steps ∙ x.steps ∙ (λ i. x.before ++ step_of kind.Try (e i).life.chunk (word_of h)
-      (Some (sym worker i, (e i).number)) ∷ []);
-  fits = x.fits;
-}
 
 -- the class's part after ACTIVE of the bump's item was cleared, and after it was moved
 abbrev part_cleared : ℕ → Head → ClassPart → LanePart → Bump → ClassPart
@@ -197,21 +189,38 @@ part_cleared c h k l b = noted_class kind.ClearActive c (word_of h) (record l { 
 abbrev part_moved : ℕ → ℕ → ClassPart → LanePart → Bump → ClassPart
 part_moved c n k l b = class_after_move Cold Warm c n (record l { stage = lane.Cleared b true } ∷ []) k
 
+-- a chunk in COLD isn't in DYING
+not_dying : (k : ClassPart) (c : ℕ) (b d : Bump) → b.life.chunk ≡ c → b ≡ d → (standing k c).0 ≡ place.Cold
+    → (standing k d.life.chunk).0 ≡ place.Dying → ⊥
+not_dying k c b d of same cold dying =
+    let e : place.Cold ≡ place.Dying = sym cold ∙ ap (λ (x : ℕ). (standing k x).0) (sym of)
+    ∙ ap (λ (x : Bump). (standing k x.life.chunk).0) same ∙ dying in cc e
+
 -- ACTIVE of the bump's item is cleared
 clears : (c : ℕ) (h : Head) (k : ClassPart) (l : LanePart) (j : Joined) (b : Bump) → Fits h → b.life.chunk ≡ c
-    → Joins k (record l { stage = lane.Tried b }) j
-    → Joins (part_cleared c h k l b) (record l { stage = lane.Cleared b h.active })
-    (joined_after_clear_active h.active j)
-clears c h k l j b fits of is = record {
-  stage = ap (stage_after_clear_active h.active) is.stage;
-  bump = b;
-  aboard = refl;
-  own = let e : b ≡ is.bump = cc is.aboard in ap (λ (x : Bump). owns x.life.chunk k) e ∙ is.own;
-  found_by_try = let e : b ≡ is.bump = cc is.aboard in same_try (record l { stage = lane.Tried b })
-      (record l { stage = lane.Cleared b h.active }) is.bump b j.found (sym e) refl refl is.found_by_try;
+    → (standing k c).0 ≡ place.Cold → Joins k (record l { stage = lane.Tried b }) j
+    → Joins (part_cleared c h k l b) (record l { stage = lane.Cleared b h.active }) j
+clears c h k l j b fits of cold is = record {
+  bump = is.bump;
+  aboard = is.aboard;
+  chunk = is.chunk;
+  own = is.own;
+  found = is.found;
+  found_by_try = record {
+    before = is.found_by_try.before;
+    steps = is.found_by_try.steps;
+    fits = is.found_by_try.fits;
+  };
+  gone = is.gone;
+  outcome = still is.found.linked refl;
   entry = λ d o may. by h.active refl d o may;
 }
   where
+    still : (on : Bool) → is.found.linked ≡ on → j.outcome ≡ outcome.TimeOnly
+    still true on = is.outcome
+        ∙ ap (λ (x : Bool). if not x then outcome.Gone else outcome.TimeOnly) on
+    still false off = absurd (not_dying k c b is.bump of (cc is.aboard) cold (is.gone off))
+
     shown : h.active ≡ false → IsShown (part_cleared c h k l b) (record l { stage = lane.Cleared b h.active }) b
         outcome.TimeOnly
     shown off = omega (
@@ -222,7 +231,7 @@ clears c h k l j b fits of is = record {
           (made_for l.worker b.number c b.life.chunk (sym of))),
     )
 
-    by : (f : Bool) → h.active ≡ f → (d : Bump) (o : Outcome) → ending_at (λ c. j.found) (lane.Cleared b f) ≡ Some
+    by : (f : Bool) → h.active ≡ f → (d : Bump) (o : Outcome) → ending_at (λ c. is.found) (lane.Cleared b f) ≡ Some
         (applied_bump d o)
         → IsShown (part_cleared c h k l b) (record l { stage = lane.Cleared b h.active }) d o
     by true on d o may = absurd (cc may)
@@ -230,16 +239,22 @@ clears c h k l j b fits of is = record {
         outcome.TimeOnly o may (shown off)
 
 -- the item is moved
-moves : (c n : ℕ) (k : ClassPart) (l : LanePart) (j : Joined) (b : Bump)
-    → Joins k (record l { stage = lane.Cleared b true }) j
+moves : (c n : ℕ) (k : ClassPart) (l : LanePart) (j : Joined) (b : Bump) → b.life.chunk ≡ c
+    → (standing k c).0 ≡ place.Cold → Joins k (record l { stage = lane.Cleared b true }) j
     → Joins (part_moved c n k l b) (record l { stage = lane.Moved b }) (joined_after_move j)
-moves c n k l j b is = record {
-  stage = ap stage_after_move is.stage;
-  bump = b;
-  aboard = refl;
-  own = let e : b ≡ is.bump = cc is.aboard in ap (λ (x : Bump). owns x.life.chunk k) e ∙ is.own;
-  found_by_try = let e : b ≡ is.bump = cc is.aboard in same_try (record l { stage = lane.Cleared b true })
-      (record l { stage = lane.Moved b }) is.bump b j.found (sym e) refl refl is.found_by_try;
+moves c n k l j b of cold is = record {
+  bump = is.bump;
+  aboard = is.aboard;
+  chunk = is.chunk;
+  own = is.own;
+  found = is.found;
+  found_by_try = record {
+    before = is.found_by_try.before;
+    steps = is.found_by_try.steps;
+    fits = is.found_by_try.fits;
+  };
+  gone = λ off. absurd (not_dying k c b is.bump of (cc is.aboard) cold (is.gone off));
+  outcome = refl;
   entry = λ d o may. shown_as (part_moved c n k l b) (record l { stage = lane.Moved b }) b d outcome.Moved o may
       shown;
 }
@@ -263,45 +278,43 @@ at_tried c (lane.Cleared b f) is = absurd is
 at_tried c (lane.Moved b) is = absurd is
 
 at_cleared : (c : ℕ) (s : Lane) → IsOf c (cleared_active s) → (b : Bump) × (s ≡ lane.Cleared b true)
+    × (b.life.chunk ≡ c)
 at_cleared c lane.Empty is = absurd is
 at_cleared c (lane.Carrying b) is = absurd is
 at_cleared c (lane.Tried b) is = absurd is
-at_cleared c (lane.Cleared b true) is = (b, refl)
+at_cleared c (lane.Cleared b true) is = (b, refl, is)
 at_cleared c (lane.Cleared b false) is = absurd is
 at_cleared c (lane.Moved b) is = absurd is
 
-pub joined_cleared : (c : ℕ) (at : Place) (h : Head) (k : ClassPart) (o : Option LanePart) (j : Option Joined)
-    → Fits h → MayClearActive c at o → IsJoined k o j
+pub joined_cleared : (c : ℕ) (h : Head) (k : ClassPart) (o : Option LanePart) (j : Joined) → Fits h
+    → MayClearActive c (standing k c).0 o → IsJoined k o j
     → IsJoined (noted_class kind.ClearActive c (word_of h) (listed o) k)
-    (option_map (lane_after_clear_active h.active) o) (option_map (joined_after_clear_active h.active) j)
-joined_cleared c at h k None None fits may is = tt
-joined_cleared c at h k None (Some j) fits may is = absurd is
-joined_cleared c at h k (Some l) None fits may is = absurd is
-joined_cleared c at h k (Some l) (Some j) fits may is =
+    (option_map (lane_after_clear_active h.active) o) j
+joined_cleared c h k None j fits may is = tt
+joined_cleared c h k (Some l) j fits may is =
     let t = at_tried c l.stage may.1 in
     subst (λ (s : Lane). Joins (noted_class kind.ClearActive c (word_of h) (record l { stage = s } ∷ []) k)
-    (lane_after_clear_active h.active (record l { stage = s })) (joined_after_clear_active h.active j)) (sym t.1)
-    (clears c h k l j t.0 fits t.2 (subst (λ (s : Lane). Joins k (record l { stage = s }) j) t.1 is))
+    (lane_after_clear_active h.active (record l { stage = s })) j) (sym t.1)
+    (clears c h k l j t.0 fits t.2 may.0 (subst (λ (s : Lane). Joins k (record l { stage = s }) j) t.1 is))
 
-pub joined_moved : (c n : ℕ) (from to : Segment) (k : ClassPart) (o : Option LanePart) (j : Option Joined)
-    → MayChangeSegment c from to o → IsJoined k o j
+pub joined_moved : (c n : ℕ) (from to : Segment) (k : ClassPart) (o : Option LanePart) (j : Joined)
+    → (standing k c).0 ≡ place_of from → MayChangeSegment c from to o → IsJoined k o j
     → IsJoined (class_after_move from to c n (listed o) k) (option_map lane_after_move o)
-    (option_map joined_after_move j)
-joined_moved c n from to k None None may is = tt
-joined_moved c n from to k None (Some j) may is = absurd is
-joined_moved c n from to k (Some l) None may is = absurd is
-joined_moved c n from to k (Some l) (Some j) may is =
+    (joined_after_move j)
+joined_moved c n from to k None j stands may is = tt
+joined_moved c n from to k (Some l) j stands may is =
     let t = at_cleared c l.stage may.2 in
     subst (λ (x : Segment × Segment × Lane). Joins (class_after_move x.0 x.1 c n (record l { stage = x.2 } ∷ []) k)
     (lane_after_move (record l { stage = x.2 })) (joined_after_move j))
     (λ i. (sym may.0 i, sym may.1 i, sym t.1 i))
-    (moves c n k l j t.0 (subst (λ (s : Lane). Joins k (record l { stage = s }) j) t.1 is))
+    (moves c n k l j t.0 t.2 (stands ∙ ap place_of may.0)
+    (subst (λ (s : Lane). Joins k (record l { stage = s }) j) t.1 is))
 
 -- ---- the end
 
 -- what the bump ends with tells how far the lane is
 may_end_as : (h : Head) (s : Lane) (b : Bump) (o : Outcome) → ending_at (λ c. h) s ≡ Some (applied_bump b o)
-    → (applied_now s ≡ Some b) × (is_past_move s ≡ is_moved o)
+    → (applied_now s ≡ Some b) × (is_past_move s ≡ is_moved o) × (outcome_by h s ≡ o)
 may_end_as h lane.Empty b o is = absurd (cc is)
 may_end_as h (lane.Carrying d) b o is = absurd (cc is)
 may_end_as h (lane.Tried d) b o is = by h.linked (is_cold h.segment) is
@@ -309,14 +322,17 @@ may_end_as h (lane.Tried d) b o is = by h.linked (is_cold h.segment) is
     by : (on cold : Bool) → option_map (applied_bump d)
         (if not on then Some outcome.Gone else (if cold then None else Some outcome.TimeOnly)) ≡ Some
         (applied_bump b o) → (◌≡◌ {A = Option Bump} (Some d) (Some b)) × (false ≡ is_moved o)
-    by false cold may = let e = one_end d b outcome.Gone o may in (ap (λ (x : Bump). Some x) e.0, ap is_moved e.1)
+        × ((if not on then outcome.Gone else outcome.TimeOnly) ≡ o)
+    by false cold may = let e = one_end d b outcome.Gone o may in
+        (ap (λ (x : Bump). Some x) e.0, ap is_moved e.1, e.1)
     by true true may = absurd (cc may)
-    by true false may = let e = one_end d b outcome.TimeOnly o may in (ap (λ (x : Bump). Some x) e.0, ap is_moved e.1)
+    by true false may = let e = one_end d b outcome.TimeOnly o may in
+        (ap (λ (x : Bump). Some x) e.0, ap is_moved e.1, e.1)
 may_end_as h (lane.Cleared d true) b o is = absurd (cc is)
 may_end_as h (lane.Cleared d false) b o is = let e = one_end d b outcome.TimeOnly o is in
-    (ap (λ (x : Bump). Some x) e.0, ap is_moved e.1)
+    (ap (λ (x : Bump). Some x) e.0, ap is_moved e.1, e.1)
 may_end_as h (lane.Moved d) b o is = let e = one_end d b outcome.Moved o is in
-    (ap (λ (x : Bump). Some x) e.0, ap is_moved e.1)
+    (ap (λ (x : Bump). Some x) e.0, ap is_moved e.1, e.1)
 
 -- the word of the last step
 abbrev last_word : ℕ → List OwnStep → ℕ
@@ -358,47 +374,40 @@ pub record Ending (v : ClassView) (c : ℕ) (o : Outcome) (l : LanePart) (b : Bu
   pub entry : IsShown v.part l b o
 
 module _ (v : ClassView) (l : LanePart) (b : Bump) (h : Head) (o : Outcome) (ends : EndsAs v l b h o) where
-  -- the seat keeps what a caller knows of the lane
-  pub keeps_one : (x : Option Joined) → IsJoined v.part v.lane x → (j : Joined) × (x ≡ Some j) × Joins v.part l j
-  keeps_one x is = by x (subst (λ (y : Option LanePart). IsJoined v.part y x) ends.joined is)
-    where
-      by : (x : Option Joined) → IsJoined v.part (Some l) x → (j : Joined) × (x ≡ Some j) × Joins v.part l j
-      by None is = absurd is
-      by (Some j) is = (j, refl, is)
-
-  module _ (x : Option Joined) (j : Joined) (is : IsJoined v.part v.lane x) (some : x ≡ Some j) where
+  module _ (j : Joined) (is : IsJoined v.part v.lane j) where
+    -- the seat keeps what a caller knows of the lane
     joins : Joins v.part l j
-    joins = let k = keeps_one x is in let e : k.0 ≡ j = let f : Some k.0 ≡ Some j = sym k.1 ∙ some in cc f in
-        subst (λ (y : Joined). Joins v.part l y) e k.2
+    joins = subst (λ (y : Option LanePart). IsJoined v.part y j) ends.joined is
 
-    ends_found : ending_at (λ c. j.found) l.stage ≡ Some (applied_bump b o)
-    ends_found = subst (λ (y : Head). ending_at (λ c. y) l.stage ≡ Some (applied_bump b o))
-        (one_try l b joins.bump h j.found ends.found_by_try joins.found_by_try) ends.ending
+    -- the head that its look found is the caller's
+    found_is : h ≡ joins.found
+    found_is = one_try l b joins.bump h joins.found ends.found_by_try joins.found_by_try
 
     -- so it knows what the bump ends with
-    pub ends_as : ending_at (λ c. j.found) j.stage ≡ Some (applied_bump b o)
-    ends_as = ap (λ (s : Lane). ending_at (λ c. j.found) s) joins.stage ∙ ends_found
+    pub outcome_is : o ≡ j.outcome
+    outcome_is = sym (may_end_as h l.stage b o ends.ending).2
+        ∙ ap (λ (y : Head). outcome_by y l.stage) found_is ∙ sym joins.outcome
 
-    pub ending : Ending v b.life.chunk o l b
-    ending = let m = may_end_as h l.stage b o ends.ending in let e : joins.bump ≡ b = let f : Some joins.bump ≡ Some
-        b = sym joins.aboard ∙ m.0 in cc f in record {
-          joined = ends.joined;
-          aboard = m.0;
-          chunk = refl;
-          own =
-              ap (λ (x : Bump). owns x.life.chunk v.part) (sym e) ∙ joins.own;
-          past = m.1;
-          entry =
-              joins.entry b o ends_found;
-        }
+    bump_is : b ≡ joins.bump
+    bump_is = let f : Some b ≡ Some joins.bump = sym (may_end_as h l.stage b o ends.ending).0 ∙ joins.aboard in cc f
+
+    chunk_is : b.life.chunk ≡ j.chunk
+    chunk_is = ap (λ (x : Bump). x.life.chunk) bump_is ∙ sym joins.chunk
 
     -- which it tells
-    pub ends_told : (a : AppliedBump) → ending_at (λ c. j.found) j.stage ≡ Some a → EndsAs v l b h a.outcome
-    ends_told a told = let e : applied_bump b o ≡ a = let f : Some (applied_bump b o) ≡ Some a = sym ends_as ∙ told in
-        cc f in subst (λ (y : AppliedBump). EndsAs v l b h y.outcome) e ends
+    pub ends_told : EndsAs v l b h j.outcome
+    ends_told = subst (λ (x : Outcome). EndsAs v l b h x) outcome_is ends
 
-    -- by the entry that it writes
-    pub ending_told : (a : AppliedBump) → ending_at (λ c. j.found) j.stage ≡ Some a
-        → Ending v a.life.chunk a.outcome l b
-    ending_told a told = let e : applied_bump b o ≡ a = let f : Some (applied_bump b o) ≡ Some a = sym ends_as
-        ∙ told in cc f in subst (λ (y : AppliedBump). Ending v y.life.chunk y.outcome l b) e ending
+    -- and which is true
+    pub ending_told : Ending v j.chunk j.outcome l b
+    ending_told = let m = may_end_as h l.stage b o ends.ending in subst (λ (x : Outcome). Ending v j.chunk x l b)
+        outcome_is (record {
+          joined = ends.joined;
+          aboard = m.0;
+          chunk = chunk_is;
+          own =
+              ap (λ (c : ℕ). owns c v.part) joins.chunk ∙ joins.own;
+          past = m.1;
+          entry = joins.entry b o
+              (subst (λ (y : Head). ending_at (λ c. y) l.stage ≡ Some (applied_bump b o)) found_is ends.ending);
+        })

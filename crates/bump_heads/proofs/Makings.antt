@@ -2,12 +2,14 @@
 use Rattle.std.proofs.Common.{◌≡◌, ℕ, zero, suc, ◌+◌, ◌*◌, ◌<◌, false, List, [], ◌∷◌, ◌++◌, Option, None, map, length, refl, sym, ◌∙◌, subst, arith, append_assoc}
 use Rattle.atomic_table.specs.Table.{Me}
 use Rattle.bump_rules.specs.declared.bumps.Bump.{Bump}
+use Rattle.bump_rules.specs.declared.bumps.Outcome.TheVariants as outcome
 use Rattle.bump_rules.specs.declared.lanes.Lane.{Lane}
 use Rattle.bump_rules.specs.declared.lanes.Lane.TheVariants as lane
 use Rattle.bump_rules.specs.Lanes.{is_half_made}
 use Rattle.bump_steps.specs.declared.views.Empty.{Empty}
 use Rattle.bump_steps.specs.declared.views.ClassPart.{ClassPart}
 use Rattle.bump_steps.specs.declared.views.LanePart.{LanePart}
+use Rattle.bump_heads.specs.declared.joined.Joined.{Joined}
 use Rattle.bump_heads.specs.declared.views.ClassView.{ClassView}
 use Rattle.bump_steps.specs.declared.views.View.{View}
 use Rattle.bump_steps.specs.Views.{bump_aboard}
@@ -23,11 +25,15 @@ use Rattle.bump_steps.specs.Riders.{lane_me}
 use Rattle.bump_heads.specs.Applying.{IsJoined}
 use Rattle.bump_heads.specs.Making.{class_seen, lane_seen, AreNewClasses, AreEmpty}
 
+-- what a class's seat keeps before a lane is joined
+abbrev pub no_bump : Joined
+no_bump = record { chunk = 0; outcome = outcome.Gone }
+
 abbrev pub Turn : TableId → Me Empty View → View → ℕ → ℕ → List ClassView → List ClassView → Me Empty View
     → Me Empty View → Type 0
 Turn table m v i count made all m' p = (p ≡ class_me (class_in p.0))
     × IsInRange table (aboard_lane (class_in p.0).lane) × (i ≡ (class_in p.0).part.class) × IsClassPart table.words
-    (class_in p.0).part × IsJoined (class_in p.0).part (class_in p.0).lane None
+    (class_in p.0).part × IsJoined (class_in p.0).part (class_in p.0).lane no_bump
     × (m' ≡ (record v { classes = m'.0.classes }, [])) × (i + 1 + length m'.0.classes ≡ count)
     × AreNewClasses table.words (i + 1) m'.0.classes
     × ((made ++ class_in p.0 ∷ []) ++ map class_seen m'.0.classes ≡ all)

@@ -37,20 +37,20 @@ use Rattle.bump_steps.specs.Views.{bump_aboard, active_clear, refers, owns, stan
 use Rattle.bump_steps.specs.Plays.{Sat, Told, Found, on_first, step_of}
 use Rattle.bump_steps.specs.Cuts.{joined, lanes_only, without_lanes}
 use Rattle.bump_steps.specs.Applications.{applying, bump_for, lane_after_try, view_after_try, lane_after_clear_active, view_after_clear_active, view_after_put_time, noted_class, stage_after_move, lane_after_move, change_of_move_for, class_after_move, view_after_move, life_in, lane_after_alight, view_after_alight, MayTry, MayMove, MayAlight}
-use Rattle.bump_heads.specs.Applying.{life_aboard, life_of, IsOf, MayClearActive, MayChangeSegment, IsShown, IsJoined, carried_by, joined_after_clear_active, joined_after_move, seat_after_move, seat_after_clear_active, seat_after_put_time, FoundOfBump, NamesNoBumpTwice, is_own, TellsMoves}
+use Rattle.bump_heads.specs.Applying.{life_aboard, life_of, IsOf, MayClearActive, MayChangeSegment, IsShown, IsJoined, carried_by, joined_after_try, joined_after_move, seat_after_move, seat_after_clear_active, seat_after_put_time, FoundOfBump, NamesNoBumpTwice, is_own, TellsMoves}
 use Rattle.bump_readers.specs.Seats.{head_or, listed}
 use Rattle.bump_heads.specs.Seats.{class_me, class_in, lane_in, IsLane, IsInRange, IsClassPart, aboard_lane, no_class, no_lane}
 use Rattle.bump_steps.proofs.Applications.{try_going, try_refers, clear_active_refers, alight_refers}
 use Rattle.bump_heads.proofs.ClassParts.{entered_part, noted_part}
 use Rattle.bump_heads.proofs.ClassSeats.{class_in_me, found_is}
-use Rattle.bump_heads.proofs.Joining.{active_found, noted_joined, joined_tried, joined_cleared, joined_moved, tried_joined, Ending}
+use Rattle.bump_heads.proofs.Joining.{active_found, noted_joined, joined_cleared, joined_moved, tried_joined, Ending}
 use Rattle.bump_steps.proofs.Told.{stands_alone}
 use Rattle.bump_steps.proofs.StepLemmas.{one_life}
 
 -- ---- a class's seat as it is seen
 
 -- what a seat's invariant says of the view that it is made of
-pub seen_whole : (words : ℕ) (table : TableId) (number : ℕ) (m : Sat) (v : ClassView) (joined : Option Joined)
+pub seen_whole : (words : ℕ) (table : TableId) (number : ℕ) (m : Sat) (v : ClassView) (joined : Joined)
     → m ≡ class_me v → IsInRange table (aboard_lane v.lane) → number ≡ v.part.class → IsClassPart words v.part
     → IsJoined v.part v.lane joined
     → (m ≡ class_me (class_in m.0)) × IsInRange table (aboard_lane (class_in m.0).lane)
@@ -317,31 +317,31 @@ move_near table o near = near_as table lane_after_move (λ l. move_refers l.stag
 -- what the class's seat is after a move
 module _ (table : TableId) (number c n : ℕ) (m p : Sat) (v w : ClassView) (is : m ≡ class_me v) (same : v ≡ w)
     (near : IsInRange table (aboard_lane v.lane)) (class : number ≡ v.part.class)
-    (part : IsClassPart table.words v.part) (joined : Option Joined) (lane : IsJoined v.part v.lane joined) where
+    (part : IsClassPart table.words v.part) (joined : Joined) (lane : IsJoined v.part v.lane joined) where
   pub shifted_whole : (from to : Segment) (h : Head) → Spells n h → owns c w.part ≡ true
       → (standing w.part c).0 ≡ place_of from → MayChangeSegment c from to w.lane
       → p ≡ (view_after_move from to c n m.0, m.1) → Found n (Told c m.0)
       → (p ≡ class_me (class_in p.0)) × IsInRange table (aboard_lane (class_in p.0).lane)
       × (number ≡ (class_in p.0).part.class) × IsClassPart table.words (class_in p.0).part
-      × IsJoined (class_in p.0).part (class_in p.0).lane (option_map joined_after_move joined)
+      × IsJoined (class_in p.0).part (class_in p.0).lane (joined_after_move joined)
   shifted_whole from to h spells own stands may moved found = let told = told_as m p v w is same n c h spells found in
-      seen_whole table.words table number p (seat_after_move c from to h w) (option_map joined_after_move joined)
+      seen_whole table.words table number p (seat_after_move c from to h w) (joined_after_move joined)
       (move_me m p v w is same n c from to h spells moved)
       (move_near table w.lane (subst (λ (x : ClassView). IsInRange table (aboard_lane x.lane)) same near))
       (class ∙ ap (λ (x : ClassView). x.part.class) same)
       (move_keeps table.words c (word_of h) from to h w
       (subst (λ (x : ClassView). IsClassPart table.words x.part) same part) own stands may
       (own_told w c h own told).1 (life_told w c h (change_segment_chunk c from to w.lane may) told))
-      (joined_moved c (word_of h) from to w.part w.lane joined may
+      (joined_moved c (word_of h) from to w.part w.lane joined stands may
       (subst (λ (x : ClassView). IsJoined x.part x.lane joined) same lane))
 
   -- after ACTIVE was cleared
-  pub cleared_whole : (at : Place) (h : Head) → Spells n h → MayClearActive c at w.lane
+  pub cleared_whole : (h : Head) → Spells n h → MayClearActive c (standing w.part c).0 w.lane
       → p ≡ (view_after_clear_active c n m.0, m.1)
       → (p ≡ class_me (class_in p.0)) × IsInRange table (aboard_lane (class_in p.0).lane)
       × (number ≡ (class_in p.0).part.class) × IsClassPart table.words (class_in p.0).part
-      × IsJoined (class_in p.0).part (class_in p.0).lane (option_map (joined_after_clear_active h.active) joined)
-  cleared_whole at h spells may told =
+      × IsJoined (class_in p.0).part (class_in p.0).lane joined
+  cleared_whole h spells may told =
       let whole : m ≡ class_me w = is ∙ ap class_me same in
       let me : p ≡ class_me (seat_after_clear_active c h w) = told
       ∙ ap (λ (x : Sat). (view_after_clear_active c n x.0, x.1)) whole
@@ -353,13 +353,12 @@ module _ (table : TableId) (number c n : ℕ) (m p : Sat) (v w : ClassView) (is 
         lane =
             option_map (lane_after_clear_active f) w.lane;
       })) spells.0 (active_found n h spells) in
-      seen_whole table.words table number p (seat_after_clear_active c h w)
-      (option_map (joined_after_clear_active h.active) joined) me
+      seen_whole table.words table number p (seat_after_clear_active c h w) joined me
       (near_as table (lane_after_clear_active h.active) (λ l. clear_active_refers h.active l.stage) w.lane
       (subst (λ (x : ClassView). IsInRange table (aboard_lane x.lane)) same near))
       (class ∙ ap (λ (x : ClassView). x.part.class) same)
       (noted_part table.words w.part _ (subst (λ (x : ClassView). IsClassPart table.words x.part) same part))
-      (joined_cleared c at h w.part w.lane joined spells.1 may
+      (joined_cleared c h w.part w.lane joined spells.1 may
       (subst (λ (x : ClassView). IsJoined x.part x.lane joined) same lane))
 
   -- after its time was stored
@@ -431,11 +430,11 @@ module _ (m : Sat) (v w : ClassView) (o : Option (Seat Empty View)) (s : Seat Em
         ≡ true → FoundOfBump w.part (life_aboard lane) h
         → (p ≡ class_me (class_in p.0)) × IsInRange table (aboard_lane (class_in p.0).lane)
         × (number ≡ (class_in p.0).part.class) × IsClassPart table.words (class_in p.0).part
-        × IsJoined (class_in p.0).part (class_in p.0).lane (Some (joined_tried b h))
+        × IsJoined (class_in p.0).part (class_in p.0).lane (joined_after_try b.life.chunk h)
     tried_whole number class part near carries own seen =
         seen_whole table.words table number p
         (record w { lane = option_map (lane_after_try (life_aboard lane).chunk (word_of h)) lane })
-        (Some (joined_tried b h)) tried_me
+        (joined_after_try b.life.chunk h) tried_me
         (near_as table (lane_after_try (life_aboard lane).chunk (word_of h)) (λ l. try_refers l.stage) lane
         (subst (λ (x : Option LanePart). IsInRange table (aboard_lane x)) lane_is near))
         (class ∙ ap (λ (x : ClassView). x.part.class) same)
@@ -536,6 +535,16 @@ module _ (m : Sat) (v w : ClassView) (is : m ≡ class_me v) (same : v ≡ w) (c
       part_is = ap (λ (x : Sat). head_or no_class x.0.classes)
           (rest ∙ ap (λ (x : Sat). (without_lanes x.0, x.1))
           (told ∙ ap (λ (x : Sat). (view_after_alight out c n x.0, x.1)) view_is))
+
+      -- its entry is true by what is left in the two
+      pub entry_told : IfSome w.lane
+          (λ m. IfSome (bump_aboard m.stage) (λ d. IsShown (head_or no_class r.0.classes) m d out))
+      entry_told = subst (λ (k : ClassPart). IfSome w.lane (λ m. IfSome (bump_aboard m.stage) (λ d. IsShown k m d out)))
+          (sym part_is)
+          (subst (λ (o : Option LanePart). IfSome o (λ m. IfSome (bump_aboard m.stage) (λ d. IsShown w.part m d out)))
+          (sym ends.joined)
+          (subst (λ (o : Option Bump). IfSome o (λ d. IsShown w.part l d out)) (sym (aboard_now l.stage b ends.aboard))
+          ends.entry))
 
       -- of moves for bumps
       pub alighted_told : Found n (Told c m.0) → NamesNoBumpTwice (head_or no_class r.0.classes)

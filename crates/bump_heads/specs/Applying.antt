@@ -1,14 +1,15 @@
 -- The steps under a class's lock, as the contracts of the class's seat tell them: without a lane they are made for a
 -- link or a pull, and with a lane joined for the bump aboard it.
-use Rattle.std.specs.Prelude.{◌≡◌, ℕ, ◌+◌, ◌<◌, ◌≤◌, ◌&&◌, Bool, true, List, [], ◌∷◌, ◌++◌, Option, Some, None, option_map}
+use Rattle.std.specs.Prelude.{◌≡◌, ℕ, ◌+◌, ◌<◌, ◌≤◌, ◌&&◌, not, if◌then◌else◌, Bool, true, false, List, [], ◌∷◌, ◌++◌, Option, Some, None, option_map}
 use Rattle.bump_rules.specs.declared.items.Head.{Head}
 use Rattle.bump_rules.specs.declared.items.ItemId.{ItemId}
 use Rattle.bump_rules.specs.declared.places.Place.{Place}
-use Rattle.bump_rules.specs.declared.places.Place.TheVariants.{Cold, Unused}
+use Rattle.bump_rules.specs.declared.places.Place.TheVariants.{Cold, Dying, Unused}
 use Rattle.bump_rules.specs.declared.places.Segment.{Segment}
 use Rattle.bump_rules.specs.declared.places.Segment.TheVariants as segment
 use Rattle.bump_rules.specs.declared.bumps.Bump.{Bump}
 use Rattle.bump_rules.specs.declared.bumps.Outcome.{Outcome}
+use Rattle.bump_rules.specs.declared.bumps.Outcome.TheVariants as outcome
 use Rattle.bump_rules.specs.declared.lanes.Lane.{Lane}
 use Rattle.bump_rules.specs.declared.lanes.Lane.TheVariants as lane
 use Rattle.bump_rules.specs.Entries.{is_move_for, moves_told, IsTrueEntry}
@@ -28,7 +29,7 @@ use Rattle.bump_steps.specs.declared.views.LanePart.{LanePart}
 use Rattle.bump_steps.specs.Views.{owns, standing, shows_time_only}
 use Rattle.bump_steps.specs.Lives.{IsInSegment}
 use Rattle.bump_steps.specs.Plays.{step_of}
-use Rattle.bump_steps.specs.Applications.{stage_after_clear_active, stage_after_move, lane_after_clear_active, lane_after_move, noted_class, class_after_move}
+use Rattle.bump_steps.specs.Applications.{lane_after_clear_active, lane_after_move, noted_class, class_after_move}
 use Rattle.bump_readers.specs.Seats.{listed}
 use Rattle.bump_heads.specs.Seats.{aboard_lane}
 
@@ -103,32 +104,43 @@ pub record EndsAs (seat : ClassView) (this_lane : LanePart) (bump : Bump) (head 
     pub found_by_try : TryFound this_lane bump head
     pub ending : ending_at (λ c. head) this_lane.stage ≡ Some (applied_bump bump came_out)
 
--- how far the lane is once ACTIVE was cleared, and once its item was moved
-abbrev pub joined_after_clear_active : Bool → Joined → Joined
-joined_after_clear_active active joined = record joined { stage = stage_after_clear_active active joined.stage }
+-- what a bump comes out with, if it may end, by the head that its look found and how far its lane is
+abbrev pub outcome_by : Head → Lane → Outcome
+outcome_by found (lane.Cleared bump active) = outcome.TimeOnly
+outcome_by found (lane.Moved bump) = outcome.Moved
+outcome_by found stage = if not found.linked then outcome.Gone else outcome.TimeOnly
+
+-- what the class's seat keeps once a lane looked at the head of its bump's item, in this chunk, and once that was moved
+abbrev pub joined_after_try : ℕ → Head → Joined
+joined_after_try chunk found = record {
+  chunk = chunk;
+  outcome = if not found.linked then outcome.Gone else outcome.TimeOnly;
+}
 
 abbrev pub joined_after_move : Joined → Joined
-joined_after_move joined = record joined { stage = stage_after_move joined.stage }
+joined_after_move joined = record joined { outcome = outcome.Moved }
 
 -- What a class's seat keeps of a lane that is joined to it.
 pub record Joins (class : ClassPart) (this_lane : LanePart) (joined : Joined) : Type 0 where
-  -- it knows how far the lane is with its bump, and what the lane's look found
-  pub stage : joined.stage ≡ this_lane.stage
+  -- it knows the chunk of the bump aboard, which is the class's
   pub bump : Bump
   pub aboard : applied_now this_lane.stage ≡ Some bump
-  -- whose chunk is the class's
+  pub chunk : joined.chunk ≡ bump.life.chunk
   pub own : owns bump.life.chunk class ≡ true
-  pub found_by_try : TryFound this_lane bump joined.found
-  -- whatever the bump may end with is true
-  pub entry : (b : Bump) (o : Outcome) → ending_at (λ c. joined.found) this_lane.stage ≡ Some (applied_bump b o)
+  -- the lane's look found a head: of an item in DYING, if it wasn't linked
+  pub found : Head
+  pub found_by_try : TryFound this_lane bump found
+  pub gone : found.linked ≡ false → (standing class bump.life.chunk).0 ≡ Dying
+  -- it knows what the bump comes out with, if it may end now
+  pub outcome : joined.outcome ≡ outcome_by found this_lane.stage
+  -- and that is true
+  pub entry : (b : Bump) (o : Outcome) → ending_at (λ c. found) this_lane.stage ≡ Some (applied_bump b o)
       → IsShown class this_lane b o
 
 -- of the lane, if one is joined
-abbrev pub IsJoined : ClassPart → Option LanePart → Option Joined → Type 0
-IsJoined class None None = Unit {0}
-IsJoined class None (Some joined) = ⊥
-IsJoined class (Some this_lane) None = ⊥
-IsJoined class (Some this_lane) (Some joined) = Joins class this_lane joined
+abbrev pub IsJoined : ClassPart → Option LanePart → Joined → Type 0
+IsJoined class None joined = Unit {0}
+IsJoined class (Some this_lane) joined = Joins class this_lane joined
 
 -- ---- what a step leaves
 

@@ -3,6 +3,7 @@
 ghost use Rattle.std.specs.Prelude.{◌≡◌, None, Some, IsSome, IfSome, option_map, true};
 ghost use Rattle.bump_rules.specs.declared.bumps.Bump.{Bump as TheBump};
 ghost use Rattle.bump_rules.specs.declared.bumps.Outcome.{Outcome as TheOutcome};
+ghost use Rattle.bump_rules.specs.declared.bumps.Outcome.TheVariants.{TimeOnly};
 ghost use Rattle.bump_rules.specs.declared.items.Head.{Head as TheHead};
 ghost use Rattle.bump_rules.specs.History.{place_of};
 ghost use Rattle.bump_rules.specs.Lawful.{Shows};
@@ -11,42 +12,30 @@ ghost use Rattle.bump_steps.specs.declared.views.LanePart.{LanePart as TheLanePa
 ghost use Rattle.bump_steps.specs.Views.{bump_aboard, owns, standing};
 ghost use Rattle.bump_steps.specs.Applications.{lane_after_alight, lane_after_try};
 ghost use Rattle.bump_heads.specs.Seats.{aboard_lane};
-ghost use Rattle.bump_heads.specs.Applying.{carried_by, joined_after_clear_active, life_aboard, joined_after_move, MayClearActive, MayPutTime, MayChangeSegment, IsShown, EndsAs, seat_after_clear_active, seat_after_put_time, seat_after_move, FoundOfBump, NamesNoBumpTwice, TellsMoves};
+ghost use Rattle.bump_heads.specs.Applying.{carried_by, life_aboard, joined_after_try, MayClearActive, MayPutTime, MayChangeSegment, IsShown, EndsAs, seat_after_clear_active, seat_after_put_time, seat_after_move, FoundOfBump, NamesNoBumpTwice, TellsMoves};
 
 use crate::joined::Joined;
 use crate::seats::{ClassSeat, LaneSeat};
 use bump_readers::Name;
-use bump_rules::{Head, Lane, Outcome, Segment};
+use bump_rules::{Head, Outcome, Segment};
 use bump_steps::head_of;
 
-// ACTIVE of the item of the lane's bump was cleared: whether it was found.
-fn with_clearing(joined: Option<Joined>, active: bool) -> Option<Joined>
-    ensures { result ≡ option_map (joined_after_clear_active active) joined }
+// What is kept once the head of the bump's item was looked at: that the bump may end as TimeOnly was kept before, and it
+// is Gone where the item isn't linked. So for a linked one nothing is stored here.
+fn note_found(joined: &mut Joined, found: Head)
+    requires ready { joined.old.outcome ≡ TimeOnly }
+    ensures { joined.new ≡ joined_after_try joined.old.chunk found }
 {
-    let joined = joined?;
-    let stage = match joined.stage {
-        Lane::Tried(bump) => Lane::Cleared(bump, active),
-        stage => stage,
-    };
-    Some(Joined { stage, ..joined })
-}
-
-// The item of the lane's bump was moved.
-fn with_move(joined: Option<Joined>) -> Option<Joined>
-    ensures { result ≡ option_map joined_after_move joined }
-{
-    let joined = joined?;
-    let stage = match joined.stage {
-        Lane::Cleared(bump, _) => Lane::Moved(bump),
-        stage => stage,
-    };
-    Some(Joined { stage, ..joined })
+    if !found.linked {
+        joined.outcome = Outcome::Gone;
+    }
 }
 
 impl<N: Name> ClassSeat<N> {
     /// Joins the lane's seat, and looks at the head of the item of the bump that it carries, whose chunk is the
     /// class's: the first step of memcached's `lru_bump_async` drain for a bump. No other lane may be joined. The
     /// lane is hollow from then on, until `alight`. Answers the head that was found.
+    #[inline(always)]
     pub fn try_front(&mut self, lane: &mut LaneSeat<N>) -> Head
         requires alone { self.old.lane ≡ None }
         requires carries { IsSome (carried_by lane.old) }
@@ -68,16 +57,13 @@ impl<N: Name> ClassSeat<N> {
             unreachable!()
         };
         lane.aboard = None;
-        self.heads.words().join(&mut self.seat, seat);
-        let word = self
-            .heads
-            .words()
-            .try_front(&mut self.seat, bump.life.chunk);
+        self.joined.chunk = bump.life.chunk;
+        self.joined.outcome = Outcome::TimeOnly;
+        let words = self.heads.words();
+        words.join(&mut self.seat, seat);
+        let word = words.try_front(&mut self.seat, bump.life.chunk);
         let found = head_of(word);
-        self.joined = Some(Joined {
-            stage: Lane::Tried(bump),
-            found,
-        });
+        note_found(&mut self.joined, found);
         found
     }
 
@@ -85,6 +71,7 @@ impl<N: Name> ClassSeat<N> {
     /// Without a lane it is a pull's step, and the chunk stands in HOT, WARM or COLD; with a lane joined it is made
     /// for its bump, which is of this chunk, in COLD, and at whose head the lane looked. Answers the head that was
     /// found.
+    #[inline(always)]
     pub fn clear_active(&mut self, chunk: u32) -> Head
         requires own { owns chunk self.old.part ≡ true }
         requires may { MayClearActive chunk (standing self.old.part chunk).0 self.old.lane }
@@ -95,9 +82,7 @@ impl<N: Name> ClassSeat<N> {
         ensures fits { Fits result }
     {
         let word = self.heads.words().clear_active(&mut self.seat, chunk);
-        let found = head_of(word);
-        self.joined = with_clearing(self.joined, found.active);
-        found
+        head_of(word)
     }
 
     /// Stores the time of the chunk, which is the class's (memcached's `it->time` under the lock). Without a lane it
@@ -115,6 +100,7 @@ impl<N: Name> ClassSeat<N> {
     /// front of its own, by one exclusive or (memcached's `it->slabs_clsid` with its LRU bits). Without a lane it is
     /// a pull's step; with a lane joined it is made for its bump, which is of this chunk, from COLD to WARM, after
     /// ACTIVE was found and cleared. Answers the head that was found.
+    #[inline(always)]
     pub fn change_segment(&mut self, chunk: u32, from: Segment, to: Segment) -> Head
         requires own { owns chunk self.old.part ≡ true }
         requires stands { (standing self.old.part chunk).0 ≡ place_of from }
@@ -129,7 +115,7 @@ impl<N: Name> ClassSeat<N> {
             .heads
             .words()
             .change_segment(&mut self.seat, chunk, from, to);
-        self.joined = with_move(self.joined);
+        self.joined.outcome = Outcome::Moved;
         head_of(word)
     }
 
@@ -142,6 +128,7 @@ impl<N: Name> ClassSeat<N> {
     /// 4. Moved, where it had been set, and the item was moved.
     ///
     /// It is called in these four cases alone.
+    #[inline(always)]
     pub fn alight(&mut self, lane: &mut LaneSeat<N>) -> (Outcome, Head)
         requires hollow { lane.old ≡ None }
         requires ends { (l : TheLanePart) × (b : TheBump) × (h : TheHead) × (o : TheOutcome) × EndsAs self.old l b h o }
@@ -159,15 +146,10 @@ impl<N: Name> ClassSeat<N> {
         ensures once { NamesNoBumpTwice self.new.part }
         ensures moves { IfSome lane.new (TellsMoves self.new.part) }
     {
-        let Some(joined) = self.joined.take() else {
-            unreachable!()
-        };
-        let Some(entry) = joined.stage.ending(joined.found) else {
-            unreachable!()
-        };
-        let (chunk, outcome) = (entry.life.chunk, entry.outcome);
-        let word = self.heads.words().alight(&mut self.seat, chunk, outcome);
-        let part = self.heads.words().part_lanes(&mut self.seat);
+        let (chunk, outcome) = (self.joined.chunk, self.joined.outcome);
+        let words = self.heads.words();
+        let word = words.alight(&mut self.seat, chunk, outcome);
+        let part = words.part_lanes(&mut self.seat);
         lane.seat = Some(part);
         (outcome, head_of(word))
     }

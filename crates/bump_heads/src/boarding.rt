@@ -18,11 +18,10 @@ impl<N: Name> LaneSeat<N> {
         ensures boarded { self.new ≡ option_map (lane_after_board (bump_of_ride rider)) self.old }
     {
         let (part, ride) = rider.into_parts();
-        let Some(mut seat) = self.seat.take() else {
+        let Some(seat) = &mut self.seat else {
             unreachable!()
         };
-        self.heads.words().board(&mut seat, part);
-        self.seat = Some(seat);
+        self.heads.words().board(seat, part);
         self.aboard = Some(Bump {
             number: ride.number,
             life: ride.life,

@@ -1,12 +1,13 @@
 //! What a class's seat keeps of the lane that is joined to it.
-use bump_rules::{Head, Lane};
+use bump_rules::Outcome;
 
-/// How far the lane is that is joined to a class's seat, and what its look found.
+/// What `alight` has to know of the bump aboard the lane that is joined to a class's seat. While no lane is joined it
+/// says nothing.
 #[derive(Clone, Copy)]
 pub struct Joined {
-    /// How far it is with the bump aboard.
-    pub stage: Lane,
+    /// The bump's chunk.
+    pub chunk: u32,
 
-    /// The head of the bump's item that its look found.
-    pub found: Head,
+    /// What the bump comes out with, if it may end now.
+    pub outcome: Outcome,
 }

@@ -7,9 +7,10 @@ ghost use Rattle.bump_readers.specs.Workers.{worker_seen};
 ghost use Rattle.bump_heads.specs.Making.{BlankView as TheBlankView, class_seen, lane_seen, AreNewClasses, AreEmpty};
 
 use crate::heads::Heads;
+use crate::joined::Joined;
 use crate::seats::{ClassSeat, LaneSeat};
 use bump_readers::{Name, ReaderHeads, WorkerSeat};
-use bump_rules::Config;
+use bump_rules::{Config, Outcome};
 use bump_steps::{Seat, Words};
 use std::alloc::{AllocError, Global};
 use std::marker::{Model, PhantomData};
@@ -66,7 +67,10 @@ fn part_classes<N: Name>(
         seats.push(ClassSeat {
             seat: part,
             class,
-            joined: None,
+            joined: Joined {
+                chunk: 0,
+                outcome: Outcome::Gone,
+            },
             heads: Arc::try_clone(heads)?,
             of: PhantomData,
         })?;

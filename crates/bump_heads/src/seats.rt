@@ -21,7 +21,7 @@ use std::sync::Arc;
 pub struct ClassSeat<N: Name> {
     pub(crate) seat: Seat,
     pub(crate) class: u32,
-    pub(crate) joined: Option<Joined>,
+    pub(crate) joined: Joined,
     pub(crate) heads: Arc<Heads<N>, Global>,
     pub(crate) of: PhantomData<N>,
 }

@@ -7,3 +7,4 @@ mod LaneLemmas
 mod SettlingLemmas
 mod PassLemmas
 mod FinishingLemmas
+mod RunLemmas

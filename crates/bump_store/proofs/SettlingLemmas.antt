@@ -1,5 +1,5 @@
 -- Lanes of closed rings: what they applied, and what they saw of the ring's end.
-use Rattle.std.proofs.Common.{◌≡◌, ℕ, zero, suc, ◌+◌, ◌++◌, ◌⊎◌, List, [], ◌∷◌, inl, inr, length, map, Option, None, Some, IfSome, IfNone, refl, sym, ap, ◌∙◌, subst, arith, length-append, ⊎_elim}
+use Rattle.std.proofs.Common.{◌≡◌, ℕ, zero, suc, ◌++◌, ◌⊎◌, List, [], ◌∷◌, inl, inr, length, map, Option, None, Some, IfSome, IfNone, refl, sym, ap, ◌∙◌, subst, arith, length-append, ⊎_elim}
 use Rattle.std.proofs.lemmas.List.{append-nil, length-map}
 use Rattle.bump_rules.specs.declared.bumps.Entry.{Entry}
 use Rattle.bump_rules.specs.Rings.{bump_applied, numbered_from}

@@ -1,5 +1,5 @@
 -- Where classes' chunks start, and the parts of new workers and lanes.
-use Rattle.std.proofs.Common.{◌≡◌, ℕ, zero, suc, ◌+◌, ◌-◌, ◌<◌, ◌≤◌, ◌↔◌, List, [], ◌∷◌, Option, None, Some, IfSome, IfNone, IsErr, ok_or, length, take, refl, sym, ap, ◌∙◌, arith}
+use Rattle.std.proofs.Common.{◌≡◌, ℕ, zero, suc, ◌+◌, ◌-◌, ◌<◌, ◌≤◌, ◌↔◌, List, [], ◌∷◌, Option, None, Some, IfSome, IfNone, IsErr, ok_or, length, refl, ap, ◌∙◌, arith}
 use Rattle.std.proofs.lemmas.List.{length-map}
 use Rattle.std.specs.Prelude.{slice_index}
 use Rattle.bump_rules.specs.declared.configs.ClassConfig.{ClassConfig}

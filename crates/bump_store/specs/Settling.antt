@@ -1,5 +1,5 @@
 -- What lanes do with rings that are closed.
-use Rattle.std.specs.Prelude.{◌≡◌, ℕ, zero, suc, ◌+◌, ◌⊎◌, List, [], ◌++◌, length, map}
+use Rattle.std.specs.Prelude.{◌≡◌, ℕ, zero, suc, ◌+◌, ◌⊎◌, List, ◌++◌, length, map}
 use Rattle.bump_rules.specs.declared.bumps.Entry.{Entry}
 use Rattle.bump_rules.specs.Rings.{bump_applied, numbered_from}
 use Rattle.bump_steps.specs.declared.views.Ride.{Ride}

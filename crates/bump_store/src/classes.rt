@@ -15,20 +15,21 @@ pub struct NoSuchChunk;
 // The place of the last start that isn't behind the chunk, if another one follows. Each start but the first is
 // compared once.
 fn place_of(starts: &[u32], chunk: u32) -> Option<u32>
-    requires some { 0 < length starts.now }
+    requires some { 1 < length starts.now }
     requires few { length starts.now ≤ 17 }
     requires from_zero { slice_index starts.now 0 ≡ 0 }
     ensures some { IfSome result (λ place. IsBetweenStarts chunk starts.now place) }
     ensures none { IfNone result (slice_index starts.now (length starts.now - 1) ≤ chunk) }
 {
+    let last = starts.len() - 1;
     let mut place = 0;
-    while place + 1 < starts.len() {
-        if chunk < starts[place + 1] {
-            return Some(place as u32);
-        }
+    while starts[place + 1] <= chunk {
         place += 1;
+        if place == last {
+            return None;
+        }
     }
-    None
+    Some(place as u32)
 }
 
 impl<N: Name> Store<N> {

@@ -65,7 +65,7 @@ impl<N: Name> Lane<N> {
 
     /// Applies the next bumps of its ring, each as `next` does (memcached's `lru_maintainer_bumps`, of one worker's
     /// buffer), and answers how many: at most as many as the ring's capacity, and fewer only where then none is known
-    /// to be left in the ring.
+    /// to be left in the ring. A lock is taken once for all bumps of its class that follow each other.
     pub fn drain<R: Wait>(&mut self, rt: &R, store: &Store<N>, now: u64) -> u64
         ensures ring { (self.new.lane.ring ≡ self.old.lane.ring) × (self.new.capacity ≡ self.old.capacity) }
         ensures most { result ≤ self.old.capacity }
@@ -76,11 +76,14 @@ impl<N: Name> Lane<N> {
         ensures none { result < self.old.capacity → self.new.lane.known ≡ [] }
     {
         let capacity = self.capacity;
-        for done in 0..capacity {
-            let Some(_entry) = self.next(rt, store, now) else {
+        let mut done = 0;
+        while done < capacity {
+            let Some(bump) = self.raw.fetch() else {
                 return u64::from(done);
             };
+            let mut book = store.lock_of_chunk(rt, bump.life.chunk);
+            done += book.apply_run(&mut self.raw, now, capacity - done);
         }
-        u64::from(capacity)
+        u64::from(done)
     }
 }

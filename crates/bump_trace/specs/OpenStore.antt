@@ -51,8 +51,8 @@ state_by state worker made = if is_open state worker then command_after state ma
 abbrev pub with_command_by : StoreState → ℕ → Command → StoreState
 with_command_by store worker made = record store { state = state_by store.state worker made }
 
--- get W NAME: a hold is taken; by it the label is read and the item is hit; and it is given back. Where there is no hold
--- the answer says why.
+-- get W NAME: a hold is taken; by it the label is read and the item is hit; and it is given back. Where there is no
+-- hold the answer says why.
 abbrev pub get_held : StoreState → ℕ → ℕ → List ℕ → ItemId → Said
 get_held store now worker name id =
     let hit = command.Touch worker id now in
@@ -76,7 +76,8 @@ unfoldable pub get_said : StoreState → ℕ → ℕ → List ℕ → Result Sai
 get_said store now worker name =
     if is_worker store.state worker then get_bound store now worker name (store.names name) else Err fault.Worker
 
--- hold W NAME H: a hold is taken of the item and kept, and the hold name is bound to it; after any other answer nothing is.
+-- hold W NAME H: a hold is taken of the item and kept, and the hold name is bound to it; after any other answer
+-- nothing is.
 abbrev pub holds_after : Option Answer → List ℕ → ItemId → Names → Names
 holds_after (Some answer.Held) hold id holds = bind hold id holds
 holds_after _ hold id holds = holds
@@ -159,7 +160,8 @@ sweep_said store class =
     then Ok (say (Open (with_command store made)) (sweep_line class (answer_of store.state made)))
     else Err fault.Class
 
--- drain: of each worker, ascending, the bumps are applied until there is none, at most as many as its ring has room for.
+-- drain: of each worker, ascending, the bumps are applied until there is none, at most as many as its ring has room
+-- for.
 pub record Drained : Type 0 where
   pub state : State
   pub text : List ℕ

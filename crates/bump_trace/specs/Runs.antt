@@ -26,8 +26,8 @@ pub record Ran (had left held holds : Option (List ℕ)) (is_fault : Bool) : Typ
 abbrev pub TooManyCame : Option (List ℕ) → Option (List ℕ) → Type 0
 TooManyCame had left = (input : List ℕ) × Consumes had left input × (most_bytes < length input)
 
--- A fault of the trace is the end of its text; where the trace could not be read, nothing was written. A run on a World has no
--- threads, no ring and no gate.
+-- A fault of the trace is the end of its text; where the trace could not be read, nothing was written. A run on a
+-- World has no threads, no ring and no gate.
 abbrev pub StoppedBy : Option (List ℕ) → Option (List ℕ) → Option (List ℕ) → Option (List ℕ) → SimFault → Type 0
 StoppedBy had left held holds faults.Trace = Ran had left held holds true
 StoppedBy had left held holds faults.Read = Keeps held holds
@@ -39,7 +39,8 @@ StoppedBy had left held holds faults.Ring = ⊥
 StoppedBy had left held holds faults.Gate = ⊥
 
 -- what a reader had and has left, and what a writer held and holds, by the answer of the run
-abbrev pub ModelRuns : Option (List ℕ) → Option (List ℕ) → Option (List ℕ) → Option (List ℕ) → Result ⊤ SimFault → Type 0
+abbrev pub ModelRuns : Option (List ℕ) → Option (List ℕ) → Option (List ℕ) → Option (List ℕ) → Result ⊤ SimFault
+    → Type 0
 ModelRuns had left held holds (Ok _) = Ran had left held holds false
 ModelRuns had left held holds (Err e) = StoppedBy had left held holds e
 

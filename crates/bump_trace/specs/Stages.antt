@@ -1,5 +1,5 @@
--- How far a trace is: before `store`, among the lines that say what the store is, or with an open store; and which lines
--- may stand there.
+-- How far a trace is: before `store`, among the lines that say what the store is, or with an open store; and which
+-- lines may stand there.
 use Rattle.std.specs.Prelude.{ℕ, Bool, false, List, [], ◌∷◌, ◌++◌, Option, Some, None, Result, Ok, Err, option_map}
 use Rattle.bump_rules.specs.declared.configs.ClassConfig.{ClassConfig}
 use Rattle.bump_rules.specs.Configs.{first_fault}
@@ -13,8 +13,8 @@ use Rattle.trace_lines.specs.declared.lines.Declaration.{Declaration}
 use Rattle.trace_lines.specs.declared.lines.Declaration.TheVariants.{Store, Class}
 use Rattle.trace_lines.specs.declared.lines.Shape.{Shape}
 
--- A store that commands are made on: its state, the names of its items, the names of the holds that are kept, each bound to
--- the held item, and whether `par` was read.
+-- A store that commands are made on: its state, the names of its items, the names of the holds that are kept, each
+-- bound to the held item, and whether `par` was read.
 pub record StoreState : Type 0 where
   pub state : State
   pub names : Names

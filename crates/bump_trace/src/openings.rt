@@ -1,6 +1,6 @@
 //! What stands before the first command of a trace: the lines that say what the store is.
 
-ghost use Rattle.std.specs.Prelude.{◌≡◌, ◌∷◌, [], IfOk};
+ghost use Rattle.std.specs.Prelude.{◌≡◌, ◌∷◌, [], IfOk, OnErr};
 ghost use Rattle.std.specs.Result.{result_err};
 ghost use Rattle.trace_lines.specs.Faults.{fault_of_config};
 ghost use Rattle.bump_trace.specs.Stages.{config_fault, declared, opened};
@@ -53,15 +53,16 @@ fn config(shape: Shape, classes: Vec<ClassConfig>) -> Result<Config, Fault>
     }
 }
 
-/// Says what the store is, or what a class is. It is refused as ORDER where the line may not stand there, and then the
-/// opening is as it was; and for want of memory.
+/// Says what the store is, or what a class is. It is refused as ORDER where the line may not stand there, and for want of
+/// memory; the opening is as it was then.
 #[tactic(auto, unfolding(crate::specs::Stages::declared))]
 pub fn declare(
     opening: &mut Opening,
     alloc: Global,
     declaration: Declaration,
 ) -> Result<(), LineError>
-    ensures { Does (opening_of opening.new) [] result (declared (opening_of opening.old) declaration) }
+    ensures said { Does (opening_of opening.new) [] result (declared (opening_of opening.old) declaration) }
+    ensures unchanged { OnErr result (opening_of opening.new ≡ opening_of opening.old) }
 {
     match (&mut *opening, declaration) {
         (Opening::Before, Declaration::Store(shape)) => {

@@ -1,5 +1,5 @@
 //! What no clause says: worked calls with their answers, and that calls succeed.
-use bump_class::{Book, LinkRefusal, UnlinkRefusal};
+use bump_class::Book;
 
 mod calls;
 mod ends;

@@ -3,7 +3,11 @@
 #![tactic(auto)]
 
 #[cfg(test)]
+mod answers;
+#[cfg(test)]
 mod books;
+#[cfg(test)]
+mod expecting;
 #[cfg(test)]
 mod lanes;
 #[cfg(test)]

@@ -6,6 +6,7 @@ mod commands;
 mod sides;
 mod turns;
 
+use crate::expecting::expect;
 use bump_core::World;
 use bump_heads::{Blank, Name};
 use bump_rules::{ClassConfig, Config, Outcome, Place};
@@ -134,7 +135,7 @@ fn expect_outcomes(rt: &impl Abort, world: &World, worker: u32) {
             Outcome::Gone => told[2] = true,
         }
     }
-    assert_eq!(rt; told, [true; 3]);
+    expect(rt, "the outcomes", &told, &[true; 3]);
 }
 
 /// Nothing is left out by chance: each worker's bumps ended in each way, and some chunks are out of generations.

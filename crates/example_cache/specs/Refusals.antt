@@ -10,8 +10,8 @@ use Rattle.bump_state.specs.State.{State}
 use Rattle.example_cache.specs.declared.cache.CacheError.{CacheError}
 use Rattle.example_cache.specs.declared.cache.CacheError.TheVariants.{Unknown, Taken, Full, Gone, Busy, NotAllowed, Memory}
 
--- A call is refused exactly where there is a reason, and by that one. Want of memory comes last: only a call that nothing
--- else refuses meets it.
+-- A call is refused exactly where there is a reason, and by that one. Want of memory comes last: only a call that
+-- nothing else refuses meets it.
 abbrev pub Refuses : {X : Type 0} → Option CacheError → Result X CacheError → Type 0
 Refuses why (Ok x) = why ≡ None
 Refuses why (Err Memory) = why ≡ None

@@ -23,7 +23,8 @@ all_free n = record { count = n; in_use = []; free = range_with_len 0 n }
 abbrev pub used : ℕ → Slots → Slots
 used n s = record s { in_use = n ∷ without n s.in_use; free = without n s.free }
 
--- What an insert takes: the first free slot or, where none is free, the last one in use. Then it is the first one in use.
+-- What an insert takes: the first free slot or, where none is free, the last one in use. Then it is the first one in
+-- use.
 abbrev pub Takes : Slots → Slots → Taken → Type 0
 Takes old new (Free n) = (first_of old.free ≡ Some n) × (new ≡ used n old)
 Takes old new (Evicted n) = (old.free ≡ []) × (last_of old.in_use ≡ Some n) × (new ≡ used n old)

@@ -6,6 +6,7 @@ use bump_heads::{
 
 mod applications;
 mod bumps;
+mod expecting;
 mod fresh;
 mod lives;
 mod refusals;

@@ -49,7 +49,8 @@ StoppedBy had left held holds faults.Ring = Unit {0}
 StoppedBy had left held holds faults.Gate = Unit {0}
 
 -- what a reader had and has left, and what a writer held and holds, by the answer of the run
-abbrev pub StoreRuns : Option (List ℕ) → Option (List ℕ) → Option (List ℕ) → Option (List ℕ) → Result ⊤ SimFault → Type 0
+abbrev pub StoreRuns : Option (List ℕ) → Option (List ℕ) → Option (List ℕ) → Option (List ℕ) → Result ⊤ SimFault
+    → Type 0
 StoreRuns had left held holds (Ok _) = Told had left held holds false
 StoreRuns had left held holds (Err e) = StoppedBy had left held holds e
 

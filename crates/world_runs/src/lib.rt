@@ -3,6 +3,10 @@
 #![tactic(auto)]
 
 #[cfg(test)]
+mod expecting;
+#[cfg(test)]
+mod opening;
+#[cfg(test)]
 mod rules;
 #[cfg(test)]
 mod tests;

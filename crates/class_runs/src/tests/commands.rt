@@ -1,6 +1,7 @@
 //! Commands of a class, which a Store gets by a lock.
-use super::sides::{Sides, told};
-use bump_class::{Book, LinkRefusal, UnlinkRefusal};
+use super::sides::{Sides, lock, told};
+use crate::answers::answer;
+use bump_class::Book;
 use bump_core::World;
 use bump_heads::Name;
 use bump_rules::{Answer, Command, ItemId, Place, Tail};
@@ -76,23 +77,6 @@ fn class_of<N: Name>(store: &Store<N>, command: Command) -> Result<u32, NoSuchCh
     }
 }
 
-/// What the call of a Book answers that is the command. It is one of a class.
-fn answer<N: Name>(book: &mut Book<N>, command: Command) -> Answer {
-    match command {
-        Command::Link { label, now, .. } => match book.link(label, now) {
-            Ok(id) => Answer::Linked(id),
-            Err(LinkRefusal::NoFreeChunk) => Answer::NoFreeChunk,
-        },
-        Command::Unlink { id } => match book.unlink(id) {
-            Ok(ended) => Answer::Ended(ended),
-            Err(UnlinkRefusal::NoSuchChunk) => Answer::NoSuchChunk,
-            Err(UnlinkRefusal::NotLinked) => Answer::NotLinked,
-        },
-        Command::Pull { tail, .. } => Answer::Pulled(book.pull(tail)),
-        _ => Answer::Swept(book.sweep()),
-    }
-}
-
 /// Both get the command of a class, and answer the same.
 pub fn class_command<N: Name, R: Abort + Wait>(rt: &R, sides: &mut Sides<N>, command: Command) {
     let told = told(rt, sides, command);
@@ -100,6 +84,11 @@ pub fn class_command<N: Name, R: Abort + Wait>(rt: &R, sides: &mut Sides<N>, com
         assert_eq!(rt; told, Answer::NoSuchChunk, "at {command:?}");
         return;
     };
-    let mut book = sides.store.lock(rt, class).expect(rt, "it is a class");
-    assert_eq!(rt; answer(&mut book, command), told, "at {command:?}");
+    let mut book = lock(rt, &sides.store, class);
+    expect_answer(rt, &mut book, command, told);
+}
+
+// The Book's call answers the same.
+fn expect_answer<N: Name>(rt: &impl Abort, book: &mut Book<N>, command: Command, told: Answer) {
+    assert_eq!(rt; answer(book, command), Some(told), "at {command:?}");
 }

@@ -1,12 +1,14 @@
 //! A Store and a World of the same configuration, and what both tell.
+use crate::answers::seen;
+use crate::expecting::expect;
 use bump_class::Book;
 use bump_core::World;
 use bump_heads::Name;
-use bump_rules::{Answer, Command, Place};
+use bump_rules::{Accounts, Answer, Command, Head, Place};
 use bump_store::{Lane, Store, Worker};
 use std::alloc::Global;
 use std::process::Abort;
-use std::sync::Wait;
+use std::sync::{MutexGuard, Wait};
 
 /// A Store with its workers and lanes, and a World.
 #[derive(Drop)]
@@ -22,6 +24,33 @@ pub fn told<N: Name>(rt: &impl Abort, sides: &mut Sides<N>, command: Command) ->
     sides.world.command(command).expect(rt, "it is allowed")
 }
 
+/// The Book of a class, under its lock.
+pub fn lock<'a, N: Name, R: Abort + Wait>(
+    rt: &R,
+    store: &'a Store<N>,
+    class: u32,
+) -> MutexGuard<'a, Book<N>> {
+    store.lock(rt, class).expect(rt, "it is a class")
+}
+
+// Both have the same list of a class.
+fn expect_same_list<N: Name>(
+    rt: &impl Abort,
+    alloc: Global,
+    book: &Book<N>,
+    world: &World,
+    class: u32,
+    place: Place,
+) {
+    assert!(rt; class < world.classes());
+    let chunks = book.walk(alloc, place).expect(rt, "there is memory");
+    let told: Vec<u32> = world
+        .list(class, place)
+        .collect(alloc)
+        .expect(rt, "there is memory");
+    assert_eq!(rt; chunks.as_slice(), told.as_slice(), "in {place:?}");
+}
+
 /// Both have the same lists of a class.
 fn expect_same_lists<N: Name>(
     rt: &impl Abort,
@@ -30,7 +59,6 @@ fn expect_same_lists<N: Name>(
     world: &World,
     class: u32,
 ) {
-    assert!(rt; class < world.classes());
     let places = [
         Place::Hot,
         Place::Warm,
@@ -40,40 +68,55 @@ fn expect_same_lists<N: Name>(
         Place::Retired,
     ];
     for place in places.iter() {
-        let chunks = book.walk(alloc, *place).expect(rt, "there is memory");
-        let told: Vec<u32> = world
-            .list(class, *place)
-            .collect(alloc)
-            .expect(rt, "there is memory");
-        assert_eq!(rt; chunks.as_slice(), told.as_slice(), "in {place:?}");
+        expect_same_list(rt, alloc, book, world, class, *place);
     }
+}
+
+// The head and the time of a chunk, as the World has them.
+fn told_of(rt: &impl Abort, world: &World, chunk: u32) -> (Head, u64) {
+    assert!(rt; chunk < world.chunks());
+    (world.head(chunk), world.time(chunk))
+}
+
+// Both have the same head and time of a chunk.
+fn expect_same_head<N: Name>(rt: &impl Abort, book: &mut Book<N>, world: &World, chunk: u32) {
+    let told = told_of(rt, world, chunk);
+    assert_eq!(rt; seen(book, chunk), Some(told), "of chunk {chunk}");
 }
 
 /// Both have the same heads and times of a class's chunks.
 fn expect_same_heads<N: Name>(rt: &impl Abort, book: &mut Book<N>, world: &World) {
     for chunk in book.range() {
-        assert!(rt; chunk < world.chunks() && book.has_chunk(chunk));
-        let told = (world.head(chunk), world.time(chunk));
-        assert_eq!(rt; book.see(chunk), told, "of chunk {chunk}");
+        expect_same_head(rt, book, world, chunk);
     }
+}
+
+// What the World tells of a worker: its accounts, and how many of its bumps were applied.
+fn told_of_worker(rt: &impl Abort, world: &World, worker: u32) -> (Accounts, u64) {
+    assert!(rt; worker < world.workers());
+    (world.accounts(worker), world.applied(worker).len() as u64)
+}
+
+// The same of a worker and its lane.
+fn seen_of_worker<N: Name>(rt: &impl Abort, sides: &Sides<N>, worker: usize) -> (Accounts, u64) {
+    let reader = sides.workers.get(worker).expect(rt, "it is a worker");
+    let lane = sides.lanes.get(worker).expect(rt, "it is a lane");
+    (reader.counts(), lane.applied())
 }
 
 /// Both have the same accounts of each worker, and applied as many of its bumps.
 fn expect_same_accounts<N: Name>(rt: &impl Abort, sides: &Sides<N>) {
     for worker in 0..sides.world.workers() {
-        let reader = sides.workers.get(worker as usize);
-        let counts = reader.expect(rt, "it is a worker").counts();
-        assert_eq!(rt; counts, sides.world.accounts(worker));
-        let lane = sides.lanes.get(worker as usize);
-        let applied = lane.expect(rt, "it is a lane").applied();
-        assert_eq!(rt; applied, sides.world.applied(worker).len() as u64);
+        let seen = seen_of_worker(rt, sides, worker as usize);
+        let told = told_of_worker(rt, &sides.world, worker);
+        expect(rt, "a worker's accounts", &seen, &told);
     }
 }
 
 /// Both have the same lists, heads, times and accounts.
 pub fn expect_same<N: Name, R: Abort + Wait>(rt: &R, alloc: Global, sides: &Sides<N>) {
     for class in 0..sides.world.classes() {
-        let mut book = sides.store.lock(rt, class).expect(rt, "it is a class");
+        let mut book = lock(rt, &sides.store, class);
         expect_same_lists(rt, alloc, &book, &sides.world, class);
         expect_same_heads(rt, &mut book, &sides.world);
     }

@@ -1,7 +1,8 @@
 //! Readers' commands, and those of lanes.
 use super::sides::{Sides, told};
+use crate::expecting::expect;
 use bump_heads::Name;
-use bump_rules::{Answer, Command, ItemId};
+use bump_rules::{Answer, Command, Entry, ItemId, Touch};
 use bump_store::{GetRefusal, Hold};
 use std::process::Abort;
 use std::sync::Wait;
@@ -16,6 +17,17 @@ fn refused(refusal: GetRefusal) -> Option<Answer> {
     }
 }
 
+// A worker's hold of the item, if it is had.
+fn get<N: Name>(
+    rt: &impl Abort,
+    sides: &mut Sides<N>,
+    worker: u32,
+    id: ItemId,
+) -> Result<Hold<N>, GetRefusal> {
+    let reader = sides.workers.get_mut(worker as usize);
+    reader.expect(rt, "it is a worker").get(&sides.store, id)
+}
+
 /// A worker's hold of the item, if both give one.
 fn take<N: Name>(
     rt: &impl Abort,
@@ -24,18 +36,37 @@ fn take<N: Name>(
     id: ItemId,
 ) -> Option<Hold<N>> {
     let told = told(rt, sides, Command::Take { worker, id });
-    let reader = sides.workers.get_mut(worker as usize);
-    match reader.expect(rt, "it is a worker").get(&sides.store, id) {
+    match get(rt, sides, worker, id) {
         Ok(hold) => {
-            assert_eq!(rt; told, Answer::Held);
-            assert_eq!(rt; hold.life(), id);
+            expect(rt, "a take", &Answer::Held, &told);
+            expect(rt, "the life of a hold", &hold.life(), &id);
             Some(hold)
         }
         Err(refusal) => {
-            assert_eq!(rt; refused(refusal), Some(told));
+            expect(rt, "a take", &refused(refusal), &Some(told));
             None
         }
     }
+}
+
+// What a worker's touch of the held item does.
+fn touched<N: Name, R: Abort>(
+    rt: &R,
+    sides: &mut Sides<N>,
+    worker: u32,
+    hold: &mut Hold<N>,
+    now: u64,
+) -> Touch {
+    let reader = sides.workers.get_mut(worker as usize);
+    let reader = reader.expect(rt, "it is a worker");
+    reader.touch(&sides.store, hold, now)
+}
+
+// Both read the same label.
+fn expect_label<N: Name>(rt: &impl Abort, sides: &mut Sides<N>, hold: &mut Hold<N>) {
+    let told = told(rt, sides, Command::Label { id: hold.life() });
+    let label = Answer::Label(hold.label(&sides.store));
+    expect(rt, "the label", &label, &told);
 }
 
 /// Both hit the held item, and its label is read.
@@ -47,19 +78,16 @@ fn touch<N: Name, R: Abort>(
     now: u64,
 ) {
     let id = hold.life();
-    let told_touch = told(rt, sides, Command::Touch { worker, id, now });
-    let reader = sides.workers.get_mut(worker as usize);
-    let reader = reader.expect(rt, "it is a worker");
-    let touch = reader.touch(&sides.store, hold, now);
-    assert_eq!(rt; Answer::Touched(touch), told_touch);
-    let told_label = told(rt, sides, Command::Label { id });
-    assert_eq!(rt; Answer::Label(hold.label(&sides.store)), told_label);
+    let told = told(rt, sides, Command::Touch { worker, id, now });
+    let touch = touched(rt, sides, worker, hold, now);
+    expect(rt, "a touch", &Answer::Touched(touch), &told);
+    expect_label(rt, sides, hold);
 }
 
 /// Both give the hold back.
 pub fn release<N: Name>(rt: &impl Abort, sides: &mut Sides<N>, hold: Hold<N>) {
     let told = told(rt, sides, Command::Release { id: hold.life() });
-    assert_eq!(rt; told, Answer::Done);
+    expect(rt, "a release", &Answer::Done, &told);
     hold.release(&sides.store);
 }
 
@@ -92,14 +120,23 @@ pub fn turn<N: Name, R: Abort>(
     None
 }
 
+// What a worker's lane applies next.
+fn next<N: Name, R: Abort + Wait>(
+    rt: &R,
+    sides: &mut Sides<N>,
+    worker: u32,
+    now: u64,
+) -> Option<Entry> {
+    let lane = sides.lanes.get_mut(worker as usize);
+    lane.expect(rt, "it is a lane").next(rt, &sides.store, now)
+}
+
 /// Both apply the next bump of a worker's ring, if one waits.
 pub fn drain_next<N: Name, R: Abort + Wait>(rt: &R, sides: &mut Sides<N>, worker: u32, now: u64) {
     let told = told(rt, sides, Command::Next { worker, now });
-    let lane = sides.lanes.get_mut(worker as usize);
-    let entry = lane.expect(rt, "it is a lane").next(rt, &sides.store, now);
-    let answer = match entry {
+    let answer = match next(rt, sides, worker, now) {
         Some(entry) => Answer::Bumped(entry),
         None => Answer::Nothing,
     };
-    assert_eq!(rt; answer, told);
+    expect(rt, "a bump", &answer, &told);
 }

@@ -10,6 +10,7 @@ ghost use Rattle.bump_readers.specs.Taking.{whole_hold};
 ghost use Rattle.bump_steps.specs.Views.{owns, standing};
 
 use super::bumps::{begin_in_cold, send_off};
+use super::expecting::{expect, expect_seen};
 use super::stores::{Small, config_of, head, open};
 use super::*;
 use bump_rules::{Config, Head, Outcome, Segment};
@@ -106,13 +107,13 @@ fn carry<N: Name>(
         mut lane,
     } = open::<N>(alloc, blank, config)?;
     let life = begin_in_cold(&mut class);
-    assert_eq!(rt; heads.see(0), (head(1, "l", Segment::Cold, 1), 1));
+    expect_seen(rt, &heads, 0, (head(1, "l", Segment::Cold, 1), 1));
     let mut hold = heads.take(&mut worker, life).expect(rt, "there is room");
     let rider = send_off(rt, &heads, &mut worker, &mut hold);
     let before = (head(3, "lfa", Segment::Cold, 1), 1);
-    assert_eq!(rt; heads.see(0), before);
+    expect_seen(rt, &heads, 0, before);
     lane.board(rider);
-    assert_eq!(rt; heads.see(0), before);
+    expect_seen(rt, &heads, 0, before);
     let store = Small {
         heads,
         class,
@@ -120,6 +121,18 @@ fn carry<N: Name>(
         lane,
     };
     Ok((store, hold))
+}
+
+// The steps found the item in COLD and ACTIVE, and moved it.
+fn expect_moved(rt: &impl Abort, applied: &Applied) {
+    let found = head(3, "lfa", Segment::Cold, 1);
+    expect(rt, "the try", &applied.tried, &found);
+    expect(rt, "the clearing", &applied.cleared, &Some(found));
+    let moved = head(3, "lf", Segment::Cold, 1);
+    expect(rt, "the move", &applied.moved, &Some(moved));
+    let last = head(3, "lf", Segment::Warm, 1);
+    expect(rt, "the end", &applied.last, &last);
+    expect(rt, "the outcome", &applied.outcome, &Outcome::Moved);
 }
 
 fn move_in<N: Name>(
@@ -134,12 +147,9 @@ fn move_in<N: Name>(
 {
     let (mut store, hold) = carry::<N>(rt, alloc, blank, config)?;
     let applied = apply_front(&mut store.class, &mut store.lane, 0, 9);
-    let found = head(3, "lfa", Segment::Cold, 1);
-    assert_eq!(rt; (applied.tried, applied.cleared), (found, Some(found)));
-    assert_eq!(rt; applied.moved, Some(head(3, "lf", Segment::Cold, 1)));
-    assert_eq!(rt; applied.last, head(3, "lf", Segment::Warm, 1));
-    assert_eq!(rt; applied.outcome, Outcome::Moved);
-    assert_eq!(rt; store.heads.see(0), (head(2, "lf", Segment::Warm, 1), 9));
+    expect_moved(rt, &applied);
+    let wanted = (head(2, "lf", Segment::Warm, 1), 9);
+    expect_seen(rt, &store.heads, 0, wanted);
     store.heads.give_back(hold);
     Ok(())
 }

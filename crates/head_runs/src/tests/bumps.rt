@@ -8,6 +8,7 @@ ghost use Rattle.bump_steps.specs.Rule.{chunks as all_chunks, no_accounts};
 ghost use Rattle.bump_readers.specs.Taking.{whole_hold};
 ghost use Rattle.bump_steps.specs.Views.{owns, standing};
 
+use super::expecting::{expect, expect_head, expect_head_of};
 use super::stores::{Small, config_of, head, let_out, open};
 use super::*;
 use bump_rules::{Config, ItemId, Segment};
@@ -53,15 +54,15 @@ pub fn attempt<N: Name>(
     let life = hold.life();
     heads.hold_in(worker, hold);
     let found = heads.mark_fetched(worker, life);
-    assert_eq!(rt; found, head(2, "l", Segment::Cold, 1));
+    expect_head(rt, found, head(2, "l", Segment::Cold, 1));
     let fetched = head(2, "lf", Segment::Cold, 1);
-    assert_eq!(rt; heads.see(life.chunk).0, fetched);
+    expect_head_of(rt, heads, life.chunk, fetched);
     let found = heads.mark_active(worker, life);
     assert!(rt; matches!(found.segment, Segment::Cold));
     assert!(rt; !found.active);
-    assert_eq!(rt; found, fetched);
+    expect_head(rt, found, fetched);
     let active = head(2, "lfa", Segment::Cold, 1);
-    assert_eq!(rt; heads.see(life.chunk).0, active);
+    expect_head_of(rt, heads, life.chunk, active);
 }
 
 /// Bumps the item of the hold, in the same way, and sends the bump off, which is the worker's first.
@@ -106,14 +107,14 @@ fn drop_full<N: Name>(
     let life = hold.life();
     let rider = heads.ride(worker, life, 0).expect(rt, "there is room");
     let sent = head(3, "lfa", Segment::Cold, 1);
-    assert_eq!(rt; heads.see(life.chunk).0, sent);
+    expect_head_of(rt, heads, life.chunk, sent);
     heads.rider_back(worker, rider);
-    assert_eq!(rt; heads.see(life.chunk).0, sent);
-    assert_eq!(rt; heads.give_back_bump(worker, life), sent);
+    expect_head_of(rt, heads, life.chunk, sent);
+    expect_head(rt, heads.give_back_bump(worker, life), sent);
     let dropped = head(2, "lfa", Segment::Cold, 1);
-    assert_eq!(rt; heads.see(life.chunk).0, dropped);
-    assert_eq!(rt; heads.unmark(worker, life), dropped);
-    assert_eq!(rt; heads.see(life.chunk).0, head(2, "lf", Segment::Cold, 1));
+    expect_head_of(rt, heads, life.chunk, dropped);
+    expect_head(rt, heads.unmark(worker, life), dropped);
+    expect_head_of(rt, heads, life.chunk, head(2, "lf", Segment::Cold, 1));
     let_out(heads, worker, hold);
 }
 
@@ -137,11 +138,11 @@ fn drop_at_limit<N: Name>(
     let Err(refusal) = heads.ride(worker, life, 0) else {
         panic!(rt; "the item has one more reference than it may have")
     };
-    assert_eq!(rt; refusal, RideRefusal::RefsFull);
+    expect(rt, "why", &refusal, &RideRefusal::RefsFull);
     let dropped = head(2, "lfa", Segment::Cold, 1);
-    assert_eq!(rt; heads.see(life.chunk).0, dropped);
-    assert_eq!(rt; heads.unmark(worker, life), dropped);
-    assert_eq!(rt; heads.see(life.chunk).0, head(2, "lf", Segment::Cold, 1));
+    expect_head_of(rt, heads, life.chunk, dropped);
+    expect_head(rt, heads.unmark(worker, life), dropped);
+    expect_head_of(rt, heads, life.chunk, head(2, "lf", Segment::Cold, 1));
     let_out(heads, worker, hold);
 }
 
@@ -169,8 +170,8 @@ fn drop_in<N: Name>(
     } else {
         drop_full(rt, &heads, &mut worker, &mut hold);
     }
-    assert_eq!(rt; heads.give_back(hold), head(2, "lf", Segment::Cold, 1));
-    assert_eq!(rt; heads.see(0).0, head(1, "lf", Segment::Cold, 1));
+    expect_head(rt, heads.give_back(hold), head(2, "lf", Segment::Cold, 1));
+    expect_head_of(rt, &heads, 0, head(1, "lf", Segment::Cold, 1));
     Ok(())
 }
 

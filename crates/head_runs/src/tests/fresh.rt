@@ -2,6 +2,7 @@
 ghost use Rattle.std.specs.Prelude.{◌≡◌, ◌<◌, None, IfSome, [], ◌∷◌};
 ghost use Rattle.bump_steps.specs.Rule.{chunks as all_chunks};
 
+use super::expecting::{expect, expect_seen};
 use super::stores::{head, life_of, refusal};
 use super::*;
 use bump_rules::{ClassConfig, Config, Segment};
@@ -17,12 +18,16 @@ fn look_at<N: Name>(rt: &impl Abort, heads: &Heads<N>, worker: &mut WorkerSeat<N
     requires later { generation < 4294967295 }
 {
     let never = head(0, "", Segment::Hot, generation);
-    assert_eq!(rt; (heads.see(0), heads.see(1)), ((never, 0), (never, 0)));
+    expect_seen(rt, heads, 0, (never, 0));
+    expect_seen(rt, heads, 1, (never, 0));
     let stale = Some(TakeRefusal::Stale);
-    assert_eq!(rt; refusal(heads, worker, life_of(0, generation)), stale);
-    assert_eq!(rt; refusal(heads, worker, life_of(0, generation + 1)), stale);
-    assert_eq!(rt; (heads.chunks(), heads.refs_limit()), (2, 4));
-    assert_eq!(rt; worker.worker(), 0);
+    let why = refusal(heads, worker, life_of(0, generation));
+    expect(rt, "this life", &why, &stale);
+    let why = refusal(heads, worker, life_of(0, generation + 1));
+    expect(rt, "the next life", &why, &stale);
+    let told = (heads.chunks(), heads.refs_limit());
+    expect(rt, "the sizes", &told, &(2, 4));
+    expect(rt, "the worker", &worker.worker(), &0);
     worker.promise();
 }
 
@@ -46,9 +51,10 @@ fn run_in<N: Name>(
     let mut worker = workers.pop().ok_or(AllocError)?;
     look_at(rt, &heads, &mut worker, config.first_generation - 1);
     let class = classes.pop().ok_or(AllocError)?;
-    assert_eq!(rt; class.class(), 0);
+    expect(rt, "the class", &class.class(), &0);
     let lane = lanes.pop().ok_or(AllocError)?;
-    assert_eq!(rt; (lane.is_whole(), lane.aboard().is_none()), (true, true));
+    let told = (lane.is_whole(), lane.aboard().is_none());
+    expect(rt, "a new lane", &told, &(true, true));
     Ok(())
 }
 

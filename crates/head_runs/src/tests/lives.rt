@@ -5,9 +5,10 @@ ghost use Rattle.bump_readers.specs.Workers.{worker_seen};
 ghost use Rattle.bump_steps.specs.Rule.{no_accounts, worker_part, chunks as all_chunks};
 ghost use Rattle.bump_readers.specs.Taking.{whole_hold};
 
+use super::expecting::{expect, expect_head, expect_head_of, expect_seen};
 use super::stores::{Small, config_of, head, let_out, life_of, open, refusal};
 use super::*;
-use bump_rules::{Config, Segment};
+use bump_rules::{Config, ItemId, Segment};
 use std::alloc::{AllocError, Global};
 use std::marker::Brand;
 use std::process::Abort;
@@ -32,15 +33,30 @@ fn mark_in_hot<N: Name>(
     let life = hold.life();
     heads.hold_in(worker, hold);
     let found = heads.mark_fetched(worker, life);
-    assert_eq!(rt; found, head(2, "l", Segment::Hot, 1));
+    expect_head(rt, found, head(2, "l", Segment::Hot, 1));
     let fetched = head(2, "lf", Segment::Hot, 1);
-    assert_eq!(rt; heads.see(life.chunk).0, fetched);
+    expect_head_of(rt, heads, life.chunk, fetched);
     let found = heads.mark_active(worker, life);
     assert!(rt; matches!(found.segment, Segment::Hot));
-    assert_eq!(rt; found, fetched);
+    expect_head(rt, found, fetched);
     heads.set_time(worker, life, 3);
-    assert_eq!(rt; heads.see(life.chunk), (head(2, "lfa", Segment::Hot, 1), 3));
+    expect_seen(rt, heads, life.chunk, (head(2, "lfa", Segment::Hot, 1), 3));
     let_out(heads, worker, hold);
+}
+
+// Nobody takes the life any more.
+fn expect_stale<N: Name>(
+    rt: &impl Abort,
+    heads: &Heads<N>,
+    worker: &mut WorkerSeat<N>,
+    life: ItemId,
+)
+    requires alone { worker.old.hold ≡ None }
+    requires chunk { life.chunk < all_chunks heads.now }
+    ensures alone { worker.new.hold ≡ None }
+{
+    let why = refusal(heads, worker, life);
+    expect(rt, "why", &why, &Some(TakeRefusal::Stale));
 }
 
 // The first life of chunk 0, and the beginning of its second.
@@ -58,25 +74,25 @@ fn live<N: Name>(
     class.put_label(0, 7);
     class.put_time(0, 1);
     let life = class.open_life(0);
-    assert_eq!(rt; life, life_of(0, 1));
-    assert_eq!(rt; heads.see(0), (head(1, "l", Segment::Hot, 1), 1));
+    expect(rt, "the first life", &life, &life_of(0, 1));
+    expect_seen(rt, heads, 0, (head(1, "l", Segment::Hot, 1), 1));
     let mut hold = heads.take(worker, life).expect(rt, "there is room");
-    assert_eq!(rt; class.look(0), head(2, "l", Segment::Hot, 1));
+    expect_head(rt, class.look(0), head(2, "l", Segment::Hot, 1));
     mark_in_hot(rt, heads, worker, &mut hold);
-    assert_eq!(rt; class.meet(&mut hold), 7);
-    assert_eq!(rt; class.end_life(0), head(2, "lfa", Segment::Hot, 1));
+    expect(rt, "the label", &class.meet(&mut hold), &7);
+    expect_head(rt, class.end_life(0), head(2, "lfa", Segment::Hot, 1));
     let held = class.seen_unheld(0);
-    assert_eq!(rt; held, head(1, "fa", Segment::Hot, 1));
+    expect_head(rt, held, head(1, "fa", Segment::Hot, 1));
     assert!(rt; held.refs == 1);
-    assert_eq!(rt; heads.label_of(&mut hold), 7);
-    assert_eq!(rt; heads.give_back(hold), held);
+    expect(rt, "the label", &heads.label_of(&mut hold), &7);
+    expect_head(rt, heads.give_back(hold), held);
     let free = class.seen_unheld(0);
-    assert_eq!(rt; free, head(0, "fa", Segment::Hot, 1));
+    expect_head(rt, free, head(0, "fa", Segment::Hot, 1));
     assert!(rt; free.refs == 0);
-    assert_eq!(rt; refusal(heads, worker, life), Some(TakeRefusal::Stale));
-    assert_eq!(rt; class.open_life(0), life_of(0, 2));
-    assert_eq!(rt; heads.see(0), (head(1, "l", Segment::Hot, 2), 3));
-    assert_eq!(rt; refusal(heads, worker, life), Some(TakeRefusal::Stale));
+    expect_stale(rt, heads, worker, life);
+    expect(rt, "the second life", &class.open_life(0), &life_of(0, 2));
+    expect_seen(rt, heads, 0, (head(1, "l", Segment::Hot, 2), 3));
+    expect_stale(rt, heads, worker, life);
 }
 
 fn live_in<N: Name>(

@@ -1,14 +1,32 @@
 //! Why a worker gets no hold and no rider, where no other thread is at work.
-ghost use Rattle.std.specs.Prelude.{◌≡◌, None, [], ◌∷◌};
+ghost use Rattle.std.specs.Prelude.{◌≡◌, ◌<◌, None, [], ◌∷◌};
 ghost use Rattle.bump_steps.specs.Rule.{chunks as all_chunks};
 
+use super::expecting::expect;
 use super::stores::{Small, config_of, life_of, open, refusal};
 use super::*;
-use bump_rules::Config;
+use bump_rules::{Config, ItemId};
 use std::alloc::{AllocError, Global};
 use std::marker::Brand;
 use std::process::Abort;
 use std::test::Fail;
+
+// The life isn't taken for this reason, or is.
+fn expect_refusal<N: Name>(
+    rt: &impl Abort,
+    heads: &Heads<N>,
+    worker: &mut WorkerSeat<N>,
+    life: ItemId,
+    wanted: Option<TakeRefusal>,
+    what: &str,
+)
+    requires alone { worker.old.hold ≡ None }
+    requires chunk { life.chunk < all_chunks heads.now }
+    ensures alone { worker.new.hold ≡ None }
+{
+    let why = refusal(heads, worker, life);
+    expect(rt, what, &why, &wanted);
+}
 
 // The first life of chunk 0 is taken in no other generation, and nothing of another chunk.
 fn miss<N: Name>(rt: &impl Abort, heads: &Heads<N>, worker: &mut WorkerSeat<N>)
@@ -16,20 +34,29 @@ fn miss<N: Name>(rt: &impl Abort, heads: &Heads<N>, worker: &mut WorkerSeat<N>)
     requires alone { worker.old.hold ≡ None }
     ensures alone { worker.new.hold ≡ None }
 {
-    assert_eq!(rt;
-        refusal(heads, worker, life_of(0, 0)),
+    expect_refusal(
+        rt,
+        heads,
+        worker,
+        life_of(0, 0),
         Some(TakeRefusal::Stale),
-        "too old"
+        "too old",
     );
-    assert_eq!(rt;
-        refusal(heads, worker, life_of(0, 2)),
+    expect_refusal(
+        rt,
+        heads,
+        worker,
+        life_of(0, 2),
         Some(TakeRefusal::Stale),
-        "too new"
+        "too new",
     );
-    assert_eq!(rt;
-        refusal(heads, worker, life_of(1, 1)),
+    expect_refusal(
+        rt,
+        heads,
+        worker,
+        life_of(1, 1),
         Some(TakeRefusal::Stale),
-        "elsewhere"
+        "elsewhere",
     );
 }
 
@@ -47,16 +74,26 @@ fn fill<N: Name>(
 {
     let first = life_of(0, 1);
     class.put_label(0, 7);
-    assert_eq!(rt; class.open_life(0), first);
+    expect(rt, "the first life", &class.open_life(0), &first);
     miss(rt, heads, worker);
-    assert_eq!(rt; refusal(heads, worker, first), None);
+    expect_refusal(rt, heads, worker, first, None, "in it");
     let hold = heads.take(worker, first).expect(rt, "there is room");
-    assert_eq!(rt; refusal(heads, worker, first), Some(TakeRefusal::RefsFull));
+    expect_refusal(
+        rt,
+        heads,
+        worker,
+        first,
+        Some(TakeRefusal::RefsFull),
+        "held",
+    );
     class.end_life(0);
-    assert_eq!(rt;
-        refusal(heads, worker, first),
+    expect_refusal(
+        rt,
+        heads,
+        worker,
+        first,
         Some(TakeRefusal::Stale),
-        "behind it"
+        "behind it",
     );
     heads.give_back(hold);
 }
@@ -78,8 +115,8 @@ fn refuse_in<N: Name>(
         lane: _,
     } = open::<N>(alloc, blank, config)?;
     let first = life_of(0, 1);
-    let why = refusal(&heads, &mut worker, first);
-    assert_eq!(rt; why, Some(TakeRefusal::Stale), "before it");
+    let stale = Some(TakeRefusal::Stale);
+    expect_refusal(rt, &heads, &mut worker, first, stale, "before it");
     fill(rt, &heads, &mut class, &mut worker);
     Ok(())
 }

@@ -1,6 +1,7 @@
 //! Allocations that are refused.
 ghost use Rattle.std.specs.Prelude.{◌≡◌, [], ◌∷◌};
 
+use super::expecting::expect_seen;
 use super::stores::{config_of, head, open};
 use super::*;
 use bump_rules::{Config, Segment};
@@ -26,7 +27,8 @@ fn open_in<N: Name>(
     requires small { (config.now.workers ≡ 1) × (config.now.first_generation ≡ 1) × (config.now.classes ≡ record { chunks = 2; hot = 1; warm = 1 } ∷ []) }
 {
     let store = open::<N>(alloc, blank, config)?;
-    assert_eq!(rt; store.heads.see(1), (head(0, "", Segment::Hot, 0), 0));
+    let never = head(0, "", Segment::Hot, 0);
+    expect_seen(rt, &store.heads, 1, (never, 0));
     Ok(())
 }
 

@@ -1,12 +1,14 @@
 //! A ring by itself: order, room, what a closed one shows, two threads at its ends, and want of memory.
 ghost use Rattle.std.specs.Prelude.{◌≡◌};
 
+use super::calls::{hit, pull_round};
+use super::expecting::expect;
 use super::stores::{Scene, Small, id, play, sized};
 use bump_class::Book;
 use bump_heads::{Heads, Name};
 use bump_readers::Rider;
-use bump_ring::{Receiver, Sender, ring};
-use bump_rules::{Dropped, ItemId, Pulled, Tail, Touch};
+use bump_ring::{ClosedSender, Receiver, Sender, ring};
+use bump_rules::{Dropped, ItemId, Touch};
 use bump_store::Worker;
 use std::alloc::{AllocError, Global};
 use std::hint::spin_loop;
@@ -15,23 +17,32 @@ use std::test::Fail;
 use std::thread;
 use std::thread::Threads;
 
+// No bump comes out of the ring.
+fn expect_none<N: Name>(rt: &impl Abort, receiver: &mut Receiver<N>) {
+    assert!(rt; receiver.take().is_none());
+}
+
+// The closed ring has nothing left.
+fn expect_end<N: Name>(rt: &impl Abort, receiver: &mut Receiver<N>, closed: &mut ClosedSender<N>)
+    requires ring { closed.old.ring ≡ receiver.old.ring }
+    ensures ring { closed.new.ring ≡ receiver.new.ring }
+{
+    assert_eq!(rt; receiver.rest(closed), Some(0));
+}
+
 /// Bumps come out in the order in which they were queued, and none comes twice.
 pub fn take_in_order<N: Name, R: Abort>(rt: &R, small: &mut Small<N>) {
-    assert!(rt; small.receiver.take().is_none());
+    expect_none(rt, &mut small.receiver);
     for chunk in 0..3u64 {
         let item = small.link_cold(rt, chunk, 1);
         small.hit(rt, item, 2);
-        assert_eq!(rt; small.hit(rt, item, 3), (chunk, Touch::Queued(chunk)));
+        small.expect_hit(rt, item, 3, (chunk, Touch::Queued(chunk)));
     }
-    assert_eq!(rt; small.receiver.known(), 0);
+    expect(rt, "the bumps known", &small.receiver.known(), &0);
     for chunk in 0..3u32 {
-        let rider = small.receiver.take().expect(rt, "there is one");
-        assert_eq!(rt;
-            (rider.number(), rider.life().chunk),
-            (u64::from(chunk), chunk)
-        );
+        small.expect_taken(rt, (0, u64::from(chunk), id(chunk, 1)));
     }
-    assert!(rt; small.receiver.take().is_none());
+    expect_none(rt, &mut small.receiver);
 }
 
 #[test]
@@ -42,13 +53,13 @@ fn bumps_are_taken_in_order(rt: HostRuntime) -> Result<(), Fail> {
 /// A ring that was closed while it was empty shows its end, again and again.
 pub fn close_ring<N: Name, R: Abort>(rt: &R, alloc: Global) -> Result<(), AllocError> {
     let (sender, mut receiver) = ring::<N>(alloc, 2)?;
-    assert_eq!(rt; sender.accepted(), 0);
+    expect(rt, "accepted bumps", &sender.accepted(), &0);
     let mut closed = sender.close();
-    assert_eq!(rt; closed.accepted(), 0);
-    assert_eq!(rt; receiver.rest(&mut closed), Some(0));
-    assert_eq!(rt; receiver.rest(&mut closed), Some(0));
-    assert!(rt; receiver.take().is_none());
-    assert_eq!(rt; receiver.known(), 0);
+    expect(rt, "accepted bumps", &closed.accepted(), &0);
+    expect_end(rt, &mut receiver, &mut closed);
+    expect_end(rt, &mut receiver, &mut closed);
+    expect_none(rt, &mut receiver);
+    expect(rt, "the bumps known", &receiver.known(), &0);
     Ok(())
 }
 
@@ -57,9 +68,8 @@ pub fn close_ring<N: Name, R: Abort>(rt: &R, alloc: Global) -> Result<(), AllocE
 fn next_bump<N: Name>(rt: &impl Abort, small: &mut Small<N>, item: ItemId) -> Rider<N> {
     let (_label, touch) = small.hit(rt, item, 5);
     assert!(rt; matches!(touch, Touch::Queued(_)));
-    assert_eq!(rt; small.book.pull(Tail::Cold), Pulled::Warm(item));
-    assert_eq!(rt; small.book.pull(Tail::Warm), Pulled::Cold(item));
-    small.receiver.take().expect(rt, "there is one")
+    pull_round(rt, &mut small.book, item);
+    small.take(rt)
 }
 
 // Offers a bump that has the next number.
@@ -77,6 +87,43 @@ fn offer_next<N: Name>(
     }
 }
 
+// Offers a bump that finds no room, and comes back.
+fn refuse_next<N: Name>(rt: &impl Abort, sender: &mut Sender<N>, rider: Rider<N>) -> Rider<N>
+    ensures { sender.new.ring ≡ sender.old.ring }
+{
+    offer_next(rt, sender, rider)
+        .err()
+        .expect(rt, "there is no room")
+}
+
+// Offers a bump, which gets this number, and a second one that finds no room, and comes back.
+fn send_round<N: Name>(
+    rt: &impl Abort,
+    sender: &mut Sender<N>,
+    next: Rider<N>,
+    number: u64,
+    second: Rider<N>,
+) -> Rider<N>
+    ensures { sender.new.ring ≡ sender.old.ring }
+{
+    let accepted = offer_next(rt, sender, next).ok();
+    expect(rt, "the number", &accepted, &Some(number));
+    refuse_next(rt, sender, second)
+}
+
+// The next bump of the ring has this number, and is of this item.
+fn take_this<N: Name>(rt: &impl Abort, receiver: &mut Receiver<N>, number: u64, item: ItemId)
+    ensures { receiver.new.ring ≡ receiver.old.ring }
+{
+    let taken = receiver.take().expect(rt, "there is one");
+    expect(
+        rt,
+        "the bump",
+        &(taken.number(), taken.life()),
+        &(number, item),
+    );
+}
+
 /// A ring with room for one bump takes one in each round, and hands a second one back. Closed, it has nothing left.
 pub fn send_in_rounds<N: Name>(
     rt: &impl Abort,
@@ -88,17 +135,13 @@ pub fn send_in_rounds<N: Name>(
     let (mut sender, mut receiver) = ring::<N>(alloc, 1)?;
     let mut next = next_bump(rt, small, item);
     for number in 0..1_000u64 {
-        assert_eq!(rt; offer_next(rt, &mut sender, next).ok(), Some(number));
         let second = next_bump(rt, small, item);
-        next = offer_next(rt, &mut sender, second)
-            .err()
-            .expect(rt, "there is no room");
-        let taken = receiver.take().expect(rt, "there is one");
-        assert_eq!(rt; (taken.number(), taken.life()), (number, item));
+        next = send_round(rt, &mut sender, next, number, second);
+        take_this(rt, &mut receiver, number, item);
     }
     let mut closed = sender.close();
-    assert_eq!(rt; closed.accepted(), 1_000);
-    assert_eq!(rt; receiver.rest(&mut closed), Some(0));
+    expect(rt, "accepted bumps", &closed.accepted(), &1_000);
+    expect_end(rt, &mut receiver, &mut closed);
     Ok(())
 }
 
@@ -141,10 +184,7 @@ fn queue<N: Name>(
     item: ItemId,
 ) -> Option<u64> {
     for tries in 0..TRIES {
-        let mut hold = worker.get(heads, item).expect(rt, "it is linked");
-        let touch = worker.touch(heads, &mut hold, 5);
-        hold.release(heads);
-        match touch {
+        match hit(rt, heads, worker, item, 5).1 {
             Touch::Queued(number) => return Some(number),
             Touch::Dropped(Dropped::Full) => pause(tries),
             _ => return None,
@@ -163,9 +203,9 @@ fn queue_all<N: Name>(
 ) -> Worker<N> {
     for number in 0..bumps {
         let item = item_of(number);
-        assert_eq!(rt; queue(rt, heads, &mut worker, item), Some(number));
-        assert_eq!(rt; book.pull(Tail::Cold), Pulled::Warm(item));
-        assert_eq!(rt; book.pull(Tail::Warm), Pulled::Cold(item));
+        let queued = queue(rt, heads, &mut worker, item);
+        expect(rt, "the number", &queued, &Some(number));
+        pull_round(rt, &mut book, item);
     }
     worker
 }
@@ -185,9 +225,19 @@ fn take_next<N: Name>(receiver: &mut Receiver<N>) -> Option<Rider<N>> {
 fn take_all<N: Name>(rt: &impl Abort, mut receiver: Receiver<N>, bumps: u64) -> Receiver<N> {
     for number in 0..bumps {
         let rider = take_next(&mut receiver).expect(rt, "it comes");
-        assert_eq!(rt; (rider.number(), rider.life()), (number, item_of(number)));
+        let told = (rider.number(), rider.life());
+        expect(rt, "the bump", &told, &(number, item_of(number)));
     }
     receiver
+}
+
+// The first hit of each item, so that the next one bumps it.
+fn hit_first<N: Name, R: Abort>(rt: &R, small: &mut Small<N>) {
+    for number in 0..u64::from(ITEMS) {
+        let item = small.link_cold(rt, number, 1);
+        expect(rt, "the item", &item, &item_of(number));
+        small.expect_hit(rt, item, 2, (number, Touch::First));
+    }
 }
 
 /// A worker queues so many bumps in one thread, and another thread takes them, in order.
@@ -197,11 +247,7 @@ pub fn cross<N: Name + Send + Sync, R: Threads + Abort + Sync>(
     bumps: u64,
 ) {
     let mut small = small;
-    for number in 0..u64::from(ITEMS) {
-        let item = small.link_cold(rt, number, 1);
-        assert_eq!(rt; item, item_of(number));
-        assert_eq!(rt; small.hit(rt, item, 2), (number, Touch::First));
-    }
+    hit_first(rt, &mut small);
     let Small {
         heads,
         book,
@@ -214,8 +260,8 @@ pub fn cross<N: Name + Send + Sync, R: Threads + Abort + Sync>(
         move || queue_all(rt, shared, book, worker, bumps),
         move || take_all(rt, receiver, bumps),
     );
-    assert_eq!(rt; worker.counts().accepted, bumps);
-    assert!(rt; receiver.take().is_none());
+    expect(rt, "accepted bumps", &worker.counts().accepted, &bumps);
+    expect_none(rt, &mut receiver);
 }
 
 #[test]
@@ -249,8 +295,13 @@ fn tell_refused(rt: &impl Eprint) -> Result<(), Fail> {
 pub fn make_again<N: Name, R: Abort>(rt: &R, alloc: Global) -> Result<(), AllocError> {
     let refused = ring::<N>(alloc, 2).is_err();
     let (sender, mut receiver) = ring::<N>(alloc, 2)?;
-    assert_eq!(rt; (sender.accepted(), receiver.known()), (0, 0));
-    assert!(rt; receiver.take().is_none());
+    expect(
+        rt,
+        "a new ring",
+        &(sender.accepted(), receiver.known()),
+        &(0, 0),
+    );
+    expect_none(rt, &mut receiver);
     if refused {
         return Err(AllocError);
     }

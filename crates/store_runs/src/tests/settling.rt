@@ -2,19 +2,21 @@
 ghost use Rattle.std.specs.Prelude.{◌≡◌};
 ghost use Rattle.bump_store.specs.Lanes.{worker_rings, lane_rings};
 
+use super::calls::{expect_size, get, lock, touch};
+use super::expecting::expect;
 use super::pairs::{Pair, link_cold, two_pairs};
 use super::whole::{Story, class, tell};
 use bump_heads::Name;
 use bump_rules::{Accounts, Applied, Entry, ItemId, Place, Touch};
-use bump_store::{ClassSizes, Maintainer, Settled, Store, Unseen, Worker};
+use bump_store::{ClassSizes, Maintainer, Settled, Store, Worker};
 use std::alloc::{AllocError, Global};
 use std::process::Abort;
 use std::sync::Wait;
 use std::test::Fail;
 
 // What is settled where so many bumps were attempted, and all accepted.
-fn settled(bumps: u64) -> Option<Settled> {
-    Some(Settled {
+fn settled(bumps: u64) -> Settled {
+    Settled {
         counts: Accounts {
             attempted: bumps,
             accepted: bumps,
@@ -23,16 +25,16 @@ fn settled(bumps: u64) -> Option<Settled> {
             refs: 0,
         },
         applied: bumps,
-    })
+    }
 }
 
-// What `next_of` answers of a bump that moved its item.
-fn moved(number: u64, life: ItemId) -> Result<Option<Entry>, Unseen> {
-    Ok(Some(Entry {
+// What is told of a bump that moved its item.
+fn moved(number: u64, life: ItemId) -> Option<Entry> {
+    Some(Entry {
         number,
         life,
         applied: Applied::Moved,
-    }))
+    })
 }
 
 // The worker queues a bump of each of two new items in COLD.
@@ -44,10 +46,22 @@ fn queue_two<N: Name, R: Abort + Wait>(
     let first = link_cold(rt, store, 7, 3);
     let second = link_cold(rt, store, 8, 4);
     pair.hit(rt, store, first, 5);
-    assert_eq!(rt; pair.hit(rt, store, first, 6), Touch::Queued(0));
+    pair.expect_hit(rt, store, first, 6, Touch::Queued(0));
     pair.hit(rt, store, second, 7);
-    assert_eq!(rt; pair.hit(rt, store, second, 8), Touch::Queued(1));
+    pair.expect_hit(rt, store, second, 8, Touch::Queued(1));
     [first, second]
+}
+
+// Closes the worker, and settles it: so many bumps are applied.
+fn close_and_settle<N: Name, R: Abort + Wait>(
+    rt: &R,
+    store: &Store<N>,
+    pair: Pair<N>,
+    now: u64,
+    bumps: u64,
+) {
+    let told = pair.close(rt).settle(rt, store, now);
+    expect(rt, "what is settled", &told, &settled(bumps));
 }
 
 /// All bumps of a closed ring are applied at once, and of an empty one there are none.
@@ -61,20 +75,33 @@ pub fn settle_at_once<N: Name, R: Abort + Wait>(
 {
     let (mut pair, other) = two_pairs(workers, maintainer.into_lanes()).expect(rt, "there are two");
     queue_two(rt, store, &mut pair);
-    let Pair { worker, mut lane } = pair;
-    let counts = worker.counts();
-    let closed = worker.close();
-    assert_eq!(rt; closed.counts(), counts);
-    assert_eq!(rt; lane.settle(rt, store, closed, 9).ok(), settled(2));
-    let Pair { worker, mut lane } = other;
-    assert_eq!(rt; lane.settle(rt, store, worker.close(), 10).ok(), settled(0));
-    let book = store.lock(rt, 0).expect(rt, "it is a class");
-    assert_eq!(rt; (book.size(Place::Warm), book.size(Place::Cold)), (2, 0));
+    close_and_settle(rt, store, pair, 9, 2);
+    close_and_settle(rt, store, other, 10, 0);
+    let book = lock(rt, store, 0);
+    expect_size(rt, &book, Place::Warm, 2);
+    expect_size(rt, &book, Place::Cold, 0);
 }
 
 #[test]
 fn a_closed_ring_is_settled(rt: HostRuntime) -> Result<(), Fail> {
     Ok(tell(&rt, rt.alloc(), 4, &[class(2, 0, 5)], Story::SettledAtOnce)?)
+}
+
+// Closes the worker, and applies these bumps one by one, until there is none. Then it is settled.
+fn close_and_empty<N: Name, R: Abort + Wait>(
+    rt: &R,
+    store: &Store<N>,
+    pair: Pair<N>,
+    items: &[ItemId],
+    now: u64,
+) {
+    let mut closed = pair.close(rt);
+    for (number, item) in items.iter().enumerate() {
+        closed.expect_next_of(rt, store, now, moved(number as u64, *item));
+    }
+    closed.expect_next_of(rt, store, now, None);
+    let told = closed.settle(rt, store, now);
+    expect(rt, "what is settled", &told, &settled(items.len() as u64));
 }
 
 /// They are applied one by one until there is none, and then the ring is settled.
@@ -88,18 +115,8 @@ pub fn settle_one_by_one<N: Name, R: Abort + Wait>(
 {
     let (mut pair, other) = two_pairs(workers, maintainer.into_lanes()).expect(rt, "there are two");
     let items = queue_two(rt, store, &mut pair);
-    let Pair { worker, mut lane } = pair;
-    let mut closed = worker.close();
-    let first = lane.next_of(rt, store, &mut closed, 9);
-    assert_eq!(rt; first, moved(0, items[0]));
-    let second = lane.next_of(rt, store, &mut closed, 9);
-    assert_eq!(rt; second, moved(1, items[1]));
-    assert_eq!(rt; lane.next_of(rt, store, &mut closed, 9), Ok(None));
-    assert_eq!(rt; lane.settle(rt, store, closed, 9).ok(), settled(2));
-    let Pair { worker, mut lane } = other;
-    let mut closed = worker.close();
-    assert_eq!(rt; lane.next_of(rt, store, &mut closed, 10), Ok(None));
-    assert_eq!(rt; lane.settle(rt, store, closed, 10).ok(), settled(0));
+    close_and_empty(rt, store, pair, &items, 9);
+    close_and_empty(rt, store, other, &[], 10);
 }
 
 #[test]
@@ -113,6 +130,27 @@ fn a_closed_ring_is_emptied_and_settled(rt: HostRuntime) -> Result<(), Fail> {
     )?)
 }
 
+// Two touches of a new item under one hold, of which the second queues the worker's first bump.
+fn touch_twice<N: Name, R: Abort + Wait>(rt: &R, store: &Store<N>, worker: &mut Worker<N>) {
+    let item = link_cold(rt, store, 7, 3);
+    let mut hold = get(rt, store, worker, item);
+    touch(store, worker, &mut hold, 5);
+    let told = touch(store, worker, &mut hold, 6);
+    expect(rt, "the second touch", &told, &Touch::Queued(0));
+    hold.release(store);
+}
+
+// A pass applies so many.
+fn expect_pass<N: Name, R: Abort + Wait>(
+    rt: &R,
+    store: &Store<N>,
+    maintainer: &mut Maintainer<N>,
+    now: u64,
+    wanted: u64,
+) {
+    expect(rt, "a pass", &maintainer.pass(rt, store, now), &wanted);
+}
+
 /// A pass drains both lanes, and the next one finds nothing.
 pub fn pass_twice<N: Name, R: Abort + Wait>(
     rt: &R,
@@ -122,18 +160,14 @@ pub fn pass_twice<N: Name, R: Abort + Wait>(
 ) {
     let mut maintainer = maintainer;
     for mut worker in workers {
-        let item = link_cold(rt, store, 7, 3);
-        let mut hold = worker.get(store, item).expect(rt, "it is linked");
-        worker.touch(store, &mut hold, 5);
-        assert_eq!(rt; worker.touch(store, &mut hold, 6), Touch::Queued(0));
-        hold.release(store);
+        touch_twice(rt, store, &mut worker);
     }
-    assert_eq!(rt; maintainer.pass(rt, store, 7), 2);
-    assert_eq!(rt; maintainer.pass(rt, store, 8), 0);
+    expect_pass(rt, store, &mut maintainer, 7, 2);
+    expect_pass(rt, store, &mut maintainer, 8, 0);
     let lanes = maintainer.into_lanes();
-    assert_eq!(rt; lanes.len(), 2);
+    expect(rt, "the lanes", &lanes.len(), &2);
     for lane in &lanes {
-        assert_eq!(rt; lane.applied(), 1);
+        expect(rt, "applied bumps", &lane.applied(), &1);
     }
 }
 
@@ -159,6 +193,7 @@ pub fn finish_new<N: Name, R: Abort + Wait>(
         unused,
         retired: 0,
     };
-    assert!(rt; sizes.as_slice() == [new(1), new(2)].as_slice());
+    let wanted = [new(1), new(2)];
+    expect(rt, "the sizes", &sizes.as_slice(), &wanted.as_slice());
     Ok(())
 }

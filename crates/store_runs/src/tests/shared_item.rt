@@ -1,11 +1,13 @@
 //! Two workers touch one item while a third thread applies what they queue; then both rings are settled.
 ghost use Rattle.std.specs.Prelude.{◌≡◌};
 
-use super::pairs::{Pair, link_cold, two_pairs};
+use super::calls::hit;
+use super::expecting::expect;
+use super::pairs::{ClosedPair, Pair, link_cold, two_pairs};
 use super::whole::class;
 use bump_heads::{Blank, Name};
 use bump_rules::{Applied, Config, Entry, ItemId};
-use bump_store::{ClosedWorker, Lane, Store, Worker};
+use bump_store::{Lane, Store, Worker};
 use std::alloc::{AllocError, Global};
 use std::marker::Brand;
 use std::process::Abort;
@@ -41,14 +43,18 @@ impl Tally {
     }
 }
 
-// Gets the item, as a reader who wants the label, and hits it.
-fn hit<N: Name, R: Abort>(rt: &R, store: &Store<N>, worker: &mut Worker<N>, item: ItemId, now: u64)
+// A hit of the item, whose label is 7.
+fn expect_hit<N: Name, R: Abort>(
+    rt: &R,
+    store: &Store<N>,
+    worker: &mut Worker<N>,
+    item: ItemId,
+    now: u64,
+)
     ensures ring { worker.new.sender.ring ≡ worker.old.sender.ring }
 {
-    let mut hold = worker.get(store, item).expect(rt, "it is linked");
-    assert_eq!(rt; hold.label(store), 7);
-    worker.touch(store, &mut hold, now);
-    hold.release(store);
+    let (label, _touch) = hit(rt, store, worker, item, now);
+    expect(rt, "the label", &label, &7);
 }
 
 fn hit_twice<N: Name, R: Abort>(
@@ -60,8 +66,8 @@ fn hit_twice<N: Name, R: Abort>(
     ensures ring { result.sender.ring ≡ worker.sender.ring }
 {
     let mut hitting = worker;
-    hit(rt, store, &mut hitting, item, 4);
-    hit(rt, store, &mut hitting, item, 5);
+    expect_hit(rt, store, &mut hitting, item, 4);
+    expect_hit(rt, store, &mut hitting, item, 5);
     hitting
 }
 
@@ -98,18 +104,10 @@ fn apply_both<N: Name, R: Wait>(
 fn apply_left<N: Name, R: Abort + Wait>(
     rt: &R,
     store: &Store<N>,
-    lane: &mut Lane<N>,
-    closed: &mut ClosedWorker<N>,
+    closed: &mut ClosedPair<N>,
     tally: &mut Tally,
-)
-    requires ring { closed.old.sender.ring ≡ lane.old.lane.ring }
-    ensures closed { closed.new ≡ closed.old }
-    ensures ring { lane.new.lane.ring ≡ lane.old.lane.ring }
-{
-    let told = lane
-        .next_of(rt, store, closed, 7)
-        .expect(rt, "the end is seen");
-    if let Some(entry) = told {
+) {
+    if let Some(entry) = closed.apply_left(rt, store, 7) {
         tally.add(entry);
     }
 }
@@ -121,17 +119,72 @@ fn close_pair<N: Name, R: Abort + Wait>(
     pair: Pair<N>,
     tally: &mut Tally,
 ) -> u64 {
-    let Pair { worker, mut lane } = pair;
-    let mut closed = worker.close();
-    apply_left(rt, store, &mut lane, &mut closed, tally);
-    apply_left(rt, store, &mut lane, &mut closed, tally);
-    assert_eq!(rt; lane.next_of(rt, store, &mut closed, 7), Ok(None));
-    let settled = lane
-        .settle(rt, store, closed, 7)
-        .ok()
-        .expect(rt, "the end is seen");
-    assert_eq!(rt; settled.counts.accepted, lane.applied());
-    settled.applied
+    let mut closed = pair.close(rt);
+    apply_left(rt, store, &mut closed, tally);
+    apply_left(rt, store, &mut closed, tally);
+    closed.expect_next_of(rt, store, 7, None);
+    closed.settle(rt, store, 7).applied
+}
+
+// Closes both, and counts all that was applied: the item moved once, and each accepted bump was applied.
+fn close_both<N: Name, R: Abort + Wait>(
+    rt: &R,
+    store: &Store<N>,
+    first: Pair<N>,
+    second: Pair<N>,
+    told: Tally,
+) {
+    let mut tally = told;
+    let accepted = close_pair(rt, store, first, &mut tally);
+    let accepted = accepted.saturating_add(close_pair(rt, store, second, &mut tally));
+    expect(rt, "moved and gone", &(tally.moved, tally.gone), &(1, 0));
+    assert!(rt; tally.time_only <= 1);
+    let applied = u64::from(tally.time_only).saturating_add(1);
+    expect(rt, "accepted bumps", &accepted, &applied);
+}
+
+// Both workers hit the item, each in a thread of its own.
+fn hit_both<N: Name + Send + Sync, R: Threads + Abort + Sync>(
+    rt: &R,
+    store: &Store<N>,
+    worker: Worker<N>,
+    other: Worker<N>,
+    item: ItemId,
+) -> (Worker<N>, Worker<N>)
+    ensures first { result.0.sender.ring ≡ worker.sender.ring }
+    ensures second { result.1.sender.ring ≡ other.sender.ring }
+{
+    thread::join(
+        rt,
+        move || hit_twice(rt, store, worker, item),
+        move || hit_twice(rt, store, other, item),
+    )
+}
+
+// Both workers hit the item while a third thread has both lanes. Then both are closed.
+fn share<N: Name + Send + Sync, R: Threads + Abort + Wait + Sync>(
+    rt: &R,
+    store: &Store<N>,
+    first: Pair<N>,
+    second: Pair<N>,
+) {
+    let item = link_cold(rt, store, 7, 3);
+    let Pair { worker, lane } = first;
+    let Pair {
+        worker: other,
+        lane: other_lane,
+    } = second;
+    let ((worker, other), (lane, other_lane, told)) = thread::join(
+        rt,
+        move || hit_both(rt, store, worker, other, item),
+        move || apply_both(rt, store, lane, other_lane),
+    );
+    let first = Pair { worker, lane };
+    let second = Pair {
+        worker: other,
+        lane: other_lane,
+    };
+    close_both(rt, store, first, second, told);
 }
 
 fn run_in<N: Name + Send + Sync, R: Threads + Abort + Wait + Sync>(
@@ -145,35 +198,7 @@ fn run_in<N: Name + Send + Sync, R: Threads + Abort + Wait + Sync>(
 {
     let (store, workers, maintainer) = Store::<N>::new(alloc, blank, config)?;
     let (first, second) = two_pairs(workers, maintainer.into_lanes()).expect(rt, "there are two");
-    let item = link_cold(rt, &store, 7, 3);
-    let shared: &Store<N> = &store;
-    let Pair { worker, lane } = first;
-    let Pair {
-        worker: other_worker,
-        lane: other_lane,
-    } = second;
-    let ((worker, other_worker), (lane, other_lane, told)) = thread::join(
-        rt,
-        move || {
-            thread::join(
-                rt,
-                move || hit_twice(rt, shared, worker, item),
-                move || hit_twice(rt, shared, other_worker, item),
-            )
-        },
-        move || apply_both(rt, shared, lane, other_lane),
-    );
-    let mut tally = told;
-    let first = Pair { worker, lane };
-    let second = Pair {
-        worker: other_worker,
-        lane: other_lane,
-    };
-    let accepted = close_pair(rt, shared, first, &mut tally);
-    let accepted = accepted.saturating_add(close_pair(rt, shared, second, &mut tally));
-    assert_eq!(rt; (tally.moved, tally.gone), (1, 0));
-    assert!(rt; tally.time_only <= 1);
-    assert_eq!(rt; accepted, u64::from(tally.time_only) + 1);
+    share(rt, &store, first, second);
     Ok(())
 }
 

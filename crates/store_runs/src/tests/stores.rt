@@ -3,16 +3,21 @@ ghost use Rattle.std.specs.Prelude.{◌≡◌, ◌<◌, ◌≤◌, IfOk, IfSome,
 ghost use Rattle.bump_readers.specs.Workers.{worker_seen};
 ghost use Rattle.bump_steps.specs.Rule.{worker_part};
 
+use super::calls::{
+    expect_ended, expect_pulled, expect_swept, get, hit, label, link, link_cold, refusal, touch,
+};
+use super::expecting::{expect, expect_at};
 use super::gets::{reuse, stay_unlinked, tell_refusals};
 use super::rings::{close_ring, cross, make_again, send_in_rounds, take_in_order};
 use super::touches::{
     drop_at_limit, drop_without_room, mark_in_hot, mark_in_warm, queue_in_cold, touch_unlinked,
 };
 use bump_class::Book;
-use bump_heads::{Blank, HeadParts, Heads, Name};
+use bump_heads::{Blank, HeadParts, Heads, Name, WorkerSeat};
+use bump_readers::Rider;
 use bump_ring::{Receiver, ring};
-use bump_rules::{ClassConfig, Config, Head, ItemId, Pulled, Segment, Tail, Touch};
-use bump_store::{GetRefusal, Worker};
+use bump_rules::{ClassConfig, Config, Ended, Head, ItemId, Pulled, Segment, Tail, Touch};
+use bump_store::{GetRefusal, Hold, Worker};
 use std::alloc::{AllocError, Global};
 use std::marker::Brand;
 use std::process::Abort;
@@ -74,6 +79,21 @@ fn config_of(alloc: Global, sizes: Sizes) -> Option<Config>
     Config::new(1, sizes.capacity, sizes.refs_limit, 1, classes).ok()
 }
 
+// The only worker, and the end of its ring.
+fn worker_of<N: Name>(
+    alloc: Global,
+    workers: Vec<WorkerSeat<N>>,
+    capacity: u32,
+) -> Result<(Worker<N>, Receiver<N>), AllocError>
+    requires seats { workers.items ≡ worker_seen (worker_part 0) ∷ [] }
+    requires room { 0 < capacity }
+{
+    let mut seats = workers;
+    let seat = seats.pop().ok_or(AllocError)?;
+    let (sender, receiver) = ring(alloc, capacity)?;
+    Ok((Worker::new(seat, sender), receiver))
+}
+
 fn open<N: Name>(
     alloc: Global,
     blank: Blank,
@@ -90,17 +110,16 @@ fn open<N: Name>(
     let HeadParts {
         heads,
         mut classes,
-        mut workers,
+        workers,
         lanes: _,
     } = Heads::<N>::new(alloc, blank, config)?;
     let seat = classes.pop().ok_or(AllocError)?;
     let book = Book::new(alloc, seat, 0, sizes.class)?;
-    let (sender, receiver) = ring(alloc, sizes.capacity)?;
-    let seat = workers.pop().ok_or(AllocError)?;
+    let (worker, receiver) = worker_of(alloc, workers, sizes.capacity)?;
     Ok(Small {
         heads,
         book,
-        worker: Worker::new(seat, sender),
+        worker,
         receiver,
     })
 }
@@ -122,22 +141,29 @@ fn play_in<N: Name + Send + Sync, R: Threads + Abort + Sync>(
 {
     let mut small = open::<N>(alloc, blank, config, sizes)?;
     match scene {
-        Scene::MarkedInHot => mark_in_hot(rt, &mut small),
-        Scene::MarkedInWarm => mark_in_warm(rt, &mut small),
-        Scene::QueuedInCold => queue_in_cold(rt, &mut small),
-        Scene::DroppedWithoutRoom => drop_without_room(rt, &mut small),
-        Scene::DroppedAtLimit => drop_at_limit(rt, &mut small),
-        Scene::TouchedUnlinked => touch_unlinked(rt, &mut small),
-        Scene::RefusalsTold => tell_refusals(rt, &mut small),
-        Scene::UnlinkedStays => stay_unlinked(rt, &mut small),
-        Scene::Reused => reuse(rt, &mut small),
-        Scene::TakenInOrder => take_in_order(rt, &mut small),
         Scene::SentInRounds => send_in_rounds(rt, alloc, &mut small)?,
         Scene::Crossed { bumps } => cross(rt, small, bumps),
         Scene::Closed => close_ring::<N, R>(rt, alloc)?,
         Scene::MadeAgain => make_again::<N, R>(rt, alloc)?,
+        _ => play_short(rt, &mut small, scene),
     }
     Ok(())
+}
+
+// A scene that asks for no memory, and keeps the store.
+fn play_short<N: Name, R: Abort>(rt: &R, small: &mut Small<N>, scene: Scene) {
+    match scene {
+        Scene::MarkedInHot => mark_in_hot(rt, small),
+        Scene::MarkedInWarm => mark_in_warm(rt, small),
+        Scene::QueuedInCold => queue_in_cold(rt, small),
+        Scene::DroppedWithoutRoom => drop_without_room(rt, small),
+        Scene::DroppedAtLimit => drop_at_limit(rt, small),
+        Scene::TouchedUnlinked => touch_unlinked(rt, small),
+        Scene::RefusalsTold => tell_refusals(rt, small),
+        Scene::UnlinkedStays => stay_unlinked(rt, small),
+        Scene::Reused => reuse(rt, small),
+        _ => take_in_order(rt, small),
+    }
 }
 
 /// Plays a scene in a new store of these sizes. It has room for a bump at least, and its class has 1 to 1,000,000
@@ -177,55 +203,106 @@ pub fn head(refs: u32, marks: &str, segment: Segment) -> Head {
 impl<N: Name> Small<N> {
     /// A new item with this label and time, in HOT.
     pub fn link(&mut self, rt: &impl Abort, label: u64, now: u64) -> ItemId {
-        self.book.link(label, now).expect(rt, "a chunk is free")
+        link(rt, &mut self.book, label, now)
+    }
+
+    /// No chunk is free.
+    pub fn expect_no_chunk(&mut self, rt: &impl Abort) {
+        assert!(rt; self.book.link(9, 6).is_err());
     }
 
     /// A new item, in COLD: the limit of HOT is 0.
     pub fn link_cold(&mut self, rt: &impl Abort, label: u64, now: u64) -> ItemId {
-        let item = self.link(rt, label, now);
-        assert_eq!(rt; self.book.pull(Tail::Hot), Pulled::Cold(item));
-        item
+        link_cold(rt, &mut self.book, label, now)
+    }
+
+    /// A pull does this.
+    pub fn expect_pulled(&mut self, rt: &impl Abort, tail: Tail, wanted: Pulled) {
+        expect_pulled(rt, &mut self.book, tail, wanted);
+    }
+
+    /// An unlink comes to this.
+    pub fn expect_ended(&mut self, rt: &impl Abort, item: ItemId, wanted: Ended) {
+        expect_ended(rt, &mut self.book, item, wanted);
+    }
+
+    /// A sweep frees so many.
+    pub fn expect_swept(&mut self, rt: &impl Abort, wanted: u32) {
+        expect_swept(rt, &mut self.book, wanted);
+    }
+
+    /// A hold of the item, which is linked.
+    pub fn get<R: Abort>(&mut self, rt: &R, item: ItemId) -> Hold<N> {
+        get(rt, &self.heads, &mut self.worker, item)
+    }
+
+    /// A touch of a held item does this.
+    pub fn expect_touch<R: Abort>(&mut self, rt: &R, hold: &mut Hold<N>, now: u64, wanted: Touch) {
+        let told = touch(&self.heads, &mut self.worker, hold, now);
+        expect_at(rt, "the touch at", now, &told, &wanted);
+    }
+
+    /// A held item has this label.
+    pub fn expect_label(&self, rt: &impl Abort, hold: &mut Hold<N>, wanted: u64) {
+        expect(rt, "the label", &label(&self.heads, hold), &wanted);
+    }
+
+    /// Gives a hold back.
+    pub fn release(&self, hold: Hold<N>) {
+        hold.release(&self.heads);
     }
 
     /// A hit, as a reader makes it who wants the label, and what it did.
     pub fn hit<R: Abort>(&mut self, rt: &R, item: ItemId, now: u64) -> (u64, Touch) {
-        let mut hold = self
-            .worker
-            .get(&self.heads, item)
-            .expect(rt, "it is linked");
-        assert_eq!(rt; hold.life(), item);
-        let label = hold.label(&self.heads);
-        let touch = self.worker.touch(&self.heads, &mut hold, now);
-        hold.release(&self.heads);
-        (label, touch)
+        hit(rt, &self.heads, &mut self.worker, item, now)
     }
 
-    /// Why the item isn't had, if it isn't. One that is had is given back.
-    pub fn refusal(&mut self, item: ItemId) -> Option<GetRefusal> {
-        match self.worker.get(&self.heads, item) {
-            Ok(hold) => {
-                hold.release(&self.heads);
-                None
-            }
-            Err(refusal) => Some(refusal),
-        }
+    /// A hit finds this label, and does this.
+    pub fn expect_hit<R: Abort>(&mut self, rt: &R, item: ItemId, now: u64, wanted: (u64, Touch)) {
+        let told = self.hit(rt, item, now);
+        expect_at(rt, "the hit at", now, &told, &wanted);
     }
 
-    /// The head and the time of a chunk.
-    pub fn see(&self, rt: &impl Abort, chunk: u32) -> (Head, u64) {
+    /// The item isn't had for this reason, or is had.
+    pub fn expect_refusal(&mut self, rt: &impl Abort, item: ItemId, wanted: Option<GetRefusal>) {
+        let told = refusal(&self.heads, &mut self.worker, item);
+        expect(rt, "why it isn't had", &told, &wanted);
+    }
+
+    // The head and the time of a chunk.
+    fn see(&self, rt: &impl Abort, chunk: u32) -> (Head, u64) {
         assert!(rt; chunk < self.heads.chunks());
         self.heads.see(chunk)
     }
 
-    /// The worker's counts: attempted, accepted, full, busy, refs.
-    pub fn counts(&self) -> [u64; 5] {
+    /// A chunk has this head and this time.
+    pub fn expect_seen(&self, rt: &impl Abort, chunk: u32, wanted: (Head, u64)) {
+        let told = self.see(rt, chunk);
+        expect_at(rt, "chunk", chunk.into(), &told, &wanted);
+    }
+
+    /// The worker has these counts: attempted, accepted, full, busy, refs.
+    pub fn expect_counts(&self, rt: &impl Abort, wanted: [u64; 5]) {
         let counts = self.worker.counts();
-        [
+        let told = [
             counts.attempted,
             counts.accepted,
             counts.full,
             counts.busy,
             counts.refs,
-        ]
+        ];
+        expect(rt, "the counts", &told, &wanted);
+    }
+
+    /// The next bump that comes out of the ring. There is one.
+    pub fn take(&mut self, rt: &impl Abort) -> Rider<N> {
+        self.receiver.take().expect(rt, "there is one")
+    }
+
+    /// The next bump that comes out of the ring is of this worker, with this number, and of this item.
+    pub fn expect_taken(&mut self, rt: &impl Abort, wanted: (u32, u64, ItemId)) {
+        let rider = self.take(rt);
+        let told = (rider.worker(), rider.number(), rider.life());
+        expect(rt, "the bump", &told, &wanted);
     }
 }

@@ -9,13 +9,13 @@ use std::test::Fail;
 /// The second hit in HOT marks the item, and bumps nothing.
 pub fn mark_in_hot<N: Name, R: Abort>(rt: &R, small: &mut Small<N>) {
     let item = small.link(rt, 7, 3);
-    assert_eq!(rt; small.hit(rt, item, 4), (7, Touch::First));
-    assert_eq!(rt; small.see(rt, 0), (head(1, "lf", Segment::Hot), 3));
-    assert_eq!(rt; small.hit(rt, item, 5), (7, Touch::Marked));
-    assert_eq!(rt; small.see(rt, 0), (head(1, "lfa", Segment::Hot), 5));
-    assert_eq!(rt; small.hit(rt, item, 6), (7, Touch::Already));
-    assert_eq!(rt; small.see(rt, 0), (head(1, "lfa", Segment::Hot), 5));
-    assert_eq!(rt; small.counts(), [0, 0, 0, 0, 0]);
+    small.expect_hit(rt, item, 4, (7, Touch::First));
+    small.expect_seen(rt, 0, (head(1, "lf", Segment::Hot), 3));
+    small.expect_hit(rt, item, 5, (7, Touch::Marked));
+    small.expect_seen(rt, 0, (head(1, "lfa", Segment::Hot), 5));
+    small.expect_hit(rt, item, 6, (7, Touch::Already));
+    small.expect_seen(rt, 0, (head(1, "lfa", Segment::Hot), 5));
+    small.expect_counts(rt, [0, 0, 0, 0, 0]);
 }
 
 #[test]
@@ -28,11 +28,11 @@ pub fn mark_in_warm<N: Name, R: Abort>(rt: &R, small: &mut Small<N>) {
     let item = small.link(rt, 7, 3);
     small.hit(rt, item, 4);
     small.hit(rt, item, 5);
-    assert_eq!(rt; small.book.pull(Tail::Hot), Pulled::Warm(item));
-    assert_eq!(rt; small.hit(rt, item, 7), (7, Touch::Marked));
-    assert_eq!(rt; small.see(rt, 0), (head(1, "lfa", Segment::Warm), 7));
-    assert_eq!(rt; small.book.pull(Tail::Warm), Pulled::Again(item));
-    assert_eq!(rt; small.see(rt, 0), (head(1, "lf", Segment::Warm), 7));
+    small.expect_pulled(rt, Tail::Hot, Pulled::Warm(item));
+    small.expect_hit(rt, item, 7, (7, Touch::Marked));
+    small.expect_seen(rt, 0, (head(1, "lfa", Segment::Warm), 7));
+    small.expect_pulled(rt, Tail::Warm, Pulled::Again(item));
+    small.expect_seen(rt, 0, (head(1, "lf", Segment::Warm), 7));
 }
 
 #[test]
@@ -43,11 +43,11 @@ fn a_rescued_item_is_marked_again(rt: HostRuntime) -> Result<(), Fail> {
 /// The second hit in COLD queues a bump, which has a reference, and a third one finds the item ACTIVE.
 pub fn queue_in_cold<N: Name, R: Abort>(rt: &R, small: &mut Small<N>) {
     let item = small.link_cold(rt, 7, 3);
-    assert_eq!(rt; small.hit(rt, item, 5), (7, Touch::First));
-    assert_eq!(rt; small.hit(rt, item, 6), (7, Touch::Queued(0)));
-    assert_eq!(rt; small.hit(rt, item, 7), (7, Touch::Already));
-    assert_eq!(rt; small.see(rt, 0), (head(2, "lfa", Segment::Cold), 3));
-    assert_eq!(rt; small.counts(), [1, 1, 0, 0, 0]);
+    small.expect_hit(rt, item, 5, (7, Touch::First));
+    small.expect_hit(rt, item, 6, (7, Touch::Queued(0)));
+    small.expect_hit(rt, item, 7, (7, Touch::Already));
+    small.expect_seen(rt, 0, (head(2, "lfa", Segment::Cold), 3));
+    small.expect_counts(rt, [1, 1, 0, 0, 0]);
 }
 
 #[test]
@@ -61,22 +61,15 @@ pub fn drop_without_room<N: Name, R: Abort>(rt: &R, small: &mut Small<N>) {
     let first = small.link_cold(rt, 7, 3);
     let second = small.link_cold(rt, 8, 4);
     small.hit(rt, first, 7);
-    assert_eq!(rt; small.hit(rt, first, 8), (7, Touch::Queued(0)));
-    assert_eq!(rt; small.hit(rt, second, 9), (8, Touch::First));
-    assert_eq!(rt;
-        small.hit(rt, second, 10),
-        (8, Touch::Dropped(Dropped::Full))
-    );
-    assert_eq!(rt; small.see(rt, 0), (head(2, "lfa", Segment::Cold), 3));
-    assert_eq!(rt; small.see(rt, 1), (head(1, "lf", Segment::Cold), 4));
-    assert_eq!(rt; small.counts(), [2, 1, 1, 0, 0]);
-    let rider = small.receiver.take().expect(rt, "there is one");
-    assert_eq!(rt;
-        (rider.worker(), rider.number(), rider.life()),
-        (0, 0, first)
-    );
-    assert_eq!(rt; small.hit(rt, second, 11), (8, Touch::Queued(1)));
-    assert_eq!(rt; small.counts(), [3, 2, 1, 0, 0]);
+    small.expect_hit(rt, first, 8, (7, Touch::Queued(0)));
+    small.expect_hit(rt, second, 9, (8, Touch::First));
+    small.expect_hit(rt, second, 10, (8, Touch::Dropped(Dropped::Full)));
+    small.expect_seen(rt, 0, (head(2, "lfa", Segment::Cold), 3));
+    small.expect_seen(rt, 1, (head(1, "lf", Segment::Cold), 4));
+    small.expect_counts(rt, [2, 1, 1, 0, 0]);
+    small.expect_taken(rt, (0, 0, first));
+    small.expect_hit(rt, second, 11, (8, Touch::Queued(1)));
+    small.expect_counts(rt, [3, 2, 1, 0, 0]);
 }
 
 #[test]
@@ -92,20 +85,14 @@ fn a_bump_without_room_is_dropped(rt: HostRuntime) -> Result<(), Fail> {
 /// Where the count is at its limit, neither a hold nor a bump gets a reference.
 pub fn drop_at_limit<N: Name, R: Abort>(rt: &R, small: &mut Small<N>) {
     let item = small.link(rt, 7, 3);
-    let hold = small
-        .worker
-        .get(&small.heads, item)
-        .expect(rt, "it is linked");
-    assert_eq!(rt; small.refusal(item), Some(bump_store::GetRefusal::RefsFull));
-    hold.release(&small.heads);
-    assert_eq!(rt; small.book.pull(Tail::Hot), Pulled::Cold(item));
-    assert_eq!(rt; small.hit(rt, item, 9), (7, Touch::First));
-    assert_eq!(rt;
-        small.hit(rt, item, 10),
-        (7, Touch::Dropped(Dropped::RefsFull))
-    );
-    assert_eq!(rt; small.see(rt, 0), (head(1, "lf", Segment::Cold), 3));
-    assert_eq!(rt; small.counts(), [1, 0, 0, 0, 1]);
+    let hold = small.get(rt, item);
+    small.expect_refusal(rt, item, Some(bump_store::GetRefusal::RefsFull));
+    small.release(hold);
+    small.expect_pulled(rt, Tail::Hot, Pulled::Cold(item));
+    small.expect_hit(rt, item, 9, (7, Touch::First));
+    small.expect_hit(rt, item, 10, (7, Touch::Dropped(Dropped::RefsFull)));
+    small.expect_seen(rt, 0, (head(1, "lf", Segment::Cold), 3));
+    small.expect_counts(rt, [1, 0, 0, 0, 1]);
 }
 
 #[test]
@@ -118,27 +105,17 @@ fn a_bump_at_the_limit_is_dropped(rt: HostRuntime) -> Result<(), Fail> {
 /// item gone, and gives the bump's reference back, is for the tests of lanes to show.
 pub fn touch_unlinked<N: Name, R: Abort>(rt: &R, small: &mut Small<N>) {
     let item = small.link_cold(rt, 7, 3);
-    let mut hold = small
-        .worker
-        .get(&small.heads, item)
-        .expect(rt, "it is linked");
-    let ended = small.book.unlink(item).expect(rt, "it is linked");
-    assert_eq!(rt; ended, Ended::Deferred);
-    let touch = small.worker.touch(&small.heads, &mut hold, 7);
-    assert_eq!(rt; touch, Touch::First);
-    let touch = small.worker.touch(&small.heads, &mut hold, 8);
-    assert_eq!(rt; touch, Touch::Queued(0));
-    hold.release(&small.heads);
-    assert_eq!(rt; small.see(rt, 0), (head(1, "fa", Segment::Cold), 3));
-    assert_eq!(rt; small.refusal(item), Some(bump_store::GetRefusal::Stale));
-    assert_eq!(rt; small.book.sweep(), 0);
-    let rider = small.receiver.take().expect(rt, "there is one");
-    assert_eq!(rt;
-        (rider.worker(), rider.number(), rider.life()),
-        (0, 0, item)
-    );
-    assert_eq!(rt; small.book.sweep(), 0);
-    assert_eq!(rt; small.counts(), [1, 1, 0, 0, 0]);
+    let mut hold = small.get(rt, item);
+    small.expect_ended(rt, item, Ended::Deferred);
+    small.expect_touch(rt, &mut hold, 7, Touch::First);
+    small.expect_touch(rt, &mut hold, 8, Touch::Queued(0));
+    small.release(hold);
+    small.expect_seen(rt, 0, (head(1, "fa", Segment::Cold), 3));
+    small.expect_refusal(rt, item, Some(bump_store::GetRefusal::Stale));
+    small.expect_swept(rt, 0);
+    small.expect_taken(rt, (0, 0, item));
+    small.expect_swept(rt, 0);
+    small.expect_counts(rt, [1, 1, 0, 0, 0]);
 }
 
 #[test]

@@ -1,14 +1,6 @@
 //! Tables of commands with their answers: a sweep, commands that are refused, and refused allocations.
+use super::calls::{Row, expect_rows, tell_refusal};
 use super::*;
-
-type Row = (Command, Result<Answer, Refused>);
-
-/// Makes commands in turn, each of which is answered or refused so.
-fn expect_rows(rt: &impl Abort, world: &mut World, rows: &[Row]) {
-    for (command, told) in rows.iter() {
-        assert_eq!(rt; world.command(*command), *told, "at {command:?}");
-    }
-}
 
 fn refused(command: Command) -> Row {
     (command, Err(Refused::NotEnabled))
@@ -74,11 +66,7 @@ fn closed(worker: u32) -> Row {
 }
 
 // A sweep frees front to back as the list stands, and passes by what is held.
-#[test]
-fn a_sweep_passes_by_what_is_held(rt: HostRuntime) -> Result<(), Fail> {
-    let alloc = rt.alloc();
-    let sizes = [(4, 5, 5)];
-    let mut world = store(alloc, (1, 4, 4, 1), sizes.as_slice()).ok_or("no memory")?;
+fn sweep<R: Abort + Eprint>(rt: &R, alloc: Global, world: &mut World) -> Result<(), Fail> {
     let rows = [
         linked_in(0, FIRST),
         linked_in(0, item(1, 1)),
@@ -93,21 +81,19 @@ fn a_sweep_passes_by_what_is_held(rt: HostRuntime) -> Result<(), Fail> {
         released_once(item(2, 1)),
         swept(0, 2),
     ];
-    expect_rows(&rt, &mut world, &rows);
-    if world.classes() == 1 {
-        let dying = chunks_met(alloc, &world, 0, Place::Dying)?;
-        assert_eq!(rt; dying.as_slice(), [1].as_slice());
-        let unused = chunks_met(alloc, &world, 0, Place::Unused)?;
-        assert_eq!(rt; unused.as_slice(), [0, 2, 3].as_slice());
-    }
-    Ok(())
+    expect_rows(rt, world, &rows)?;
+    expect_list(rt, alloc, world, Place::Dying, &[1])?;
+    Ok(expect_list(rt, alloc, world, Place::Unused, &[0, 2, 3])?)
+}
+
+#[test]
+fn a_sweep_passes_by_what_is_held(rt: HostRuntime) -> Result<(), Fail> {
+    let mut world = store(rt.alloc(), (1, 4, 4, 1), &[(4, 5, 5)]).ok_or("no memory")?;
+    sweep(&rt, rt.alloc(), &mut world)
 }
 
 // Each command with a number out of range, or a life that isn't held.
-#[test]
-fn commands_out_of_range_are_refused(rt: HostRuntime) -> Result<(), Fail> {
-    let sizes = [(2, 0, 1), (1, 0, 0)];
-    let mut world = store(rt.alloc(), (2, 1, 4, 1), sizes.as_slice()).ok_or("no memory")?;
+fn go_out_of_range<R: Abort + Eprint>(rt: &R, world: &mut World) -> Result<(), Fail> {
     let rows = [
         linked_in(0, FIRST),
         refused(link(2, Answer::NoFreeChunk).0),
@@ -121,17 +107,18 @@ fn commands_out_of_range_are_refused(rt: HostRuntime) -> Result<(), Fail> {
         refused(closed(2).0),
         unlinked(item(3, 1), Answer::NoSuchChunk),
     ];
-    expect_rows(&rt, &mut world, &rows);
-    Ok(())
+    expect_rows(rt, world, &rows)
 }
 
-// Where an allocation of an end, a sweep or an evict is refused, whichever it is, nothing has
-// changed, and the call is made again.
 #[test]
-fn ends_and_refusals_change_nothing(rt: HostRuntime) -> Result<(), Fail> {
-    let Some(mut world) = world(rt.alloc(), 4, 0, 5) else {
-        return tell_refusal(&rt);
-    };
+fn commands_out_of_range_are_refused(rt: HostRuntime) -> Result<(), Fail> {
+    let sizes = [(2, 0, 1), (1, 0, 0)];
+    let mut world = store(rt.alloc(), (2, 1, 4, 1), &sizes).ok_or("no memory")?;
+    go_out_of_range(&rt, &mut world)
+}
+
+// An item ends while its bump waits, and its chunk is used again.
+fn end_queued<R: Abort + Eprint>(rt: &R, world: &mut World) -> Result<(), Fail> {
     let rows = [
         linked_in(0, FIRST),
         pulled_in(0, Tail::Hot, Pulled::Cold(FIRST)),
@@ -143,6 +130,13 @@ fn ends_and_refusals_change_nothing(rt: HostRuntime) -> Result<(), Fail> {
         applied_by(0, 0, FIRST, Applied::Gone(Ended::Freed)),
         linked_in(0, item(0, 2)),
         ended(item(0, 2), Ended::Freed),
+    ];
+    expect_rows(rt, world, &rows)
+}
+
+// Then one is swept, and one is evicted.
+fn sweep_and_evict<R: Abort + Eprint>(rt: &R, world: &mut World) -> Result<(), Fail> {
+    let rows = [
         linked_in(0, item(0, 3)),
         took(0, item(0, 3), Answer::Held),
         ended(item(0, 3), Ended::Deferred),
@@ -153,15 +147,20 @@ fn ends_and_refusals_change_nothing(rt: HostRuntime) -> Result<(), Fail> {
         pulled_in(0, Tail::Evict, Pulled::Freed(item(0, 4))),
         closed(0),
     ];
-    for (command, told) in rows.iter() {
-        let before = told_by(&world);
-        let mut answer = world.command(*command);
-        if answer == Err(Refused::OutOfMemory) {
-            tell_refusal(&rt)?;
-            assert_eq!(rt; told_by(&world), before);
-            answer = world.command(*command);
-        }
-        assert_eq!(rt; answer, *told, "at {command:?}");
+    expect_rows(rt, world, &rows)
+}
+
+fn end_all<R: Abort + Eprint>(rt: &R, world: &mut World) -> Result<(), Fail> {
+    end_queued(rt, world)?;
+    sweep_and_evict(rt, world)
+}
+
+// Where an allocation of an end, a sweep or an evict is refused, whichever it is, nothing has
+// changed, and the call is made again.
+#[test]
+fn ends_and_refusals_change_nothing(rt: HostRuntime) -> Result<(), Fail> {
+    match world(rt.alloc(), 4, 0, 5) {
+        Some(mut world) => end_all(&rt, &mut world),
+        None => tell_refusal(&rt),
     }
-    Ok(())
 }

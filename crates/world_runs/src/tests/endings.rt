@@ -1,21 +1,13 @@
 //! Ends by single events: what comes between an end and the sweep of its chunk, and between a
 //! drop and the clearing of ACTIVE.
+use super::calls::{expect_made, steps_again, tell_refusal};
+use super::readers::expect_accounts;
 use super::*;
 
-/// The head of a chunk, where there is one.
-fn head_of(world: &World, chunk: u32) -> Option<Head> {
-    if chunk < world.chunks() {
-        return Some(world.head(chunk));
-    }
-    None
-}
-
-/// A worker's counts, where there is one.
-fn accounts_of(world: &World, worker: u32) -> Option<Accounts> {
-    if worker < world.workers() {
-        return Some(world.accounts(worker));
-    }
-    None
+/// The head of a chunk.
+fn head_of(rt: &impl Abort, world: &World, chunk: u32) -> Head {
+    assert!(rt; chunk < world.chunks());
+    world.head(chunk)
 }
 
 fn take(worker: u32) -> Event {
@@ -67,12 +59,8 @@ fn warm(refs: u32, active: bool) -> Head {
     }
 }
 
-// A worker in the middle of an attempt can't close its ring, nor can its hold be given back. After a drop it clears
-// ACTIVE, also where another worker has set it again.
-#[test]
-fn a_late_unmark_clears_the_mark_of_another(rt: HostRuntime) -> Result<(), Fail> {
-    let sizes = [(2, 0, 5)];
-    let mut world = store(rt.alloc(), (2, 1, 8, 1), sizes.as_slice()).ok_or("no memory")?;
+// Worker 0 is in the middle of an attempt: its ring can't be closed, nor can its hold be given back.
+fn begin_attempt(rt: &impl Abort, world: &mut World) {
     let attempt = [
         LABEL,
         TIME,
@@ -82,10 +70,14 @@ fn a_late_unmark_clears_the_mark_of_another(rt: HostRuntime) -> Result<(), Fail>
         fetch(0),
         mark(0),
     ];
-    assert_eq!(rt; world.run(&attempt), Ok(()));
-    let closed = world.step(Event::Close { worker: 0 });
-    assert_eq!(rt; closed, Err(Refused::NotEnabled));
-    assert_eq!(rt; world.step(RELEASE), Err(Refused::NotEnabled));
+    expect_run(rt, world, &attempt, Ok(()));
+    let close = Event::Close { worker: 0 };
+    expect_step(rt, world, close, Err(Refused::NotEnabled));
+    expect_step(rt, world, RELEASE, Err(Refused::NotEnabled));
+}
+
+// It drops its bump, and another worker sets ACTIVE again before it clears it.
+fn drop_late(rt: &impl Abort, world: &mut World) {
     let rescue = [
         Event::DropBusy { worker: 0 },
         Event::ClearActive { chunk: 0 },
@@ -93,25 +85,31 @@ fn a_late_unmark_clears_the_mark_of_another(rt: HostRuntime) -> Result<(), Fail>
         take(1),
         mark(1),
     ];
-    assert_eq!(rt; world.run(&rescue), Ok(()));
-    let unmarked = world.step(Event::Unmark { worker: 0 });
-    assert_eq!(rt; unmarked, Ok(Reply::Word(warm(3, true))));
-    assert_eq!(rt; head_of(&world, 0), Some(warm(3, false)));
+    expect_run(rt, world, &rescue, Ok(()));
+    let unmark = Event::Unmark { worker: 0 };
+    expect_step(rt, world, unmark, Ok(Reply::Word(warm(3, true))));
+    expect(rt, "the head", &head_of(rt, world, 0), &warm(3, false));
     let dropped = Accounts {
         attempted: 1,
         busy: 1,
         ..NO_BUMPS
     };
-    assert_eq!(rt; accounts_of(&world, 0), Some(dropped));
-    assert_eq!(rt; accounts_of(&world, 1), Some(NO_BUMPS));
+    expect_accounts(rt, world, 0, dropped);
+    expect_accounts(rt, world, 1, NO_BUMPS);
+}
+
+// A worker in the middle of an attempt can't close its ring, nor can its hold be given back. After a drop it clears
+// ACTIVE, also where another worker has set it again.
+#[test]
+fn a_late_unmark_clears_the_mark_of_another(rt: HostRuntime) -> Result<(), Fail> {
+    let mut world = store(rt.alloc(), (2, 1, 8, 1), &[(2, 0, 5)]).ok_or("no memory")?;
+    begin_attempt(&rt, &mut world);
+    drop_late(&rt, &mut world);
     Ok(())
 }
 
-// The chunk of an item that ended is not free while a lane carries a bump of it, and is when the bump is let go.
-#[test]
-fn a_bump_aboard_keeps_the_chunk_of_an_end(rt: HostRuntime) -> Result<(), Fail> {
-    let alloc = rt.alloc();
-    let mut world = world(alloc, 4, 0, 5).ok_or("no memory")?;
+// The item ends while a lane carries its bump: its chunk can't be swept.
+fn end_aboard(rt: &impl Abort, world: &mut World) {
     let events = [
         LABEL,
         TIME,
@@ -127,35 +125,42 @@ fn a_bump_aboard_keeps_the_chunk_of_an_end(rt: HostRuntime) -> Result<(), Fail> 
         Event::TakeBump { worker: 0 },
         SWEEP,
     ];
-    assert_eq!(rt; world.run(&events), Err((12, Refused::NotEnabled)));
-    let dying = chunks_met(alloc, &world, 0, Place::Dying)?;
-    assert_eq!(rt; dying.as_slice(), [0].as_slice());
-    let looked = world.step(Event::Try { worker: 0 });
-    assert!(rt; looked.is_ok());
-    let gone = world.step(Event::Alight { worker: 0 });
-    assert_eq!(rt; gone, Ok(Reply::Outcome(Outcome::Gone)));
-    assert!(rt; world.step(SWEEP).is_ok());
-    let unused = chunks_met(alloc, &world, 0, Place::Unused)?;
-    assert_eq!(rt; unused.as_slice(), [0, 1].as_slice());
-    assert_eq!(rt; world.step(SWEEP), Err(Refused::NotEnabled));
+    expect_run(rt, world, &events, Err((12, Refused::NotEnabled)));
+}
+
+// The bump is let go, and the chunk is free.
+fn let_go(rt: &impl Abort, alloc: Global, world: &mut World) -> Result<(), AllocError> {
+    expect_list(rt, alloc, world, Place::Dying, &[0])?;
+    expect_made(rt, world, Event::Try { worker: 0 });
+    let alight = Event::Alight { worker: 0 };
+    expect_step(rt, world, alight, Ok(Reply::Outcome(Outcome::Gone)));
+    expect_made(rt, world, SWEEP);
+    expect_list(rt, alloc, world, Place::Unused, &[0, 1])?;
+    expect_step(rt, world, SWEEP, Err(Refused::NotEnabled));
+    Ok(())
+}
+
+// The chunk of an item that ended is not free while a lane carries a bump of it, and is when the bump is let go.
+#[test]
+fn a_bump_aboard_keeps_the_chunk_of_an_end(rt: HostRuntime) -> Result<(), Fail> {
+    let mut world = world(rt.alloc(), 4, 0, 5).ok_or("no memory")?;
+    end_aboard(&rt, &mut world);
+    Ok(let_go(&rt, rt.alloc(), &mut world)?)
+}
+
+// An item is linked, ends and is swept, and then the ring is closed.
+fn end_and_close<R: Abort + Eprint>(rt: &R, world: &mut World) -> Result<(), Fail> {
+    let events = [LABEL, TIME, LINK, UNLINK, SWEEP, Event::Close { worker: 0 }];
+    steps_again(rt, world, &events)?;
+    assert!(rt; !head_of(rt, world, 0).linked);
     Ok(())
 }
 
 // Where an allocation of these events is refused, whichever it is, nothing has changed, and the event is made again.
 #[test]
 fn events_of_ends_and_refusals_change_nothing(rt: HostRuntime) -> Result<(), Fail> {
-    let Some(mut world) = world(rt.alloc(), 4, 0, 5) else {
-        return tell_refusal(&rt);
-    };
-    let events = [LABEL, TIME, LINK, UNLINK, SWEEP, Event::Close { worker: 0 }];
-    for event in events.iter() {
-        let before = told_by(&world);
-        if world.step(*event) == Err(Refused::OutOfMemory) {
-            tell_refusal(&rt)?;
-            assert_eq!(rt; told_by(&world), before);
-            assert!(rt; world.step(*event).is_ok());
-        }
+    match world(rt.alloc(), 4, 0, 5) {
+        Some(mut world) => end_and_close(&rt, &mut world),
+        None => tell_refusal(&rt),
     }
-    assert_eq!(rt; world.head(0).linked, false);
-    Ok(())
 }

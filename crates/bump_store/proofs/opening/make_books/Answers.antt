@@ -1,4 +1,4 @@
-use Rattle.std.proofs.Common.{rules, ◌≡◌, ◌-◌, List, map, sym, ap, ◌∙◌}
+use Rattle.std.proofs.Common.{rules, ◌-◌, List, map, sym, ap, ◌∙◌}
 use Rattle.std.proofs.lemmas.List.{drop_more}
 use Rattle.bump_heads.specs.Making.{class_seen}
 use Rattle.bump_heads.specs.Seats.{no_class}

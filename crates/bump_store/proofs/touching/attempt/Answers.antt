@@ -2,7 +2,6 @@ use Rattle.std.proofs.Common.{◌≡◌, ◌<◌, ap, sym, ◌∙◌, subst, ref
 use Rattle.bump_rules.specs.declared.commands.Dropped.{Dropped}
 use Rattle.bump_rules.specs.declared.commands.Touch.TheVariants as touch
 use Rattle.bump_steps.specs.Marks.{worker_after_unmark}
-use Rattle.bump_steps.specs.Rides.{dropped_as}
 use Rattle.bump_readers.specs.declared.views.WorkerView.{WorkerView}
 use Rattle.bump_readers.specs.Touching.{fetches_of}
 use Rattle.bump_ring.specs.Ends.{SenderView}

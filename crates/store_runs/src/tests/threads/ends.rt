@@ -1,10 +1,13 @@
 //! What holds once all threads are joined.
+use super::super::calls::{expect_size, lock};
+use super::super::expecting::expect;
 use super::CAPACITY;
 use super::keeping::Keeper;
 use super::reading::Told;
+use bump_class::Book;
 use bump_heads::Name;
 use bump_readers::ReaderHeads;
-use bump_rules::{Accounts, Place};
+use bump_rules::{Accounts, Entry, Place};
 use bump_store::{Lane, Store};
 use std::alloc::{AllocError, Global};
 use std::process::Abort;
@@ -26,7 +29,8 @@ fn expect_sums(rt: &impl Abort, counts: Accounts) {
         .full
         .saturating_add(counts.busy)
         .saturating_add(counts.refs);
-    assert_eq!(rt; counts.attempted, counts.accepted.saturating_add(dropped));
+    let sum = counts.accepted.saturating_add(dropped);
+    expect(rt, "attempted bumps", &counts.attempted, &sum);
 }
 
 // How many references each chunk has beside that of its list.
@@ -40,6 +44,18 @@ fn refs_left<N: Name>(rt: &impl Abort, heads: &ReaderHeads<N>) -> [u32; 64] {
     left
 }
 
+// What a lane applies next.
+fn next<N: Name, R: Wait>(rt: &R, store: &Store<N>, lane: &mut Lane<N>) -> Option<Entry> {
+    lane.next(rt, store, 0)
+}
+
+// Counts a chunk's bump.
+fn count(rt: &impl Abort, left: &mut [u32; 64], chunk: u32) {
+    assert!(rt; chunk < 64);
+    let at = chunk as usize;
+    left[at] = left[at].saturating_add(1);
+}
+
 // Applies the bumps that are left of a lane's ring, counts them by chunk, and tells how many there were.
 fn apply_rest<N: Name, R: Abort + Wait>(
     rt: &R,
@@ -49,34 +65,51 @@ fn apply_rest<N: Name, R: Abort + Wait>(
 ) -> u64 {
     let mut all = 0u64;
     for _ in 0..CAPACITY {
-        if let Some(entry) = lane.next(rt, store, 0) {
-            let chunk = entry.life.chunk as usize;
-            assert!(rt; chunk < 64);
-            left[chunk] = left[chunk].saturating_add(1);
+        if let Some(entry) = next(rt, store, lane) {
+            count(rt, left, entry.life.chunk);
             all = all.saturating_add(1);
         }
     }
-    assert!(rt; lane.next(rt, store, 0).is_none());
+    assert!(rt; next(rt, store, lane).is_none());
     all
+}
+
+// How many items there are in a class.
+fn items_in<N: Name>(book: &Book<N>) -> u64 {
+    let mut items = 0u64;
+    for place in [Place::Hot, Place::Warm, Place::Cold] {
+        items = items.saturating_add(book.size(place).into());
+    }
+    items
+}
+
+// How many chunks of a class are free.
+fn free_in<N: Name>(book: &Book<N>) -> u32 {
+    book.size(Place::Unused)
+        .saturating_add(book.size(Place::Retired))
+}
+
+// How many chunks a class has.
+fn chunks_in<N: Name>(book: &Book<N>) -> u32 {
+    let range = book.range();
+    range.end.saturating_sub(range.start)
+}
+
+// A sweep of a class, however many it frees.
+fn sweep<N: Name>(book: &mut Book<N>) {
+    book.sweep();
 }
 
 // Nobody holds an item any more: a sweep empties DYING, and each chunk stands in one list. Tells how many items there
 // are.
 fn expect_lists<N: Name, R: Abort + Wait>(rt: &R, store: &Store<N>, class: u32) -> u64 {
-    let mut guard = store.lock(rt, class).expect(rt, "it is a class");
+    let mut guard = lock(rt, store, class);
     let book = &mut *guard;
-    book.sweep();
-    assert_eq!(rt; book.size(Place::Dying), 0);
-    let mut items = 0u64;
-    for place in [Place::Hot, Place::Warm, Place::Cold] {
-        items = items.saturating_add(book.size(place).into());
-    }
-    let free = book
-        .size(Place::Unused)
-        .saturating_add(book.size(Place::Retired));
-    let range = book.range();
-    let chunks = range.end.saturating_sub(range.start);
-    assert_eq!(rt; items.saturating_add(free.into()), u64::from(chunks));
+    sweep(book);
+    expect_size(rt, book, Place::Dying, 0);
+    let items = items_in(book);
+    let all = items.saturating_add(free_in(book).into());
+    expect(rt, "all chunks", &all, &u64::from(chunks_in(book)));
     items
 }
 
@@ -91,37 +124,66 @@ fn expect_counts<N: Name, R: Abort + Wait>(
 ) -> u64 {
     assert!(rt; told.touches > 0, "no item was touched");
     let counts = told.worker.counts();
-    assert_eq!(rt; counts, told.answers);
+    expect(rt, "the counts", &counts, &told.answers);
     expect_sums(rt, counts);
     let before = lane.applied();
     let rest = apply_rest(rt, store, lane, left);
-    assert_eq!(rt; counts.accepted, before.saturating_add(rest));
+    let all = before.saturating_add(rest);
+    expect(rt, "accepted bumps", &counts.accepted, &all);
     before
+}
+
+// The same, with the lives that the worker hit first. They go to those of the others.
+fn expect_worker<N: Name, R: Abort + Wait>(
+    rt: &R,
+    store: &Store<N>,
+    told: &Told<N>,
+    lane: &mut Lane<N>,
+    left: &mut [u32; 64],
+    firsts: &mut Vec<u64>,
+) -> Result<u64, AllocError> {
+    for key in &told.firsts {
+        firsts.push(*key)?;
+    }
+    Ok(expect_counts(rt, store, told, lane, left))
+}
+
+// The workers, if each of them had memory.
+fn all_told<N: Name>(
+    alloc: Global,
+    told: Vec<Result<Told<N>, AllocError>>,
+) -> Result<Vec<Told<N>>, AllocError> {
+    let mut all = Vec::new(alloc);
+    for told in told {
+        all.push(told?)?;
+    }
+    Ok(all)
 }
 
 // Each worker's accounts and lane, and First came once for a life. Tells how many bumps all lanes had applied before.
 fn expect_workers<N: Name, R: Abort + Wait>(
     rt: &R,
-    alloc: Global,
     store: &Store<N>,
-    told: Vec<Result<Told<N>, AllocError>>,
-    lanes: Vec<Lane<N>>,
+    told: &[Told<N>],
+    lanes: &mut [Lane<N>],
     left: &mut [u32; 64],
+    firsts: &mut Vec<u64>,
 ) -> Result<u64, AllocError> {
+    assert!(rt; told.len() == lanes.len(), "each worker has a lane");
     let mut applied = 0u64;
-    let mut firsts = Vec::new(alloc);
-    let mut lanes = lanes.into_iter();
-    for told in told {
-        let told = told?;
-        let mut lane = lanes.next().expect(rt, "each worker has a lane");
-        let before = expect_counts(rt, store, &told, &mut lane, left);
+    for worker in 0..told.len() {
+        let before = expect_worker(rt, store, &told[worker], &mut lanes[worker], left, firsts)?;
         applied = applied.saturating_add(before);
-        for key in &told.firsts {
-            firsts.push(*key)?;
-        }
     }
-    expect_once(rt, &mut firsts)?;
+    expect_once(rt, firsts)?;
     Ok(applied)
+}
+
+// No item is lost, and no chunk has a reference that is left.
+fn expect_items<N: Name, R: Abort + Wait>(rt: &R, store: &Store<N>, linked: u64, ended: u64) {
+    let items = expect_lists(rt, store, 0).saturating_add(expect_lists(rt, store, 1));
+    expect(rt, "linked items", &linked, &ended.saturating_add(items));
+    assert!(rt; refs_left(rt, store) == [0; 64]);
 }
 
 /// The workers' accounts agree with what the lanes applied, each chunk has the references that are left, and no item is
@@ -134,18 +196,18 @@ pub fn expect_told<N: Name, R: Abort + Wait>(
     keeper: Keeper<N>,
 ) -> Result<(), AllocError> {
     let Keeper {
-        lanes,
+        mut lanes,
         linked,
         ended,
         drained,
     } = keeper;
     let refs = refs_left(rt, store);
     let mut left = [0u32; 64];
-    let applied = expect_workers(rt, alloc, store, told, lanes, &mut left)?;
-    assert_eq!(rt; applied, drained);
+    let told = all_told(alloc, told)?;
+    let mut firsts = Vec::new(alloc);
+    let applied = expect_workers(rt, store, &told, &mut lanes, &mut left, &mut firsts)?;
+    expect(rt, "applied bumps", &applied, &drained);
     assert!(rt; left == refs);
-    let items = expect_lists(rt, store, 0).saturating_add(expect_lists(rt, store, 1));
-    assert_eq!(rt; linked, ended.saturating_add(items));
-    assert!(rt; refs_left(rt, store) == [0; 64]);
+    expect_items(rt, store, linked, ended);
     Ok(())
 }

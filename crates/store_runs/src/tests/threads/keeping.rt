@@ -1,7 +1,8 @@
 //! What the fifth thread does: it stores, ages, ends and sweeps the items of both classes, and drains all lanes.
+use super::super::calls::lock;
 use bump_class::Book;
 use bump_heads::Name;
-use bump_rules::{Pulled, Tail};
+use bump_rules::{ItemId, Pulled, Tail};
 use bump_store::{Lane, Store};
 use std::process::Abort;
 use std::sync::Wait;
@@ -14,6 +15,30 @@ pub struct Keeper<N: Name> {
     pub linked: u64,
     pub ended: u64,
     pub drained: u64,
+}
+
+// A new item, if a chunk is free.
+fn link<N: Name>(book: &mut Book<N>, label: u64, now: u64) -> Option<ItemId> {
+    book.link(label, now).ok()
+}
+
+// Whether the item was linked, and ends.
+fn unlink<N: Name>(book: &mut Book<N>, item: ItemId) -> bool {
+    book.unlink(item).is_ok()
+}
+
+fn sweep<N: Name>(book: &mut Book<N>) {
+    book.sweep();
+}
+
+// What a pull did.
+fn pull<N: Name>(book: &mut Book<N>, tail: Tail) -> Pulled {
+    book.pull(tail)
+}
+
+// A pull, whatever it does.
+fn age<N: Name>(book: &mut Book<N>, tail: Tail) {
+    pull(book, tail);
 }
 
 impl<N: Name> Keeper<N> {
@@ -29,18 +54,18 @@ impl<N: Name> Keeper<N> {
     // Links an item, whose label is odd in the second class. Some are unlinked at once.
     fn link(&mut self, book: &mut Book<N>, now: u64) {
         let label = now.saturating_mul(2).saturating_add(book.class().into());
-        let Ok(item) = book.link(label, now) else {
+        let Some(item) = link(book, label, now) else {
             return;
         };
         self.linked = self.linked.saturating_add(1);
-        if now % 3 == 0 && book.unlink(item).is_ok() {
+        if now % 3 == 0 && unlink(book, item) {
             self.ended = self.ended.saturating_add(1);
         }
     }
 
     // Ends the last item of COLD.
     fn evict(&mut self, book: &mut Book<N>) {
-        match book.pull(Tail::Evict) {
+        match pull(book, Tail::Evict) {
             Pulled::Freed(_) | Pulled::Deferred(_) => {
                 self.ended = self.ended.saturating_add(1);
             }
@@ -52,32 +77,29 @@ impl<N: Name> Keeper<N> {
     fn change(&mut self, book: &mut Book<N>, now: u64) {
         match now % 8 {
             0 | 1 => self.link(book, now / 8),
-            2 | 3 => {
-                book.pull(Tail::Hot);
-            }
-            4 => {
-                book.pull(Tail::Warm);
-            }
-            5 => {
-                book.pull(Tail::Cold);
-            }
+            2 | 3 => age(book, Tail::Hot),
+            4 => age(book, Tail::Warm),
+            5 => age(book, Tail::Cold),
             6 if now % 32 < 16 => self.evict(book),
-            _ => {
-                book.sweep();
-            }
+            _ => sweep(book),
         }
+    }
+
+    // A drain of one of the lanes.
+    fn drain<R: Abort + Wait>(&mut self, rt: &R, store: &Store<N>, now: u64) {
+        let lane = self.lanes.get_mut((now % 4) as usize);
+        let drained = lane.expect(rt, "it is a lane").drain(rt, store, now);
+        self.drained = self.drained.saturating_add(drained);
     }
 
     /// One round: something in one of the two classes, and a drain of one of the four lanes.
     pub fn tend<R: Abort + Wait>(&mut self, rt: &R, store: &Store<N>, now: u64) {
         {
             let class = (now / 8 % 2) as u32;
-            let mut book = store.lock(rt, class).expect(rt, "it is a class");
+            let mut book = lock(rt, store, class);
             self.change(&mut book, now);
         }
-        let lane = self.lanes.get_mut((now % 4) as usize);
-        let drained = lane.expect(rt, "it is a lane").drain(rt, store, now);
-        self.drained = self.drained.saturating_add(drained);
+        self.drain(rt, store, now);
     }
 }
 

@@ -1,4 +1,6 @@
 //! What a reader's thread does, and what it was told.
+use super::super::calls::{label, touch, try_get};
+use super::super::expecting::expect;
 use bump_heads::Name;
 use bump_readers::ReaderHeads;
 use bump_rules::{Accounts, Dropped, ItemId, Touch};
@@ -53,6 +55,30 @@ fn counted(answers: Accounts, touch: Touch) -> Accounts {
     }
 }
 
+// The chunk's item, as its head shows it.
+fn item_in<N: Name>(rt: &impl Abort, heads: &ReaderHeads<N>, chunk: u32) -> ItemId {
+    assert!(rt; chunk < heads.chunks());
+    let generation = heads.see(chunk).0.generation;
+    ItemId { chunk, generation }
+}
+
+// Gets the item, if it is had, reads its label twice, and touches it.
+fn touch_once<N: Name, R: Abort>(
+    rt: &R,
+    heads: &ReaderHeads<N>,
+    worker: &mut Worker<N>,
+    item: ItemId,
+    now: u64,
+) -> Option<(u64, Touch)> {
+    let mut hold = try_get(heads, worker, item).ok()?;
+    let read = label(heads, &mut hold);
+    let touched = touch(heads, worker, &mut hold, now);
+    let again = label(heads, &mut hold);
+    hold.release(heads);
+    expect(rt, "the label", &read, &again);
+    Some((read, touched))
+}
+
 impl<N: Name> Told<N> {
     // Gets the chunk's item, as its head shows it, reads its label twice, and touches it. The label is odd in the
     // second class.
@@ -63,18 +89,11 @@ impl<N: Name> Told<N> {
         chunk: u32,
         now: u64,
     ) -> Result<(), AllocError> {
-        assert!(rt; chunk < heads.chunks());
-        let generation = heads.see(chunk).0.generation;
-        let item = ItemId { chunk, generation };
-        let Ok(mut hold) = self.worker.get(heads, item) else {
+        let item = item_in(rt, heads, chunk);
+        let Some((label, touch)) = touch_once(rt, heads, &mut self.worker, item, now) else {
             return Ok(());
         };
-        let label = hold.label(heads);
-        let touch = self.worker.touch(heads, &mut hold, now);
-        let again = hold.label(heads);
-        hold.release(heads);
-        assert_eq!(rt; label, again);
-        assert_eq!(rt; label % 2, u64::from(chunk >= 48));
+        expect(rt, "which class", &(label % 2), &u64::from(chunk >= 48));
         self.touches = self.touches.saturating_add(1);
         self.answers = counted(self.answers, touch);
         if matches!(touch, Touch::First) {

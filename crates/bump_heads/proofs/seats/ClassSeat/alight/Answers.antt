@@ -1,9 +1,9 @@
-use Rattle.std.proofs.Common.{sym, ◌∙◌, subst}
+use Rattle.std.proofs.Common.{subst}
 use Rattle.bump_heads.specs.declared.views.ClassView.{ClassView}
 use Rattle.bump_heads.specs.Applying.{IsJoined}
 use Rattle.bump_heads.specs.Seats.{class_in}
 use Rattle.bump_heads.proofs.Joining.{ends_told, ending_told}
-use Rattle.bump_heads.proofs.Seeing.{may_end, alighted_seen, alighted_told}
+use Rattle.bump_heads.proofs.Seeing.{may_end, alighted_seen, alighted_told, entry_told}
 use Rattle.bump_heads.proofs.seats.ClassSeat.alight.Goals as goal
 
 pub alight-word-requires-clause-may : goal.alight-word-requires-clause-may
@@ -11,11 +11,9 @@ alight-word-requires-clause-may g c =
     let r = c.requires.ends in
     let lane = subst (λ (x : ClassView). IsJoined x.part x.lane c.self.inside.joined) (cc c.self.view_is)
     c.self.invariant.5 in
-    let e = ending_told c.args.self.now r.0 r.1 r.2 r.3 r.4 c.self.inside.joined c.in-Some.joined lane
-    (cc (c.take.ensures.value, c.in-Some.is)) c.in-Some-ending.entry (sym c.ending.ensures ∙ c.in-Some-ending.is)
-    in
+    let e = ending_told c.args.self.now r.0 r.1 r.2 r.3 r.4 c.self.inside.joined lane in
     may_end c.self.inside.seat.me (class_in c.self.inside.seat.me.0) c.args.self.now c.self.invariant.0
-    (cc c.self.view_is) c.in-Some-ending.entry.life.chunk c.in-Some-ending.entry.outcome r.0 r.1 e
+    (cc c.self.view_is) c.self.inside.joined.chunk c.self.inside.joined.outcome r.0 r.1 e
 
 pub returns-clause-outcome : goal.returns-clause-outcome
 returns-clause-outcome g c =
@@ -25,8 +23,7 @@ returns-clause-outcome g c =
       r.0,
       r.1,
       r.2,
-      ends_told c.args.self.now r.0 r.1 r.2 r.3 r.4 c.self.inside.joined c.in-Some.joined lane
-          (cc (c.take.ensures.value, c.in-Some.is)) c.in-Some-ending.entry (sym c.ending.ensures ∙ c.in-Some-ending.is),
+      ends_told c.args.self.now r.0 r.1 r.2 r.3 r.4 c.self.inside.joined lane,
     )
 
 pub returns-clause-found : goal.returns-clause-found
@@ -34,11 +31,9 @@ returns-clause-found g c =
     let r = c.requires.ends in
     let lane = subst (λ (x : ClassView). IsJoined x.part x.lane c.self.inside.joined) (cc c.self.view_is)
     c.self.invariant.5 in
-    let e = ending_told c.args.self.now r.0 r.1 r.2 r.3 r.4 c.self.inside.joined c.in-Some.joined lane
-    (cc (c.take.ensures.value, c.in-Some.is)) c.in-Some-ending.entry (sym c.ending.ensures ∙ c.in-Some-ending.is)
-    in
+    let e = ending_told c.args.self.now r.0 r.1 r.2 r.3 r.4 c.self.inside.joined lane in
     alighted_seen c.self.inside.seat.me (class_in c.self.inside.seat.me.0) c.args.self.now c.self.invariant.0
-    (cc c.self.view_is) c.in-Some-ending.entry.life.chunk c.in-Some-ending.entry.outcome r.0 r.1 e
+    (cc c.self.view_is) c.self.inside.joined.chunk c.self.inside.joined.outcome r.0 r.1 e
     c.alight-word.result c.head_of.result c.head_of.ensures c.alight-word.ensures.told.1
 
 pub returns-clause-once : goal.returns-clause-once
@@ -46,11 +41,9 @@ returns-clause-once g c =
     let r = c.requires.ends in
     let lane = subst (λ (x : ClassView). IsJoined x.part x.lane c.self.inside.joined) (cc c.self.view_is)
     c.self.invariant.5 in
-    let e = ending_told c.args.self.now r.0 r.1 r.2 r.3 r.4 c.self.inside.joined c.in-Some.joined lane
-    (cc (c.take.ensures.value, c.in-Some.is)) c.in-Some-ending.entry (sym c.ending.ensures ∙ c.in-Some-ending.is)
-    in
+    let e = ending_told c.args.self.now r.0 r.1 r.2 r.3 r.4 c.self.inside.joined lane in
     (alighted_told c.self.inside.seat.me (class_in c.self.inside.seat.me.0) c.args.self.now c.self.invariant.0
-    (cc c.self.view_is) c.in-Some-ending.entry.life.chunk c.in-Some-ending.entry.outcome r.0 r.1 e
+    (cc c.self.view_is) c.self.inside.joined.chunk c.self.inside.joined.outcome r.0 r.1 e
     c.alight-word.result c.head_of.result c.head_of.ensures c.part_lanes-part.new.seat.me
     c.part_lanes-part.result.me c.alight-word.new.seat.me c.alight-word.ensures.told.0
     c.part_lanes-part.ensures.parts.0 c.part_lanes-part.ensures.parts.1 c.alight-word.ensures.told.1).0
@@ -60,11 +53,21 @@ returns-clause-moves g c =
     let r = c.requires.ends in
     let lane = subst (λ (x : ClassView). IsJoined x.part x.lane c.self.inside.joined) (cc c.self.view_is)
     c.self.invariant.5 in
-    let e = ending_told c.args.self.now r.0 r.1 r.2 r.3 r.4 c.self.inside.joined c.in-Some.joined lane
-    (cc (c.take.ensures.value, c.in-Some.is)) c.in-Some-ending.entry (sym c.ending.ensures ∙ c.in-Some-ending.is)
-    in
+    let e = ending_told c.args.self.now r.0 r.1 r.2 r.3 r.4 c.self.inside.joined lane in
     (alighted_told c.self.inside.seat.me (class_in c.self.inside.seat.me.0) c.args.self.now c.self.invariant.0
-    (cc c.self.view_is) c.in-Some-ending.entry.life.chunk c.in-Some-ending.entry.outcome r.0 r.1 e
+    (cc c.self.view_is) c.self.inside.joined.chunk c.self.inside.joined.outcome r.0 r.1 e
     c.alight-word.result c.head_of.result c.head_of.ensures c.part_lanes-part.new.seat.me
     c.part_lanes-part.result.me c.alight-word.new.seat.me c.alight-word.ensures.told.0
     c.part_lanes-part.ensures.parts.0 c.part_lanes-part.ensures.parts.1 c.alight-word.ensures.told.1).1
+
+pub returns-clause-entry : goal.returns-clause-entry
+returns-clause-entry g c =
+    let r = c.requires.ends in
+    let lane = subst (λ (x : ClassView). IsJoined x.part x.lane c.self.inside.joined) (cc c.self.view_is)
+    c.self.invariant.5 in
+    let e = ending_told c.args.self.now r.0 r.1 r.2 r.3 r.4 c.self.inside.joined lane in
+    entry_told c.self.inside.seat.me (class_in c.self.inside.seat.me.0) c.args.self.now c.self.invariant.0
+    (cc c.self.view_is) c.self.inside.joined.chunk c.self.inside.joined.outcome r.0 r.1 e
+    c.alight-word.result c.head_of.result c.head_of.ensures c.part_lanes-part.new.seat.me
+    c.part_lanes-part.result.me c.alight-word.new.seat.me c.alight-word.ensures.told.0
+    c.part_lanes-part.ensures.parts.0 c.part_lanes-part.ensures.parts.1

@@ -1,8 +1,6 @@
-use Rattle.std.proofs.Common.{Option, sym, subst}
+use Rattle.std.proofs.Common.{subst}
 use Rattle.bump_rules.specs.Lawful.{Shows}
 use Rattle.bump_heads.proofs.Seeing.{told_as, own_told, life_told, change_segment_chunk, shifted_whole}
-use Rattle.bump_heads.specs.declared.joined.Joined.{Joined}
-use Rattle.bump_heads.specs.Applying.{IsJoined}
 use Rattle.bump_heads.specs.Seats.{class_in}
 use Rattle.bump_heads.proofs.seats.ClassSeat.change_segment.Goals as goal
 
@@ -18,8 +16,7 @@ invariant_of-self g c = let t = shifted_whole g.N.Name.table c.self.inside.class
       t.1,
       t.2,
       t.3,
-      subst (λ (x : Option Joined). IsJoined (class_in c.change_segment-word.new.seat.me.0).part
-          (class_in c.change_segment-word.new.seat.me.0).lane x) (sym c.with_move-self-inside.ensures) t.4,
+      t.4,
     )
 
 pub returns-clause-shows : goal.returns-clause-shows

@@ -1,46 +1,35 @@
-use Rattle.std.proofs.Common.{Option, ◌∙◌, sym, subst}
+use Rattle.std.proofs.Common.{◌∙◌}
 use Rattle.bump_heads.proofs.Seeing.{cleared_whole, told_as, own_told, life_told, clear_active_chunk}
-use Rattle.bump_heads.specs.declared.joined.Joined.{Joined}
-use Rattle.bump_heads.specs.Applying.{IsJoined}
 use Rattle.bump_heads.specs.Seats.{class_in}
 use Rattle.bump_steps.specs.Views.{standing}
 use Rattle.bump_heads.proofs.seats.ClassSeat.clear_active.Goals as goal
 
 pub invariant_of-self : goal.invariant_of-self
 invariant_of-self g c =
-    let p = c.clear_active-word.new.seat.me in
     let t = cleared_whole g.N.Name.table c.self.inside.class c.args.chunk c.clear_active-word.result
-    c.self.inside.seat.me p (class_in c.self.inside.seat.me.0) c.args.self.now c.self.invariant.0
-    (cc c.self.view_is) c.self.invariant.2 c.self.invariant.3 c.self.invariant.4 c.self.inside.joined
-    c.self.invariant.5
-    (standing c.args.self.now.part c.args.chunk).0 c.head_of-found.result c.head_of-found.ensures c.requires.may
-    c.clear_active-word.ensures.told.1 in (
-      t.0,
-      c.clear_active-word.ensures.same.0 ∙ c.self.invariant.1,
-      t.1,
-      t.2,
-      t.3,
-      subst (λ (x : Option Joined). IsJoined (class_in p.0).part (class_in p.0).lane x)
-          (sym c.with_clearing-self-inside.ensures) t.4,
-    )
+    c.self.inside.seat.me c.clear_active-word.new.seat.me (class_in c.self.inside.seat.me.0) c.args.self.now
+    c.self.invariant.0 (cc c.self.view_is) c.self.invariant.2 c.self.invariant.3 c.self.invariant.4
+    c.self.inside.joined c.self.invariant.5 c.head_of.result c.head_of.ensures c.requires.may
+    c.clear_active-word.ensures.told.1 in
+    (t.0, c.clear_active-word.ensures.same.0 ∙ c.self.invariant.1, t.1, t.2, t.3, t.4)
 
 pub returns-clause-shows : goal.returns-clause-shows
 returns-clause-shows g c =
-    (own_told c.args.self.now c.args.chunk c.head_of-found.result c.requires.own
+    (own_told c.args.self.now c.args.chunk c.head_of.result c.requires.own
     (told_as c.self.inside.seat.me c.self.inside.seat.me (class_in c.self.inside.seat.me.0) c.args.self.now
-    c.self.invariant.0 (cc c.self.view_is) c.clear_active-word.result c.args.chunk c.head_of-found.result
-    c.head_of-found.ensures c.clear_active-word.ensures.told.2)).0
+    c.self.invariant.0 (cc c.self.view_is) c.clear_active-word.result c.args.chunk c.head_of.result
+    c.head_of.ensures c.clear_active-word.ensures.told.2)).0
 
 pub returns-clause-generation : goal.returns-clause-generation
 returns-clause-generation g c =
-    (own_told c.args.self.now c.args.chunk c.head_of-found.result c.requires.own
+    (own_told c.args.self.now c.args.chunk c.head_of.result c.requires.own
     (told_as c.self.inside.seat.me c.self.inside.seat.me (class_in c.self.inside.seat.me.0) c.args.self.now
-    c.self.invariant.0 (cc c.self.view_is) c.clear_active-word.result c.args.chunk c.head_of-found.result
-    c.head_of-found.ensures c.clear_active-word.ensures.told.2)).1
+    c.self.invariant.0 (cc c.self.view_is) c.clear_active-word.result c.args.chunk c.head_of.result
+    c.head_of.ensures c.clear_active-word.ensures.told.2)).1
 
 pub returns-clause-life : goal.returns-clause-life
-returns-clause-life g c = life_told c.args.self.now c.args.chunk c.head_of-found.result
+returns-clause-life g c = life_told c.args.self.now c.args.chunk c.head_of.result
     (clear_active_chunk c.args.chunk (standing c.args.self.now.part c.args.chunk).0 c.args.self.now.lane
     c.requires.may) (told_as c.self.inside.seat.me c.self.inside.seat.me (class_in c.self.inside.seat.me.0)
     c.args.self.now c.self.invariant.0 (cc c.self.view_is) c.clear_active-word.result c.args.chunk
-    c.head_of-found.result c.head_of-found.ensures c.clear_active-word.ensures.told.2)
+    c.head_of.result c.head_of.ensures c.clear_active-word.ensures.told.2)

@@ -1,5 +1,7 @@
 use Rattle.std.proofs.Common.{Option, sym, ◌∙◌, subst}
 use Rattle.bump_rules.specs.declared.bumps.Bump.{Bump}
+use Rattle.bump_heads.specs.declared.joined.Joined.{Joined}
+use Rattle.bump_heads.specs.Applying.{IsJoined}
 use Rattle.bump_heads.proofs.Seeing.{may_front, tried_seen, tried_told, tried_whole}
 use Rattle.bump_heads.specs.Seats.{class_in, IsInRange}
 use Rattle.bump_heads.proofs.seats.ClassSeat.try_front.Goals as goal
@@ -19,8 +21,15 @@ invariant_of-self g c =
     c.lane.invariant.0 (cc (c.take.ensures.value, c.in-Some-take.is)) (cc c.lane.view_is) c.in-Some.bump
     (sym c.lane.invariant.1 ∙ c.in-Some.is) c.try_front-word.result c.head_of-found.result c.head_of-found.ensures
     c.try_front-word.new.seat.me c.join.new.seat.me c.join.ensures.joined c.try_front-word.ensures.told.0
-    c.try_front-word.ensures.told.1) in
-    (t.0, c.try_front-word.ensures.same.0 ∙ c.join.ensures.same.0 ∙ c.self.invariant.1, t.1, t.2, t.3, t.4)
+    c.try_front-word.ensures.told.1) in (
+      t.0,
+      c.try_front-word.ensures.same.0 ∙ c.join.ensures.same.0 ∙ c.self.invariant.1,
+      t.1,
+      t.2,
+      t.3,
+      subst (λ (x : Joined). IsJoined (class_in c.try_front-word.new.seat.me.0).part
+          (class_in c.try_front-word.new.seat.me.0).lane x) (sym c.note_found.ensures) t.4,
+    )
 
 pub try_front-word-requires-clause-may : goal.try_front-word-requires-clause-may
 try_front-word-requires-clause-may g c = may_front c.self.inside.seat.me (class_in c.self.inside.seat.me.0)

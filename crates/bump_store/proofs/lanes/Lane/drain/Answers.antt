@@ -1,19 +1,43 @@
-use Rattle.std.proofs.Common.{rules, ◌≡◌, ◌+◌, [], ◌∷◌, suc, ap, length, subst, arith, length-append}
-use Rattle.bump_class.specs.Lanes.{entries}
-use Rattle.bump_store.specs.Lanes.{AppliesMany, told}
-use Rattle.bump_store.proofs.LaneLemmas.{first_ones_kept}
+use Rattle.std.proofs.Common.{rules, length, refl, sym, ap, ◌∙◌, subst, arith}
+use mathlib.Core.List.{IsPrefix}
+use Rattle.bump_class.specs.Lanes.{LaneView, carries, entries}
+use Rattle.bump_class.proofs.RunLemmas.{stands_still, grown_on}
+use Rattle.bump_store.specs.Lanes.{LaneState}
+use Rattle.bump_store.proofs.RunLemmas.{run_behind, boarded_by_fetch}
 use Rattle.bump_store.proofs.lanes.Lane.drain.Goals as goal
+
+pub loop-done-init : goal.loop-done-init
+loop-done-init g c =
+    let same = ap (λ (s : LaneState). s.lane) c.self.view_is in record {
+      most = search rules;
+      same = ap (λ (s : LaneState). s.capacity) c.self.view_is;
+      ring = ap (λ (x : LaneView). x.ring) same;
+      count = omega (arith, ap (λ (x : LaneView). length (entries x)) same);
+      grown = subst (λ (x : LaneView). IsPrefix (entries c.args.self.now.lane) (entries x)) (sym same) (search rules);
+      drained = (c.args.self.now.lane, refl, stands_still _ c.args.self.now.lane _ c.self.invariant same);
+      empty = λ _. c.self.invariant;
+    }
 
 pub loop-done-preserved : goal.loop-done-preserved
 loop-done-preserved g c =
     let i = c.loop-done.invariant in
-    let one_more : suc c.loop-done.done ≡ c.loop-done.done + 1 = omega arith in record {
-      ring = search rules;
-      count = omega (arith, i.count, ap length c.in-Some.ensures.entry, length-append (entries c.loop-done.self.lane) (told c.in-Some._entry ∷ []));
-      grown = first_ones_kept (entries c.args.self.now.lane) (entries c.loop-done.self.lane) _ _ i.grown c.in-Some.ensures.entry;
-      drained = subst (λ n. AppliesMany c.args.now c.args.self.now.lane n c.next.new.self.lane) one_more
-          (c.loop-done.self.lane, c.in-Some._entry, i.drained, c.in-Some.ensures.next);
+    let e = c.in-Some.ensures in
+    let run = c.apply_run-done in
+    let raw = c.loop-done.self-inside.raw in
+    let fetched = c.fetch.new.self in
+    let boarded = boarded_by_fetch (carries raw) i.drained.0 raw fetched c.in-Some.bump refl i.drained.2 e.kept e.next
+    e.aboard in record {
+      most = search rules;
+      same = i.same;
+      ring = run.ensures.ring ∙ e.ring ∙ i.ring;
+      count = omega (arith, run.ensures.count, ap length e.entries, i.count);
+      grown = grown_on (entries c.args.self.now.lane) (entries raw) _ i.grown
+          (subst (λ xs. IsPrefix xs (entries run.new.lane)) e.entries run.ensures.grown);
+      drained = (
+        run.ensures.applied.0,
+        run_behind c.args.now c.args.self.now.lane c.loop-done.done i.drained.0 c.deref_mut.result.now fetched
+            i.drained.1 boarded run.result run.new.self run.ensures.applied.0 run.ensures.some run.ensures.applied.1,
+        run.ensures.applied.2,
+      );
+      empty = λ full. run.ensures.empty (omega (arith, full, c.loop-done-test.true));
     }
-
-pub returns-clause-none : goal.returns-clause-none
-returns-clause-none g c = search rules

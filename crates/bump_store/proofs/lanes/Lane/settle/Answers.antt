@@ -1,5 +1,5 @@
 use mathlib.Core.List.{IsPrefix}
-use Rattle.std.proofs.Common.{rules, ◌≡◌, ◌∙◌, sym, ap, length, subst, arith}
+use Rattle.std.proofs.Common.{rules, ◌∙◌, sym, ap, subst}
 use Rattle.bump_class.specs.Lanes.{LaneView, entries}
 use Rattle.bump_store.specs.Closing.{ClosedState}
 use Rattle.bump_store.specs.Lanes.{LaneState}

@@ -1,4 +1,4 @@
-use Rattle.std.proofs.Common.{rules, ◌≡◌, ◌+◌, ◌<◌, ◌≤◌, suc, length, ap, subst, arith}
+use Rattle.std.proofs.Common.{◌≡◌, ◌+◌, ◌<◌, suc, length, ap, subst, arith}
 use Rattle.std.specs.Prelude.{slice_set}
 use Rattle.bump_rules.proofs.Updates.{total_written}
 use Rattle.bump_class.specs.Lanes.{entries}

@@ -1,6 +1,6 @@
 use Rattle.std.proofs.Common.{◌≡◌, ◌++◌}
 use Rattle.bump_core.specs.Readers.{list_of}
-use Rattle.world_runs.proofs.tests.chunks_met.Given as goal
+use Rattle.world_runs.proofs.tests.readers.chunks_met.Given as goal
 
 -- the chunks met so far, and those to come
 abbrev pub invariant-loop-chunk : goal.invariant-loop-chunk

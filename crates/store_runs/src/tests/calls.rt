@@ -1,0 +1,150 @@
+//! Calls of stores, Books and workers, whose answers are looked at as a test runs. What their contracts promise would stand
+//! in the proof of each step behind them: here it is left behind, but for what later calls ask for.
+ghost use Rattle.std.specs.Prelude.{◌≡◌};
+
+use super::expecting::expect;
+use bump_class::Book;
+use bump_heads::{Name, ReaderHeads};
+use bump_rules::{Ended, Head, ItemId, Place, Pulled, Tail, Touch};
+use bump_store::{GetRefusal, Hold, Store, Worker};
+use std::process::Abort;
+use std::sync::{MutexGuard, Wait};
+
+/// The Book of a class, under its lock.
+pub fn lock<'a, N: Name, R: Abort + Wait>(
+    rt: &R,
+    store: &'a Store<N>,
+    class: u32,
+) -> MutexGuard<'a, Book<N>> {
+    store.lock(rt, class).expect(rt, "it is a class")
+}
+
+/// A new item with this label and time, in HOT.
+pub fn link<N: Name>(rt: &impl Abort, book: &mut Book<N>, label: u64, now: u64) -> ItemId {
+    book.link(label, now).expect(rt, "a chunk is free")
+}
+
+fn pull<N: Name>(book: &mut Book<N>, tail: Tail) -> Pulled {
+    book.pull(tail)
+}
+
+/// A pull does this.
+pub fn expect_pulled<N: Name>(rt: &impl Abort, book: &mut Book<N>, tail: Tail, wanted: Pulled) {
+    expect(rt, "the pull", &pull(book, tail), &wanted);
+}
+
+/// A new item, in COLD: the limit of HOT is 0.
+pub fn link_cold<N: Name>(rt: &impl Abort, book: &mut Book<N>, label: u64, now: u64) -> ItemId {
+    let item = link(rt, book, label, now);
+    expect_pulled(rt, book, Tail::Hot, Pulled::Cold(item));
+    item
+}
+
+/// The item of WARM and COLD by turns: both pulls of it, so that its ACTIVE is clear, and it is in COLD.
+pub fn pull_round<N: Name>(rt: &impl Abort, book: &mut Book<N>, item: ItemId) {
+    expect_pulled(rt, book, Tail::Cold, Pulled::Warm(item));
+    expect_pulled(rt, book, Tail::Warm, Pulled::Cold(item));
+}
+
+fn unlink<N: Name>(rt: &impl Abort, book: &mut Book<N>, item: ItemId) -> Ended {
+    book.unlink(item).expect(rt, "it is linked")
+}
+
+/// An unlink comes to this.
+pub fn expect_ended<N: Name>(rt: &impl Abort, book: &mut Book<N>, item: ItemId, wanted: Ended) {
+    expect(rt, "the end", &unlink(rt, book, item), &wanted);
+}
+
+fn sweep<N: Name>(book: &mut Book<N>) -> u32 {
+    book.sweep()
+}
+
+/// A sweep frees so many.
+pub fn expect_swept<N: Name>(rt: &impl Abort, book: &mut Book<N>, wanted: u32) {
+    expect(rt, "swept chunks", &sweep(book), &wanted);
+}
+
+/// A list has so many chunks.
+pub fn expect_size<N: Name>(rt: &impl Abort, book: &Book<N>, place: Place, wanted: u32) {
+    expect(rt, "the size of a list", &book.size(place), &wanted);
+}
+
+/// The head and the time of a chunk of the Book's class.
+pub fn see<N: Name>(rt: &impl Abort, book: &mut Book<N>, chunk: u32) -> (Head, u64) {
+    assert!(rt; book.has_chunk(chunk));
+    book.see(chunk)
+}
+
+/// A hold of the item, if it is had. The worker keeps its ring.
+pub fn try_get<N: Name>(
+    heads: &ReaderHeads<N>,
+    worker: &mut Worker<N>,
+    item: ItemId,
+) -> Result<Hold<N>, GetRefusal>
+    ensures ring { worker.new.sender.ring ≡ worker.old.sender.ring }
+{
+    worker.get(heads, item)
+}
+
+/// A hold of the item, which is linked. The worker keeps its ring.
+pub fn get<N: Name, R: Abort>(
+    rt: &R,
+    heads: &ReaderHeads<N>,
+    worker: &mut Worker<N>,
+    item: ItemId,
+) -> Hold<N>
+    ensures ring { worker.new.sender.ring ≡ worker.old.sender.ring }
+{
+    let hold = try_get(heads, worker, item).expect(rt, "it is linked");
+    expect(rt, "the life of a hold", &hold.life(), &item);
+    hold
+}
+
+/// Why the item isn't had, if it isn't. One that is had is given back.
+pub fn refusal<N: Name>(
+    heads: &ReaderHeads<N>,
+    worker: &mut Worker<N>,
+    item: ItemId,
+) -> Option<GetRefusal> {
+    match try_get(heads, worker, item) {
+        Ok(hold) => {
+            hold.release(heads);
+            None
+        }
+        Err(refusal) => Some(refusal),
+    }
+}
+
+/// What a touch of a held item does. The worker keeps its ring.
+pub fn touch<N: Name>(
+    heads: &ReaderHeads<N>,
+    worker: &mut Worker<N>,
+    hold: &mut Hold<N>,
+    now: u64,
+) -> Touch
+    ensures ring { worker.new.sender.ring ≡ worker.old.sender.ring }
+{
+    worker.touch(heads, hold, now)
+}
+
+/// The label of a held item.
+pub fn label<N: Name>(heads: &ReaderHeads<N>, hold: &mut Hold<N>) -> u64 {
+    hold.label(heads)
+}
+
+/// A hit, as a reader makes it who wants the label, and what it did. The worker keeps its ring.
+pub fn hit<N: Name, R: Abort>(
+    rt: &R,
+    heads: &ReaderHeads<N>,
+    worker: &mut Worker<N>,
+    item: ItemId,
+    now: u64,
+) -> (u64, Touch)
+    ensures ring { worker.new.sender.ring ≡ worker.old.sender.ring }
+{
+    let mut hold = get(rt, heads, worker, item);
+    let told = label(heads, &mut hold);
+    let touched = touch(heads, worker, &mut hold, now);
+    hold.release(heads);
+    (told, touched)
+}

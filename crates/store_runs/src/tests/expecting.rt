@@ -1,0 +1,20 @@
+//! What tests compare. Each comparison is proved here, once, and not where it is made: so a failure names this file, and
+//! says what was compared.
+use std::fmt::Debug;
+use std::process::Abort;
+
+/// What was told is what was wanted.
+pub fn expect<T: PartialEq + Debug, R: Abort>(rt: &R, what: &str, told: &T, wanted: &T) {
+    assert_eq!(rt; told, wanted, "{what}");
+}
+
+/// What was told at this time, or of this chunk, is what was wanted.
+pub fn expect_at<T: PartialEq + Debug, R: Abort>(
+    rt: &R,
+    what: &str,
+    at: u64,
+    told: &T,
+    wanted: &T,
+) {
+    assert_eq!(rt; told, wanted, "{what} {at}");
+}
