@@ -21,7 +21,7 @@ GathersFault held holds old new number (errors.Fault fault) = Gathers held holds
 abbrev pub RunsInto : Option (List ℕ) → Option (List ℕ) → List ℕ → List ℕ → Bool → Type 0
 RunsInto held holds gathered input is_fault =
     (sent : List ℕ) × Appends held holds sent × (sent ++ gathered ≡ (verdict_of input).text)
-        × ((verdict_of input).is_fault ≡ is_fault)
+    × ((verdict_of input).is_fault ≡ is_fault)
 
 -- a fault while the text is made and written: a write failed, or there was no memory
 abbrev pub IsOfWriting : ℕ → SimFault → Type 0
