@@ -84,7 +84,15 @@ fn run_file<R: Print + Eprint + Files + AllocGlobal + RandomSource + Threads + W
     let ended = match chosen.mode {
         Mode::Model => run_model(rt.alloc(), keys, &mut reader, &mut writer),
         Mode::Serial => run_serial(rt, rt.alloc(), keys, &mut reader, &mut writer),
-        Mode::Par => run_par(rt, rt.alloc(), keys, &OpenGate, &mut reader, &mut writer),
+        Mode::Par => run_par(
+            rt,
+            rt.alloc(),
+            keys,
+            &OpenGate,
+            chosen.drainers,
+            &mut reader,
+            &mut writer,
+        ),
     };
     match ended {
         Ok(()) => 0,

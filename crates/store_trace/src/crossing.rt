@@ -1,24 +1,27 @@
 //! All threads of a run at once.
-ghost use Rattle.std.specs.Prelude.{◌≡◌, IfOk, IfErr};
+ghost use Rattle.std.specs.Prelude.{◌≡◌, ◌≤◌, IfOk, IfErr};
 ghost use Rattle.bump_store.specs.Lanes.{lane_rings};
 ghost use Rattle.store_trace.specs.Slots.{slot_ring, slot_rings};
-ghost use Rattle.store_trace.specs.Jobs.{job_ring, job_rings};
+ghost use Rattle.store_trace.specs.Dealing.{in_turn, group_rings};
+ghost use Rattle.store_trace.specs.Jobs.{job_ring, job_rings, drainer_rings};
 ghost use Rattle.store_trace.specs.Runs.{IsOfThreads};
 
+use crate::dealing::{deal, gather};
 use crate::gates::Gate;
-use crate::jobs::{Job, Joined, Running, SameLanes, SameWorker};
-use crate::joining::join_workers;
+use crate::jobs::{Drainer, Job, Joined, Running, SameLanes, SameWorker};
+use crate::joining::{join_drainers, join_workers};
 use crate::slots::Slot;
-use crate::tasks::{ChoreTask, GetTask, Tasks};
+use crate::tasks::{ChoreTask, GetTask, Share, Tasks};
 use crate::threads::{tend, work};
 use crate::totals::Totals;
 use bump_store::{Lane, Name, Store};
 use bump_trace::SimFault;
 use std::alloc::{AllocError, Global};
+use std::collections::VecDeque;
 use std::snapshot::Snapshot;
 use std::sync::Wait;
 use std::thread;
-use std::thread::{PromisedHandle, Scope, Threads};
+use std::thread::{Scope, Threads};
 
 /// What comes back from all threads.
 #[derive(Drop)]
@@ -92,54 +95,84 @@ fn start_workers<'s, E, G: Gate + Sync + 's, N: Name + Send + Sync + 's>(
     Ok(jobs)
 }
 
-// Starts the maintenance thread.
-fn start_maintenance<'s, E, R: Wait + Sync + 's, N: Name + Send + Sync + 's>(
+// Starts the thread of a drainer.
+fn start_drainer<'s, E, R: Wait + Sync + 's, N: Name + Send + Sync + 's>(
     scope: &Scope<'s, E>,
     rt: &'s R,
     store: &'s Store<N>,
-    lanes: Vec<Lane<N>>,
-    chores: Vec<ChoreTask>,
-) -> Result<PromisedHandle<Vec<Lane<N>>, SameLanes<N>>, SimFault>
-    ensures rings { IfOk result (λ handle. lane_rings handle.promise.0.value.items ≡ lane_rings lanes.items) }
+    lanes: VecDeque<Lane<N>>,
+    chores: &'s [ChoreTask],
+    share: Share,
+) -> Result<Drainer<N>, SimFault>
+    ensures rings { IfOk result (λ drainer. lane_rings drainer.handle.promise.0.value.items ≡ lane_rings lanes.items) }
     ensures err { IfErr result (λ e. IsOfThreads 0 e) }
 {
     let promise = SameLanes(Snapshot::of(&lanes));
-    match scope.spawn_with(promise, move || tend(rt, store, lanes, chores)) {
-        Ok(handle) => Ok(handle),
+    match scope.spawn_with(promise, move || tend(rt, store, lanes, chores, share)) {
+        Ok(handle) => Ok(Drainer { handle }),
         Err(_) => Err(SimFault::Threads),
     }
 }
 
-/// A thread for each open worker, and one for maintenance, all at once. Each worker and each lane comes back of the ring
-/// with which it went in. Threads where one can't be started: those that run are joined.
+// Starts the threads of all drainers. The first one is the maintenance thread.
+fn start_drainers<'s, E, R: Wait + Sync + 's, N: Name + Send + Sync + 's>(
+    scope: &Scope<'s, E>,
+    rt: &'s R,
+    alloc: Global,
+    store: &'s Store<N>,
+    groups: Vec<VecDeque<Lane<N>>>,
+    chores: &'s [ChoreTask],
+) -> Result<Vec<Drainer<N>>, SimFault>
+    ensures rings { IfOk result (λ drainers. drainer_rings drainers.items ≡ group_rings groups.items) }
+    ensures err { IfErr result (λ e. IsOfThreads 0 e) }
+{
+    let mut drainers = Vec::with_capacity(alloc, groups.len())?;
+    let mut share = Share::All;
+    for lanes in groups {
+        let drainer = start_drainer(scope, rt, store, lanes, chores, share)?;
+        drainers.push(drainer).map_err(AllocError::from)?;
+        share = Share::Drains;
+    }
+    Ok(drainers)
+}
+
+/// A thread for each open worker and for each of so many drainers, at least 1, all at once. Lane w goes to drainer w mod
+/// `drainers`. Each worker and each lane comes back of the ring with which it went in. Threads where one can't be started: those
+/// that run are joined.
 pub fn cross<G: Gate + Sync, R: Threads + Wait + Sync, N: Name + Send + Sync>(
     rt: &R,
     alloc: Global,
     store: &Store<N>,
     gate: &G,
+    drainers: u32,
     slots: Vec<Slot<N>>,
     lanes: Vec<Lane<N>>,
     tasks: Tasks,
 ) -> Result<Crossed<N>, SimFault>
-    requires { slot_rings slots.items ≡ lane_rings lanes.items }
+    requires drainers { 1 ≤ drainers }
+    requires rings { slot_rings slots.items ≡ lane_rings lanes.items }
     ensures rings { IfOk result (λ crossed. slot_rings crossed.slots.items ≡ lane_rings crossed.lanes.items) }
     ensures err { IfErr result (λ e. IsOfThreads 0 e) }
 {
     let Tasks { gets, chores, .. } = tasks;
+    let chores = chores.as_slice();
+    let count = lanes.len();
+    let groups = deal(alloc, drainers, lanes)?;
     thread::scope(
         thread::scope_env(),
         rt,
         move |scope| -> Result<Crossed<N>, SimFault>
-            requires { slot_rings slots.items ≡ lane_rings lanes.items }
+            requires { slot_rings slots.items ≡ in_turn count (group_rings groups.items) }
             ensures rings { IfOk result (λ crossed. slot_rings crossed.slots.items ≡ lane_rings crossed.lanes.items) }
             ensures err { IfErr result (λ e. IsOfThreads 0 e) }
         {
             let working = start_workers(scope, alloc, gate, store, slots, gets)?;
-            let tending = start_maintenance(scope, rt, store, lanes, chores)?;
+            let draining = start_drainers(scope, rt, alloc, store, groups, chores)?;
             let (slots, totals, is_stopped) = join_workers(rt, alloc, working)?;
+            let groups = join_drainers(rt, alloc, draining)?;
             Ok(Crossed {
                 slots,
-                lanes: tending.join(rt),
+                lanes: gather(alloc, count, groups)?,
                 totals,
                 is_stopped,
             })

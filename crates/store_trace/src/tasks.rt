@@ -14,7 +14,7 @@ pub struct GetTask {
     pub id: ItemId,
 }
 
-/// What a line of the maintenance thread does.
+/// What a line that is no `get` does.
 #[derive(Clone, Copy)]
 pub enum Chore {
     /// Ends an item.
@@ -30,7 +30,24 @@ pub enum Chore {
     Drain,
 }
 
-/// A line of the maintenance thread.
+/// Which of the lines that are no `get` a drainer's thread makes.
+#[derive(Clone, Copy)]
+pub enum Share {
+    /// All of them: it is the maintenance thread.
+    All,
+
+    /// Each `drain` alone.
+    Drains,
+}
+
+impl Share {
+    /// Whether it is among them.
+    pub fn has(self, chore: Chore) -> bool {
+        matches!((self, chore), (Share::All, _) | (_, Chore::Drain))
+    }
+}
+
+/// A line that is no `get`.
 #[derive(Clone, Copy)]
 pub struct ChoreTask {
     /// The number of the line, which is the time.
