@@ -25,15 +25,7 @@ fn text_by<R: Threads + Wait + Sync, G: Gate + Sync>(
 {
     let mut reader = Counted::new(trace);
     let mut writer = Counted::new(Vec::new(alloc));
-    let ended = run_par(
-        rt,
-        alloc,
-        keys,
-        gate,
-        drainers,
-        &mut reader,
-        &mut writer,
-    );
+    let ended = run_par(rt, alloc, keys, gate, drainers, &mut reader, &mut writer);
     (writer.into_inner(), ended)
 }
 
