@@ -1,6 +1,5 @@
 -- Lanes that are dealt to drainers: one to each in turn, over and over.
 use Rattle.std.specs.Prelude.{ℕ, zero, suc, List, [], ◌∷◌, ◌++◌, map}
-use Rattle.std.specs.VecDeque.{deque_items}
 use Rattle.std.specs.declared.collections.VecDeque.{VecDeque}
 use Rattle.bump_ring.specs.Ends.{Ring}
 use Rattle.bump_store.specs.Lanes.{LaneState, lane_rings}
