@@ -10,7 +10,7 @@ use Rattle.clap.specs.declared.ArgMatches.{ArgMatches}
 use Rattle.clap.proofs.OnLiterals.{clap_on_literals}
 use Rattle.clap.proofs.WalkLemmas.{first_value-rows}
 use Rattle.bumpsim.specs.Words.{app, value_in, mode_of, mode_in, drainers_in, asked, has_none, run_of, refusal_of, TakesRun}
-use Rattle.bumpsim.specs.declared.command_line.Mode.{Mode}
+use Rattle.bumpsim.specs.declared.runs.Mode.{Mode}
 use Rattle.bumpsim.specs.declared.command_line.Refusal.{Refusal}
 use Rattle.bumpsim.specs.declared.command_line.Refusal.TheVariants as refusal
 

@@ -6,9 +6,9 @@ use Rattle.clap.specs.declared.builder.ArgAction.TheVariants.{Set}
 use Rattle.clap.specs.declared.error.ErrorKind.{ErrorKind}
 use Rattle.clap.specs.declared.error.ErrorKind.TheVariants.{OutOfMemory}
 use Rattle.trace_lines.specs.Fields.{number_of}
-use Rattle.bumpsim.specs.declared.command_line.Mode.{Mode}
-use Rattle.bumpsim.specs.declared.command_line.Mode.TheVariants as mode
-use Rattle.bumpsim.specs.declared.command_line.Run.{Run}
+use Rattle.bumpsim.specs.declared.runs.Mode.{Mode}
+use Rattle.bumpsim.specs.declared.runs.Mode.TheVariants as mode
+use Rattle.bumpsim.specs.declared.runs.Run.{Run}
 use Rattle.bumpsim.specs.declared.command_line.Refusal.{Refusal}
 use Rattle.bumpsim.specs.declared.command_line.Refusal.TheVariants as refusal
 

@@ -5,37 +5,10 @@ ghost use Rattle.clap.specs.Words.{FailsBy, fault_of, kind_of, rows_of, found_of
 ghost use Rattle.trace_lines.specs.Fields.{number_of};
 ghost use Rattle.bumpsim.specs.Words.{app, mode_of, drainers_of, drainers_in, run_of, refusal_of, TakesRun};
 
+use crate::runs::{Mode, Run};
 use clap::error::ErrorKind;
 use clap::{Arg, ArgAction, ArgMatches, Command, Error};
 use std::alloc::Global;
-
-/// How a trace is run.
-#[derive(Clone, Copy, Debug, PartialEq, Eq)]
-pub enum Mode {
-    /// On a World.
-    Model,
-
-    /// On a store, by one thread.
-    Serial,
-
-    /// On a store, the lines behind `par` by a thread for each worker and for each drainer.
-    Par,
-}
-
-/// A run that the words ask for.
-#[derive(Clone, Copy)]
-pub struct Run<'a> {
-    /// How the trace is run.
-    pub mode: Mode,
-
-    /// The name of its file.
-    pub file: &'a str,
-
-    /// How many drainers there are, 1 to 64. 1 where the trace is run without threads.
-    pub drainers: u32,
-
-    ghost range: { (1 ≤ drainers) × (drainers ≤ 64) },
-}
 
 /// Why the words are not taken.
 #[derive(Clone, Copy, Debug, PartialEq, Eq)]
@@ -117,7 +90,7 @@ fn read_number(word: &str) -> Option<u32>
 
 /// The number of drainers: 1 where no word says it. Only a run by threads has a word for it.
 fn read_drainers(mode: Mode, word: Option<&str>) -> Option<u32>
-    ensures meant { result ≡ drainers_in mode (option_map (λ s. s.now) word) }
+    ensures meant { result ≡ drainers_in mode (option_map (λ s. s.now) word.entry) }
     ensures range { IfSome result (λ n. (1 ≤ n) × (n ≤ 64)) }
 {
     let Some(word) = word else {

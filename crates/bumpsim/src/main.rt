@@ -5,10 +5,12 @@ ghost use Rattle.std.specs.Prelude.{◌≡◌};
 ghost use Rattle.bumpsim.specs.Status.{status_of, IsWordOf};
 
 mod command_line;
+mod runs;
 pub mod worked_command_lines;
 
 use bump_trace::{Counted, SimFault, run_model};
-use command_line::{Mode, Refusal, Run};
+use command_line::Refusal;
+use runs::{Mode, Run};
 use std::env;
 use std::fs::File;
 use std::hash::RandomState;

@@ -4,7 +4,7 @@
 
 ghost use Rattle.std.specs.Prelude.{◌≡◌, List, [], ◌∷◌, Some, None, codes};
 ghost use Rattle.bumpsim.specs.Words.{run_of};
-ghost use Rattle.bumpsim.specs.declared.command_line.Mode.TheVariants as mode;
+ghost use Rattle.bumpsim.specs.declared.runs.Mode.TheVariants as mode;
 
 /// `model` and a file.
 pub fn model_and_file()
