@@ -17,7 +17,11 @@ loop-lane-preserved g c =
     let left = c.pop.new.self.items in
     record {
       count = c.in_ok-put_first.ensures.count ∙ c.loop-lane.invariant.count;
-      dealt = (suc n, omega (arith, sum, c.in-Some.ensures.len), dealt_more (lane_rings c.loop-lane.left.items) (lane_rings left) c.in-Some.lane.lane.ring n
-      (group_rings c.loop-lane.groups.items) (group_rings c.put_first.new.groups.items) (lane_rings c.args.lanes.items)
-      (ap lane_rings c.in-Some.ensures.items ∙ map-append (λ (l : LaneState). l.lane.ring) left (c.in-Some.lane ∷ [])) is_all c.in_ok-put_first.ensures.rings);
+      dealt = (
+        suc n,
+        omega (arith, sum, c.in-Some.ensures.len),
+        dealt_more (lane_rings c.loop-lane.left.items) (lane_rings left) c.in-Some.lane.lane.ring n
+            (group_rings c.loop-lane.groups.items) (group_rings c.put_first.new.groups.items) (lane_rings c.args.lanes.items)
+            (ap lane_rings c.in-Some.ensures.items ∙ map-append (λ (l : LaneState). l.lane.ring) left (c.in-Some.lane ∷ [])) is_all c.in_ok-put_first.ensures.rings,
+      );
     }
