@@ -11,9 +11,10 @@ mod workloads;
 
 use bump_heads::{Blank, Name};
 use bump_rules::{ClassConfig, Config, MAX_CHUNKS};
+use bump_store::Store;
 use draining::drained_in;
 use jobs::{readers_of, work_apart};
-use measuring::{Asked, Line, Spent, Store, config_of, open};
+use measuring::{Asked, Line, Spent, config_of};
 use std::alloc::{AllocError, Global};
 use std::marker::Brand;
 use std::rt::Clock;
@@ -23,30 +24,23 @@ use std::{env, io};
 use workloads::{Workload, workloads};
 
 // Opens a store under a name, and passes through it once. Answers the mean of the threads, and what all of them counted.
-fn pass_in<N: Name + Send + Sync, R: Threads + Clock + Sync>(
+fn pass_in<N: Name + Send + Sync, R: Threads + Clock + Wait + Sync>(
     rt: &R,
     alloc: Global,
     blank: Blank,
     config: &Config,
-    class: ClassConfig,
     workload: Workload,
 ) -> io::Result<Spent>
     requires name { blank.table ≡ N.table }
     requires config { blank.config ≡ config.now }
-    requires one { config.now.classes ≡ class ∷ [] }
-    requires some { 1 ≤ class.chunks }
-    requires few { class.chunks ≤ 1000000 }
-    requires room { 0 < workload.capacity }
 {
-    let Store {
-        heads,
-        mut book,
-        workers,
-    } = open::<N>(alloc, blank, config, class, workload.capacity)?;
-    workload.fill(&mut book);
-    let readers = readers_of(alloc, workers, workload)?;
+    let (store, workers, maintainer) = Store::<N>::new(alloc, blank, config)?;
+    let mut guard = store.lock(rt, 0).map_err(|_| AllocError)?;
+    workload.fill(&mut *guard);
+    drop(guard);
+    let readers = readers_of(alloc, workers, maintainer.into_lanes(), workload)?;
     let mut all = Spent::NONE;
-    for spent in work_apart(rt, alloc, &heads, readers, workload)? {
+    for spent in work_apart(rt, alloc, &store, readers, workload)? {
         all = all.with_one_of(workload.threads, spent.ok_or(AllocError)?);
     }
     Ok(all)
@@ -71,7 +65,7 @@ fn pass<R: Threads + Clock + Wait + Sync>(
     if workload.drained {
         return drained_in::<Brand, _>(rt, alloc, blank, &config, workload);
     }
-    pass_in::<Brand, _>(rt, alloc, blank, &config, class, workload)
+    pass_in::<Brand, _>(rt, alloc, blank, &config, workload)
 }
 
 // Passes so often, and once more before that, and prints what it took.
