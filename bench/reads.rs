@@ -12,6 +12,7 @@ mod measure;
 #[allow(dead_code)]
 mod places;
 mod rings;
+mod runs;
 mod words;
 mod workers;
 
@@ -263,11 +264,17 @@ fn pass(workload: Workload) -> (u64, Tally) {
 }
 
 fn main() {
-    let measured = workloads().into_iter().map(|workload| Measured {
+    let calls = workloads().into_iter().map(|workload| Measured {
         name: workload.name,
         threads: workload.threads,
         operations: workload.items as u64 * workload.rounds as u64,
         pass: Box::new(move || pass(workload)),
     });
-    measure_named(measured.collect());
+    let drains = runs::ALL.into_iter().map(|runs| Measured {
+        name: runs.name,
+        threads: runs.drainers,
+        operations: runs.operations(),
+        pass: Box::new(move || runs.pass()),
+    });
+    measure_named(calls.chain(drains).collect());
 }
