@@ -3,9 +3,9 @@ import re
 import subprocess
 
 
-def run(program, mode, trace):
+def run(program, mode, trace, *more):
     """How a run ended, what it printed, and what it said on standard error."""
-    ended = subprocess.run([program, mode, trace], capture_output=True, timeout=120)
+    ended = subprocess.run([program, mode, trace, *more], capture_output=True, timeout=120)
     return ended.returncode, ended.stdout.decode(), ended.stderr.decode()
 
 

@@ -1,35 +1,14 @@
 //! The words of the command line.
 
-ghost use Rattle.std.specs.Prelude.{◌≡◌, IfOk, map, string_bytes};
+ghost use Rattle.std.specs.Prelude.{◌≡◌, ◌≤◌, ◌^◌, IfOk, IfSome, option_map, map, string_bytes};
 ghost use Rattle.clap.specs.Words.{FailsBy, fault_of, kind_of, rows_of, found_of, matches_of};
-ghost use Rattle.bumpsim.specs.Words.{app, mode_of, run_of, refusal_of, TakesRun};
+ghost use Rattle.trace_lines.specs.Fields.{number_of};
+ghost use Rattle.bumpsim.specs.Words.{app, mode_of, drainers_of, drainers_in, run_of, refusal_of, TakesRun};
 
+use crate::runs::{Mode, Run};
 use clap::error::ErrorKind;
 use clap::{Arg, ArgAction, ArgMatches, Command, Error};
 use std::alloc::Global;
-
-/// How a trace is run.
-#[derive(Clone, Copy, Debug, PartialEq, Eq)]
-pub enum Mode {
-    /// On a World.
-    Model,
-
-    /// On a store, by one thread.
-    Serial,
-
-    /// On a store, the lines behind `par` by a thread for each worker and one for maintenance.
-    Par,
-}
-
-/// A run that the words ask for.
-#[derive(Clone, Copy)]
-pub struct Run<'a> {
-    /// How the trace is run.
-    pub mode: Mode,
-
-    /// The name of its file.
-    pub file: &'a str,
-}
 
 /// Why the words are not taken.
 #[derive(Clone, Copy, Debug, PartialEq, Eq)]
@@ -51,8 +30,10 @@ fn parsed<'a>(alloc: Global, words: &'a [String]) -> Result<ArgMatches<'a>, Erro
     let file = Arg::new(alloc, "file")
         .required(true)
         .action(ArgAction::Set);
+    let drainers = Arg::new(alloc, "drainers").action(ArgAction::Set);
     let first = Command::new(alloc, "bumpsim").arg(mode)?;
-    let command = first.arg(file)?;
+    let second = first.arg(file)?;
+    let command = second.arg(drainers)?;
     command.try_get_matches_from(words)
 }
 
@@ -81,8 +62,48 @@ fn read_mode(word: &str) -> Option<Mode>
     }
 }
 
-/// The run that `model FILE`, `serial FILE` or `par FILE` asks for, of which the program's own name is the first word. All other
-/// words are refused.
+/// The number below 2^64 that a word is, in decimal digits without leading zeros.
+fn number(word: &str) -> Option<u64>
+    ensures { result ≡ number_of (2 ^ 64) word.now }
+{
+    let digits = word.as_bytes();
+    if digits.is_empty() {
+        return None;
+    }
+    let first = digits[0];
+    if first == b'+' || (first == b'0' && digits.len() > 1) {
+        return None;
+    }
+    word.parse::<u64>().ok()
+}
+
+/// The number of drainers that a word is: 1 to 64.
+fn read_number(word: &str) -> Option<u32>
+    ensures meant { result ≡ drainers_of word.now }
+    ensures range { IfSome result (λ n. (1 ≤ n) × (n ≤ 64)) }
+{
+    match number(word) {
+        Some(n) if 1 <= n && n <= 64 => Some(n as u32),
+        _ => None,
+    }
+}
+
+/// The number of drainers: 1 where no word says it. Only a run by threads has a word for it.
+fn read_drainers(mode: Mode, word: Option<&str>) -> Option<u32>
+    ensures meant { result ≡ drainers_in mode (option_map (λ s. s.now) word.entry) }
+    ensures range { IfSome result (λ n. (1 ≤ n) × (n ≤ 64)) }
+{
+    let Some(word) = word else {
+        return Some(1);
+    };
+    match mode {
+        Mode::Par => read_number(word),
+        Mode::Model | Mode::Serial => None,
+    }
+}
+
+/// The run that `model FILE`, `serial FILE`, `par FILE` or `par FILE DRAINERS` asks for, of which the program's own name is the
+/// first word. All other words are refused.
 pub fn choose<'a>(alloc: Global, words: &'a [String]) -> Result<Run<'a>, Refusal>
     ensures { TakesRun (run_of (map string_bytes words.entry.now)) result }
 {
@@ -96,8 +117,15 @@ pub fn choose<'a>(alloc: Global, words: &'a [String]) -> Result<Run<'a>, Refusal
     let Some(mode) = read_mode(word) else {
         return Err(Refusal::Usage);
     };
-    match matches.get_str("file") {
-        Some(file) => Ok(Run { mode, file }),
+    let Some(file) = matches.get_str("file") else {
+        return Err(Refusal::Usage);
+    };
+    match read_drainers(mode, matches.get_str("drainers")) {
+        Some(drainers) => Ok(Run {
+            mode,
+            file,
+            drainers,
+        }),
         None => Err(Refusal::Usage),
     }
 }

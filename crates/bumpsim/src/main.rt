@@ -5,10 +5,12 @@ ghost use Rattle.std.specs.Prelude.{◌≡◌};
 ghost use Rattle.bumpsim.specs.Status.{status_of, IsWordOf};
 
 mod command_line;
+mod runs;
 pub mod worked_command_lines;
 
 use bump_trace::{Counted, SimFault, run_model};
-use command_line::{Mode, Refusal, Run};
+use command_line::Refusal;
+use runs::{Mode, Run};
 use std::env;
 use std::fs::File;
 use std::hash::RandomState;
@@ -84,7 +86,15 @@ fn run_file<R: Print + Eprint + Files + AllocGlobal + RandomSource + Threads + W
     let ended = match chosen.mode {
         Mode::Model => run_model(rt.alloc(), keys, &mut reader, &mut writer),
         Mode::Serial => run_serial(rt, rt.alloc(), keys, &mut reader, &mut writer),
-        Mode::Par => run_par(rt, rt.alloc(), keys, &OpenGate, &mut reader, &mut writer),
+        Mode::Par => run_par(
+            rt,
+            rt.alloc(),
+            keys,
+            &OpenGate,
+            chosen.drainers,
+            &mut reader,
+            &mut writer,
+        ),
     };
     match ended {
         Ok(()) => 0,

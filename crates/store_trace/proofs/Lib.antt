@@ -1,2 +1,3 @@
+pub mod DealtLanes
 pub mod ListedChunks
 pub mod ToldText

@@ -1,5 +1,5 @@
 -- The text of a run on a store, as it is gathered and written.
-use Rattle.std.proofs.Common.{◌≡◌, ℕ, Bool, true, List, ◌++◌, Option}
+use Rattle.std.proofs.Common.{ℕ, Bool, true, List, ◌++◌, Option}
 use Rattle.std.specs.Io.KnownBytes.{Appends}
 use Rattle.trace_lines.specs.Text.{fault_line}
 use Rattle.trace_lines.specs.declared.faults.LineError.{LineError}

@@ -1,7 +1,9 @@
--- The rings of workers while their threads run.
+-- The rings of workers and lanes while their threads run.
 use Rattle.std.specs.Prelude.{List, map}
 use Rattle.bump_ring.specs.Ends.{Ring}
+use Rattle.bump_store.specs.Lanes.{lane_rings}
 use Rattle.store_trace.specs.Slots.{slot_ring}
+use Rattle.store_trace.specs.declared.jobs.Drainer.{Drainer}
 use Rattle.store_trace.specs.declared.jobs.Job.{Job}
 use Rattle.store_trace.specs.declared.jobs.Job.TheVariants.{Runs, Done}
 
@@ -14,3 +16,7 @@ module _ {N : Type 0} where
   -- those of all, in order
   abbrev pub job_rings : List (Job N) → List Ring
   job_rings jobs = map job_ring jobs
+
+  -- the rings with which each drainer's lanes went in
+  abbrev pub drainer_rings : List (Drainer N) → List (List Ring)
+  drainer_rings drainers = map (λ drainer. lane_rings drainer.handle.promise.0.value.items) drainers

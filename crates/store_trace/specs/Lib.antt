@@ -1,5 +1,6 @@
 pub mod Runs
 pub mod Slots
+pub mod Dealing
 pub mod Jobs
 pub mod Totals
 pub mod Reports

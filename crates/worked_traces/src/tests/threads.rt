@@ -1,4 +1,6 @@
 //! Worked traces whose lines behind `par` are made by threads, and a gate that shows that they are several.
+ghost use Rattle.std.specs.Prelude.{◌≤◌};
+
 use super::expecting::Expecting;
 use bump_trace::{Counted, SimFault};
 use std::alloc::Global;
@@ -10,17 +12,20 @@ use std::test::*;
 use std::thread::Threads;
 use store_trace::{Gate, OpenGate, run_par};
 
-/// The text that a trace gives by threads, and how its run ends.
+/// The text that a trace gives by threads with so many drainers, and how its run ends.
 fn text_by<R: Threads + Wait + Sync, G: Gate + Sync>(
     rt: &R,
     alloc: Global,
     keys: RandomState,
     gate: &G,
+    drainers: u32,
     trace: &[u8],
-) -> (Vec<u8>, Result<(), SimFault>) {
+) -> (Vec<u8>, Result<(), SimFault>)
+    requires { (1 ≤ drainers) × (drainers ≤ 64) }
+{
     let mut reader = Counted::new(trace);
     let mut writer = Counted::new(Vec::new(alloc));
-    let ended = run_par(rt, alloc, keys, gate, &mut reader, &mut writer);
+    let ended = run_par(rt, alloc, keys, gate, drainers, &mut reader, &mut writer);
     (writer.into_inner(), ended)
 }
 
@@ -79,17 +84,20 @@ const FAULTS_BEHIND_PAR: [(&str, &str); 6] = [
     ),
 ];
 
-/// Each trace gives its text by threads, and its run ends so.
+/// Each trace gives its text by threads with so many drainers, and its run ends so.
 fn all_give<R: Threads + Wait + Abort + Sync>(
     rt: &R,
     alloc: Global,
     keys: RandomState,
+    drainers: u32,
     rows: &[(&str, &str)],
     end: Result<(), SimFault>,
-) {
+)
+    requires { (1 ≤ drainers) × (drainers ≤ 64) }
+{
     for row in rows {
         let (trace, text) = *row;
-        let (written, ended) = text_by(rt, alloc, keys, &OpenGate, trace.as_bytes());
+        let (written, ended) = text_by(rt, alloc, keys, &OpenGate, drainers, trace.as_bytes());
         assert!(rt; ended == end, "{trace}");
         assert!(rt; written.as_slice() == text.as_bytes(), "{trace}");
     }
@@ -98,7 +106,8 @@ fn all_give<R: Threads + Wait + Abort + Sync>(
 #[test]
 fn reports(rt: HostRuntime) -> Result<(), Fail> {
     let keys = RandomState::new(&rt)?;
-    all_give(&rt, rt.alloc(), keys, &REPORTED, Ok(()));
+    all_give(&rt, rt.alloc(), keys, 1, &REPORTED, Ok(()));
+    all_give(&rt, rt.alloc(), keys, 2, &REPORTED, Ok(()));
     Ok(())
 }
 
@@ -109,9 +118,24 @@ fn faults_behind_par(rt: HostRuntime) -> Result<(), Fail> {
         &rt,
         rt.alloc(),
         keys,
+        1,
         &FAULTS_BEHIND_PAR,
         Err(SimFault::Trace),
     );
+    Ok(())
+}
+
+/// Two workers with an item each, and two `drain` lines behind: however many drainers make them, and whichever bumps these find,
+/// the text is the same.
+#[test]
+fn drains_by_several(rt: HostRuntime) -> Result<(), Fail> {
+    let keys = RandomState::new(&rt)?;
+    let (trace, text) = OWN_ITEMS;
+    let drained = format!(in rt.alloc(); "{trace}drain\ndrain\n")?;
+    let rows = [(drained.as_str(), text)];
+    all_give(&rt, rt.alloc(), keys, 1, &rows, Ok(()));
+    all_give(&rt, rt.alloc(), keys, 2, &rows, Ok(()));
+    all_give(&rt, rt.alloc(), keys, 64, &rows, Ok(()));
     Ok(())
 }
 
@@ -120,7 +144,7 @@ fn faults_behind_par(rt: HostRuntime) -> Result<(), Fail> {
 fn two_workers_hit_one_item(rt: HostRuntime) -> Result<(), Fail> {
     let keys = RandomState::new(&rt)?;
     let (trace, text) = ONE_ITEM;
-    let (written, ended) = text_by(&rt, rt.alloc(), keys, &OpenGate, trace.as_bytes());
+    let (written, ended) = text_by(&rt, rt.alloc(), keys, &OpenGate, 1, trace.as_bytes());
     assert!(rt; ended == Ok(()));
     assert!(rt; written.ends_with(text.as_bytes()));
     Ok(())
@@ -156,7 +180,7 @@ fn two_workers_are_in_their_lines_at_once(rt: HostRuntime) -> Result<(), Fail> {
         came: AtomicU64::new(0),
     };
     let (trace, text) = OWN_ITEMS;
-    let (written, ended) = text_by(&rt, rt.alloc(), keys, &gate, trace.as_bytes());
+    let (written, ended) = text_by(&rt, rt.alloc(), keys, &gate, 1, trace.as_bytes());
     assert!(rt; ended == Ok(()));
     assert!(rt; written.as_slice() == text.as_bytes());
     Ok(())
@@ -179,7 +203,7 @@ impl Gate for Shut {
 fn a_gate_that_does_not_open(rt: HostRuntime) -> Result<(), Fail> {
     let keys = RandomState::new(&rt)?;
     let (trace, _) = OWN_ITEMS;
-    let (written, ended) = text_by(&rt, rt.alloc(), keys, &Shut, trace.as_bytes());
+    let (written, ended) = text_by(&rt, rt.alloc(), keys, &Shut, 1, trace.as_bytes());
     assert!(rt; ended == Err(SimFault::Gate));
     assert!(rt;
         written.as_slice()
@@ -197,7 +221,7 @@ fn run_expecting<'a, R: Threads + Wait + Sync>(
     let (trace, text) = OWN_ITEMS;
     let mut reader = Counted::new(trace.as_bytes());
     let mut writer = Counted::new(Expecting::new(text.as_bytes()));
-    let ended = run_par(rt, alloc, keys, &OpenGate, &mut reader, &mut writer);
+    let ended = run_par(rt, alloc, keys, &OpenGate, 2, &mut reader, &mut writer);
     (ended, writer.into_inner())
 }
 

@@ -1,4 +1,3 @@
-use Rattle.std.proofs.Common.{◌≡◌}
 use Rattle.trace_lines.specs.Counted.{inner_of}
 use Rattle.store_trace.proofs.ToldText.{wrote_more}
 use Rattle.store_trace.proofs.parallel.run_named.Goals as goal

@@ -1,4 +1,4 @@
-use Rattle.std.proofs.Common.{◌≡◌, IfOk, subst}
+use Rattle.std.proofs.Common.{IfOk, subst}
 use Rattle.trace_lines.specs.Counted.{inner_of}
 use Rattle.store_trace.specs.Runs.{TellsInto}
 use Rattle.store_trace.proofs.parallel.run_on.Goals as goal
