@@ -1,2 +1,3 @@
 pub mod ListedChunks
 pub mod ToldText
+pub mod WholeRuns
