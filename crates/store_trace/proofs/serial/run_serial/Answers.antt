@@ -16,7 +16,7 @@ returns-in_err-input-clause-text g c =
     let p = err_from_is_err_and c.from_residual.result c.from_residual.ensures.1 in
     rw (p.1, p.2)
     (unread_stopped (g.S.Source.remaining (inner_of c.args.reader.now)) (g.S.Source.remaining (inner_of c.read_all.new.reader)) (g.W.Sink.contents (inner_of c.args.writer.now)) (calls_of c.read_all.new.reader) (failed_of c.read_all.new.reader) c.in_err-input.field-0.0
-      c.in_err-input.ensures.err c.in_err-input.ensures.long)
+    c.in_err-input.ensures.err c.in_err-input.ensures.long)
 
 pub returns-then-branch-clause-text : goal.returns-then-branch-clause-text
 returns-then-branch-clause-text g c =
