@@ -151,6 +151,10 @@ impl Book {
         freed
     }
 
+    pub fn has(&self, chunk: u32) -> bool {
+        chunk.checked_sub(self.first).is_some_and(|node| node < self.count)
+    }
+
     pub fn size(&self, place: Place) -> u32 {
         self.lists.len(place)
     }

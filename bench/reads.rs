@@ -12,6 +12,7 @@ mod measure;
 #[allow(dead_code)]
 mod places;
 mod rings;
+mod runs;
 mod words;
 mod workers;
 
@@ -150,6 +151,8 @@ struct Workload {
     cold: bool,
     capacity: u32,
     touches: u32,
+    /// Whether each ring is filled with the bumps of the items and drained before the pass.
+    warm: bool,
     wanted: Option<Answer>,
     rounds: u32,
     /// Whether the bumps that wait in the ring are applied, in place of hits.
@@ -163,6 +166,7 @@ const GET: Workload = Workload {
     cold: false,
     capacity: 1,
     touches: 0,
+    warm: false,
     wanted: None,
     rounds: 64,
     drained: false,
@@ -178,15 +182,16 @@ const QUEUED: Workload = Workload {
     name: "store_queued",
     cold: true,
     capacity: 8_192,
-    touches: 1,
+    warm: true,
     wanted: Some(Answer::Queued),
     ..FIRST
 };
 
-const FULL: Workload = Workload { name: "store_full", capacity: 1, wanted: Some(Answer::Full), ..QUEUED };
+const FULL: Workload =
+    Workload { name: "store_full", capacity: 1, touches: 1, warm: false, wanted: Some(Answer::Full), ..QUEUED };
 
 /// The second hit of each item has queued its bump.
-const DRAINED: Workload = Workload { name: "store_drained", touches: 2, drained: true, ..QUEUED };
+const DRAINED: Workload = Workload { name: "store_drained", touches: 2, warm: false, drained: true, ..QUEUED };
 
 /// Each on 1, 2 and 4 threads, bumps that are applied, and hits in stores of two sizes.
 fn workloads() -> Vec<Workload> {
@@ -202,19 +207,32 @@ fn workloads() -> Vec<Workload> {
     all
 }
 
+/// Fills the ring and drains it, so that its memory was in use before. Answers how many bumps that took.
+fn warm_ring(store: &Store, worker: &mut Worker, receiver: &mut Receiver, items: &[ItemId]) -> u64 {
+    hits::<First>(store, worker, items, 2);
+    let mut bumps = 0;
+    while let Some((number, life)) = receiver.take() {
+        assert_eq!(number, bumps);
+        bumps += 1;
+        store.apply_and_pull(life);
+    }
+    gets(store, worker, items, 1);
+    bumps
+}
+
 /// What one worker's thread does. It ends with the worker's ring.
 fn work(store: &Store, mut worker: Worker, mut receiver: Receiver, first: u32, workload: Workload, start: &Start) -> (u64, Tally) {
     let items = lives(first, workload.items);
     if workload.touches > 0 {
         hits::<First>(store, &mut worker, &items, workload.touches);
     }
+    let mut bumps = if workload.warm { warm_ring(store, &mut worker, &mut receiver, &items) } else { 0 };
     start.meet();
     let start = Instant::now();
     let mut tally = timed_pass(store, &mut worker, &items, workload.rounds, workload.wanted);
     let nanos = start.elapsed().as_nanos() as u64;
     let counts = worker.counts();
     assert_eq!(counts.attempted, counts.accepted + counts.full + counts.busy + counts.refs);
-    let mut bumps = 0;
     while let Some((number, _)) = receiver.take() {
         assert_eq!(number, bumps);
         bumps += 1;
@@ -246,11 +264,17 @@ fn pass(workload: Workload) -> (u64, Tally) {
 }
 
 fn main() {
-    let measured = workloads().into_iter().map(|workload| Measured {
+    let calls = workloads().into_iter().map(|workload| Measured {
         name: workload.name,
         threads: workload.threads,
         operations: workload.items as u64 * workload.rounds as u64,
         pass: Box::new(move || pass(workload)),
     });
-    measure_named(measured.collect());
+    let drains = runs::ALL.into_iter().map(|runs| Measured {
+        name: runs.name,
+        threads: runs.drainers,
+        operations: runs.operations(),
+        pass: Box::new(move || runs.pass()),
+    });
+    measure_named(calls.chain(drains).collect());
 }

@@ -3,7 +3,11 @@
 use crate::words::ItemId;
 use std::sync::Arc;
 use std::sync::atomic::AtomicU64;
-use std::sync::atomic::Ordering::{Acquire, Relaxed, Release};
+use std::sync::atomic::Ordering;
+use std::sync::atomic::Ordering::{Acquire, Relaxed, Release, SeqCst};
+
+/// The order in which an end tells the other how far it is. With the cfg `one_order` it is that of each of Rattle's atomic steps.
+const TOLD: Ordering = if cfg!(one_order) { SeqCst } else { Release };
 
 /// On cache lines of its own.
 #[repr(align(128))]
@@ -58,7 +62,7 @@ impl Sender {
         self.next = after(self.next, places);
         let number = self.sent;
         self.sent += 1;
-        self.ring.sent.0.store(self.sent, Release);
+        self.ring.sent.0.store(self.sent, TOLD);
         Some(number)
     }
 }
@@ -76,7 +80,7 @@ impl Receiver {
         self.next = after(self.next, self.ring.bumps.len());
         let number = self.received;
         self.received += 1;
-        self.ring.received.0.store(self.received, Release);
+        self.ring.received.0.store(self.received, TOLD);
         Some((number, ItemId { chunk: bump as u32, generation: (bump >> 32) as u32 }))
     }
 }

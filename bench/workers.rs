@@ -84,6 +84,13 @@ impl Store {
         &self.chunks[life.chunk as usize]
     }
 
+    /// What is left of an item's head after its bump was applied and it was pulled back to COLD.
+    pub fn apply_and_pull(&self, life: ItemId) {
+        let head = &self.chunk(life).head;
+        head.fetch_and(!ACTIVE, SeqCst);
+        head.fetch_sub(1, SeqCst);
+    }
+
     /// The bump's reference, which someone takes who holds the item.
     fn ride(&self, life: ItemId) -> Result<(), Dropped> {
         let head = &self.chunk(life).head;

@@ -124,6 +124,11 @@ pub fn touch_all<N: Name>(
     hits::<First, N>(heads, worker, items, times);
 }
 
+/// Gets and releases each item once.
+pub fn get_all<N: Name>(heads: &ReaderHeads<N>, worker: &mut Worker<N>, items: &[ItemId]) {
+    gets(heads, worker, items, 1);
+}
+
 /// The pass that is timed: hits where an answer is wanted, else gets. Its name is what callgrind is told to count.
 #[inline(never)]
 pub fn timed_pass<N: Name>(

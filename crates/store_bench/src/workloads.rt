@@ -25,6 +25,9 @@ pub struct Workload {
     /// How often each item is hit before the pass.
     pub touches: u32,
 
+    /// Whether each ring is filled with the bumps of the items and drained before the pass. The limit of WARM is 0.
+    pub warm: bool,
+
     /// What each hit of the pass comes to. Without one the items are got and released alone.
     pub wanted: Option<Answer>,
 
@@ -44,6 +47,7 @@ const GET: Workload = Workload {
     cold: false,
     capacity: 1,
     touches: 0,
+    warm: false,
     wanted: None,
     rounds: 64,
     drained: false,
@@ -76,7 +80,7 @@ const QUEUED: Workload = Workload {
     name: "store_queued",
     cold: true,
     capacity: 8_192,
-    touches: 1,
+    warm: true,
     wanted: Some(Answer::Queued),
     ..FIRST
 };
@@ -85,6 +89,8 @@ const QUEUED: Workload = Workload {
 const FULL: Workload = Workload {
     name: "store_full",
     capacity: 1,
+    touches: 1,
+    warm: false,
     wanted: Some(Answer::Full),
     ..QUEUED
 };
@@ -93,6 +99,7 @@ const FULL: Workload = Workload {
 const DRAINED: Workload = Workload {
     name: "store_drained",
     touches: 2,
+    warm: false,
     drained: true,
     ..QUEUED
 };

@@ -1,3 +1,4 @@
 pub mod DealtLanes
 pub mod ListedChunks
 pub mod ToldText
+pub mod WholeRuns
