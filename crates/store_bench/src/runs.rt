@@ -7,16 +7,16 @@ use bump_rules::{ClassConfig, Config, ItemId, Tail};
 use bump_store::{Lane, Store, Worker};
 use measuring::{Spent, Subject, Tally, link_all, meet};
 use std::alloc::{AllocError, Global};
-use std::io;
 use std::rt::Clock;
 use std::sync::Wait;
 use std::sync::atomic::AtomicU64;
-use std::thread;
 use std::thread::Threads;
 use std::time::Instant;
+use std::{io, thread};
 
 // How many bumps of one class follow each other, and how many wait in each ring.
 const RUN: u32 = 64;
+
 const BUMPS: u32 = 8_192;
 
 /// A workload: each worker's ring is full of bumps of items of its own, which are of all classes in turn, and the drainers share the lanes.
