@@ -104,18 +104,19 @@ pub record EndsAs (seat : ClassView) (this_lane : LanePart) (bump : Bump) (head 
     pub found_by_try : TryFound this_lane bump head
     pub ending : ending_at (λ c. head) this_lane.stage ≡ Some (applied_bump bump came_out)
 
+-- what a bump comes out with that may end right behind the look at its item's head, which found this one
+abbrev pub outcome_after_try : Head → Outcome
+outcome_after_try found = if not found.linked then outcome.Gone else outcome.TimeOnly
+
 -- what a bump comes out with, if it may end, by the head that its look found and how far its lane is
 abbrev pub outcome_by : Head → Lane → Outcome
 outcome_by found (lane.Cleared bump active) = outcome.TimeOnly
 outcome_by found (lane.Moved bump) = outcome.Moved
-outcome_by found stage = if not found.linked then outcome.Gone else outcome.TimeOnly
+outcome_by found stage = outcome_after_try found
 
 -- what the class's seat keeps once a lane looked at the head of its bump's item, in this chunk, and once that was moved
 abbrev pub joined_after_try : ℕ → Head → Joined
-joined_after_try chunk found = record {
-  chunk = chunk;
-  outcome = if not found.linked then outcome.Gone else outcome.TimeOnly;
-}
+joined_after_try chunk found = record { chunk = chunk; outcome = outcome_after_try found }
 
 abbrev pub joined_after_move : Joined → Joined
 joined_after_move joined = record joined { outcome = outcome.Moved }

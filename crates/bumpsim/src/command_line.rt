@@ -1,14 +1,14 @@
 //! The words of the command line.
 
-ghost use Rattle.std.specs.Prelude.{◌≡◌, ◌≤◌, ◌^◌, IfOk, IfSome, option_map, map, string_bytes};
+ghost use Rattle.std.specs.Prelude.{◌≡◌, ◌≤◌, IfOk, IfSome, option_map, map, string_bytes};
 ghost use Rattle.clap.specs.Words.{FailsBy, fault_of, kind_of, rows_of, found_of, matches_of};
-ghost use Rattle.trace_lines.specs.Fields.{number_of};
 ghost use Rattle.bumpsim.specs.Words.{app, mode_of, drainers_of, drainers_in, run_of, refusal_of, TakesRun};
 
 use crate::runs::{Mode, Run};
 use clap::error::ErrorKind;
 use clap::{Arg, ArgAction, ArgMatches, Command, Error};
 use std::alloc::Global;
+use trace_lines::read_number;
 
 /// Why the words are not taken.
 #[derive(Clone, Copy, Debug, PartialEq, Eq)]
@@ -62,27 +62,12 @@ fn read_mode(word: &str) -> Option<Mode>
     }
 }
 
-/// The number below 2^64 that a word is, in decimal digits without leading zeros.
-fn number(word: &str) -> Option<u64>
-    ensures { result ≡ number_of (2 ^ 64) word.now }
-{
-    let digits = word.as_bytes();
-    if digits.is_empty() {
-        return None;
-    }
-    let first = digits[0];
-    if first == b'+' || (first == b'0' && digits.len() > 1) {
-        return None;
-    }
-    word.parse::<u64>().ok()
-}
-
 /// The number of drainers that a word is: 1 to 64.
-fn read_number(word: &str) -> Option<u32>
+fn count_drainers(word: &str) -> Option<u32>
     ensures meant { result ≡ drainers_of word.now }
     ensures range { IfSome result (λ n. (1 ≤ n) × (n ≤ 64)) }
 {
-    match number(word) {
+    match read_number(word.as_bytes()) {
         Some(n) if 1 <= n && n <= 64 => Some(n as u32),
         _ => None,
     }
@@ -97,7 +82,7 @@ fn read_drainers(mode: Mode, word: Option<&str>) -> Option<u32>
         return Some(1);
     };
     match mode {
-        Mode::Par => read_number(word),
+        Mode::Par => count_drainers(word),
         Mode::Model | Mode::Serial => None,
     }
 }

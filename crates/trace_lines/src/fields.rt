@@ -8,9 +8,10 @@ ghost use Rattle.trace_lines.specs.Seen.{Gives};
 use crate::faults::Fault;
 use bump_rules::Tail;
 
-/// The number below 2^64 that these digits spell, without leading zeros.
-fn number(digits: &[u8]) -> Option<u64>
-    ensures { result ≡ number_of (2 ^ 64) digits.now }
+/// The number below 2^64 that these decimal digits spell, without leading zeros. None where they are none, where another byte
+/// stands among them, or where the number is larger.
+pub fn read_number(digits: &[u8]) -> Option<u64>
+    ensures meant { result ≡ number_of (2 ^ 64) digits.now }
 {
     if digits.is_empty() {
         return None;
@@ -30,7 +31,7 @@ fn number(digits: &[u8]) -> Option<u64>
 pub fn u64_field(word: &[u8]) -> Result<u64, Fault>
     ensures { Gives (λ n. n) result (field U64 word.now) }
 {
-    match number(word) {
+    match read_number(word) {
         Some(n) => Ok(n),
         None => Err(Fault::Number),
     }
@@ -41,7 +42,7 @@ pub fn u64_field(word: &[u8]) -> Result<u64, Fault>
 pub fn u32_field(word: &[u8]) -> Result<u32, Fault>
     ensures { Gives (λ n. n) result (field U32 word.now) }
 {
-    match number(word) {
+    match read_number(word) {
         Some(n) if n <= 0xffff_ffff => Ok(n as u32),
         _ => Err(Fault::Number),
     }

@@ -13,6 +13,7 @@ mod text;
 pub use calls::{Sink, Source};
 pub use counted::{Counted, is_interruption};
 pub use faults::{Fault, LineError};
+pub use fields::read_number;
 pub use lines::{Declaration, Instruction, Line, Shape, read_line, rest_fault};
 pub use text::{
     put_bump, put_chunk, put_close, put_closed, put_del, put_drain, put_drop, put_fault, put_get,
