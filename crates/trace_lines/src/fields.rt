@@ -11,7 +11,7 @@ use bump_rules::Tail;
 /// The number below 2^64 that these decimal digits spell, without leading zeros. None where they are none, where another byte
 /// stands among them, or where the number is larger.
 pub fn read_number(digits: &[u8]) -> Option<u64>
-    ensures meant { result ≡ number_of (2 ^ 64) digits.now }
+    ensures { result ≡ number_of (2 ^ 64) digits.now }
 {
     if digits.is_empty() {
         return None;
