@@ -1,1 +1,2 @@
+pub mod CollectedWords
 pub mod ParsedNumbers

@@ -9,6 +9,7 @@ use crate::faults::{Fault, LineError};
 use crate::fields::{name_field, segment_field, u32_field, u64_field};
 use crate::keywords::{Keyword, read_keyword};
 use bump_rules::{ClassConfig, Tail};
+use smallvec::SmallVec;
 use std::alloc::{AllocError, Global};
 
 /// What a `store` line says. The ranges are looked at where the store is opened.
@@ -167,8 +168,11 @@ pub enum Line<'a> {
     Makes(Instruction<'a>),
 }
 
+/// The most words that a line without a fault has. So many of a line take no memory.
+const MOST_WORDS: usize = 5;
+
 /// The words of a line: what stands between spaces.
-fn words(alloc: Global, line: &[u8]) -> Result<Vec<&[u8]>, AllocError>
+fn words(alloc: Global, line: &[u8]) -> Result<SmallVec<&[u8], MOST_WORDS>, AllocError>
     ensures { IfOk result (λ words. map (λ w. w.now) words.items ≡ split_at_spaces line.now) }
 {
     line.split(|b| *b == b' ').collect(alloc)
@@ -364,7 +368,7 @@ pub fn read_line<'a>(alloc: Global, line: &'a [u8]) -> Result<Option<Line<'a>>, 
         return Ok(None);
     }
     let words = words(alloc, line)?;
-    match read(&words) {
+    match read(words.as_slice()) {
         Ok(line) => Ok(Some(line)),
         Err(fault) => Err(LineError::Fault(fault)),
     }
