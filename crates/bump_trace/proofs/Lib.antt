@@ -7,3 +7,4 @@ pub mod SameButWorld
 pub mod HoldsOfItems
 pub mod HeldNames
 pub mod GatheredText
+pub mod FrontsOfText

@@ -1,5 +1,5 @@
 -- Text that is gathered before it is written.
-use Rattle.std.specs.Prelude.{◌≡◌, ◌<◌, ℕ, Bool, List, ◌++◌, Option}
+use Rattle.std.specs.Prelude.{◌≡◌, ◌<◌, ℕ, Bool, List, [], ◌++◌, Option}
 use Rattle.std.specs.Io.KnownBytes.{Appends}
 use Rattle.bump_trace.specs.Meaning.{verdict_of}
 use Rattle.trace_lines.specs.Text.{fault_line}
@@ -12,10 +12,35 @@ use Rattle.bump_trace.specs.declared.runs.SimFault.TheVariants as faults
 abbrev pub Gathers : Option (List ℕ) → Option (List ℕ) → List ℕ → List ℕ → List ℕ → Type 0
 Gathers held holds old new text = (sent : List ℕ) × Appends held holds sent × (sent ++ new ≡ old ++ text)
 
+-- What was written is a front of this text.
+pub record WritesFront (held holds : Option (List ℕ)) (text : List ℕ) : Type 0 where
+  pub sent : List ℕ
+  pub more : List ℕ
+  pub wrote : Appends held holds sent
+  pub front : sent ++ more ≡ text
+
+-- What was written, and then what is gathered, is a front of this text.
+pub record GathersFront (held holds : Option (List ℕ)) (gathered text : List ℕ) : Type 0 where
+  pub sent : List ℕ
+  pub more : List ℕ
+  pub wrote : Appends held holds sent
+  pub front : (sent ++ gathered) ++ more ≡ text
+
+-- Where there was no memory, what was written and then what is gathered is a front of this text; after another fault,
+-- what was written.
+abbrev pub StopsWithin : Option (List ℕ) → Option (List ℕ) → List ℕ → List ℕ → SimFault → Type 0
+StopsWithin held holds gathered text faults.Memory = GathersFront held holds gathered text
+StopsWithin held holds gathered text _ = WritesFront held holds text
+
 -- The line of a fault was gathered.
 abbrev pub GathersFault : Option (List ℕ) → Option (List ℕ) → List ℕ → List ℕ → ℕ → LineError → Type 0
 GathersFault held holds old new number errors.Memory = ⊥
 GathersFault held holds old new number (errors.Fault fault) = Gathers held holds old new (fault_line number fault)
+
+-- the text that a run ends with at a line that was not run: none where there was no memory for it
+abbrev pub stopped_line : ℕ → LineError → List ℕ
+stopped_line number errors.Memory = []
+stopped_line number (errors.Fault fault) = fault_line number fault
 
 -- What was written, and what is gathered, is the text of the input.
 abbrev pub RunsInto : Option (List ℕ) → Option (List ℕ) → List ℕ → List ℕ → Bool → Type 0

@@ -7,7 +7,6 @@ use Rattle.trace_lines.specs.Text.{fault_line}
 use Rattle.bump_trace.specs.Stages.{Stage, Before, Said, say, opened, declared}
 use Rattle.bump_trace.specs.OpenStore.{instruction_said}
 use Rattle.trace_lines.specs.declared.faults.Fault.{Fault}
-use Rattle.trace_lines.specs.declared.faults.Fault.TheVariants as fault
 
 -- what a line does at a time
 unfoldable pub effect : Stage → ℕ → Line → Result Said Fault

@@ -1,5 +1,5 @@
 -- What a whole run reads and writes.
-use Rattle.std.specs.Prelude.{◌≡◌, ◌<◌, ◌≤◌, ◌⊎◌, ⊤, ℕ, Bool, true, false, List, length, Option, Result, Ok, Err}
+use Rattle.std.specs.Prelude.{◌≡◌, ◌<◌, ◌≤◌, ◌⊎◌, ⊤, ℕ, Bool, true, false, List, ◌++◌, length, Option, Result, Ok, Err}
 use Rattle.std.specs.Io.KnownBytes.{Appends, Consumes, Keeps, IsAtEnd}
 use Rattle.bump_trace.specs.Meaning.{verdict_of}
 use Rattle.bump_trace.specs.declared.runs.SimFault.{SimFault}
@@ -22,18 +22,30 @@ pub record Ran (had left held holds : Option (List ℕ)) (is_fault : Bool) : Typ
   pub text : Appends held holds (verdict_of input).text
   pub fault : (verdict_of input).is_fault ≡ is_fault
 
+-- All that the reader had is a trace, and the writer took a front of its text and nothing else.
+pub record PartlyRan (had left held holds : Option (List ℕ)) : Type 0 where
+  pub input : List ℕ
+  pub read : Consumes had left input
+  pub end : IsAtEnd left
+  pub size : length input ≤ most_bytes
+  pub sent : List ℕ
+  pub more : List ℕ
+  pub wrote : Appends held holds sent
+  pub front : sent ++ more ≡ (verdict_of input).text
+
 -- more came than a trace may have
 abbrev pub TooManyCame : Option (List ℕ) → Option (List ℕ) → Type 0
 TooManyCame had left = (input : List ℕ) × Consumes had left input × (most_bytes < length input)
 
--- A fault of the trace is the end of its text; where the trace could not be read, nothing was written. A run on a
--- World has no threads, no ring and no gate.
+-- A fault of the trace is the end of its text. Where the trace could not be read, nothing was written; where its text
+-- could not be, a front of it was. Memory may be refused before all is read or behind it. A run on a World has no
+-- threads, no ring and no gate.
 abbrev pub StoppedBy : Option (List ℕ) → Option (List ℕ) → Option (List ℕ) → Option (List ℕ) → SimFault → Type 0
 StoppedBy had left held holds faults.Trace = Ran had left held holds true
 StoppedBy had left held holds faults.Read = Keeps held holds
 StoppedBy had left held holds faults.Size = Keeps held holds × TooManyCame had left
-StoppedBy had left held holds faults.Write = Unit {0}
-StoppedBy had left held holds faults.Memory = Unit {0}
+StoppedBy had left held holds faults.Write = PartlyRan had left held holds
+StoppedBy had left held holds faults.Memory = Keeps held holds ⊎ PartlyRan had left held holds
 StoppedBy had left held holds faults.Threads = ⊥
 StoppedBy had left held holds faults.Ring = ⊥
 StoppedBy had left held holds faults.Gate = ⊥

@@ -1,9 +1,10 @@
 //! The text is gathered, and written some 64 KiB at a time.
 
-ghost use Rattle.std.specs.Prelude.{◌≡◌, [], OnOk, IfErr};
+ghost use Rattle.std.specs.Prelude.{◌≡◌, ◌++◌, [], OnOk, IfErr};
 ghost use Rattle.std.specs.Io.KnownBytes.{Appends};
 ghost use Rattle.trace_lines.specs.Counted.{inner_of, failed_of};
-ghost use Rattle.bump_trace.specs.Gathering.{Gathers, GathersFault, IsOfWriting};
+ghost use Rattle.bump_trace.specs.Gathering.{Gathers, GathersFault, IsOfWriting, WritesFront, StopsWithin, stopped_line};
+ghost use Rattle.bump_trace.specs.declared.runs.SimFault.TheVariants.{Write};
 ghost use Rattle.trace_lines.specs.Text.{fault_line};
 
 use crate::runs::SimFault;
@@ -16,6 +17,8 @@ pub const ROOM: usize = 65_536;
 fn write_whole<W: Sink>(writer: &mut Counted<W>, bytes: &[u8]) -> Result<(), SimFault>
     ensures ok { OnOk result (Appends (W.contents (inner_of writer.old)) (W.contents (inner_of writer.new)) bytes.now) }
     ensures err { IfErr result (λ e. IsOfWriting (failed_of writer.new) e) }
+    ensures only { IfErr result (λ e. e ≡ Write) }
+    ensures front { IfErr result (λ _. WritesFront (W.contents (inner_of writer.old)) (W.contents (inner_of writer.new)) bytes.now) }
 {
     let mut rest = bytes;
     while !rest.is_empty() {
@@ -33,6 +36,8 @@ pub fn flush<W: Sink>(writer: &mut Counted<W>, gathered: &mut Vec<u8>) -> Result
     ensures ok { OnOk result (Appends (W.contents (inner_of writer.old)) (W.contents (inner_of writer.new)) gathered.old.items) }
     ensures none { OnOk result (gathered.new.items ≡ []) }
     ensures err { IfErr result (λ e. IsOfWriting (failed_of writer.new) e) }
+    ensures only { IfErr result (λ e. e ≡ Write) }
+    ensures front { IfErr result (λ _. WritesFront (W.contents (inner_of writer.old)) (W.contents (inner_of writer.new)) gathered.old.items) }
 {
     write_whole(writer, gathered)?;
     gathered.clear();
@@ -47,6 +52,7 @@ pub fn gather<W: Sink>(
 ) -> Result<(), SimFault>
     ensures ok { OnOk result (Gathers (W.contents (inner_of writer.old)) (W.contents (inner_of writer.new)) gathered.old.items gathered.new.items text.now) }
     ensures err { IfErr result (λ e. IsOfWriting (failed_of writer.new) e) }
+    ensures front { IfErr result (λ e. StopsWithin (W.contents (inner_of writer.old)) (W.contents (inner_of writer.new)) gathered.new.items (gathered.old.items ++ text.now) e) }
 {
     if text.len() <= ROOM.saturating_sub(gathered.len()) {
         gathered.extend_from_slice(text)?;
@@ -71,6 +77,7 @@ pub fn gather_fault<W: Sink>(
 ) -> Result<(), SimFault>
     ensures ok { OnOk result (Gathers (W.contents (inner_of writer.old)) (W.contents (inner_of writer.new)) gathered.old.items gathered.new.items (fault_line number fault)) }
     ensures err { IfErr result (λ e. IsOfWriting (failed_of writer.new) e) }
+    ensures front { IfErr result (λ e. StopsWithin (W.contents (inner_of writer.old)) (W.contents (inner_of writer.new)) gathered.new.items (gathered.old.items ++ fault_line number fault) e) }
 {
     text.clear();
     put_fault(text, number, fault)?;
@@ -87,6 +94,7 @@ pub fn stop<W: Sink>(
 ) -> Result<(), SimFault>
     ensures ok { OnOk result (GathersFault (W.contents (inner_of writer.old)) (W.contents (inner_of writer.new)) gathered.old.items gathered.new.items number error) }
     ensures err { IfErr result (λ e. IsOfWriting (failed_of writer.new) e) }
+    ensures front { IfErr result (λ e. StopsWithin (W.contents (inner_of writer.old)) (W.contents (inner_of writer.new)) gathered.new.items (gathered.old.items ++ stopped_line number error) e) }
 {
     match error {
         LineError::Memory => Err(SimFault::Memory),

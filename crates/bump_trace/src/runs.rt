@@ -3,7 +3,8 @@
 ghost use Rattle.std.specs.Prelude.{◌≡◌, ◌≤◌, [], length, IfOk, IfErr};
 ghost use Rattle.bump_trace.specs.declared.runs.SimFault.TheVariants.{Memory};
 ghost use Rattle.trace_lines.specs.Counted.{inner_of, calls_of, failed_of};
-ghost use Rattle.bump_trace.specs.Gathering.{RunsInto, IsOfWriting};
+ghost use Rattle.bump_trace.specs.Gathering.{RunsInto, IsOfWriting, WritesFront, StopsWithin};
+ghost use Rattle.bump_trace.specs.Meaning.{verdict_of};
 ghost use Rattle.bump_trace.specs.Runs.{most_bytes, most_reads, ModelRuns, FailsAsCounted, IsUncalled};
 
 use crate::cutting::cut;
@@ -70,6 +71,7 @@ fn run_lines<W: Sink>(
     requires size { length input.now ≤ most_bytes }
     requires empty { gathered.old.items ≡ [] }
     ensures err { IfErr result (λ e. IsOfWriting (failed_of writer.new) e) }
+    ensures front { IfErr result (λ e. StopsWithin (W.contents (inner_of writer.old)) (W.contents (inner_of writer.new)) gathered.new.items (verdict_of input.now).text e) }
     ensures text { IfOk result (λ is_fault. RunsInto (W.contents (inner_of writer.old)) (W.contents (inner_of writer.new)) gathered.new.items input.now is_fault) }
 {
     let mut session = Session::new(keys);
@@ -107,6 +109,7 @@ fn run_input<W: Sink>(
 ) -> Result<bool, SimFault>
     requires { length input.now ≤ most_bytes }
     ensures err { IfErr result (λ e. IsOfWriting (failed_of writer.new) e) }
+    ensures front { IfErr result (λ _. WritesFront (W.contents (inner_of writer.old)) (W.contents (inner_of writer.new)) (verdict_of input.now).text) }
     ensures text { IfOk result (λ is_fault. RunsInto (W.contents (inner_of writer.old)) (W.contents (inner_of writer.new)) [] input.now is_fault) }
 {
     let mut gathered = Vec::with_capacity(alloc, ROOM)?;
@@ -124,8 +127,8 @@ fn run_input<W: Sink>(
 }
 
 /// Runs a trace on a World. The whole trace, of at most 16,777,216 bytes, is read in at most 20,000,000 calls before
-/// anything is written. Names are hashed with these keys: a trace can't be made whose names collide under keys that its maker doesn't
-/// know.
+/// anything is written. Where it answers Write or Memory, what was written is a front of the trace's text. Names are hashed
+/// with these keys: a trace can't be made whose names collide under keys that its maker doesn't know.
 pub fn run_model<R: Source, W: Sink>(
     alloc: Global,
     keys: RandomState,

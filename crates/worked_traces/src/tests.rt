@@ -11,19 +11,17 @@ mod ends;
 mod expecting;
 mod faults;
 mod slow;
+mod streams;
 mod threads;
 mod worked;
 
-use ends::{ENDS, EVERY_LINE, HOLDS, LATE_FAULTS, MIXED_LINES};
+use ends::{ENDS, EVERY_LINE, HOLDS, LAST_COUNTS, LATE_FAULTS, MIXED_LINES};
 use expecting::Expecting;
 use faults::{
     EVERY_LINE_FAULT, EVERY_STORE_FAULT, LINE_COUNTS, LINE_FIELDS, LINE_NAMES, LINE_ORDER,
     PAIRS_OF_CONFIGS, PAIRS_OF_FIELDS, PAIRS_OF_STORES, PAIRS_OF_WORDS, SURPRISES,
 };
-use slow::{Narrow, Slow};
-use worked::{
-    COUNT_FAULTS, FIELD_FAULTS, HOSTILE_FAULTS, ORDER_FAULTS, PROMOTION, WORKED, WORKED_FAULTS,
-};
+use worked::{COUNT_FAULTS, FIELD_FAULTS, HOSTILE_FAULTS, ORDER_FAULTS, WORKED, WORKED_FAULTS};
 
 /// The text that a trace gives, and how its run ends.
 fn text_by(alloc: Global, keys: RandomState, trace: &[u8]) -> (Vec<u8>, Result<(), SimFault>) {
@@ -95,6 +93,14 @@ fn hostile_faults(rt: HostRuntime) -> Result<(), Fail> {
 fn worked_ends(rt: HostRuntime) -> Result<(), Fail> {
     let keys = RandomState::new(&rt)?;
     all_give(&rt, rt.alloc(), keys, &ENDS, Ok(()));
+    Ok(())
+}
+
+/// The last generations of a chunk, and numbers of bumps far behind the room of a ring.
+#[test]
+fn worked_last_counts(rt: HostRuntime) -> Result<(), Fail> {
+    let keys = RandomState::new(&rt)?;
+    all_give(&rt, rt.alloc(), keys, &LAST_COUNTS, Ok(()));
     Ok(())
 }
 
@@ -252,66 +258,6 @@ fn order_of_each_line(rt: HostRuntime) -> Result<(), Fail> {
     Ok(())
 }
 
-/// One byte for each read, with an interruption before it, and one byte for each write.
-#[test]
-fn byte_by_byte(rt: HostRuntime) -> Result<(), Fail> {
-    let keys = RandomState::new(&rt)?;
-    let (trace, text) = PROMOTION;
-    let mut reader = Counted::new(Slow::new(trace.as_bytes()));
-    let mut writer = Counted::new(Narrow::new(rt.alloc()));
-    assert!(rt; run_model(rt.alloc(), keys, &mut reader, &mut writer) == Ok(()));
-    let calls = 2 * (trace.len() as u64 + 1);
-    assert_eq!(rt; reader.calls(), calls);
-    assert_eq!(rt; reader.failed(), 0);
-    assert_eq!(rt; writer.calls(), text.len() as u64);
-    assert_eq!(rt; writer.failed(), 0);
-    assert!(rt; writer.into_inner().into_taken().as_slice() == text.as_bytes());
-    Ok(())
-}
-
-/// Where a write takes nothing, the run says so.
-#[test]
-fn a_write_that_takes_nothing(rt: HostRuntime) -> Result<(), Fail> {
-    let keys = RandomState::new(&rt)?;
-    let (trace, text) = PROMOTION;
-    let mut reader = Counted::new(trace.as_bytes());
-    let mut writer = Counted::new(Narrow::with_room(rt.alloc(), 7));
-    assert!(rt; run_model(rt.alloc(), keys, &mut reader, &mut writer) == Err(SimFault::Write));
-    assert_eq!(rt; writer.failed(), 1);
-    assert!(rt; writer.into_inner().into_taken().as_slice() == &text.as_bytes()[..7]);
-    Ok(())
-}
-
-/// Where a write answers Err, the run says so.
-#[test]
-fn a_write_that_fails(rt: HostRuntime) -> Result<(), Fail> {
-    let keys = RandomState::new(&rt)?;
-    let (trace, text) = PROMOTION;
-    let mut reader = Counted::new(trace.as_bytes());
-    let mut writer = Counted::new(Expecting::with_room(text.as_bytes(), 7));
-    assert!(rt; run_model(rt.alloc(), keys, &mut reader, &mut writer) == Err(SimFault::Write));
-    assert_eq!(rt; writer.calls(), 2);
-    assert_eq!(rt; writer.failed(), 1);
-    let taken = writer.into_inner();
-    assert!(rt; taken.is_front());
-    assert_eq!(rt; taken.left(), text.len().saturating_sub(7));
-    Ok(())
-}
-
-/// Where a read fails, the run says so, and nothing was written.
-#[test]
-fn a_read_that_fails(rt: HostRuntime) -> Result<(), Fail> {
-    let keys = RandomState::new(&rt)?;
-    let (trace, _) = PROMOTION;
-    let mut reader = Counted::new(Slow::broken(trace.as_bytes(), 30));
-    let mut writer = Counted::new(Vec::new(rt.alloc()));
-    assert!(rt; run_model(rt.alloc(), keys, &mut reader, &mut writer) == Err(SimFault::Read));
-    assert_eq!(rt; reader.failed(), 1);
-    assert_eq!(rt; writer.calls(), 0);
-    assert!(rt; writer.into_inner().is_empty());
-    Ok(())
-}
-
 /// How the run of a trace ends, and the writer that looked at its text.
 fn run_expecting<'a>(
     alloc: Global,
@@ -404,22 +350,22 @@ fn a_line_over_64_kib(rt: HostRuntime) -> Result<(), Fail> {
     Ok(())
 }
 
-/// A trace of 16,776,965 bytes and so many more, at most 256, whose first line has a fault, so that no other line is run.
-fn long_trace(alloc: Global, more: usize) -> Result<Vec<u8>, AllocError> {
+/// A trace of 16,777,216 bytes whose first line has a fault, so that no other line is run.
+fn longest_trace(alloc: Global) -> Result<Vec<u8>, AllocError> {
     let comment = [b'#'; 256];
     let mut trace = Vec::new(alloc);
     trace.extend_from_slice(b"show\n")?;
     for _ in 0..65_535u32 {
         trace.extend_from_slice(&comment)?;
     }
-    trace.extend_from_slice(&comment[..more.min(256)])?;
+    trace.extend_from_slice(&comment[..251])?;
     Ok(trace)
 }
 
 /// A trace of exactly 16,777,216 bytes is taken.
 #[test]
 fn the_longest_trace(rt: HostRuntime) -> Result<(), Fail> {
-    let trace = long_trace(rt.alloc(), 251)?;
+    let trace = longest_trace(rt.alloc())?;
     assert_eq!(rt; trace.len(), 16_777_216);
     let (written, ended) = text_of(&rt, &trace)?;
     assert!(rt; ended == Err(SimFault::Trace));
@@ -427,17 +373,45 @@ fn the_longest_trace(rt: HostRuntime) -> Result<(), Fail> {
     Ok(())
 }
 
-/// A trace of a byte more is not taken, and nothing is written.
+/// A trace of a byte more is not taken, whatever stands in it, and nothing is written.
 #[test]
 fn a_byte_more_than_the_longest_trace(rt: HostRuntime) -> Result<(), Fail> {
     let keys = RandomState::new(&rt)?;
-    let trace = long_trace(rt.alloc(), 252)?;
-    assert_eq!(rt; trace.len(), 16_777_217);
+    let trace = vec![in rt.alloc(); b'\n'; 16_777_217]?;
     let mut reader = Counted::new(trace.as_slice());
     let mut writer = Counted::new(Vec::new(rt.alloc()));
     assert!(rt; run_model(rt.alloc(), keys, &mut reader, &mut writer) == Err(SimFault::Size));
     assert_eq!(rt; writer.calls(), 0);
     assert!(rt; writer.into_inner().is_empty());
+    Ok(())
+}
+
+/// A trace with as many holds of one item as there may be, and one more, and its text.
+fn most_holds(alloc: Global) -> Result<(Vec<u8>, Vec<u8>), Fail> {
+    let mut trace = Vec::new(alloc);
+    let mut text = Vec::new(alloc);
+    trace.extend_from_slice(b"store 1 4 65535 1\nclass 1 5 5\nset a 0 7\n")?;
+    text.extend_from_slice(b"set a 0.1\n")?;
+    for hold in 0..65_534u32 {
+        trace.extend_from_slice(format!(in alloc; "hold 0 a h{hold}\n")?.as_bytes())?;
+        text.extend_from_slice(format!(in alloc; "hold 0 a h{hold} held\n")?.as_bytes())?;
+    }
+    trace.extend_from_slice(b"hold 0 a h65534\n")?;
+    text.extend_from_slice(b"hold 0 a h65534 refs\n")?;
+    Ok((trace, text))
+}
+
+/// The greatest limit of references leaves room for 65,534 holds of a linked item.
+#[test]
+fn as_many_holds_as_there_may_be(rt: HostRuntime) -> Result<(), Fail> {
+    let keys = RandomState::new(&rt)?;
+    let (trace, text) = most_holds(rt.alloc())?;
+    let (written, ended) = text_by(rt.alloc(), keys, &trace);
+    assert!(rt; ended == Ok(()));
+    assert!(rt; written.as_slice() == text.as_slice());
+    let (written, ended) = serial_text_by(&rt, rt.alloc(), keys, &trace);
+    assert!(rt; ended == Ok(()));
+    assert!(rt; written.as_slice() == text.as_slice());
     Ok(())
 }
 

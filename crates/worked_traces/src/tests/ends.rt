@@ -32,6 +32,22 @@ pub(super) const ENDS: [(&str, &str); 7] = [
     ),
 ];
 
+/// The last generations of a chunk, and numbers of bumps that go on behind the room of a ring.
+pub(super) const LAST_COUNTS: [(&str, &str); 3] = [
+    (
+        "store 1 4 4 4294967294\nclass 1 5 5\nset a 0 7\ndel a\nset b 0 8\ndel b\nset c 0 9\nget 0 a\nget 0 b\nsweep 0\n",
+        "set a 0.4294967294\ndel a freed\nset b 0.4294967295\ndel b freed\nset c full\nget 0 a miss\nget 0 b miss\nsweep 0 0\n",
+    ),
+    (
+        "store 1 4 4 4294967295\nclass 1 5 5\nset a 0 7\nhold 0 a h\ndel a\nsweep 0\ndrop h\nsweep 0\nshow\n",
+        "set a 0.4294967295\nhold 0 a h held\ndel a deferred\nsweep 0 0\ndrop h\nsweep 0 1\nclass 0 hot 0\nclass 0 warm 0\nclass 0 cold 0\nclass 0 dying 0\nclass 0 unused 0\nclass 0 retired 1 0\nworker 0 attempted 0 accepted 0 full 0 busy 0 refs 0 applied 0\n",
+    ),
+    (
+        "store 1 1 4 1\nclass 1 0 0\nset a 0 7\npull 0 hot\nget 0 a\nget 0 a\ndrain\npull 0 warm\nget 0 a\ndrain\npull 0 warm\nget 0 a\ndrain\n",
+        "set a 0.1\npull 0 hot cold 0.1\nget 0 a 7 first\nget 0 a 7 queued 0\nbump 0 0 0.1 warm\ndrain 1\npull 0 warm cold 0.1\nget 0 a 7 queued 1\nbump 0 1 0.1 warm\ndrain 1\npull 0 warm cold 0.1\nget 0 a 7 queued 2\nbump 0 2 0.1 warm\ndrain 1\n",
+    ),
+];
+
 /// Holds that are kept.
 pub(super) const HOLDS: [(&str, &str); 5] = [
     (

@@ -1,24 +1,45 @@
 //! A writer that looks whether it is given a text, and takes no memory for it.
 use std::io::{self, ErrorKind, Write};
 
-/// Takes a text from its front on, and looks at each byte. It answers Err once its room is used up.
+/// What a writer does once its room is used up.
+#[derive(Clone, Copy)]
+pub(super) enum Ending {
+    /// It answers Err.
+    Fails,
+
+    /// It takes nothing.
+    TakesNothing,
+}
+
+/// Takes a text from its front on, and looks at each byte.
 #[derive(Drop)]
 pub(super) struct Expecting<'a> {
     rest: &'a [u8],
     room: usize,
+    most: usize,
+    ending: Ending,
     is_front: bool,
 }
 
 impl<'a> Expecting<'a> {
+    /// Takes all of a text.
     pub(super) fn new(text: &'a [u8]) -> Expecting<'a> {
-        Expecting::with_room(text, usize::MAX)
+        Expecting {
+            rest: text,
+            room: usize::MAX,
+            most: usize::MAX,
+            ending: Ending::Fails,
+            is_front: true,
+        }
     }
 
-    /// Answers Err after so many bytes.
-    pub(super) fn with_room(text: &'a [u8], room: usize) -> Expecting<'a> {
+    /// Takes a byte for each call, and so many in all.
+    pub(super) fn narrow(text: &'a [u8], room: usize, ending: Ending) -> Expecting<'a> {
         Expecting {
             rest: text,
             room,
+            most: 1,
+            ending,
             is_front: true,
         }
     }
@@ -41,9 +62,12 @@ impl<'a> Write for Expecting<'a> {
 
     fn write(&mut self, buf: &[u8]) -> io::Result<usize> {
         if self.room == 0 {
-            return Err(io::Error::from(ErrorKind::BrokenPipe));
+            return match self.ending {
+                Ending::Fails => Err(io::Error::from(ErrorKind::BrokenPipe)),
+                Ending::TakesNothing => Ok(0),
+            };
         }
-        let n = buf.len().min(self.room);
+        let n = buf.len().min(self.room).min(self.most);
         if n > self.rest.len() {
             self.is_front = false;
             return Ok(n);

@@ -1,8 +1,7 @@
-//! A reader and a writer of one byte for each call.
-use std::alloc::Global;
-use std::io::{self, ErrorKind, Read, Write};
+//! Readers that are interrupted: before each byte, or always.
+use std::io::{self, ErrorKind, Read};
 
-/// Gives one byte for each call, with an interruption before it, and may break.
+/// Gives one byte for each second call, is interrupted before it, and may break.
 #[derive(Drop)]
 pub(super) struct Slow<'a> {
     bytes: &'a [u8],
@@ -15,7 +14,7 @@ impl<'a> Slow<'a> {
         Slow::broken(bytes, u64::MAX)
     }
 
-    /// Breaks after so many bytes.
+    /// Breaks after so many calls.
     pub(super) fn broken(bytes: &'a [u8], until_broken: u64) -> Slow<'a> {
         Slow {
             bytes,
@@ -31,15 +30,15 @@ impl<'a> Read for Slow<'a> {
     ghost remaining = { λ s. None };
 
     fn read(&mut self, buf: &mut [u8]) -> io::Result<usize> {
+        if self.until_broken == 0 {
+            return Err(io::Error::from(ErrorKind::BrokenPipe));
+        }
+        self.until_broken -= 1;
         if !self.is_ready {
             self.is_ready = true;
             return Err(io::Error::from(ErrorKind::Interrupted));
         }
         self.is_ready = false;
-        if self.until_broken == 0 {
-            return Err(io::Error::from(ErrorKind::BrokenPipe));
-        }
-        self.until_broken -= 1;
         if self.bytes.is_empty() || buf.is_empty() {
             return Ok(0);
         }
@@ -49,48 +48,16 @@ impl<'a> Read for Slow<'a> {
     }
 }
 
-/// Takes one byte for each call, and none where its room is used up.
+/// Is interrupted at each call.
 #[derive(Drop)]
-pub(super) struct Narrow {
-    taken: Vec<u8>,
-    room: u64,
-}
+pub(super) struct Interrupted;
 
-impl Narrow {
-    pub(super) fn new(alloc: Global) -> Narrow {
-        Narrow::with_room(alloc, u64::MAX)
-    }
-
-    pub(super) fn with_room(alloc: Global, room: u64) -> Narrow {
-        Narrow {
-            taken: Vec::new(alloc),
-            room,
-        }
-    }
-
-    pub(super) fn into_taken(self) -> Vec<u8> {
-        let Narrow { taken, .. } = self;
-        taken
-    }
-}
-
-impl Write for Narrow {
+impl Read for Interrupted {
     ghost use Rattle.std.specs.Prelude.{None};
 
-    ghost contents = { λ s. None };
+    ghost remaining = { λ s. None };
 
-    fn write(&mut self, buf: &[u8]) -> io::Result<usize> {
-        if self.room == 0 || buf.is_empty() {
-            return Ok(0);
-        }
-        if self.taken.push(buf[0]).is_err() {
-            return Err(io::Error::from(ErrorKind::OutOfMemory));
-        }
-        self.room -= 1;
-        Ok(1)
-    }
-
-    fn flush(&mut self) -> io::Result<()> {
-        Ok(())
+    fn read(&mut self, _buf: &mut [u8]) -> io::Result<usize> {
+        Err(io::Error::from(ErrorKind::Interrupted))
     }
 }

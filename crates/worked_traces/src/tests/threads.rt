@@ -186,19 +186,19 @@ fn two_workers_are_in_their_lines_at_once(rt: HostRuntime) -> Result<(), Fail> {
     Ok(())
 }
 
-/// Lets no line pass.
+/// Lets worker 0's first line not pass, and all others.
 #[derive(Drop)]
 struct Shut;
 
 impl Gate for Shut {
-    fn enter(&self, _worker: u32, _call: u64) -> bool {
-        false
+    fn enter(&self, worker: u32, call: u64) -> bool {
+        worker != 0 || call != 0
     }
 
     fn leave(&self, _worker: u32, _call: u64) {}
 }
 
-/// Where the gate lets a line not pass, the run says so, and what was written before stays.
+/// Where the gate lets one line not pass, the run says so, and what was written before stays.
 #[test]
 fn a_gate_that_does_not_open(rt: HostRuntime) -> Result<(), Fail> {
     let keys = RandomState::new(&rt)?;

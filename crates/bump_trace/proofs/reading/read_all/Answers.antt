@@ -1,4 +1,4 @@
-use Rattle.std.proofs.Common.{◌≡◌, ◌+◌, not, false, sym, refl, ap, ◌∙◌, ◌++◌, ◌≤◌, take, length, length-append, length-take, arith}
+use Rattle.std.proofs.Common.{◌≡◌, ◌+◌, not, false, sym, refl, ap, ◌∙◌, ◌++◌, ◌≤◌, take, length, length-append, length-take, inr, arith}
 use Rattle.std.specs.IoError.{error_kind}
 use Rattle.trace_lines.specs.Counted.{is_interrupted, count_if}
 use Rattle.bump_trace.proofs.KnownBytes.{consumes_more, consumes_kept}
@@ -27,3 +27,6 @@ returns-then-n-len-clause-long g c =
     let long : length all ≡ length c.loop.bytes.items + length piece = length-append c.loop.bytes.items piece in
     let whole : length piece ≡ c.in-Ok.n = rw length-take (omega (arith, c.in-Ok.ensures.bound)) in
     (all, consumes_more _ _ _ c.loop.bytes.items piece all c.loop.invariant.taken c.in-Ok.ensures.bytes.0 refl, omega (arith, long, whole, c.if-n-len.true, c.len.ensures))
+
+pub returns-clause-err : goal.returns-clause-err
+returns-clause-err g c = inr (omega (arith, c.loop.invariant.calls))

@@ -1,0 +1,108 @@
+//! Readers and writers that take little at a time, and one that fails at each of its calls in turn.
+use super::expecting::{Ending, Expecting};
+use super::slow::{Interrupted, Slow};
+use super::worked::PROMOTION;
+use bump_trace::{Counted, SimFault, run_model};
+use std::alloc::Global;
+use std::hash::RandomState;
+use std::test::*;
+
+/// One byte for each read, with an interruption before it, and one byte for each write.
+#[test]
+fn byte_by_byte(rt: HostRuntime) -> Result<(), Fail> {
+    let keys = RandomState::new(&rt)?;
+    let (trace, text) = PROMOTION;
+    let mut reader = Counted::new(Slow::new(trace.as_bytes()));
+    let mut writer = Counted::new(Expecting::narrow(text.as_bytes(), usize::MAX, Ending::Fails));
+    assert!(rt; run_model(rt.alloc(), keys, &mut reader, &mut writer) == Ok(()));
+    let calls = 2 * (trace.len() as u64 + 1);
+    assert_eq!(rt; reader.calls(), calls);
+    assert_eq!(rt; reader.failed(), 0);
+    assert_eq!(rt; writer.calls(), text.len() as u64);
+    assert_eq!(rt; writer.failed(), 0);
+    let taken = writer.into_inner();
+    assert!(rt; taken.is_front());
+    assert_eq!(rt; taken.left(), 0);
+    Ok(())
+}
+
+/// Whether a run whose reader breaks after so many calls ends as Read, with that call its last one, and without a write.
+fn ends_at_read(alloc: Global, keys: RandomState, trace: &[u8], calls: u64) -> bool {
+    let mut reader = Counted::new(Slow::broken(trace, calls));
+    let mut writer = Counted::new(Expecting::new(b""));
+    let ended = run_model(alloc, keys, &mut reader, &mut writer);
+    ended == Err(SimFault::Read)
+        && reader.calls().saturating_sub(1) == calls
+        && reader.failed() == 1
+        && writer.calls() == 0
+}
+
+/// Whichever read fails: the run says so, and nothing was written.
+#[test]
+fn each_read_fails(rt: HostRuntime) -> Result<(), Fail> {
+    let keys = RandomState::new(&rt)?;
+    let (trace, _) = PROMOTION;
+    for calls in 0..2 * (trace.len() as u64 + 1) {
+        assert!(rt;
+            ends_at_read(rt.alloc(), keys, trace.as_bytes(), calls),
+            "{calls}"
+        );
+    }
+    Ok(())
+}
+
+/// Whether a run whose writer takes so many bytes, one for each call, ends as Write, with the next call its last one, and the
+/// front of the text written.
+fn ends_at_write(alloc: Global, keys: RandomState, taken: usize, ending: Ending) -> bool {
+    let (trace, text) = PROMOTION;
+    let mut reader = Counted::new(trace.as_bytes());
+    let mut writer = Counted::new(Expecting::narrow(text.as_bytes(), taken, ending));
+    let ended = run_model(alloc, keys, &mut reader, &mut writer);
+    let is_last = writer.calls().saturating_sub(1) == taken as u64 && writer.failed() == 1;
+    let written = writer.into_inner();
+    ended == Err(SimFault::Write)
+        && is_last
+        && written.is_front()
+        && written.left() == text.len().saturating_sub(taken)
+}
+
+/// Whichever write answers Err: the run says so, and makes no further one.
+#[test]
+fn each_write_fails(rt: HostRuntime) -> Result<(), Fail> {
+    let keys = RandomState::new(&rt)?;
+    let (_, text) = PROMOTION;
+    for taken in 0..text.len() {
+        assert!(rt;
+            ends_at_write(rt.alloc(), keys, taken, Ending::Fails),
+            "{taken}"
+        );
+    }
+    Ok(())
+}
+
+/// The same where it takes nothing.
+#[test]
+fn each_write_takes_nothing(rt: HostRuntime) -> Result<(), Fail> {
+    let keys = RandomState::new(&rt)?;
+    let (_, text) = PROMOTION;
+    for taken in 0..text.len() {
+        assert!(rt;
+            ends_at_write(rt.alloc(), keys, taken, Ending::TakesNothing),
+            "{taken}"
+        );
+    }
+    Ok(())
+}
+
+/// A reader that is always interrupted is read 20,000,000 times.
+#[test]
+fn a_reader_that_is_always_interrupted(rt: HostRuntime) -> Result<(), Fail> {
+    let keys = RandomState::new(&rt)?;
+    let mut reader = Counted::new(Interrupted);
+    let mut writer = Counted::new(Expecting::new(b""));
+    assert!(rt; run_model(rt.alloc(), keys, &mut reader, &mut writer) == Err(SimFault::Read));
+    assert_eq!(rt; reader.calls(), 20_000_000);
+    assert_eq!(rt; reader.failed(), 0);
+    assert_eq!(rt; writer.calls(), 0);
+    Ok(())
+}
