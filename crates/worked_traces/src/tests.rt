@@ -14,7 +14,7 @@ mod slow;
 mod threads;
 mod worked;
 
-use ends::{ENDS, EVERY_LINE, HOLDS, LATE_FAULTS, MIXED_LINES};
+use ends::{ENDS, EVERY_LINE, HOLDS, LATE_FAULTS, MIXED_LINES, PULLS};
 use expecting::Expecting;
 use faults::{
     EVERY_LINE_FAULT, EVERY_STORE_FAULT, LINE_COUNTS, LINE_FIELDS, LINE_NAMES, LINE_ORDER,
@@ -88,6 +88,13 @@ fn worked_faults(rt: HostRuntime) -> Result<(), Fail> {
 fn hostile_faults(rt: HostRuntime) -> Result<(), Fail> {
     let keys = RandomState::new(&rt)?;
     all_give(&rt, rt.alloc(), keys, &HOSTILE_FAULTS, Err(SimFault::Trace));
+    Ok(())
+}
+
+#[test]
+fn worked_pulls(rt: HostRuntime) -> Result<(), Fail> {
+    let keys = RandomState::new(&rt)?;
+    all_give(&rt, rt.alloc(), keys, &PULLS, Ok(()));
     Ok(())
 }
 
