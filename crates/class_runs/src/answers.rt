@@ -1,5 +1,6 @@
 //! What a Book's calls answer, which is looked at as a test runs. What their contracts promise would stand in the proof of
 //! each step behind them: here it is left behind.
+use crate::expecting::expect;
 use bump_class::{Book, LinkRefusal, UnlinkRefusal};
 use bump_heads::Name;
 use bump_rules::{Answer, Command, Ended, Head, ItemId, Pulled, Tail};
@@ -56,15 +57,5 @@ pub fn link<N: Name>(rt: &impl Abort, book: &mut Book<N>, label: u64, now: u64) 
 
 /// A pull does this.
 pub fn expect_pulled<N: Name>(rt: &impl Abort, book: &mut Book<N>, tail: Tail, wanted: Pulled) {
-    assert_eq!(rt; pull(book, tail), wanted, "from {tail:?}");
-}
-
-/// An unlink comes to this.
-pub fn expect_ended<N: Name>(rt: &impl Abort, book: &mut Book<N>, id: ItemId, wanted: Ended) {
-    assert_eq!(rt; unlinked(book, id), Answer::Ended(wanted), "of {id:?}");
-}
-
-/// A sweep frees so many.
-pub fn expect_swept<N: Name>(rt: &impl Abort, book: &mut Book<N>, wanted: u32) {
-    assert_eq!(rt; sweep(book), wanted);
+    expect(rt, "the pull", &pull(book, tail), &wanted);
 }

@@ -7,3 +7,14 @@ use std::process::Abort;
 pub fn expect<T: PartialEq + Debug, R: Abort>(rt: &R, what: &str, told: &T, wanted: &T) {
     assert_eq!(rt; told, wanted, "{what}");
 }
+
+/// What was told of this is what was wanted.
+pub fn expect_of<T: PartialEq + Debug, A: Debug, R: Abort>(
+    rt: &R,
+    what: &str,
+    of: &A,
+    told: &T,
+    wanted: &T,
+) {
+    assert_eq!(rt; told, wanted, "{what} {of:?}");
+}

@@ -1,16 +1,16 @@
-//! Runs of classes, as tests: the worked calls of a Book and of a lane with their answers, and a Store beside a World
+//! Runs of classes, as tests: bumps that a Book applies by a raw lane, with their answers, and a Store beside a World
 //! that gets the same commands.
 #![tactic(auto)]
 
 #[cfg(test)]
 mod answers;
 #[cfg(test)]
-mod books;
-#[cfg(test)]
 mod expecting;
 #[cfg(test)]
-mod lanes;
+mod opening;
 #[cfg(test)]
-mod readers;
+mod refused_memory;
+#[cfg(test)]
+mod runs;
 #[cfg(test)]
 mod tests;

@@ -15,7 +15,7 @@ mod streams;
 mod threads;
 mod worked;
 
-use ends::{ENDS, EVERY_LINE, HOLDS, LAST_COUNTS, LATE_FAULTS, MIXED_LINES};
+use ends::{ENDS, EVERY_LINE, HOLDS, LAST_COUNTS, LATE_FAULTS, MIXED_LINES, PULLS};
 use expecting::Expecting;
 use faults::{
     EVERY_LINE_FAULT, EVERY_STORE_FAULT, LINE_COUNTS, LINE_FIELDS, LINE_NAMES, LINE_ORDER,
@@ -86,6 +86,13 @@ fn worked_faults(rt: HostRuntime) -> Result<(), Fail> {
 fn hostile_faults(rt: HostRuntime) -> Result<(), Fail> {
     let keys = RandomState::new(&rt)?;
     all_give(&rt, rt.alloc(), keys, &HOSTILE_FAULTS, Err(SimFault::Trace));
+    Ok(())
+}
+
+#[test]
+fn worked_pulls(rt: HostRuntime) -> Result<(), Fail> {
+    let keys = RandomState::new(&rt)?;
+    all_give(&rt, rt.alloc(), keys, &PULLS, Ok(()));
     Ok(())
 }
 

@@ -1,6 +1,7 @@
 //! Commands of a class, which a Store gets by a lock.
 use super::sides::{Sides, lock, told};
 use crate::answers::answer;
+use crate::expecting::expect_of;
 use bump_class::Book;
 use bump_core::World;
 use bump_heads::Name;
@@ -81,7 +82,7 @@ fn class_of<N: Name>(store: &Store<N>, command: Command) -> Result<u32, NoSuchCh
 pub fn class_command<N: Name, R: Abort + Wait>(rt: &R, sides: &mut Sides<N>, command: Command) {
     let told = told(rt, sides, command);
     let Ok(class) = class_of(&sides.store, command) else {
-        assert_eq!(rt; told, Answer::NoSuchChunk, "at {command:?}");
+        expect_of(rt, "at", &command, &told, &Answer::NoSuchChunk);
         return;
     };
     let mut book = lock(rt, &sides.store, class);
@@ -90,5 +91,5 @@ pub fn class_command<N: Name, R: Abort + Wait>(rt: &R, sides: &mut Sides<N>, com
 
 // The Book's call answers the same.
 fn expect_answer<N: Name>(rt: &impl Abort, book: &mut Book<N>, command: Command, told: Answer) {
-    assert_eq!(rt; answer(book, command), Some(told), "at {command:?}");
+    expect_of(rt, "at", &command, &answer(book, command), &Some(told));
 }

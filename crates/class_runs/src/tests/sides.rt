@@ -1,6 +1,6 @@
 //! A Store and a World of the same configuration, and what both tell.
 use crate::answers::seen;
-use crate::expecting::expect;
+use crate::expecting::{expect, expect_of};
 use bump_class::Book;
 use bump_core::World;
 use bump_heads::Name;
@@ -48,7 +48,7 @@ fn expect_same_list<N: Name>(
         .list(class, place)
         .collect(alloc)
         .expect(rt, "there is memory");
-    assert_eq!(rt; chunks.as_slice(), told.as_slice(), "in {place:?}");
+    expect_of(rt, "in", &place, &chunks.as_slice(), &told.as_slice());
 }
 
 /// Both have the same lists of a class.
@@ -81,7 +81,7 @@ fn told_of(rt: &impl Abort, world: &World, chunk: u32) -> (Head, u64) {
 // Both have the same head and time of a chunk.
 fn expect_same_head<N: Name>(rt: &impl Abort, book: &mut Book<N>, world: &World, chunk: u32) {
     let told = told_of(rt, world, chunk);
-    assert_eq!(rt; seen(book, chunk), Some(told), "of chunk {chunk}");
+    expect_of(rt, "of chunk", &chunk, &seen(book, chunk), &Some(told));
 }
 
 /// Both have the same heads and times of a class's chunks.

@@ -5,7 +5,7 @@ ghost use Rattle.std.specs.Prelude.{◌≡◌};
 use super::expecting::expect;
 use bump_class::Book;
 use bump_heads::{Name, ReaderHeads};
-use bump_rules::{Ended, Head, ItemId, Place, Pulled, Tail, Touch};
+use bump_rules::{ItemId, Place, Pulled, Tail, Touch};
 use bump_store::{GetRefusal, Hold, Store, Worker};
 use std::process::Abort;
 use std::sync::{MutexGuard, Wait};
@@ -19,8 +19,8 @@ pub fn lock<'a, N: Name, R: Abort + Wait>(
     store.lock(rt, class).expect(rt, "it is a class")
 }
 
-/// A new item with this label and time, in HOT.
-pub fn link<N: Name>(rt: &impl Abort, book: &mut Book<N>, label: u64, now: u64) -> ItemId {
+// A new item with this label and time, in HOT.
+fn link<N: Name>(rt: &impl Abort, book: &mut Book<N>, label: u64, now: u64) -> ItemId {
     book.link(label, now).expect(rt, "a chunk is free")
 }
 
@@ -28,8 +28,8 @@ fn pull<N: Name>(book: &mut Book<N>, tail: Tail) -> Pulled {
     book.pull(tail)
 }
 
-/// A pull does this.
-pub fn expect_pulled<N: Name>(rt: &impl Abort, book: &mut Book<N>, tail: Tail, wanted: Pulled) {
+// A pull does this.
+fn expect_pulled<N: Name>(rt: &impl Abort, book: &mut Book<N>, tail: Tail, wanted: Pulled) {
     expect(rt, "the pull", &pull(book, tail), &wanted);
 }
 
@@ -40,39 +40,21 @@ pub fn link_cold<N: Name>(rt: &impl Abort, book: &mut Book<N>, label: u64, now: 
     item
 }
 
+/// A new item of a class, with the label 7, in COLD: the limit of HOT is 0.
+pub fn new_cold<N: Name, R: Abort + Wait>(rt: &R, store: &Store<N>, class: u32) -> ItemId {
+    let mut book = lock(rt, store, class);
+    link_cold(rt, &mut book, 7, 3)
+}
+
 /// The item of WARM and COLD by turns: both pulls of it, so that its ACTIVE is clear, and it is in COLD.
 pub fn pull_round<N: Name>(rt: &impl Abort, book: &mut Book<N>, item: ItemId) {
     expect_pulled(rt, book, Tail::Cold, Pulled::Warm(item));
     expect_pulled(rt, book, Tail::Warm, Pulled::Cold(item));
 }
 
-fn unlink<N: Name>(rt: &impl Abort, book: &mut Book<N>, item: ItemId) -> Ended {
-    book.unlink(item).expect(rt, "it is linked")
-}
-
-/// An unlink comes to this.
-pub fn expect_ended<N: Name>(rt: &impl Abort, book: &mut Book<N>, item: ItemId, wanted: Ended) {
-    expect(rt, "the end", &unlink(rt, book, item), &wanted);
-}
-
-fn sweep<N: Name>(book: &mut Book<N>) -> u32 {
-    book.sweep()
-}
-
-/// A sweep frees so many.
-pub fn expect_swept<N: Name>(rt: &impl Abort, book: &mut Book<N>, wanted: u32) {
-    expect(rt, "swept chunks", &sweep(book), &wanted);
-}
-
 /// A list has so many chunks.
 pub fn expect_size<N: Name>(rt: &impl Abort, book: &Book<N>, place: Place, wanted: u32) {
     expect(rt, "the size of a list", &book.size(place), &wanted);
-}
-
-/// The head and the time of a chunk of the Book's class.
-pub fn see<N: Name>(rt: &impl Abort, book: &mut Book<N>, chunk: u32) -> (Head, u64) {
-    assert!(rt; book.has_chunk(chunk));
-    book.see(chunk)
 }
 
 /// A hold of the item, if it is had. The worker keeps its ring.

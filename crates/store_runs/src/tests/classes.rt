@@ -1,12 +1,12 @@
 //! The classes of a store, and its refusals.
 use super::calls::{lock, refusal};
-use super::expecting::expect;
-use super::stores::id;
-use super::whole::{Story, Whole, class, tell};
+use super::drains::hit_twice;
+use super::expecting::{expect, expect_at};
+use super::whole::{Story, class, id, tell};
 use bump_class::{Book, UnlinkRefusal};
 use bump_heads::Name;
-use bump_rules::{Applied, Entry, Place};
-use bump_store::{GetRefusal, NoSuchChunk, NoSuchClass, Store};
+use bump_rules::{Applied, Entry, ItemId, Place, Touch};
+use bump_store::{GetRefusal, Lane, NoSuchChunk, NoSuchClass, Store, Worker};
 use std::alloc::{AllocError, Global};
 use std::process::Abort;
 use std::sync::Wait;
@@ -18,21 +18,35 @@ fn expect_no_class<N: Name, R: Abort + Wait>(rt: &R, store: &Store<N>, class: u3
 }
 
 // A chunk is of this class, or isn't there.
-fn expect_class(rt: &impl Abort, told: Result<u32, NoSuchChunk>, wanted: Result<u32, NoSuchChunk>) {
-    expect(rt, "the class", &told, &wanted);
+fn expect_class<N: Name>(
+    rt: &impl Abort,
+    store: &Store<N>,
+    chunk: u32,
+    wanted: Result<u32, NoSuchChunk>,
+) {
+    let told = store.class_of(chunk);
+    expect_at(rt, "the class of", chunk.into(), &told, &wanted);
 }
 
-// Chunk 3 isn't there, for a worker either.
-fn expect_no_chunk<N: Name, R: Abort + Wait>(rt: &R, whole: &mut Whole<N>) {
-    expect_class(rt, whole.store.class_of(3), Err(NoSuchChunk));
-    let reader = whole.workers.get_mut(0).expect(rt, "it is a worker");
-    let told = refusal(&whole.store, reader, id(3, 1));
-    expect(
-        rt,
-        "why it isn't had",
-        &told,
-        &Some(GetRefusal::NoSuchChunk),
-    );
+// A worker isn't given this item, for this reason.
+fn expect_refusal<N: Name>(
+    rt: &impl Abort,
+    store: &Store<N>,
+    worker: &mut Worker<N>,
+    item: ItemId,
+    wanted: GetRefusal,
+) {
+    let told = refusal(store, worker, item);
+    expect(rt, "why it isn't had", &told, &Some(wanted));
+}
+
+// There is no fourth class and no seventh chunk, and nothing was linked.
+fn expect_refusals<N: Name, R: Abort + Wait>(rt: &R, store: &Store<N>, worker: &mut Worker<N>) {
+    expect_no_class(rt, store, 3);
+    expect_no_class(rt, store, u32::MAX);
+    expect_class(rt, store, 6, Err(NoSuchChunk));
+    expect_refusal(rt, store, worker, id(6, 1), GetRefusal::NoSuchChunk);
+    expect_refusal(rt, store, worker, id(0, 1), GetRefusal::Stale);
 }
 
 // The Book of class 1 doesn't know chunk 0, and has chunks 1 and 2.
@@ -48,25 +62,6 @@ fn expect_second_book<N: Name>(
     Ok(())
 }
 
-/// There is no third class and no fourth chunk, and the Book of one class doesn't know the chunks of another.
-pub fn tell_refusals<N: Name, R: Abort + Wait>(
-    rt: &R,
-    alloc: Global,
-    whole: &mut Whole<N>,
-) -> Result<(), AllocError> {
-    expect_no_class(rt, &whole.store, 2);
-    expect_no_class(rt, &whole.store, u32::MAX);
-    expect_no_chunk(rt, whole);
-    let mut book = lock(rt, &whole.store, 1);
-    expect_second_book(rt, alloc, &mut book)
-}
-
-#[test]
-fn a_store_refuses_what_it_has_not(rt: HostRuntime) -> Result<(), Fail> {
-    let classes = [class(1, 5, 5), class(2, 5, 5)];
-    Ok(tell(&rt, rt.alloc(), 4, &classes, Story::RefusalsTold)?)
-}
-
 // The Book of a class, with this range of chunks. Its limits are the class's number.
 fn expect_book<N: Name>(rt: &impl Abort, book: &Book<N>, class: u32, range: (u32, u32)) {
     expect(rt, "the class", &book.class(), &class);
@@ -75,16 +70,28 @@ fn expect_book<N: Name>(rt: &impl Abort, book: &Book<N>, class: u32, range: (u32
     expect(rt, "the limits", &book.limits(), &(class, class));
 }
 
-/// Each chunk is of its class, and each class's Book is behind its lock, with the class's limits.
-pub fn tell_classes<N: Name, R: Abort + Wait>(rt: &R, whole: &mut Whole<N>) {
+// Each chunk is of its class, and each class's Book is behind its lock, with the class's limits.
+fn expect_classes<N: Name, R: Abort + Wait>(rt: &R, store: &Store<N>) {
     for (chunk, class) in [(0, 0), (1, 1), (2, 1), (3, 2), (5, 2)] {
-        expect_class(rt, whole.store.class_of(chunk), Ok(class));
+        expect_class(rt, store, chunk, Ok(class));
     }
-    expect_class(rt, whole.store.class_of(6), Err(NoSuchChunk));
     for (class, start, end) in [(0, 0, 1), (1, 1, 3), (2, 3, 6)] {
-        let book = lock(rt, &whole.store, class);
+        let book = lock(rt, store, class);
         expect_book(rt, &book, class, (start, end));
     }
+}
+
+/// What a store of three classes has, and that it refuses what it hasn't.
+pub fn tell_classes<N: Name, R: Abort + Wait>(
+    rt: &R,
+    alloc: Global,
+    store: &Store<N>,
+    worker: &mut Worker<N>,
+) -> Result<(), AllocError> {
+    expect_classes(rt, store);
+    expect_refusals(rt, store, worker);
+    let mut book = lock(rt, store, 1);
+    expect_second_book(rt, alloc, &mut book)
 }
 
 #[test]
@@ -99,26 +106,40 @@ fn exchange<N: Name, R: Abort + Wait>(rt: &R, store: &Store<N>, first: &mut Book
     std::mem::swap(first, &mut second);
 }
 
+// Exchanges the Books of both classes.
+fn exchange_both<N: Name, R: Abort + Wait>(rt: &R, store: &Store<N>) {
+    let mut first = lock(rt, store, 0);
+    exchange(rt, store, &mut first);
+}
+
+// A lock finds the Book of its class.
+fn expect_found<N: Name, R: Abort + Wait>(rt: &R, store: &Store<N>, class: u32) {
+    let book = lock(rt, store, class);
+    expect(rt, "the class", &book.class(), &class);
+}
+
+fn next<N: Name, R: Wait>(rt: &R, store: &Store<N>, lane: &mut Lane<N>) -> Option<Entry> {
+    lane.next(rt, store, 8)
+}
+
 /// Where two Books were exchanged, a lock goes round until it finds that of its class, and so does a lane.
-pub fn find_exchanged<N: Name, R: Abort + Wait>(rt: &R, whole: &mut Whole<N>) {
-    let item = whole.link_cold(rt, 1, 7, 3);
-    whole.hit(rt, 0, item, 5);
-    whole.hit(rt, 0, item, 6);
-    {
-        let mut first = lock(rt, &whole.store, 0);
-        exchange(rt, &whole.store, &mut first);
-    }
-    for class in 0..2 {
-        let book = lock(rt, &whole.store, class);
-        expect(rt, "the class", &book.class(), &class);
-    }
-    let applied = Applied::Moved;
+pub fn find_exchanged<N: Name, R: Abort + Wait>(
+    rt: &R,
+    store: &Store<N>,
+    worker: &mut Worker<N>,
+    lane: &mut Lane<N>,
+) {
+    let life = hit_twice(rt, store, worker, 1, Touch::Queued(0));
+    exchange_both(rt, store);
+    expect_found(rt, store, 0);
+    expect_found(rt, store, 1);
     let entry = Entry {
         number: 0,
-        life: item,
-        applied,
+        life,
+        applied: Applied::Moved,
     };
-    whole.expect_next(rt, 0, 8, Some(entry));
+    let told = next(rt, store, lane);
+    expect(rt, "the next bump", &told, &Some(entry));
 }
 
 #[test]

@@ -1,125 +1,78 @@
-//! What the lanes of a store do with bumps that its workers queued.
-use super::calls::{label, lock};
+//! What the lane of a store does with bumps that its worker queued.
+use super::calls::{hit, lock, new_cold};
 use super::expecting::expect;
-use super::stores::head;
-use super::whole::{Story, Whole, class, tell};
+use super::whole::{Story, class, tell};
 use bump_heads::Name;
-use bump_rules::{Applied, Dropped, Ended, Entry, ItemId, Place, Pulled, Segment, Tail, Touch};
-use bump_store::{Hold, Store};
+use bump_rules::{Dropped, ItemId, Place, Touch};
+use bump_store::{Lane, Store, Worker};
 use std::process::Abort;
 use std::sync::Wait;
 use std::test::Fail;
 
-// What a lane answers of its bump with this number.
-fn entry(number: u64, life: ItemId, applied: Applied) -> Option<Entry> {
-    Some(Entry {
-        number,
-        life,
-        applied,
-    })
+// A hit of an item with the label 7 does this.
+fn expect_hit<N: Name>(
+    rt: &impl Abort,
+    store: &Store<N>,
+    worker: &mut Worker<N>,
+    item: ItemId,
+    wanted: Touch,
+) {
+    let told = hit(rt, store, worker, item, 5);
+    expect(rt, "the hit", &told, &(7, wanted));
 }
 
-// A new item in COLD at time 3, of which worker 0 queued a bump at time 6.
-fn queue<N: Name, R: Abort + Wait>(rt: &R, whole: &mut Whole<N>) -> ItemId {
-    let item = whole.link_cold(rt, 0, 7, 3);
-    whole.expect_hit(rt, 0, item, 5, (7, Touch::First));
-    whole.expect_hit(rt, 0, item, 6, (7, Touch::Queued(0)));
+/// A new item of the class, in COLD, that is hit twice. The second hit does this.
+pub fn hit_twice<N: Name, R: Abort + Wait>(
+    rt: &R,
+    store: &Store<N>,
+    worker: &mut Worker<N>,
+    class: u32,
+    wanted: Touch,
+) -> ItemId {
+    let item = new_cold(rt, store, class);
+    expect_hit(rt, store, worker, item, Touch::First);
+    expect_hit(rt, store, worker, item, wanted);
     item
 }
 
-/// An item that was hit in COLD goes to WARM, and its bump is applied once.
-pub fn apply_in_cold<N: Name, R: Abort + Wait>(rt: &R, whole: &mut Whole<N>) {
-    let item = queue(rt, whole);
-    whole.expect_next(rt, 1, 7, None);
-    whole.expect_next(rt, 0, 7, entry(0, item, Applied::Moved));
-    whole.expect_next(rt, 0, 8, None);
-    whole.expect_seen(rt, item.chunk, (head(1, "lf", Segment::Warm), 7));
-    whole.expect_applied(rt, 0, 1);
-    whole.expect_size(rt, 0, Place::Warm, 1);
-    whole.expect_size(rt, 0, Place::Cold, 0);
+fn drain<N: Name, R: Wait>(rt: &R, store: &Store<N>, lane: &mut Lane<N>) -> u64 {
+    lane.drain(rt, store, 9)
 }
 
-#[test]
-fn a_hit_in_cold_is_applied_once(rt: HostRuntime) -> Result<(), Fail> {
-    Ok(tell(&rt, rt.alloc(), 4, &[class(2, 0, 5)], Story::AppliedInCold)?)
+// A drain applies so many.
+fn expect_drained<N: Name, R: Abort + Wait>(
+    rt: &R,
+    store: &Store<N>,
+    lane: &mut Lane<N>,
+    wanted: u64,
+) {
+    expect(rt, "a drain", &drain(rt, store, lane), &wanted);
 }
 
-/// One that left COLD meanwhile gets its time only.
-pub fn leave_outside_cold<N: Name, R: Abort + Wait>(rt: &R, whole: &mut Whole<N>) {
-    let item = queue(rt, whole);
-    whole.expect_pulled(rt, 0, Tail::Cold, Pulled::Warm(item));
-    whole.expect_next(rt, 0, 8, entry(0, item, Applied::TimeOnly));
-    whole.expect_seen(rt, item.chunk, (head(1, "lf", Segment::Warm), 8));
+fn applied<N: Name>(lane: &Lane<N>) -> u64 {
+    lane.applied()
 }
 
-#[test]
-fn a_bump_outside_cold_stores_the_time(rt: HostRuntime) -> Result<(), Fail> {
-    Ok(tell(
-        &rt,
-        rt.alloc(),
-        4,
-        &[class(2, 0, 5)],
-        Story::LeftOutsideCold,
-    )?)
-}
-
-// The hold meets the Book of its class.
-fn meet<N: Name, R: Abort + Wait>(rt: &R, store: &Store<N>, hold: &mut Hold<N>) {
-    let mut book = lock(rt, store, 0);
-    assert!(rt; book.has_chunk(hold.life().chunk));
-    hold.meet(&mut book);
-}
-
-/// One that was unlinked meanwhile, and that a reader holds, stays in DYING. The reader's hold meets its class.
-pub fn apply_unlinked<N: Name, R: Abort + Wait>(rt: &R, whole: &mut Whole<N>) {
-    let item = queue(rt, whole);
-    let mut hold = whole.get(rt, 1, item);
-    whole.expect_ended(rt, 0, item, Ended::Deferred);
-    meet(rt, &whole.store, &mut hold);
-    whole.expect_next(rt, 0, 8, entry(0, item, Applied::Gone(Ended::Deferred)));
-    expect(rt, "the label", &label(&whole.store, &mut hold), &7);
-    hold.release(&whole.store);
-    whole.expect_swept(rt, 0, 1);
-}
-
-#[test]
-fn a_bump_of_a_held_item_that_is_gone(rt: HostRuntime) -> Result<(), Fail> {
-    Ok(tell(
-        &rt,
-        rt.alloc(),
-        4,
-        &[class(2, 0, 5)],
-        Story::AppliedUnlinked,
-    )?)
-}
-
-/// Where the bump had the last reference its chunk is free.
-pub fn free_the_last<N: Name, R: Abort + Wait>(rt: &R, whole: &mut Whole<N>) {
-    let item = queue(rt, whole);
-    whole.expect_ended(rt, 0, item, Ended::Deferred);
-    whole.expect_next(rt, 0, 8, entry(0, item, Applied::Gone(Ended::Freed)));
-    whole.expect_size(rt, 0, Place::Dying, 0);
-    whole.expect_size(rt, 0, Place::Unused, 2);
-}
-
-#[test]
-fn a_bump_frees_the_chunk_that_it_held(rt: HostRuntime) -> Result<(), Fail> {
-    Ok(tell(&rt, rt.alloc(), 4, &[class(2, 0, 5)], Story::FreedTheLast)?)
+// WARM of the class has so many items.
+fn expect_warm<N: Name, R: Abort + Wait>(rt: &R, store: &Store<N>, class: u32, wanted: u32) {
+    let book = lock(rt, store, class);
+    expect(rt, "WARM", &book.size(Place::Warm), &wanted);
 }
 
 /// A ring with room for one bump takes one again after a drain.
-pub fn drain_again<N: Name, R: Abort + Wait>(rt: &R, whole: &mut Whole<N>) {
-    let first = whole.link_cold(rt, 0, 7, 3);
-    let second = whole.link_cold(rt, 0, 8, 4);
-    whole.hit(rt, 0, first, 7);
-    whole.expect_hit(rt, 0, first, 8, (7, Touch::Queued(0)));
-    whole.hit(rt, 0, second, 9);
-    whole.expect_hit(rt, 0, second, 10, (8, Touch::Dropped(Dropped::Full)));
-    whole.expect_drained(rt, 0, 11, 1);
-    whole.expect_hit(rt, 0, second, 12, (8, Touch::Queued(1)));
-    whole.expect_drained(rt, 0, 13, 1);
-    whole.expect_applied(rt, 0, 2);
-    whole.expect_seen(rt, second.chunk, (head(1, "lf", Segment::Warm), 13));
+pub fn drain_again<N: Name, R: Abort + Wait>(
+    rt: &R,
+    store: &Store<N>,
+    worker: &mut Worker<N>,
+    lane: &mut Lane<N>,
+) {
+    hit_twice(rt, store, worker, 0, Touch::Queued(0));
+    let second = hit_twice(rt, store, worker, 0, Touch::Dropped(Dropped::Full));
+    expect_drained(rt, store, lane, 1);
+    expect_hit(rt, store, worker, second, Touch::Queued(1));
+    expect_drained(rt, store, lane, 1);
+    expect(rt, "applied bumps", &applied(lane), &2);
+    expect_warm(rt, store, 0, 2);
 }
 
 #[test]
@@ -127,18 +80,39 @@ fn a_drained_ring_takes_again(rt: HostRuntime) -> Result<(), Fail> {
     Ok(tell(&rt, rt.alloc(), 1, &[class(2, 0, 5)], Story::DrainedAgain)?)
 }
 
-/// Of two bumps of one item the second finds it in WARM.
-pub fn drain_both<N: Name, R: Abort + Wait>(rt: &R, whole: &mut Whole<N>) {
-    let item = queue(rt, whole);
-    whole.expect_pulled(rt, 0, Tail::Cold, Pulled::Warm(item));
-    whole.expect_pulled(rt, 0, Tail::Warm, Pulled::Cold(item));
-    whole.expect_hit(rt, 1, item, 9, (7, Touch::Queued(0)));
-    whole.expect_next(rt, 0, 10, entry(0, item, Applied::Moved));
-    whole.expect_next(rt, 1, 10, entry(0, item, Applied::TimeOnly));
-    whole.expect_seen(rt, item.chunk, (head(1, "lf", Segment::Warm), 10));
+// Runs of one, two and one bumps fill the ring, and are drained at once. The first one's number is this.
+fn fill_and_drain<N: Name, R: Abort + Wait>(
+    rt: &R,
+    store: &Store<N>,
+    worker: &mut Worker<N>,
+    lane: &mut Lane<N>,
+    number: u64,
+) {
+    let mut next = number;
+    for class in [0, 1, 1, 0] {
+        hit_twice(rt, store, worker, class, Touch::Queued(next));
+        next = next.saturating_add(1);
+    }
+    expect_drained(rt, store, lane, 4);
+}
+
+/// A drain goes on with the bumps of the other class where a run ended. Nothing is aboard then, so the ring takes four again.
+pub fn drain_in_turn<N: Name, R: Abort + Wait>(
+    rt: &R,
+    store: &Store<N>,
+    worker: &mut Worker<N>,
+    lane: &mut Lane<N>,
+) {
+    fill_and_drain(rt, store, worker, lane, 0);
+    fill_and_drain(rt, store, worker, lane, 4);
+    expect(rt, "applied bumps", &applied(lane), &8);
+    expect_warm(rt, store, 0, 4);
+    expect_warm(rt, store, 1, 4);
+    expect_drained(rt, store, lane, 0);
 }
 
 #[test]
-fn two_bumps_of_one_item(rt: HostRuntime) -> Result<(), Fail> {
-    Ok(tell(&rt, rt.alloc(), 4, &[class(2, 0, 0)], Story::DrainedBoth)?)
+fn a_drain_takes_the_classes_in_turn(rt: HostRuntime) -> Result<(), Fail> {
+    let classes = [class(4, 0, 5), class(4, 0, 5)];
+    Ok(tell(&rt, rt.alloc(), 4, &classes, Story::DrainedInTurn)?)
 }

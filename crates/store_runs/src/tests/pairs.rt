@@ -3,17 +3,14 @@ ghost use Rattle.std.specs.Prelude.{◌≡◌, IsSome};
 ghost use Rattle.std.specs.Vec.Iter.{into_iter_items};
 ghost use Rattle.bump_store.specs.Lanes.{worker_rings, lane_rings};
 
-use super::calls;
-use super::calls::{hit, lock};
+use super::calls::hit;
 use super::expecting::{expect, expect_at};
-use super::whole::{Story, class, tell};
 use bump_heads::Name;
 use bump_rules::{Entry, ItemId, Touch};
-use bump_store::{ClosedWorker, Lane, Maintainer, Settled, Store, Unseen, Worker};
+use bump_store::{ClosedWorker, Lane, Settled, Store, Unseen, Worker};
 use std::alloc::Global;
 use std::process::Abort;
 use std::sync::Wait;
-use std::test::Fail;
 use std::vec::IntoIter;
 
 /// A worker and the lane of its ring.
@@ -140,46 +137,4 @@ impl<N: Name> Pair<N> {
         let told = self.hit(rt, store, item, now);
         expect_at(rt, "the hit at", now, &told, &wanted);
     }
-}
-
-/// A new item of class 0 with this label and time, in COLD: the limit of HOT is 0.
-pub fn link_cold<N: Name, R: Abort + Wait>(
-    rt: &R,
-    store: &Store<N>,
-    label: u64,
-    now: u64,
-) -> ItemId {
-    let mut book = lock(rt, store, 0);
-    calls::link_cold(rt, &mut book, label, now)
-}
-
-// What the lane applies, which is all that the worker queued.
-fn drain<N: Name, R: Abort + Wait>(rt: &R, store: &Store<N>, pair: &mut Pair<N>) {
-    expect(rt, "a drain", &pair.lane.drain(rt, store, 7), &1);
-    let accepted = pair.worker.counts().accepted;
-    expect(rt, "applied bumps", &pair.lane.applied(), &accepted);
-}
-
-/// What the worker queued the lane applies.
-pub fn hit_and_drain<N: Name, R: Abort + Wait>(
-    rt: &R,
-    store: &Store<N>,
-    workers: Vec<Worker<N>>,
-    maintainer: Maintainer<N>,
-)
-    requires { worker_rings workers.items ≡ lane_rings maintainer }
-{
-    let (mut pair, _other) = two_pairs(workers, maintainer.into_lanes()).expect(
-        rt,
-        "there are two",
-    );
-    let item = link_cold(rt, store, 7, 3);
-    pair.hit(rt, store, item, 5);
-    pair.expect_hit(rt, store, item, 6, Touch::Queued(0));
-    drain(rt, store, &mut pair);
-}
-
-#[test]
-fn a_pair_applies_what_it_queued(rt: HostRuntime) -> Result<(), Fail> {
-    Ok(tell(&rt, rt.alloc(), 4, &[class(2, 0, 5)], Story::HitAndDrained)?)
 }

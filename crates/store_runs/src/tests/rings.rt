@@ -1,24 +1,143 @@
-//! A ring by itself: order, room, what a closed one shows, two threads at its ends, and want of memory.
-ghost use Rattle.std.specs.Prelude.{◌≡◌};
+//! A ring by itself: what a closed one shows, two threads at its ends, and want of memory.
+ghost use Rattle.std.specs.Prelude.{◌≡◌, ◌<◌, IfSome, [], ◌∷◌};
+ghost use Rattle.bump_readers.specs.Workers.{worker_seen};
+ghost use Rattle.bump_steps.specs.Rule.{worker_part};
 
-use super::calls::{hit, pull_round};
+use super::calls::{hit, link_cold, pull_round};
 use super::expecting::expect;
-use super::stores::{Scene, Small, id, play, sized};
+use super::whole::id;
 use bump_class::Book;
-use bump_heads::{Heads, Name};
+use bump_heads::{Blank, HeadParts, Heads, Name, WorkerSeat};
 use bump_readers::Rider;
 use bump_ring::{ClosedSender, Receiver, Sender, ring};
-use bump_rules::{Dropped, ItemId, Touch};
+use bump_rules::{ClassConfig, Config, Dropped, ItemId, Touch};
 use bump_store::Worker;
 use std::alloc::{AllocError, Global};
 use std::hint::spin_loop;
+use std::marker::Brand;
 use std::process::Abort;
+use std::sync::Arc;
 use std::test::Fail;
 use std::thread;
 use std::thread::Threads;
 
+/// Items that are bumped in turn, so that no count of references comes to its limit.
+const ITEMS: u32 = 64;
+
+/// The only class of a store of rings: an item that is pulled from HOT or from WARM goes on.
+const CLASS: ClassConfig = ClassConfig {
+    chunks: ITEMS,
+    hot: 0,
+    warm: 0,
+};
+
+/// A store of one class and one worker, whose ring has no lane.
+#[derive(Drop)]
+struct Small<N: Name> {
+    heads: Arc<Heads<N>, Global>,
+    book: Book<N>,
+    worker: Worker<N>,
+    receiver: Receiver<N>,
+}
+
+/// What is played.
+#[derive(Clone, Copy)]
+enum Scene {
+    Crossed { bumps: u64 },
+    Closed,
+    MadeAgain,
+}
+
+// None where memory is refused.
+fn config_of(alloc: Global, capacity: u32) -> Option<Config>
+    ensures small { IfSome result (λ c. (c.workers ≡ 1) × (c.classes ≡ CLASS ∷ [])) }
+{
+    Config::new(1, capacity, 65_535, 1, vec![in alloc; CLASS].ok()?).ok()
+}
+
+// The only worker, and the end of its ring.
+fn worker_of<N: Name>(
+    alloc: Global,
+    workers: Vec<WorkerSeat<N>>,
+    capacity: u32,
+) -> Result<(Worker<N>, Receiver<N>), AllocError>
+    requires seats { workers.items ≡ worker_seen (worker_part 0) ∷ [] }
+    requires room { 0 < capacity }
+{
+    let mut seats = workers;
+    let seat = seats.pop().ok_or(AllocError)?;
+    let (sender, receiver) = ring(alloc, capacity)?;
+    Ok((Worker::new(seat, sender), receiver))
+}
+
+fn open<N: Name>(
+    alloc: Global,
+    blank: Blank,
+    config: &Config,
+    capacity: u32,
+) -> Result<Small<N>, AllocError>
+    requires name { blank.table ≡ N.table }
+    requires config { blank.config ≡ config.now }
+    requires small { (config.now.workers ≡ 1) × (config.now.classes ≡ CLASS ∷ []) }
+    requires room { 0 < capacity }
+{
+    let HeadParts {
+        heads,
+        mut classes,
+        workers,
+        lanes: _,
+    } = Heads::<N>::new(alloc, blank, config)?;
+    let seat = classes.pop().ok_or(AllocError)?;
+    let book = Book::new(alloc, seat, 0, CLASS)?;
+    let (worker, receiver) = worker_of(alloc, workers, capacity)?;
+    Ok(Small {
+        heads,
+        book,
+        worker,
+        receiver,
+    })
+}
+
+fn play_in<N: Name + Send + Sync, R: Threads + Abort + Sync>(
+    rt: &R,
+    alloc: Global,
+    blank: Blank,
+    config: &Config,
+    capacity: u32,
+    scene: Scene,
+) -> Result<(), AllocError>
+    requires name { blank.table ≡ N.table }
+    requires config { blank.config ≡ config.now }
+    requires small { (config.now.workers ≡ 1) × (config.now.classes ≡ CLASS ∷ []) }
+    requires room { 0 < capacity }
+{
+    let small = open::<N>(alloc, blank, config, capacity)?;
+    match scene {
+        Scene::Crossed { bumps } => cross(rt, small, bumps),
+        Scene::Closed => close_ring::<N, R>(rt, alloc)?,
+        Scene::MadeAgain => make_again::<N, R>(rt, alloc)?,
+    }
+    Ok(())
+}
+
+// Plays a scene in a new store, whose ring has room for so many bumps.
+fn play<R: Threads + Abort + Sync>(
+    rt: &R,
+    alloc: Global,
+    capacity: u32,
+    scene: Scene,
+) -> Result<(), AllocError>
+    requires room { 0 < capacity }
+{
+    let config = config_of(alloc, capacity).ok_or(AllocError)?;
+    let blank = Blank::new(alloc, &config)?;
+    play_in::<Brand, R>(rt, alloc, blank, &config, capacity, scene)
+}
+
 // No bump comes out of the ring.
-fn expect_none<N: Name>(rt: &impl Abort, receiver: &mut Receiver<N>) {
+fn expect_none<N: Name>(rt: &impl Abort, receiver: &mut Receiver<N>)
+    ensures { receiver.new.ring ≡ receiver.old.ring }
+{
     assert!(rt; receiver.take().is_none());
 }
 
@@ -27,136 +146,34 @@ fn expect_end<N: Name>(rt: &impl Abort, receiver: &mut Receiver<N>, closed: &mut
     requires ring { closed.old.ring ≡ receiver.old.ring }
     ensures ring { closed.new.ring ≡ receiver.new.ring }
 {
-    assert_eq!(rt; receiver.rest(closed), Some(0));
+    expect(rt, "what is left", &receiver.rest(closed), &Some(0));
 }
 
-/// Bumps come out in the order in which they were queued, and none comes twice.
-pub fn take_in_order<N: Name, R: Abort>(rt: &R, small: &mut Small<N>) {
-    expect_none(rt, &mut small.receiver);
-    for chunk in 0..3u64 {
-        let item = small.link_cold(rt, chunk, 1);
-        small.hit(rt, item, 2);
-        small.expect_hit(rt, item, 3, (chunk, Touch::Queued(chunk)));
-    }
-    expect(rt, "the bumps known", &small.receiver.known(), &0);
-    for chunk in 0..3u32 {
-        small.expect_taken(rt, (0, u64::from(chunk), id(chunk, 1)));
-    }
-    expect_none(rt, &mut small.receiver);
-}
-
-#[test]
-fn bumps_are_taken_in_order(rt: HostRuntime) -> Result<(), Fail> {
-    Ok(play(&rt, rt.alloc(), sized(4, 4, 3, 0, 5), Scene::TakenInOrder)?)
-}
-
-/// A ring that was closed while it was empty shows its end, again and again.
-pub fn close_ring<N: Name, R: Abort>(rt: &R, alloc: Global) -> Result<(), AllocError> {
-    let (sender, mut receiver) = ring::<N>(alloc, 2)?;
+// A new ring has no bumps.
+fn expect_new<N: Name>(rt: &impl Abort, sender: &Sender<N>, receiver: &mut Receiver<N>)
+    ensures { receiver.new.ring ≡ receiver.old.ring }
+{
     expect(rt, "accepted bumps", &sender.accepted(), &0);
+    expect(rt, "the bumps known", &receiver.known(), &0);
+    expect_none(rt, receiver);
+}
+
+// A ring that was closed while it was empty shows its end, again and again.
+fn close_ring<N: Name, R: Abort>(rt: &R, alloc: Global) -> Result<(), AllocError> {
+    let (sender, mut receiver) = ring::<N>(alloc, 2)?;
+    expect_new(rt, &sender, &mut receiver);
     let mut closed = sender.close();
     expect(rt, "accepted bumps", &closed.accepted(), &0);
     expect_end(rt, &mut receiver, &mut closed);
     expect_end(rt, &mut receiver, &mut closed);
     expect_none(rt, &mut receiver);
-    expect(rt, "the bumps known", &receiver.known(), &0);
-    Ok(())
-}
-
-// The next bump of the worker's own ring, of an item in COLD that is FETCHED. The item is as it was, but for the
-// reference.
-fn next_bump<N: Name>(rt: &impl Abort, small: &mut Small<N>, item: ItemId) -> Rider<N> {
-    let (_label, touch) = small.hit(rt, item, 5);
-    assert!(rt; matches!(touch, Touch::Queued(_)));
-    pull_round(rt, &mut small.book, item);
-    small.take(rt)
-}
-
-// Offers a bump that has the next number.
-fn offer_next<N: Name>(
-    rt: &impl Abort,
-    sender: &mut Sender<N>,
-    rider: Rider<N>,
-) -> Result<u64, Rider<N>>
-    ensures { sender.new.ring ≡ sender.old.ring }
-{
-    assert!(rt; rider.number() == sender.accepted());
-    match sender.offer(rider) {
-        Ok(number) => Ok(number),
-        Err(back) => Err(back),
-    }
-}
-
-// Offers a bump that finds no room, and comes back.
-fn refuse_next<N: Name>(rt: &impl Abort, sender: &mut Sender<N>, rider: Rider<N>) -> Rider<N>
-    ensures { sender.new.ring ≡ sender.old.ring }
-{
-    offer_next(rt, sender, rider)
-        .err()
-        .expect(rt, "there is no room")
-}
-
-// Offers a bump, which gets this number, and a second one that finds no room, and comes back.
-fn send_round<N: Name>(
-    rt: &impl Abort,
-    sender: &mut Sender<N>,
-    next: Rider<N>,
-    number: u64,
-    second: Rider<N>,
-) -> Rider<N>
-    ensures { sender.new.ring ≡ sender.old.ring }
-{
-    let accepted = offer_next(rt, sender, next).ok();
-    expect(rt, "the number", &accepted, &Some(number));
-    refuse_next(rt, sender, second)
-}
-
-// The next bump of the ring has this number, and is of this item.
-fn take_this<N: Name>(rt: &impl Abort, receiver: &mut Receiver<N>, number: u64, item: ItemId)
-    ensures { receiver.new.ring ≡ receiver.old.ring }
-{
-    let taken = receiver.take().expect(rt, "there is one");
-    expect(
-        rt,
-        "the bump",
-        &(taken.number(), taken.life()),
-        &(number, item),
-    );
-}
-
-/// A ring with room for one bump takes one in each round, and hands a second one back. Closed, it has nothing left.
-pub fn send_in_rounds<N: Name>(
-    rt: &impl Abort,
-    alloc: Global,
-    small: &mut Small<N>,
-) -> Result<(), AllocError> {
-    let item = small.link_cold(rt, 7, 1);
-    small.hit(rt, item, 2);
-    let (mut sender, mut receiver) = ring::<N>(alloc, 1)?;
-    let mut next = next_bump(rt, small, item);
-    for number in 0..1_000u64 {
-        let second = next_bump(rt, small, item);
-        next = send_round(rt, &mut sender, next, number, second);
-        take_this(rt, &mut receiver, number, item);
-    }
-    let mut closed = sender.close();
-    expect(rt, "accepted bumps", &closed.accepted(), &1_000);
-    expect_end(rt, &mut receiver, &mut closed);
     Ok(())
 }
 
 #[test]
-fn a_ring_of_one_takes_one_in_each_round(rt: HostRuntime) -> Result<(), Fail> {
-    Ok(play(
-        &rt,
-        rt.alloc(),
-        sized(1, 65_535, 1, 0, 0),
-        Scene::SentInRounds,
-    )?)
+fn a_closed_ring_shows_its_end(rt: HostRuntime) -> Result<(), Fail> {
+    Ok(play(&rt, rt.alloc(), 4, Scene::Closed)?)
 }
-
-/// Items that are bumped in turn, so that no count of references comes to its limit.
-const ITEMS: u32 = 64;
 
 /// How often a thread tries before the test fails.
 const TRIES: u32 = u32::MAX;
@@ -231,21 +248,23 @@ fn take_all<N: Name>(rt: &impl Abort, mut receiver: Receiver<N>, bumps: u64) -> 
     receiver
 }
 
-// The first hit of each item, so that the next one bumps it.
-fn hit_first<N: Name, R: Abort>(rt: &R, small: &mut Small<N>) {
+// The first hit of a new item, so that the next one bumps it.
+fn hit_new<N: Name>(rt: &impl Abort, small: &mut Small<N>, number: u64) {
+    let item = link_cold(rt, &mut small.book, number, 1);
+    expect(rt, "the item", &item, &item_of(number));
+    let told = hit(rt, &small.heads, &mut small.worker, item, 2);
+    expect(rt, "the first hit", &told, &(number, Touch::First));
+}
+
+// The first hits of all items.
+fn hit_first<N: Name>(rt: &impl Abort, small: &mut Small<N>) {
     for number in 0..u64::from(ITEMS) {
-        let item = small.link_cold(rt, number, 1);
-        expect(rt, "the item", &item, &item_of(number));
-        small.expect_hit(rt, item, 2, (number, Touch::First));
+        hit_new(rt, small, number);
     }
 }
 
-/// A worker queues so many bumps in one thread, and another thread takes them, in order.
-pub fn cross<N: Name + Send + Sync, R: Threads + Abort + Sync>(
-    rt: &R,
-    small: Small<N>,
-    bumps: u64,
-) {
+// A worker queues so many bumps in one thread, and another thread takes them, in order.
+fn cross<N: Name + Send + Sync, R: Threads + Abort + Sync>(rt: &R, small: Small<N>, bumps: u64) {
     let mut small = small;
     hit_first(rt, &mut small);
     let Small {
@@ -266,22 +285,12 @@ pub fn cross<N: Name + Send + Sync, R: Threads + Abort + Sync>(
 
 #[test]
 fn a_ring_of_one_between_two_threads(rt: HostRuntime) -> Result<(), Fail> {
-    Ok(play(
-        &rt,
-        rt.alloc(),
-        sized(1, 65_535, ITEMS, 0, 0),
-        Scene::Crossed { bumps: 100_000 },
-    )?)
+    Ok(play(&rt, rt.alloc(), 1, Scene::Crossed { bumps: 100_000 })?)
 }
 
 #[test]
 fn a_ring_of_65536_between_two_threads(rt: HostRuntime) -> Result<(), Fail> {
-    Ok(play(
-        &rt,
-        rt.alloc(),
-        sized(65_536, 65_535, ITEMS, 0, 0),
-        Scene::Crossed { bumps: 150_000 },
-    )?)
+    Ok(play(&rt, rt.alloc(), 65_536, Scene::Crossed { bumps: 150_000 })?)
 }
 
 // `checks/refused_allocations` looks for these words, so as to know that the allocation was one of this test.
@@ -290,18 +299,11 @@ fn tell_refused(rt: &impl Eprint) -> Result<(), Fail> {
     Ok(())
 }
 
-/// A ring that is refused for want of memory may be asked for again, and is then as any other. It is refused where the
-/// first one was, so that this is told.
-pub fn make_again<N: Name, R: Abort>(rt: &R, alloc: Global) -> Result<(), AllocError> {
+// A ring that is refused for want of memory may be asked for again, and is then as any other. It is refused where the
+// first one was, so that this is told.
+fn make_again<N: Name, R: Abort>(rt: &R, alloc: Global) -> Result<(), AllocError> {
     let refused = ring::<N>(alloc, 2).is_err();
-    let (sender, mut receiver) = ring::<N>(alloc, 2)?;
-    expect(
-        rt,
-        "a new ring",
-        &(sender.accepted(), receiver.known()),
-        &(0, 0),
-    );
-    expect_none(rt, &mut receiver);
+    close_ring::<N, R>(rt, alloc)?;
     if refused {
         return Err(AllocError);
     }
@@ -311,15 +313,9 @@ pub fn make_again<N: Name, R: Abort>(rt: &R, alloc: Global) -> Result<(), AllocE
 // Holds whichever one allocation is refused: no store or no ring is made, and both may be made then.
 #[test]
 fn a_refused_allocation_makes_no_ring(rt: HostRuntime) -> Result<(), Fail> {
-    let sizes = sized(4, 4, 2, 0, 5);
-    if play(&rt, rt.alloc(), sizes, Scene::MadeAgain).is_err() {
+    if play(&rt, rt.alloc(), 4, Scene::MadeAgain).is_err() {
         tell_refused(&rt)?;
-        play(&rt, rt.alloc(), sizes, Scene::MadeAgain)?;
+        play(&rt, rt.alloc(), 4, Scene::MadeAgain)?;
     }
     Ok(())
-}
-
-#[test]
-fn a_closed_ring_shows_its_end(rt: HostRuntime) -> Result<(), Fail> {
-    Ok(play(&rt, rt.alloc(), sized(4, 4, 2, 0, 5), Scene::Closed)?)
 }

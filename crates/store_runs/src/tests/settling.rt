@@ -2,13 +2,13 @@
 ghost use Rattle.std.specs.Prelude.{◌≡◌};
 ghost use Rattle.bump_store.specs.Lanes.{worker_rings, lane_rings};
 
-use super::calls::{expect_size, get, lock, touch};
+use super::calls::{expect_size, get, lock, new_cold, touch};
 use super::expecting::expect;
-use super::pairs::{Pair, link_cold, two_pairs};
+use super::pairs::{Pair, two_pairs};
 use super::whole::{Story, class, tell};
 use bump_heads::Name;
 use bump_rules::{Accounts, Applied, Entry, ItemId, Place, Touch};
-use bump_store::{ClassSizes, Maintainer, Settled, Store, Worker};
+use bump_store::{ClassSizes, Hold, Maintainer, Settled, Store, Worker};
 use std::alloc::{AllocError, Global};
 use std::process::Abort;
 use std::sync::Wait;
@@ -43,8 +43,8 @@ fn queue_two<N: Name, R: Abort + Wait>(
     store: &Store<N>,
     pair: &mut Pair<N>,
 ) -> [ItemId; 2] {
-    let first = link_cold(rt, store, 7, 3);
-    let second = link_cold(rt, store, 8, 4);
+    let first = new_cold(rt, store, 0);
+    let second = new_cold(rt, store, 0);
     pair.hit(rt, store, first, 5);
     pair.expect_hit(rt, store, first, 6, Touch::Queued(0));
     pair.hit(rt, store, second, 7);
@@ -130,13 +130,21 @@ fn a_closed_ring_is_emptied_and_settled(rt: HostRuntime) -> Result<(), Fail> {
     )?)
 }
 
-// Two touches of a new item under one hold, of which the second queues the worker's first bump.
+// The hold meets the Book of its class.
+fn meet<N: Name, R: Abort + Wait>(rt: &R, store: &Store<N>, hold: &mut Hold<N>) {
+    let mut book = lock(rt, store, 0);
+    assert!(rt; book.has_chunk(hold.life().chunk));
+    hold.meet(&mut book);
+}
+
+// Two touches of a new item under one hold, of which the second queues the worker's first bump. The hold meets its class.
 fn touch_twice<N: Name, R: Abort + Wait>(rt: &R, store: &Store<N>, worker: &mut Worker<N>) {
-    let item = link_cold(rt, store, 7, 3);
+    let item = new_cold(rt, store, 0);
     let mut hold = get(rt, store, worker, item);
     touch(store, worker, &mut hold, 5);
     let told = touch(store, worker, &mut hold, 6);
     expect(rt, "the second touch", &told, &Touch::Queued(0));
+    meet(rt, store, &mut hold);
     hold.release(store);
 }
 
@@ -176,7 +184,7 @@ fn a_pass_drains_each_lane(rt: HostRuntime) -> Result<(), Fail> {
     Ok(tell(&rt, rt.alloc(), 4, &[class(2, 0, 5)], Story::PassedTwice)?)
 }
 
-/// The sizes of a new store, whose classes have one chunk and two.
+/// The sizes of a new store, whose classes have one chunk, two and three.
 pub fn finish_new<N: Name, R: Abort + Wait>(
     rt: &R,
     alloc: Global,
@@ -193,7 +201,7 @@ pub fn finish_new<N: Name, R: Abort + Wait>(
         unused,
         retired: 0,
     };
-    let wanted = [new(1), new(2)];
+    let wanted = [new(1), new(2), new(3)];
     expect(rt, "the sizes", &sizes.as_slice(), &wanted.as_slice());
     Ok(())
 }

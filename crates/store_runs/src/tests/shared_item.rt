@@ -1,9 +1,9 @@
 //! Two workers touch one item while a third thread applies what they queue; then both rings are settled.
 ghost use Rattle.std.specs.Prelude.{◌≡◌};
 
-use super::calls::hit;
+use super::calls::{hit, new_cold};
 use super::expecting::expect;
-use super::pairs::{ClosedPair, Pair, link_cold, two_pairs};
+use super::pairs::{ClosedPair, Pair, two_pairs};
 use super::whole::class;
 use bump_heads::{Blank, Name};
 use bump_rules::{Applied, Config, Entry, ItemId};
@@ -168,7 +168,7 @@ fn share<N: Name + Send + Sync, R: Threads + Abort + Wait + Sync>(
     first: Pair<N>,
     second: Pair<N>,
 ) {
-    let item = link_cold(rt, store, 7, 3);
+    let item = new_cold(rt, store, 0);
     let Pair { worker, lane } = first;
     let Pair {
         worker: other,

@@ -1,4 +1,20 @@
-//! Worked traces of ends, evicts, sweeps, closings, holds, several workers and several classes.
+//! Worked traces of pulls, ends, evicts, sweeps, closings, holds, several workers and several classes.
+
+/// What a pull finds to do, a bump that finds its item back in COLD and not ACTIVE, and a chunk that is retired by an evict and a sweep.
+pub(super) const PULLS: [(&str, &str); 3] = [
+    (
+        "store 1 4 4 1\nclass 3 1 1\npull 0 hot\npull 0 warm\npull 0 cold\nset a 0 7\npull 0 hot\nget 0 a\nget 0 a\nget 0 a\nshow\n",
+        "pull 0 hot empty\npull 0 warm empty\npull 0 cold empty\nset a 0.1\npull 0 hot stay 0.1\nget 0 a 7 first\nget 0 a 7 marked\nget 0 a 7 already\nclass 0 hot 1 0.1:1:fa:9\nclass 0 warm 0\nclass 0 cold 0\nclass 0 dying 0\nclass 0 unused 2 1 2\nclass 0 retired 0\nworker 0 attempted 0 accepted 0 full 0 busy 0 refs 0 applied 0\n",
+    ),
+    (
+        "store 1 4 4 1\nclass 2 0 0\nset a 0 7\npull 0 hot\nget 0 a\nget 0 a\npull 0 cold\npull 0 warm\ndrain\nshow\n",
+        "set a 0.1\npull 0 hot cold 0.1\nget 0 a 7 first\nget 0 a 7 queued 0\npull 0 cold warm 0.1\npull 0 warm cold 0.1\nbump 0 0 0.1 time\ndrain 1\nclass 0 hot 0\nclass 0 warm 0\nclass 0 cold 1 0.1:1:f:9\nclass 0 dying 0\nclass 0 unused 1 1\nclass 0 retired 0\nworker 0 attempted 1 accepted 1 full 0 busy 0 refs 0 applied 1\n",
+    ),
+    (
+        "store 1 4 4 4294967295\nclass 1 0 5\nset a 0 7\npull 0 hot\nhold 0 a h\npull 0 evict\nsweep 0\ndrop h\nsweep 0\nset b 0 8\nshow\n",
+        "set a 0.4294967295\npull 0 hot cold 0.4294967295\nhold 0 a h held\npull 0 evict deferred 0.4294967295\nsweep 0 0\ndrop h\nsweep 0 1\nset b full\nclass 0 hot 0\nclass 0 warm 0\nclass 0 cold 0\nclass 0 dying 0\nclass 0 unused 0\nclass 0 retired 1 0\nworker 0 attempted 0 accepted 0 full 0 busy 0 refs 0 applied 0\n",
+    ),
+];
 
 /// Ends, evicts, sweeps, closings, several workers and several classes.
 pub(super) const ENDS: [(&str, &str); 7] = [

@@ -1,4 +1,0 @@
-use Rattle.class_runs.proofs.books.scenes.play.Given as goal
-
-abbrev pub ghosts-play_in : goal.ghosts-play_in
-ghosts-play_in a b = record { table = b.blank.table }
