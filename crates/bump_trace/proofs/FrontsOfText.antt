@@ -61,9 +61,15 @@ stops_behind held mid holds sent old new text behind whole faults.Memory p q h =
       wrote = appends_more held mid holds sent q.sent p q.wrote;
       front = apart ∙ ap (λ l. sent ++ (l ++ behind)) q.front ∙ joined ∙ h;
     }
-stops_behind held mid holds sent old new text behind whole e p q h =
+stops_behind held mid holds sent old new text behind whole faults.Write p q h =
     let joined : sent ++ ((old ++ text) ++ behind) ≡ ((sent ++ old) ++ text) ++ behind = simp append_assoc in
     subst (WritesFront held holds) (joined ∙ h) (front_behind held mid holds sent _ p (front_of_more mid holds _ behind q))
+stops_behind held mid holds sent old new text behind whole faults.Trace p q h = absurd q
+stops_behind held mid holds sent old new text behind whole faults.Read p q h = absurd q
+stops_behind held mid holds sent old new text behind whole faults.Size p q h = absurd q
+stops_behind held mid holds sent old new text behind whole faults.Threads p q h = absurd q
+stops_behind held mid holds sent old new text behind whole faults.Ring p q h = absurd q
+stops_behind held mid holds sent old new text behind whole faults.Gate p q h = absurd q
 
 -- at a line that was run
 pub stops_at_line : (held mid holds : Option (List ℕ)) (sent old new text input line after : List ℕ) (n : ℕ) (s t : Stage) (parts : List (List ℕ)) (e : SimFault)

@@ -26,11 +26,17 @@ pub record GathersFront (held holds : Option (List ℕ)) (gathered text : List �
   pub wrote : Appends held holds sent
   pub front : (sent ++ gathered) ++ more ≡ text
 
--- Where there was no memory, what was written and then what is gathered is a front of this text; after another fault,
--- what was written.
+-- Where a write failed, what was written is a front of this text; where there was no memory, what was written and then
+-- what is gathered. While the text is made and written nothing else can come.
 abbrev pub StopsWithin : Option (List ℕ) → Option (List ℕ) → List ℕ → List ℕ → SimFault → Type 0
+StopsWithin held holds gathered text faults.Trace = ⊥
+StopsWithin held holds gathered text faults.Read = ⊥
+StopsWithin held holds gathered text faults.Size = ⊥
+StopsWithin held holds gathered text faults.Write = WritesFront held holds text
 StopsWithin held holds gathered text faults.Memory = GathersFront held holds gathered text
-StopsWithin held holds gathered text _ = WritesFront held holds text
+StopsWithin held holds gathered text faults.Threads = ⊥
+StopsWithin held holds gathered text faults.Ring = ⊥
+StopsWithin held holds gathered text faults.Gate = ⊥
 
 -- The line of a fault was gathered.
 abbrev pub GathersFault : Option (List ℕ) → Option (List ℕ) → List ℕ → List ℕ → ℕ → LineError → Type 0

@@ -1,7 +1,8 @@
 -- What a whole run reads and writes.
-use Rattle.std.specs.Prelude.{◌≡◌, ◌<◌, ◌≤◌, ◌⊎◌, ⊤, ℕ, Bool, true, false, List, ◌++◌, length, Option, Result, Ok, Err}
+use Rattle.std.specs.Prelude.{◌≡◌, ◌<◌, ◌≤◌, ◌⊎◌, ⊤, ℕ, Bool, true, false, List, length, Option, Result, Ok, Err}
 use Rattle.std.specs.Io.KnownBytes.{Appends, Consumes, Keeps, IsAtEnd}
 use Rattle.bump_trace.specs.Meaning.{verdict_of}
+use Rattle.bump_trace.specs.Gathering.{WritesFront}
 use Rattle.bump_trace.specs.declared.runs.SimFault.{SimFault}
 use Rattle.bump_trace.specs.declared.runs.SimFault.TheVariants as faults
 
@@ -28,10 +29,7 @@ pub record PartlyRan (had left held holds : Option (List ℕ)) : Type 0 where
   pub read : Consumes had left input
   pub end : IsAtEnd left
   pub size : length input ≤ most_bytes
-  pub sent : List ℕ
-  pub more : List ℕ
-  pub wrote : Appends held holds sent
-  pub front : sent ++ more ≡ (verdict_of input).text
+  pub front : WritesFront held holds (verdict_of input).text
 
 -- more came than a trace may have
 abbrev pub TooManyCame : Option (List ℕ) → Option (List ℕ) → Type 0

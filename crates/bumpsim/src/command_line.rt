@@ -63,7 +63,7 @@ fn read_mode(word: &str) -> Option<Mode>
 }
 
 /// The number of drainers that a word is: 1 to 64.
-fn count_drainers(word: &str) -> Option<u32>
+fn drainers_in_word(word: &str) -> Option<u32>
     ensures meant { result ≡ drainers_of word.now }
     ensures range { IfSome result (λ n. (1 ≤ n) × (n ≤ 64)) }
 {
@@ -82,7 +82,7 @@ fn read_drainers(mode: Mode, word: Option<&str>) -> Option<u32>
         return Some(1);
     };
     match mode {
-        Mode::Par => count_drainers(word),
+        Mode::Par => drainers_in_word(word),
         Mode::Model | Mode::Serial => None,
     }
 }
