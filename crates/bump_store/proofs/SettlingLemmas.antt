@@ -1,5 +1,6 @@
 -- Lanes of closed rings: what they applied, and what they saw of the ring's end.
-use Rattle.std.proofs.Common.{◌≡◌, ℕ, zero, suc, ◌++◌, ◌⊎◌, List, [], ◌∷◌, inl, inr, length, map, Option, None, Some, IfSome, IfNone, refl, sym, ap, ◌∙◌, subst, arith, length-append, ⊎_elim}
+use Rattle.std.proofs.Common.{◌≡◌, ◌↔◌, ℕ, zero, suc, true, nat_eq, ◌++◌, ◌⊎◌, List, [], ◌∷◌, inl, inr, length, map, Option, None, Some, IfSome, IfNone, refl, sym, ap, ◌∙◌, subst, arith, length-append, ⊎_elim}
+use Rattle.std.proofs.lemmas.Bool.{eqb-true, eq-eqb}
 use Rattle.std.proofs.lemmas.List.{append-nil, length-map}
 use Rattle.bump_rules.specs.declared.bumps.Entry.{Entry}
 use Rattle.bump_rules.specs.Rings.{bump_applied, numbered_from}
@@ -30,6 +31,11 @@ as_many this_lane sent all = omega (
   numbered_long 0 (lives sent),
   length-map sent (λ (ride : Ride). ride.life),
 )
+
+-- two counts are compared by the numbers that were told of them
+pub equal_iff : (a b m n : ℕ) → a ≡ m → b ≡ n → (nat_eq a b ≡ true) ↔ (m ≡ n)
+equal_iff a b m n is is' =
+    (λ equal. sym is ∙ eqb-true a b equal ∙ is', λ same. eq-eqb a b (is ∙ same ∙ sym is'))
 
 -- a lane that is as it was saw no end
 pub as_it_was : (sent : List Ride) (this_lane : LaneView) → MaySeeEnd sent this_lane this_lane

@@ -189,7 +189,8 @@ impl<N: Name> Worker<N> {
         ensures hold { hold.new ≡ hold.old }
         ensures ring { self.new.sender.ring ≡ self.old.sender.ring }
     {
-        if self.counts.attempted >= MOST_ATTEMPTS {
+        let attempted = self.counts.attempted;
+        if attempted >= MOST_ATTEMPTS {
             return Touch::Exhausted;
         }
         let life = hold.life();

@@ -37,7 +37,7 @@ returns-then-not-is_cold-clause-hit g c =
     let head' : IsHeadOf c.args.life k.result =
     record { fits = k.ensures.fits; generation = k.ensures.generation; held = k.ensures.count } in
     timed _ _ _ _ _ _ _ _ m.ensures.worker head (search rules) c.if-first.false head' _ _ _ k.ensures.worker
-    c.if-second.false (search rules) c.set_time.ensures.worker refl
+    c.if-second.false (search rules) (search rules) refl
 
 pub attempt_counted-requires-clause-fetched : goal.attempt_counted-requires-clause-fetched
 attempt_counted-requires-clause-fetched g c =

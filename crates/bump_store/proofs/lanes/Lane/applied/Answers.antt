@@ -1,5 +1,7 @@
-use Rattle.std.proofs.Common.{rules}
+use Rattle.std.proofs.Common.{ap, ◌∙◌, length}
+use Rattle.bump_class.specs.Lanes.{entries}
+use Rattle.bump_store.specs.Lanes.{LaneState}
 use Rattle.bump_store.proofs.lanes.Lane.applied.Goals as goal
 
 pub returns-clause-count : goal.returns-clause-count
-returns-clause-count g c = search rules
+returns-clause-count g c = c.applied.ensures ∙ ap (λ (s : LaneState). length (entries s.lane)) c.self.view_is

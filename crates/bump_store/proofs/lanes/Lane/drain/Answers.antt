@@ -41,3 +41,16 @@ loop-done-preserved g c =
       );
       empty = λ full. run.ensures.empty (omega (arith, full, c.loop-done-test.true));
     }
+
+pub returns-clause-none : goal.returns-clause-none
+returns-clause-none g c =
+    let same = ap (λ (s : LaneState). s.capacity) c.self.view_is in
+    λ few. absurd (omega (arith, few, c.from-2.ensures, c.loop-done-test.false, same))
+
+pub invariant_of-self : goal.invariant_of-self
+invariant_of-self g c =
+    let i = c.loop-done.invariant in
+    i.empty (omega (arith, i.most, c.loop-done-test.false))
+
+pub returns-clause-drained : goal.returns-clause-drained
+returns-clause-drained g c = search rules

@@ -39,3 +39,9 @@ returns-clause-entry g c =
     c.apply_front-applied.ensures.applied
     ∙ ap (λ xs. xs ++ told entry ∷ [])
     (c.in_ok-bump.ensures.entries ∙ ap (λ (s : LaneState). entries s.lane) c.self.view_is)
+
+pub apply_front-applied-requires-clause-own : goal.apply_front-applied-requires-clause-own
+apply_front-applied-requires-clause-own g c = search rules
+
+pub invariant_of-self-2 : goal.invariant_of-self-2
+invariant_of-self-2 g c = search rules

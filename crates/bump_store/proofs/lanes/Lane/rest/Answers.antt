@@ -21,3 +21,6 @@ returns-clause-all g c =
     let e = c.rest.ensures in
     subst (λ (w : ClosedState). IfSome c.rest.result (λ left. left ≡ 0 → AppliedAll w.sender.sent after)) c.closed.view_is
     (all_at_end sent c.self.inside.raw after c.rest.result c.promise.ensures c.self.invariant e.lane e.number e.rest)
+
+pub returns-clause-number : goal.returns-clause-number
+returns-clause-number g c = c.rest.ensures.number

@@ -1,9 +1,9 @@
-use Rattle.std.proofs.Common.{◌≡◌, ◌+◌, ◌<◌, suc, length, ap, subst, arith}
+use Rattle.std.proofs.Common.{rules, ◌≡◌, ◌+◌, ◌<◌, suc, length, ap, subst, arith}
 use Rattle.std.specs.Prelude.{slice_set}
 use Rattle.bump_rules.proofs.Updates.{total_written}
 use Rattle.bump_class.specs.Lanes.{entries}
 use Rattle.bump_store.specs.Lanes.{LaneState}
-use Rattle.bump_store.specs.Passes.{IsDrained}
+use Rattle.bump_store.specs.Passes.{IsDrained, all_applied}
 use Rattle.bump_store.proofs.PassLemmas.{DrainedSoFar, one_more, as_many, all_were}
 use Rattle.bump_store.proofs.maintainers.Maintainer.pass.Goals as goal
 
@@ -55,3 +55,12 @@ returns-clause-lanes g c =
     let all : c.loop-worker.worker ≡ length c.args.self.now = omega (arith, i.end, i.place, c.loop-worker-test.false) in
     all_were c.args.now c.args.self.now c.loop-worker.self-inside.lanes.items
     (subst (λ n. DrainedSoFar c.args.now n c.args.self.now c.loop-worker.self-inside.lanes.items) all i.drained)
+
+pub loop-worker-init : goal.loop-worker-init
+loop-worker-init g c = record {
+  drained = c.self.view_is;
+  count = omega (arith, ap all_applied c.self.view_is);
+  few = omega arith;
+  end = search rules;
+  place = omega arith;
+}

@@ -1,4 +1,5 @@
-use Rattle.std.proofs.Common.{ap, sym, ◌∙◌, length, ◌++◌}
+use Rattle.std.proofs.Common.{refl, ap, sym, ◌∙◌, length, ◌++◌, arith}
+use Rattle.bump_rules.specs.declared.bumps.Accounts.{Accounts}
 use Rattle.bump_steps.specs.declared.views.WorkerPart.{WorkerPart}
 use Rattle.bump_readers.specs.declared.views.HoldView.{HoldView}
 use Rattle.bump_readers.specs.declared.views.WorkerView.{WorkerView}
@@ -29,3 +30,12 @@ returns-clause-few g c =
     ∙ ap (λ (w : WorkerState). w.part.steps ++ touch_steps answered l now f) c.self.view_is in
     touch_makes c.args.heads.now.refs_limit l now f (length c.self.inside.sender.sent) answered _ _ m.answer
     (λ e. (m.findings.looks e).most) steps
+
+pub returns-then-attempted-ge-MOST_ATTEMPTS-clause-exhausted : goal.returns-then-attempted-ge-MOST_ATTEMPTS-clause-exhausted
+returns-then-attempted-ge-MOST_ATTEMPTS-clause-exhausted g c = λ _. (refl, refl)
+
+pub returns-then-attempted-ge-MOST_ATTEMPTS-clause-touched : goal.returns-then-attempted-ge-MOST_ATTEMPTS-clause-touched
+returns-then-attempted-ge-MOST_ATTEMPTS-clause-touched g c =
+    let counts = ap (λ (k : Accounts). k.attempted) c.self.invariant.1 in
+    let same = ap (λ (w : WorkerState). w.part.accounts.attempted) c.self.view_is in
+    λ low. absurd (omega (arith, low, c.if-attempted-ge-MOST_ATTEMPTS.true, counts, same))
