@@ -140,13 +140,20 @@ fn play_in<N: Name + Send + Sync, R: Threads + Abort + Sync>(
     requires small { (config.now.workers ≡ 1) × (config.now.classes ≡ CLASS ∷ CLASS ∷ []) }
 {
     let is_bare = matches!(&scene, Scene::Crossed { .. });
-    match open::<N>(rt, alloc, blank, config, is_bare) {
-        Err(call) => Err(call),
-        Ok((small, End::Bare(receiver))) => {
+    let (small, end) = match open::<N>(rt, alloc, blank, config, is_bare) {
+        Ok(opened) => opened,
+        Err(call) => return Err(call),
+    };
+    let mut small = small;
+    match end {
+        End::Bare(receiver) => {
             cross(rt, small, receiver, bumps_of(scene));
             Ok(())
         }
-        Ok((mut small, End::Lane(mut lane))) => play_on(rt, alloc, &mut small, &mut lane, scene),
+        End::Lane(lane) => {
+            let mut lane = lane;
+            play_on(rt, alloc, &mut small, &mut lane, scene)
+        }
     }
 }
 
@@ -171,7 +178,7 @@ fn play_on<N: Name, R: Abort>(
         Scene::Limit => end_at_the_limit(rt, small, lane),
         Scene::WalkedAgain => return walk_again(rt, alloc, &small.first),
         Scene::RingMadeAgain => return make_again::<N, R>(rt, alloc),
-        _ => close_ring::<N, R>(rt, alloc),
+        _ => return close_ring::<N, R>(rt, alloc),
     }
     Ok(())
 }

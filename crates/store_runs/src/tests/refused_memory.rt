@@ -7,7 +7,6 @@ use super::settling::{end, sizes};
 use super::whole::{Story, class, tell};
 use bump_class::Book;
 use bump_heads::Name;
-use bump_ring::ring;
 use bump_rules::{ItemId, Place, Touch};
 use bump_store::{Store, Worker};
 use std::alloc::Global;
@@ -26,9 +25,12 @@ fn tell_refused(rt: &impl Eprint, call: Call) -> Result<(), Fail> {
 
 /// A ring that is refused may be asked for again, and is then as any other.
 pub fn make_again<N: Name, R: Abort>(rt: &R, alloc: Global) -> Result<(), Call> {
-    let refused = ring::<N>(alloc, 2).is_err();
-    close_ring::<N, R>(rt, alloc);
-    if refused { Err("ring") } else { Ok(()) }
+    let told = close_ring::<N, R>(rt, alloc);
+    if told.is_err() {
+        let again = close_ring::<N, R>(rt, alloc);
+        assert!(rt; again.is_ok(), "a ring is made again");
+    }
+    told
 }
 
 // Holds whichever one allocation is refused: no store or no ring is made, and both may be made then.

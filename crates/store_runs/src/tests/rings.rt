@@ -4,6 +4,7 @@ ghost use Rattle.std.specs.Prelude.{◌≡◌};
 use super::calls::{hit, link_cold, pull_round};
 use super::expecting::expect;
 use super::opening::{ITEMS, Scene, Small, play};
+use super::refused_memory::Call;
 use super::whole::id;
 use bump_class::Book;
 use bump_heads::{Heads, Name};
@@ -43,14 +44,17 @@ fn expect_new<N: Name>(rt: &impl Abort, sender: &Sender<N>, receiver: &mut Recei
 }
 
 /// A ring that was closed while it was empty shows its end, again and again.
-pub fn close_ring<N: Name, R: Abort>(rt: &R, alloc: Global) {
-    let (sender, mut receiver) = ring::<N>(alloc, 2).expect(rt, "there is memory");
+pub fn close_ring<N: Name, R: Abort>(rt: &R, alloc: Global) -> Result<(), Call> {
+    let Ok((sender, mut receiver)) = ring::<N>(alloc, 2) else {
+        return Err("ring");
+    };
     expect_new(rt, &sender, &mut receiver);
     let mut closed = sender.close();
     expect(rt, "accepted bumps", &closed.accepted(), &0);
     expect_end(rt, &mut receiver, &mut closed);
     expect_end(rt, &mut receiver, &mut closed);
     expect_none(rt, &mut receiver);
+    Ok(())
 }
 
 #[test]
