@@ -1,6 +1,6 @@
 //! Worked moves with exact answers, many moves beside a plain list of lists, and refused allocations.
 
-ghost use Rattle.std.specs.Prelude.{◌≡◌, ◌<◌, length};
+ghost use Rattle.std.specs.Prelude.{◌≡◌, ◌<◌, IfOk, length};
 
 use bump_links::Links;
 use std::alloc::Global;
@@ -182,39 +182,90 @@ fn many_moves_beside_plain_lists(rt: HostRuntime) -> Result<(), Fail> {
     Ok(())
 }
 
-// `checks/refused_allocations` looks for these words, so as to know that the allocation was one of this test.
-fn tell_refused(rt: &impl Eprint) -> Result<(), Fail> {
-    eprintln!(rt; "an allocation was refused")?;
+// Says which call was refused. `checks/refused_allocations` looks for these words, and counts them by call.
+fn tell_refused(rt: &impl Eprint, call: &str) -> Result<(), Fail> {
+    eprintln!(rt; "an allocation was refused: {call}")?;
+    Ok(())
+}
+
+/// Of a list its front, its back and its count.
+type OfList = (Option<u32>, Option<u32>, u32);
+
+/// Of a node the list that holds it, and the node behind it.
+type OfNode = (u32, Option<u32>);
+
+/// The counts, and what is told of two lists and of four nodes.
+type Told = ((u32, u32), [OfList; 2], [OfNode; 4]);
+
+/// Four nodes of which the third is alone in the first list.
+const THIRD_ALONE: Told = (
+    (4, 2),
+    [(Some(2), Some(2), 1), (Some(0), Some(3), 3)],
+    [(1, Some(1)), (1, Some(3)), (0, None), (1, None)],
+);
+
+fn of_list(links: &Links, list: u32) -> OfList
+    requires { list < length links.now.lists }
+{
+    (links.front(list), links.back(list), links.len(list))
+}
+
+fn of_node(links: &Links, node: u32) -> OfNode
+    requires { node < links.now.nodes }
+{
+    (links.list_of(node), links.after(node))
+}
+
+// All readers but the walk tell of the third node in the first list.
+fn expect_third_alone(rt: &impl Abort, links: &Links) {
+    let counts = (links.nodes(), links.lists());
+    assert!(rt; counts == (4, 2));
+    let lists = [of_list(links, 0), of_list(links, 1)];
+    let nodes = [
+        of_node(links, 0),
+        of_node(links, 1),
+        of_node(links, 2),
+        of_node(links, 3),
+    ];
+    assert_eq!(rt; (counts, lists, nodes), THIRD_ALONE);
+}
+
+// Four nodes in the second of two lists. Where they are refused, they are asked for again.
+fn made_again(rt: &impl Eprint, alloc: Global) -> Result<Links, Fail>
+    ensures { IfOk result (λ links. (links.nodes ≡ 4) × (length links.lists ≡ 2)) }
+{
+    match Links::new(alloc, 4, 2, 1) {
+        Ok(links) => Ok(links),
+        Err(_) => {
+            tell_refused(rt, "Links::new")?;
+            Ok(Links::new(alloc, 4, 2, 1)?)
+        }
+    }
+}
+
+// A walk of the second list. One that is refused changes nothing, and is made again.
+fn walk_again(rt: &(impl Abort + Eprint), alloc: Global, links: &Links) -> Result<(), Fail>
+    requires { length links.now.lists ≡ 2 }
+{
+    let found = match links.walk(alloc, 1) {
+        Ok(found) => found,
+        Err(_) => {
+            tell_refused(rt, "Links::walk")?;
+            expect_third_alone(rt, links);
+            links.walk(alloc, 1)?
+        }
+    };
+    assert_eq!(rt; found.as_slice(), [0, 1, 3].as_slice());
     Ok(())
 }
 
 // Holds whichever one allocation is refused: the call may be made again, and the lists are as before.
 #[test]
 fn a_refused_allocation_changes_nothing(rt: HostRuntime) -> Result<(), Fail> {
-    let alloc = rt.alloc();
-    let mut links = match Links::new(alloc, 4, 2, 1) {
-        Ok(links) => links,
-        Err(_) => {
-            tell_refused(&rt)?;
-            Links::new(alloc, 4, 2, 1)?
-        }
-    };
+    let mut links = made_again(&rt, rt.alloc())?;
     links.move_front(2, 0);
-
-    match links.walk(alloc, 1) {
-        Ok(found) => assert_eq!(rt; found.as_slice(), [0, 1, 3].as_slice()),
-        Err(_) => tell_refused(&rt)?,
-    }
-    assert_eq!(rt; links.front(1), Some(0));
-    assert_eq!(rt; links.back(1), Some(3));
-    assert_eq!(rt; links.len(1), 3);
-    assert_eq!(rt; links.after(1), Some(3));
-    assert_eq!(rt; links.list_of(2), 0);
-    assert_eq!(rt; links.front(0), Some(2));
-    assert_eq!(rt; links.len(0), 1);
-    match links.walk(alloc, 1) {
-        Ok(found) => assert_eq!(rt; found.as_slice(), [0, 1, 3].as_slice()),
-        Err(_) => tell_refused(&rt)?,
-    }
-    Ok(())
+    expect_third_alone(&rt, &links);
+    walk_again(&rt, rt.alloc(), &links)?;
+    expect_third_alone(&rt, &links);
+    walk_again(&rt, rt.alloc(), &links)
 }

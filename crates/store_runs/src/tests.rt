@@ -1,10 +1,14 @@
 //! What no clause says: that calls succeed, and known answers.
+mod beside_world;
 mod calls;
 mod classes;
 mod drains;
 mod expecting;
+mod opening;
 mod pairs;
+mod refused_memory;
 mod rings;
+mod runs;
 mod settling;
 mod shared_item;
 mod threads;

@@ -16,7 +16,7 @@ mod threads;
 mod worked;
 
 use ends::{ENDS, EVERY_LINE, HOLDS, LAST_COUNTS, LATE_FAULTS, MIXED_LINES, PULLS};
-use expecting::Expecting;
+use expecting::{Expecting, tell_left, tell_refused};
 use faults::{
     EVERY_LINE_FAULT, EVERY_STORE_FAULT, LINE_COUNTS, LINE_FIELDS, LINE_NAMES, LINE_ORDER,
     PAIRS_OF_CONFIGS, PAIRS_OF_FIELDS, PAIRS_OF_STORES, PAIRS_OF_WORDS, SURPRISES,
@@ -289,17 +289,13 @@ fn a_refused_allocation_leaves_a_front_of_the_text(rt: HostRuntime) -> Result<()
     let (mut ended, mut written) = run_expecting(rt.alloc(), keys, trace, text);
     assert!(rt; written.is_front());
     if ended == Err(SimFault::Memory) {
-        eprintln!(rt; "an allocation was refused")?;
+        tell_refused(&rt, "run_model")?;
         (ended, written) = run_expecting(rt.alloc(), keys, trace, text);
     }
     assert!(rt; ended == Ok(()));
     assert!(rt; written.is_front());
     assert_eq!(rt; written.left(), 0);
-    let mut behind = Vec::new(rt.alloc());
-    if behind.push(0u8).is_err() {
-        eprintln!(rt; "no allocation was left")?;
-    }
-    Ok(())
+    tell_left(&rt)
 }
 
 /// How the run of a trace on a store ends, and the writer that looked at its text.
@@ -324,17 +320,13 @@ fn a_refused_allocation_of_a_serial_run(rt: HostRuntime) -> Result<(), Fail> {
     let (mut ended, mut written) = run_serial_expecting(&rt, rt.alloc(), keys, trace, text);
     assert!(rt; written.is_front());
     if ended == Err(SimFault::Memory) {
-        eprintln!(rt; "an allocation was refused")?;
+        tell_refused(&rt, "run_serial")?;
         (ended, written) = run_serial_expecting(&rt, rt.alloc(), keys, trace, text);
     }
     assert!(rt; ended == Ok(()));
     assert!(rt; written.is_front());
     assert_eq!(rt; written.left(), 0);
-    let mut behind = Vec::new(rt.alloc());
-    if behind.push(0u8).is_err() {
-        eprintln!(rt; "no allocation was left")?;
-    }
-    Ok(())
+    tell_left(&rt)
 }
 
 /// A line of `show` that is longer than what is gathered before it is written.

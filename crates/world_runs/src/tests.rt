@@ -5,8 +5,8 @@ ghost use Rattle.bump_state.specs.Worlds.{IsLawful};
 use crate::expecting::expect;
 use crate::opening::{store, world};
 use bump_core::{
-    Accounts, Answer, Applied, AppliedBump, Command, Ended, Entry, Event, Head, ItemId, Outcome,
-    Place, Pulled, Refused, Reply, Segment, Tail, Touch, World,
+    Accounts, Answer, Applied, AppliedBump, Cause, Change, Command, Config, Ended, Entry, Event,
+    Head, ItemId, Outcome, Place, Pulled, Refused, Reply, Segment, Tail, Touch, World,
 };
 use calls::{expect_run, expect_step};
 use readers::{expect_ends, expect_list};

@@ -1,40 +1,47 @@
 //! Allocations that are refused.
-ghost use Rattle.std.specs.Prelude.{◌≡◌, [], ◌∷◌};
+ghost use Rattle.std.specs.Prelude.{◌≡◌};
 
-use super::expecting::expect_seen;
-use super::stores::{config_of, head, open};
+use super::expecting::{expect, expect_seen};
+use super::stores::{config_of, head};
 use super::*;
 use bump_rules::{Config, Segment};
-use std::alloc::{AllocError, Global};
+use std::alloc::Global;
 use std::marker::Brand;
 use std::process::Abort;
 use std::test::Fail;
 
-// `checks/refused_allocations` looks for these words, so as to know that the allocation was one of this test.
-fn tell_refused(rt: &impl Eprint) -> Result<(), Fail> {
-    eprintln!(rt; "an allocation was refused")?;
+// Says which call was refused. `checks/refused_allocations` looks for these words, and counts them by call.
+fn tell_refused(rt: &impl Eprint, call: &str) -> Result<(), Fail> {
+    eprintln!(rt; "an allocation was refused: {call}")?;
     Ok(())
 }
 
+// Makes heads of two chunks, which had no life, and a seat of each kind. Else it tells the call that was refused.
 fn open_in<N: Name>(
     rt: &impl Abort,
     alloc: Global,
     blank: Blank,
     config: &Config,
-) -> Result<(), AllocError>
+) -> Result<(), &'static str>
     requires name { blank.table ≡ N.table }
     requires config { blank.config ≡ config.now }
-    requires small { (config.now.workers ≡ 1) × (config.now.first_generation ≡ 1) × (config.now.classes ≡ record { chunks = 2; hot = 1; warm = 1 } ∷ []) }
 {
-    let store = open::<N>(alloc, blank, config)?;
+    let Ok(parts) = Heads::<N>::new(alloc, blank, config) else {
+        return Err("Heads::new");
+    };
     let never = head(0, "", Segment::Hot, 0);
-    expect_seen(rt, &store.heads, 1, (never, 0));
+    expect_seen(rt, &parts.heads, 0, (never, 0));
+    expect_seen(rt, &parts.heads, 1, (never, 0));
+    let seats = (parts.classes.len(), parts.workers.len(), parts.lanes.len());
+    expect(rt, "the seats", &seats, &(1, 1, 1));
     Ok(())
 }
 
-fn open_store(rt: &impl Abort, alloc: Global) -> Result<(), AllocError> {
-    let config = config_of(alloc, 4).ok_or(AllocError)?;
-    let blank = Blank::new(alloc, &config)?;
+fn open_store(rt: &impl Abort, alloc: Global) -> Result<(), &'static str> {
+    let config = config_of(alloc, 4).ok_or("the configuration")?;
+    let Ok(blank) = Blank::new(alloc, &config) else {
+        return Err("Blank::new");
+    };
     open_in::<Brand>(rt, alloc, blank, &config)
 }
 
@@ -42,8 +49,8 @@ fn open_store(rt: &impl Abort, alloc: Global) -> Result<(), AllocError> {
 #[test]
 fn a_refused_allocation_opens_no_store(rt: HostRuntime) -> Result<(), Fail> {
     let alloc = rt.alloc();
-    if open_store(&rt, alloc).is_err() {
-        tell_refused(&rt)?;
+    if let Err(call) = open_store(&rt, alloc) {
+        tell_refused(&rt, call)?;
         open_store(&rt, alloc)?;
     }
     Ok(())

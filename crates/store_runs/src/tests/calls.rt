@@ -2,11 +2,11 @@
 //! in the proof of each step behind them: here it is left behind, but for what later calls ask for.
 ghost use Rattle.std.specs.Prelude.{◌≡◌};
 
-use super::expecting::expect;
+use super::expecting::{expect, expect_of};
 use bump_class::Book;
 use bump_heads::{Name, ReaderHeads};
-use bump_rules::{ItemId, Place, Pulled, Tail, Touch};
-use bump_store::{GetRefusal, Hold, Store, Worker};
+use bump_rules::{Entry, ItemId, Place, Pulled, Tail, Touch};
+use bump_store::{GetRefusal, Hold, Lane, Store, Worker};
 use std::process::Abort;
 use std::sync::{MutexGuard, Wait};
 
@@ -24,8 +24,14 @@ fn link<N: Name>(rt: &impl Abort, book: &mut Book<N>, label: u64, now: u64) -> I
     book.link(label, now).expect(rt, "a chunk is free")
 }
 
-fn pull<N: Name>(book: &mut Book<N>, tail: Tail) -> Pulled {
+/// What a pull does.
+pub fn pull<N: Name>(book: &mut Book<N>, tail: Tail) -> Pulled {
     book.pull(tail)
+}
+
+/// How many chunks a sweep frees.
+pub fn sweep<N: Name>(book: &mut Book<N>) -> u32 {
+    book.sweep()
 }
 
 // A pull does this.
@@ -129,4 +135,45 @@ pub fn hit<N: Name, R: Abort>(
     let touched = touch(heads, worker, &mut hold, now);
     hold.release(heads);
     (told, touched)
+}
+
+/// A hit of an item with the label 7 does this. The worker keeps its ring.
+pub fn expect_hit<N: Name, R: Abort>(
+    rt: &R,
+    heads: &ReaderHeads<N>,
+    worker: &mut Worker<N>,
+    item: ItemId,
+    now: u64,
+    wanted: Touch,
+)
+    ensures ring { worker.new.sender.ring ≡ worker.old.sender.ring }
+{
+    let told = hit(rt, heads, worker, item, now);
+    expect_of(rt, "the hit at", &now, &told, &(7, wanted));
+}
+
+/// Two hits of a new item with the label 7, in COLD. The second one does this. The worker keeps its ring.
+pub fn hit_twice<N: Name, R: Abort>(
+    rt: &R,
+    heads: &ReaderHeads<N>,
+    worker: &mut Worker<N>,
+    item: ItemId,
+    wanted: Touch,
+)
+    ensures ring { worker.new.sender.ring ≡ worker.old.sender.ring }
+{
+    expect_hit(rt, heads, worker, item, 5, Touch::First);
+    expect_hit(rt, heads, worker, item, 6, wanted);
+}
+
+/// What a lane applies next, if a bump waits. It keeps its ring.
+pub fn next<N: Name, R: Wait>(
+    rt: &R,
+    store: &Store<N>,
+    lane: &mut Lane<N>,
+    now: u64,
+) -> Option<Entry>
+    ensures ring { lane.new.lane.ring ≡ lane.old.lane.ring }
+{
+    lane.next(rt, store, now)
 }

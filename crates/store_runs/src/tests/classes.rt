@@ -1,13 +1,13 @@
 //! The classes of a store, and its refusals.
-use super::calls::{lock, refusal};
-use super::drains::hit_twice;
-use super::expecting::{expect, expect_at};
+use super::calls::{lock, next, refusal};
+use super::drains::hit_new;
+use super::expecting::{expect, expect_of};
 use super::whole::{Story, class, id, tell};
 use bump_class::{Book, UnlinkRefusal};
 use bump_heads::Name;
 use bump_rules::{Applied, Entry, ItemId, Place, Touch};
 use bump_store::{GetRefusal, Lane, NoSuchChunk, NoSuchClass, Store, Worker};
-use std::alloc::{AllocError, Global};
+use std::alloc::Global;
 use std::process::Abort;
 use std::sync::Wait;
 use std::test::Fail;
@@ -25,7 +25,7 @@ fn expect_class<N: Name>(
     wanted: Result<u32, NoSuchChunk>,
 ) {
     let told = store.class_of(chunk);
-    expect_at(rt, "the class of", chunk.into(), &told, &wanted);
+    expect_of(rt, "the class of", &chunk, &told, &wanted);
 }
 
 // A worker isn't given this item, for this reason.
@@ -50,16 +50,13 @@ fn expect_refusals<N: Name, R: Abort + Wait>(rt: &R, store: &Store<N>, worker: &
 }
 
 // The Book of class 1 doesn't know chunk 0, and has chunks 1 and 2.
-fn expect_second_book<N: Name>(
-    rt: &impl Abort,
-    alloc: Global,
-    book: &mut Book<N>,
-) -> Result<(), AllocError> {
+fn expect_second_book<N: Name>(rt: &impl Abort, alloc: Global, book: &mut Book<N>) {
     let refused = book.unlink(id(0, 1));
     expect(rt, "an unlink", &refused, &Err(UnlinkRefusal::NoSuchChunk));
-    let unused = book.walk(alloc, Place::Unused)?;
+    let unused = book
+        .walk(alloc, Place::Unused)
+        .expect(rt, "there is memory");
     expect(rt, "UNUSED", &unused.as_slice(), &[1, 2].as_slice());
-    Ok(())
 }
 
 // The Book of a class, with this range of chunks. Its limits are the class's number.
@@ -87,11 +84,11 @@ pub fn tell_classes<N: Name, R: Abort + Wait>(
     alloc: Global,
     store: &Store<N>,
     worker: &mut Worker<N>,
-) -> Result<(), AllocError> {
+) {
     expect_classes(rt, store);
     expect_refusals(rt, store, worker);
     let mut book = lock(rt, store, 1);
-    expect_second_book(rt, alloc, &mut book)
+    expect_second_book(rt, alloc, &mut book);
 }
 
 #[test]
@@ -118,10 +115,6 @@ fn expect_found<N: Name, R: Abort + Wait>(rt: &R, store: &Store<N>, class: u32) 
     expect(rt, "the class", &book.class(), &class);
 }
 
-fn next<N: Name, R: Wait>(rt: &R, store: &Store<N>, lane: &mut Lane<N>) -> Option<Entry> {
-    lane.next(rt, store, 8)
-}
-
 /// Where two Books were exchanged, a lock goes round until it finds that of its class, and so does a lane.
 pub fn find_exchanged<N: Name, R: Abort + Wait>(
     rt: &R,
@@ -129,7 +122,7 @@ pub fn find_exchanged<N: Name, R: Abort + Wait>(
     worker: &mut Worker<N>,
     lane: &mut Lane<N>,
 ) {
-    let life = hit_twice(rt, store, worker, 1, Touch::Queued(0));
+    let life = hit_new(rt, store, worker, 1, Touch::Queued(0));
     exchange_both(rt, store);
     expect_found(rt, store, 0);
     expect_found(rt, store, 1);
@@ -138,7 +131,7 @@ pub fn find_exchanged<N: Name, R: Abort + Wait>(
         life,
         applied: Applied::Moved,
     };
-    let told = next(rt, store, lane);
+    let told = next(rt, store, lane, 8);
     expect(rt, "the next bump", &told, &Some(entry));
 }
 

@@ -1,5 +1,5 @@
 //! What the lane of a store does with bumps that its worker queued.
-use super::calls::{hit, lock, new_cold};
+use super::calls::{expect_hit, hit_twice, lock, new_cold};
 use super::expecting::expect;
 use super::whole::{Story, class, tell};
 use bump_heads::Name;
@@ -9,20 +9,8 @@ use std::process::Abort;
 use std::sync::Wait;
 use std::test::Fail;
 
-// A hit of an item with the label 7 does this.
-fn expect_hit<N: Name>(
-    rt: &impl Abort,
-    store: &Store<N>,
-    worker: &mut Worker<N>,
-    item: ItemId,
-    wanted: Touch,
-) {
-    let told = hit(rt, store, worker, item, 5);
-    expect(rt, "the hit", &told, &(7, wanted));
-}
-
 /// A new item of the class, in COLD, that is hit twice. The second hit does this.
-pub fn hit_twice<N: Name, R: Abort + Wait>(
+pub fn hit_new<N: Name, R: Abort + Wait>(
     rt: &R,
     store: &Store<N>,
     worker: &mut Worker<N>,
@@ -30,8 +18,7 @@ pub fn hit_twice<N: Name, R: Abort + Wait>(
     wanted: Touch,
 ) -> ItemId {
     let item = new_cold(rt, store, class);
-    expect_hit(rt, store, worker, item, Touch::First);
-    expect_hit(rt, store, worker, item, wanted);
+    hit_twice(rt, store, worker, item, wanted);
     item
 }
 
@@ -49,10 +36,6 @@ fn expect_drained<N: Name, R: Abort + Wait>(
     expect(rt, "a drain", &drain(rt, store, lane), &wanted);
 }
 
-fn applied<N: Name>(lane: &Lane<N>) -> u64 {
-    lane.applied()
-}
-
 // WARM of the class has so many items.
 fn expect_warm<N: Name, R: Abort + Wait>(rt: &R, store: &Store<N>, class: u32, wanted: u32) {
     let book = lock(rt, store, class);
@@ -66,12 +49,12 @@ pub fn drain_again<N: Name, R: Abort + Wait>(
     worker: &mut Worker<N>,
     lane: &mut Lane<N>,
 ) {
-    hit_twice(rt, store, worker, 0, Touch::Queued(0));
-    let second = hit_twice(rt, store, worker, 0, Touch::Dropped(Dropped::Full));
+    hit_new(rt, store, worker, 0, Touch::Queued(0));
+    let second = hit_new(rt, store, worker, 0, Touch::Dropped(Dropped::Full));
     expect_drained(rt, store, lane, 1);
-    expect_hit(rt, store, worker, second, Touch::Queued(1));
+    expect_hit(rt, store, worker, second, 7, Touch::Queued(1));
     expect_drained(rt, store, lane, 1);
-    expect(rt, "applied bumps", &applied(lane), &2);
+    expect(rt, "applied bumps", &lane.applied(), &2);
     expect_warm(rt, store, 0, 2);
 }
 
@@ -90,7 +73,7 @@ fn fill_and_drain<N: Name, R: Abort + Wait>(
 ) {
     let mut next = number;
     for class in [0, 1, 1, 0] {
-        hit_twice(rt, store, worker, class, Touch::Queued(next));
+        hit_new(rt, store, worker, class, Touch::Queued(next));
         next = next.saturating_add(1);
     }
     expect_drained(rt, store, lane, 4);
@@ -105,7 +88,7 @@ pub fn drain_in_turn<N: Name, R: Abort + Wait>(
 ) {
     fill_and_drain(rt, store, worker, lane, 0);
     fill_and_drain(rt, store, worker, lane, 4);
-    expect(rt, "applied bumps", &applied(lane), &8);
+    expect(rt, "applied bumps", &lane.applied(), &8);
     expect_warm(rt, store, 0, 4);
     expect_warm(rt, store, 1, 4);
     expect_drained(rt, store, lane, 0);

@@ -8,13 +8,13 @@ pub fn expect<T: PartialEq + Debug, R: Abort>(rt: &R, what: &str, told: &T, want
     assert_eq!(rt; told, wanted, "{what}");
 }
 
-/// What was told at this time, or of this chunk, is what was wanted.
-pub fn expect_at<T: PartialEq + Debug, R: Abort>(
+/// What was told of this is what was wanted.
+pub fn expect_of<T: PartialEq + Debug, A: Debug, R: Abort>(
     rt: &R,
     what: &str,
-    at: u64,
+    of: &A,
     told: &T,
     wanted: &T,
 ) {
-    assert_eq!(rt; told, wanted, "{what} {at}");
+    assert_eq!(rt; told, wanted, "{what} {of:?}");
 }

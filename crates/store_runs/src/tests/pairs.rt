@@ -3,8 +3,8 @@ ghost use Rattle.std.specs.Prelude.{◌≡◌, IsSome};
 ghost use Rattle.std.specs.Vec.Iter.{into_iter_items};
 ghost use Rattle.bump_store.specs.Lanes.{worker_rings, lane_rings};
 
-use super::calls::hit;
-use super::expecting::{expect, expect_at};
+use super::calls::hit_twice;
+use super::expecting::expect;
 use bump_heads::Name;
 use bump_rules::{Entry, ItemId, Touch};
 use bump_store::{ClosedWorker, Lane, Settled, Store, Unseen, Worker};
@@ -114,27 +114,8 @@ impl<N: Name> Pair<N> {
         ClosedPair { closed, lane }
     }
 
-    /// A hit of the item.
-    pub fn hit<R: Abort + Wait>(
-        &mut self,
-        rt: &R,
-        store: &Store<N>,
-        item: ItemId,
-        now: u64,
-    ) -> Touch {
-        hit(rt, store, &mut self.worker, item, now).1
-    }
-
-    /// A hit of the item does this.
-    pub fn expect_hit<R: Abort + Wait>(
-        &mut self,
-        rt: &R,
-        store: &Store<N>,
-        item: ItemId,
-        now: u64,
-        wanted: Touch,
-    ) {
-        let told = self.hit(rt, store, item, now);
-        expect_at(rt, "the hit at", now, &told, &wanted);
+    /// Two hits of a new item with the label 7, in COLD: the second one queues the bump with this number.
+    pub fn hit_twice<R: Abort>(&mut self, rt: &R, store: &Store<N>, item: ItemId, number: u64) {
+        hit_twice(rt, store, &mut self.worker, item, Touch::Queued(number));
     }
 }

@@ -8,8 +8,8 @@ use super::pairs::{Pair, two_pairs};
 use super::whole::{Story, class, tell};
 use bump_heads::Name;
 use bump_rules::{Accounts, Applied, Entry, ItemId, Place, Touch};
-use bump_store::{ClassSizes, Hold, Maintainer, Settled, Store, Worker};
-use std::alloc::{AllocError, Global};
+use bump_store::{ClassSizes, Hold, Maintainer, Settled, Store, Unfinished, Worker};
+use std::alloc::Global;
 use std::process::Abort;
 use std::sync::Wait;
 use std::test::Fail;
@@ -45,10 +45,8 @@ fn queue_two<N: Name, R: Abort + Wait>(
 ) -> [ItemId; 2] {
     let first = new_cold(rt, store, 0);
     let second = new_cold(rt, store, 0);
-    pair.hit(rt, store, first, 5);
-    pair.expect_hit(rt, store, first, 6, Touch::Queued(0));
-    pair.hit(rt, store, second, 7);
-    pair.expect_hit(rt, store, second, 8, Touch::Queued(1));
+    pair.hit_twice(rt, store, first, 0);
+    pair.hit_twice(rt, store, second, 1);
     [first, second]
 }
 
@@ -184,24 +182,37 @@ fn a_pass_drains_each_lane(rt: HostRuntime) -> Result<(), Fail> {
     Ok(tell(&rt, rt.alloc(), 4, &[class(2, 0, 5)], Story::PassedTwice)?)
 }
 
-/// The sizes of a new store, whose classes have one chunk, two and three.
-pub fn finish_new<N: Name, R: Abort + Wait>(
-    rt: &R,
-    alloc: Global,
-    store: Store<N>,
-) -> Result<(), AllocError> {
-    let Ok(sizes) = store.finish(alloc, rt) else {
-        return Err(AllocError);
-    };
-    let new = |unused| ClassSizes {
+/// The sizes of a class with so many chunks in COLD and in UNUSED, and none elsewhere.
+pub fn sizes(cold: u32, unused: u32) -> ClassSizes {
+    ClassSizes {
         hot: 0,
         warm: 0,
-        cold: 0,
+        cold,
         dying: 0,
         unused,
         retired: 0,
-    };
-    let wanted = [new(1), new(2), new(3)];
-    expect(rt, "the sizes", &sizes.as_slice(), &wanted.as_slice());
-    Ok(())
+    }
+}
+
+/// Ends a store, whose classes have these sizes. It comes back where memory is refused.
+pub fn end<N: Name, R: Abort + Wait>(
+    rt: &R,
+    alloc: Global,
+    store: Store<N>,
+    wanted: &[ClassSizes],
+) -> Option<Store<N>> {
+    match store.finish(alloc, rt) {
+        Ok(told) => {
+            expect(rt, "the sizes", &told.as_slice(), &wanted);
+            None
+        }
+        Err(Unfinished { store }) => Some(store),
+    }
+}
+
+/// The sizes of a new store, whose classes have one chunk, two and three.
+pub fn end_new<N: Name, R: Abort + Wait>(rt: &R, alloc: Global, store: Store<N>) {
+    let wanted = [sizes(0, 1), sizes(0, 2), sizes(0, 3)];
+    let left = end(rt, alloc, store, &wanted);
+    assert!(rt; left.is_none(), "the store has ended");
 }

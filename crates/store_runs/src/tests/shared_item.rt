@@ -1,15 +1,14 @@
 //! Two workers touch one item while a third thread applies what they queue; then both rings are settled.
 ghost use Rattle.std.specs.Prelude.{◌≡◌};
+ghost use Rattle.bump_store.specs.Lanes.{worker_rings, lane_rings};
 
-use super::calls::{hit, new_cold};
+use super::calls::{hit, new_cold, next};
 use super::expecting::expect;
 use super::pairs::{ClosedPair, Pair, two_pairs};
-use super::whole::class;
-use bump_heads::{Blank, Name};
-use bump_rules::{Applied, Config, Entry, ItemId};
-use bump_store::{Lane, Store, Worker};
-use std::alloc::{AllocError, Global};
-use std::marker::Brand;
+use super::whole::{Story, class, tell};
+use bump_heads::Name;
+use bump_rules::{Applied, Entry, ItemId};
+use bump_store::{Lane, Maintainer, Store, Worker};
 use std::process::Abort;
 use std::sync::Wait;
 use std::test::Fail;
@@ -75,7 +74,7 @@ fn hit_twice<N: Name, R: Abort>(
 fn apply_next<N: Name, R: Wait>(rt: &R, store: &Store<N>, lane: &mut Lane<N>, tally: &mut Tally)
     ensures ring { lane.new.lane.ring ≡ lane.old.lane.ring }
 {
-    if let Some(entry) = lane.next(rt, store, 6) {
+    if let Some(entry) = next(rt, store, lane, 6) {
         tally.add(entry);
     }
 }
@@ -187,30 +186,20 @@ fn share<N: Name + Send + Sync, R: Threads + Abort + Wait + Sync>(
     close_both(rt, store, first, second, told);
 }
 
-fn run_in<N: Name + Send + Sync, R: Threads + Abort + Wait + Sync>(
+/// Two workers share an item, which is in COLD.
+pub fn share_item<N: Name + Send + Sync, R: Threads + Abort + Wait + Sync>(
     rt: &R,
-    alloc: Global,
-    blank: Blank,
-    config: &Config,
-) -> Result<(), AllocError>
-    requires name { blank.table ≡ N.table }
-    requires config { blank.config ≡ config.now }
+    store: &Store<N>,
+    workers: Vec<Worker<N>>,
+    maintainer: Maintainer<N>,
+)
+    requires { worker_rings workers.items ≡ lane_rings maintainer }
 {
-    let (store, workers, maintainer) = Store::<N>::new(alloc, blank, config)?;
     let (first, second) = two_pairs(workers, maintainer.into_lanes()).expect(rt, "there are two");
-    share(rt, &store, first, second);
-    Ok(())
-}
-
-// None where memory is refused.
-fn config_of_two(alloc: Global) -> Option<Config> {
-    Config::new(2, 4, 8, 1, vec![in alloc; class(1, 0, 5)].ok()?).ok()
+    share(rt, store, first, second);
 }
 
 #[test]
 fn two_workers_and_a_lane_share_an_item(rt: HostRuntime) -> Result<(), Fail> {
-    let alloc = rt.alloc();
-    let config = config_of_two(alloc).ok_or("no memory")?;
-    let blank = Blank::new(alloc, &config)?;
-    Ok(run_in::<Brand, _>(&rt, alloc, blank, &config)?)
+    Ok(tell(&rt, rt.alloc(), 4, &[class(1, 0, 5)], Story::ItemShared)?)
 }

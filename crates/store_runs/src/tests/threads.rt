@@ -1,19 +1,17 @@
 //! Four threads get and touch the items of two classes, while a fifth links, pulls, unlinks, drains and sweeps.
-ghost use Rattle.std.specs.Prelude.{◌≡◌};
-
 mod ends;
 mod keeping;
 mod reading;
 
-use bump_heads::{Blank, Name};
+use super::whole::{Story, tell_of};
+use bump_heads::Name;
 use bump_readers::ReaderHeads;
 use bump_rules::{ClassConfig, Config};
-use bump_store::{Store, Worker};
+use bump_store::{Maintainer, Store, Worker};
 use ends::expect_told;
 use keeping::{Keeper, keep};
 use reading::touch_apart;
 use std::alloc::{AllocError, Global};
-use std::marker::Brand;
 use std::process::Abort;
 use std::sync::Wait;
 use std::sync::atomic::{AtomicBool, Ordering};
@@ -39,7 +37,7 @@ const CLASSES: [ClassConfig; 2] = [
 const CAPACITY: u32 = 4;
 
 // The readers work until they made all their touches, and the fifth thread until the readers are done.
-fn work_apart<N: Name + Send + Sync, R: Threads + Abort + Wait + Sync>(
+fn join_all<N: Name + Send + Sync, R: Threads + Abort + Wait + Sync>(
     rt: &R,
     alloc: Global,
     store: &Store<N>,
@@ -60,28 +58,24 @@ fn work_apart<N: Name + Send + Sync, R: Threads + Abort + Wait + Sync>(
     expect_told(rt, alloc, store, told?, keeper)
 }
 
-fn run_in<N: Name + Send + Sync, R: Threads + Abort + Wait + Sync>(
+/// Items are linked, so that there are some to be touched, whichever thread is first. Then all threads work.
+pub fn work_apart<N: Name + Send + Sync, R: Threads + Abort + Wait + Sync>(
     rt: &R,
     alloc: Global,
-    blank: Blank,
-    config: &Config,
-) -> Result<(), AllocError>
-    requires name { blank.table ≡ N.table }
-    requires config { blank.config ≡ config.now }
-{
-    let (store, workers, maintainer) = Store::<N>::new(alloc, blank, config)?;
+    store: &Store<N>,
+    workers: Vec<Worker<N>>,
+    maintainer: Maintainer<N>,
+) {
     let mut keeper = Keeper::new(maintainer.into_lanes());
-    // So that there are items to be touched, whichever thread is first.
     for now in 0..256 {
-        keeper.tend(rt, &store, now);
+        keeper.tend(rt, store, now);
     }
-    work_apart(rt, alloc, &store, workers, keeper)
+    join_all(rt, alloc, store, workers, keeper).expect(rt, "there is memory");
 }
 
 #[test]
 fn threads_touch_what_is_linked_and_drained(rt: HostRuntime) -> Result<(), Fail> {
     let alloc = rt.alloc();
     let config = Config::new(4, CAPACITY, 64, 1, Vec::from_array(alloc, CLASSES)?)?;
-    let blank = Blank::new(alloc, &config)?;
-    Ok(run_in::<Brand, _>(&rt, alloc, blank, &config)?)
+    Ok(tell_of(&rt, alloc, &config, Story::WorkedApart)?)
 }

@@ -1,16 +1,21 @@
-//! Whole stores of two workers that tests open, and what is played in them.
-ghost use Rattle.std.specs.Prelude.{◌≡◌, IfSome};
+//! Whole stores that tests open, and what is played in them.
+ghost use Rattle.std.specs.Prelude.{◌≡◌};
 
+use super::beside_world::run_beside;
 use super::classes::{find_exchanged, tell_classes};
 use super::drains::{drain_again, drain_in_turn};
-use super::settling::{finish_new, pass_twice, settle_at_once, settle_one_by_one};
+use super::refused_memory::{Call, end_again};
+use super::settling::{end_new, pass_twice, settle_at_once, settle_one_by_one};
+use super::shared_item::share_item;
+use super::threads::work_apart;
 use bump_heads::{Blank, Name};
 use bump_rules::{ClassConfig, Config, ItemId};
 use bump_store::{Lane, Store, Worker};
-use std::alloc::{AllocError, Global};
+use std::alloc::Global;
 use std::marker::Brand;
 use std::process::Abort;
 use std::sync::Wait;
+use std::thread::Threads;
 
 /// What is played.
 #[derive(Clone, Copy)]
@@ -22,12 +27,14 @@ pub enum Story {
     SettledAtOnce,
     SettledOneByOne,
     PassedTwice,
+    ItemShared,
+    EndedAgain,
+    WorkedApart,
+    RunBeside,
 }
 
-// None where memory is refused.
-fn config_of(alloc: Global, capacity: u32, classes: &[ClassConfig]) -> Option<Config>
-    ensures two { IfSome result (λ c. c.workers ≡ 2) }
-{
+// Two workers. None where memory is refused.
+fn config_of(alloc: Global, capacity: u32, classes: &[ClassConfig]) -> Option<Config> {
     let mut all = Vec::with_capacity(alloc, classes.len()).ok()?;
     for class in classes {
         all.push(*class).ok()?;
@@ -35,28 +42,30 @@ fn config_of(alloc: Global, capacity: u32, classes: &[ClassConfig]) -> Option<Co
     Config::new(2, capacity, 8, 1, all).ok()
 }
 
-fn tell_in<N: Name, R: Abort + Wait>(
+fn tell_in<N: Name + Send + Sync, R: Threads + Abort + Wait + Sync>(
     rt: &R,
     alloc: Global,
     blank: Blank,
     config: &Config,
     story: Story,
-) -> Result<(), AllocError>
+) -> Result<(), Call>
     requires name { blank.table ≡ N.table }
     requires config { blank.config ≡ config.now }
-    requires two { config.now.workers ≡ 2 }
 {
-    let (store, mut workers, mut maintainer) = Store::<N>::new(alloc, blank, config)?;
+    let Ok((store, mut workers, mut maintainer)) = Store::<N>::new(alloc, blank, config) else {
+        return Err("Store::new");
+    };
     match story {
         Story::SettledAtOnce => settle_at_once(rt, &store, workers, maintainer),
         Story::SettledOneByOne => settle_one_by_one(rt, &store, workers, maintainer),
         Story::PassedTwice => pass_twice(rt, &store, workers, maintainer),
+        Story::ItemShared => share_item(rt, &store, workers, maintainer),
+        Story::WorkedApart => work_apart(rt, alloc, &store, workers, maintainer),
+        Story::RunBeside => run_beside(rt, alloc, store, workers, maintainer, config),
         _ => {
+            assert!(rt; 0 < config.workers);
             let worker = workers.get_mut(0).expect(rt, "it is a worker");
-            tell_short(rt, alloc, &store, worker, maintainer.lane(0), story)?;
-            if let Story::ClassesTold = story {
-                finish_new(rt, alloc, store)?;
-            }
+            return tell_short(rt, alloc, store, worker, maintainer.lane(0), story);
         }
     }
     Ok(())
@@ -66,31 +75,47 @@ fn tell_in<N: Name, R: Abort + Wait>(
 fn tell_short<N: Name, R: Abort + Wait>(
     rt: &R,
     alloc: Global,
-    store: &Store<N>,
+    store: Store<N>,
     worker: &mut Worker<N>,
     lane: &mut Lane<N>,
     story: Story,
-) -> Result<(), AllocError> {
+) -> Result<(), Call> {
     match story {
-        Story::ClassesTold => tell_classes(rt, alloc, store, worker)?,
-        Story::Exchanged => find_exchanged(rt, store, worker, lane),
-        Story::DrainedAgain => drain_again(rt, store, worker, lane),
-        _ => drain_in_turn(rt, store, worker, lane),
+        Story::ClassesTold => {
+            tell_classes(rt, alloc, &store, worker);
+            end_new(rt, alloc, store);
+        }
+        Story::EndedAgain => return end_again(rt, alloc, store, worker),
+        Story::Exchanged => find_exchanged(rt, &store, worker, lane),
+        Story::DrainedAgain => drain_again(rt, &store, worker, lane),
+        _ => drain_in_turn(rt, &store, worker, lane),
     }
     Ok(())
 }
 
-/// Tells a story in a new store, whose rings have this capacity, with these classes.
-pub fn tell<R: Abort + Wait>(
+/// Tells a story in a new store of this configuration. Else it tells the call that was refused.
+pub fn tell_of<R: Threads + Abort + Wait + Sync>(
+    rt: &R,
+    alloc: Global,
+    config: &Config,
+    story: Story,
+) -> Result<(), Call> {
+    let Ok(blank) = Blank::new(alloc, config) else {
+        return Err("Blank::new");
+    };
+    tell_in::<Brand, R>(rt, alloc, blank, config, story)
+}
+
+/// The same of two workers, whose rings have this capacity, and of these classes.
+pub fn tell<R: Threads + Abort + Wait + Sync>(
     rt: &R,
     alloc: Global,
     capacity: u32,
     classes: &[ClassConfig],
     story: Story,
-) -> Result<(), AllocError> {
-    let config = config_of(alloc, capacity, classes).ok_or(AllocError)?;
-    let blank = Blank::new(alloc, &config)?;
-    tell_in::<Brand, R>(rt, alloc, blank, &config, story)
+) -> Result<(), Call> {
+    let config = config_of(alloc, capacity, classes).ok_or("the configuration")?;
+    tell_of(rt, alloc, &config, story)
 }
 
 /// A class with so many chunks, and these limits of HOT and of WARM.

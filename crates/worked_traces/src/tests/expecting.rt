@@ -1,5 +1,6 @@
-//! A writer that looks whether it is given a text, and takes no memory for it.
+//! A writer that looks whether it is given a text, and takes no memory for it; and what a test tells of refused memory.
 use std::io::{self, ErrorKind, Write};
+use std::test::*;
 
 /// What a writer does once its room is used up.
 #[derive(Clone, Copy)]
@@ -83,4 +84,19 @@ impl<'a> Write for Expecting<'a> {
     fn flush(&mut self) -> io::Result<()> {
         Ok(())
     }
+}
+
+/// Says which call was refused. `checks/refused_allocations` looks for these words, and counts them by call.
+pub(super) fn tell_refused(rt: &impl Eprint, call: &str) -> Result<(), Fail> {
+    eprintln!(rt; "an allocation was refused: {call}")?;
+    Ok(())
+}
+
+/// Makes one allocation more, and says so where that one was refused.
+pub(super) fn tell_left(rt: &HostRuntime) -> Result<(), Fail> {
+    let mut behind = Vec::new(rt.alloc());
+    if behind.push(0u8).is_err() {
+        eprintln!(rt; "no allocation was left")?;
+    }
+    Ok(())
 }

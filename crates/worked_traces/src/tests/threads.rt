@@ -1,7 +1,7 @@
 //! Worked traces whose lines behind `par` are made by threads, and a gate that shows that they are several.
 ghost use Rattle.std.specs.Prelude.{◌≤◌};
 
-use super::expecting::Expecting;
+use super::expecting::{Expecting, tell_left, tell_refused};
 use bump_trace::{Counted, SimFault};
 use std::alloc::Global;
 use std::hash::RandomState;
@@ -233,15 +233,11 @@ fn a_refused_allocation_by_threads(rt: HostRuntime) -> Result<(), Fail> {
     let (mut ended, mut written) = run_expecting(&rt, rt.alloc(), keys);
     assert!(rt; written.is_front());
     if ended == Err(SimFault::Memory) || ended == Err(SimFault::Threads) {
-        eprintln!(rt; "an allocation was refused")?;
+        tell_refused(&rt, "run_par")?;
         (ended, written) = run_expecting(&rt, rt.alloc(), keys);
     }
     assert!(rt; ended == Ok(()));
     assert!(rt; written.is_front());
     assert_eq!(rt; written.left(), 0);
-    let mut behind = Vec::new(rt.alloc());
-    if behind.push(0u8).is_err() {
-        eprintln!(rt; "no allocation was left")?;
-    }
-    Ok(())
+    tell_left(&rt)
 }

@@ -2,6 +2,7 @@
 //! the proof of each step behind it, and no test needs it.
 use super::readers::{expect_told, told_by};
 use super::*;
+use crate::opening::config_of;
 
 /// Makes an event.
 pub fn step(world: &mut World, event: Event) -> Result<Reply, Refused> {
@@ -40,10 +41,34 @@ fn command(world: &mut World, command: Command) -> Result<Answer, Refused> {
     world.command(command)
 }
 
-/// Says that an allocation was refused, so that whoever makes each fail in turn knows when none is left.
-pub fn tell_refusal(rt: &impl Eprint) -> Result<(), Fail> {
-    eprintln!(rt; "an allocation was refused")?;
+/// Says which call was refused. `checks/refused_allocations` looks for these words, and counts them by call.
+pub fn tell_refused(rt: &impl Eprint, call: &str) -> Result<(), Fail> {
+    eprintln!(rt; "an allocation was refused: {call}")?;
     Ok(())
+}
+
+// The configuration of a World of one worker and one class of two chunks, asked for again where it is refused.
+fn config_again(rt: &impl Eprint, alloc: Global) -> Result<Config, Fail> {
+    let (numbers, sizes) = ((1, 4, 4, 1), [(2, 0, 5)]);
+    match config_of(alloc, numbers, &sizes) {
+        Ok(config) => Ok(config?),
+        Err(_) => {
+            tell_refused(rt, "the configuration")?;
+            Ok(config_of(alloc, numbers, &sizes)??)
+        }
+    }
+}
+
+/// A World of one worker and one class of two chunks. Where it is refused, it is asked for again.
+pub fn world_again(rt: &impl Eprint, alloc: Global) -> Result<World, Fail> {
+    let config = config_again(rt, alloc)?;
+    match World::new(alloc, &config) {
+        Ok(world) => Ok(world),
+        Err(_) => {
+            tell_refused(rt, "World::new")?;
+            Ok(World::new(alloc, &config)?)
+        }
+    }
 }
 
 // Makes a command, and makes it again where memory is refused: nothing has changed then.
@@ -57,7 +82,7 @@ fn command_again<R: Abort + Eprint>(
     if told != Err(Refused::OutOfMemory) {
         return Ok(told);
     }
-    tell_refusal(rt)?;
+    tell_refused(rt, "World::command")?;
     expect_told(rt, world, &before);
     Ok(command(world, made))
 }
@@ -79,24 +104,43 @@ pub fn expect_rows<R: Abort + Eprint>(rt: &R, world: &mut World, rows: &[Row]) -
 }
 
 // Makes an event, and makes it again where memory is refused: nothing has changed then.
-fn step_again<R: Abort + Eprint>(rt: &R, world: &mut World, event: Event) -> Result<(), Fail> {
+fn step_again<R: Abort + Eprint>(
+    rt: &R,
+    world: &mut World,
+    event: Event,
+) -> Result<Result<Reply, Refused>, Fail> {
     let before = told_by(rt, world);
-    if step(world, event) == Err(Refused::OutOfMemory) {
-        tell_refusal(rt)?;
-        expect_told(rt, world, &before);
-        expect_made(rt, world, event);
+    let told = step(world, event);
+    if told != Err(Refused::OutOfMemory) {
+        return Ok(told);
     }
+    tell_refused(rt, "World::step")?;
+    expect_told(rt, world, &before);
+    Ok(step(world, event))
+}
+
+// Makes an event, which answers this.
+fn expect_reply<R: Abort + Eprint>(
+    rt: &R,
+    world: &mut World,
+    event: Event,
+    reply: Reply,
+) -> Result<(), Fail> {
+    assert_eq!(rt; step_again(rt, world, event)?, Ok(reply), "at {event:?}");
     Ok(())
 }
 
-/// Makes events in turn. One that is refused for want of memory has changed nothing, and is made again.
+/// Makes events in turn, each with its answer. One that is refused for want of memory has changed nothing, and is made
+/// again.
 pub fn steps_again<R: Abort + Eprint>(
     rt: &R,
     world: &mut World,
     events: &[Event],
+    replies: &[Reply],
 ) -> Result<(), Fail> {
-    for event in events.iter() {
-        step_again(rt, world, *event)?;
+    expect(rt, "the answers", &replies.len(), &events.len());
+    for (event, reply) in events.iter().zip(replies.iter()) {
+        expect_reply(rt, world, *event, *reply)?;
     }
     Ok(())
 }

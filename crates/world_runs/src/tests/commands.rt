@@ -1,5 +1,5 @@
 //! Tables of commands with their answers: a sweep, commands that are refused, and refused allocations.
-use super::calls::{Row, expect_rows, tell_refusal};
+use super::calls::{Row, expect_rows, world_again};
 use super::*;
 
 fn refused(command: Command) -> Row {
@@ -159,8 +159,6 @@ fn end_all<R: Abort + Eprint>(rt: &R, world: &mut World) -> Result<(), Fail> {
 // changed, and the call is made again.
 #[test]
 fn ends_and_refusals_change_nothing(rt: HostRuntime) -> Result<(), Fail> {
-    match world(rt.alloc(), 4, 0, 5) {
-        Some(mut world) => end_all(&rt, &mut world),
-        None => tell_refusal(&rt),
-    }
+    let mut world = world_again(&rt, rt.alloc())?;
+    end_all(&rt, &mut world)
 }

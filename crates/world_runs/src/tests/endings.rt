@@ -1,6 +1,6 @@
 //! Ends by single events: what comes between an end and the sweep of its chunk, and between a
 //! drop and the clearing of ACTIVE.
-use super::calls::{expect_made, steps_again, tell_refusal};
+use super::calls::{expect_made, steps_again, world_again};
 use super::readers::expect_accounts;
 use super::*;
 
@@ -55,6 +55,18 @@ fn warm(refs: u32, active: bool) -> Head {
         fetched: true,
         active,
         segment: Segment::Warm,
+        generation: 1,
+    }
+}
+
+/// The head of the first item with so many references, never hit, in HOT.
+fn hot(refs: u32, linked: bool) -> Head {
+    Head {
+        refs,
+        linked,
+        fetched: false,
+        active: false,
+        segment: Segment::Hot,
         generation: 1,
     }
 }
@@ -151,7 +163,15 @@ fn a_bump_aboard_keeps_the_chunk_of_an_end(rt: HostRuntime) -> Result<(), Fail> 
 // An item is linked, ends and is swept, and then the ring is closed.
 fn end_and_close<R: Abort + Eprint>(rt: &R, world: &mut World) -> Result<(), Fail> {
     let events = [LABEL, TIME, LINK, UNLINK, SWEEP, Event::Close { worker: 0 }];
-    steps_again(rt, world, &events)?;
+    let replies = [
+        Reply::Done,
+        Reply::Done,
+        Reply::Life(FIRST),
+        Reply::Word(hot(1, true)),
+        Reply::Word(hot(0, false)),
+        Reply::Done,
+    ];
+    steps_again(rt, world, &events, &replies)?;
     assert!(rt; !head_of(rt, world, 0).linked);
     Ok(())
 }
@@ -159,8 +179,6 @@ fn end_and_close<R: Abort + Eprint>(rt: &R, world: &mut World) -> Result<(), Fai
 // Where an allocation of these events is refused, whichever it is, nothing has changed, and the event is made again.
 #[test]
 fn events_of_ends_and_refusals_change_nothing(rt: HostRuntime) -> Result<(), Fail> {
-    match world(rt.alloc(), 4, 0, 5) {
-        Some(mut world) => end_and_close(&rt, &mut world),
-        None => tell_refusal(&rt),
-    }
+    let mut world = world_again(&rt, rt.alloc())?;
+    end_and_close(&rt, &mut world)
 }

@@ -1,6 +1,6 @@
 //! A promotion: an item is stored, pulled to COLD, hit twice, and its bump applied. By commands, by events and by runs.
 use super::calls::*;
-use super::readers::{Readers, expect_told};
+use super::readers::{Readers, expect_told, told_by};
 use super::*;
 
 /// Each command with its answer.
@@ -108,6 +108,42 @@ const PROMOTION_EVENTS: [Event; 21] = [
     Event::Alight { worker: 0 },
 ];
 
+/// The head of the first item when its life begins.
+const BEGUN: Head = Head {
+    refs: 1,
+    linked: true,
+    fetched: false,
+    active: false,
+    segment: Segment::Hot,
+    generation: 1,
+};
+
+/// In COLD, with a hold.
+const HELD: Head = Head {
+    refs: 2,
+    segment: Segment::Cold,
+    ..BEGUN
+};
+
+/// The same, hit once.
+const HIT: Head = Head {
+    fetched: true,
+    ..HELD
+};
+
+/// Hit twice, with a hold and a bump.
+const BUMPED: Head = Head {
+    refs: 3,
+    active: true,
+    ..HIT
+};
+
+/// The same, with the bump alone.
+const RIDDEN: Head = Head { refs: 2, ..BUMPED };
+
+/// Once it was moved, with the bump that moved it.
+const CARRIED: Head = Head { refs: 2, ..MOVED };
+
 /// The head of the first item once it was moved.
 const MOVED: Head = Head {
     refs: 1,
@@ -117,6 +153,31 @@ const MOVED: Head = Head {
     segment: Segment::Warm,
     generation: 1,
 };
+
+/// What these events answer.
+const PROMOTION_REPLIES: [Reply; 21] = [
+    Reply::Done,
+    Reply::Done,
+    Reply::Life(FIRST),
+    Reply::Word(BEGUN),
+    Reply::Done,
+    Reply::Done,
+    Reply::Word(HELD),
+    Reply::Word(HIT),
+    Reply::Done,
+    Reply::Word(HIT),
+    Reply::Word(HIT),
+    Reply::Done,
+    Reply::Number(0),
+    Reply::Word(BUMPED),
+    Reply::Number(0),
+    Reply::Word(RIDDEN),
+    Reply::Done,
+    Reply::Word(RIDDEN),
+    Reply::Done,
+    Reply::Word(CARRIED),
+    Reply::Outcome(Outcome::Moved),
+];
 
 /// The head of a chunk that was never used.
 const NEW: Head = Head {
@@ -130,18 +191,26 @@ const NEW: Head = Head {
 
 /// What a promotion leaves.
 const PROMOTED: Readers = Readers {
+    bounds: ((1, 2, 1), (4, 4), (0, 5)),
     chunks: ((MOVED, 7, 7, 0), (NEW, 0, 0, 0)),
-    lists: (
+    lists: [
         (0, None, None),
         (1, Some(0), Some(0)),
         (0, None, None),
+        (0, None, None),
         (1, Some(1), Some(1)),
+        (0, None, None),
+    ],
+    history: (
+        3,
+        Some(Change::Moved(FIRST, Segment::Cold, Segment::Warm, Cause::Bump(0, 0))),
     ),
     accounts: Accounts {
         attempted: 1,
         accepted: 1,
         ..NO_BUMPS
     },
+    is_open: true,
     bumps: ((1, Some(FIRST)), (1, Some(FIRST))),
     applied: (
         1,
@@ -163,15 +232,13 @@ fn promote<R: Abort + Eprint>(rt: &R, world: &mut World) -> Result<(), Fail> {
 // Where an allocation is made to fail, whichever it is, the refused call has changed nothing, and is made again.
 #[test]
 fn commands_promote_and_refusals_change_nothing(rt: HostRuntime) -> Result<(), Fail> {
-    match world(rt.alloc(), 4, 0, 5) {
-        Some(mut world) => promote(&rt, &mut world),
-        None => tell_refusal(&rt),
-    }
+    let mut world = world_again(&rt, rt.alloc())?;
+    promote(&rt, &mut world)
 }
 
 // The promotion by single events.
 fn promote_by_steps<R: Abort + Eprint>(rt: &R, world: &mut World) -> Result<(), Fail> {
-    steps_again(rt, world, &PROMOTION_EVENTS)?;
+    steps_again(rt, world, &PROMOTION_EVENTS, &PROMOTION_REPLIES)?;
     expect_told(rt, world, &PROMOTED);
     Ok(())
 }
@@ -179,24 +246,43 @@ fn promote_by_steps<R: Abort + Eprint>(rt: &R, world: &mut World) -> Result<(), 
 // The same by single events.
 #[test]
 fn steps_promote_and_refusals_change_nothing(rt: HostRuntime) -> Result<(), Fail> {
-    match world(rt.alloc(), 4, 0, 5) {
-        Some(mut world) => promote_by_steps(&rt, &mut world),
-        None => tell_refusal(&rt),
-    }
+    let mut world = world_again(&rt, rt.alloc())?;
+    promote_by_steps(&rt, &mut world)
 }
 
-// The rest of the events, from the refused one on, are made.
-fn run_rest(rt: &impl Abort, world: &mut World, place: usize) {
+// What the readers tell of another World in which so many of the events were made, one by one.
+fn told_after<R: Abort + Eprint>(rt: &R, alloc: Global, events: &[Event]) -> Result<Readers, Fail> {
+    let mut other = world_again(rt, alloc)?;
+    for event in events.iter() {
+        expect_made(rt, &mut other, *event);
+    }
+    Ok(told_by(rt, &other))
+}
+
+// The rest of the events, from the refused one on, are made. Those before it stay.
+fn run_rest<R: Abort + Eprint>(
+    rt: &R,
+    alloc: Global,
+    world: &mut World,
+    place: usize,
+) -> Result<(), Fail> {
     assert!(rt; place < PROMOTION_EVENTS.len());
+    let wanted = told_after(rt, alloc, &PROMOTION_EVENTS[..place])?;
+    expect_told(rt, world, &wanted);
     expect_run(rt, world, &PROMOTION_EVENTS[place..], Ok(()));
+    Ok(())
 }
 
 // The promotion by runs: what came before the refused event stays, and the rest is run from there.
-fn promote_by_runs<R: Abort + Eprint>(rt: &R, world: &mut World) -> Result<(), Fail> {
+fn promote_by_runs<R: Abort + Eprint>(
+    rt: &R,
+    alloc: Global,
+    world: &mut World,
+) -> Result<(), Fail> {
     if let Err((place, refused)) = run(world, &PROMOTION_EVENTS) {
-        tell_refusal(rt)?;
+        tell_refused(rt, "World::run")?;
         expect(rt, "why it was refused", &refused, &Refused::OutOfMemory);
-        run_rest(rt, world, place);
+        run_rest(rt, alloc, world, place)?;
     }
     expect_told(rt, world, &PROMOTED);
     Ok(())
@@ -205,8 +291,6 @@ fn promote_by_runs<R: Abort + Eprint>(rt: &R, world: &mut World) -> Result<(), F
 // The same by runs.
 #[test]
 fn runs_promote_and_go_on_after_a_refusal(rt: HostRuntime) -> Result<(), Fail> {
-    match world(rt.alloc(), 4, 0, 5) {
-        Some(mut world) => promote_by_runs(&rt, &mut world),
-        None => tell_refusal(&rt),
-    }
+    let mut world = world_again(&rt, rt.alloc())?;
+    promote_by_runs(&rt, rt.alloc(), &mut world)
 }

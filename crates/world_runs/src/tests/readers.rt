@@ -14,14 +14,23 @@ pub type Ends = (usize, Option<u32>, Option<u32>);
 /// How many bumps a ring accepted or a lane took, and the last of them.
 pub type Bumps = (usize, Option<ItemId>);
 
+/// How much there is, and the limits: classes, chunks and workers; the room of a ring, and of a count of references; HOT and
+/// WARM.
+pub type Bounds = ((u32, u32, u32), (u32, u32), (u32, u32));
+
 /// What the readers tell. Taking it asks for no memory.
 #[derive(Clone, Copy, Debug, PartialEq)]
 pub struct Readers {
+    pub bounds: Bounds,
     pub chunks: (OfChunk, OfChunk),
 
-    /// HOT, WARM, COLD and UNUSED.
-    pub lists: (Ends, Ends, Ends, Ends),
+    /// HOT, WARM, COLD, DYING, UNUSED and RETIRED.
+    pub lists: [Ends; 6],
+
+    /// How much happened to them, and what was last.
+    pub history: (usize, Option<Change>),
     pub accounts: Accounts,
+    pub is_open: bool,
 
     /// What was sent and received.
     pub bumps: (Bumps, Bumps),
@@ -43,6 +52,26 @@ fn ends(rt: &impl Abort, world: &World, place: Place) -> Ends {
     assert!(rt; 0 < world.classes());
     let mut list = world.list(0, place);
     (list.len(), list.next(), world.list_back(0, place))
+}
+
+fn bounds(rt: &impl Abort, world: &World) -> Bounds {
+    assert!(rt; 0 < world.classes());
+    (
+        (world.classes(), world.chunks(), world.workers()),
+        (world.capacity(), world.refs_limit()),
+        world.limits(0),
+    )
+}
+
+fn history(rt: &impl Abort, world: &World) -> (usize, Option<Change>) {
+    assert!(rt; 0 < world.classes());
+    let history = world.history(0);
+    (history.len(), history.last().copied())
+}
+
+fn is_open(rt: &impl Abort, world: &World) -> bool {
+    assert!(rt; 0 < world.workers());
+    world.is_open(0)
 }
 
 fn last_of(bumps: &[ItemId]) -> Bumps {
@@ -79,14 +108,19 @@ pub fn expect_accounts(rt: &impl Abort, world: &World, worker: u32, wanted: Acco
 /// What the World tells now.
 pub fn told_by(rt: &impl Abort, world: &World) -> Readers {
     Readers {
+        bounds: bounds(rt, world),
         chunks: (of_chunk(rt, world, 0), of_chunk(rt, world, 1)),
-        lists: (
+        lists: [
             ends(rt, world, Place::Hot),
             ends(rt, world, Place::Warm),
             ends(rt, world, Place::Cold),
+            ends(rt, world, Place::Dying),
             ends(rt, world, Place::Unused),
-        ),
+            ends(rt, world, Place::Retired),
+        ],
+        history: history(rt, world),
         accounts: accounts_of(rt, world, 0),
+        is_open: is_open(rt, world),
         bumps: bumps(rt, world),
         applied: applied(rt, world),
     }

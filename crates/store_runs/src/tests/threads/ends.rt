@@ -1,5 +1,5 @@
 //! What holds once all threads are joined.
-use super::super::calls::{expect_size, lock};
+use super::super::calls::{expect_size, lock, next, sweep};
 use super::super::expecting::expect;
 use super::CAPACITY;
 use super::keeping::Keeper;
@@ -7,7 +7,7 @@ use super::reading::Told;
 use bump_class::Book;
 use bump_heads::Name;
 use bump_readers::ReaderHeads;
-use bump_rules::{Accounts, Entry, Place};
+use bump_rules::{Accounts, Place};
 use bump_store::{Lane, Store};
 use std::alloc::{AllocError, Global};
 use std::process::Abort;
@@ -44,11 +44,6 @@ fn refs_left<N: Name>(rt: &impl Abort, heads: &ReaderHeads<N>) -> [u32; 64] {
     left
 }
 
-// What a lane applies next.
-fn next<N: Name, R: Wait>(rt: &R, store: &Store<N>, lane: &mut Lane<N>) -> Option<Entry> {
-    lane.next(rt, store, 0)
-}
-
 // Counts a chunk's bump.
 fn count(rt: &impl Abort, left: &mut [u32; 64], chunk: u32) {
     assert!(rt; chunk < 64);
@@ -65,12 +60,12 @@ fn apply_rest<N: Name, R: Abort + Wait>(
 ) -> u64 {
     let mut all = 0u64;
     for _ in 0..CAPACITY {
-        if let Some(entry) = next(rt, store, lane) {
+        if let Some(entry) = next(rt, store, lane, 0) {
             count(rt, left, entry.life.chunk);
             all = all.saturating_add(1);
         }
     }
-    assert!(rt; next(rt, store, lane).is_none());
+    assert!(rt; next(rt, store, lane, 0).is_none());
     all
 }
 
@@ -93,11 +88,6 @@ fn free_in<N: Name>(book: &Book<N>) -> u32 {
 fn chunks_in<N: Name>(book: &Book<N>) -> u32 {
     let range = book.range();
     range.end.saturating_sub(range.start)
-}
-
-// A sweep of a class, however many it frees.
-fn sweep<N: Name>(book: &mut Book<N>) {
-    book.sweep();
 }
 
 // Nobody holds an item any more: a sweep empties DYING, and each chunk stands in one list. Tells how many items there

@@ -1,5 +1,5 @@
 //! What the fifth thread does: it stores, ages, ends and sweeps the items of both classes, and drains all lanes.
-use super::super::calls::lock;
+use super::super::calls::{lock, pull, sweep};
 use bump_class::Book;
 use bump_heads::Name;
 use bump_rules::{ItemId, Pulled, Tail};
@@ -25,20 +25,6 @@ fn link<N: Name>(book: &mut Book<N>, label: u64, now: u64) -> Option<ItemId> {
 // Whether the item was linked, and ends.
 fn unlink<N: Name>(book: &mut Book<N>, item: ItemId) -> bool {
     book.unlink(item).is_ok()
-}
-
-fn sweep<N: Name>(book: &mut Book<N>) {
-    book.sweep();
-}
-
-// What a pull did.
-fn pull<N: Name>(book: &mut Book<N>, tail: Tail) -> Pulled {
-    book.pull(tail)
-}
-
-// A pull, whatever it does.
-fn age<N: Name>(book: &mut Book<N>, tail: Tail) {
-    pull(book, tail);
 }
 
 impl<N: Name> Keeper<N> {
@@ -77,11 +63,19 @@ impl<N: Name> Keeper<N> {
     fn change(&mut self, book: &mut Book<N>, now: u64) {
         match now % 8 {
             0 | 1 => self.link(book, now / 8),
-            2 | 3 => age(book, Tail::Hot),
-            4 => age(book, Tail::Warm),
-            5 => age(book, Tail::Cold),
+            2 | 3 => {
+                pull(book, Tail::Hot);
+            }
+            4 => {
+                pull(book, Tail::Warm);
+            }
+            5 => {
+                pull(book, Tail::Cold);
+            }
             6 if now % 32 < 16 => self.evict(book),
-            _ => sweep(book),
+            _ => {
+                sweep(book);
+            }
         }
     }
 

@@ -1,20 +1,18 @@
 //! 10,000 commands that a Store and a World get, with the same answers, lists, heads, times and accounts after each. The Store has three classes,
 //! so that two of them begin behind chunk 0, and three workers.
-ghost use Rattle.std.specs.Prelude.{◌≡◌};
-
 mod commands;
 mod sides;
 mod turns;
 
-use crate::expecting::expect;
+use super::expecting::expect;
+use super::whole::{Story, tell_of};
 use bump_core::World;
-use bump_heads::{Blank, Name};
+use bump_heads::Name;
 use bump_rules::{ClassConfig, Config, Outcome, Place};
-use bump_store::{Hold, Store};
+use bump_store::{Hold, Maintainer, Store, Worker};
 use commands::{class_command, cold_item_of, command_of, item_of};
 use sides::{Sides, expect_same};
-use std::alloc::{AllocError, Global};
-use std::marker::Brand;
+use std::alloc::Global;
 use std::process::Abort;
 use std::sync::Wait;
 use std::test::Fail;
@@ -154,32 +152,27 @@ fn expect_all_kinds(rt: &impl Abort, world: &World) {
     );
 }
 
-/// Opens both, by one configuration.
-fn run_in<N: Name, R: Abort + Wait>(
+/// Runs a Store beside a World of the same configuration.
+pub fn run_beside<N: Name, R: Abort + Wait>(
     rt: &R,
     alloc: Global,
-    blank: Blank,
+    store: Store<N>,
+    workers: Vec<Worker<N>>,
+    maintainer: Maintainer<N>,
     config: &Config,
-) -> Result<(), AllocError>
-    requires name { blank.table ≡ N.table }
-    requires config { blank.config ≡ config.now }
-{
-    let world = World::new(alloc, config)?;
-    let (store, workers, maintainer) = Store::<N>::new(alloc, blank, config)?;
+) {
     let mut sides = Sides {
         store,
         workers,
         lanes: maintainer.into_lanes(),
-        world,
+        world: World::new(alloc, config).expect(rt, "there is memory"),
     };
     run(rt, alloc, &mut sides);
-    Ok(())
 }
 
 #[test]
 fn a_store_and_a_world_stay_the_same(rt: HostRuntime) -> Result<(), Fail> {
     let alloc = rt.alloc();
     let config = Config::new(3, 1, 3, FIRST_GENERATION, Vec::from_array(alloc, CLASSES)?)?;
-    let blank = Blank::new(alloc, &config)?;
-    Ok(run_in::<Brand, _>(&rt, alloc, blank, &config)?)
+    Ok(tell_of(&rt, alloc, &config, Story::RunBeside)?)
 }

@@ -1,30 +1,15 @@
 //! Bumps that a Book applies by a raw lane, alone and in runs.
 ghost use Rattle.std.specs.Prelude.{◌≤◌};
 
-use crate::answers::{expect_pulled, link};
-use crate::expecting::expect;
-use crate::opening::{Scene, Small, play};
+use super::calls::{hit_twice, link_cold};
+use super::expecting::expect;
+use super::opening::{Scene, Small, play};
 use bump_class::{Book, RawLane};
 use bump_heads::{Heads, Name};
-use bump_rules::{Applied, Bump, Head, ItemId, Place, Pulled, Segment, Tail, Touch};
+use bump_rules::{Applied, Bump, Head, ItemId, Place, Segment, Touch};
 use bump_store::Worker;
 use std::process::Abort;
 use std::test::Fail;
-
-// A new item in COLD.
-fn link_cold<N: Name>(rt: &impl Abort, book: &mut Book<N>) -> ItemId {
-    let item = link(rt, book, 7, 1);
-    expect_pulled(rt, book, Tail::Hot, Pulled::Cold(item));
-    item
-}
-
-// A hit, and what it did.
-fn hit<N: Name>(rt: &impl Abort, heads: &Heads<N>, worker: &mut Worker<N>, item: ItemId) -> Touch {
-    let mut hold = worker.get(heads, item).expect(rt, "it is linked");
-    let touch = worker.touch(heads, &mut hold, 2);
-    hold.release(heads);
-    touch
-}
 
 // A new item in COLD that was hit twice: the second hit queues a bump with this number.
 fn queue<N: Name>(
@@ -34,11 +19,8 @@ fn queue<N: Name>(
     worker: &mut Worker<N>,
     number: u64,
 ) -> ItemId {
-    let item = link_cold(rt, book);
-    let first = hit(rt, heads, worker, item);
-    expect(rt, "the first hit", &first, &Touch::First);
-    let second = hit(rt, heads, worker, item);
-    expect(rt, "the second hit", &second, &Touch::Queued(number));
+    let item = link_cold(rt, book, 7, 1);
+    hit_twice(rt, heads, worker, item, Touch::Queued(number));
     item
 }
 
@@ -119,55 +101,59 @@ fn expect_moved<N: Name>(rt: &impl Abort, heads: &Heads<N>, chunk: u32, time: u6
 }
 
 /// A bump that is aboard stays so until it is applied: its item goes from COLD to WARM then, and its time is stored.
-pub fn move_in_cold<N: Name>(rt: &impl Abort, small: &mut Small<N>) {
+pub fn move_in_cold<N: Name>(rt: &impl Abort, small: &mut Small<N>, lane: &mut RawLane<N>) {
     let item = queue(rt, &small.heads, &mut small.first, &mut small.worker, 0);
-    expect_aboard(rt, &mut small.lane, 0, item);
-    let applied = apply(rt, &mut small.first, &mut small.lane, 9);
+    expect_aboard(rt, lane, 0, item);
+    let applied = apply(rt, &mut small.first, lane, 9);
     expect(rt, "what was applied", &applied, &Applied::Moved);
     expect_moved(rt, &small.heads, item.chunk, 9);
     expect_sizes(rt, &small.first, (1, 0));
-    expect_done(rt, &mut small.lane, 1);
+    expect_done(rt, lane, 1);
 }
 
 #[test]
 fn an_item_of_cold_moves_to_warm(rt: HostRuntime) -> Result<(), Fail> {
-    Ok(play(&rt, rt.alloc(), Scene::MovedInCold)?)
+    Ok(play(&rt, rt.alloc(), 4, Scene::MovedInCold)?)
 }
 
 /// A run of the first class ends where the bump of the second goes aboard, and that class's run begins there.
-pub fn end_at_the_other_class<N: Name>(rt: &impl Abort, small: &mut Small<N>) {
+pub fn end_at_the_other_class<N: Name>(
+    rt: &impl Abort,
+    small: &mut Small<N>,
+    lane: &mut RawLane<N>,
+) {
     let item = queue(rt, &small.heads, &mut small.first, &mut small.worker, 0);
     let other = queue(rt, &small.heads, &mut small.second, &mut small.worker, 1);
-    expect_aboard(rt, &mut small.lane, 0, item);
-    expect_run(rt, &mut small.first, &mut small.lane, 9, 4, 1);
-    expect_aboard(rt, &mut small.lane, 1, other);
+    expect_aboard(rt, lane, 0, item);
+    expect_run(rt, &mut small.first, lane, 9, 4, 1);
+    expect_aboard(rt, lane, 1, other);
     expect_sizes(rt, &small.first, (1, 0));
     expect_sizes(rt, &small.second, (0, 1));
-    expect_run(rt, &mut small.second, &mut small.lane, 10, 4, 1);
+    expect_run(rt, &mut small.second, lane, 10, 4, 1);
     expect_sizes(rt, &small.second, (1, 0));
-    expect_done(rt, &mut small.lane, 2);
+    expect_done(rt, lane, 2);
 }
 
 #[test]
 fn a_run_ends_at_the_other_class(rt: HostRuntime) -> Result<(), Fail> {
-    Ok(play(&rt, rt.alloc(), Scene::OtherClass)?)
+    Ok(play(&rt, rt.alloc(), 4, Scene::OtherClass)?)
 }
 
 /// Of three bumps of one class a run with the limit 2 applies two, each at its time, and leaves the third in the ring.
-pub fn end_at_the_limit<N: Name>(rt: &impl Abort, small: &mut Small<N>) {
+pub fn end_at_the_limit<N: Name>(rt: &impl Abort, small: &mut Small<N>, lane: &mut RawLane<N>) {
     queue(rt, &small.heads, &mut small.first, &mut small.worker, 0);
     let second = queue(rt, &small.heads, &mut small.first, &mut small.worker, 1);
     let third = queue(rt, &small.heads, &mut small.first, &mut small.worker, 2);
-    expect_run(rt, &mut small.first, &mut small.lane, 9, 2, 2);
+    expect_run(rt, &mut small.first, lane, 9, 2, 2);
     expect_sizes(rt, &small.first, (2, 1));
     expect_moved(rt, &small.heads, second.chunk, 9);
-    expect(rt, "applied bumps", &small.lane.applied(), &2);
-    expect_aboard(rt, &mut small.lane, 2, third);
-    expect_run(rt, &mut small.first, &mut small.lane, 10, 1, 1);
-    expect_done(rt, &mut small.lane, 3);
+    expect(rt, "applied bumps", &lane.applied(), &2);
+    expect_aboard(rt, lane, 2, third);
+    expect_run(rt, &mut small.first, lane, 10, 1, 1);
+    expect_done(rt, lane, 3);
 }
 
 #[test]
 fn a_run_ends_at_its_limit(rt: HostRuntime) -> Result<(), Fail> {
-    Ok(play(&rt, rt.alloc(), Scene::Limit)?)
+    Ok(play(&rt, rt.alloc(), 4, Scene::Limit)?)
 }

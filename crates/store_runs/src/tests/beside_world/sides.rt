@@ -1,6 +1,6 @@
 //! A Store and a World of the same configuration, and what both tell.
-use crate::answers::seen;
-use crate::expecting::{expect, expect_of};
+use super::super::calls::lock;
+use super::super::expecting::{expect, expect_of};
 use bump_class::Book;
 use bump_core::World;
 use bump_heads::Name;
@@ -8,7 +8,7 @@ use bump_rules::{Accounts, Answer, Command, Head, Place};
 use bump_store::{Lane, Store, Worker};
 use std::alloc::Global;
 use std::process::Abort;
-use std::sync::{MutexGuard, Wait};
+use std::sync::Wait;
 
 /// A Store with its workers and lanes, and a World.
 #[derive(Drop)]
@@ -22,15 +22,6 @@ pub struct Sides<N: Name> {
 /// What the World answers.
 pub fn told<N: Name>(rt: &impl Abort, sides: &mut Sides<N>, command: Command) -> Answer {
     sides.world.command(command).expect(rt, "it is allowed")
-}
-
-/// The Book of a class, under its lock.
-pub fn lock<'a, N: Name, R: Abort + Wait>(
-    rt: &R,
-    store: &'a Store<N>,
-    class: u32,
-) -> MutexGuard<'a, Book<N>> {
-    store.lock(rt, class).expect(rt, "it is a class")
 }
 
 // Both have the same list of a class.
@@ -76,6 +67,14 @@ fn expect_same_lists<N: Name>(
 fn told_of(rt: &impl Abort, world: &World, chunk: u32) -> (Head, u64) {
     assert!(rt; chunk < world.chunks());
     (world.head(chunk), world.time(chunk))
+}
+
+// The head and the time of a chunk, if it is of the Book's class.
+fn seen<N: Name>(book: &mut Book<N>, chunk: u32) -> Option<(Head, u64)> {
+    if !book.has_chunk(chunk) {
+        return None;
+    }
+    Some(book.see(chunk))
 }
 
 // Both have the same head and time of a chunk.

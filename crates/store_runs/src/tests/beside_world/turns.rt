@@ -1,6 +1,6 @@
 //! Readers' commands, and those of lanes.
+use super::super::expecting::expect;
 use super::sides::{Sides, told};
-use crate::expecting::expect;
 use bump_heads::Name;
 use bump_rules::{Answer, Command, Entry, ItemId, Touch};
 use bump_store::{GetRefusal, Hold};

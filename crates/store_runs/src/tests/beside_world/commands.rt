@@ -1,8 +1,8 @@
 //! Commands of a class, which a Store gets by a lock.
-use super::sides::{Sides, lock, told};
-use crate::answers::answer;
-use crate::expecting::expect_of;
-use bump_class::Book;
+use super::super::calls::{lock, pull, sweep};
+use super::super::expecting::expect_of;
+use super::sides::{Sides, told};
+use bump_class::{Book, LinkRefusal, UnlinkRefusal};
 use bump_core::World;
 use bump_heads::Name;
 use bump_rules::{Answer, Command, ItemId, Place, Tail};
@@ -76,6 +76,34 @@ fn class_of<N: Name>(store: &Store<N>, command: Command) -> Result<u32, NoSuchCh
         Command::Unlink { id } => store.class_of(id.chunk),
         _ => Err(NoSuchChunk),
     }
+}
+
+// A link, as a World answers it.
+fn linked<N: Name>(book: &mut Book<N>, label: u64, now: u64) -> Answer {
+    match book.link(label, now) {
+        Ok(id) => Answer::Linked(id),
+        Err(LinkRefusal::NoFreeChunk) => Answer::NoFreeChunk,
+    }
+}
+
+// An unlink, as a World answers it.
+fn unlinked<N: Name>(book: &mut Book<N>, id: ItemId) -> Answer {
+    match book.unlink(id) {
+        Ok(ended) => Answer::Ended(ended),
+        Err(UnlinkRefusal::NoSuchChunk) => Answer::NoSuchChunk,
+        Err(UnlinkRefusal::NotLinked) => Answer::NotLinked,
+    }
+}
+
+// Makes the call of a Book that is a World's command. None where there is no such call.
+fn answer<N: Name>(book: &mut Book<N>, command: Command) -> Option<Answer> {
+    Some(match command {
+        Command::Link { label, now, .. } => linked(book, label, now),
+        Command::Unlink { id } => unlinked(book, id),
+        Command::Sweep { .. } => Answer::Swept(sweep(book)),
+        Command::Pull { tail, .. } => Answer::Pulled(pull(book, tail)),
+        _ => return None,
+    })
 }
 
 /// Both get the command of a class, and answer the same.
