@@ -1,4 +1,4 @@
-//! The calls of a Book and moves among lists in plain Rust, and the workloads of `bump_bench`. `bench/run` builds and runs both programs.
+//! The calls of a Book and moves among lists in plain Rust, and the workloads of `bump_bench` that make them. `bench/run` builds and runs both programs.
 //! rustc --edition 2024 -C opt-level=3 -C codegen-units=1 -C panic=abort bench/changes.rs -o changes && ./changes all
 
 // Bumps are applied by reads.rs.

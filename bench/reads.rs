@@ -1,4 +1,4 @@
-//! A worker's calls of a store in plain Rust, and the workloads of `store_bench`. `bench/run` builds and runs both programs.
+//! A worker's calls of a store in plain Rust, and the workloads of `bump_bench` that make them. `bench/run` builds and runs both programs.
 //! rustc --edition 2024 -C opt-level=3 -C codegen-units=1 -C panic=abort bench/reads.rs -o reads && ./reads all
 
 mod apart;

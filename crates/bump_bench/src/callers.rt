@@ -1,11 +1,16 @@
 //! Calls of a Book, by one thread: how a class is prepared for them, and the loops that are timed.
 use crate::calls::Calls;
+use crate::hits::touch_all;
+use crate::stores::lives;
+use crate::tallies::{Spent, Tally, one_more};
 use bump_class::Book;
 use bump_readers::{Name, ReaderHeads};
 use bump_rules::{Ended, ItemId, Pulled, Tail};
-use bump_store::Worker;
-use measuring::{Tally, lives, one_more};
-use std::alloc::{AllocError, Global};
+use bump_store::{Store, Worker};
+use std::alloc::Global;
+use std::rt::Clock;
+use std::sync::Wait;
+use std::time::Instant;
 
 /// What is called, again and again.
 #[derive(Clone, Copy)]
@@ -33,16 +38,6 @@ pub enum Before {
     End,
 }
 
-// Hits each item.
-fn hit_all<N: Name>(heads: &ReaderHeads<N>, worker: &mut Worker<N>, items: &[ItemId]) {
-    for item in items {
-        if let Ok(mut hold) = worker.get(heads, *item) {
-            worker.touch(heads, &mut hold, 0);
-            hold.release(heads);
-        }
-    }
-}
-
 // Ends the life of each item while it is held.
 fn end_held<N: Name>(
     heads: &ReaderHeads<N>,
@@ -58,27 +53,23 @@ fn end_held<N: Name>(
     }
 }
 
-/// Does what the calls want done before, with all items, one thing after another.
-pub fn prepare_all<N: Name>(
-    alloc: Global,
+// Does one thing with all items.
+fn prepare<N: Name>(
     heads: &ReaderHeads<N>,
     worker: &mut Worker<N>,
     book: &mut Book<N>,
-    calls: Calls,
-) -> Result<(), AllocError> {
-    let items = lives(alloc, 0, calls.items)?;
-    for before in calls.before {
-        match *before {
-            Before::Hit => hit_all(heads, worker, &items),
-            Before::End => end_held(heads, worker, book, &items),
-            Before::Pull(tail) => {
-                for _item in &items {
-                    book.pull(tail);
-                }
+    items: &[ItemId],
+    before: Before,
+) {
+    match before {
+        Before::Hit => touch_all(heads, worker, items, 1),
+        Before::End => end_held(heads, worker, book, items),
+        Before::Pull(tail) => {
+            for _item in items {
+                book.pull(tail);
             }
         }
     }
-    Ok(())
 }
 
 // Links an item and unlinks it, so often. Right is an item that is freed.
@@ -119,20 +110,36 @@ fn pulls<N: Name>(book: &mut Book<N>, tail: Tail, times: u32) -> Tally {
     }
 }
 
-// Sweeps the class. Right is a chunk that is freed.
-fn sweeps<N: Name>(book: &mut Book<N>) -> Tally {
-    Tally {
-        right: u64::from(book.sweep()),
-        ..Tally::NONE
-    }
-}
-
-/// The calls that are timed. Its name is what callgrind is told to count.
+// The calls that are timed. Of a sweep, right is a chunk that is freed. Its name is what callgrind is told to count.
 #[inline(never)]
-pub fn timed_calls<N: Name>(book: &mut Book<N>, call: Call, times: u32) -> Tally {
+fn timed_calls<N: Name>(book: &mut Book<N>, call: Call, times: u32) -> Tally {
     match call {
         Call::LinkUnlink => links(book, times),
         Call::Pull(tail) => pulls(book, tail, times),
-        Call::Sweep => sweeps(book),
+        Call::Sweep => Tally {
+            right: u64::from(book.sweep()),
+            ..Tally::NONE
+        },
     }
+}
+
+/// Does what the calls want done before, one thing after another, and times them. Beside what they count stands the length of the list in which all items are
+/// then. None where memory or the clock is refused.
+pub fn prepare_and_call<N: Name, R: Clock + Wait>(
+    rt: &R,
+    alloc: Global,
+    store: &Store<N>,
+    worker: &mut Worker<N>,
+    calls: Calls,
+) -> Option<Spent> {
+    let items = lives(alloc, 0, calls.items).ok()?;
+    let mut guard = store.lock(rt, 0).ok()?;
+    for before in calls.before {
+        prepare(store, worker, &mut *guard, &items, *before);
+    }
+    let start = Instant::now(rt).ok()?;
+    let tally = timed_calls(&mut *guard, calls.call, calls.times);
+    let mut spent = Spent::since(rt, start, tally)?;
+    spent.add_label(u64::from(guard.size(calls.behind)));
+    Some(spent)
 }

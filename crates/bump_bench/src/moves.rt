@@ -1,10 +1,9 @@
 //! Moves to the front among lists of `bump_links`, by one thread.
 ghost use Rattle.std.specs.Prelude.{◌≡◌, ◌<◌, ◌≤◌, length, All, IfOk};
 
+use crate::tallies::{Spent, Tally};
 use bump_links::{Links, NODES_MAX};
-use measuring::{Spent, Tally};
 use std::alloc::{AllocError, Global};
-use std::io;
 use std::rt::Clock;
 use std::time::Instant;
 
@@ -98,22 +97,21 @@ fn timed_moves(links: &mut Links, moves: &[Move])
 }
 
 impl Moves {
-    /// Makes all moves twice, and times them the second time: the nodes are mixed then, and all memory was touched.
-    pub fn pass<R: Clock>(self, rt: &R, alloc: Global) -> io::Result<Spent> {
+    /// Makes all moves twice, and times them the second time: the nodes are mixed then, and all memory was touched. None where memory or the clock is refused.
+    pub fn pass<R: Clock>(self, rt: &R, alloc: Global) -> Option<Spent> {
         if self.nodes == 0 || self.nodes > NODES_MAX {
-            return Err(AllocError.into());
+            return None;
         }
-        let moves = draw_moves(alloc, self.nodes)?;
-        let mut links = Links::new(alloc, self.nodes, LISTS, 0)?;
+        let moves = draw_moves(alloc, self.nodes).ok()?;
+        let mut links = Links::new(alloc, self.nodes, LISTS, 0).ok()?;
         make_moves(&mut links, &moves);
-        let start = Instant::now(rt)?;
+        let start = Instant::now(rt).ok()?;
         timed_moves(&mut links, &moves);
-        let spent = start.elapsed(rt)?;
         let tally = Tally {
             refused: 0,
             right: u64::from(TIMES),
             labels: u64::from(links.len(1)),
         };
-        Ok(Spent::new(spent, tally))
+        Spent::since(rt, start, tally)
     }
 }

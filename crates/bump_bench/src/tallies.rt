@@ -1,5 +1,6 @@
-//! A pass through a workload.
-use std::time::Duration;
+//! What is counted of a pass through a workload, and what it took.
+use std::rt::Clock;
+use std::time::Instant;
 
 /// What is counted of a pass, so that each step has a use.
 #[derive(Clone, Copy)]
@@ -53,12 +54,18 @@ impl Spent {
         tally: Tally::NONE,
     };
 
-    /// So long, and what was counted meanwhile.
-    pub fn new(spent: Duration, tally: Tally) -> Spent {
-        Spent {
+    /// The time since then, and what was counted meanwhile. None where the clock is refused.
+    pub fn since<R: Clock>(rt: &R, start: Instant, tally: Tally) -> Option<Spent> {
+        let spent = start.elapsed(rt).ok()?;
+        Some(Spent {
             nanos: u64::try_from(spent.as_nanos()).unwrap_or(u64::MAX),
             tally,
-        }
+        })
+    }
+
+    /// Adds to the sum of the labels.
+    pub fn add_label(&mut self, label: u64) {
+        self.tally.labels = self.tally.labels.wrapping_add(label);
     }
 
     /// With what one of so many threads took and counted: the mean of the times, and the sum of what was counted.

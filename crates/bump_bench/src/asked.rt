@@ -9,7 +9,7 @@ const PASSES: u32 = 15;
 #[derive(Drop)]
 pub struct Asked {
     word: String,
-    passes: u32,
+    pub passes: u32,
     threads: Option<u32>,
 }
 
@@ -35,10 +35,5 @@ impl Asked {
     pub fn wants(&self, subject: Subject) -> bool {
         let is_named = self.word.as_str() == "all" || self.word.as_str() == subject.name;
         is_named && self.threads.unwrap_or(subject.threads) == subject.threads
-    }
-
-    /// How many passes are timed.
-    pub fn passes(&self) -> u32 {
-        self.passes
     }
 }

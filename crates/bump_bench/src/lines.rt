@@ -1,5 +1,5 @@
 //! What is printed of a workload.
-use crate::passes::{Spent, Tally};
+use crate::tallies::{Spent, Tally};
 use std::alloc::AllocError;
 use std::io;
 

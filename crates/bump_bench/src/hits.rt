@@ -1,8 +1,8 @@
-//! The loops that are timed.
+//! Hits and gets of items: the loops that are timed of a worker's calls.
+use crate::tallies::{Tally, one_more};
 use bump_readers::{Name, ReaderHeads};
 use bump_rules::{Dropped, ItemId, Touch};
 use bump_store::Worker;
-use measuring::{Tally, one_more};
 
 /// What each touch of a pass comes to.
 #[derive(Clone, Copy)]
@@ -59,8 +59,8 @@ impl Wanted for Full {
     }
 }
 
-// Gets and releases each item, as often as there are rounds.
-fn gets<N: Name>(
+/// Gets and releases each item, as often as there are rounds.
+pub fn gets<N: Name>(
     heads: &ReaderHeads<N>,
     worker: &mut Worker<N>,
     items: &[ItemId],
@@ -122,11 +122,6 @@ pub fn touch_all<N: Name>(
     times: u32,
 ) {
     hits::<First, N>(heads, worker, items, times);
-}
-
-/// Gets and releases each item once.
-pub fn get_all<N: Name>(heads: &ReaderHeads<N>, worker: &mut Worker<N>, items: &[ItemId]) {
-    gets(heads, worker, items, 1);
 }
 
 /// The pass that is timed: hits where an answer is wanted, else gets. Its name is what callgrind is told to count.

@@ -1,0 +1,85 @@
+//! Stores that are measured: how they are configured and filled, and the lives of their items.
+use bump_class::Book;
+use bump_heads::Name;
+use bump_rules::{ClassConfig, Config, ItemId, Tail};
+use bump_store::Store;
+use std::alloc::{AllocError, Global};
+use std::sync::Wait;
+
+/// A store as a workload wants it.
+#[derive(Clone, Copy)]
+pub struct Shape {
+    /// How many classes there are, all of them alike.
+    pub classes: u32,
+    pub class: ClassConfig,
+
+    /// How many workers there are, and for how many bumps the ring of each has room.
+    pub workers: u32,
+    pub capacity: u32,
+
+    /// How many items are linked in each class, and whether all of them are pulled to COLD: then the limit of HOT is 0.
+    pub items: u32,
+    pub cold: bool,
+}
+
+// Links so many items, as far as chunks are free: the label of each is its number. Pulls as many to COLD, if that is wanted.
+fn fill<N: Name>(book: &mut Book<N>, items: u32, cold: bool) {
+    for number in 0..items {
+        let _linked = book.link(u64::from(number), 0);
+    }
+    if cold {
+        for _number in 0..items {
+            book.pull(Tail::Hot);
+        }
+    }
+}
+
+impl Shape {
+    /// A store in which an item is linked in each chunk. HOT and WARM may have nothing.
+    pub fn full(classes: u32, chunks: u32, workers: u32, capacity: u32, cold: bool) -> Shape {
+        Shape {
+            classes,
+            class: ClassConfig {
+                chunks,
+                hot: 0,
+                warm: 0,
+            },
+            workers,
+            capacity,
+            items: chunks,
+            cold,
+        }
+    }
+
+    /// Its configuration. None where it can't be, or where memory is refused.
+    pub fn config(self, alloc: Global) -> Option<Config> {
+        let mut classes = Vec::new(alloc);
+        for _class in 0..self.classes {
+            classes.push(self.class).ok()?;
+        }
+        Config::new(self.workers, self.capacity, 65_535, 1, classes).ok()
+    }
+
+    /// Fills each class. None where the store has fewer.
+    pub fn fill<N: Name, R: Wait>(self, rt: &R, store: &Store<N>) -> Option<()> {
+        for class in 0..self.classes {
+            let mut guard = store.lock(rt, class).ok()?;
+            fill(&mut *guard, self.items, self.cold);
+            drop(guard);
+        }
+        Some(())
+    }
+}
+
+/// The first lives of so many chunks from this one on, in an order that jumps.
+pub fn lives(alloc: Global, first: u32, items: u32) -> Result<Vec<ItemId>, AllocError> {
+    let mut lives = Vec::with_capacity(alloc, items as usize)?;
+    for number in 0..items {
+        let next = (u64::from(number) * 2_654_435_761 % u64::from(items)) as u32;
+        lives.push(ItemId {
+            chunk: first.wrapping_add(next),
+            generation: 1,
+        })?;
+    }
+    Ok(lives)
+}
