@@ -4,10 +4,39 @@ ghost use Rattle.std.specs.Prelude.{◌≡◌, ◌<◌, IfOk, length};
 
 use bump_links::Links;
 use std::alloc::Global;
+use std::fmt::Debug;
 use std::process::Abort;
 use std::test::Fail;
 
-// Asserts that a walk of a list finds these nodes, and that its ends and its count are theirs.
+// What was told of a list or of a node, by its number, is what was wanted. The comparison is proved here, once.
+fn expect<T: PartialEq + Debug>(rt: &impl Abort, what: &str, number: u32, told: &T, wanted: &T) {
+    assert_eq!(rt; told, wanted, "{what} {number}");
+}
+
+// The ends of a list and its count are these.
+fn expect_ends(rt: &impl Abort, links: &Links, list: u32, ends: [Option<u32>; 2], count: usize)
+    requires { list < length links.now.lists }
+{
+    expect(rt, "the front of list", list, &links.front(list), &ends[0]);
+    expect(rt, "the back of list", list, &links.back(list), &ends[1]);
+    expect(
+        rt,
+        "the count of list",
+        list,
+        &(links.len(list) as usize),
+        &count,
+    );
+}
+
+// A node's list, and the node behind it, are these.
+fn expect_node(rt: &impl Abort, links: &Links, node: u32, list: u32, after: Option<u32>)
+    requires { node < links.now.nodes }
+{
+    expect(rt, "the list of node", node, &links.list_of(node), &list);
+    expect(rt, "after node", node, &links.after(node), &after);
+}
+
+// A walk of a list finds these nodes, and its ends and its count are theirs.
 fn expect_list(
     rt: &impl Abort,
     alloc: Global,
@@ -18,22 +47,9 @@ fn expect_list(
     requires { list < length links.now.lists }
 {
     let found = links.walk(alloc, list)?;
-    assert_eq!(rt; found.as_slice(), wanted, "the walk of list {list}");
-    assert_eq!(rt;
-        links.front(list),
-        wanted.first().copied(),
-        "the front of list {list}"
-    );
-    assert_eq!(rt;
-        links.back(list),
-        wanted.last().copied(),
-        "the back of list {list}"
-    );
-    assert_eq!(rt;
-        links.len(list) as usize,
-        wanted.len(),
-        "the count of list {list}"
-    );
+    expect(rt, "the walk of list", list, &found.as_slice(), &wanted);
+    let ends = [wanted.first().copied(), wanted.last().copied()];
+    expect_ends(rt, links, list, ends, wanted.len());
     Ok(())
 }
 
@@ -60,12 +76,17 @@ fn front_if_list(links: &Links, list: u32) -> Option<u32> {
 fn counts_are_told(rt: HostRuntime) -> Result<(), Fail> {
     let mut links = Links::new(rt.alloc(), 3, 2, 0)?;
     links.move_front(1, 1);
-    assert_eq!(rt; (links.nodes(), links.lists()), (3, 2));
-    assert_eq!(rt; has_company(&links, 0), Some(true));
-    assert_eq!(rt; has_company(&links, 1), Some(false));
-    assert_eq!(rt; has_company(&links, 3), None);
-    assert_eq!(rt; front_if_list(&links, 1), Some(1));
-    assert_eq!(rt; front_if_list(&links, 2), None);
+    expect(&rt, "how many nodes", 3, &links.nodes(), &3);
+    expect(&rt, "how many lists", 2, &links.lists(), &2);
+    let company = [(0, Some(true)), (1, Some(false)), (3, None)];
+    for (node, wanted) in company.iter() {
+        let told = has_company(&links, *node);
+        expect(&rt, "the company of node", *node, &told, wanted);
+    }
+    for (list, wanted) in [(1, Some(1)), (2, None)].iter() {
+        let told = front_if_list(&links, *list);
+        expect(&rt, "the front of list", *list, &told, wanted);
+    }
     Ok(())
 }
 
@@ -81,9 +102,7 @@ fn three_nodes_in_two_lists(rt: HostRuntime) -> Result<(), Fail> {
 
     links.move_front(2, 0);
     expect_list(&rt, alloc, &links, 0, &[2, 0])?;
-    assert_eq!(rt; links.back(0), Some(0));
-    assert_eq!(rt; links.after(0), None);
-    assert_eq!(rt; links.len(0), 2);
+    expect_node(&rt, &links, 0, 0, None);
     Ok(())
 }
 
@@ -101,8 +120,7 @@ fn one_node_in_eight_lists(rt: HostRuntime) -> Result<(), Fail> {
     links.move_front(0, 0);
     expect_list(&rt, alloc, &links, 7, &[])?;
     expect_list(&rt, alloc, &links, 0, &[0])?;
-    assert_eq!(rt; links.list_of(0), 0);
-    assert_eq!(rt; links.after(0), None);
+    expect_node(&rt, &links, 0, 0, None);
     Ok(())
 }
 
@@ -123,34 +141,31 @@ fn move_plain(alloc: Global, plain: &mut Vec<Vec<u32>>, node: u32, list: u32) ->
     Ok(())
 }
 
-// Asserts that each reader answers what the plain lists say.
+// The nodes of a plain list stand in the list of that number, one behind the other.
+fn expect_nodes(rt: &impl Abort, links: &Links, list: u32, nodes: &[u32])
+    requires { links.now.nodes ≡ 5 }
+{
+    for (place, node) in nodes.iter().enumerate() {
+        assert!(rt; *node < 5 && place < 5);
+        expect_node(rt, links, *node, list, nodes.get(place + 1).copied());
+    }
+}
+
+// Each reader answers what the plain lists say.
 fn expect_plain(
     rt: &impl Abort,
     alloc: Global,
     links: &Links,
-    plain: &Vec<Vec<u32>>,
+    plain: &[Vec<u32>],
 ) -> Result<(), Fail>
     requires nodes { links.now.nodes ≡ 5 }
     requires lists { length links.now.lists ≡ 8 }
 {
-    assert_eq!(rt; plain.len(), 8);
+    assert!(rt; plain.len() == 8);
     for (list, nodes) in plain.iter().enumerate() {
         assert!(rt; list < 8);
         expect_list(rt, alloc, links, list as u32, nodes)?;
-        for (place, node) in nodes.iter().enumerate() {
-            assert!(rt; *node < 5);
-            assert_eq!(rt;
-                links.list_of(*node) as usize,
-                list,
-                "the list of node {node}"
-            );
-            assert!(rt; place < 5);
-            assert_eq!(rt;
-                links.after(*node),
-                nodes.get(place + 1).copied(),
-                "after node {node}"
-            );
-        }
+        expect_nodes(rt, links, list as u32, nodes);
     }
     Ok(())
 }
@@ -188,46 +203,19 @@ fn tell_refused(rt: &impl Eprint, call: &str) -> Result<(), Fail> {
     Ok(())
 }
 
-/// Of a list its front, its back and its count.
-type OfList = (Option<u32>, Option<u32>, u32);
-
-/// Of a node the list that holds it, and the node behind it.
-type OfNode = (u32, Option<u32>);
-
-/// The counts, and what is told of two lists and of four nodes.
-type Told = ((u32, u32), [OfList; 2], [OfNode; 4]);
-
-/// Four nodes of which the third is alone in the first list.
-const THIRD_ALONE: Told = (
-    (4, 2),
-    [(Some(2), Some(2), 1), (Some(0), Some(3), 3)],
-    [(1, Some(1)), (1, Some(3)), (0, None), (1, None)],
-);
-
-fn of_list(links: &Links, list: u32) -> OfList
-    requires { list < length links.now.lists }
+// All readers but the walk tell of four nodes, of which the third is alone in the first list.
+fn expect_third_alone(rt: &impl Abort, links: &Links)
+    requires nodes { links.now.nodes ≡ 4 }
+    requires lists { length links.now.lists ≡ 2 }
 {
-    (links.front(list), links.back(list), links.len(list))
-}
-
-fn of_node(links: &Links, node: u32) -> OfNode
-    requires { node < links.now.nodes }
-{
-    (links.list_of(node), links.after(node))
-}
-
-// All readers but the walk tell of the third node in the first list.
-fn expect_third_alone(rt: &impl Abort, links: &Links) {
-    let counts = (links.nodes(), links.lists());
-    assert!(rt; counts == (4, 2));
-    let lists = [of_list(links, 0), of_list(links, 1)];
-    let nodes = [
-        of_node(links, 0),
-        of_node(links, 1),
-        of_node(links, 2),
-        of_node(links, 3),
-    ];
-    assert_eq!(rt; (counts, lists, nodes), THIRD_ALONE);
+    expect(rt, "how many nodes", 4, &links.nodes(), &4);
+    expect(rt, "how many lists", 2, &links.lists(), &2);
+    expect_ends(rt, links, 0, [Some(2), Some(2)], 1);
+    expect_ends(rt, links, 1, [Some(0), Some(3)], 3);
+    expect_node(rt, links, 0, 1, Some(1));
+    expect_node(rt, links, 1, 1, Some(3));
+    expect_node(rt, links, 2, 0, None);
+    expect_node(rt, links, 3, 1, None);
 }
 
 // Four nodes in the second of two lists. Where they are refused, they are asked for again.
@@ -245,7 +233,8 @@ fn made_again(rt: &impl Eprint, alloc: Global) -> Result<Links, Fail>
 
 // A walk of the second list. One that is refused changes nothing, and is made again.
 fn walk_again(rt: &(impl Abort + Eprint), alloc: Global, links: &Links) -> Result<(), Fail>
-    requires { length links.now.lists ≡ 2 }
+    requires nodes { links.now.nodes ≡ 4 }
+    requires lists { length links.now.lists ≡ 2 }
 {
     let found = match links.walk(alloc, 1) {
         Ok(found) => found,
@@ -255,7 +244,14 @@ fn walk_again(rt: &(impl Abort + Eprint), alloc: Global, links: &Links) -> Resul
             links.walk(alloc, 1)?
         }
     };
-    assert_eq!(rt; found.as_slice(), [0, 1, 3].as_slice());
+    let wanted: [u32; 3] = [0, 1, 3];
+    expect(
+        rt,
+        "the walk of list",
+        1,
+        &found.as_slice(),
+        &wanted.as_slice(),
+    );
     Ok(())
 }
 
