@@ -4,6 +4,13 @@ ghost use Rattle.std.specs.Prelude.{◌≡◌, ◌≤◌, IfSome};
 use crate::laws::{ALL_BUT_ACTIVE, LINK, ONE_REFERENCE};
 use crate::{ACTIVE, FETCHED, LINKED, REFS_MAX, laws, pack, segment_xor, unpack};
 use bump_rules::{Head, Segment};
+use std::fmt::Debug;
+use std::process::Abort;
+
+// What was told is what was wanted. The comparison is proved here, once.
+fn expect<T: PartialEq + Debug>(rt: &impl Abort, what: &str, told: &T, wanted: &T) {
+    assert_eq!(rt; told, wanted, "{what}");
+}
 
 const NEWBORN: Head = Head {
     refs: 1,
@@ -33,7 +40,7 @@ fn back_and_there(word: u64) -> Option<u64>
 
 #[test]
 fn known_words(rt: HostRuntime) {
-    assert_eq!(rt; pack(NEWBORN), 4_295_032_833);
+    expect(&rt, "a new item's word", &pack(NEWBORN), &4_295_032_833);
     let marked = Head {
         refs: 2,
         linked: true,
@@ -42,13 +49,15 @@ fn known_words(rt: HostRuntime) {
         segment: Segment::Cold,
         generation: 1,
     };
-    assert_eq!(rt; pack(marked), 4_296_474_626);
-    assert_eq!(rt;
-        pack(Head {
+    expect(&rt, "a word with every mark", &pack(marked), &4_296_474_626);
+    expect(
+        &rt,
+        "the last generation",
+        &pack(Head {
             generation: u32::MAX,
             ..NEWBORN
         }),
-        18_446_744_069_414_649_857
+        &18_446_744_069_414_649_857,
     );
     let blank = Head {
         refs: 0,
@@ -58,25 +67,50 @@ fn known_words(rt: HostRuntime) {
         segment: Segment::Hot,
         generation: 0,
     };
-    assert_eq!(rt; unpack(0), Some(blank));
+    expect(&rt, "the word without a life", &unpack(0), &Some(blank));
 }
 
 #[test]
 fn words_of_no_head(rt: HostRuntime) {
-    assert_eq!(rt; unpack(1_572_864), None);
-    assert_eq!(rt; unpack(2_097_152), None);
-    assert_eq!(rt; unpack(2_147_483_648), None);
-    assert_eq!(rt; unpack(u64::MAX), None);
+    expect(&rt, "segment 3", &unpack(1_572_864), &None);
+    expect(&rt, "bit 21", &unpack(2_097_152), &None);
+    expect(&rt, "bit 31", &unpack(2_147_483_648), &None);
+    expect(&rt, "all bits", &unpack(u64::MAX), &None);
 }
 
 #[test]
 fn named_numbers(rt: HostRuntime) {
-    assert_eq!(rt; [LINKED, FETCHED, ACTIVE], [65_536, 131_072, 262_144]);
-    assert_eq!(rt; REFS_MAX, 65_535);
-    assert_eq!(rt; segment_xor(Segment::Warm, Segment::Warm), 0);
-    assert_eq!(rt; segment_xor(Segment::Hot, Segment::Warm), 524_288);
-    assert_eq!(rt; segment_xor(Segment::Cold, Segment::Hot), 1_048_576);
-    assert_eq!(rt; segment_xor(Segment::Warm, Segment::Cold), 1_572_864);
+    expect(
+        &rt,
+        "the bits",
+        &[LINKED, FETCHED, ACTIVE],
+        &[65_536, 131_072, 262_144],
+    );
+    expect(&rt, "the limit", &REFS_MAX, &65_535);
+    expect(
+        &rt,
+        "from WARM to WARM",
+        &segment_xor(Segment::Warm, Segment::Warm),
+        &0,
+    );
+    expect(
+        &rt,
+        "from HOT to WARM",
+        &segment_xor(Segment::Hot, Segment::Warm),
+        &524_288,
+    );
+    expect(
+        &rt,
+        "from COLD to HOT",
+        &segment_xor(Segment::Cold, Segment::Hot),
+        &1_048_576,
+    );
+    expect(
+        &rt,
+        "from WARM to COLD",
+        &segment_xor(Segment::Warm, Segment::Cold),
+        &1_572_864,
+    );
 }
 
 #[test]
@@ -93,8 +127,18 @@ fn table_there_and_back(rt: HostRuntime) {
                         segment,
                         generation,
                     };
-                    assert_eq!(rt; there_and_back(head), Some(head));
-                    assert_eq!(rt; back_and_there(pack(head)), Some(pack(head)));
+                    expect(
+                        &rt,
+                        "a head, there and back",
+                        &there_and_back(head),
+                        &Some(head),
+                    );
+                    expect(
+                        &rt,
+                        "a word, there and back",
+                        &back_and_there(pack(head)),
+                        &Some(pack(head)),
+                    );
                 }
             }
         }
@@ -111,37 +155,47 @@ fn steps(rt: HostRuntime) {
         ..NEWBORN
     };
     let word = pack(head);
-    assert_eq!(rt;
-        unpack(word + ONE_REFERENCE),
-        Some(Head { refs: 3, ..head })
+    expect(
+        &rt,
+        "one reference more",
+        &unpack(word + ONE_REFERENCE),
+        &Some(Head { refs: 3, ..head }),
     );
-    assert_eq!(rt;
-        unpack(word & ALL_BUT_ACTIVE),
-        Some(Head {
+    expect(
+        &rt,
+        "without ACTIVE",
+        &unpack(word & ALL_BUT_ACTIVE),
+        &Some(Head {
             active: false,
             ..head
-        })
+        }),
     );
-    assert_eq!(rt;
-        unpack(word ^ segment_xor(Segment::Hot, Segment::Cold)),
-        Some(Head {
+    expect(
+        &rt,
+        "in COLD",
+        &unpack(word ^ segment_xor(Segment::Hot, Segment::Cold)),
+        &Some(Head {
             segment: Segment::Cold,
             ..head
-        })
+        }),
     );
-    assert_eq!(rt;
-        unpack(pack(NEWBORN) | FETCHED),
-        Some(Head {
+    expect(
+        &rt,
+        "with FETCHED",
+        &unpack(pack(NEWBORN) | FETCHED),
+        &Some(Head {
             fetched: true,
             ..NEWBORN
-        })
+        }),
     );
-    assert_eq!(rt;
-        unpack(pack(NEWBORN) - LINK),
-        Some(Head {
+    expect(
+        &rt,
+        "unlinked",
+        &unpack(pack(NEWBORN) - LINK),
+        &Some(Head {
             refs: 0,
             linked: false,
             ..NEWBORN
-        })
+        }),
     );
 }
