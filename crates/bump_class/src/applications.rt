@@ -49,6 +49,7 @@ impl<N: Name> Book<N> {
     /// 1. Gone, where the item isn't linked: nothing is stored. One more look finds whether its chunk is free now.
     /// 2. Moved, where it is linked in COLD and ACTIVE was set: its time is stored, and it goes to the front of WARM.
     /// 3. TimeOnly, where it is linked, and not that: its time is stored, and it stays where it is.
+    #[inline(always)]
     pub fn apply_front(&mut self, lane: &mut RawLane<N>, now: u64) -> Applied
         requires carries { IsSome (carries lane.old) }
         requires own { IfSome (carries lane.old) (λ bump. owns bump.life.chunk self.old.part ≡ true) }

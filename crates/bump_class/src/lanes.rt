@@ -62,6 +62,7 @@ impl<N: Name> RawLane<N> {
 
     /// Takes the next bump out of the ring and aboard, where none is aboard, and tells the one aboard. It answers
     /// None only where none is aboard or known, and nothing is changed then.
+    #[inline(always)]
     pub fn fetch(&mut self) -> Option<Bump>
         ensures ring { self.new.ring ≡ self.old.ring }
         ensures entries { entries self.new ≡ entries self.old }

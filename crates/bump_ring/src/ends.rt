@@ -120,6 +120,7 @@ impl<N: Name> Receiver<N> {
     /// Takes the next bump out of the ring: the first that wasn't taken of those that were accepted. Where some are
     /// known it is the first of them, and the others stay known. Where it sees none there it answers None, and nothing
     /// is changed; that is so only where none is known. It waits for nobody.
+    #[inline(always)]
     pub fn take(&mut self) -> Option<Rider<N>>
         ensures ring { self.new.ring ≡ self.old.ring }
         ensures number { IfSome result (λ rider. rider.number ≡ length self.old.received) }

@@ -103,6 +103,7 @@ impl<N: Name> Store<N> {
     }
 
     // The Book that has the chunk, under its lock. It is looked for among all, from that of the chunk's class on.
+    #[inline(always)]
     pub(crate) fn lock_of_chunk<R: Wait>(&self, rt: &R, chunk: u32) -> MutexGuard<'_, Book<N>>
         ensures { owns chunk (mutex_guard_value result).part ≡ true }
     {
