@@ -6,3 +6,4 @@ pub mod LaneLemmas
 pub mod UpdateLemmas
 pub mod ApplicationLemmas
 pub mod RunLemmas
+pub mod Walks
