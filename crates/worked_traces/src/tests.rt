@@ -3,6 +3,7 @@ use bump_trace::{Counted, SimFault, run_model};
 use std::alloc::{AllocError, Global};
 use std::hash::RandomState;
 use std::process::Abort;
+use std::random::RandomSource;
 use std::sync::Wait;
 use std::test::*;
 use store_trace::run_serial;
@@ -16,7 +17,7 @@ mod threads;
 mod worked;
 
 use ends::{ENDS, EVERY_LINE, HOLDS, LAST_COUNTS, LATE_FAULTS, MIXED_LINES, PULLS};
-use expecting::{Expecting, tell_left, tell_refused};
+use expecting::{Expecting, expect_whole, tell_left, tell_refused};
 use faults::{
     EVERY_LINE_FAULT, EVERY_STORE_FAULT, LINE_COUNTS, LINE_FIELDS, LINE_NAMES, LINE_ORDER,
     PAIRS_OF_CONFIGS, PAIRS_OF_FIELDS, PAIRS_OF_STORES, PAIRS_OF_WORDS, SURPRISES,
@@ -49,6 +50,18 @@ fn text_of(rt: &HostRuntime, trace: &[u8]) -> Result<(Vec<u8>, Result<(), SimFau
     Ok(text_by(rt.alloc(), RandomState::new(rt)?, trace))
 }
 
+/// A run of this trace ended so, with this text.
+fn expect_run(
+    rt: &impl Abort,
+    trace: &str,
+    told: &(Vec<u8>, Result<(), SimFault>),
+    end: Result<(), SimFault>,
+    text: &[u8],
+) {
+    assert!(rt; told.1 == end, "{trace}");
+    assert!(rt; told.0.as_slice() == text, "{trace}");
+}
+
 /// Each trace gives its text, and its run ends so, by the model and on a store.
 fn all_give(
     rt: &(impl Abort + Wait),
@@ -59,210 +72,143 @@ fn all_give(
 ) {
     for row in rows {
         let (trace, text) = *row;
-        let (written, ended) = text_by(alloc, keys, trace.as_bytes());
-        assert!(rt; ended == end, "{trace}");
-        assert!(rt; written.as_slice() == text.as_bytes(), "{trace}");
-        let (written, ended) = serial_text_by(rt, alloc, keys, trace.as_bytes());
-        assert!(rt; ended == end, "{trace}");
-        assert!(rt; written.as_slice() == text.as_bytes(), "{trace}");
+        let told = text_by(alloc, keys, trace.as_bytes());
+        expect_run(rt, trace, &told, end, text.as_bytes());
+        let told = serial_text_by(rt, alloc, keys, trace.as_bytes());
+        expect_run(rt, trace, &told, end, text.as_bytes());
     }
+}
+
+/// The same with keys of their own.
+fn gives(
+    rt: &(impl Abort + Wait + RandomSource),
+    alloc: Global,
+    rows: &[(&str, &str)],
+    end: Result<(), SimFault>,
+) -> Result<(), Fail> {
+    all_give(rt, alloc, RandomState::new(rt)?, rows, end);
+    Ok(())
 }
 
 #[test]
 fn worked_traces(rt: HostRuntime) -> Result<(), Fail> {
-    let keys = RandomState::new(&rt)?;
-    all_give(&rt, rt.alloc(), keys, &WORKED, Ok(()));
-    Ok(())
+    gives(&rt, rt.alloc(), &WORKED, Ok(()))
 }
 
 #[test]
 fn worked_faults(rt: HostRuntime) -> Result<(), Fail> {
-    let keys = RandomState::new(&rt)?;
-    all_give(&rt, rt.alloc(), keys, &WORKED_FAULTS, Err(SimFault::Trace));
-    Ok(())
+    gives(&rt, rt.alloc(), &WORKED_FAULTS, Err(SimFault::Trace))
 }
 
 #[test]
 fn hostile_faults(rt: HostRuntime) -> Result<(), Fail> {
-    let keys = RandomState::new(&rt)?;
-    all_give(&rt, rt.alloc(), keys, &HOSTILE_FAULTS, Err(SimFault::Trace));
-    Ok(())
+    gives(&rt, rt.alloc(), &HOSTILE_FAULTS, Err(SimFault::Trace))
 }
 
 #[test]
 fn worked_pulls(rt: HostRuntime) -> Result<(), Fail> {
-    let keys = RandomState::new(&rt)?;
-    all_give(&rt, rt.alloc(), keys, &PULLS, Ok(()));
-    Ok(())
+    gives(&rt, rt.alloc(), &PULLS, Ok(()))
 }
 
 #[test]
 fn worked_ends(rt: HostRuntime) -> Result<(), Fail> {
-    let keys = RandomState::new(&rt)?;
-    all_give(&rt, rt.alloc(), keys, &ENDS, Ok(()));
-    Ok(())
+    gives(&rt, rt.alloc(), &ENDS, Ok(()))
 }
 
 /// The last generations of a chunk, and numbers of bumps far behind the room of a ring.
 #[test]
 fn worked_last_counts(rt: HostRuntime) -> Result<(), Fail> {
-    let keys = RandomState::new(&rt)?;
-    all_give(&rt, rt.alloc(), keys, &LAST_COUNTS, Ok(()));
-    Ok(())
+    gives(&rt, rt.alloc(), &LAST_COUNTS, Ok(()))
 }
 
 #[test]
 fn worked_holds(rt: HostRuntime) -> Result<(), Fail> {
-    let keys = RandomState::new(&rt)?;
-    all_give(&rt, rt.alloc(), keys, &HOLDS, Ok(()));
-    Ok(())
+    gives(&rt, rt.alloc(), &HOLDS, Ok(()))
 }
 
 #[test]
 fn late_faults(rt: HostRuntime) -> Result<(), Fail> {
-    let keys = RandomState::new(&rt)?;
-    all_give(&rt, rt.alloc(), keys, &LATE_FAULTS, Err(SimFault::Trace));
-    Ok(())
+    gives(&rt, rt.alloc(), &LATE_FAULTS, Err(SimFault::Trace))
 }
 
 #[test]
 fn every_line(rt: HostRuntime) -> Result<(), Fail> {
-    let keys = RandomState::new(&rt)?;
-    all_give(&rt, rt.alloc(), keys, &[EVERY_LINE, MIXED_LINES], Ok(()));
-    Ok(())
+    gives(&rt, rt.alloc(), &[EVERY_LINE, MIXED_LINES], Ok(()))
 }
 
 /// Each fault word, by a trace that is as short as can be.
 #[test]
 fn every_fault_of_a_line(rt: HostRuntime) -> Result<(), Fail> {
-    let keys = RandomState::new(&rt)?;
-    all_give(
-        &rt,
-        rt.alloc(),
-        keys,
-        &EVERY_LINE_FAULT,
-        Err(SimFault::Trace),
-    );
-    Ok(())
+    gives(&rt, rt.alloc(), &EVERY_LINE_FAULT, Err(SimFault::Trace))
 }
 
 #[test]
 fn every_fault_of_a_store(rt: HostRuntime) -> Result<(), Fail> {
-    let keys = RandomState::new(&rt)?;
-    all_give(
-        &rt,
-        rt.alloc(),
-        keys,
-        &EVERY_STORE_FAULT,
-        Err(SimFault::Trace),
-    );
-    Ok(())
+    gives(&rt, rt.alloc(), &EVERY_STORE_FAULT, Err(SimFault::Trace))
 }
 
 /// A word too few or too many, each field wrong, and what may not stand behind `par`.
 #[test]
 fn counts_of_more_lines(rt: HostRuntime) -> Result<(), Fail> {
-    let keys = RandomState::new(&rt)?;
-    all_give(&rt, rt.alloc(), keys, &LINE_COUNTS, Err(SimFault::Trace));
-    Ok(())
+    gives(&rt, rt.alloc(), &LINE_COUNTS, Err(SimFault::Trace))
 }
 
 #[test]
 fn fields_of_more_lines(rt: HostRuntime) -> Result<(), Fail> {
-    let keys = RandomState::new(&rt)?;
-    all_give(&rt, rt.alloc(), keys, &LINE_FIELDS, Err(SimFault::Trace));
-    Ok(())
+    gives(&rt, rt.alloc(), &LINE_FIELDS, Err(SimFault::Trace))
 }
 
 #[test]
 fn names_of_more_lines(rt: HostRuntime) -> Result<(), Fail> {
-    let keys = RandomState::new(&rt)?;
-    all_give(&rt, rt.alloc(), keys, &LINE_NAMES, Err(SimFault::Trace));
-    Ok(())
+    gives(&rt, rt.alloc(), &LINE_NAMES, Err(SimFault::Trace))
 }
 
 #[test]
 fn order_of_more_lines(rt: HostRuntime) -> Result<(), Fail> {
-    let keys = RandomState::new(&rt)?;
-    all_give(&rt, rt.alloc(), keys, &LINE_ORDER, Err(SimFault::Trace));
-    Ok(())
+    gives(&rt, rt.alloc(), &LINE_ORDER, Err(SimFault::Trace))
 }
 
 /// Of several faults of a line the first in the order is told.
 #[test]
 fn pairs_of_words(rt: HostRuntime) -> Result<(), Fail> {
-    let keys = RandomState::new(&rt)?;
-    all_give(&rt, rt.alloc(), keys, &PAIRS_OF_WORDS, Err(SimFault::Trace));
-    Ok(())
+    gives(&rt, rt.alloc(), &PAIRS_OF_WORDS, Err(SimFault::Trace))
 }
 
 #[test]
 fn pairs_of_fields(rt: HostRuntime) -> Result<(), Fail> {
-    let keys = RandomState::new(&rt)?;
-    all_give(
-        &rt,
-        rt.alloc(),
-        keys,
-        &PAIRS_OF_FIELDS,
-        Err(SimFault::Trace),
-    );
-    Ok(())
+    gives(&rt, rt.alloc(), &PAIRS_OF_FIELDS, Err(SimFault::Trace))
 }
 
 #[test]
 fn pairs_of_configs(rt: HostRuntime) -> Result<(), Fail> {
-    let keys = RandomState::new(&rt)?;
-    all_give(
-        &rt,
-        rt.alloc(),
-        keys,
-        &PAIRS_OF_CONFIGS,
-        Err(SimFault::Trace),
-    );
-    Ok(())
+    gives(&rt, rt.alloc(), &PAIRS_OF_CONFIGS, Err(SimFault::Trace))
 }
 
 #[test]
 fn pairs_of_stores(rt: HostRuntime) -> Result<(), Fail> {
-    let keys = RandomState::new(&rt)?;
-    all_give(
-        &rt,
-        rt.alloc(),
-        keys,
-        &PAIRS_OF_STORES,
-        Err(SimFault::Trace),
-    );
-    Ok(())
+    gives(&rt, rt.alloc(), &PAIRS_OF_STORES, Err(SimFault::Trace))
 }
 
 /// Faults that surprise.
 #[test]
 fn surprises(rt: HostRuntime) -> Result<(), Fail> {
-    let keys = RandomState::new(&rt)?;
-    all_give(&rt, rt.alloc(), keys, &SURPRISES, Err(SimFault::Trace));
-    Ok(())
+    gives(&rt, rt.alloc(), &SURPRISES, Err(SimFault::Trace))
 }
 
 /// Each kind of line with a word too few and one too many, and each of its fields wrong.
 #[test]
 fn counts_of_each_line(rt: HostRuntime) -> Result<(), Fail> {
-    let keys = RandomState::new(&rt)?;
-    all_give(&rt, rt.alloc(), keys, &COUNT_FAULTS, Err(SimFault::Trace));
-    Ok(())
+    gives(&rt, rt.alloc(), &COUNT_FAULTS, Err(SimFault::Trace))
 }
 
 #[test]
 fn fields_of_each_line(rt: HostRuntime) -> Result<(), Fail> {
-    let keys = RandomState::new(&rt)?;
-    all_give(&rt, rt.alloc(), keys, &FIELD_FAULTS, Err(SimFault::Trace));
-    Ok(())
+    gives(&rt, rt.alloc(), &FIELD_FAULTS, Err(SimFault::Trace))
 }
 
 #[test]
 fn order_of_each_line(rt: HostRuntime) -> Result<(), Fail> {
-    let keys = RandomState::new(&rt)?;
-    all_give(&rt, rt.alloc(), keys, &ORDER_FAULTS, Err(SimFault::Trace));
-    Ok(())
+    gives(&rt, rt.alloc(), &ORDER_FAULTS, Err(SimFault::Trace))
 }
 
 /// How the run of a trace ends, and the writer that looked at its text.
@@ -292,9 +238,7 @@ fn a_refused_allocation_leaves_a_front_of_the_text(rt: HostRuntime) -> Result<()
         tell_refused(&rt, "run_model")?;
         (ended, written) = run_expecting(rt.alloc(), keys, trace, text);
     }
-    assert!(rt; ended == Ok(()));
-    assert!(rt; written.is_front());
-    assert_eq!(rt; written.left(), 0);
+    expect_whole(&rt, ended, &written);
     tell_left(&rt)
 }
 
@@ -323,9 +267,7 @@ fn a_refused_allocation_of_a_serial_run(rt: HostRuntime) -> Result<(), Fail> {
         tell_refused(&rt, "run_serial")?;
         (ended, written) = run_serial_expecting(&rt, rt.alloc(), keys, trace, text);
     }
-    assert!(rt; ended == Ok(()));
-    assert!(rt; written.is_front());
-    assert_eq!(rt; written.left(), 0);
+    expect_whole(&rt, ended, &written);
     tell_left(&rt)
 }
 
@@ -342,10 +284,9 @@ fn a_line_over_64_kib(rt: HostRuntime) -> Result<(), Fail> {
     text.extend_from_slice(
         b"\nclass 0 retired 0\nworker 0 attempted 0 accepted 0 full 0 busy 0 refs 0 applied 0\n",
     )?;
-    let (written, ended) = text_of(&rt, b"store 1 4 4 1\nclass 20000 5 5\nshow\n")?;
-    assert!(rt; ended == Ok(()));
-    assert!(rt; written.len() > 100_000);
-    assert!(rt; written.as_slice() == text.as_slice());
+    let told = text_of(&rt, b"store 1 4 4 1\nclass 20000 5 5\nshow\n")?;
+    assert!(rt; text.len() > 100_000);
+    expect_run(&rt, "20,000 chunks are shown", &told, Ok(()), &text);
     Ok(())
 }
 
@@ -366,9 +307,9 @@ fn longest_trace(alloc: Global) -> Result<Vec<u8>, AllocError> {
 fn the_longest_trace(rt: HostRuntime) -> Result<(), Fail> {
     let trace = longest_trace(rt.alloc())?;
     assert_eq!(rt; trace.len(), 16_777_216);
-    let (written, ended) = text_of(&rt, &trace)?;
-    assert!(rt; ended == Err(SimFault::Trace));
-    assert!(rt; written.as_slice() == b"line 1: ORDER\n".as_slice());
+    let told = text_of(&rt, &trace)?;
+    let end = Err(SimFault::Trace);
+    expect_run(&rt, "the longest trace", &told, end, b"line 1: ORDER\n");
     Ok(())
 }
 
@@ -405,12 +346,10 @@ fn most_holds(alloc: Global) -> Result<(Vec<u8>, Vec<u8>), Fail> {
 fn as_many_holds_as_there_may_be(rt: HostRuntime) -> Result<(), Fail> {
     let keys = RandomState::new(&rt)?;
     let (trace, text) = most_holds(rt.alloc())?;
-    let (written, ended) = text_by(rt.alloc(), keys, &trace);
-    assert!(rt; ended == Ok(()));
-    assert!(rt; written.as_slice() == text.as_slice());
-    let (written, ended) = serial_text_by(&rt, rt.alloc(), keys, &trace);
-    assert!(rt; ended == Ok(()));
-    assert!(rt; written.as_slice() == text.as_slice());
+    let told = text_by(rt.alloc(), keys, &trace);
+    expect_run(&rt, "most holds, by the model", &told, Ok(()), &text);
+    let told = serial_text_by(&rt, rt.alloc(), keys, &trace);
+    expect_run(&rt, "most holds, on a store", &told, Ok(()), &text);
     Ok(())
 }
 

@@ -1,5 +1,7 @@
 //! A writer that looks whether it is given a text, and takes no memory for it; and what a test tells of refused memory.
+use bump_trace::SimFault;
 use std::io::{self, ErrorKind, Write};
+use std::process::Abort;
 use std::test::*;
 
 /// What a writer does once its room is used up.
@@ -84,6 +86,15 @@ impl<'a> Write for Expecting<'a> {
     fn flush(&mut self) -> io::Result<()> {
         Ok(())
     }
+}
+
+/// The run ended well, and its whole text was taken.
+pub(super) fn expect_whole(rt: &impl Abort, ended: Result<(), SimFault>, written: &Expecting<'_>) {
+    assert!(rt; ended == Ok(()), "the run ended well");
+    assert!(rt;
+        written.is_front && written.rest.is_empty(),
+        "the whole text"
+    );
 }
 
 /// Says which call was refused. `checks/refused_allocations` looks for these words, and counts them by call.

@@ -1,11 +1,17 @@
 //! Readers and writers that take little at a time, and one that fails at each of its calls in turn.
-use super::expecting::{Ending, Expecting};
+use super::expecting::{Ending, Expecting, expect_whole};
 use super::slow::{Interrupted, Slow};
 use super::worked::PROMOTION;
 use bump_trace::{Counted, SimFault, run_model};
 use std::alloc::Global;
 use std::hash::RandomState;
+use std::process::Abort;
 use std::test::*;
+
+/// A reader or a writer was asked so often, and failed so often.
+fn expect_calls(rt: &impl Abort, told: (u64, u64), wanted: (u64, u64)) {
+    assert!(rt; told == wanted, "calls, and those that failed");
+}
 
 /// One byte for each read, with an interruption before it, and one byte for each write.
 #[test]
@@ -16,13 +22,10 @@ fn byte_by_byte(rt: HostRuntime) -> Result<(), Fail> {
     let mut writer = Counted::new(Expecting::narrow(text.as_bytes(), usize::MAX, Ending::Fails));
     assert!(rt; run_model(rt.alloc(), keys, &mut reader, &mut writer) == Ok(()));
     let calls = 2 * (trace.len() as u64 + 1);
-    assert_eq!(rt; reader.calls(), calls);
-    assert_eq!(rt; reader.failed(), 0);
-    assert_eq!(rt; writer.calls(), text.len() as u64);
-    assert_eq!(rt; writer.failed(), 0);
-    let taken = writer.into_inner();
-    assert!(rt; taken.is_front());
-    assert_eq!(rt; taken.left(), 0);
+    expect_calls(&rt, (reader.calls(), reader.failed()), (calls, 0));
+    let told = (writer.calls(), writer.failed());
+    expect_calls(&rt, told, (text.len() as u64, 0));
+    expect_whole(&rt, Ok(()), &writer.into_inner());
     Ok(())
 }
 
@@ -101,8 +104,7 @@ fn a_reader_that_is_always_interrupted(rt: HostRuntime) -> Result<(), Fail> {
     let mut reader = Counted::new(Interrupted);
     let mut writer = Counted::new(Expecting::new(b""));
     assert!(rt; run_model(rt.alloc(), keys, &mut reader, &mut writer) == Err(SimFault::Read));
-    assert_eq!(rt; reader.calls(), 20_000_000);
-    assert_eq!(rt; reader.failed(), 0);
-    assert_eq!(rt; writer.calls(), 0);
+    expect_calls(&rt, (reader.calls(), reader.failed()), (20_000_000, 0));
+    expect_calls(&rt, (writer.calls(), writer.failed()), (0, 0));
     Ok(())
 }

@@ -1,7 +1,8 @@
 //! Worked traces whose lines behind `par` are made by threads, and a gate that shows that they are several.
 ghost use Rattle.std.specs.Prelude.{◌≤◌};
 
-use super::expecting::{Expecting, tell_left, tell_refused};
+use super::expect_run;
+use super::expecting::{Expecting, expect_whole, tell_left, tell_refused};
 use bump_trace::{Counted, SimFault};
 use std::alloc::Global;
 use std::hash::RandomState;
@@ -97,9 +98,8 @@ fn all_give<R: Threads + Wait + Abort + Sync>(
 {
     for row in rows {
         let (trace, text) = *row;
-        let (written, ended) = text_by(rt, alloc, keys, &OpenGate, drainers, trace.as_bytes());
-        assert!(rt; ended == end, "{trace}");
-        assert!(rt; written.as_slice() == text.as_bytes(), "{trace}");
+        let told = text_by(rt, alloc, keys, &OpenGate, drainers, trace.as_bytes());
+        expect_run(rt, trace, &told, end, text.as_bytes());
     }
 }
 
@@ -180,9 +180,8 @@ fn two_workers_are_in_their_lines_at_once(rt: HostRuntime) -> Result<(), Fail> {
         came: AtomicU64::new(0),
     };
     let (trace, text) = OWN_ITEMS;
-    let (written, ended) = text_by(&rt, rt.alloc(), keys, &gate, 1, trace.as_bytes());
-    assert!(rt; ended == Ok(()));
-    assert!(rt; written.as_slice() == text.as_bytes());
+    let told = text_by(&rt, rt.alloc(), keys, &gate, 1, trace.as_bytes());
+    expect_run(&rt, trace, &told, Ok(()), text.as_bytes());
     Ok(())
 }
 
@@ -203,12 +202,9 @@ impl Gate for Shut {
 fn a_gate_that_does_not_open(rt: HostRuntime) -> Result<(), Fail> {
     let keys = RandomState::new(&rt)?;
     let (trace, _) = OWN_ITEMS;
-    let (written, ended) = text_by(&rt, rt.alloc(), keys, &Shut, 1, trace.as_bytes());
-    assert!(rt; ended == Err(SimFault::Gate));
-    assert!(rt;
-        written.as_slice()
-            == b"set a 0.1\nset b 1.1\npull 0 hot cold 0.1\npull 0 hot cold 1.1\n".as_slice()
-    );
+    let told = text_by(&rt, rt.alloc(), keys, &Shut, 1, trace.as_bytes());
+    let text = b"set a 0.1\nset b 1.1\npull 0 hot cold 0.1\npull 0 hot cold 1.1\n";
+    expect_run(&rt, trace, &told, Err(SimFault::Gate), text);
     Ok(())
 }
 
@@ -236,8 +232,6 @@ fn a_refused_allocation_by_threads(rt: HostRuntime) -> Result<(), Fail> {
         tell_refused(&rt, "run_par")?;
         (ended, written) = run_expecting(&rt, rt.alloc(), keys);
     }
-    assert!(rt; ended == Ok(()));
-    assert!(rt; written.is_front());
-    assert_eq!(rt; written.left(), 0);
+    expect_whole(&rt, ended, &written);
     tell_left(&rt)
 }
