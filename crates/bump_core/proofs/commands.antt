@@ -1,6 +1,7 @@
 pub mod AreEvents
 pub mod ChangedLists
 pub mod ChangedState
+pub mod Done
 pub mod EndsAsEvents
 pub mod FreedChunks
 pub mod HitsAsEvents

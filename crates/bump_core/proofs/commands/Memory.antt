@@ -132,3 +132,9 @@ module _ (s : State) (k : ℕ) (within : k < length s.classes) where
     looks_ask (head_at s) (class_at s k).lists.dying s (some_unheld (head_at s) (class_at s k).lists.dying
         (omega arith)),
   )
+
+  -- and where none does it frees them
+  pub sweep_made : (n : ℕ) → n ≡ length (sweep_of s k) → n ≢ 0 → false ≡ is_under_application s k → (new : State)
+      → new ≡ with_changes s k (sweep_of s k) → Commands s (command.Sweep k) new (Ok (answer.Swept n))
+  sweep_made n is some rest new swept =
+      (sweep_waits s k within (omega arith) ∙ ap not (sym rest), swept, ap answer.Swept is)

@@ -6,7 +6,7 @@ use Rattle.bump_rules.specs.declared.events.Refused.{Refused}
 use Rattle.bump_rules.specs.declared.events.Refused.TheVariants.{OutOfMemory}
 use Rattle.bump_state.specs.Views.{state_of}
 use Rattle.bump_core.specs.Commands.{Commands}
-use Rattle.bump_core.proofs.commands.Memory.{nothing_swept, sweep_refused, sweep_wants}
+use Rattle.bump_core.proofs.commands.Memory.{nothing_swept, sweep_refused, sweep_wants, sweep_made}
 use Rattle.bump_core.proofs.commands.ends.call_sweep.Goals as goal
 
 pub returns-then-count-eq0 : goal.returns-then-count-eq0
@@ -29,3 +29,9 @@ returns-in_err-sweep_class c =
     (length (state_of c.args.parts.now).classes) (sym c.has_class.ensures ∙ c.if-not-has_class.false))
     c.count_unheld-count.result c.count_unheld-count.ensures c.if-count-eq0.false (sym c.if-is_under_application.false
     ∙ c.is_under_application.ensures) (state_of c.sweep_class.new.self) c.in_err-sweep_class.ensures.err)
+
+pub returns : goal.returns
+returns c = sweep_made (state_of c.args.parts.now) c.args.class (ltb-true c.args.class
+    (length (state_of c.args.parts.now).classes) (sym c.has_class.ensures ∙ c.if-not-has_class.false))
+    c.count_unheld-count.result c.count_unheld-count.ensures c.if-count-eq0.false (sym c.if-is_under_application.false
+    ∙ c.is_under_application.ensures) (state_of c.sweep_class.new.self) c.in_ok-sweep_class.ensures.ok

@@ -1,8 +1,9 @@
-use Rattle.std.proofs.Common.{List, take, subst, arith}
+use Rattle.std.proofs.Common.{◌≡◌, List, Some, take, subst, arith}
 use Rattle.std.proofs.lemmas.List.{take_all}
 use Rattle.bump_rules.specs.declared.events.Event.{Event}
 use Rattle.bump_core.specs.Headline.{ClosedStayFrom}
 use Rattle.bump_core.specs.Labels.{KeepsLabels}
+use Rattle.bump_core.specs.Runs.{run_of}
 use Rattle.std.proofs.lemmas.Option.{slice_get-get_or}
 use Rattle.bump_state.specs.Worlds.{IsLawful}
 use Rattle.bump_core.proofs.worlds.Headline.{headline}
@@ -66,3 +67,7 @@ pub returns-clause-closed : goal.returns-clause-closed
 returns-clause-closed c = subst (λ (es : List Event). ClosedStayFrom c.args.self.now es c.loop-place.self)
     (take_all c.loop-place.place c.args.events.now (omega arith))
     (closed_from c.args.self.now (take c.loop-place.place c.args.events.now) c.loop-place.self c.loop-place.invariant)
+
+pub returns-clause-run : goal.returns-clause-run
+returns-clause-run c = subst (λ (es : List Event). run_of c.args.self.now es ≡ Some c.loop-place.self)
+    (take_all c.loop-place.place c.args.events.now (omega arith)) c.loop-place.invariant

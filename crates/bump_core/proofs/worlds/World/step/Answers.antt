@@ -1,11 +1,14 @@
-use Rattle.std.proofs.Common.{[], ◌∷◌, subst}
+use Rattle.std.proofs.Common.{◌≡◌, [], ◌∷◌, subst}
+use Rattle.std.specs.Prelude.{false, IfErr}
+use Rattle.bump_rules.specs.declared.events.Refused.TheVariants.{NotEnabled}
 use Rattle.bump_state.specs.Views.{state_of}
 use Rattle.bump_state.specs.State.{State, SameSizes}
 use Rattle.bump_core.proofs.worlds.Sizes.{step_sizes}
 use Rattle.bump_core.proofs.worlds.Headline.{headline}
 use Rattle.bump_core.specs.Headline.{ClosedStay}
 use Rattle.bump_core.specs.Labels.{KeepsLabels}
-use Rattle.bump_core.specs.Runs.{made_by}
+use Rattle.bump_state.specs.Events.{asks_for_memory}
+use Rattle.bump_core.specs.Runs.{Steps, made_by}
 use Rattle.bump_core.proofs.events.Runs.{step_runs}
 use Rattle.bump_core.proofs.worlds.Labels.{keeps_labels}
 use Rattle.bump_core.proofs.worlds.ClosedRings.{closed_stay}
@@ -43,3 +46,11 @@ returns-clause-closed c = subst (λ (s : State). ClosedStay s (state_of c.step.n
     (closed_stay (state_of c.self.inside.parts) (made_by (c.args.event ∷ []) c.step.result) (state_of c.step.new.parts)
     (step_runs (state_of c.self.inside.parts) c.args.event
     (state_of c.step.new.parts) c.step.result c.step.ensures.step))
+
+pub returns-clause-step : goal.returns-clause-step
+returns-clause-step c = subst (λ (s : State). Steps s c.args.event (state_of c.step.new.parts) c.step.result)
+    c.self.view_is c.step.ensures.step
+
+pub returns-clause-memory : goal.returns-clause-memory
+returns-clause-memory c = subst (λ (s : State). asks_for_memory s c.args.event ≡ false
+    → IfErr c.step.result (λ r. r ≡ NotEnabled)) c.self.view_is c.step.ensures.memory

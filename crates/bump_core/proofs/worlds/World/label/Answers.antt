@@ -1,0 +1,8 @@
+use Rattle.std.proofs.Common.{ap, ◌∙◌}
+use Rattle.bump_state.specs.declared.chunks.Chunk.{Chunk}
+use Rattle.bump_state.specs.State.{State}
+use Rattle.bump_core.specs.Readers.{label_of}
+use Rattle.bump_core.proofs.worlds.World.label.Goals as goal
+
+pub returns : goal.returns
+returns c = ap (λ (k : Chunk). k.label) c.chunk.ensures ∙ ap (λ (s : State). label_of s c.args.chunk) c.self.view_is
