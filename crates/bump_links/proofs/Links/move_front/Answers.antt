@@ -1,10 +1,11 @@
 -- Where the node is the front of the target already, a move leaves all as it was.
-use Rattle.std.proofs.Common.{◌≡◌, ◌<◌, length, sym, ◌∙◌, ap, subst}
-use Rattle.std.proofs.lemmas.List.{get_or_read, length-map}
+use Rattle.std.proofs.Common.{◌≡◌, ◌<◌, List, length, sym, ◌∙◌, ap, ap₂, subst, arith}
+use Rattle.std.proofs.lemmas.List.{get_or_read, length-map, with_items_is}
+use Rattle.bump_links.specs.declared.chain.Node.{Node}
 use Rattle.bump_links.specs.declared.chain.Header.{Header}
 use Rattle.bump_links.specs.Lists.{Lists, moved_to_front, HoldsEachOnce}
 use Rattle.bump_links.specs.Chain.{list_under}
-use Rattle.bump_links.specs.Spelled.{no_header}
+use Rattle.bump_links.specs.Spelled.{lists_of, no_header}
 use Rattle.bump_links.proofs.MoveLemmas.{moved_in_place, holds_each_once}
 use Rattle.bump_links.proofs.Links.move_front.Goals as goal
 
@@ -30,3 +31,18 @@ returns-then-index-node-clause-each_once c =
     let nodes = c.self.inside.nodes.items in
     let headers = c.self.inside.headers.items in
     subst HoldsEachOnce c.self.view_is (holds_each_once nodes headers c.self.invariant)
+
+pub returns-clause-moved : goal.returns-clause-moved
+returns-clause-moved c =
+    let nodes = c.self.inside.nodes in
+    let headers = c.self.inside.headers in
+    let left = c.relink.new in
+    let moved = moved_to_front c.args.node c.args.list in
+    let as_many : length left.nodes ≡ nodes.len = omega (arith, c.relink.auto.nodes, c.deref_mut.ensures.len) in
+    let as_many_lists : length left.headers ≡ headers.len =
+    omega (arith, c.relink.auto.headers, c.deref_mut-2.ensures.len) in
+    ap₂ lists_of (with_items_is nodes left.nodes as_many) (with_items_is headers left.headers as_many_lists)
+    ∙ (c.relink.ensures.moved
+    ∙ (ap₂ (λ (ns : List Node) (hs : List Header). moved (lists_of ns hs)) c.deref_mut.ensures.value
+    c.deref_mut-2.ensures.value
+    ∙ ap moved c.self.view_is))
