@@ -1,6 +1,7 @@
 pub mod KnownBytes
 pub mod CommandsAtRest
 pub mod AscendingLoops
+pub mod CountedReads
 pub mod CutLines
 pub mod Draining
 pub mod SameButWorld
@@ -8,3 +9,4 @@ pub mod HoldsOfItems
 pub mod HeldNames
 pub mod GatheredText
 pub mod FrontsOfText
+pub mod WholeRuns
