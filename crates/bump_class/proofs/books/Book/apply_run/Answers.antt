@@ -1,8 +1,10 @@
-use Rattle.std.proofs.Common.{rules, length, refl, sym, ap, ◌∙◌, subst, arith}
+use Rattle.std.proofs.Common.{rules, ◌≡◌, true, Option, IfSome, length, refl, sym, ap, ◌∙◌, subst, arith}
 use mathlib.Core.List.{IsPrefix}
+use Rattle.bump_rules.specs.declared.bumps.Bump.{Bump}
+use Rattle.bump_steps.specs.Views.{owns}
 use Rattle.bump_class.specs.Applications.{EachMoveIsTold}
 use Rattle.bump_class.specs.Lanes.{LaneView, entries}
-use Rattle.bump_class.specs.Runs.{AppliesOwn}
+use Rattle.bump_class.specs.Runs.{AppliesOwn, IsRunOver}
 use Rattle.bump_class.proofs.RunLemmas.{run_more, is_aboard, goes_aboard, stands_still, has_boarded, front_grown, grown_on, told_aboard}
 use Rattle.bump_class.proofs.books.Book.apply_run.Goals as goal
 
@@ -99,7 +101,8 @@ loop-before-preserved g c =
         goes_aboard _ f.new.lane _ c.in-Some.bump boards.0 f.ensures.empty boards.1,
       );
       aboard = search rules;
-      own = search rules;
+      own = subst (λ (o : Option Bump). IfSome o (λ bump. owns bump.life.chunk f.new.self.part ≡ true))
+          (sym c.in-Some.ensures.aboard) (sym c.if-not-has_chunk.ensures);
       below = omega (arith, i.below, c.if-before-limit.false);
       ring = ap (λ (x : LaneView). x.ring) boards.1.lane ∙ f.ensures.ring ∙ i.ring;
       count = omega (arith, ap length c.in-Some.ensures.entries, f.ensures.count, i.count);
@@ -113,3 +116,8 @@ loop-before-preserved g c =
         f.ensures.class.2 ∙ i.class.2,
       );
     }
+
+pub returns-then-not-has_chunk-clause-over : goal.returns-then-not-has_chunk-clause-over
+returns-then-not-has_chunk-clause-over g c =
+    λ _. subst (λ (o : Option Bump). IsRunOver o c.apply_front.new.self c.fetch.new.self)
+    (sym c.in-Some.ensures.aboard) (sym c.if-not-has_chunk.ensures)

@@ -1,4 +1,4 @@
-use Rattle.std.proofs.Common.{◌≡◌, ◌<◌, ◌++◌, ◌∷◌, [], None, sym, ◌∙◌, subst, arith}
+use Rattle.std.proofs.Common.{rules, ◌≡◌, ◌<◌, ◌++◌, ◌∷◌, [], None, sym, ◌∙◌, subst, arith}
 use Rattle.bump_rules.specs.Rings.{most_attempts}
 use Rattle.bump_heads.specs.Seats.{aboard_lane}
 use Rattle.bump_class.specs.Lanes.{KeepsLane}
@@ -21,3 +21,6 @@ invariant_of-self-2 g c =
     c.in_ok-rider.ensures.number few in
     subst (λ x. KeepsLane c.board.new.self i.applied x) (sym c.in_ok-rider.ensures.received)
     (subst (λ x. KeepsLane x i.applied (i.receiver.received ++ r ∷ [])) (sym c.board.ensures.boarded) kept)
+
+pub returns-clause-next : goal.returns-clause-next
+returns-clause-next g c = search rules
