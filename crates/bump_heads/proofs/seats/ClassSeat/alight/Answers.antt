@@ -1,4 +1,4 @@
-use Rattle.std.proofs.Common.{subst}
+use Rattle.std.proofs.Common.{rules, subst}
 use Rattle.bump_heads.specs.declared.views.ClassView.{ClassView}
 use Rattle.bump_heads.specs.Applying.{IsJoined}
 use Rattle.bump_heads.specs.Seats.{class_in}
@@ -71,3 +71,6 @@ returns-clause-entry g c =
     c.alight-word.result c.head_of.result c.head_of.ensures c.part_lanes-part.new.seat.me
     c.part_lanes-part.result.me c.alight-word.new.seat.me c.alight-word.ensures.told.0
     c.part_lanes-part.ensures.parts.0 c.part_lanes-part.ensures.parts.1
+
+pub returns-clause-lane : goal.returns-clause-lane
+returns-clause-lane g c = search rules

@@ -1,4 +1,4 @@
-use Rattle.std.proofs.Common.{subst}
+use Rattle.std.proofs.Common.{rules, subst}
 use Rattle.bump_rules.specs.Lawful.{Shows}
 use Rattle.bump_heads.proofs.Seeing.{told_as, own_told, life_told, change_segment_chunk, shifted_whole}
 use Rattle.bump_heads.specs.Seats.{class_in}
@@ -39,3 +39,6 @@ returns-clause-life g c = life_told c.args.self.now c.args.chunk c.head_of.resul
     (told_as c.self.inside.seat.me c.self.inside.seat.me (class_in c.self.inside.seat.me.0) c.args.self.now
     c.self.invariant.0 (cc c.self.view_is) c.change_segment-word.result c.args.chunk c.head_of.result
     c.head_of.ensures c.change_segment-word.ensures.told.1.1)
+
+pub returns-clause-moved : goal.returns-clause-moved
+returns-clause-moved g c = search rules

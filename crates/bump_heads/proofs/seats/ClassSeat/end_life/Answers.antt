@@ -1,4 +1,4 @@
-use Rattle.std.proofs.Common.{◌≤◌, refl, ap, ◌∙◌, arith}
+use Rattle.std.proofs.Common.{rules, ◌≤◌, refl, ap, ◌∙◌, arith}
 use Rattle.bump_rules.specs.Lawful.{bit}
 use Rattle.bump_steps.specs.Plays.{Told}
 use Rattle.bump_steps.specs.Views.{standing}
@@ -39,3 +39,9 @@ returns-clause-counted g c = let h = c.head_of.result in let told = found_is c.e
     c.end_life.ensures.told.1 in let on = linked_in_segment h (standing c.args.self.now.part c.args.chunk).0
     (agrees c.args.chunk c.self.inside.seat.me c.args.self.now h c.self.view_is c.self.invariant.0 c.requires.own
     told.0).0 c.requires.linked in omega (arith, ap bit on, told.1)
+
+pub returns-clause-ended : goal.returns-clause-ended
+returns-clause-ended g c = search rules
+
+pub returns-clause-marks : goal.returns-clause-marks
+returns-clause-marks g c = search rules

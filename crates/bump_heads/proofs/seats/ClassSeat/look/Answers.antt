@@ -1,4 +1,4 @@
-use Rattle.std.proofs.Common.{None, refl, ◌∙◌, ◌++◌, ◌∷◌, []}
+use Rattle.std.proofs.Common.{rules, None, refl, ◌∙◌, ◌++◌, ◌∷◌, []}
 use Rattle.bump_steps.specs.declared.views.Kind.TheVariants as kind
 use Rattle.bump_steps.specs.Lives.{class_after_load}
 use Rattle.bump_steps.specs.Plays.{step_of}
@@ -27,3 +27,6 @@ pub returns-clause-generation : goal.returns-clause-generation
 returns-clause-generation g c =
     (finds c.args.chunk c.look.result c.self.inside.seat.me c.args.self.now c.head_of.result c.self.view_is
     c.self.invariant.0 c.requires.own c.head_of.ensures c.look.ensures.told.1).1
+
+pub returns-clause-looked : goal.returns-clause-looked
+returns-clause-looked g c = search rules

@@ -1,4 +1,4 @@
-use Rattle.std.proofs.Common.{◌≡◌, Some, ℕ, ◌+◌, refl, ap, ◌∙◌, sym, subst, arith}
+use Rattle.std.proofs.Common.{rules, ◌≡◌, Some, ℕ, ◌+◌, refl, ap, ◌∙◌, sym, subst, arith}
 use Rattle.bump_rules.specs.declared.places.Place.{Place}
 use Rattle.bump_rules.specs.Heads.{linked_head}
 use Rattle.bump_rules.specs.Labels.{label_of_life}
@@ -68,3 +68,6 @@ returns-clause-label g c = let n : ℕ = c.head_of-found.result.generation + 1 i
     (class_after_link c.args.chunk (j + 1) word c.args.self.now.part).labels ≡ Some
     (last_label c.args.self.now.part c.args.chunk)) (sym gen)
     (link_label g.N.Name.table.words c.args.self.now.part part c.args.chunk word c.requires.own)
+
+pub returns-clause-opened : goal.returns-clause-opened
+returns-clause-opened g c = search rules

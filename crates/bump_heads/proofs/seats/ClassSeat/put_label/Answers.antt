@@ -1,4 +1,4 @@
-use Rattle.std.proofs.Common.{refl, ◌∙◌}
+use Rattle.std.proofs.Common.{rules, refl, ◌∙◌}
 use Rattle.bump_steps.specs.Lives.{class_after_put_label}
 use Rattle.bump_heads.proofs.ClassLives.{keeps_put_label}
 use Rattle.bump_heads.proofs.Joining.{alone_joined}
@@ -14,3 +14,9 @@ invariant_of-self g c = seat_kept c.self.inside.seat.me c.put_label.new.seat.me 
     c.args.label c.requires.unused)
     (λ o. alone_joined c.args.self.now.part (class_after_put_label c.args.chunk c.args.label c.args.self.now.part)
     c.args.self.now.lane c.self.inside.joined c.requires.alone o)
+
+pub returns : goal.returns
+returns g c = search rules
+
+pub put_label-requires-clause-may : goal.put_label-requires-clause-may
+put_label-requires-clause-may g c = search rules

@@ -1,4 +1,4 @@
-use Rattle.std.proofs.Common.{Option, sym, ◌∙◌, subst}
+use Rattle.std.proofs.Common.{rules, Option, sym, ◌∙◌, subst}
 use Rattle.bump_rules.specs.declared.bumps.Bump.{Bump}
 use Rattle.bump_heads.specs.declared.joined.Joined.{Joined}
 use Rattle.bump_heads.specs.Applying.{IsJoined}
@@ -63,3 +63,12 @@ returns-clause-found g c = tried_seen c.self.inside.seat.me (class_in c.self.ins
     c.in-Some.bump (sym c.lane.invariant.1 ∙ c.in-Some.is) c.try_front-word.result c.head_of-found.result
     c.head_of-found.ensures c.try_front-word.new.seat.me c.join.new.seat.me c.join.ensures.joined
     c.try_front-word.ensures.told.0 c.try_front-word.ensures.told.1
+
+pub returns-clause-hollow : goal.returns-clause-hollow
+returns-clause-hollow g c = search rules
+
+pub returns-clause-tried : goal.returns-clause-tried
+returns-clause-tried g c = search rules
+
+pub invariant_of-lane : goal.invariant_of-lane
+invariant_of-lane g c = search rules
