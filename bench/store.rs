@@ -95,7 +95,7 @@ pub struct Store {
 impl Store {
     /// It has no class yet.
     pub fn new(workers: u32, capacity: u32, refs_limit: u32, generation: u32) -> Option<Store> {
-        let fits = (1..=64).contains(&workers) && (1..=65_536).contains(&capacity) && (2..=65_535).contains(&refs_limit) && generation > 0;
+        let fits = (1..=64).contains(&workers) && (1..=65_536).contains(&capacity) && (2..=1_048_575).contains(&refs_limit) && generation > 0;
         let worker = |_| Worker { ring: VecDeque::new(), accounts: Accounts::default() };
         fits.then(|| Store {
             chunks: Vec::new(),

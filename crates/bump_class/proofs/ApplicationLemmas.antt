@@ -28,8 +28,8 @@ use Rattle.bump_steps.proofs.Entering.{freed_quiet}
 use Rattle.bump_heads.specs.declared.views.ClassView.{ClassView}
 use Rattle.bump_heads.specs.Applying.{IsShown, FoundOfBump, NamesNoBumpTwice, TellsMoves, is_own}
 use Rattle.bump_ring.specs.Ends.{Ring}
-use Rattle.bump_class.specs.Applications.{FoundHeads, Updates, Applies, AppliesFront, with_time, with_clearing, book_after_update, answer_of}
-use Rattle.bump_class.specs.Books.{BookView}
+use Rattle.bump_class.specs.Applications.{FoundHeads, Updates, Applies, AppliesFront, with_time, with_clearing, class_after_update, book_after_update, answer_of}
+use Rattle.bump_class.specs.Books.{BookView, KeepsBook}
 use Rattle.bump_class.specs.Lanes.{LaneView, carries, part_or}
 
 -- where the update table says Gone, the item isn't linked
@@ -97,11 +97,11 @@ module _ (k : ClassPart) (c : ℕ) (h : Head) where
 
 -- What the update of seat and lane, and the change of the lists, come to together: on the Book and the lane of which
 -- they are parts, and on those that contracts see.
-module _ (v : ClassView) (lists : Lists) (hot warm : ℕ) (ring : Ring) (rs ks : List Ride) (o x : Option LanePart)
+module _ (v : ClassView) (lists : Lists) (hot warm workers : ℕ) (ring : Ring) (rs ks : List Ride) (o x : Option LanePart)
     (b : Bump) (now : ℕ) (out : Outcome) (f : FoundHeads) (w : ClassView)
     (u : Updates v (part_or o) b now out w (part_or x) f) (own : owns b.life.chunk v.part ≡ true) where
   abbrev pub book : BookView
-  book = record { part = v.part; lists = lists; hot_limit = hot; warm_limit = warm }
+  book = record { part = v.part; lists = lists; hot_limit = hot; warm_limit = warm; workers = workers }
 
   abbrev pub this_lane : LaneView
   this_lane = record { ring = ring; received = rs; known = ks; part = part_or o }
@@ -170,3 +170,30 @@ same_class Gone w b now f k = by (f.behind.refs == 0)
         class_after_load b.life.chunk (word_of f.behind) k.part) k.part
     by true = (refl, refl, refl)
     by false = (refl, refl, refl)
+
+-- what the type of a Book keeps, it keeps by an application that moves nothing
+pub time_only_keeps : (v w : ClassView) (first end hot warm : ℕ) (counts : List ℕ) (lists : Lists) (worker : ℕ) (b : Bump)
+    (now : ℕ) (f : FoundHeads) → KeepsBook v first end lists hot warm counts
+    → w ≡ record v { part = class_after_update TimeOnly worker b now f v.part }
+    → KeepsBook w first end lists hot warm counts
+time_only_keeps v w first end hot warm counts lists worker b now f o is =
+    subst (λ (x : ClassView). KeepsBook x first end lists hot warm counts) (sym is) (by (is_cold f.tried.segment))
+  where
+    by : (x : Bool) → KeepsBook (record v {
+      part = if x then with_clearing worker b f.cleared (with_time worker b now v.part) else
+          with_time worker b now v.part;
+    }) first end lists hot warm counts
+    by true = (
+      o.0,
+      o.1,
+      o.2,
+      record { lists = o.3.lists; entries = o.3.entries; causes = o.3.causes; idle = o.3.idle },
+      o.4,
+    )
+    by false = (
+      o.0,
+      o.1,
+      o.2,
+      record { lists = o.3.lists; entries = o.3.entries; causes = o.3.causes; idle = o.3.idle },
+      o.4,
+    )

@@ -1,5 +1,5 @@
 -- What a lane keeps when the next bump goes aboard, and when the bump aboard is applied.
-use Rattle.std.proofs.Common.{◌≡◌, ℕ, suc, ◌+◌, ◌<◌, ◌==◌, true, List, [], ◌∷◌, ◌++◌, length, map, slice_get, inl, inr, Option, None, Some, IfSome, refl, sym, ap, ◌∙◌, subst, arith, eqb-true}
+use Rattle.std.proofs.Common.{◌≡◌, ℕ, suc, ◌+◌, ◌<◌, ◌==◌, true, false, List, [], ◌∷◌, ◌++◌, length, map, slice_get, inl, inr, Option, None, Some, IfSome, refl, sym, ap, ◌∙◌, subst, arith, eqb-true}
 use Rattle.std.specs.Prelude.{option_map}
 use Rattle.std.proofs.lemmas.Bool.{and_parts}
 use Rattle.std.proofs.lemmas.List.{append-nil, map-append, length-append, length-map}
@@ -10,7 +10,7 @@ use Rattle.bump_rules.specs.declared.items.ItemId.{ItemId}
 use Rattle.bump_rules.specs.declared.lanes.Lane.{Lane}
 use Rattle.bump_rules.specs.declared.lanes.Lane.TheVariants as lane
 use Rattle.bump_rules.specs.Entries.{ShowsMove}
-use Rattle.bump_rules.specs.Lanes.{carried, bump_of, applied_bump}
+use Rattle.bump_rules.specs.Lanes.{carried, bump_of, applied_bump, is_half_made}
 use Rattle.bump_rules.specs.Lives.{life, is_same}
 use Rattle.bump_rules.specs.Rings.{aboard, bump_applied, numbered_from, most_attempts}
 use Rattle.bump_rules.proofs.ToldMoves.{told_shows}
@@ -20,7 +20,7 @@ use Rattle.bump_steps.specs.declared.views.Ride.{Ride}
 use Rattle.bump_steps.specs.Riders.{lane_after_board, bump_of_ride, applied_by}
 use Rattle.bump_steps.specs.Views.{bump_aboard, owns}
 use Rattle.bump_heads.specs.Applying.{carried_by, TellsMoves, is_own}
-use Rattle.bump_heads.specs.Seats.{aboard_lane}
+use Rattle.bump_heads.specs.Seats.{aboard_lane, IsOfWorker}
 use Rattle.bump_class.specs.Lanes.{KeepsLane, IsLane, part_or, lives}
 use Rattle.bump_class.specs.Applications.{FoundHeads, lane_after_update, EachMoveIsTold}
 
@@ -131,10 +131,9 @@ same_lives l m e =
     let generations = eqb-true l.generation m.generation both.1 in
     λ i. life (sym chunks i) (sym generations i)
 
--- with nothing aboard, a lane tells each move by its entry of the bump's number
-pub each_told : (k : ClassPart) (l : LanePart) (rs : List Ride) → IsLane l rs → l.stage ≡ lane.Empty
-    → TellsMoves k l → EachMoveIsTold k l
-each_told k l rs is empty tells item n some = by (told_shows item (is_own k (is_same item)) own_life n l.applied l.stage
+-- a lane tells each move by its entry of the bump's number
+pub each_told : (k : ClassPart) (l : LanePart) (rs : List Ride) → IsLane l rs → TellsMoves k l → EachMoveIsTold k l
+each_told k l rs is tells item n some = by (told_shows item (is_own k (is_same item)) own_life n l.applied l.stage
     (lives rs) is.in_order (omega (arith, some, tells (is_same item) n)))
   where
     own_life : (life : ItemId) → is_own k (is_same item) life ≡ true → life ≡ item
@@ -143,4 +142,10 @@ each_told k l rs is empty tells item n some = by (told_shows item (is_own k (is_
     by : ShowsMove n item l.applied l.stage → slice_get l.applied n ≡ Some
         (applied_bump (bump_of n item) outcome.Moved)
     by (inl told) = told
-    by (inr moving) = absurd (let e : lane.Empty ≡ lane.Moved (bump_of n item) = sym empty ∙ moving in cc e)
+    by (inr moving) = absurd (let e : true ≡ false = sym (ap is_half_made moving) ∙ is.at_rest in cc e)
+
+-- the number of a lane's worker
+pub worker_of : (o : Option LanePart) (n : ℕ) (rs : List Ride) (w : ℕ) → KeepsLane o n rs → IsOfWorker w o
+    → (part_or o).worker ≡ w
+worker_of None n rs w keeps is = absurd (cc keeps.whole)
+worker_of (Some l) n rs w keeps is = is

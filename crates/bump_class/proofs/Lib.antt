@@ -7,3 +7,4 @@ pub mod UpdateLemmas
 pub mod ApplicationLemmas
 pub mod RunLemmas
 pub mod Walks
+pub mod MoveLemmas

@@ -1,19 +1,20 @@
--- The six lists of a Book have its chunks together: a move to the front changes no sum of sizes.
-use Rattle.std.proofs.Common.{◌≡◌, ℕ, ◌+◌, ◌-◌, ◌&&◌, ◌==◌, cond, Bool, true, false, List, [], ◌∷◌, length, refl, ap, ◌∙◌, arith, eq-eqb, ne_eqb}
+-- The lists of a Book have its chunks together: a move to the front changes no sum of sizes.
+use Rattle.std.proofs.Common.{◌≡◌, ℕ, ◌+◌, ◌-◌, ◌&&◌, ◌==◌, cond, Bool, true, false, List, [], ◌∷◌, length, refl, sym, ap, ◌∙◌, arith, eq-eqb, ne_eqb}
 use Rattle.std.proofs.lemmas.List.FromFn.{length-range_with_len}
 use native.Mathlib.Decide.{ℕ_discrete}
 use Rattle.bump_links.specs.Lists.{times, without}
 use Rattle.bump_rules.specs.declared.history.Change.{Change}
 use Rattle.bump_rules.specs.declared.places.Place.{Place}
-use Rattle.bump_rules.specs.declared.places.Place.TheVariants.{Hot, Warm, Cold, Dying, Unused, Retired}
+use Rattle.bump_rules.specs.declared.places.Place.TheVariants.{Unused}
 use Rattle.bump_rules.specs.History.{is_place, subject, target, is_between, AreBetween, replay}
 use Rattle.bump_rules.specs.Lawful.{bit}
-use Rattle.bump_rules.specs.Lists.{Lists, list_at, all_without, to_front, opening, times_in_all}
+use Rattle.bump_rules.specs.Lists.{Lists, list_at, to_front, opening, times_in_all}
+use Rattle.bump_rules.specs.Totals.{total}
 use Rattle.bump_rules.specs.Places.{all_places}
 use Rattle.bump_rules.proofs.Replay.{replayed_lists}
 use Rattle.bump_rules.proofs.Standings.{one_place, once_in_places}
-use Rattle.bump_rules.proofs.SixLists.{times_front}
-use Rattle.bump_rules.proofs.Updates.{total_same}
+use Rattle.bump_rules.proofs.SixLists.{list_at_front, times_front}
+use Rattle.bump_rules.proofs.Updates.{total_both, total_same}
 use Rattle.bump_class.specs.Books.{BookView, IsBook}
 use Rattle.bump_class.specs.Sizes.{all_sizes}
 
@@ -27,29 +28,25 @@ shorter c (x ∷ xs) = by (x == c) refl (shorter c xs)
     by true is rest = rw is (omega (arith, rest))
     by false is rest = rw is (omega (arith, rest))
 
+-- a list with one more in front, or without
+longer : (b : Bool) (c : ℕ) (xs : List ℕ) → length (cond b (c ∷ xs) xs) ≡ length xs + bit b
+longer true c xs = omega arith
+longer false c xs = omega arith
+
 -- one chunk that stands once in the lists goes to the front of one
 front_keeps : (c : ℕ) (p : Place) (l : Lists) → times_in_all c l ≡ 1 → all_sizes (to_front c p l) ≡ all_sizes l
-front_keeps c p l once = by p
-  where
-    rest : all_sizes (all_without c l) + 1 ≡ all_sizes l
-    rest = omega (
-      arith,
-      once,
-      shorter c l.hot,
-      shorter c l.warm,
-      shorter c l.cold,
-      shorter c l.dying,
-      shorter c l.unused,
-      shorter c l.retired,
-    )
-
-    by : (p : Place) → all_sizes (to_front c p l) ≡ all_sizes l
-    by Hot = omega (arith, rest)
-    by Warm = omega (arith, rest)
-    by Cold = omega (arith, rest)
-    by Dying = omega (arith, rest)
-    by Unused = omega (arith, rest)
-    by Retired = omega (arith, rest)
+front_keeps c p l once =
+    let left : Place → ℕ = λ q. length (without c (list_at l q)) in
+    let put : all_sizes (to_front c p l) ≡ total left all_places + 1 =
+    total_same (λ q. length (list_at (to_front c p l) q)) (λ q. left q + bit (is_place p q))
+    (λ q. ap length (list_at_front c p q l) ∙ longer (is_place p q) c (without c (list_at l q))) all_places
+    ∙ (total_both left (λ q. bit (is_place p q)) all_places ∙ ap (λ n. total left all_places + n) (one_place p)) in
+    let taken : total left all_places + 1 ≡ all_sizes l =
+    ap (λ n. total left all_places + n) (sym once)
+    ∙ (sym (total_both left (λ q. times c (list_at l q)) all_places)
+    ∙ total_same (λ q. left q + times c (list_at l q)) (λ q. length (list_at l q)) (λ q. shorter c (list_at l q))
+    all_places) in
+    put ∙ taken
 
 -- and each chunk that stood once does so still
 once_still : (c d : ℕ) (p : Place) (l : Lists) → times_in_all d l ≡ 1 → times_in_all d (to_front c p l) ≡ 1

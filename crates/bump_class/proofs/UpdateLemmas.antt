@@ -1,14 +1,13 @@
 -- An application on a class's seat: what its steps come to, by its outcome.
 use Rattle.std.proofs.Common.{◌≡◌, ◌≢◌, ℕ, ◌&&◌, not, Bool, true, false, Option, None, Some, IfSome, if◌then◌else◌, refl, sym, ap, ap₂, ◌∙◌, subst, arith}
 use Rattle.std.specs.Prelude.{option_map}
+pub use Rattle.bump_rules.proofs.Laws.{not_cold}
 use Rattle.bump_rules.specs.declared.bumps.Bump.{Bump}
 use Rattle.bump_rules.specs.declared.bumps.Outcome.{Outcome}
 use Rattle.bump_rules.specs.declared.bumps.Outcome.TheVariants.{Moved, TimeOnly, Gone}
 use Rattle.bump_rules.specs.declared.items.Head.{Head}
 use Rattle.bump_rules.specs.declared.lanes.Lane.{Lane}
 use Rattle.bump_rules.specs.declared.lanes.Lane.TheVariants as lane
-use Rattle.bump_rules.specs.declared.places.Segment.{Segment}
-use Rattle.bump_rules.specs.declared.places.Segment.TheVariants.{Hot, Warm, Cold}
 use Rattle.bump_rules.specs.Lanes.{carried}
 use Rattle.bump_rules.specs.Tables.{is_cold, outcome_of}
 use Rattle.bump_rules.proofs.Counted.{how_many_push}
@@ -18,7 +17,7 @@ use Rattle.bump_steps.specs.declared.views.Kind.TheVariants as kind
 use Rattle.bump_steps.specs.declared.views.LanePart.{LanePart}
 use Rattle.bump_steps.specs.Views.{bump_aboard, shows_time_only}
 use Rattle.bump_steps.specs.Plays.{step_of}
-use Rattle.bump_steps.specs.Applications.{for_bump, lane_after_alight}
+use Rattle.bump_steps.specs.Applications.{for_bump, lane_after_alight, class_at_rest}
 use Rattle.bump_heads.specs.declared.views.ClassView.{ClassView}
 use Rattle.bump_heads.specs.Applying.{carried_by, life_aboard, IsShown, FoundOfBump, NamesNoBumpTwice, TellsMoves}
 use Rattle.bump_class.specs.Lanes.{part_or}
@@ -38,12 +37,6 @@ carrying_it (Some l) b is = by l.stage refl is
     by (lane.Tried d) at is = absurd (cc is)
     by (lane.Cleared d f) at is = absurd (cc is)
     by (lane.Moved d) at is = absurd (cc is)
-
--- a segment that isn't COLD
-pub not_cold : (s : Segment) → s ≢ Cold → is_cold s ≡ false
-not_cold Hot other = refl
-not_cold Warm other = refl
-not_cold Cold other = absurd (other refl)
 
 -- ---- the update table, by what was found
 
@@ -77,16 +70,20 @@ shown_on k l b TimeOnly c n is = omega (
   how_many_push (shows_time_only l.worker b.number b.life.chunk) l.steps (step_of kind.Alight c n (for_bump l)),
 )
 
+-- a part that names no application is as one at rest
+pub rests : (k : ClassPart) → k.applying ≡ None → class_at_rest k ≡ k
+rests k idle = λ i. record k { applying = sym idle i }
+
 -- What the class's seat and the lane are once the bump has alighted, by what they were just before.
 module _ (v : ClassView) (o : Option LanePart) (l : LanePart) (b : Bump) (now : ℕ) (alone : v.lane ≡ None)
     (carries : o ≡ Some (record l { stage = lane.Carrying b })) (out : Outcome) (f : FoundHeads) (fit : AllFit f)
     (sight : FoundOfBump v.part (life_aboard o) f.tried) (table : out ≡ outcome_of f.tried f.cleared)
     (w a : ClassView) (x : Option LanePart) (p : ClassPart) (m : LanePart)
     (is : w ≡ record { part = p; lane = Some m })
-    (part : p ≡ class_after_update out l.worker b now f v.part) (aboard : bump_aboard m.stage ≡ Some b)
+    (part : class_at_rest p ≡ class_after_update out l.worker b now f v.part) (aboard : bump_aboard m.stage ≡ Some b)
     (same : lane_after_alight out b.life.chunk (word_of f.last) m ≡ lane_after_update out b f
     (record l { stage = lane.Carrying b })) (came : Outcome) (came_is : came ≡ out)
-    (class : a ≡ record w { lane = None })
+    (class : a ≡ record { part = class_at_rest w.part; lane = None })
     (left : x ≡ option_map (lane_after_alight came (life_aboard w.lane).chunk (word_of f.last)) w.lane)
     (entry : IfSome w.lane (λ y. IfSome (bump_aboard y.stage) (λ d. IsShown a.part y d came)))
     (once : NamesNoBumpTwice a.part) (told : IfSome x (TellsMoves a.part)) where
@@ -122,7 +119,7 @@ module _ (v : ClassView) (o : Option LanePart) (l : LanePart) (b : Bump) (now : 
           fit = fit;
           sight = subst (λ (y : Option LanePart). FoundOfBump v.part (life_aboard y) f.tried) carries sight;
           table = table;
-          class = class ∙ ap (λ (y : ClassView). record y { lane = None }) is
+          class = class ∙ ap (λ (y : ClassView). record { part = class_at_rest y.part; lane = None }) is
               ∙ (λ i. record { part = part i; lane = sym alone i });
           lane = refl;
           entry = entry_is;

@@ -1,5 +1,5 @@
 -- What applying the bump aboard a lane answers and leaves: the update table, by the heads that its steps found.
-use Rattle.std.specs.Prelude.{◌≡◌, ℕ, ◌<◌, [], ◌∷◌, ◌++◌, Some, slice_get, if◌then◌else◌}
+use Rattle.std.specs.Prelude.{◌≡◌, ℕ, ◌<◌, List, [], ◌∷◌, ◌++◌, Some, slice_get, if◌then◌else◌}
 use Rattle.bump_rules.specs.declared.bumps.Applied.{Applied}
 use Rattle.bump_rules.specs.declared.bumps.Applied.TheVariants as applied
 use Rattle.bump_rules.specs.declared.bumps.Bump.{Bump}
@@ -13,7 +13,8 @@ use Rattle.bump_rules.specs.declared.items.ItemId.{ItemId}
 use Rattle.bump_rules.specs.declared.lanes.Lane.TheVariants as lane
 use Rattle.bump_rules.specs.declared.places.Place.TheVariants.{Warm}
 use Rattle.bump_rules.specs.declared.places.Segment.TheVariants as segment
-use Rattle.bump_rules.specs.Entries.{is_move_for}
+use Rattle.bump_rules.specs.declared.bumps.AppliedBump.{AppliedBump}
+use Rattle.bump_rules.specs.Entries.{is_move_for, told_of}
 use Rattle.bump_rules.specs.Lanes.{bump_of, applied_bump}
 use Rattle.bump_rules.specs.Lawful.{Shows}
 use Rattle.bump_rules.specs.Lists.{to_front}
@@ -26,6 +27,7 @@ use Rattle.bump_steps.specs.declared.views.Kind.{Kind}
 use Rattle.bump_steps.specs.declared.views.Kind.TheVariants as kind
 use Rattle.bump_steps.specs.declared.views.LanePart.{LanePart}
 use Rattle.bump_steps.specs.Plays.{step_of}
+use Rattle.bump_steps.specs.Views.{owns}
 use Rattle.bump_heads.specs.declared.views.ClassView.{ClassView}
 use Rattle.bump_heads.specs.Applying.{IsShown, FoundOfBump, NamesNoBumpTwice, TellsMoves}
 use Rattle.bump_heads.specs.Linking.{place_of_chunk}
@@ -148,6 +150,10 @@ pub record Applies (book : BookView) (from : LaneView) (bump : Bump) (now : ℕ)
 abbrev pub AppliesFront : ℕ → BookView → LaneView → Applied → BookView → LaneView → Type 0
 AppliesFront now book from answer left to = (bump : Bump) × (came_out : Outcome) × (found : FoundHeads)
     × (carries from ≡ Some bump) × Applies book from bump now came_out answer left to found
+
+-- how many entries with outcome Moved there are of items of the class
+abbrev pub moved_in : ClassPart → List AppliedBump → ℕ
+moved_in class applied = told_of (λ life. owns life.chunk class) applied
 
 -- each move that the class's history has for a bump of the lane's worker is this lane's entry of that number, with the
 -- same life and the outcome Moved

@@ -1,5 +1,7 @@
 //! The bump aboard a lane is applied.
-ghost use Rattle.std.specs.Prelude.{◌≡◌, ◌+◌, length, None, Some, IsSome, IfSome, true};
+ghost use Rattle.std.specs.Prelude.{◌≡◌, ◌==◌, ◌<◌, ℕ, ◌+◌, length, slice_index, None, Some, IsSome, IfSome, true};
+ghost use Rattle.bump_rules.specs.Lawful.{bit};
+ghost use Rattle.bump_rules.specs.Rings.{most_attempts};
 ghost use Rattle.bump_steps.specs.Views.{owns};
 ghost use Rattle.bump_heads.specs.Applying.{carried_by, NamesNoBumpTwice};
 ghost use Rattle.bump_class.specs.Applications.{FoundHeads as TheFoundHeads, Updates, AppliesFront, EachMoveIsTold};
@@ -19,6 +21,7 @@ fn update<N: Name>(
     now: u64,
 ) -> Outcome
     requires alone { class.old.lane ≡ None }
+    requires idle { class.old.part.applying ≡ None }
     requires own { owns bump.life.chunk class.old.part ≡ true }
     requires carries { carried_by lane.old ≡ Some bump }
     ensures whole { lane.new ≡ Some (part_or lane.new) }
@@ -39,6 +42,18 @@ fn update<N: Name>(
     }
     class.change_segment(chunk, Segment::Cold, Segment::Warm);
     class.alight(lane).0
+}
+
+// One more move for a bump of the worker, if its moves are counted.
+fn count_move(moved: &mut Vec<u64>, worker: u32)
+    requires few { worker < length moved.old.items → slice_index moved.old.items worker < most_attempts }
+    ensures long { length moved.new.items ≡ length moved.old.items }
+    ensures counted { (w : ℕ) → w < length moved.old.items → slice_index moved.new.items w ≡ slice_index moved.old.items w + bit (worker == w) }
+{
+    let place = worker as usize;
+    if place < moved.len() {
+        moved[place] += 1;
+    }
 }
 
 impl<N: Name> Book<N> {
@@ -69,11 +84,13 @@ impl<N: Name> Book<N> {
             unreachable!()
         };
         let chunk = bump.life.chunk;
+        let worker = lane.seat.worker();
         let outcome = update(&mut self.seat, &mut lane.seat, bump, now);
         lane.applied += 1;
         match outcome {
             Outcome::Moved => {
                 self.lists.to_front(chunk, Place::Warm);
+                count_move(&mut self.moved, worker);
                 Applied::Moved
             }
             Outcome::TimeOnly => Applied::TimeOnly,

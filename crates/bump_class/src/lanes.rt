@@ -60,6 +60,13 @@ impl<N: Name> RawLane<N> {
         self.applied
     }
 
+    /// The number of its worker.
+    pub fn worker(&self) -> u32
+        ensures { result ≡ self.now.part.worker }
+    {
+        self.seat.worker()
+    }
+
     /// Takes the next bump out of the ring and aboard, where none is aboard, and tells the one aboard. It answers
     /// None only where none is aboard or known, and nothing is changed then.
     #[inline(always)]

@@ -1,3 +1,4 @@
 mod events
 pub mod Held
 pub mod NewClasses
+pub mod Stores

@@ -5,6 +5,8 @@ use Rattle.std.specs.List.{list_any}
 use Rattle.bump_rules.specs.declared.places.Limits.{Limits}
 use Rattle.bump_rules.specs.declared.places.Segment.{Segment}
 use Rattle.bump_rules.specs.declared.places.Segment.TheVariants as segment
+use Rattle.bump_rules.specs.declared.places.Start.{Start}
+use Rattle.bump_rules.specs.declared.places.Start.TheVariants as start
 use Rattle.bump_rules.specs.declared.places.Tail.{Tail}
 use Rattle.bump_rules.specs.declared.places.Tail.TheVariants as tail
 use Rattle.bump_rules.specs.declared.items.ItemId.{ItemId}
@@ -43,6 +45,7 @@ use Rattle.bump_rules.specs.declared.events.Refused.TheVariants.{NotEnabled, Out
 use Rattle.bump_rules.specs.Accounts.{counted}
 use Rattle.bump_rules.specs.Lives.{life}
 use Rattle.bump_rules.specs.History.{freed_change}
+use Rattle.bump_rules.specs.Starts.{begun_change, link_event}
 use Rattle.bump_rules.specs.Tables.{Get, IsStale, IsRefsFull, IsHeld, is_cold, get_of, ended_of, is_unheld, hit_of, dropped_of, touch_of, outcome_of, pulled_of, pulled_to, segment_of, last_pulled}
 use Rattle.bump_state.specs.Sweeps.{sweep_of}
 use Rattle.bump_state.specs.State.{State, ClassState, WorkerState, chunk_at, head_at, class_at, worker_at, is_chunk, is_class, is_worker, with_chunk, with_head, with_worker, with_change, with_changes, class_of, is_linked, is_held, has_free_hold, is_open}
@@ -248,6 +251,35 @@ apply_bump state worker now bump =
     let alighted = with_worker stored worker (bumped_worker (worker_at state worker) bump became) in
     bumped_lists alighted worker bump became (gone_as state chunk)
 
+-- Links.
+
+-- a link that finds a chunk waits for the lane that applies a bump of its class
+abbrev pub may_store : State → ℕ → Bool
+may_store state class = is_class state class && (is_none (next_chunk state class) || is_at_rest state class)
+
+-- what it answers
+abbrev pub store_answer : State → ℕ → Answer
+store_answer state class =
+    option_map_or (λ chunk. answer.Linked (next_life state chunk)) (next_chunk state class) answer.NoFreeChunk
+
+-- it stores the label, the time and the head, and the chunk enters the list in which the item begins
+abbrev pub link_labelled : State → Start → ℕ → ℕ → ℕ → ℕ → State
+link_labelled state start class label now chunk =
+    let old = chunk_at state chunk in
+    let head = linked_head start (old.head.generation + 1) in
+    let stored = with_chunk state chunk (record old { head = head; time = now; label = label }) in
+    with_change stored class (begun_change start (next_life state chunk))
+
+abbrev pub store_item : State → Start → ℕ → ℕ → ℕ → State
+store_item state start class label now =
+    option_map_or (link_labelled state start class label now) (next_chunk state class) state
+
+-- its events
+abbrev pub store_events : State → Start → ℕ → ℕ → ℕ → List Event
+store_events state start class label now =
+    option_map_or (λ _. event.PutLabel class label ∷ event.PutTime class now ∷ link_event start class ∷ [])
+    (next_chunk state class) []
+
 -- Each command.
 
 -- nobody holds one of the chunks in a class's DYING
@@ -262,8 +294,8 @@ may_apply state bump = is_at_rest state (class_of state bump.life.chunk)
 -- release) or none (a label), or another command is half made in its way. What would change nothing of a class waits
 -- for no lane.
 abbrev pub is_allowed : State → Command → Bool
-is_allowed state (command.Link class label now) =
-    is_class state class && (is_none (next_chunk state class) || is_at_rest state class)
+is_allowed state (command.Link class label now) = may_store state class
+is_allowed state (command.LinkTemp class label now) = may_store state class
 is_allowed state (command.Unlink item) = not (is_linked state item) || is_at_rest state (class_of state item.chunk)
 is_allowed state (command.Sweep class) =
     is_class state class && (not (frees_some state class) || is_at_rest state class)
@@ -289,8 +321,8 @@ unlink_answer state item =
 
 -- What a command answers.
 abbrev pub answer_of : State → Command → Answer
-answer_of state (command.Link class label now) =
-    option_map_or (λ chunk. answer.Linked (next_life state chunk)) (next_chunk state class) answer.NoFreeChunk
+answer_of state (command.Link class label now) = store_answer state class
+answer_of state (command.LinkTemp class label now) = store_answer state class
 answer_of state (command.Unlink item) = unlink_answer state item
 answer_of state (command.Sweep class) = answer.Swept (length (sweep_of state class))
 answer_of state (command.Pull class from) =
@@ -306,18 +338,10 @@ answer_of state (command.Next worker now) =
     option_map_or (λ bump. answer.Bumped (entry_next state bump)) (bump_next (worker_at state worker)) answer.Nothing
 answer_of state (command.Close worker) = answer.Done
 
--- a link stores the label, the time and the head, and the chunk enters HOT
-abbrev pub link_labelled : State → ℕ → ℕ → ℕ → ℕ → State
-link_labelled state class label now chunk =
-    let old = chunk_at state chunk in
-    let head = linked_head (old.head.generation + 1) in
-    let stored = with_chunk state chunk (record old { head = head; time = now; label = label }) in
-    with_change stored class (change.Linked (next_life state chunk))
-
 -- The state that a command leaves.
 abbrev pub command_after : State → Command → State
-command_after state (command.Link class label now) =
-    option_map_or (link_labelled state class label now) (next_chunk state class) state
+command_after state (command.Link class label now) = store_item state start.Hot class label now
+command_after state (command.LinkTemp class label now) = store_item state start.Temp class label now
 command_after state (command.Unlink item) = if is_linked state item then unlink_item state item else state
 command_after state (command.Sweep class) = with_changes state class (sweep_of state class)
 command_after state (command.Pull class from) =
@@ -387,9 +411,8 @@ next_events state worker now bump =
     ++ apply_events (head_at state bump.life.chunk) worker now bump.life.chunk
 
 abbrev pub events_of : State → Command → List Event
-events_of state (command.Link class label now) =
-    option_map_or (λ _. event.PutLabel class label ∷ event.PutTime class now ∷ event.Link class ∷ [])
-    (next_chunk state class) []
+events_of state (command.Link class label now) = store_events state start.Hot class label now
+events_of state (command.LinkTemp class label now) = store_events state start.Temp class label now
 events_of state (command.Unlink item) = if is_linked state item then unlink_events state item else []
 events_of state (command.Sweep class) = looks_at (head_at state) (class_at state class).lists.dying
 events_of state (command.Pull class from) =
@@ -408,11 +431,20 @@ events_of state (command.Close worker) = event.Close worker ∷ []
 abbrev pub command_asks_for_memory : State → Command → Bool
 command_asks_for_memory state call = one_asks state (events_of state call)
 
--- What a command does: where it is allowed it answers and leaves what the tables say, else it refuses. Want of memory
--- is the last refusal: only a command that is allowed and asks for memory meets it. A refusal changes nothing.
+-- What is done of what may be allowed, leaves and answers this, and may ask for memory: where it is allowed it is made,
+-- else it is refused. Want of memory is the last refusal: only what is allowed and asks for memory meets it. A refusal
+-- changes nothing.
+abbrev pub IsMade : Bool → State → Answer → Bool → State → State → Result Answer Refused → Type 0
+IsMade allowed left told asks old new (Ok answer) = (allowed ≡ true) × (new ≡ left) × (answer ≡ told)
+IsMade allowed left told asks old new (Err NotEnabled) = (allowed ≡ false) × (new ≡ old)
+IsMade allowed left told asks old new (Err OutOfMemory) = (allowed ≡ true) × (new ≡ old) × (asks ≡ true)
+
+-- What a command does, by the tables.
 abbrev pub Commands : State → Command → State → Result Answer Refused → Type 0
-Commands old call new (Ok answer) =
-    (is_allowed old call ≡ true) × (new ≡ command_after old call) × (answer ≡ answer_of old call)
-Commands old call new (Err NotEnabled) = (is_allowed old call ≡ false) × (new ≡ old)
-Commands old call new (Err OutOfMemory) =
-    (is_allowed old call ≡ true) × (new ≡ old) × (command_asks_for_memory old call ≡ true)
+Commands old call new result = IsMade (is_allowed old call) (command_after old call) (answer_of old call)
+    (command_asks_for_memory old call) old new result
+
+-- What a link does, wherever its item begins.
+abbrev pub Stores : State → Start → ℕ → ℕ → ℕ → State → Result Answer Refused → Type 0
+Stores old start class label now new result = IsMade (may_store old class) (store_item old start class label now)
+    (store_answer old class) (one_asks old (store_events old start class label now)) old new result

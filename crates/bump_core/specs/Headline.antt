@@ -1,6 +1,6 @@
 -- What a World promises of its rings, its accounts, its free chunks, its lists and its lanes' entries, in the words
 -- of the headline.
-use Rattle.std.specs.Prelude.{◌≡◌, ℕ, ◌<◌, ◌≤◌, Bool, true, false, ◌&&◌, ◌++◌, List, Some, length, map, take}
+use Rattle.std.specs.Prelude.{◌≡◌, ℕ, ◌+◌, ◌<◌, ◌≤◌, Bool, true, false, ◌&&◌, ◌++◌, List, Some, length, map, take}
 use Rattle.std.specs.List.{Contains}
 use Rattle.bump_rules.specs.declared.places.Place.{Place}
 use Rattle.bump_rules.specs.declared.items.ItemId.{ItemId}
@@ -10,7 +10,7 @@ use Rattle.bump_rules.specs.declared.bumps.AppliedBump.{AppliedBump}
 use Rattle.bump_rules.specs.declared.history.Cause.TheVariants.{Bump}
 use Rattle.bump_rules.specs.declared.history.Change.TheVariants.{Moved}
 use Rattle.bump_rules.specs.Totals.{total, how_many}
-use Rattle.bump_rules.specs.Entries.{is_stray, is_move_for, is_moved, ShowsMove, IsTrueEntry}
+use Rattle.bump_rules.specs.Entries.{is_stray, is_move_for, moves_of, is_moved, told_of, making, ShowsMove, IsTrueEntry}
 use Rattle.bump_rules.specs.History.{is_place}
 use Rattle.bump_rules.specs.Lawful.{bit, Shows}
 use Rattle.bump_links.specs.Lists.{times}
@@ -19,7 +19,7 @@ use Rattle.bump_state.specs.Rings.{in_ring}
 use Rattle.bump_core.specs.Runs.{run_of}
 use Rattle.bump_rules.specs.Rings.{aboard, bump_applied, numbered_from, IsRing, IsAccounts}
 use Rattle.bump_state.specs.State.{State, WorkerState, head_at, class_at, class_of, worker_at}
-use Rattle.bump_state.specs.Worlds.{references, owns, stands_in, CountsMoves}
+use Rattle.bump_state.specs.Worlds.{references, owns, stands_in, is_of_class, CountsMoves}
 
 -- What a lane applied, then the bump aboard, and then the bumps in the ring are what the ring accepted, numbered from
 -- 0: so every bump is applied once at most, and in that worker's order, and what is not applied yet is still on its
@@ -70,6 +70,12 @@ pub record Headline (state : State) : Type 0 where
   -- that bump of such items as the lane's entries that tell of one, and the one that the lane has made and not told
   -- yet.
   pub moves : (class worker number : ℕ) (test : ItemId → Bool) → CountsMoves state class worker number test
+  -- In all, a class's history has as many moves for bumps of a worker as the worker's lane has entries with the outcome
+  -- Moved of items of the class, and the one that it has made and not told yet.
+  pub moves_in_all : (class worker : ℕ) → class < length state.classes
+      → moves_of worker (class_at state class).history
+      ≡ told_of (is_of_class state class (λ item. true)) (worker_at state worker).applied + making
+      (is_of_class state class (λ item. true)) (worker_at state worker).lane
   -- no two moves are for one bump
   pub named_once : (worker number : ℕ) → moves_for state worker number ≤ 1
   -- each such move is shown by its lane: its entry with the bump's number has the same life and the outcome Moved, or

@@ -12,12 +12,16 @@ use Rattle.bump_rules.specs.declared.labels.LabelStep.{LabelStep}
 use Rattle.bump_rules.specs.declared.labels.LabelStep.TheVariants.{Stored, Linked}
 use Rattle.bump_rules.specs.Labels.{label_of_life}
 
+-- a link begins a life
+abbrev pub begins_life : State → ℕ → List LabelStep
+begins_life state class = option_map_or (λ chunk. Linked (next_life state chunk) ∷ []) (next_chunk state class) []
+
 -- what an event does about labels
 abbrev pub label_steps_of : State → Event → List LabelStep
 label_steps_of state (event.PutLabel class label) =
     option_map_or (λ chunk. Stored chunk label ∷ []) (next_chunk state class) []
-label_steps_of state (event.Link class) =
-    option_map_or (λ chunk. Linked (next_life state chunk) ∷ []) (next_chunk state class) []
+label_steps_of state (event.Link class) = begins_life state class
+label_steps_of state (event.LinkTemp class) = begins_life state class
 label_steps_of state _ = []
 
 -- what the events of a run do about labels, in order

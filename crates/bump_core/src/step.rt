@@ -8,7 +8,7 @@ ghost use Rattle.bump_state.specs.Worlds.{IsLawful};
 ghost use Rattle.bump_rules.specs.declared.events.Refused.TheVariants.{NotEnabled};
 
 use crate::commands::{ends, hits, holds, lanes, links, pulls, rings};
-use bump_rules::{Answer, Command, Event, Refused, Reply};
+use bump_rules::{Answer, Command, Event, Refused, Reply, Start};
 use bump_state::Parts;
 
 /// Makes an event where it is enabled.
@@ -34,6 +34,7 @@ pub fn step(parts: &mut Parts, event: Event) -> Result<Reply, Refused>
         Event::PutLabel { class, label } => parts.put_label(class, label),
         Event::PutTime { class, time } => parts.put_time(class, time),
         Event::Link { class } => parts.link(class),
+        Event::LinkTemp { class } => parts.link_temp(class),
         Event::Unlink { life } => parts.unlink(life),
         Event::Sweep { chunk } => parts.sweep(chunk),
         Event::ClearActive { chunk } => parts.clear_active(chunk),
@@ -53,7 +54,12 @@ pub fn command(parts: &mut Parts, command: Command) -> Result<Answer, Refused>
     ensures { Commands (state_of parts.old) command (state_of parts.new) result }
 {
     match command {
-        Command::Link { class, label, now } => links::call_link(parts, class, label, now),
+        Command::Link { class, label, now } => {
+            links::call_link(parts, Start::Hot, class, label, now)
+        }
+        Command::LinkTemp { class, label, now } => {
+            links::call_link(parts, Start::Temp, class, label, now)
+        }
         Command::Unlink { id } => ends::call_unlink(parts, id),
         Command::Sweep { class } => ends::call_sweep(parts, class),
         Command::Pull { class, tail } => pulls::call_pull(parts, class, tail),

@@ -1,6 +1,6 @@
 -- What a class's part keeps over a step: over one that only notes itself, and over an entry of its history that begins
 -- no life.
-use Rattle.std.proofs.Common.{◌≡◌, ℕ, ◌+◌, ◌*◌, ◌<◌, cond, eqb, nat_le, nat_lt, Bool, true, false, List, [], ◌∷◌, ◌++◌, refl, ap, ◌∙◌, subst, arith, eqb-true}
+use Rattle.std.proofs.Common.{◌≡◌, ℕ, ◌+◌, ◌*◌, ◌<◌, cond, eqb, nat_le, nat_lt, Bool, true, false, List, [], ◌∷◌, ◌++◌, Option, refl, ap, ◌∙◌, subst, arith, eqb-true}
 use Rattle.std.proofs.lemmas.Bool.{and_parts, ltb-true}
 use Rattle.bump_rules.specs.declared.places.Place.{Place}
 use Rattle.bump_rules.specs.declared.places.Place.TheVariants.{Unused}
@@ -14,6 +14,7 @@ use Rattle.bump_rules.proofs.Replay.{standing_push, are_between_push}
 use Rattle.bump_rules.proofs.Updates.{total_push}
 use Rattle.bump_steps.specs.declared.views.OwnStep.{OwnStep}
 use Rattle.bump_steps.specs.declared.views.ClassPart.{ClassPart}
+use Rattle.bump_steps.specs.declared.views.Ride.{Ride}
 use Rattle.bump_steps.specs.Views.{owns, standing}
 use Rattle.bump_heads.specs.Linking.{place_of_chunk}
 use Rattle.bump_heads.specs.Seats.{IsClassPart}
@@ -32,6 +33,18 @@ own_in_range words c k p own =
 pub noted_part : (words : ℕ) (k : ClassPart) (steps : List OwnStep) → IsClassPart words k
     → IsClassPart words (record k { steps = steps })
 noted_part words k steps p = record {
+  within = p.within;
+  between = p.between;
+  causes = p.causes;
+  labelled =
+      p.labelled;
+  unbegun = p.unbegun;
+}
+
+-- an application is named, or no more
+pub named_part : (words : ℕ) (k : ClassPart) (named : Option Ride) → IsClassPart words k
+    → IsClassPart words (record k { applying = named })
+named_part words k named p = record {
   within = p.within;
   between = p.between;
   causes = p.causes;

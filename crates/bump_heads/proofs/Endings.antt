@@ -4,7 +4,7 @@ use Rattle.std.proofs.Common.{◌≡◌, ℕ, ◌≢◌, not, Bool, true, false,
 use Rattle.std.specs.Prelude.{option_map}
 use Rattle.bump_rules.specs.declared.items.Head.{Head}
 use Rattle.bump_rules.specs.declared.places.Segment.{Segment}
-use Rattle.bump_rules.specs.declared.places.Segment.TheVariants.{Hot, Warm, Cold}
+use Rattle.bump_rules.specs.declared.places.Segment.TheVariants.{Hot, Warm, Cold, Temp}
 use Rattle.bump_rules.specs.declared.bumps.Bump.{Bump}
 use Rattle.bump_rules.specs.declared.bumps.Outcome.{Outcome}
 use Rattle.bump_rules.specs.declared.bumps.Outcome.TheVariants.{Moved, TimeOnly, Gone}
@@ -13,6 +13,7 @@ use Rattle.bump_rules.specs.declared.lanes.Lane.TheVariants as lane
 use Rattle.bump_rules.specs.History.{place_of}
 use Rattle.bump_rules.specs.Lanes.{carried, applied_bump, ending_at}
 use Rattle.bump_rules.specs.Lawful.{Shows, IsUsed}
+use Rattle.bump_rules.proofs.Laws.{not_cold}
 use Rattle.bump_rules.specs.Tables.{is_cold}
 use Rattle.bump_rules.proofs.Laws.{placed_where_linked}
 use Rattle.bump_word.specs.Words.{Fits, word_of}
@@ -51,12 +52,7 @@ linked_in : (s : Segment) → IsInSegment (place_of s)
 linked_in Hot = refl
 linked_in Warm = refl
 linked_in Cold = refl
-
--- a segment that isn't COLD
-not_cold : (s : Segment) → s ≢ Cold → is_cold s ≡ false
-not_cold Hot other = refl
-not_cold Warm other = refl
-not_cold Cold other = absurd (other refl)
+linked_in Temp = refl
 
 module _ (v v₁ : ClassView) (o : Option LanePart) (l : LanePart) (b : Bump) (c : ℕ) (h : Head)
     (carries : o ≡ Some (record l { stage = lane.Carrying b })) (of : b.life.chunk ≡ c)

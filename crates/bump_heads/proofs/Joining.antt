@@ -32,11 +32,11 @@ use Rattle.bump_steps.specs.declared.views.LanePart.{LanePart}
 use Rattle.bump_steps.specs.declared.views.OwnStep.{OwnStep}
 use Rattle.bump_steps.specs.Views.{bump_aboard, owns, standing, is_for, linked_elsewhere, active_clear, shows_time_only}
 use Rattle.bump_steps.specs.Plays.{step_of}
-use Rattle.bump_steps.specs.Applications.{is_past_move, lane_after_try, lane_after_clear_active, lane_after_move, noted_class, class_after_move}
+use Rattle.bump_steps.specs.Applications.{application_of, is_past_move, lane_after_try, lane_after_clear_active, lane_after_move, noted_class, class_after_move}
 use Rattle.bump_heads.specs.declared.joined.Joined.{Joined}
 use Rattle.bump_heads.specs.declared.views.ClassView.{ClassView}
 use Rattle.bump_readers.specs.Seats.{listed}
-use Rattle.bump_heads.specs.Seats.{aboard_lane}
+use Rattle.bump_heads.specs.Seats.{aboard_lane, IsOfWorker}
 use Rattle.bump_heads.specs.Applying.{carried_by, life_of, life_aboard, IsOf, MayClearActive, MayChangeSegment, IsShown, TryFound, EndsAs, Joins, IsJoined, outcome_by, joined_after_try, joined_after_move, FoundOfBump}
 
 -- ---- words
@@ -97,11 +97,13 @@ more_steps k l x b outcome.TimeOnly is =
 -- a step of the class that is only noted
 pub noted_joined : (k : ClassPart) (x : OwnStep) (o : Option LanePart) (j : Joined) → IsJoined k o j
     → IsJoined (record k { steps = k.steps ++ x ∷ [] }) o j
-noted_joined k x None j is = tt
+noted_joined k x None j is = is
 noted_joined k x (Some l) j is = record {
   bump = is.bump;
   aboard = is.aboard;
+  worker = is.worker;
   chunk = is.chunk;
+  named = is.named;
   own = is.own;
   found = is.found;
   found_by_try = is.found_by_try;
@@ -110,24 +112,26 @@ noted_joined k x (Some l) j is = record {
   entry = λ b o may. more_steps k l x b o (is.entry b o may);
 }
 
--- any step while no lane is joined
-pub alone_joined : (k m : ClassPart) (o : Option LanePart) (j : Joined) → o ≡ None → IsJoined k o j
-    → IsJoined m o j
-alone_joined k m None j none is = tt
-alone_joined k m (Some l) j none is = absurd (cc none)
+-- any step while no lane is joined, and which names no application
+pub alone_joined : (k m : ClassPart) (o : Option LanePart) (j : Joined) → o ≡ None → m.applying ≡ k.applying
+    → IsJoined k o j → IsJoined m o j
+alone_joined k m None j none same is = same ∙ is
+alone_joined k m (Some l) j none same is = absurd (cc none)
 
 module _ (h : Head) (k : ClassPart) (l : LanePart) (b : Bump) (fits : Fits h) (seen : FoundOfBump k b.life h)
-    (own : owns b.life.chunk k ≡ true) where
+    (own : owns b.life.chunk k ≡ true) (idle : k.applying ≡ None) where
   -- the lane after its look
   abbrev after_look : LanePart
   after_look = lane_after_try b.life.chunk (word_of h) (record l { stage = lane.Carrying b })
 
   -- a lane's look at the head of its bump's item
-  pub tries : Joins k after_look (joined_after_try b.life.chunk h)
+  pub tries : Joins k after_look (joined_after_try l.worker b.life.chunk h)
   tries = record {
     bump = b;
     aboard = refl;
+    worker = refl;
     chunk = refl;
+    named = idle;
     own = own;
     found = h;
     found_by_try =
@@ -164,20 +168,24 @@ module _ (h : Head) (k : ClassPart) (l : LanePart) (b : Bump) (fits : Fits h) (s
       by true false on is d o may = shown_as k after_look b d outcome.TimeOnly o may (time_only on is)
 
 -- a lane that carries a bump joins, and looks
-pub tried_joined : (h : Head) (k : ClassPart) (o : Option LanePart) (b : Bump) → IsSome (carried_by o)
-    → aboard_lane o ≡ Some b → Fits h → FoundOfBump k (life_aboard o) h → owns (life_aboard o).chunk k ≡ true
-    → IsJoined k (option_map (lane_after_try (life_aboard o).chunk (word_of h)) o) (joined_after_try b.life.chunk h)
-tried_joined h k None b some is fits seen own = absurd (cc some)
-tried_joined h k (Some l) b some is fits seen own = by l.stage some is seen own
+pub tried_joined : (h : Head) (k : ClassPart) (o : Option LanePart) (w : ℕ) (b : Bump) → IsSome (carried_by o)
+    → aboard_lane o ≡ Some b → IsOfWorker w o → k.applying ≡ None → Fits h → FoundOfBump k (life_aboard o) h
+    → owns (life_aboard o).chunk k ≡ true
+    → IsJoined k (option_map (lane_after_try (life_aboard o).chunk (word_of h)) o)
+    (joined_after_try w b.life.chunk h)
+tried_joined h k None w b some is whose idle fits seen own = absurd (cc some)
+tried_joined h k (Some l) w b some is whose idle fits seen own =
+    subst (λ (x : ℕ). Joins k (lane_after_try (life_aboard (Some l)).chunk (word_of h) l)
+    (joined_after_try x b.life.chunk h)) whose (by l.stage some is seen own)
   where
     by : (s : Lane) → IsSome (carried s) → bump_aboard s ≡ Some b → FoundOfBump k (life_of (bump_aboard s)) h
         → owns (life_of (bump_aboard s)).chunk k ≡ true
         → Joins k (lane_after_try (life_of (bump_aboard s)).chunk (word_of h) (record l { stage = s }))
-        (joined_after_try b.life.chunk h)
+        (joined_after_try l.worker b.life.chunk h)
     by lane.Empty some is seen own = absurd (cc some)
     by (lane.Carrying d) some is seen own = let e : d ≡ b = cc is in
         subst (λ (x : Bump). Joins k (lane_after_try d.life.chunk (word_of h) (record l { stage = lane.Carrying d }))
-        (joined_after_try x.life.chunk h)) e (tries h k l d fits seen own)
+        (joined_after_try l.worker x.life.chunk h)) e (tries h k l d fits seen own idle)
     by (lane.Tried d) some is seen own = absurd (cc some)
     by (lane.Cleared d f) some is seen own = absurd (cc some)
     by (lane.Moved d) some is seen own = absurd (cc some)
@@ -203,7 +211,9 @@ clears : (c : ℕ) (h : Head) (k : ClassPart) (l : LanePart) (j : Joined) (b : B
 clears c h k l j b fits of cold is = record {
   bump = is.bump;
   aboard = is.aboard;
+  worker = is.worker;
   chunk = is.chunk;
+  named = is.named;
   own = is.own;
   found = is.found;
   found_by_try = record {
@@ -245,7 +255,9 @@ moves : (c n : ℕ) (k : ClassPart) (l : LanePart) (j : Joined) (b : Bump) → b
 moves c n k l j b of cold is = record {
   bump = is.bump;
   aboard = is.aboard;
+  worker = is.worker;
   chunk = is.chunk;
+  named = refl;
   own = is.own;
   found = is.found;
   found_by_try = record {
@@ -290,7 +302,7 @@ pub joined_cleared : (c : ℕ) (h : Head) (k : ClassPart) (o : Option LanePart) 
     → MayClearActive c (standing k c).0 o → IsJoined k o j
     → IsJoined (noted_class kind.ClearActive c (word_of h) (listed o) k)
     (option_map (lane_after_clear_active h.active) o) j
-joined_cleared c h k None j fits may is = tt
+joined_cleared c h k None j fits may is = is
 joined_cleared c h k (Some l) j fits may is =
     let t = at_tried c l.stage may.1 in
     subst (λ (s : Lane). Joins (noted_class kind.ClearActive c (word_of h) (record l { stage = s } ∷ []) k)
@@ -301,7 +313,7 @@ pub joined_moved : (c n : ℕ) (from to : Segment) (k : ClassPart) (o : Option L
     → (standing k c).0 ≡ place_of from → MayChangeSegment c from to o → IsJoined k o j
     → IsJoined (class_after_move from to c n (listed o) k) (option_map lane_after_move o)
     (joined_after_move j)
-joined_moved c n from to k None j stands may is = tt
+joined_moved c n from to k None j stands may is = is
 joined_moved c n from to k (Some l) j stands may is =
     let t = at_cleared c l.stage may.2 in
     subst (λ (x : Segment × Segment × Lane). Joins (class_after_move x.0 x.1 c n (record l { stage = x.2 } ∷ []) k)
@@ -371,6 +383,7 @@ pub record Ending (v : ClassView) (c : ℕ) (o : Outcome) (l : LanePart) (b : Bu
   pub chunk : b.life.chunk ≡ c
   pub own : owns c v.part ≡ true
   pub past : is_past_move l.stage ≡ is_moved o
+  pub named : v.part.applying ≡ application_of l.worker l.stage
   pub entry : IsShown v.part l b o
 
 module _ (v : ClassView) (l : LanePart) (b : Bump) (h : Head) (o : Outcome) (ends : EndsAs v l b h o) where
@@ -394,6 +407,10 @@ module _ (v : ClassView) (l : LanePart) (b : Bump) (h : Head) (o : Outcome) (end
     chunk_is : b.life.chunk ≡ j.chunk
     chunk_is = ap (λ (x : Bump). x.life.chunk) bump_is ∙ sym joins.chunk
 
+    -- and whose lane it is
+    pub worker_is : j.worker ≡ l.worker
+    worker_is = joins.worker
+
     -- which it tells
     pub ends_told : EndsAs v l b h j.outcome
     ends_told = subst (λ (x : Outcome). EndsAs v l b h x) outcome_is ends
@@ -408,6 +425,7 @@ module _ (v : ClassView) (l : LanePart) (b : Bump) (h : Head) (o : Outcome) (end
           own =
               ap (λ (c : ℕ). owns c v.part) joins.chunk ∙ joins.own;
           past = m.1;
+          named = joins.named;
           entry = joins.entry b o
               (subst (λ (y : Head). ending_at (λ c. y) l.stage ≡ Some (applied_bump b o)) found_is ends.ending);
         })

@@ -23,11 +23,11 @@ use Rattle.bump_readers.specs.Seats.{head_or}
 use Rattle.bump_heads.specs.Seats.{class_me, class_in, aboard_lane, IsInRange, IsClassPart, no_lane}
 use Rattle.bump_steps.specs.Riders.{lane_me}
 use Rattle.bump_heads.specs.Applying.{IsJoined}
-use Rattle.bump_heads.specs.Making.{class_seen, lane_seen, AreNewClasses, AreEmpty}
+use Rattle.bump_heads.specs.Making.{class_seen, lane_seen, AreNewClasses, AreNewLanes}
 
 -- what a class's seat keeps before a lane is joined
 abbrev pub no_bump : Joined
-no_bump = record { chunk = 0; outcome = outcome.Gone }
+no_bump = record { worker = 0; chunk = 0; outcome = outcome.Gone }
 
 abbrev pub Turn : TableId → Me Empty View → View → ℕ → ℕ → List ClassView → List ClassView → Me Empty View
     → Me Empty View → Type 0
@@ -61,10 +61,10 @@ class_turn table m v i count made all m' p rest long more numbers so_far now par
           tt,
           sym numbers.0,
           numbers.1,
-          tt,
+          numbers.2,
           refl,
           omega (arith, long),
-          numbers.2,
+          numbers.3,
           append_assoc made (class_seen k ∷ []) (map class_seen ks) ∙ so_far,
         )
 
@@ -81,19 +81,20 @@ abbrev pub LaneTurn : Me Empty View → View → ℕ → ℕ → List (Option La
 LaneTurn m v i count made all m' p = (p ≡ lane_me (head_or no_lane p.0.lanes))
     × (◌≡◌ {A = Option Bump} None (bump_aboard (head_or no_lane p.0.lanes).stage))
     × (is_half_made (head_or no_lane p.0.lanes).stage ≡ false) × (m' ≡ (record v { lanes = m'.0.lanes }, []))
-    × (i + 1 + length m'.0.lanes ≡ count) × AreEmpty m'.0.lanes
+    × (i + 1 + length m'.0.lanes ≡ count) × AreNewLanes (i + 1) m'.0.lanes
     × ((made ++ lane_seen (head_or no_lane p.0.lanes) ∷ []) ++ map lane_seen m'.0.lanes ≡ all)
+    × ((head_or no_lane p.0.lanes).worker ≡ i)
 
 pub lane_turn : (m : Me Empty View) (v : View) (i count : ℕ) (made all : List (Option LanePart))
     (m' p : Me Empty View) → m ≡ (record v { lanes = m.0.lanes }, []) → i + length m.0.lanes ≡ count → i < count
-    → AreEmpty m.0.lanes → made ++ map lane_seen m.0.lanes ≡ all → m' ≡ (without_lane m.0, m.1)
+    → AreNewLanes i m.0.lanes → made ++ map lane_seen m.0.lanes ≡ all → m' ≡ (without_lane m.0, m.1)
     → p ≡ (lane_only m.0, [])
     → LaneTurn m v i count made all m' p
 lane_turn m v i count made all m' p rest long more empty so_far now part =
     subst (λ (x : Me Empty View × Me Empty View). LaneTurn m v i count made all x.0 x.1)
     (λ j. (sym now j, sym part j)) (by m.0.lanes rest long empty so_far)
   where
-    by : (ks : List LanePart) → m ≡ (record v { lanes = ks }, []) → i + length ks ≡ count → AreEmpty ks
+    by : (ks : List LanePart) → m ≡ (record v { lanes = ks }, []) → i + length ks ≡ count → AreNewLanes i ks
         → made ++ map lane_seen ks ≡ all → LaneTurn m v i count made all
         (record m.0 { lanes = behind m.0.lanes }, m.1) (record blank { lanes = first_of m.0.lanes }, [])
     by [] rest long empty so_far = absurd (omega (arith, more))
@@ -105,8 +106,9 @@ lane_turn m v i count made all m' p rest long more empty so_far now part =
           rests_empty k.stage (sym empty.0),
           refl,
           omega (arith, long),
-          empty.1,
+          empty.2,
           append_assoc made (lane_seen k ∷ []) (map lane_seen ks) ∙ so_far,
+          empty.1,
         )
 
 -- ---- the parts of a first seat
@@ -127,6 +129,7 @@ new_classes words f i at (k ∷ ks) all = (
     labelled = λ c own used. absurd used;
     unbegun = λ c g later. refl;
   },
+  refl,
   new_classes words f (i + 1) (at + k.chunks) ks (omega (arith, all)),
 )
 
@@ -134,6 +137,6 @@ pub length_lanes : (w n : ℕ) → length (lane_parts w n) ≡ n
 length_lanes w zero = refl
 length_lanes w (suc n) = omega (arith, length_lanes (w + 1) n)
 
-pub empty_lanes : (w n : ℕ) → AreEmpty (lane_parts w n)
-empty_lanes w zero = tt
-empty_lanes w (suc n) = (refl, empty_lanes (w + 1) n)
+pub new_lanes : (w n : ℕ) → AreNewLanes w (lane_parts w n)
+new_lanes w zero = tt
+new_lanes w (suc n) = (refl, refl, new_lanes (w + 1) n)

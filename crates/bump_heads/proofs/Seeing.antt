@@ -22,7 +22,7 @@ use Rattle.bump_rules.specs.declared.history.Change.TheVariants as change
 use Rattle.bump_rules.specs.History.{place_of, subject}
 use Rattle.bump_rules.specs.Lives.{is_same}
 use Rattle.bump_rules.specs.Totals.{how_many}
-use Rattle.bump_rules.specs.Lanes.{carried, tried, applied_now, cleared_active, applied_bump}
+use Rattle.bump_rules.specs.Lanes.{carried, tried, applied_now, cleared_active, applied_bump, is_half_made}
 use Rattle.bump_rules.specs.Lawful.{Shows, IsUsed, bit}
 use Rattle.bump_rules.proofs.Laws.{used_in_segment}
 use Rattle.bump_word.specs.Words.{Spells, word_of}
@@ -34,14 +34,15 @@ use Rattle.bump_heads.specs.declared.joined.Joined.{Joined}
 use Rattle.bump_heads.specs.declared.views.ClassView.{ClassView}
 use Rattle.bump_steps.specs.declared.views.View.{View}
 use Rattle.bump_steps.specs.Views.{bump_aboard, active_clear, refers, owns, standing, shows_time_only, of_owner, evidence}
-use Rattle.bump_steps.specs.Plays.{Sat, Told, Found, on_first, step_of}
+use Rattle.bump_steps.specs.Plays.{Sat, Told, TellsOfMoves, Found, on_first, step_of}
 use Rattle.bump_steps.specs.Cuts.{joined, lanes_only, without_lanes}
-use Rattle.bump_steps.specs.Applications.{applying, bump_for, lane_after_try, view_after_try, lane_after_clear_active, view_after_clear_active, view_after_put_time, noted_class, stage_after_move, lane_after_move, change_of_move_for, class_after_move, view_after_move, life_in, lane_after_alight, view_after_alight, MayTry, MayMove, MayAlight}
+use Rattle.bump_steps.specs.Applications.{applying, bump_for, lane_after_try, view_after_try, lane_after_clear_active, view_after_clear_active, view_after_put_time, noted_class, stage_after_move, lane_after_move, change_of_move_for, application_of, class_at_rest, class_after_move, view_after_move, life_in, lane_after_alight, view_after_alight, MayTry, MayMove, MayAlight}
 use Rattle.bump_heads.specs.Applying.{life_aboard, life_of, IsOf, MayClearActive, MayChangeSegment, IsShown, IsJoined, carried_by, joined_after_try, joined_after_move, seat_after_move, seat_after_clear_active, seat_after_put_time, FoundOfBump, NamesNoBumpTwice, is_own, TellsMoves}
 use Rattle.bump_readers.specs.Seats.{head_or, listed}
-use Rattle.bump_heads.specs.Seats.{class_me, class_in, lane_in, IsLane, IsInRange, IsClassPart, aboard_lane, no_class, no_lane}
+use Rattle.bump_steps.specs.Riders.{lane_me}
+use Rattle.bump_heads.specs.Seats.{class_me, class_in, lane_in, IsLane, IsOfWorker, IsInRange, IsClassPart, aboard_lane, no_class, no_lane}
 use Rattle.bump_steps.proofs.Applications.{try_going, try_refers, clear_active_refers, alight_refers}
-use Rattle.bump_heads.proofs.ClassParts.{entered_part, noted_part}
+use Rattle.bump_heads.proofs.ClassParts.{entered_part, noted_part, named_part}
 use Rattle.bump_heads.proofs.ClassSeats.{class_in_me, found_is}
 use Rattle.bump_heads.proofs.Joining.{active_found, noted_joined, joined_cleared, joined_moved, tried_joined, Ending}
 use Rattle.bump_steps.proofs.Told.{stands_alone}
@@ -195,6 +196,7 @@ life_told v c h of told = by v.lane of told
 own_move : (k : ClassPart) (test : ItemId → Bool) (w n : ℕ) (e : Change) → bit (not (owns (subject e).chunk k)) ≡ 0
     → is_move_for test w n e ≡ is_move_for (is_own k test) w n e
 own_move k test w n (change.Linked j) own = refl
+own_move k test w n (change.LinkedTemp j) own = refl
 own_move k test w n (change.Moved j from to cause) own = by (owns j.chunk k) own
   where
     by : (b : Bool) → bit (not b) ≡ 0 → (test j && (is_cold from && (is_warm to && is_bump w n cause)))
@@ -249,37 +251,40 @@ move_keeps words c n from to h v part own stands may gen lives = by v.lane may l
         (record v.part {
           history = v.part.history ++ change_of_move_for (life_in v.part c) from to l.worker o
               ∷ [];
+          applying = application_of l.worker (stage_after_move l.stage);
           steps = v.part.steps ++ step_of kind.Move c n (bump_for l.worker o) ∷ [];
         }))
         (sym is)
+        (named_part words _ (application_of l.worker (stage_after_move l.stage))
         (entered_part words v.part (change.Moved b.life from to (cause.Bump l.worker b.number))
         (v.part.steps ++ step_of kind.Move c n (Some (l.worker, b.number)) ∷ []) part
         (ap (λ (d : ℕ). owns d v.part) of ∙ own)
         (same_life ∙ gen ∙ ap (λ (d : ℕ). (standing v.part d).1) (sym of))
         (ap₂ (λ (f t : Segment). not (is_cold f && is_warm t)) cold warm)
-        (λ there. subst (λ (d : ℕ). IsUsed (standing v.part d).0) (sym of) (used there)))
+        (λ there. subst (λ (d : ℕ). IsUsed (standing v.part d).0) (sym of) (used there))))
 
     by : (o : Option LanePart) → MayChangeSegment c from to o
         → IfSome (aboard_lane o) (λ b. b.life.generation ≡ h.generation)
         → IsClassPart words (class_after_move from to c n (listed o) v.part)
-    by None may lives = entered_part words v.part (change.Moved (life_in v.part c) from to cause.Pull)
-        (v.part.steps ++ step_of kind.Move c n None ∷ []) part own refl refl used
+    by None may lives = named_part words _ v.part.applying
+        (entered_part words v.part (change.Moved (life_in v.part c) from to cause.Pull)
+        (v.part.steps ++ step_of kind.Move c n None ∷ []) part own refl refl used)
     by (Some l) may lives = let b = of_active c l.stage may.2 in let is : bump_aboard l.stage ≡ Some b.0 =
         ap bump_aboard b.1 in
         for_bump l b.0 is b.2 may.0 may.1
         (subst (λ (x : Option Bump). IfSome x (λ d. d.life.generation ≡ h.generation)) is lives)
 
 -- what is asked of the step of a move
-pub may_change_segment : (from to : Segment) (c : ℕ) (m : Sat) (v w : ClassView) → m ≡ class_me v → v ≡ w
-    → owns c w.part ≡ true → (standing w.part c).0 ≡ place_of from → MayChangeSegment c from to w.lane
-    → MayMove from to c m.0
-may_change_segment from to c m v w is same own stands may = subst (λ (x : Sat). MayMove from to c x.0)
-    (sym (is ∙ ap class_me same)) (by w.lane may)
+pub may_change_segment : (from to : Segment) (c : ℕ) (m : Sat) (v w : ClassView) (joined : Joined) → m ≡ class_me v
+    → v ≡ w → IsJoined v.part v.lane joined → owns c w.part ≡ true → (standing w.part c).0 ≡ place_of from
+    → MayChangeSegment c from to w.lane → MayMove from to c m.0
+may_change_segment from to c m v w joined is same kept own stands may = subst (λ (x : Sat). MayMove from to c x.0)
+    (sym (is ∙ ap class_me same)) (by w.lane may (subst (λ (x : ClassView). IsJoined x.part x.lane joined) same kept))
   where
-    by : (o : Option LanePart) → MayChangeSegment c from to o
+    by : (o : Option LanePart) → MayChangeSegment c from to o → IsJoined w.part o joined
         → MayMove from to c (class_me (record { part = w.part; lane = o })).0
-    by None may = inl (w.part, record { view = refl; stands = (own, stands) })
-    by (Some l) may = let b = of_active c l.stage may.2 in
+    by None may kept = inl (w.part, record { view = refl; stands = (own, stands) })
+    by (Some l) may kept = let b = of_active c l.stage may.2 in
         inr (
           w.part,
           l,
@@ -287,6 +292,7 @@ may_change_segment from to c m v w is same own stands may = subst (λ (x : Sat).
           record {
             view = refl;
             stage = b.1;
+            named = kept.named ∙ ap (application_of l.worker) b.1;
             chunk = b.2;
             stands = (own, stands);
             from_cold =
@@ -376,6 +382,11 @@ module _ (table : TableId) (number c n : ℕ) (m p : Sat) (v w : ClassView) (is 
 
 -- ---- a lane joins
 
+-- while no lane is joined no application is in progress
+pub idle_alone : (k : ClassPart) (o : Option LanePart) (j : Joined) → o ≡ None → IsJoined k o j → k.applying ≡ None
+idle_alone k None j none is = is
+idle_alone k (Some l) j none is = absurd (cc none)
+
 -- the bump that a lane carries may be looked at by the class that has its chunk
 carries_it : (k : ClassPart) (l : LanePart) (b : Bump) (s : Lane) → l.stage ≡ s → IsSome (carried s)
     → bump_aboard s ≡ Some b → owns b.life.chunk k ≡ true → MayTry b.life.chunk (applying k l)
@@ -426,20 +437,24 @@ module _ (m : Sat) (v w : ClassView) (o : Option (Seat Empty View)) (s : Seat Em
 
     -- it keeps what a class's seat keeps
     pub tried_whole : (number : ℕ) → number ≡ v.part.class → IsClassPart table.words v.part
+        → (kept : Joined) → IsJoined v.part v.lane kept → (worker : ℕ) → IsOfWorker worker (lane_in o)
         → IsInRange table (aboard_lane (lane_in o)) → IsSome (carried_by lane) → owns (life_aboard lane).chunk w.part
         ≡ true → FoundOfBump w.part (life_aboard lane) h
         → (p ≡ class_me (class_in p.0)) × IsInRange table (aboard_lane (class_in p.0).lane)
         × (number ≡ (class_in p.0).part.class) × IsClassPart table.words (class_in p.0).part
-        × IsJoined (class_in p.0).part (class_in p.0).lane (joined_after_try b.life.chunk h)
-    tried_whole number class part near carries own seen =
+        × IsJoined (class_in p.0).part (class_in p.0).lane (joined_after_try worker b.life.chunk h)
+    tried_whole number class part kept rests worker whose near carries own seen =
         seen_whole table.words table number p
         (record w { lane = option_map (lane_after_try (life_aboard lane).chunk (word_of h)) lane })
-        (joined_after_try b.life.chunk h) tried_me
+        (joined_after_try worker b.life.chunk h) tried_me
         (near_as table (lane_after_try (life_aboard lane).chunk (word_of h)) (λ l. try_refers l.stage) lane
         (subst (λ (x : Option LanePart). IsInRange table (aboard_lane x)) lane_is near))
         (class ∙ ap (λ (x : ClassView). x.part.class) same)
         (subst (λ (x : ClassView). IsClassPart table.words x.part) same part)
-        (tried_joined h w.part lane b carries (sym (ap aboard_lane lane_is) ∙ aboard) spells.1 seen own)
+        (tried_joined h w.part lane worker b carries (sym (ap aboard_lane lane_is) ∙ aboard)
+        (subst (IsOfWorker worker) lane_is whose)
+        (idle_alone w.part w.lane kept alone
+        (subst (λ (x : ClassView). IsJoined x.part x.lane kept) same rests)) spells.1 seen own)
 
     -- what was told there
     told_here : Found n (Told b.life.chunk q.0) → Told b.life.chunk (class_me (record w { lane = lane })).0 h
@@ -470,6 +485,13 @@ module _ (m : Sat) (v w : ClassView) (o : Option (Seat Empty View)) (s : Seat Em
         )
 
 -- ---- a lane is split off
+
+-- what an entry is shown by stays where no application is named
+at_rest_shown : (k : ClassPart) (l : LanePart) (b : Bump) (out : Outcome) → IsShown k l b out
+    → IsShown (class_at_rest k) l b out
+at_rest_shown k l b outcome.Moved is = is
+at_rest_shown k l b outcome.Gone is = is
+at_rest_shown k l b outcome.TimeOnly is = is
 
 -- an entry that is shown is true of what the two parts have
 shown : (k : ClassPart) (l : LanePart) (b : Bump) (out : Outcome) → owns b.life.chunk k ≡ true → IsShown k l b out
@@ -504,6 +526,7 @@ module _ (m : Sat) (v w : ClassView) (is : m ≡ class_me v) (same : v ≡ w) (c
       aboard = aboard_now l.stage b ends.aboard;
       chunk = ends.chunk;
       past = ends.past;
+      named = ends.named;
       proof = shown w.part l b out (ap (λ (d : ℕ). owns d w.part) ends.chunk
           ∙ ends.own) ends.entry;
     },
@@ -530,8 +553,8 @@ module _ (m : Sat) (v w : ClassView) (is : m ≡ class_me v) (same : v ≡ w) (c
           (told ∙ ap (λ (x : Sat). (view_after_alight out c n x.0, x.1)) view_is))
           ∙ ap (λ (z : ℕ). Some (lane_after_alight out c z l)) spells.0
 
-      -- the class is as before
-      part_is : head_or no_class r.0.classes ≡ w.part
+      -- the class is as before, and names no application
+      part_is : head_or no_class r.0.classes ≡ class_at_rest w.part
       part_is = ap (λ (x : Sat). head_or no_class x.0.classes)
           (rest ∙ ap (λ (x : Sat). (without_lanes x.0, x.1))
           (told ∙ ap (λ (x : Sat). (view_after_alight out c n x.0, x.1)) view_is))
@@ -541,10 +564,51 @@ module _ (m : Sat) (v w : ClassView) (is : m ≡ class_me v) (same : v ≡ w) (c
           (λ m. IfSome (bump_aboard m.stage) (λ d. IsShown (head_or no_class r.0.classes) m d out))
       entry_told = subst (λ (k : ClassPart). IfSome w.lane (λ m. IfSome (bump_aboard m.stage) (λ d. IsShown k m d out)))
           (sym part_is)
-          (subst (λ (o : Option LanePart). IfSome o (λ m. IfSome (bump_aboard m.stage) (λ d. IsShown w.part m d out)))
-          (sym ends.joined)
-          (subst (λ (o : Option Bump). IfSome o (λ d. IsShown w.part l d out)) (sym (aboard_now l.stage b ends.aboard))
-          ends.entry))
+          (subst (λ (o : Option LanePart). IfSome o
+          (λ m. IfSome (bump_aboard m.stage) (λ d. IsShown (class_at_rest w.part) m d out))) (sym ends.joined)
+          (subst (λ (o : Option Bump). IfSome o (λ d. IsShown (class_at_rest w.part) l d out))
+          (sym (aboard_now l.stage b ends.aboard)) (at_rest_shown w.part l b out ends.entry)))
+
+      -- what is left is a class's seat
+      pub alighted_whole : (table : TableId) (number : ℕ) (joined : Joined) → number ≡ v.part.class
+          → IsClassPart table.words v.part
+          → (r ≡ class_me (class_in r.0)) × IsInRange table (aboard_lane (class_in r.0).lane)
+          × (number ≡ (class_in r.0).part.class) × IsClassPart table.words (class_in r.0).part × IsJoined
+          (class_in r.0).part (class_in r.0).lane joined
+      alighted_whole table number joined class part = seen_whole table.words table number r
+          (record { part = class_at_rest w.part; lane = None }) joined
+          (rest ∙ ap (λ (x : Sat). (without_lanes x.0, x.1))
+          (told ∙ ap (λ (x : Sat). (view_after_alight out c n x.0, x.1)) view_is)) tt
+          (class ∙ ap (λ (x : ClassView). x.part.class) same)
+          (named_part table.words w.part None (subst (λ (x : ClassView). IsClassPart table.words x.part) same part))
+          refl
+
+      -- and as it is seen
+      pub alighted_seat : class_in r.0 ≡ record { part = class_at_rest w.part; lane = None }
+      alighted_seat = seen_as r (record { part = class_at_rest w.part; lane = None })
+          (rest ∙ ap (λ (x : Sat). (without_lanes x.0, x.1))
+          (told ∙ ap (λ (x : Sat). (view_after_alight out c n x.0, x.1)) view_is))
+
+      -- the lane is its worker's
+      pub alighted_worker : (head_or no_lane p.0.lanes).worker ≡ l.worker
+      alighted_worker = ap (λ (x : Sat). (head_or no_lane x.0.lanes).worker)
+          (parts ∙ ap (λ (x : Sat). (lanes_only x.0, []))
+          (told ∙ ap (λ (x : Sat). (view_after_alight out c n x.0, x.1)) view_is))
+
+      pub alighted_lane : (table id : TableId) → id ≡ table → (s : Seat Empty View) → s.me ≡ p → s.table_id ≡ id
+          → IsLane table (Some s)
+      alighted_lane table id near s me named = (
+        me ∙ parts
+            ∙ ap (λ (x : Sat). (lanes_only x.0, []))
+            (told ∙ ap (λ (x : Sat). (view_after_alight out c n x.0, x.1)) view_is)
+            ∙ ap lane_me (sym (ap (λ (x : Sat). head_or no_lane x.0.lanes)
+            (me ∙ parts ∙ ap (λ (x : Sat). (lanes_only x.0, []))
+            (told ∙ ap (λ (x : Sat). (view_after_alight out c n x.0, x.1)) view_is)))),
+        named ∙ near,
+        ap (λ (x : Sat). is_half_made (head_or no_lane x.0.lanes).stage)
+            (me ∙ parts ∙ ap (λ (x : Sat). (lanes_only x.0, []))
+            (told ∙ ap (λ (x : Sat). (view_after_alight out c n x.0, x.1)) view_is)),
+      )
 
       -- of moves for bumps
       pub alighted_told : Found n (Told c m.0) → NamesNoBumpTwice (head_or no_class r.0.classes)
@@ -552,10 +616,55 @@ module _ (m : Sat) (v w : ClassView) (is : m ≡ class_me v) (same : v ≡ w) (c
       alighted_told found = subst (λ (k : ClassPart). NamesNoBumpTwice k × TellsMoves k (head_or no_lane p.0.lanes))
           (sym part_is) (
             once_told (record w { lane = Some l }) c h (told_there found),
-            subst (λ (x : Option LanePart). IfSome x (TellsMoves w.part)) (sym back_is)
+            subst (λ (x : Option LanePart). IfSome x (TellsMoves (class_at_rest w.part))) (sym back_is)
                 (λ test i. omega (
                   arith,
                   moves_told_by w.part l c h (told_there found) test i,
                   alight_refers (is_own w.part test) i l b out (aboard_now l.stage b ends.aboard) ends.past,
                 )),
           )
+
+-- ---- a lane meets a class
+
+-- what the two parts tell of moves, whatever head is found
+pub tells_by : (k : ClassPart) (l : LanePart) → TellsOfMoves (applying k l) → TellsMoves k l
+tells_by k l told = λ test n. let mine : eqb l.worker l.worker ≡ true = eq-eqb l.worker l.worker refl in
+    omega (
+      arith,
+      own_moves k test l.worker n k.history (omega (arith, told.own)),
+      told.told (record { test = is_own k test; worker = l.worker; number = n })
+          (λ j passes. omega (arith, ap bit (and_parts (owns j.chunk k) (test j) passes).0))
+          (omega (arith, ap bit mine)),
+      ap (λ (b : Bool). cond b (moves_told (is_own k test) n l.applied l.stage) 0) mine,
+    )
+
+module _ (m q r p : Sat) (v w : ClassView) (o : Option (Seat Empty View)) (s : Seat Empty View) (table : TableId)
+    (lane : Option LanePart) (is : m ≡ class_me v) (same : v ≡ w) (alone : w.lane ≡ None) (whole : IsLane table o)
+    (some : o ≡ Some s) (lane_is : lane_in o ≡ lane) (joins : q ≡ (joined m.0 s.me.0, m.1))
+    (rest : r ≡ (without_lanes q.0, q.1)) (parts : p ≡ (lanes_only q.0, [])) where
+  met_me : q ≡ class_me (record w { lane = lane })
+  met_me = joins ∙ joined_me m v w o s table lane is same alone whole some lane_is
+
+  met_some : lane ≡ Some (head_or no_lane s.me.0.lanes)
+  met_some = sym lane_is ∙ ap lane_in some
+
+  -- the class's seat is as before
+  pub met_rest : r ≡ m
+  met_rest = rest ∙ ap (λ (x : Sat). (without_lanes x.0, x.1)) met_me
+      ∙ ap (λ (x : Option LanePart). class_me (record w { lane = x })) (sym alone) ∙ sym (is ∙ ap class_me same)
+
+  -- and the lane's
+  pub met_back : p ≡ s.me
+  met_back = parts ∙ ap (λ (x : Sat). (lanes_only x.0, [])) met_me
+      ∙ ap (λ (x : Option LanePart). (lanes_only (class_me (record w { lane = x })).0, [])) met_some
+      ∙ sym (subst (IsLane table) some whole).0
+
+  -- what both have of moves agrees
+  pub met_told : TellsOfMoves q.0 → NamesNoBumpTwice w.part × IfSome lane (TellsMoves w.part)
+  met_told told = let t : TellsOfMoves (applying w.part (head_or no_lane s.me.0.lanes)) =
+      subst (λ (x : Sat). TellsOfMoves x.0)
+      (met_me ∙ ap (λ (x : Option LanePart). class_me (record w { lane = x })) met_some) told in (
+        λ a n. omega (arith, t.once a n),
+        subst (λ (x : Option LanePart). IfSome x (TellsMoves w.part)) (sym met_some)
+            (tells_by w.part (head_or no_lane s.me.0.lanes) t),
+      )

@@ -29,7 +29,7 @@ use Rattle.bump_steps.specs.declared.views.LanePart.{LanePart}
 use Rattle.bump_steps.specs.Views.{owns, standing, shows_time_only}
 use Rattle.bump_steps.specs.Lives.{IsInSegment}
 use Rattle.bump_steps.specs.Plays.{step_of}
-use Rattle.bump_steps.specs.Applications.{lane_after_clear_active, lane_after_move, noted_class, class_after_move}
+use Rattle.bump_steps.specs.Applications.{application_of, lane_after_clear_active, lane_after_move, noted_class, class_after_move}
 use Rattle.bump_readers.specs.Seats.{listed}
 use Rattle.bump_heads.specs.Seats.{aboard_lane}
 
@@ -114,9 +114,10 @@ outcome_by found (lane.Cleared bump active) = outcome.TimeOnly
 outcome_by found (lane.Moved bump) = outcome.Moved
 outcome_by found stage = outcome_after_try found
 
--- what the class's seat keeps once a lane looked at the head of its bump's item, in this chunk, and once that was moved
-abbrev pub joined_after_try : ℕ → Head → Joined
-joined_after_try chunk found = record { chunk = chunk; outcome = outcome_after_try found }
+-- what the class's seat keeps once a worker's lane looked at the head of its bump's item, in this chunk, and once that
+-- was moved
+abbrev pub joined_after_try : ℕ → ℕ → Head → Joined
+joined_after_try worker chunk found = record { worker = worker; chunk = chunk; outcome = outcome_after_try found }
 
 abbrev pub joined_after_move : Joined → Joined
 joined_after_move joined = record joined { outcome = outcome.Moved }
@@ -126,7 +127,10 @@ pub record Joins (class : ClassPart) (this_lane : LanePart) (joined : Joined) : 
   -- it knows the chunk of the bump aboard, which is the class's
   pub bump : Bump
   pub aboard : applied_now this_lane.stage ≡ Some bump
+  pub worker : joined.worker ≡ this_lane.worker
   pub chunk : joined.chunk ≡ bump.life.chunk
+  -- and its part names the application from the move on
+  pub named : class.applying ≡ application_of this_lane.worker this_lane.stage
   pub own : owns bump.life.chunk class ≡ true
   -- the lane's look found a head: of an item in DYING, if it wasn't linked
   pub found : Head
@@ -138,9 +142,9 @@ pub record Joins (class : ClassPart) (this_lane : LanePart) (joined : Joined) : 
   pub entry : (b : Bump) (o : Outcome) → ending_at (λ c. found) this_lane.stage ≡ Some (applied_bump b o)
       → IsShown class this_lane b o
 
--- of the lane, if one is joined
+-- of the lane, if one is joined; else no application is in progress
 abbrev pub IsJoined : ClassPart → Option LanePart → Joined → Type 0
-IsJoined class None joined = Unit {0}
+IsJoined class None joined = class.applying ≡ None
 IsJoined class (Some this_lane) joined = Joins class this_lane joined
 
 -- ---- what a step leaves

@@ -2,6 +2,7 @@
 use Rattle.std.specs.Prelude.{ℕ}
 use Rattle.bump_rules.specs.declared.items.ItemId.{ItemId}
 use Rattle.bump_rules.specs.declared.places.Place.{Place}
+use Rattle.bump_rules.specs.declared.places.Start.{Start}
 use Rattle.bump_rules.specs.Heads.{linked_head}
 use Rattle.bump_word.specs.Words.{word_of}
 use Rattle.bump_steps.specs.declared.views.ClassPart.{ClassPart}
@@ -16,6 +17,6 @@ abbrev pub generation_of_chunk : ClassPart → ℕ → ℕ
 generation_of_chunk class chunk = (standing class chunk).1
 
 -- after this life began: its head was stored as that of a new life
-abbrev pub class_after_open_life : ItemId → ClassPart → ClassPart
-class_after_open_life item class = class_after_link item.chunk item.generation (word_of (linked_head item.generation))
-    class
+abbrev pub class_after_open_life : Start → ItemId → ClassPart → ClassPart
+class_after_open_life start item class =
+    class_after_link start item.chunk item.generation (word_of (linked_head start item.generation)) class

@@ -23,9 +23,10 @@ lane_seen this_lane = Some this_lane
 abbrev pub AreNewClasses : ℕ → ℕ → List ClassPart → Type 0
 AreNewClasses words number [] = Unit {0}
 AreNewClasses words number (class ∷ ks) = (class.class ≡ number) × IsClassPart words class
-    × AreNewClasses words (number + 1) ks
+    × (class.applying ≡ None) × AreNewClasses words (number + 1) ks
 
--- lanes with nothing aboard
-abbrev pub AreEmpty : List LanePart → Type 0
-AreEmpty [] = Unit {0}
-AreEmpty (this_lane ∷ ls) = (Rattle.bump_steps.specs.Views.bump_aboard this_lane.stage ≡ None) × AreEmpty ls
+-- lanes with nothing aboard, of workers from this one on
+abbrev pub AreNewLanes : ℕ → List LanePart → Type 0
+AreNewLanes worker [] = Unit {0}
+AreNewLanes worker (this_lane ∷ ls) = (Rattle.bump_steps.specs.Views.bump_aboard this_lane.stage ≡ None)
+    × (this_lane.worker ≡ worker) × AreNewLanes (worker + 1) ls

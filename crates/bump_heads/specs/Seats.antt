@@ -28,7 +28,7 @@ abbrev pub no_lane : LanePart
 no_lane = lane_part 0
 
 abbrev pub no_class : ClassPart
-no_class = record { class = 0; first = 0; count = 0; fresh = 0; history = []; labels = []; steps = [] }
+no_class = record { class = 0; first = 0; count = 0; fresh = 0; history = []; labels = []; applying = None; steps = [] }
 
 -- ---- lanes
 
@@ -41,6 +41,11 @@ abbrev pub IsLane : TableId → Option (Seat Empty View) → Type 0
 IsLane table None = Unit {0}
 IsLane table (Some seat) = (seat.me ≡ lane_me (head_or no_lane seat.me.0.lanes)) × (seat.table_id ≡ table)
     × (is_half_made (head_or no_lane seat.me.0.lanes).stage ≡ false)
+
+-- the lane is this worker's, while it is whole
+abbrev pub IsOfWorker : ℕ → Option LanePart → Type 0
+IsOfWorker worker None = Unit {0}
+IsOfWorker worker (Some this_lane) = this_lane.worker ≡ worker
 
 abbrev pub aboard_lane : Option LanePart → Option Bump
 aboard_lane None = None

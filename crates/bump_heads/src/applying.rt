@@ -10,7 +10,7 @@ ghost use Rattle.bump_rules.specs.Lawful.{Shows};
 ghost use Rattle.bump_word.specs.Words.{word_of, Fits};
 ghost use Rattle.bump_steps.specs.declared.views.LanePart.{LanePart as TheLanePart};
 ghost use Rattle.bump_steps.specs.Views.{bump_aboard, owns, standing};
-ghost use Rattle.bump_steps.specs.Applications.{lane_after_alight, lane_after_try};
+ghost use Rattle.bump_steps.specs.Applications.{lane_after_alight, lane_after_try, class_at_rest};
 ghost use Rattle.bump_heads.specs.Seats.{aboard_lane};
 ghost use Rattle.bump_heads.specs.Applying.{carried_by, life_aboard, joined_after_try, MayClearActive, MayPutTime, MayChangeSegment, IsShown, EndsAs, seat_after_clear_active, seat_after_put_time, seat_after_move, FoundOfBump, NamesNoBumpTwice, TellsMoves};
 
@@ -24,7 +24,7 @@ use bump_steps::head_of;
 // is Gone where the item isn't linked. So for a linked one nothing is stored here.
 fn note_found(joined: &mut Joined, found: Head)
     requires ready { joined.old.outcome ≡ TimeOnly }
-    ensures { joined.new ≡ joined_after_try joined.old.chunk found }
+    ensures { joined.new ≡ joined_after_try joined.old.worker joined.old.chunk found }
 {
     if !found.linked {
         joined.outcome = Outcome::Gone;
@@ -57,6 +57,7 @@ impl<N: Name> ClassSeat<N> {
             unreachable!()
         };
         lane.aboard = None;
+        self.joined.worker = lane.worker;
         self.joined.chunk = bump.life.chunk;
         self.joined.outcome = Outcome::TimeOnly;
         let words = self.heads.words();
@@ -133,7 +134,7 @@ impl<N: Name> ClassSeat<N> {
         requires hollow { lane.old ≡ None }
         requires ends { (l : TheLanePart) × (b : TheBump) × (h : TheHead) × (o : TheOutcome) × EndsAs self.old l b h o }
         ensures outcome { (l : TheLanePart) × (b : TheBump) × (h : TheHead) × EndsAs self.old l b h result.0 }
-        ensures class { self.new ≡ record self.old { lane = None } }
+        ensures class { self.new ≡ record { part = class_at_rest self.old.part; lane = None } }
         ensures lane { lane.new ≡ option_map (lane_after_alight result.0 (life_aboard self.old.lane).chunk (word_of result.1)) self.old.lane }
         ensures found { FoundOfBump self.old.part (life_aboard self.old.lane) result.1 }
         ensures fits { Fits result.1 }
@@ -146,11 +147,13 @@ impl<N: Name> ClassSeat<N> {
         ensures once { NamesNoBumpTwice self.new.part }
         ensures moves { IfSome lane.new (TellsMoves self.new.part) }
     {
-        let (chunk, outcome) = (self.joined.chunk, self.joined.outcome);
+        let (worker, chunk) = (self.joined.worker, self.joined.chunk);
+        let outcome = self.joined.outcome;
         let words = self.heads.words();
         let word = words.alight(&mut self.seat, chunk, outcome);
         let part = words.part_lanes(&mut self.seat);
         lane.seat = Some(part);
+        lane.worker = worker;
         (outcome, head_of(word))
     }
 }

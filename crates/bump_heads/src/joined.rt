@@ -5,6 +5,9 @@ use bump_rules::Outcome;
 /// says nothing.
 #[derive(Clone, Copy)]
 pub struct Joined {
+    /// The lane's worker.
+    pub worker: u32,
+
     /// The bump's chunk.
     pub chunk: u32,
 

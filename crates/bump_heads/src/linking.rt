@@ -1,6 +1,7 @@
 //! Lives begin and end under their class's lock: labels, links, unlinks, and the chunks that nobody holds any more.
 ghost use Rattle.std.specs.Prelude.{◌≡◌, ◌+◌, ◌<◌, ◌≤◌, None, Some, true, false};
 ghost use Rattle.bump_rules.specs.declared.places.Place.TheVariants.{Dying, Unused};
+ghost use Rattle.bump_rules.specs.declared.places.Start.TheVariants as start;
 ghost use Rattle.bump_rules.specs.Labels.{label_of_life};
 ghost use Rattle.bump_rules.specs.Lawful.{bit, Shows};
 ghost use Rattle.bump_rules.specs.Lives.{life};
@@ -11,7 +12,7 @@ ghost use Rattle.bump_heads.specs.Linking.{place_of_chunk, generation_of_chunk, 
 
 use crate::seats::ClassSeat;
 use bump_readers::Name;
-use bump_rules::{Head, ItemId};
+use bump_rules::{Head, ItemId, Start};
 use bump_steps::head_of;
 
 impl<N: Name> ClassSeat<N> {
@@ -49,24 +50,36 @@ impl<N: Name> ClassSeat<N> {
         self.heads.words().put_label(&mut self.seat, chunk, label);
     }
 
-    /// Begins the next life of a chunk, in HOT, by one store of its head: linked, with the one reference of the link,
-    /// and without marks (memcached's `do_item_link`). The chunk must be in UNUSED, so it has a generation to come.
-    /// Its label is the last one that was stored for the chunk. Answers the life. A load before the store finds the
-    /// generation; it is no step of the class's list.
-    pub fn open_life(&mut self, chunk: u32) -> ItemId
+    /// Begins the next life of a chunk, in HOT or in TEMP, by one store of its head: linked, with the one reference of
+    /// the link, and without marks (memcached's `do_item_link`). The chunk must be in UNUSED, so it has a generation to
+    /// come. Its label is the last one that was stored for the chunk. Answers the life. A load before the store finds
+    /// the generation; it is no step of the class's list.
+    pub fn open_life_in(&mut self, chunk: u32, start: Start) -> ItemId
         requires alone { self.old.lane ≡ None }
         requires own { owns chunk self.old.part ≡ true }
         requires unused { place_of_chunk self.old.part chunk ≡ Unused }
         ensures next { result ≡ life chunk (generation_of_chunk self.old.part chunk + 1) }
-        ensures opened { self.new ≡ record self.old { part = class_after_open_life result self.old.part } }
+        ensures opened { self.new ≡ record self.old { part = class_after_open_life start result self.old.part } }
         ensures label { label_of_life result 0 self.new.part.labels ≡ Some (last_label self.old.part chunk) }
     {
         let found = head_of(self.heads.words().peek(&mut self.seat, chunk));
         let generation = found.generation + 1;
         self.heads
             .words()
-            .open_life(&mut self.seat, chunk, generation);
+            .open_life(&mut self.seat, chunk, start, generation);
         ItemId { chunk, generation }
+    }
+
+    /// The same in HOT.
+    pub fn open_life(&mut self, chunk: u32) -> ItemId
+        requires alone { self.old.lane ≡ None }
+        requires own { owns chunk self.old.part ≡ true }
+        requires unused { place_of_chunk self.old.part chunk ≡ Unused }
+        ensures next { result ≡ life chunk (generation_of_chunk self.old.part chunk + 1) }
+        ensures opened { self.new ≡ record self.old { part = class_after_open_life start.Hot result self.old.part } }
+        ensures label { label_of_life result 0 self.new.part.labels ≡ Some (last_label self.old.part chunk) }
+    {
+        self.open_life_in(chunk, Start::Hot)
     }
 
     /// Ends the life of a chunk of HOT, WARM or COLD, by one subtraction that clears LINKED and gives back the link's

@@ -4,7 +4,7 @@ ghost use Rattle.std.specs.Arc.{arc_value};
 ghost use Rattle.bump_steps.specs.Rule.{opened, class_parts, worker_parts, lane_parts, blank};
 ghost use Rattle.bump_steps.specs.Words.{words_id, config_of};
 ghost use Rattle.bump_readers.specs.Workers.{worker_seen};
-ghost use Rattle.bump_heads.specs.Making.{BlankView as TheBlankView, class_seen, lane_seen, AreNewClasses, AreEmpty};
+ghost use Rattle.bump_heads.specs.Making.{BlankView as TheBlankView, class_seen, lane_seen, AreNewClasses, AreNewLanes};
 
 use crate::heads::Heads;
 use crate::joined::Joined;
@@ -68,6 +68,7 @@ fn part_classes<N: Name>(
             seat: part,
             class,
             joined: Joined {
+                worker: 0,
                 chunk: 0,
                 outcome: Outcome::Gone,
             },
@@ -85,7 +86,7 @@ fn part_lanes<N: Name>(
     count: u32,
 ) -> Result<Vec<LaneSeat<N>>, AllocError>
     requires seat { (seat.old.table_id ≡ N.table) × (seat.old.me.1 ≡ []) }
-    requires parts { (length seat.old.me.0.lanes ≡ count) × AreEmpty seat.old.me.0.lanes }
+    requires parts { (length seat.old.me.0.lanes ≡ count) × AreNewLanes 0 seat.old.me.0.lanes }
     ensures rest { IfOk result (λ v. (seat.new.table_id ≡ N.table) × (seat.new.me ≡ (record seat.old.me.0 { lanes = [] }, []))) }
     ensures seats { IfOk result (λ v. v.items ≡ map lane_seen seat.old.me.0.lanes) }
 {
@@ -94,6 +95,7 @@ fn part_lanes<N: Name>(
         let part = heads.words().part_lane(seat);
         seats.push(LaneSeat {
             seat: Some(part),
+            worker,
             aboard: None,
             heads: Arc::try_clone(heads)?,
             of: PhantomData,

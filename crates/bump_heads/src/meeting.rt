@@ -1,12 +1,13 @@
-//! A hold meets its class.
-ghost use Rattle.std.specs.Prelude.{◌≡◌, Some, IsSome, true};
+//! A hold meets its class, and a lane meets a class.
+ghost use Rattle.std.specs.Prelude.{◌≡◌, Some, None, IsSome, IfSome, true};
 ghost use Rattle.bump_rules.specs.Labels.{label_of_life};
 ghost use Rattle.bump_rules.specs.Lawful.{IsUsed};
 ghost use Rattle.bump_rules.specs.Totals.{total};
 ghost use Rattle.bump_steps.specs.Views.{owns, standing, last_label, differs};
 ghost use Rattle.bump_readers.specs.Seats.{labels_in};
+ghost use Rattle.bump_heads.specs.Applying.{NamesNoBumpTwice, TellsMoves};
 
-use crate::seats::ClassSeat;
+use crate::seats::{ClassSeat, LaneSeat};
 use bump_readers::{Hold, Name};
 
 impl<N: Name> ClassSeat<N> {
@@ -28,5 +29,26 @@ impl<N: Name> ClassSeat<N> {
         let label = self.heads.words().meet(&mut self.seat, hold.life().chunk);
         hold.seat_in(self.heads.words().part_holds(&mut self.seat));
         label
+    }
+
+    /// Shows a class and a lane each other: joins the lane's part to the class's seat, makes one load, and splits the
+    /// lane off again. The lane must be whole, and no other one joined. From then on it is known that the class's
+    /// history names no bump twice, and that the moves that it has for bumps of the lane's worker are those that the
+    /// lane tells of items of the class. Nothing changes.
+    pub fn meet_lane(&mut self, lane: &mut LaneSeat<N>)
+        requires alone { self.old.lane ≡ None }
+        requires whole { IsSome lane.old }
+        ensures class { self.new ≡ self.old }
+        ensures lane { lane.new ≡ lane.old }
+        ensures once { NamesNoBumpTwice self.old.part }
+        ensures moves { IfSome lane.old (TellsMoves self.old.part) }
+    {
+        let Some(seat) = lane.seat.take() else {
+            unreachable!()
+        };
+        let words = self.heads.words();
+        words.join(&mut self.seat, seat);
+        words.meet_lane(&mut self.seat);
+        lane.seat = Some(words.part_lanes(&mut self.seat));
     }
 }

@@ -4,7 +4,7 @@ ghost use Rattle.bump_heads.specs.declared.views.ClassView.{ClassView as TheClas
 ghost use Rattle.bump_steps.specs.declared.views.LanePart.{LanePart as TheLanePart};
 ghost use Rattle.bump_rules.specs.Lanes.{is_half_made};
 ghost use Rattle.bump_heads.specs.Applying.{carried_by, stage_of, IsJoined};
-ghost use Rattle.bump_heads.specs.Seats.{IsLane, lane_in, class_in, class_me, aboard_lane, IsInRange, IsClassPart};
+ghost use Rattle.bump_heads.specs.Seats.{IsLane, IsOfWorker, lane_in, class_in, class_me, aboard_lane, IsInRange, IsClassPart};
 
 use crate::heads::Heads;
 use crate::joined::Joined;
@@ -48,6 +48,7 @@ impl<N: Name> ClassSeat<N> {
 #[derive(Drop)]
 pub struct LaneSeat<N: Name> {
     pub(crate) seat: Option<Seat>,
+    pub(crate) worker: u32,
     pub(crate) aboard: Option<Bump>,
     pub(crate) heads: Arc<Heads<N>, Global>,
     pub(crate) of: PhantomData<N>,
@@ -58,7 +59,7 @@ impl<N: Name> Model for LaneSeat<N> {
 
     ghost view = { λ l. lane_in l.seat };
 
-    ghost invariant = { λ l. IsLane N.table l.seat × (l.aboard ≡ aboard_lane (lane_in l.seat)) × IsInRange N.table l.aboard };
+    ghost invariant = { λ l. IsLane N.table l.seat × (l.aboard ≡ aboard_lane (lane_in l.seat)) × IsInRange N.table l.aboard × IsOfWorker l.worker (lane_in l.seat) };
 }
 
 impl<N: Name> LaneSeat<N> {
@@ -68,6 +69,13 @@ impl<N: Name> LaneSeat<N> {
         ensures at_rest { is_half_made (stage_of self.now) ≡ false }
     {
         self.seat.is_some()
+    }
+
+    /// The number of its worker, while it is whole.
+    pub fn worker(&self) -> u32
+        ensures worker { IsOfWorker result self.now }
+    {
+        self.worker
     }
 
     /// The bump aboard, if the lane is whole and one is.

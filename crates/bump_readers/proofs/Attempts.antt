@@ -70,6 +70,7 @@ cold_as : (s : Segment) → (number_of s == number_of segment.Cold) ≡ is_cold 
 cold_as segment.Hot = refl
 cold_as segment.Warm = refl
 cold_as segment.Cold = refl
+cold_as segment.Temp = refl
 
 -- a step that set ACTIVE is an attempt by the head that it found
 mark_attempts : (c : ℕ) (h : Head) → Fits h → is_attempt (step_of kind.Mark c (word_of h) None)

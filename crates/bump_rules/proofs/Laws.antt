@@ -9,10 +9,25 @@ use Rattle.bump_rules.specs.declared.items.Head.{Head}
 use Rattle.bump_rules.specs.declared.places.Place.{Place}
 use Rattle.bump_rules.specs.declared.places.Segment.{Segment}
 use Rattle.bump_rules.specs.declared.places.Segment.TheVariants as segment
-use Rattle.bump_rules.specs.declared.places.Place.TheVariants.{Hot, Warm, Cold, Dying, Unused, Retired}
-use Rattle.bump_rules.specs.History.{place_of}
+use Rattle.bump_rules.specs.declared.places.Start.{Start}
+use Rattle.bump_rules.specs.declared.places.Place.TheVariants.{Hot, Warm, Cold, Temp, Dying, Unused, Retired}
+use Rattle.bump_rules.specs.Places.{place_of, first_segment}
 use Rattle.bump_rules.specs.Lawful.{bit, Shows, IsUsed, Lawful}
+use Rattle.bump_rules.specs.Tables.{is_cold}
 use Rattle.bump_rules.specs.Heads.{linked_head, linked_head_in, one_more, one_fewer, fetched_head, moved_head, unlinked_head}
+
+-- segment bits that say COLD, and that don't
+pub cold_from : (s : Segment) → is_cold s ≡ true → s ≡ segment.Cold
+cold_from segment.Hot is = absurd (false≢true is)
+cold_from segment.Warm is = absurd (false≢true is)
+cold_from segment.Cold is = refl
+cold_from segment.Temp is = absurd (false≢true is)
+
+pub not_cold : (s : Segment) → s ≢ segment.Cold → is_cold s ≡ false
+not_cold segment.Hot other = refl
+not_cold segment.Warm other = refl
+not_cold segment.Cold other = absurd (other refl)
+not_cold segment.Temp other = refl
 
 -- a mark counts at most 1
 pub bit_at_most : (b : Bool) → bit b ≤ 1
@@ -29,6 +44,7 @@ pub used_where_linked : (h : Head) (at : Place) → Shows h at → h.linked ≡ 
 used_where_linked h Hot s e = tt
 used_where_linked h Warm s e = tt
 used_where_linked h Cold s e = tt
+used_where_linked h Temp s e = tt
 used_where_linked h Dying s e = tt
 used_where_linked h Unused s e = absurd (false≢true (sym s.0 ∙ e))
 used_where_linked h Retired s e = absurd (false≢true (sym s.0 ∙ e))
@@ -38,6 +54,7 @@ pub placed_where_linked : (h : Head) (at : Place) → Shows h at → h.linked �
 placed_where_linked h Hot s e = ap place_of (sym s.1)
 placed_where_linked h Warm s e = ap place_of (sym s.1)
 placed_where_linked h Cold s e = ap place_of (sym s.1)
+placed_where_linked h Temp s e = ap place_of (sym s.1)
 placed_where_linked h Dying s e = absurd (false≢true (sym s ∙ e))
 placed_where_linked h Unused s e = absurd (false≢true (sym s.0 ∙ e))
 placed_where_linked h Retired s e = absurd (false≢true (sym s.0 ∙ e))
@@ -47,6 +64,7 @@ pub dying_where_unlinked : (h : Head) (at : Place) → Shows h at → IsUsed at 
 dying_where_unlinked h Hot s used off = absurd (false≢true (sym off ∙ s.0))
 dying_where_unlinked h Warm s used off = absurd (false≢true (sym off ∙ s.0))
 dying_where_unlinked h Cold s used off = absurd (false≢true (sym off ∙ s.0))
+dying_where_unlinked h Temp s used off = absurd (false≢true (sym off ∙ s.0))
 dying_where_unlinked h Dying s used off = refl
 dying_where_unlinked h Unused s used off = absurd used
 dying_where_unlinked h Retired s used off = absurd used
@@ -56,18 +74,21 @@ pub in_segment : (h : Head) (s : Segment) → Shows h (place_of s) → (h.linked
 in_segment h segment.Hot x = x
 in_segment h segment.Warm x = x
 in_segment h segment.Cold x = x
+in_segment h segment.Temp x = x
 
 -- a linked head with these segment bits agrees with the list of the segment
 pub shows_segment : (h : Head) (s : Segment) → h.linked ≡ true → Shows (record h { segment = s }) (place_of s)
 shows_segment h segment.Hot x = (x, refl)
 shows_segment h segment.Warm x = (x, refl)
 shows_segment h segment.Cold x = (x, refl)
+shows_segment h segment.Temp x = (x, refl)
 
 -- no list of a segment is of free chunks
 pub used_in_segment : (s : Segment) → IsUsed (place_of s)
 used_in_segment segment.Hot = tt
 used_in_segment segment.Warm = tt
 used_in_segment segment.Cold = tt
+used_in_segment segment.Temp = tt
 
 -- a place asks nothing of the count and of the marks
 pub shows_same : (g h : Head) (at : Place) → g.linked ≡ h.linked → g.segment ≡ h.segment → g.generation ≡ h.generation
@@ -75,6 +96,7 @@ pub shows_same : (g h : Head) (at : Place) → g.linked ≡ h.linked → g.segme
 shows_same g h Hot l s e x = (sym l ∙ x.0, sym s ∙ x.1)
 shows_same g h Warm l s e x = (sym l ∙ x.0, sym s ∙ x.1)
 shows_same g h Cold l s e x = (sym l ∙ x.0, sym s ∙ x.1)
+shows_same g h Temp l s e x = (sym l ∙ x.0, sym s ∙ x.1)
 shows_same g h Dying l s e x = sym l ∙ x
 shows_same g h Unused l s e x = (sym l ∙ x.0, omega (arith, x.1))
 shows_same g h Retired l s e x = (sym l ∙ x.0, sym e ∙ x.1)
@@ -190,9 +212,10 @@ module _ (limit : ℕ) (h : Head) (at : Place) (r x : ℕ → ℕ) (o : Lawful l
     past = λ g some. omega (arith, o.past g some);
   }
 
-  -- which begins in HOT
-  pub born : at ≡ Unused → 0 < limit → Lawful limit (linked_head (h.generation + 1)) Hot r x
-  born free room = born_in segment.Hot free room
+  -- in the one in which it begins
+  pub born : (a : Start) → at ≡ Unused → 0 < limit → Lawful limit (linked_head a (h.generation + 1))
+      (place_of (first_segment a)) r x
+  born a free room = born_in (first_segment a) free room
 
   -- the chunk is unlinked, and its holders stay
   pub unlinked : h.linked ≡ true → Lawful limit (unlinked_head h) Dying r x

@@ -1,7 +1,9 @@
+pub mod Beginnings
 pub mod Bounds
 pub mod Counted
 pub mod Endings
 pub mod Laws
+pub mod MovesOf
 pub mod PlainLists
 pub mod Replay
 pub mod SixLists

@@ -2,7 +2,7 @@
 use Rattle.std.proofs.Common.{◌≡◌, ℕ, ◌-◌, ◌&&◌, eqb, cond, Bool, true, false, List, [], ◌∷◌, ◌++◌, refl, sym, ap, ◌∙◌, eqb-true}
 use Rattle.std.proofs.Math.Bool.{and-true, and-false}
 use Rattle.bump_rules.specs.declared.places.Place.{Place}
-use Rattle.bump_rules.specs.declared.places.Place.TheVariants.{Hot, Warm, Cold, Dying, Unused, Retired}
+use Rattle.bump_rules.specs.declared.places.Place.TheVariants.{Hot, Warm, Cold, Temp, Dying, Unused, Retired}
 use Rattle.bump_rules.specs.declared.history.Change.{Change}
 use Rattle.bump_rules.specs.Lawful.{bit}
 use Rattle.bump_rules.specs.History.{is_place, subject, target, Standing, standing_after, standing_from, standing_in, is_between, AreBetween, replay, replayed}
@@ -40,6 +40,7 @@ places_open first end c g Unused = times_ascending c first (end - first) ∙ (sa
 places_open first end c g Hot = sym (ap bit (and-false (is_between first end c)))
 places_open first end c g Warm = sym (ap bit (and-false (is_between first end c)))
 places_open first end c g Cold = sym (ap bit (and-false (is_between first end c)))
+places_open first end c g Temp = sym (ap bit (and-false (is_between first end c)))
 places_open first end c g Dying = sym (ap bit (and-false (is_between first end c)))
 places_open first end c g Retired = sym (ap bit (and-false (is_between first end c)))
 

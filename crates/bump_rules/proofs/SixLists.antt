@@ -1,8 +1,8 @@
--- The six lists of a class and their places: which list is at a place, and what a move to the front does to each.
+-- The seven lists of a class and their places: which list is at a place, and what a move to the front does to each.
 use Rattle.std.proofs.Common.{◌≡◌, ℕ, ◌≢◌, cond, eqb, Bool, true, false, List, ◌∷◌, refl, sym, ap, ◌∙◌, arith, eq-eqb, ne_eqb}
 use native.Mathlib.Decide.{ℕ_discrete}
 use Rattle.bump_rules.specs.declared.places.Place.{Place}
-use Rattle.bump_rules.specs.declared.places.Place.TheVariants.{Hot, Warm, Cold, Dying, Unused, Retired}
+use Rattle.bump_rules.specs.declared.places.Place.TheVariants.{Hot, Warm, Cold, Temp, Dying, Unused, Retired}
 use Rattle.bump_rules.specs.History.{is_place}
 use Rattle.bump_rules.specs.Lawful.{bit}
 use Rattle.bump_rules.specs.Lists.{Lists, list_at, lists_by, all_without, to_front, IsListed}
@@ -22,6 +22,7 @@ pub list_at_by : (f : Place → List ℕ) (q : Place) → list_at (lists_by f) q
 list_at_by f Hot = refl
 list_at_by f Warm = refl
 list_at_by f Cold = refl
+list_at_by f Temp = refl
 list_at_by f Dying = refl
 list_at_by f Unused = refl
 list_at_by f Retired = refl

@@ -2,7 +2,7 @@
 use Rattle.std.proofs.Common.{◌≡◌, ℕ, ◌≢◌, ◌&&◌, get_or, eqb, true, false, refl, sym, ap, ap₂, ◌∙◌, eq-eqb, ne_eqb, eqb-true}
 use Rattle.std.proofs.lemmas.Bool.{and_parts}
 use Rattle.bump_rules.specs.declared.places.Place.{Place}
-use Rattle.bump_rules.specs.declared.places.Place.TheVariants.{Hot, Warm, Cold, Dying, Unused, Retired}
+use Rattle.bump_rules.specs.declared.places.Place.TheVariants.{Hot, Warm, Cold, Temp, Dying, Unused, Retired}
 use Rattle.bump_rules.specs.History.{place_number, is_place, Standing, is_standing}
 use Rattle.bump_rules.specs.Lawful.{bit}
 use Rattle.bump_rules.specs.Places.{all_places}
@@ -17,6 +17,7 @@ numbered_number : (p : Place) → place_numbered (place_number p) ≡ p
 numbered_number Hot = refl
 numbered_number Warm = refl
 numbered_number Cold = refl
+numbered_number Temp = refl
 numbered_number Dying = refl
 numbered_number Unused = refl
 numbered_number Retired = refl
@@ -40,6 +41,7 @@ pub one_place : (p : Place) → total (λ q. bit (is_place p q)) all_places ≡ 
 one_place Hot = refl
 one_place Warm = refl
 one_place Cold = refl
+one_place Temp = refl
 one_place Dying = refl
 one_place Unused = refl
 one_place Retired = refl

@@ -35,6 +35,7 @@ no_bump w n (BumpOf v m) none = absurd (let u : ⊥ = cc in u)
 -- an entry that names no bump is no move for one
 pub no_move : (test : ItemId → Bool) (w n : ℕ) (e : Change) → names_bump e ≡ false → is_move_for test w n e ≡ false
 no_move test w n (change.Linked life) none = refl
+no_move test w n (change.LinkedTemp life) none = refl
 no_move test w n (change.Moved life from to cause) none =
     ap (λ b. test life && (is_cold from && (is_warm to && b))) (no_bump w n cause none)
     ∙ (ap (λ b. test life && (is_cold from && b)) (and-false (is_warm to))
@@ -47,6 +48,7 @@ no_move test w n (change.Retired life) none = refl
 -- nor is it a stray one
 pub no_stray : (e : Change) → names_bump e ≡ false → is_stray e ≡ false
 no_stray (change.Linked life) none = refl
+no_stray (change.LinkedTemp life) none = refl
 no_stray (change.Moved life from to cause) none = ap (λ b. b && not (is_cold from && is_warm to)) none
 no_stray (change.Unlinked life) none = refl
 no_stray (change.Swept life) none = refl

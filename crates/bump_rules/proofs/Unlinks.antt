@@ -26,11 +26,13 @@ segment_not_dying : (to : Segment) → place_of to ≢ Dying
 segment_not_dying segment.Hot is = let u : ⊥ = cc in u
 segment_not_dying segment.Warm is = let u : ⊥ = cc in u
 segment_not_dying segment.Cold is = let u : ⊥ = cc in u
+segment_not_dying segment.Temp is = let u : ⊥ = cc in u
 
 -- an entry that puts a chunk in DYING is its unlinking
 to_dying : (c g : ℕ) (e : Change) → (subject e).chunk ≡ c → target e ≡ Dying → (subject e).generation ≡ g
     → is_unlink_of (life c g) e ≡ true
 to_dying c g (change.Linked l) of to in_life = absurd (let u : ⊥ = cc in u)
+to_dying c g (change.LinkedTemp l) of to in_life = absurd (let u : ⊥ = cc in u)
 to_dying c g (change.Moved l from to cause) of is in_life = absurd (segment_not_dying to is)
 to_dying c g (change.Unlinked l) of to in_life = and_from (eqb c l.chunk) (eqb g l.generation) (eq-eqb c l.chunk
     (sym of)) (eq-eqb g l.generation (sym in_life))

@@ -84,6 +84,11 @@ module _ {A : Type 0} (f : A → ℕ) where
   total_none none [] = refl
   total_none none (x ∷ xs) = omega (arith, none x, total_none none xs)
 
+-- a sum of two terms is the sum of both
+pub total_both : {A : Type 0} (f g : A → ℕ) (xs : List A) → total (λ x. f x + g x) xs ≡ total f xs + total g xs
+total_both f g [] = omega arith
+total_both f g (x ∷ xs) = omega (arith, total_both f g xs)
+
 -- equal terms have equal sums
 pub total_same : {A : Type 0} (f g : A → ℕ) → ((x : A) → f x ≡ g x) → (xs : List A) → total f xs ≡ total g xs
 total_same f g same [] = refl

@@ -20,7 +20,7 @@ have_wrong_chunks classes = list_any (λ config. config.chunks == 0) classes || 
 
 -- the greatest limit of references: the greatest reference count of a head word
 abbrev pub most_refs : ℕ
-most_refs = 65535
+most_refs = 1048575
 
 -- whether a configuration has this fault
 abbrev pub has_fault : ℕ → ℕ → ℕ → ℕ → List ClassConfig → ConfigFault → Bool

@@ -21,6 +21,11 @@ abbrev pub is_bump : ℕ → ℕ → Cause → Bool
 is_bump worker number Pull = false
 is_bump worker number (Bump of numbered) = (of == worker) && (numbered == number)
 
+-- the cause is a bump of this worker, whichever number it has
+abbrev pub is_of_worker : ℕ → Cause → Bool
+is_of_worker worker Pull = false
+is_of_worker worker (Bump of numbered) = of == worker
+
 -- the cause is a bump, whichever it is
 abbrev pub is_any_bump : Cause → Bool
 is_any_bump Pull = false
@@ -31,6 +36,7 @@ is_any_bump (Bump worker number) = true
 -- the entry names a bump as its cause
 abbrev pub names_bump : Change → Bool
 names_bump (change.Linked life) = false
+names_bump (change.LinkedTemp life) = false
 names_bump (change.Moved life from to cause) = is_any_bump cause
 names_bump (change.Unlinked life) = false
 names_bump (change.Swept life) = false
@@ -39,6 +45,7 @@ names_bump (change.Retired life) = false
 -- the entry names a bump as its cause, and yet is no move from COLD to WARM
 abbrev pub is_stray : Change → Bool
 is_stray (change.Linked life) = false
+is_stray (change.LinkedTemp life) = false
 is_stray (change.Moved life from to cause) = is_any_bump cause && not (is_cold from && is_warm to)
 is_stray (change.Unlinked life) = false
 is_stray (change.Swept life) = false
@@ -47,15 +54,30 @@ is_stray (change.Retired life) = false
 -- the entry is the move from COLD to WARM for the bump of this worker with this number, of an item that passes the test
 abbrev pub is_move_for : (ItemId → Bool) → ℕ → ℕ → Change → Bool
 is_move_for test worker number (change.Linked life) = false
+is_move_for test worker number (change.LinkedTemp life) = false
 is_move_for test worker number (change.Moved life from to cause) =
     test life && (is_cold from && (is_warm to && is_bump worker number cause))
 is_move_for test worker number (change.Unlinked life) = false
 is_move_for test worker number (change.Swept life) = false
 is_move_for test worker number (change.Retired life) = false
 
+-- the entry is a move for a bump of this worker
+abbrev pub is_move_of : ℕ → Change → Bool
+is_move_of worker (change.Linked life) = false
+is_move_of worker (change.LinkedTemp life) = false
+is_move_of worker (change.Moved life from to cause) = is_of_worker worker cause
+is_move_of worker (change.Unlinked life) = false
+is_move_of worker (change.Swept life) = false
+is_move_of worker (change.Retired life) = false
+
+-- how many moves a history has for bumps of this worker
+abbrev pub moves_of : ℕ → List Change → ℕ
+moves_of worker history = how_many (is_move_of worker) history
+
 -- the entry unlinks this life
 abbrev pub is_unlink_of : ItemId → Change → Bool
 is_unlink_of item (change.Linked life) = false
+is_unlink_of item (change.LinkedTemp life) = false
 is_unlink_of item (change.Moved life from to cause) = false
 is_unlink_of item (change.Unlinked life) = is_same item life
 is_unlink_of item (change.Swept life) = false
@@ -79,6 +101,14 @@ is_gone outcome.Gone = true
 abbrev pub is_told_moved : (ItemId → Bool) → ℕ → AppliedBump → Bool
 is_told_moved test number entry = is_moved entry.outcome && ((entry.number == number) && test entry.life)
 
+-- the lane's entry tells that an item was moved, which passes the test
+abbrev pub is_told_of : (ItemId → Bool) → AppliedBump → Bool
+is_told_of test entry = is_moved entry.outcome && test entry.life
+
+-- how many entries of a lane have the outcome Moved, and are of items that pass the test
+abbrev pub told_of : (ItemId → Bool) → List AppliedBump → ℕ
+told_of test applied = how_many (is_told_of test) applied
+
 -- the lane's entry tells that this life was gone
 abbrev pub is_told_gone : ItemId → AppliedBump → Bool
 is_told_gone item entry = is_gone entry.outcome && is_same item entry.life
@@ -90,6 +120,14 @@ moving test number (lane.Carrying bump) = 0
 moving test number (lane.Tried bump) = 0
 moving test number (lane.Cleared bump found) = 0
 moving test number (lane.Moved bump) = cond ((bump.number == number) && test bump.life) 1 0
+
+-- 1 where the lane has moved an item that passes the test, and has not told it yet
+abbrev pub making : (ItemId → Bool) → Lane → ℕ
+making test lane.Empty = 0
+making test (lane.Carrying bump) = 0
+making test (lane.Tried bump) = 0
+making test (lane.Cleared bump found) = 0
+making test (lane.Moved bump) = cond (test bump.life) 1 0
 
 -- how many moves for the bump with this number a lane tells of, by its entries and by how far it is, of items that
 -- pass the test

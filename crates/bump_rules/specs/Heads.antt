@@ -3,6 +3,7 @@
 use Rattle.std.specs.Prelude.{ℕ, ◌+◌, ◌-◌, true, false}
 use Rattle.bump_rules.specs.declared.places.Segment.{Segment}
 use Rattle.bump_rules.specs.declared.places.Segment.TheVariants.{Hot}
+use Rattle.bump_rules.specs.declared.places.Start.{Start}
 use Rattle.bump_rules.specs.declared.items.Head.{Head}
 use Rattle.bump_rules.specs.Places.{first_segment}
 
@@ -16,9 +17,9 @@ abbrev pub linked_head_in : Segment → ℕ → Head
 linked_head_in to generation =
     record { refs = 1; linked = true; fetched = false; active = false; segment = to; generation = generation }
 
--- and of one in the segment in which lives begin
-abbrev pub linked_head : ℕ → Head
-linked_head generation = linked_head_in first_segment generation
+-- and of one in the segment in which it begins
+abbrev pub linked_head : Start → ℕ → Head
+linked_head start generation = linked_head_in (first_segment start) generation
 
 -- a reference more, or fewer
 abbrev pub one_more : Head → Head

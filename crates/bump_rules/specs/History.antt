@@ -2,17 +2,17 @@
 -- leaves.
 use Rattle.std.specs.Prelude.{◌≡◌, ℕ, ◌-◌, Bool, true, cond, ◌==◌, ◌&&◌, nat_le, nat_lt, List, [], ◌∷◌, if◌then◌else◌}
 use Rattle.bump_rules.specs.declared.places.Place.{Place}
-use Rattle.bump_rules.specs.declared.places.Place.TheVariants.{Dying, Unused, Retired}
+use Rattle.bump_rules.specs.declared.places.Place.TheVariants.{Hot, Temp, Dying, Unused, Retired}
 use Rattle.bump_rules.specs.declared.items.ItemId.{ItemId}
 use Rattle.bump_rules.specs.declared.history.Change.{Change}
 use Rattle.bump_rules.specs.declared.history.Change.TheVariants as change
 use Rattle.bump_rules.specs.Lists.{Lists, to_front, opening, IsListed}
-use Rattle.bump_rules.specs.Places.{first_segment}
 pub use Rattle.bump_rules.specs.Places.{place_of, place_number, is_place}
 
 -- the life that an entry speaks of
 abbrev pub subject : Change → ItemId
 subject (change.Linked life) = life
+subject (change.LinkedTemp life) = life
 subject (change.Moved life from to cause) = life
 subject (change.Unlinked life) = life
 subject (change.Swept life) = life
@@ -20,7 +20,8 @@ subject (change.Retired life) = life
 
 -- the list to whose front an entry puts the chunk
 abbrev pub target : Change → Place
-target (change.Linked life) = place_of first_segment
+target (change.Linked life) = Hot
+target (change.LinkedTemp life) = Temp
 target (change.Moved life from to cause) = place_of to
 target (change.Unlinked life) = Dying
 target (change.Swept life) = Unused

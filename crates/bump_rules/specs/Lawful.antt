@@ -4,28 +4,33 @@
 use Rattle.std.specs.Prelude.{◌≡◌, ℕ, ◌+◌, ◌<◌, ◌≤◌, Bool, true, false, cond}
 use Rattle.bump_rules.specs.declared.places.Segment.TheVariants as segment
 use Rattle.bump_rules.specs.declared.places.Place.{Place}
-use Rattle.bump_rules.specs.declared.places.Place.TheVariants.{Hot, Warm, Cold, Dying, Unused, Retired}
+use Rattle.bump_rules.specs.declared.places.Place.TheVariants.{Hot, Warm, Cold, Temp, Dying, Unused, Retired}
 use Rattle.bump_rules.specs.declared.items.Head.{Head}
 
 -- 1 where the mark is set, else 0
 abbrev pub bit : Bool → ℕ
 bit mark = cond mark 1 0
 
--- LINKED is set exactly in HOT, WARM and COLD, and there the segment bits name the list. No chunk of UNUSED has the
+-- LINKED is set exactly in HOT, WARM, COLD and TEMP, and there the segment bits name the list. No chunk of UNUSED has the
 -- last generation, and every chunk of RETIRED has it.
 abbrev pub Shows : Head → Place → Type 0
 Shows head Hot = (head.linked ≡ true) × (head.segment ≡ segment.Hot)
 Shows head Warm = (head.linked ≡ true) × (head.segment ≡ segment.Warm)
 Shows head Cold = (head.linked ≡ true) × (head.segment ≡ segment.Cold)
+Shows head Temp = (head.linked ≡ true) × (head.segment ≡ segment.Temp)
 Shows head Dying = head.linked ≡ false
 Shows head Unused = (head.linked ≡ false) × (head.generation < 4294967295)
 Shows head Retired = (head.linked ≡ false) × (head.generation ≡ 4294967295)
 
--- the chunk is not free: it is in HOT, WARM, COLD or DYING
+-- the chunk is not free: it is in HOT, WARM, COLD, TEMP or DYING
 abbrev pub IsUsed : Place → Type 0
+IsUsed Hot = Unit {0}
+IsUsed Warm = Unit {0}
+IsUsed Cold = Unit {0}
+IsUsed Temp = Unit {0}
+IsUsed Dying = Unit {0}
 IsUsed Unused = ⊥
 IsUsed Retired = ⊥
-IsUsed _ = Unit {0}
 
 pub record Lawful (limit : ℕ) (head : Head) (at : Place) (references first_hits : ℕ → ℕ) : Type 0 where
   -- the count equals the holders: one for being linked, and one per reference

@@ -12,6 +12,7 @@ pub mod Lists
 pub mod Lives
 pub mod Places
 pub mod Rings
+pub mod Starts
 pub mod Sweeps
 pub mod Tables
 pub mod Totals

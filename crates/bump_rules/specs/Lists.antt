@@ -1,9 +1,9 @@
--- The six lists of a class.
+-- The seven lists of a class.
 use Rattle.std.specs.Prelude.{ℕ, ◌<◌, cond, List, [], ◌∷◌}
 use Rattle.std.specs.List.{range_with_len}
 use Rattle.bump_links.specs.Lists.{times, without}
 use Rattle.bump_rules.specs.declared.places.Place.{Place}
-use Rattle.bump_rules.specs.declared.places.Place.TheVariants.{Hot, Warm, Cold, Dying, Unused, Retired}
+use Rattle.bump_rules.specs.declared.places.Place.TheVariants.{Hot, Warm, Cold, Temp, Dying, Unused, Retired}
 use Rattle.bump_rules.specs.Places.{is_place, all_places}
 use Rattle.bump_rules.specs.Totals.{total}
 
@@ -12,6 +12,7 @@ pub record Lists : Type 0 where
   pub hot : List ℕ
   pub warm : List ℕ
   pub cold : List ℕ
+  pub temp : List ℕ
   pub dying : List ℕ
   pub unused : List ℕ
   pub retired : List ℕ
@@ -21,6 +22,7 @@ abbrev pub list_at : Lists → Place → List ℕ
 list_at lists Hot = lists.hot
 list_at lists Warm = lists.warm
 list_at lists Cold = lists.cold
+list_at lists Temp = lists.temp
 list_at lists Dying = lists.dying
 list_at lists Unused = lists.unused
 list_at lists Retired = lists.retired
@@ -31,6 +33,7 @@ lists_by each = record {
   hot = each Hot;
   warm = each Warm;
   cold = each Cold;
+  temp = each Temp;
   dying = each Dying;
   unused = each Unused;
   retired = each Retired;

@@ -1,4 +1,4 @@
-//! The six lists of a class, over links: a move to the front takes a few stores, and no memory.
+//! The seven lists of a class, over links: a move to the front takes a few stores, and no memory.
 ghost use Rattle.std.specs.Prelude.{◌≡◌, ◌<◌, ◌≤◌, ◌+◌, ◌^◌, nat_lt, IfOk, IfSome, length, option_map};
 ghost use Rattle.bump_links.specs.Lists.{times, first_of, last_of, next_of};
 ghost use Rattle.bump_rules.specs.Lists.{list_at, to_front, opening, IsListed};
@@ -13,9 +13,9 @@ use std::marker::Model;
 pub use walk::ListedChunks;
 
 /// How many lists a class has.
-const LISTS: u32 = 6;
+const LISTS: u32 = 7;
 
-/// The six lists of a class, front first. Its chunks are numbered from a first one on, and each of them stands in
+/// The seven lists of a class, front first. Its chunks are numbered from a first one on, and each of them stands in
 /// exactly one of the lists at every moment.
 #[derive(Drop)]
 pub struct ClassLists {

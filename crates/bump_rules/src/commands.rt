@@ -1,13 +1,19 @@
 //! Commands: each is a call of the running store as its events, with nothing between them.
+ghost use Rattle.std.specs.Prelude.{◌≡◌};
+ghost use Rattle.bump_rules.specs.Starts.{link_command};
+
 use crate::bumps::{Ended, Entry};
 use crate::items::ItemId;
-use crate::places::Tail;
+use crate::places::{Start, Tail};
 
 /// A call. A `now` is the time that it stores, in the caller's ticks.
 #[derive(Clone, Copy, Debug, PartialEq, Eq)]
 pub enum Command {
-    /// Stores an item with its label in a class (memcached's `do_item_link`).
+    /// Stores an item in HOT, with its label in a class (memcached's `do_item_link`).
     Link { class: u32, label: u64, now: u64 },
+
+    /// Stores an item in TEMP, with its label in a class (memcached's `do_item_link` of an item with `TEMP_LRU`).
+    LinkTemp { class: u32, label: u64, now: u64 },
 
     /// Ends an item, and frees its chunk where nobody holds it (memcached's `do_item_unlink` and `do_item_remove`).
     Unlink { id: ItemId },
@@ -36,6 +42,18 @@ pub enum Command {
 
     /// Closes a worker's ring: it takes no bump any more. What it accepted is still to be applied.
     Close { worker: u32 },
+}
+
+impl Command {
+    /// The command that stores an item, by where it begins.
+    pub fn store(start: Start, class: u32, label: u64, now: u64) -> Command
+        ensures { result ≡ link_command start class label now }
+    {
+        match start {
+            Start::Hot => Command::Link { class, label, now },
+            Start::Temp => Command::LinkTemp { class, label, now },
+        }
+    }
 }
 
 /// Why a bump was dropped.
@@ -71,7 +89,7 @@ pub enum Hit {
     /// The item was hit before, and is ACTIVE already.
     Already,
 
-    /// ACTIVE was set in HOT or WARM, and the time is to be stored.
+    /// ACTIVE was set in HOT, WARM or TEMP, and the time is to be stored.
     Marked,
 
     /// ACTIVE was set in COLD, and a bump is to be attempted.
@@ -87,7 +105,7 @@ pub enum Touch {
     /// The item was hit before, and is ACTIVE already.
     Already,
 
-    /// It set ACTIVE in HOT or WARM, and stored the time.
+    /// It set ACTIVE in HOT, WARM or TEMP, and stored the time.
     Marked,
 
     /// It set ACTIVE in COLD, and queued a bump with this number among its worker's accepted bumps, from 0.

@@ -10,7 +10,7 @@ use thiserror::Error;
 pub const MAX_CHUNKS: u32 = 1_000_000;
 
 /// The greatest limit of a reference count: as much as the count of a head word holds.
-pub const MAX_REFS: u32 = 65_535;
+pub const MAX_REFS: u32 = 1_048_575;
 
 /// What a class is made from.
 #[derive(Clone, Copy, Debug, PartialEq, Eq)]
@@ -51,8 +51,8 @@ pub enum ConfigFault {
     #[error("a ring has room for 1 to 65,536 bumps")]
     Capacity,
 
-    /// The limit of a reference count is not 2 to 65,535.
-    #[error("the limit of a reference count is 2 to 65,535")]
+    /// The limit of a reference count is not 2 to 1,048,575.
+    #[error("the limit of a reference count is 2 to 1,048,575")]
     RefsLimit,
 
     /// The first generation is 0, and not 1 to 4,294,967,295.
@@ -77,7 +77,7 @@ pub struct Config {
     /// How many bumps a worker's ring has room for: 1 to 65,536.
     pub capacity: u32,
 
-    /// The greatest reference count of a chunk: 2 to 65,535.
+    /// The greatest reference count of a chunk: 2 to 1,048,575.
     pub refs_limit: u32,
 
     /// The generation of each chunk's first life: 1 to 4,294,967,295.

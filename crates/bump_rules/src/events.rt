@@ -60,6 +60,9 @@ pub enum Event {
     /// The next item of a class begins its life, at the front of HOT (memcached's `do_item_link`). Answers the item.
     Link { class: u32 },
 
+    /// The next item of a class begins its life, at the front of TEMP. Answers the item.
+    LinkTemp { class: u32 },
+
     /// An item's life ends: LINKED is cleared, the link's reference is given back, and the chunk goes to the front of
     /// DYING (memcached's `do_item_unlink`). Answers the head that it found.
     Unlink { life: ItemId },

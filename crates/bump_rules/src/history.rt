@@ -1,9 +1,11 @@
 //! What happened to the lists of a class.
 ghost use Rattle.std.specs.Prelude.{◌≡◌};
+ghost use Rattle.bump_rules.specs.Entries.{is_move_of};
 ghost use Rattle.bump_rules.specs.History.{subject, target, freed_change};
+ghost use Rattle.bump_rules.specs.Starts.{begun_change};
 
 use crate::items::ItemId;
-use crate::places::{Place, Segment};
+use crate::places::{Place, Segment, Start};
 
 /// Why a chunk moved.
 #[derive(Clone, Copy, Debug, PartialEq, Eq)]
@@ -21,6 +23,9 @@ pub enum Change {
     /// The life began, in HOT.
     Linked(ItemId),
 
+    /// The life began, in TEMP.
+    LinkedTemp(ItemId),
+
     /// The item went from one segment (the first) to the front of another (the second), or of the same.
     Moved(ItemId, Segment, Segment, Cause),
 
@@ -35,6 +40,16 @@ pub enum Change {
 }
 
 impl Change {
+    /// The entry of a life that begins.
+    pub fn begun(start: Start, life: ItemId) -> Change
+        ensures { result ≡ begun_change start life }
+    {
+        match start {
+            Start::Hot => Change::Linked(life),
+            Start::Temp => Change::LinkedTemp(life),
+        }
+    }
+
     /// The entry of a chunk that is found without holders: it is UNUSED again, or RETIRED after its last generation.
     pub fn freed(life: ItemId) -> Change
         ensures { result ≡ freed_change life }
@@ -51,10 +66,26 @@ impl Change {
     {
         match self {
             Change::Linked(life)
+            | Change::LinkedTemp(life)
             | Change::Moved(life, _, _, _)
             | Change::Unlinked(life)
             | Change::Swept(life)
             | Change::Retired(life) => life.chunk,
+        }
+    }
+
+    /// Whether it is a move for a bump of this worker.
+    pub fn is_move_of(self, worker: u32) -> bool
+        ensures { result ≡ is_move_of worker self }
+    {
+        match self {
+            Change::Moved(_, _, _, Cause::Bump(of, _)) => of == worker,
+            Change::Moved(_, _, _, Cause::Pull)
+            | Change::Linked(_)
+            | Change::LinkedTemp(_)
+            | Change::Unlinked(_)
+            | Change::Swept(_)
+            | Change::Retired(_) => false,
         }
     }
 
@@ -64,6 +95,7 @@ impl Change {
     {
         match self {
             Change::Linked(_) => Place::Hot,
+            Change::LinkedTemp(_) => Place::Temp,
             Change::Moved(_, _, to, _) => to.place(),
             Change::Unlinked(_) => Place::Dying,
             Change::Swept(_) => Place::Unused,

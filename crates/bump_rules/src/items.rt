@@ -3,7 +3,7 @@ ghost use Rattle.std.specs.Prelude.{◌≡◌};
 ghost use Rattle.bump_rules.specs.Heads.{linked_head, one_fewer, unlinked_head};
 ghost use Rattle.bump_rules.specs.Lives.{is_same};
 
-use crate::places::Segment;
+use crate::places::{Segment, Start};
 
 /// An item: a life of a chunk.
 #[derive(Clone, Copy, Debug, PartialEq, Eq)]
@@ -49,16 +49,16 @@ impl ItemId {
 }
 
 impl Head {
-    /// The head of a new life, with its generation: one reference, linked, in HOT, without marks.
-    pub fn after_link(generation: u32) -> Head
-        ensures { result ≡ linked_head generation }
+    /// The head of a new life, with its generation: one reference, linked, in HOT or TEMP, without marks.
+    pub fn after_link(start: Start, generation: u32) -> Head
+        ensures { result ≡ linked_head start generation }
     {
         Head {
             refs: 1,
             linked: true,
             fetched: false,
             active: false,
-            segment: Segment::Hot,
+            segment: start.segment(),
             generation,
         }
     }

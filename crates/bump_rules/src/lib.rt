@@ -1,5 +1,5 @@
 //! The rules of bump, of which the World and the crates over atomic words both speak: its plain types, the
-//! tables, and the six lists of a class.
+//! tables, and the seven lists of a class.
 #![tactic(auto)]
 
 mod bumps;
@@ -25,5 +25,5 @@ pub use history::{Cause, Change};
 pub use items::{Head, ItemId};
 pub use labels::LabelStep;
 pub use lanes::Lane;
-pub use places::{Limits, Place, Segment, Tail};
+pub use places::{Limits, Place, Segment, Start, Tail};
 pub use tables::MOST_EXCHANGES;

@@ -1,8 +1,8 @@
 //! Segments of the recency list, and the lists of a class.
 ghost use Rattle.std.specs.Prelude.{◌≡◌, ◌<◌};
-ghost use Rattle.bump_rules.specs.Places.{place_of, place_number, place_count};
+ghost use Rattle.bump_rules.specs.Places.{place_of, first_segment, place_number, place_count};
 
-/// A segment of a class's recency list: memcached's HOT, WARM and COLD.
+/// A segment of a class's recency list: memcached's HOT, WARM, COLD and TEMP.
 #[derive(Clone, Copy, Debug, PartialEq, Eq)]
 pub enum Segment {
     /// Where an item begins.
@@ -13,6 +13,19 @@ pub enum Segment {
 
     /// Where a pull moves an item that isn't ACTIVE. Only here a hit attempts a bump.
     Cold,
+
+    /// Where an item stays that is linked there, until it is unlinked: no pull looks at it.
+    Temp,
+}
+
+/// Where a new item is linked.
+#[derive(Clone, Copy, Debug, PartialEq, Eq)]
+pub enum Start {
+    /// At the front of HOT.
+    Hot,
+
+    /// At the front of TEMP.
+    Temp,
 }
 
 /// The list whose last item a pull looks at.
@@ -41,7 +54,7 @@ pub struct Limits {
     pub warm: u32,
 }
 
-/// One of the six lists of a class. A chunk stands in exactly one of them at every moment.
+/// One of the seven lists of a class. A chunk stands in exactly one of them at every moment.
 #[derive(Clone, Copy, Debug, PartialEq, Eq)]
 pub enum Place {
     /// The items of HOT.
@@ -52,6 +65,9 @@ pub enum Place {
 
     /// The items of COLD.
     Cold,
+
+    /// The items of TEMP.
+    Temp,
 
     /// Unlinked while it was held, and not yet found without holders.
     Dying,
@@ -72,23 +88,37 @@ impl Segment {
             Segment::Hot => Place::Hot,
             Segment::Warm => Place::Warm,
             Segment::Cold => Place::Cold,
+            Segment::Temp => Place::Temp,
+        }
+    }
+}
+
+impl Start {
+    /// The segment in which the item begins.
+    pub fn segment(self) -> Segment
+        ensures { result ≡ first_segment self }
+    {
+        match self {
+            Start::Hot => Segment::Hot,
+            Start::Temp => Segment::Temp,
         }
     }
 }
 
 impl Place {
-    /// The number of its list among the six of a class.
+    /// The number of its list among those of a class.
     pub fn number(self) -> u32
         ensures number { result ≡ place_number self }
-        ensures one_of_six { result < place_count }
+        ensures one_of_all { result < place_count }
     {
         match self {
             Place::Hot => 0,
             Place::Warm => 1,
             Place::Cold => 2,
-            Place::Dying => 3,
-            Place::Unused => 4,
-            Place::Retired => 5,
+            Place::Temp => 3,
+            Place::Dying => 4,
+            Place::Unused => 5,
+            Place::Retired => 6,
         }
     }
 }

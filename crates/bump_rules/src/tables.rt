@@ -32,7 +32,7 @@ impl Head {
         }
         match second.segment {
             Segment::Cold => Hit::Attempts,
-            Segment::Hot | Segment::Warm => Hit::Marked,
+            Segment::Hot | Segment::Warm | Segment::Temp => Hit::Marked,
         }
     }
 

@@ -5,6 +5,7 @@ use Rattle.std.proofs.lemmas.List.Folds.{list_any_at}
 use Rattle.std.proofs.lemmas.List.{get_or_past}
 use Rattle.std.specs.Option.{option_map_or}
 use Rattle.std.specs.Prelude.{is_some, option_map}
+pub use Rattle.bump_rules.proofs.Laws.{cold_from}
 use Rattle.bump_rules.specs.declared.items.Head.{Head}
 use Rattle.bump_rules.specs.declared.bumps.AppliedBump.{AppliedBump}
 use Rattle.bump_rules.specs.declared.bumps.Outcome.{Outcome}
@@ -17,7 +18,6 @@ use Rattle.bump_rules.specs.declared.events.Event.TheVariants as event
 use Rattle.bump_rules.specs.declared.hands.Hand.{Hand}
 use Rattle.bump_rules.specs.declared.hands.Hand.TheVariants as hand
 use Rattle.bump_rules.specs.declared.places.Segment.{Segment}
-use Rattle.bump_rules.specs.declared.places.Segment.TheVariants as segment
 use Rattle.bump_rules.specs.Rings.{bump_applied}
 use Rattle.bump_rules.specs.Tables.{is_cold, is_unheld, may_move}
 use Rattle.bump_state.specs.Events.{is_enabled, is_class_at_rest, is_dying, next_chunk, may_hit}
@@ -136,12 +136,6 @@ applied_from (lane.Carrying a) b is = absurd (let u : ⊥ = cc in u)
 applied_from (lane.Tried a) b is = let same : a ≡ b = cc in ap (λ (z : Bump). Some z.life) same
 applied_from (lane.Cleared a found) b is = let same : a ≡ b = cc in ap (λ (z : Bump). Some z.life) same
 applied_from (lane.Moved a) b is = let same : a ≡ b = cc in ap (λ (z : Bump). Some z.life) same
-
--- the segment bits say COLD
-pub cold_from : (x : Segment) → is_cold x ≡ true → x ≡ segment.Cold
-cold_from segment.Hot is = absurd (false≢true is)
-cold_from segment.Warm is = absurd (false≢true is)
-cold_from segment.Cold is = refl
 
 -- there is a worker of this number
 pub worker_from : (s : State) (w : ℕ) → is_worker s w ≡ true → w < length s.workers

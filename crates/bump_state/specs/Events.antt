@@ -4,6 +4,8 @@ use Rattle.std.specs.Option.{option_map_or}
 use Rattle.bump_rules.specs.Heads.{linked_head, one_more, one_fewer, fetched_head, marked_head, cleared_head, moved_head, unlinked_head}
 use Rattle.bump_rules.specs.declared.places.Segment.{Segment}
 use Rattle.bump_rules.specs.declared.places.Segment.TheVariants as segment
+use Rattle.bump_rules.specs.declared.places.Start.{Start}
+use Rattle.bump_rules.specs.declared.places.Start.TheVariants as start
 use Rattle.bump_rules.specs.declared.items.Head.{Head}
 use Rattle.bump_rules.specs.declared.items.ItemId.{ItemId}
 use Rattle.bump_rules.specs.declared.history.Cause.TheVariants.{Pull, Bump as BumpOf}
@@ -24,6 +26,7 @@ use Rattle.bump_rules.specs.Tables.{is_cold, is_unheld, may_move}
 use Rattle.bump_rules.specs.Rings.{most_attempts}
 use Rattle.bump_links.specs.Lists.{first_of, times}
 use Rattle.bump_rules.specs.History.{freed_change}
+use Rattle.bump_rules.specs.Starts.{begun_change}
 use Rattle.bump_state.specs.State.{State, WorkerState, chunk_at, head_at, class_at, worker_at, is_chunk, is_class, with_chunk, with_head, with_worker, with_change, class_of, is_linked, is_held, has_free_hold, is_open, some_and, is_under_application}
 use Rattle.bump_rules.specs.Hands.{tried_life, life_in_hand, cleared_life, is_idle}
 use Rattle.bump_rules.specs.Lanes.{carried, tried, applied_now, cleared_active, is_empty, bump_of, ending_at}
@@ -47,6 +50,10 @@ is_class_at_rest state class = is_class state class && is_at_rest state class
 -- the chunk that the next link of a class takes: the front of UNUSED
 abbrev pub next_chunk : State → ℕ → Option ℕ
 next_chunk state class = first_of (class_at state class).lists.unused
+
+-- a life may begin in the class: it is at rest, and has a chunk for it
+abbrev pub may_link : State → ℕ → Bool
+may_link state class = is_class_at_rest state class && is_some (next_chunk state class)
 
 -- the chunk stands in its class's DYING
 abbrev pub is_dying : State → ℕ → Bool
@@ -94,9 +101,10 @@ is_enabled state (event.Unmark worker) = is_some (cleared_life (worker_at state 
 is_enabled state (event.Close worker) = is_open state worker && is_idle (worker_at state worker).hand
 is_enabled state (event.StoreTime item time) = is_held state item
 is_enabled state (event.Release item) = has_free_hold state item
-is_enabled state (event.PutLabel class label) = is_class_at_rest state class && is_some (next_chunk state class)
-is_enabled state (event.PutTime class time) = is_class_at_rest state class && is_some (next_chunk state class)
-is_enabled state (event.Link class) = is_class_at_rest state class && is_some (next_chunk state class)
+is_enabled state (event.PutLabel class label) = may_link state class
+is_enabled state (event.PutTime class time) = may_link state class
+is_enabled state (event.Link class) = may_link state class
+is_enabled state (event.LinkTemp class) = may_link state class
 is_enabled state (event.Unlink item) = is_linked state item && is_at_rest state (class_of state item.chunk)
 is_enabled state (event.Sweep chunk) =
     is_dying state chunk && (is_unheld (head_at state chunk) && is_at_rest state (class_of state chunk))
@@ -123,6 +131,7 @@ abbrev pub asks_for_memory : State → Event → Bool
 asks_for_memory state (event.Fetch worker item) = not (head_at state item.chunk).fetched
 asks_for_memory state (event.Push worker) = true
 asks_for_memory state (event.Link class) = true
+asks_for_memory state (event.LinkTemp class) = true
 asks_for_memory state (event.Unlink item) = true
 asks_for_memory state (event.Sweep chunk) = true
 asks_for_memory state (event.Move chunk to) = true
@@ -221,10 +230,17 @@ close state worker = with_worker state worker (record (worker_at state worker) {
 abbrev pub next_life : State → ℕ → ItemId
 next_life state chunk = life chunk ((head_at state chunk).generation + 1)
 
-abbrev pub link : State → ℕ → ℕ → State
-link state class chunk =
-    let linked = with_head state chunk (linked_head ((head_at state chunk).generation + 1)) in
-    with_change linked class (change.Linked (next_life state chunk))
+abbrev pub link : State → Start → ℕ → ℕ → State
+link state start class chunk =
+    let linked = with_head state chunk (linked_head start ((head_at state chunk).generation + 1)) in
+    with_change linked class (begun_change start (next_life state chunk))
+
+-- what a link in a segment leaves, and what it answers
+abbrev pub link_next : State → Start → ℕ → State
+link_next state start class = option_map_or (link state start class) (next_chunk state class) state
+
+abbrev pub link_reply : State → ℕ → Reply
+link_reply state class = option_map_or (λ chunk. reply.Life (next_life state chunk)) (next_chunk state class) reply.Done
 
 -- the life ends, and its chunk is DYING
 abbrev pub unlink : State → ItemId → State
@@ -299,7 +315,8 @@ after state (event.PutLabel class label) =
     option_map_or (λ chunk. with_label state chunk label) (next_chunk state class) state
 after state (event.PutTime class time) =
     option_map_or (λ chunk. with_time state chunk time) (next_chunk state class) state
-after state (event.Link class) = option_map_or (link state class) (next_chunk state class) state
+after state (event.Link class) = link_next state start.Hot class
+after state (event.LinkTemp class) = link_next state start.Temp class
 after state (event.Unlink item) = unlink state item
 after state (event.Sweep chunk) = sweep state chunk
 after state (event.ClearActive chunk) = with_head state chunk (cleared_head (head_at state chunk))
@@ -339,8 +356,8 @@ reply_of state (event.StoreTime item time) = reply.Done
 reply_of state (event.Release item) = word_at state item.chunk
 reply_of state (event.PutLabel class label) = reply.Done
 reply_of state (event.PutTime class time) = reply.Done
-reply_of state (event.Link class) =
-    option_map_or (λ chunk. reply.Life (next_life state chunk)) (next_chunk state class) reply.Done
+reply_of state (event.Link class) = link_reply state class
+reply_of state (event.LinkTemp class) = link_reply state class
 reply_of state (event.Unlink item) = word_at state item.chunk
 reply_of state (event.Sweep chunk) = word_at state chunk
 reply_of state (event.ClearActive chunk) = word_at state chunk

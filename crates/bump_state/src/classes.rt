@@ -29,7 +29,7 @@ pub struct Class {
     /// A pull takes from WARM where it has more items than this.
     pub warm_limit: u32,
 
-    /// Its six lists.
+    /// Its seven lists.
     pub lists: ClassLists,
 
     /// What happened to its lists, in order.

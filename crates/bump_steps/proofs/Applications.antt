@@ -27,11 +27,12 @@ use Rattle.bump_steps.specs.declared.views.Kind.TheVariants as kind
 use Rattle.bump_steps.specs.declared.views.OwnStep.{OwnStep}
 use Rattle.bump_steps.specs.declared.views.ClassPart.{ClassPart}
 use Rattle.bump_steps.specs.declared.views.LanePart.{LanePart}
+use Rattle.bump_steps.specs.declared.views.Ride.{Ride}
 use Rattle.bump_steps.specs.declared.views.View.{View}
-use Rattle.bump_steps.specs.Views.{refers, bump_aboard, Measure, held, named, saw, owners, strays, mislabels, misreads, owns, standing, last_label, weight, evidence, shown_by, claims, claimed_in, settled_in, is_entry, outcome_number, Query, in_order, untidy_in, shows_time_only, of_owner, foreign_in, foreign, active_clear, IsBacked}
+use Rattle.bump_steps.specs.Views.{refers, bump_aboard, Measure, held, named, saw, owners, strays, mislabels, misreads, owns, standing, last_label, weight, evidence, shown_by, claims, claimed_in, settled_in, names_move, underway_in, names_outside, is_entry, outcome_number, Query, in_order, untidy_in, shows_time_only, of_owner, foreign_in, foreign, active_clear, IsBacked}
 use Rattle.bump_steps.specs.Rule.{Sound, chunks, Kept, HasFittingLimit}
 use Rattle.bump_steps.specs.Plays.{Sat, Tells, on_chunk, step_of, Stands}
-use Rattle.bump_steps.specs.Applications.{for_bump, for_first, stage_after_try, lane_after_try, view_after_try, try_tells, stage_after_clear_active, view_after_clear_active, clear_active_tells, noted_class, view_after_put_time, put_time_tells, move_tells, view_after_alight, alight_tells, entries_of_alight}
+use Rattle.bump_steps.specs.Applications.{for_bump, for_first, stage_after_try, lane_after_try, view_after_try, try_tells, stage_after_clear_active, view_after_clear_active, clear_active_tells, noted_class, view_after_put_time, put_time_tells, move_tells, view_after_alight, alight_tells, entries_of_alight, application_of}
 use Rattle.bump_steps.specs.Lives.{alone}
 use Rattle.bump_steps.specs.Applications.{applying, StandsIn, life_in, lane_after_clear_active, MayMove, is_past_move, Alights, MayAlight}
 use Rattle.bump_rules.specs.declared.places.Segment.{Segment}
@@ -49,7 +50,7 @@ use Rattle.bump_rules.specs.Totals.{how_many}
 use Rattle.bump_rules.proofs.Updates.{total_push, total_append}
 use Rattle.bump_rules.proofs.Replay.{standing_push}
 use Rattle.bump_rules.proofs.Standings.{standing_same}
-use Rattle.bump_steps.proofs.LifeLabels.{have_on_first, noted_labels, entered_labels}
+use Rattle.bump_steps.proofs.LifeLabels.{have_on_first, noted_labels, named_labels, entered_labels}
 use Rattle.bump_steps.proofs.Frame.{Same, Amid, Reaches, on_time, same_sound}
 use Rattle.bump_steps.proofs.StepLemmas.{time_chunk_is, at_chunk, on_first_total, on_first_le, owned_push, same_counts, level, one_life, other_life, other_chunk}
 
@@ -95,6 +96,8 @@ try_backed c n v = record {
   even = λ q. let same = on_first_total (settled_in q) (lane_after_try c n)
       (λ l. cond_is (l.worker == q.worker) _ _ (ap (λ (g : ℕ). how_many (is_told_moved q.test q.number) l.applied + g)
       (try_going q l.stage))) v.lanes in omega arith;
+  progress = λ q. let same = on_first_total (underway_in q) (lane_after_try c n)
+      (λ l. cond_is (l.worker == q.worker) _ _ (try_going q l.stage)) v.lanes in omega arith;
   own = omega arith;
   labels = λ have. have;
   workers = λ w. refl;
@@ -164,6 +167,10 @@ module _ (c n : ℕ) (v : View) where
         (clear_active_going q (not (active_clear n)) l.stage))) v.lanes in
         let same_moves = on_first_total (λ k. how_many (is_move_for q.test q.worker q.number) k.history)
         (noted_class kind.ClearActive c n v.lanes) (λ k. refl) v.classes in omega arith;
+    progress = λ q. let same = on_first_total (underway_in q) (lane_after_clear_active (not (active_clear n)))
+        (λ l. cond_is (l.worker == q.worker) _ _ (clear_active_going q (not (active_clear n)) l.stage)) v.lanes in
+        let same_named = on_first_total (λ k. names_move q k.applying) (noted_class kind.ClearActive c n v.lanes)
+        (λ k. refl) v.classes in omega arith;
     own = let same = on_first_total foreign_in (noted_class kind.ClearActive c n v.lanes) (λ k. refl) v.classes in
         omega arith;
     labels = have_on_first (noted_class kind.ClearActive c n v.lanes)
@@ -216,6 +223,8 @@ module _ (c n : ℕ) (v : View) where
   put_time_backed = record {
     backs = λ wk e. (by wk e e.outcome, λ more. absurd (omega arith));
     even = λ q. let same_moves = on_first_total (λ k. how_many (is_move_for q.test q.worker q.number) k.history)
+        (noted_class kind.PutTime c n v.lanes) (λ k. refl) v.classes in omega arith;
+    progress = λ q. let same_named = on_first_total (λ k. names_move q k.applying)
         (noted_class kind.PutTime c n v.lanes) (λ k. refl) v.classes in omega arith;
     own = let same = on_first_total foreign_in (noted_class kind.PutTime c n v.lanes) (λ k. refl) v.classes in
         omega arith;
@@ -295,6 +304,19 @@ module _ (key : Config) (slots id : ℕ) (m : Sat) (c : ℕ) (near : c < chunks 
 
 -- ---- moves: a class's part gets an entry, and the lanes that are joined keep their references
 
+no_bits : (b : Bool) → ◌≡◌ {A = ℕ} (cond b 0 0) 0
+no_bits true = refl
+no_bits false = refl
+
+-- a class that names the application of a lane names it as often as the lane is underway with it
+names_as_underway : (q : Query) (w : ℕ) (s : Lane) → names_move q (application_of w s) ≡ cond (w == q.worker)
+    (moving q.test q.number s) 0
+names_as_underway q w lane.Empty = sym (no_bits (w == q.worker))
+names_as_underway q w (lane.Carrying b) = sym (no_bits (w == q.worker))
+names_as_underway q w (lane.Tried b) = sym (no_bits (w == q.worker))
+names_as_underway q w (lane.Cleared b f) = sym (no_bits (w == q.worker))
+names_as_underway q w (lane.Moved b) = refl
+
 -- one more move, and one more that is about to settle
 even_bits : (s w n : Bool) (t : ℕ) → cond (s && (w && n)) 1 0 + cond w (t + 0) 0 ≡ cond w (t + cond (n && s) 1 0) 0
 even_bits true true true t = omega arith
@@ -305,10 +327,14 @@ even_bits false true false t = omega arith
 even_bits false false n t = omega arith
 
 module _ (c : ℕ) (k : ClassPart) (own : owns c k ≡ true) (l : ItemId) (of : l.chunk ≡ c) (from to : Segment)
-    (why : Cause) (made : OwnStep) where
-  -- the class's part with one more move
+    (why : Cause) (named_as : Option Ride) (made : OwnStep) where
+  -- the class's part with one more move, and with this application named
   abbrev pub class_moved : ClassPart
-  class_moved = record k { history = k.history ++ change.Moved l from to why ∷ []; steps = k.steps ++ made ∷ [] }
+  class_moved = record k {
+    history = k.history ++ change.Moved l from to why ∷ [];
+    applying = named_as;
+    steps = k.steps ++ made ∷ [];
+  }
 
   abbrev pub to_be : Standing
   to_be = (place_of to, l.generation)
@@ -373,10 +399,12 @@ module _ (c : ℕ) (k : ClassPart) (own : owns c k ≡ true) (l : ItemId) (of : 
         level_kept : (p q w x : ℕ) → x ≡ w → q + w ≡ p + x → p ≡ q
         level_kept p q w x e m = omega (arith, e, m)
 
-    -- the entry is of the class's own chunk
-    move_own : foreign went ≤ foreign stood
-    move_own = omega (
+    -- the entry is of the class's own chunk, and so is the application that is named
+    move_own : names_outside k.first (k.first + k.count) named_as ≤ names_outside k.first (k.first + k.count) k.applying
+        → foreign went ≤ foreign stood
+    move_own inside = omega (
       arith,
+      inside,
       total_push (λ z. bit (not (owns (subject z).chunk k))) k.history
           (change.Moved l from to why),
       ap (λ (d : ℕ). bit (not (owns d k))) of,
@@ -441,11 +469,12 @@ module _ (key : Config) (slots id c : ℕ) (near : c < chunks key) (k : ClassPar
   moves_by_pull x = at_chunk (move_tells from to) key slots id (alone k, sl) c x
       (λ n. bit_xor n (segment_change from to)) near (λ n y t limits o a.
       let l : ItemId = life_in k c in let made : OwnStep = step_of kind.Move c n None in
-      move_goes c k st.0 l refl from to cause.Pull made [] [] (λ d j. refl) key slots id near sl (move_tells from to)
+      move_goes c k st.0 l refl from to cause.Pull k.applying made [] [] (λ d j. refl) key slots id near sl
+      (move_tells from to)
       x (standing k c) refl st.1 (λ n y t o a gen. refl)
       (record {
         backs = λ wk e. (
-          move_shows c k st.0 l refl from to cause.Pull made [] [] (λ d j. refl) wk e e.outcome refl,
+          move_shows c k st.0 l refl from to cause.Pull k.applying made [] [] (λ d j. refl) wk e e.outcome refl,
           λ more. absurd (omega arith),
         );
         even = λ q. omega (
@@ -454,10 +483,12 @@ module _ (key : Config) (slots id c : ℕ) (near : c < chunks key) (k : ClassPar
               (change.Moved l from to cause.Pull),
           ap bit (no_move q.test q.worker q.number (change.Moved l from to cause.Pull) refl),
         );
-        own = move_own c k st.0 l refl from to cause.Pull made [] [] (λ d j. refl);
+        progress = λ q. omega arith;
+        own = move_own c k st.0 l refl from to cause.Pull k.applying made [] [] (λ d j. refl) (omega arith);
         labels = λ have. (
-          entered_labels k (change.Moved l from to cause.Pull) (k.steps ++ made ∷ []) have.0 refl
-              (λ used. subst IsUsed (sym st.1) (used_in_segment from)),
+          named_labels _ k.applying
+              (entered_labels k (change.Moved l from to cause.Pull) (k.steps ++ made ∷ []) have.0 refl
+              (λ used. subst IsUsed (sym st.1) (used_in_segment from))),
           tt,
         );
         workers = λ w. refl;
@@ -467,15 +498,17 @@ module _ (key : Config) (slots id c : ℕ) (near : c < chunks key) (k : ClassPar
       n y t limits o a (refl, (o.head, o.spells, tells c key.refs_limit n y (alone k) t o a)))
 
   -- that of the bump aboard
-  pub moves_for_bump : (l : LanePart) (b : Bump) → b.life.chunk ≡ c → from ≡ Cold → to ≡ Warm → (x : ℕ)
+  pub moves_for_bump : (l : LanePart) (b : Bump) → k.applying ≡ None → b.life.chunk ≡ c → from ≡ Cold → to ≡ Warm
+      → (x : ℕ)
       → Allows (Kept key) slots id (applying k (record l { stage = lane.Cleared b true }), sl) (3 * c + 9)
       (λ n. bit_xor n (segment_change from to)) (on_chunk (move_tells from to) (step slots (3 * c + 9) x 0 none)
       (applying k (record l { stage = lane.Cleared b true }), sl))
-  moves_for_bump l b of is_cold is_warm x = at_chunk (move_tells from to) key slots id
+  moves_for_bump l b none_named of is_cold is_warm x = at_chunk (move_tells from to) key slots id
       (applying k (record l { stage = lane.Cleared b true }), sl) c x (λ n. bit_xor n (segment_change from to)) near
       (λ n y t limits o a.
       let why : Cause = cause.Bump l.worker b.number in let made : OwnStep = step_of kind.Move c n
       (Some (l.worker, b.number)) in
+      let now_named : Option Ride = application_of l.worker (lane.Moved b) in
       let ls : List LanePart = record l { stage = lane.Cleared b true } ∷ [] in let ms : List LanePart =
       record l { stage = lane.Moved b } ∷ [] in
       let v : View = applying k (record l { stage = lane.Cleared b true }) in
@@ -489,7 +522,7 @@ module _ (key : Config) (slots id c : ℕ) (near : c < chunks key) (k : ClassPar
         ap (λ (d : ℕ). one_if (life d b.life.generation) b.life) of,
       ))).0 ∙ ap (λ (s : Standing). s.1) here
       ∙ ap (λ (d : ℕ). (standing k d).1) (sym of) in
-      move_goes c k st.0 b.life of from to why made ls ms (λ d j. refl) key slots id near sl (move_tells from to) x
+      move_goes c k st.0 b.life of from to why now_named made ls ms (λ d j. refl) key slots id near sl (move_tells from to) x
       (standing k c) refl st.1
       (λ n y t o a gen. (o.lawful.used b.life.generation
       (omega (
@@ -500,7 +533,7 @@ module _ (key : Config) (slots id c : ℕ) (near : c < chunks key) (k : ClassPar
       ))).0 ∙ gen)
       (record {
         backs = λ wk e. (
-          move_shows c k st.0 b.life of from to why made ls ms (λ d j. refl) wk e e.outcome refl,
+          move_shows c k st.0 b.life of from to why now_named made ls ms (λ d j. refl) wk e e.outcome refl,
           λ more. absurd (omega arith),
         );
         even = λ q. omega (
@@ -513,10 +546,13 @@ module _ (key : Config) (slots id c : ℕ) (near : c < chunks key) (k : ClassPar
           even_bits (q.test b.life) (l.worker == q.worker) (b.number == q.number)
               (how_many (is_told_moved q.test q.number) l.applied),
         );
-        own = move_own c k st.0 b.life of from to why made ls ms (λ d j. refl);
+        progress = λ q. omega (arith, ap (names_move q) none_named, no_bits (l.worker == q.worker));
+        own = move_own c k st.0 b.life of from to why now_named made ls ms (λ d j. refl)
+            (omega (arith, ap {B = ℕ} (λ (d : ℕ). cond (owns d k) 0 1) of, ap {B = ℕ} (λ (o : Bool). cond o 0 1) st.0));
         labels = λ have. (
-          entered_labels k (change.Moved b.life from to why) (k.steps ++ made ∷ []) have.0 live
-              (λ used. subst IsUsed (sym (ap (λ (d : ℕ). (standing k d).0) of ∙ st.1)) (used_in_segment from)),
+          named_labels _ now_named
+              (entered_labels k (change.Moved b.life from to why) (k.steps ++ made ∷ []) have.0 live
+              (λ used. subst IsUsed (sym (ap (λ (d : ℕ). (standing k d).0) of ∙ st.1)) (used_in_segment from))),
           tt,
         );
         workers = λ w. refl;
@@ -546,7 +582,7 @@ may_move key slots id c x from to m near (inr (k, l, b, g)) = let is : m.0 ≡ a
     g.stage in
     subst (λ (v : View). Allows (Kept key) slots id (v, m.1) (3 * c + 9) (λ n. bit_xor n (segment_change from to))
     (on_chunk (move_tells from to) (step slots (3 * c + 9) x 0 none) (v, m.1))) (sym is)
-    (moves_for_bump key slots id c near k from to g.stands m.1 l b g.chunk g.from_cold g.to_warm x)
+    (moves_for_bump key slots id c near k from to g.stands m.1 l b g.named g.chunk g.from_cold g.to_warm x)
 
 -- ---- the end of a bump
 
@@ -628,7 +664,7 @@ order_ends b a e (x ∷ xs) i = ap (λ (y : Bool). (x.number == i) && y) (order_
 
 module _ (key : Config) (slots id : ℕ) (k : ClassPart) (l : LanePart) (b : Bump) (out : Outcome)
     (near : b.life.chunk < chunks key) (sl : List (ℕ × Empty)) (aboard : bump_aboard l.stage ≡ Some b)
-    (past : is_past_move l.stage ≡ is_moved out) where
+    (past : is_past_move l.stage ≡ is_moved out) (names : k.applying ≡ application_of l.worker l.stage) where
   the_entry : AppliedBump
   the_entry = record { number = b.number; life = b.life; outcome = out }
 
@@ -685,8 +721,14 @@ module _ (key : Config) (slots id : ℕ) (k : ClassPart) (l : LanePart) (b : Bum
         ap (λ (t : ℕ). cond (l.worker == q.worker) (t + 0) 0)
             (applied_is (λ a. cond (is_told_moved q.test q.number a) 1 0)),
       );
+      progress = λ q. omega (
+        arith,
+        ap (names_move q) names,
+        names_as_underway q l.worker l.stage,
+        no_bits (l.worker == q.worker),
+      );
       own = omega arith;
-      labels = λ have. have;
+      labels = λ have. (named_labels k None have.0, tt);
       workers = λ w. refl;
       lanes = λ w. refl;
       tidy = omega (
@@ -756,4 +798,4 @@ may_alight key slots id c x out m near may = let k : ClassPart = may.0 in let l 
     may.2 in let g : Alights c out m.0 k l b = may.3 in
     subst (λ (y : ℕ × View). Allows (Kept key) slots id (y.1, m.1) (3 * y.0 + 9) (λ n. (n + (2 ^ 64 - 1)) % 2 ^ 64)
     (on_chunk (alight_tells out) (step slots (3 * y.0 + 9) x 0 none) (y.1, m.1))) (λ i. (g.chunk i, sym g.view i))
-    (alights key slots id k l b out (omega (arith, g.chunk)) m.1 g.aboard g.past x g.proof)
+    (alights key slots id k l b out (omega (arith, g.chunk)) m.1 g.aboard g.past g.named x g.proof)

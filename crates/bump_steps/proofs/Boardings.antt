@@ -48,7 +48,7 @@ module _ (l : LanePart) (r : Ride) where
   pub boards : (key : Config) (id other : ℕ) → Joins (Kept key) id waiting other riding (board_both waiting riding)
       blank
   boards key id other = joins key id waiting other riding (board_both waiting riding) blank even
-      (λ n a. (omega arith, same_evidence n a a.outcome)) (λ q. (omega arith, omega arith)) refl
+      (λ n a. (omega arith, same_evidence n a a.outcome)) (λ q. (omega arith, omega arith, refl, omega arith)) refl
       (λ have more. (tt, tt)) (λ n. refl) (λ n. refl)
       (omega (
         arith,

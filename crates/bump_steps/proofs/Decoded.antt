@@ -2,7 +2,7 @@
 use Rattle.std.proofs.Common.{◌≡◌, ◌≢◌, ◌↔◌, ℕ, ◌+◌, ◌-◌, ◌*◌, ◌/◌, ◌^◌, Bool, true, false, not, eqb, refl, sym, ap, subst, arith, eq-eqb, ne_eqb, bit_and}
 use Rattle.bump_rules.specs.declared.items.Head.{Head}
 use Rattle.bump_rules.specs.declared.places.Segment.{Segment}
-use Rattle.bump_rules.specs.declared.places.Segment.TheVariants.{Hot, Warm, Cold}
+use Rattle.bump_rules.specs.declared.places.Segment.TheVariants.{Hot, Warm, Cold, Temp}
 use Rattle.bump_word.specs.Layout.{refs_width, linked_first, fetched_first, active_first, segment_first, segment_width, generation_first}
 use Rattle.bump_word.specs.Words.{Spells, number_of, segment_change}
 use Rattle.bump_word.proofs.Words.{number_one}
@@ -20,15 +20,17 @@ pub segment_read : (n : ℕ) (h : Head) (s : Segment) → Spells n h → bit_and
     ^ segment_first → s ≡ h.segment
 segment_read n h s spelled is = number_one s h.segment (omega (arith, is, read_segment_masked n h spelled))
 
--- a segment whose bits are neither those of WARM nor those of COLD is HOT
+-- a segment whose bits are none of WARM, COLD and TEMP is HOT
 pub segment_left : (n : ℕ) (h : Head) → Spells n h → bit_and n segment_mask ≢ segment_change Hot Warm
-    → bit_and n segment_mask ≢ segment_change Hot Cold → Hot ≡ h.segment
-segment_left n h spelled not_warm not_cold = by h.segment (read_segment_masked n h spelled)
+    → bit_and n segment_mask ≢ segment_change Hot Cold → bit_and n segment_mask ≢ segment_change Hot Temp
+    → Hot ≡ h.segment
+segment_left n h spelled not_warm not_cold not_temp = by h.segment (read_segment_masked n h spelled)
   where
     by : (s : Segment) → bit_and n segment_mask ≡ number_of s * 2 ^ segment_first → Hot ≡ s
     by Hot is = refl
     by Warm is = absurd (not_warm is)
     by Cold is = absurd (not_cold is)
+    by Temp is = absurd (not_temp is)
 
 -- a test of a mark that passes exactly where it is set answers the mark
 flag_read : (m : ℕ) (b : Bool) → ((m ≢ 0) ↔ (b ≡ true)) × ((m ≡ 0) ↔ (b ≡ false)) → not (eqb m 0) ≡ b

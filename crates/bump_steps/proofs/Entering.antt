@@ -9,7 +9,10 @@ pub use Rattle.bump_rules.proofs.Unlinks.{freed_subject}
 use Rattle.bump_rules.specs.declared.items.Head.{Head}
 use Rattle.bump_rules.specs.declared.items.ItemId.{ItemId}
 use Rattle.bump_rules.specs.declared.places.Place.{Place}
-use Rattle.bump_rules.specs.declared.places.Place.TheVariants.{Hot, Warm, Cold, Dying, Unused, Retired}
+use Rattle.bump_rules.specs.declared.places.Place.TheVariants.{Hot, Warm, Cold, Temp, Dying, Unused, Retired}
+use Rattle.bump_rules.specs.declared.places.Segment.TheVariants as segment
+use Rattle.bump_rules.specs.declared.places.Start.{Start}
+use Rattle.bump_rules.specs.declared.places.Start.TheVariants as start
 use Rattle.bump_rules.specs.declared.history.Change.{Change}
 use Rattle.bump_rules.specs.declared.history.Change.TheVariants as change
 use Rattle.bump_rules.specs.declared.labels.LabelStep.{LabelStep}
@@ -21,16 +24,19 @@ use Rattle.bump_rules.specs.declared.bumps.Outcome.TheVariants as outcome
 use Rattle.bump_rules.specs.Entries.{names_bump, is_move_for, is_unlink_of}
 use Rattle.bump_rules.specs.Heads.{linked_head, unlinked_head}
 use Rattle.bump_rules.specs.History.{Standing, subject, target, freed_change, is_standing}
+use Rattle.bump_rules.specs.Starts.{begun_change}
 use Rattle.bump_rules.specs.Labels.{label_word}
 use Rattle.bump_rules.specs.Lawful.{bit, Shows, IsUsed, Lawful}
 use Rattle.bump_rules.specs.Lives.{life, is_same}
+use Rattle.bump_rules.specs.Places.{place_of, first_segment}
+use Rattle.bump_rules.proofs.Beginnings.{begun_subject, begun_target, begun_quiet}
 use Rattle.bump_rules.proofs.Laws.{relawful, none_where_free, born, unlinked, ended}
 use Rattle.bump_rules.proofs.Replay.{standing_push}
 use Rattle.bump_rules.proofs.Standings.{standing_same}
 use Rattle.bump_rules.proofs.ToldMoves.{no_move}
 use Rattle.bump_rules.proofs.Updates.{total_push}
-use Rattle.bump_word.specs.Layout.{refs_width, linked_first, generation_first}
-use Rattle.bump_word.specs.Words.{Spells, word_of}
+use Rattle.bump_word.specs.Layout.{refs_width, linked_first, generation_first, generation_width}
+use Rattle.bump_word.specs.Words.{Spells, word_of, number_of, segment_bits}
 use Rattle.bump_word.proofs.Steps.{unlink}
 use Rattle.bump_word.proofs.Words.{fields}
 use Rattle.bump_steps.specs.declared.views.Empty.{Empty}
@@ -41,7 +47,7 @@ use Rattle.bump_steps.specs.declared.views.View.{View}
 use Rattle.bump_steps.specs.Views.{Measure, held, named, saw, owners, strays, mislabels, misreads, owns, standing, last_label, weight, shown_by, shows_time_only, HasLabels, IsBacked}
 use Rattle.bump_steps.specs.Rule.{Sound, chunks, Kept}
 use Rattle.bump_steps.specs.Plays.{Sat, on_chunk, step_of, Stands}
-use Rattle.bump_steps.specs.Lives.{alone, class_after_load, class_after_link, class_after_sweep, IsInSegment, IsLinked, IsDying, MayLink, on_class, link_tells, unlink_tells, sweep_or_load_tells}
+use Rattle.bump_steps.specs.Lives.{alone, class_after_load, class_after_link, class_after_sweep, IsInSegment, IsLinked, IsDying, MayLink, on_class, start_in, link_tells, unlink_tells, sweep_or_load_tells}
 use Rattle.bump_steps.specs.Lives as lives
 use Rattle.bump_steps.proofs.Frame.{Same, Amid, Reaches, on_head, same_sound}
 use Rattle.bump_steps.proofs.LabelLists.{word_linked}
@@ -93,6 +99,7 @@ module _ (c : ℕ) (k : ClassPart) (own : owns c k ≡ true) (e : Change) (ls : 
       total_push (λ z. bit (is_move_for q.test q.worker q.number z)) k.history e,
       ap bit (no_move q.test q.worker q.number e quiet),
     );
+    progress = λ q. omega arith;
     own = omega (
       arith,
       total_push (λ z. bit (not (owns (subject z).chunk k))) k.history e,
@@ -157,6 +164,7 @@ pub linked_in_segment : (h : Head) (at : Place) → Shows h at → IsInSegment a
 linked_in_segment h Hot shows in_it = shows.0
 linked_in_segment h Warm shows in_it = shows.0
 linked_in_segment h Cold shows in_it = shows.0
+linked_in_segment h Temp shows in_it = shows.0
 linked_in_segment h Dying shows in_it = absurd (false≢true in_it)
 linked_in_segment h Unused shows in_it = absurd (false≢true in_it)
 linked_in_segment h Retired shows in_it = absurd (false≢true in_it)
@@ -166,6 +174,7 @@ pub used_in_place : (at : Place) → IsInSegment at → IsUsed at
 used_in_place Hot in_it = tt
 used_in_place Warm in_it = tt
 used_in_place Cold in_it = tt
+used_in_place Temp in_it = tt
 used_in_place Dying in_it = tt
 used_in_place Unused in_it = absurd (false≢true in_it)
 used_in_place Retired in_it = absurd (false≢true in_it)
@@ -200,6 +209,17 @@ freed_shows h l off most same = by (l.generation == 4294967295) refl
           (λ e. absurd (false≢true (sym is ∙ eq-eqb l.generation 4294967295 e))) (λ ne. omega (arith, most, same)),
     )
 
+-- ---- What the word of a new life says.
+
+-- where the life begins
+starts : (a : Start) (n g : ℕ) → Spells n (linked_head a g) → start_in n ≡ a
+starts a n g spells = ap (λ (s : ℕ). if s == number_of segment.Temp then start.Temp else start.Hot)
+    (fields n (linked_head a g) spells).segment ∙ by a
+  where
+    by : (a : Start) → (if number_of (first_segment a) == number_of segment.Temp then start.Temp else start.Hot) ≡ a
+    by start.Hot = refl
+    by start.Temp = refl
+
 -- ---- The steps.
 
 module _ (key : Config) (slots id c : ℕ) (near : c < chunks key) (sl : List (ℕ × Empty)) (k : ClassPart)
@@ -210,38 +230,47 @@ module _ (key : Config) (slots id c : ℕ) (near : c < chunks key) (sl : List (�
       (stands_alone c (alone k) k refl own)
 
   -- the head of a new life is stored
-  pub links : (new : ℕ) → (standing k c).0 ≡ Unused → new ≡ word_of (linked_head ((standing k c).1 + 1))
+  pub links : (a : Start) (new : ℕ) → (standing k c).0 ≡ Unused
+      → new ≡ word_of (linked_head a ((standing k c).1 + 1))
       → Allows (Kept key) slots id (alone k, sl) (3 * c + 9) (λ _. new)
       (λ _. link_tells (step slots (3 * c + 9) new 0 none) (alone k, sl) new)
-  links new unused is = subst (λ (d : ℕ). Allows (Kept key) slots id (alone k, sl) (3 * c + 9) (λ _. new)
-      (λ _ w. w ≡ (on_class (class_after_link d (new / 2 ^ generation_first) new) (alone k), sl))) (sym (chunk_is c))
+  links b new unused is = let begins : Start = start_in new in
+      subst (λ (d : ℕ). Allows (Kept key) slots id (alone k, sl) (3 * c + 9) (λ _. new)
+      (λ _ w. w ≡ (on_class (class_after_link begins d (new / 2 ^ generation_first) new) (alone k), sl)))
+      (sym (chunk_is c))
       (on_head key slots id (alone k, sl) c (λ _. new)
-      (λ _ w. w ≡ (on_class (class_after_link c (new / 2 ^ generation_first) new) (alone k), sl)) near
+      (λ _ w. w ≡ (on_class (class_after_link begins c (new / 2 ^ generation_first) new) (alone k), sl)) near
       (λ n label t limits o a.
       let at = at_standing c key.refs_limit n label (alone k) t o a (Unused, (standing k c).1)
       (stands_at Unused unused) in
       let gen : o.head.generation ≡ (standing k c).1 = ap (λ (s : Standing). s.1) at in
       let place : o.at ≡ Unused = ap (λ (s : Standing). s.0) at in
       let room : o.head.generation < 4294967295 = (subst (Shows o.head) place o.lawful.shown).1 in
-      let spells : Spells new (linked_head (o.head.generation + 1)) =
-      (is ∙ ap (λ (g : ℕ). word_of (linked_head (g + 1))) (sym gen), (omega arith, omega arith)) in
-      let here : o.head.generation + 1 ≡ new / 2 ^ generation_first =
-      sym (fields new (linked_head (o.head.generation + 1)) spells).generation in
-      let e : Change = change.Linked (life c (new / 2 ^ generation_first)) in
-      let ls : List LabelStep = k.labels ++ Linked (life c (new / 2 ^ generation_first)) ∷ [] in
-      let same : ((b : ℕ) → label_word b 0 ls ≡ last_label k b) = λ b. word_linked b 0 k.labels
-      (life c (new / 2 ^ generation_first)) in
+      let h : Head = linked_head b (o.head.generation + 1) in
+      let spells : Spells new h =
+      (is ∙ ap (λ (g : ℕ). word_of (linked_head b (g + 1))) (sym gen), (omega arith, omega arith)) in
+      let here : o.head.generation + 1 ≡ new / 2 ^ generation_first = sym (fields new h spells).generation in
+      let l : ItemId = life c (new / 2 ^ generation_first) in
+      let e : Change = begun_change begins l in
+      let of = begun_subject begins l in
+      let own_chunk : (subject e).chunk ≡ c = ap (λ (j : ItemId). j.chunk) of in
+      let in_place : target e ≡ place_of (first_segment b) =
+      begun_target begins l ∙ ap (λ (d : Start). place_of (first_segment d))
+      (starts b new (o.head.generation + 1) spells) in
+      let ls : List LabelStep = k.labels ++ Linked l ∷ [] in
+      let same : ((d : ℕ) → label_word d 0 ls ≡ last_label k d) = λ d. word_linked d 0 k.labels l in
       let x : OwnStep = step_of kind.Link c new None in (
-        on_class (class_after_link c (new / 2 ^ generation_first) new) (alone k),
-        (λ u moves. enter_sound c k own e ls x refl refl same key.refs_limit n new label t u a moves o
-            (linked_head (o.head.generation + 1)) spells here
+        on_class (class_after_link begins c (new / 2 ^ generation_first) new) (alone k),
+        (λ u moves. enter_sound c k own e ls x own_chunk (begun_quiet begins l) same key.refs_limit n new label t u a
+            moves o h spells (here ∙ sym (ap (λ (j : ItemId). j.generation) of))
             (a.readers (o.head.generation + 1) label
             (none_where_free key.refs_limit o.head o.at (λ g. t (held g)) (λ g. t (named g)) o.lawful
             (ap IsUsed place) (o.head.generation + 1)))
-            (born key.refs_limit o.head o.at (λ g. t (held g)) (λ g. t (named g)) o.lawful place limits.0)),
-        enter_apart c k own e ls x refl refl same,
-        enter_backed c k own e ls x refl refl same
-            (λ p. link_labels c (new / 2 ^ generation_first) new k p (sym here ∙ ap (λ (g : ℕ). g + 1) gen)),
+            (subst (λ (p : Place). Lawful key.refs_limit h p (λ g. t (held g)) (λ g. t (named g))) (sym in_place)
+            (born key.refs_limit o.head o.at (λ g. t (held g)) (λ g. t (named g)) o.lawful b place limits.0))),
+        enter_apart c k own e ls x own_chunk (begun_quiet begins l) same,
+        enter_backed c k own e ls x own_chunk (begun_quiet begins l) same
+            (λ p. link_labels begins c (new / 2 ^ generation_first) new k p (sym here ∙ ap (λ (g : ℕ). g + 1) gen)),
         refl,
       )))
 
@@ -329,13 +358,28 @@ module _ (key : Config) (slots id c : ℕ) (near : c < chunks key) (sl : List (�
 -- ---- For the contracts.
 
 -- a life may begin by the store of its head
-pub may_link : (key : Config) (slots id c g : ℕ) (m : Sat) → c < chunks key → MayLink c g m.0 → (new : ℕ)
-    → new ≡ word_of (linked_head g) → Allows (Kept key) slots id m (3 * c + 9) (λ _. new)
+pub may_link : (key : Config) (slots id c g : ℕ) (m : Sat) → c < chunks key → (a : Start) → MayLink c g m.0
+    → (new : ℕ) → new ≡ word_of (linked_head a g) → Allows (Kept key) slots id m (3 * c + 9) (λ _. new)
     (λ _. link_tells (step slots (3 * c + 9) new 0 none) m new)
-may_link key slots id c g m near may new is = let k : ClassPart = may.0 in let o = may.1 in
+may_link key slots id c g m near a may new is = let k : ClassPart = may.0 in let o = may.1 in
     subst (λ (v : View). Allows (Kept key) slots id (v, m.1) (3 * c + 9) (λ _. new)
     (λ _. link_tells (step slots (3 * c + 9) new 0 none) (v, m.1) new)) (sym o.view)
-    (links key slots id c near m.1 k o.own new o.at (is ∙ ap (λ (j : ℕ). word_of (linked_head j)) may.2))
+    (links key slots id c near m.1 k o.own a new o.at (is ∙ ap (λ (j : ℕ). word_of (linked_head a j)) may.2))
+
+-- and what that tells
+pub link_told : (slots c g : ℕ) (a : Start) (m w : Sat) (new : ℕ) → g < 2 ^ generation_width
+    → new ≡ word_of (linked_head a g) → link_tells (step slots (3 * c + 9) new 0 none) m new w
+    → w ≡ (on_class (class_after_link a c g (word_of (linked_head a g))) m.0, m.1)
+link_told slots c g a m w new fits is told =
+    let h : Head = linked_head a g in
+    let n : ℕ = word_of h in
+    let spells : Spells n h = (refl, (omega arith, fits)) in
+    told
+    ∙ (ap (λ (x : ℕ). (on_class (class_after_link (start_in x) ((3 * c + 9) / 3 - 3) (x / 2 ^ generation_first) x) m.0,
+    m.1)) is
+    ∙ (ap (λ (d : ℕ). (on_class (class_after_link (start_in n) d (n / 2 ^ generation_first) n) m.0, m.1)) (chunk_is c)
+    ∙ (ap (λ (b : Start). (on_class (class_after_link b c (n / 2 ^ generation_first) n) m.0, m.1)) (starts a n g spells)
+    ∙ ap (λ (j : ℕ). (on_class (class_after_link a c j n) m.0, m.1)) (fields n h spells).generation)))
 
 -- a linked chunk may be unlinked
 pub may_unlink : (key : Config) (slots id c : ℕ) (m : Sat) → c < chunks key → IsLinked c m.0

@@ -1,5 +1,5 @@
 -- A step on one chunk's words by one seat leaves the other chunks as they are.
-use Rattle.std.proofs.Common.{◌≡◌, ℕ, ◌+◌, ◌*◌, ◌<◌, ◌≤◌, ◌≢◌, ◌&&◌, eqb, cond, not, Bool, true, false, List, [], ◌∷◌, ◌++◌, get_or, set, sym, ap, ◌∙◌, subst, arith, length-set, get_or-set_other, get_or-set_same}
+use Rattle.std.proofs.Common.{◌≡◌, ℕ, ◌+◌, ◌*◌, ◌<◌, ◌≤◌, ◌≢◌, ◌&&◌, eqb, cond, not, Bool, true, false, List, [], ◌∷◌, ◌++◌, get_or, set, refl, sym, ap, ◌∙◌, subst, arith, length-set, get_or-set_other, get_or-set_same}
 use mathlib.Core.Logic.{dite}
 use native.Mathlib.Decide.{ℕ_discrete}
 use native.Mathlib.Nat.{zero-mul}
@@ -14,7 +14,7 @@ use Rattle.bump_rules.specs.declared.bumps.AppliedBump.{AppliedBump}
 use Rattle.bump_rules.specs.Lives.{life, one_if}
 use Rattle.bump_rules.proofs.Updates.{total_append, total_below}
 use Rattle.bump_steps.specs.declared.views.View.{View}
-use Rattle.bump_steps.specs.Views.{Measure, held, owners, strays, mislabels, misreads, misread, differs, owns, standing, last_label, weight, tally, claims, evidence, Query, moves, settled, foreign, HaveLabels, workers_of, lanes_of, untidy, IsBacked}
+use Rattle.bump_steps.specs.Views.{Measure, held, owners, strays, mislabels, misreads, misread, differs, owns, standing, last_label, weight, tally, claims, evidence, Query, moves, settled, in_progress, underway, foreign, HaveLabels, workers_of, lanes_of, untidy, IsBacked}
 use Rattle.bump_steps.specs.Rule.{Sound, SoundAt, chunks, Kept, HasFittingLimit}
 use Rattle.bump_steps.specs.Plays.{every, IsOwn}
 use Rattle.bump_steps.proofs.Once.{settled_once, settled_here}
@@ -145,6 +145,13 @@ module _ (key : Config) (s : State Empty View) (o : Kept key s) (homes : List (O
       back.even q,
       o.even_moves q,
     );
+    named_moves = λ q. omega (
+      arith,
+      total-set (in_progress q) s.views i v w me,
+      total-set (underway q) s.views i v w me,
+      back.progress q,
+      o.named_moves q,
+    );
     own_chunks = omega (arith, total-set foreign s.views i v w me, back.own, o.own_chunks);
     own_labels = labelled_set s.views i v w me o.own_labels (back.labels (labelled_at s.views i v me o.own_labels));
     one_worker = λ n. omega (arith, total-set (workers_of n) s.views i v w me, back.workers n, o.one_worker n);
@@ -216,6 +223,50 @@ on_time key slots id m c f then near goes s o count me small = let n : ℕ = get
       g.4,
     )
 
+-- a load of a spare word, which leaves all as it is
+pub on_spare : (key : Config) (slots id : ℕ) (m : Sat) (c : ℕ) (then : ℕ → Sat → Type 0)
+    → ((n : ℕ) (t : Measure → ℕ) → Amid c m.0 t → then n m) → Allows (Kept key) slots id m 0 (λ n. n) then
+on_spare key slots id m c then goes s o count me small = let n : ℕ = get_or s.words 0 0 in (
+  m.0,
+  keeps,
+  tt,
+  record {
+    wide = length-set s.words 0 n ∙ o.wide;
+    small = o.small;
+    each = λ b h. subst (λ (x : ℕ × ℕ × (Measure → ℕ)). Sound key.refs_limit x.0 x.1 x.2)
+        (λ k. (
+          sym (get_or-set_other s.words 0 (3 * b + 9) n 0 (λ e. omega (arith, e))) k,
+          sym (get_or-set_other s.words 0 (3 * b + 11) n 0 (λ e. omega (arith, e))) k,
+          same_tally s.views id b m.0 m.0 me (λ y. refl) k,
+        )) (o.each b h);
+    one_class = λ b. omega (arith, total-set (weight b owners) s.views id m.0 m.0 me, o.one_class b);
+    true_entries = λ w e many. let old = o.true_entries w e in
+        omega (
+          arith,
+          total-set (evidence w e) s.views id m.0 m.0 me,
+          old (omega (arith, many, total-set (claims w e) s.views id m.0 m.0 me)),
+        );
+    even_moves = λ q. omega (
+      arith,
+      total-set (moves q) s.views id m.0 m.0 me,
+      total-set (settled q) s.views id m.0 m.0 me,
+      o.even_moves q,
+    );
+    named_moves = λ q. omega (
+      arith,
+      total-set (in_progress q) s.views id m.0 m.0 me,
+      total-set (underway q) s.views id m.0 m.0 me,
+      o.named_moves q,
+    );
+    own_chunks = omega (arith, total-set foreign s.views id m.0 m.0 me, o.own_chunks);
+    own_labels = labelled_set s.views id m.0 m.0 me o.own_labels (labelled_at s.views id m.0 me o.own_labels);
+    one_worker = λ w. omega (arith, total-set (workers_of w) s.views id m.0 m.0 me, o.one_worker w);
+    one_lane = λ w. omega (arith, total-set (lanes_of w) s.views id m.0 m.0 me, o.one_lane w);
+    orderly = omega (arith, total-set untidy s.views id m.0 m.0 me, o.orderly);
+  },
+  goes n (tally s.views c) (amid key s o c id m.0 me),
+)
+
 pub same_sound : (limit n x : ℕ) (t u : Measure → ℕ) → ((y : Measure) → u y ≡ t y) → Sound limit n x t
     → Sound limit n x u
 same_sound limit n x t u e o = subst (Sound limit n x) (λ i y. sym (e y) i) o
@@ -226,7 +277,8 @@ AddsUp f v left right = f left + f right ≡ f v
 pub splits : (key : Config) (id : ℕ) (v left right : View)
     → ((c : ℕ) (x : Measure) → AddsUp (weight c x) v left right)
     → ((n : ℕ) (e : AppliedBump) → AddsUp (claims n e) v left right × AddsUp (evidence n e) v left right)
-    → ((q : Query) → AddsUp (moves q) v left right × AddsUp (settled q) v left right) → AddsUp foreign v left right
+    → ((q : Query) → AddsUp (moves q) v left right × AddsUp (settled q) v left right
+    × AddsUp (in_progress q) v left right × AddsUp (underway q) v left right) → AddsUp foreign v left right
     → (HaveLabels v.classes → HaveLabels left.classes × HaveLabels right.classes)
     → ((n : ℕ) → AddsUp (workers_of n) v left right) → ((n : ℕ) → AddsUp (lanes_of n) v left right)
     → AddsUp untidy v left right → Splits (Kept key) id v left right
@@ -245,6 +297,7 @@ splits key id v left right even entries rides owned labels workers lanes tidy s 
         old (omega (arith, keep (claims n e) (entries n e).0)),
       );
   even_moves = λ q. omega (arith, keep (moves q) (rides q).0, keep (settled q) (rides q).1, o.even_moves q);
+  named_moves = λ q. omega (arith, keep (in_progress q) (rides q).2, keep (underway q) (rides q).3, o.named_moves q);
   own_chunks = omega (arith, keep foreign owned, o.own_chunks);
   own_labels = let have = labels (labelled_at s.views id v me o.own_labels) in labelled_push (set s.views id left)
       right (labelled_set s.views id v left me o.own_labels have.0) have.1;
@@ -261,7 +314,9 @@ pub joins : (key : Config) (id : ℕ) (v : View) (other : ℕ) (w both spent : V
     → ((n : ℕ) (e : AppliedBump) → (claims n e both + claims n e spent ≡ claims n e v + claims n e w)
     × (evidence n e both + evidence n e spent ≡ evidence n e v + evidence n e w))
     → ((q : Query) → (moves q both + moves q spent ≡ moves q v + moves q w)
-    × (settled q both + settled q spent ≡ settled q v + settled q w)) → foreign both + foreign spent ≡ foreign v
+    × (settled q both + settled q spent ≡ settled q v + settled q w)
+    × (in_progress q both + in_progress q spent ≡ in_progress q v + in_progress q w)
+    × (underway q both + underway q spent ≡ underway q v + underway q w)) → foreign both + foreign spent ≡ foreign v
     + foreign w → (HaveLabels v.classes → HaveLabels w.classes → HaveLabels both.classes
     × HaveLabels spent.classes)
     → ((n : ℕ) → workers_of n both + workers_of n spent ≡ workers_of n v + workers_of n w)
@@ -277,6 +332,7 @@ joins key id v other w both spent even entries rides owned labels workers lanes 
   true_entries = λ n e many. let old = o.true_entries n e in
       omega (arith, keep (evidence n e) (entries n e).1, old (omega (arith, keep (claims n e) (entries n e).0)));
   even_moves = λ q. omega (arith, keep (moves q) (rides q).0, keep (settled q) (rides q).1, o.even_moves q);
+  named_moves = λ q. omega (arith, keep (in_progress q) (rides q).2, keep (underway q) (rides q).3, o.named_moves q);
   own_chunks = omega (arith, keep foreign owned, o.own_chunks);
   own_labels = let have = labels (labelled_at s.views id v me o.own_labels)
       (labelled_beside s.views id other both w apart them o.own_labels) in labelled_set (set s.views id both) other w

@@ -52,6 +52,7 @@ module _ (c y : ℕ) (k : ClassPart) (own : owns c k ≡ true) where
   label_backed unused = record {
     backs = λ wk d. (by wk d d.outcome, λ more. absurd (omega arith));
     even = λ q. omega arith;
+    progress = λ q. omega arith;
     own = omega arith;
     labels = λ have. (put_label_labels c y k have.0 unused, tt);
     workers = λ w. refl;

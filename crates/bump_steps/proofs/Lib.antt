@@ -1,3 +1,4 @@
+pub mod Agreeing
 pub mod Decoded
 pub mod Sums
 pub mod Once

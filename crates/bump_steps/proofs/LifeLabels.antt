@@ -1,5 +1,5 @@
 -- Labels of lives: what a class's part has of them, it has after each step of its seat; and so have all parts.
-use Rattle.std.proofs.Common.{◌≡◌, ◌≢◌, ℕ, zero, suc, ◌+◌, ◌<◌, ◌&&◌, eqb, cond, Bool, true, false, List, [], ◌∷◌, ◌++◌, set, Some, None, if◌then◌else◌, refl, sym, ap, ap₂, ◌∙◌, subst, arith, eq-eqb, ne_eqb, eqb-true}
+use Rattle.std.proofs.Common.{◌≡◌, ◌≢◌, ℕ, zero, suc, ◌+◌, ◌<◌, ◌&&◌, eqb, cond, Bool, true, false, List, [], ◌∷◌, ◌++◌, set, Option, Some, None, if◌then◌else◌, refl, sym, ap, ap₂, ◌∙◌, subst, arith, eq-eqb, ne_eqb, eqb-true}
 use Rattle.std.proofs.lemmas.Bool.{and_from}
 use mathlib.Core.Logic.{dite}
 use mathlib.Core.Option.{some, some-injective, some-ne-none}
@@ -8,15 +8,18 @@ use lib.ListN.{get_elem?}
 use Rattle.bump_rules.specs.declared.items.ItemId.{ItemId}
 use Rattle.bump_rules.specs.declared.places.Place.TheVariants.{Unused}
 use Rattle.bump_rules.specs.declared.history.Change.{Change}
-use Rattle.bump_rules.specs.declared.history.Change.TheVariants as change
+use Rattle.bump_rules.specs.declared.places.Start.{Start}
 use Rattle.bump_rules.specs.declared.labels.LabelStep.TheVariants.{Linked}
 use Rattle.bump_rules.specs.History.{Standing, subject, target}
+use Rattle.bump_rules.specs.Starts.{begun_change}
+use Rattle.bump_rules.proofs.Beginnings.{begun_subject}
 use Rattle.bump_rules.specs.Labels.{label_of_life, label_word}
 use Rattle.bump_rules.specs.Lawful.{IsUsed}
 use Rattle.bump_rules.specs.Lives.{life, is_same}
 use Rattle.bump_rules.proofs.Replay.{standing_push}
 use Rattle.bump_steps.specs.declared.views.OwnStep.{OwnStep}
 use Rattle.bump_steps.specs.declared.views.ClassPart.{ClassPart}
+use Rattle.bump_steps.specs.declared.views.Ride.{Ride}
 use Rattle.bump_steps.specs.declared.views.View.{View}
 use Rattle.bump_steps.specs.Views.{standing, last_label, HasLabels, HaveLabels, AreLabelled}
 use Rattle.bump_steps.specs.Plays.{behind, first_of, on_first}
@@ -78,6 +81,10 @@ labelled_push (x ∷ xs) w all have = (all.0, labelled_push xs w all.1 have)
 pub noted_labels : (k : ClassPart) (steps : List OwnStep) → HasLabels k → HasLabels (record k { steps = steps })
 noted_labels k steps p = record { labelled = p.labelled; unbegun = p.unbegun }
 
+-- an application is named, or no more
+pub named_labels : (k : ClassPart) (named : Option Ride) → HasLabels k → HasLabels (record k { applying = named })
+named_labels k named p = record { labelled = p.labelled; unbegun = p.unbegun }
+
 -- an entry that begins no life, in the life that its chunk has, and that leaves no free chunk where chunks are used
 module _ (k : ClassPart) (e : Change) (steps : List OwnStep) (p : HasLabels k)
     (same_life : (subject e).generation ≡ (standing k (subject e).chunk).1)
@@ -130,21 +137,29 @@ other_of_chunk : (d c g j : ℕ) → d ≢ c → is_same (life d g) (life c j) �
 other_of_chunk d c g j ne = ap (λ (b : Bool). b && eqb g j) (ne_eqb d c ne)
 
 -- the next life of a chunk begins
-module _ (c g n : ℕ) (k : ClassPart) (p : HasLabels k) (next : g ≡ (standing k c).1 + 1) where
+module _ (a : Start) (c g n : ℕ) (k : ClassPart) (p : HasLabels k) (next : g ≡ (standing k c).1 + 1) where
   abbrev pub new_life : ItemId
   new_life = life c g
 
   abbrev pub opened : ClassPart
-  opened = class_after_link c g n k
+  opened = class_after_link a c g n k
+
+  -- its entry
+  abbrev entry : Change
+  entry = begun_change a new_life
+
+  -- where it leaves a chunk
+  stands : (d : ℕ) → standing opened d ≡ cond (eqb c d) (target entry, g) (standing k d)
+  stands d = standing_push d (Unused, k.fresh) k.history entry
+      ∙ ap (λ (l : ItemId). cond (eqb l.chunk d) (target entry, l.generation) (standing k d)) (begun_subject a new_life)
 
   -- it stands so, and the others where they stood
-  stands_here : standing opened c ≡ (target (change.Linked new_life), g)
-  stands_here = standing_push c (Unused, k.fresh) k.history (change.Linked new_life)
-      ∙ ap (λ b. cond b (target (change.Linked new_life), g) (standing k c)) (eq-eqb c c refl)
+  stands_here : standing opened c ≡ (target entry, g)
+  stands_here = stands c ∙ ap (λ b. cond b (target entry, g) (standing k c)) (eq-eqb c c refl)
 
   stands_there : (d : ℕ) → d ≢ c → standing opened d ≡ standing k d
-  stands_there d ne = standing_push d (Unused, k.fresh) k.history (change.Linked new_life)
-      ∙ ap (λ b. cond b (target (change.Linked new_life), g) (standing k d)) (ne_eqb c d (λ q. ne (sym q)))
+  stands_there d ne = stands d
+      ∙ ap (λ b. cond b (target entry, g) (standing k d)) (ne_eqb c d (λ q. ne (sym q)))
 
   -- it has the label that was stored last for the chunk
   label_here : label_of_life new_life 0 (k.labels ++ Linked new_life ∷ []) ≡ Some

@@ -12,7 +12,7 @@ use Rattle.bump_rules.specs.Lives.{is_same}
 use Rattle.bump_rules.specs.Totals.{how_many}
 use Rattle.bump_steps.specs.declared.views.Kind.TheVariants as kind
 use Rattle.bump_steps.specs.declared.views.View.{View}
-use Rattle.bump_steps.specs.Views.{held, named, saw, owners, strays, mislabels, misreads, owns, standing, last_label, shown_by, shows_time_only, of_owner, foreign_in, IsBacked}
+use Rattle.bump_steps.specs.Views.{held, named, saw, owners, strays, mislabels, misreads, owns, standing, last_label, shown_by, shows_time_only, of_owner, names_move, foreign_in, IsBacked}
 use Rattle.bump_steps.specs.Rule.{chunks, Kept}
 use Rattle.bump_steps.specs.Plays.{Sat, on_chunk, step_of}
 use Rattle.bump_steps.specs.Lives.{class_after_load, on_class, unlisted_load_tells, load_tells}
@@ -40,6 +40,8 @@ module _ (c n : ℕ) (v : View) where
     backs = λ wk e. (by wk e e.outcome, λ more. absurd (omega arith));
     even = λ q. let same_moves = on_first_total (λ k. how_many (is_move_for q.test q.worker q.number) k.history)
         (class_after_load c n) (λ k. refl) v.classes in omega arith;
+    progress = λ q. let same = on_first_total (λ k. names_move q k.applying) (class_after_load c n) (λ k. refl)
+        v.classes in omega arith;
     own = let same = on_first_total foreign_in (class_after_load c n) (λ k. refl) v.classes in omega arith;
     labels = have_on_first (class_after_load c n) (λ k p. noted_labels k (class_after_load c n k).steps p) v.classes;
     workers = λ w. refl;
@@ -89,6 +91,7 @@ module _ (key : Config) (slots id : ℕ) (m : Sat) (c : ℕ) (near : c < chunks 
     record {
       backs = λ wk e. (omega arith, λ more. absurd (omega arith));
       even = λ q. omega arith;
+      progress = λ q. omega arith;
       own = omega arith;
       labels = λ have. have;
       workers = λ w. refl;

@@ -47,6 +47,7 @@ pub worker_backed : (f : WorkerPart → WorkerPart) → ((p : WorkerPart) → (f
 worker_backed f same v = record {
   backs = λ wk e. (by wk e e.outcome, λ more. absurd (omega arith));
   even = λ q. omega arith;
+  progress = λ q. omega arith;
   own = omega arith;
   labels = λ have. have;
   workers = λ n. on_first_total (λ w. cond (w.worker == n) 1 0) f (λ p. ap (λ (w : ℕ). cond (w == n) 1 0) (same p))

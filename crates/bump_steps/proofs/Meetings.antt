@@ -1,4 +1,5 @@
--- A hold meets its class: each label that it read is the one that the class has for the chunk.
+-- A hold meets its class: each label that it read is the one that the class has for the chunk. And a lane meets a class:
+-- what both have of moves for bumps agrees.
 use Rattle.std.proofs.Common.{◌≡◌, ℕ, ◌+◌, ◌*◌, ◌<◌, ◌&&◌, eqb, not, Bool, true, false, refl, sym, ap, ◌∙◌, subst, arith, eqb-true}
 use mathlib.Core.Option.{none}
 use native.Mathlib.Nat.{one-mul}
@@ -14,8 +15,8 @@ use Rattle.bump_steps.specs.Views.{Measure, held, mislabels, misreads, misread, 
 use Rattle.bump_steps.specs.Rule.{Sound, chunks, Kept}
 use Rattle.bump_steps.specs.Plays.{Sat, on_chunk, Told, Stands}
 use Rattle.bump_steps.proofs.Told.{tells, stands_alone}
-use Rattle.bump_steps.specs.Meetings.{load_to_meet_tells, Meets}
-use Rattle.bump_steps.proofs.Frame.{Amid, on_label, same_sound}
+use Rattle.bump_steps.specs.Meetings.{load_to_meet_tells, load_to_meet_lane_tells, Meets}
+use Rattle.bump_steps.proofs.Frame.{Amid, on_label, on_spare, same_sound}
 use Rattle.bump_steps.proofs.StepLemmas.{one_life, label_chunk_is}
 
 equal_where : (own b : Bool) → own ≡ true → bit (own && not b) ≡ 0 → b ≡ true
@@ -74,6 +75,7 @@ may_load_to_meet key slots id m c near =
       record {
         backs = λ n e. (omega arith, λ more. absurd (omega arith));
         even = λ q. omega arith;
+        progress = λ q. omega arith;
         own = omega arith;
         labels = λ have. have;
         workers = λ w. refl;
@@ -82,3 +84,9 @@ may_load_to_meet key slots id m c near =
       },
       (refl, met_labels c key.refs_limit n x m.0 t o a),
     )))
+
+-- a lane that is joined to a class's seat
+pub may_load_to_meet_lane : (key : Config) (slots id : ℕ) (m : Sat) → Allows (Kept key) slots id m 0 (λ x. x)
+    (load_to_meet_lane_tells (step slots 0 0 0 none) m)
+may_load_to_meet_lane key slots id m = on_spare key slots id m 0 (load_to_meet_lane_tells (step slots 0 0 0 none) m)
+    (λ n t a. (refl, record { once = a.once; own = a.own; told = a.told }))

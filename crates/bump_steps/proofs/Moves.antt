@@ -11,7 +11,7 @@ use Rattle.bump_rules.specs.History.{is_standing}
 use Rattle.bump_rules.specs.Entries.{is_move_for, is_unlink_of}
 use Rattle.bump_rules.proofs.Updates.{total_append}
 use Rattle.bump_steps.specs.declared.views.View.{View}
-use Rattle.bump_steps.specs.Views.{Measure, held, named, saw, owners, strays, mislabels, misreads, misread, refers, in_hand, is_fetch_of, bump_aboard, owns, standing, last_label, weight, shown_by, claimed_in, settled_in, untidy_in, shows_time_only, of_owner, foreign_in, HaveLabels}
+use Rattle.bump_steps.specs.Views.{Measure, held, named, saw, owners, strays, mislabels, misreads, misread, refers, in_hand, is_fetch_of, bump_aboard, owns, standing, last_label, weight, shown_by, claimed_in, settled_in, names_move, underway_in, untidy_in, shows_time_only, of_owner, foreign_in, HaveLabels}
 use Rattle.bump_steps.specs.Rule.{blank, Kept}
 use Rattle.bump_steps.specs.Cuts.{joined, without_lanes, lanes_only, without_holds, holds_only, without_class, class_only, without_worker, worker_only, without_lane, lane_only}
 use Rattle.bump_steps.specs.Plays.{behind, first_of}
@@ -67,7 +67,12 @@ module _ (v left right : View) (p : Parted v left right) where
       → Splits (Kept key) id v left right
   parts key id labels = splits key id v left right parted_counts
       (λ n a. (p.lanes (claimed_in n a), parted_evidence n a a.outcome))
-      (λ q. (p.classes (λ k. how_many (is_move_for q.test q.worker q.number) k.history), p.lanes (settled_in q)))
+      (λ q. (
+        p.classes (λ k. how_many (is_move_for q.test q.worker q.number) k.history),
+        p.lanes (settled_in q),
+        p.classes (λ k. names_move q k.applying),
+        p.lanes (underway_in q),
+      ))
       (p.classes foreign_in) labels (λ n. p.workers (λ w. cond (eqb w.worker n) 1 0))
       (λ n. p.lanes (λ l. cond (eqb l.worker n) 1 0)) (p.lanes untidy_in)
 
@@ -148,6 +153,8 @@ both_join key id v other w = joins key id v other w (joined v w) blank
             w.classes,
       ),
       omega (arith, total_append (settled_in q) v.lanes w.lanes),
+      omega (arith, total_append (λ k. names_move q k.applying) v.classes w.classes),
+      omega (arith, total_append (underway_in q) v.lanes w.lanes),
     ))
     (omega (arith, total_append foreign_in v.classes w.classes))
     (λ mine theirs. (have_both v.classes w.classes mine theirs, tt))

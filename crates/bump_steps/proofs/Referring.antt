@@ -33,7 +33,7 @@ use Rattle.bump_steps.specs.Plays.{Sat, on_chunk, behind, on_first, step_of}
 use Rattle.bump_steps.specs.Marks.{noted}
 use Rattle.bump_steps.specs.References.{view_after_load, load_to_take_tells, new_hold, view_after_take, take_tells, HasHold, view_after_release, release_of_hold_tells, hold_after_label_load, view_after_label_load, IsLabel, label_load_tells, load_without_seat_tells}
 use Rattle.bump_steps.specs.Rule.{Sound, chunks, Kept, blank, HasFittingLimit}
-use Rattle.bump_steps.specs.Views.{Measure, held, named, saw, owners, strays, mislabels, misreads, is_fetch, is_fetch_of, in_hand, misread, differs, weight, tally, claims, evidence, shown_by, moves, settled, foreign, workers_of, lanes_of, untidy, IsBacked}
+use Rattle.bump_steps.specs.Views.{Measure, held, named, saw, owners, strays, mislabels, misreads, is_fetch, is_fetch_of, in_hand, misread, differs, weight, tally, claims, evidence, shown_by, moves, settled, in_progress, underway, foreign, workers_of, lanes_of, untidy, IsBacked}
 use Rattle.bump_steps.proofs.LifeLabels.{labelled_push}
 use Rattle.bump_steps.proofs.Frame.{Same, Amid, Reaches, on_label, same_sound}
 use Rattle.bump_steps.proofs.StepLemmas.{at_chunk, label_chunk_is, on_first_total, same_counts, one_life, other_life, other_chunk}
@@ -85,6 +85,7 @@ quiet : (v : View) (ws : List WorkerPart) (hs : List HoldPart) (gs : List GivenB
 quiet v ws hs gs same = record {
   backs = λ wk a. (by wk a a.outcome, λ more. absurd (omega arith));
   even = λ q. omega arith;
+  progress = λ q. omega arith;
   own = omega arith;
   labels = λ have. have;
   workers = same;
@@ -421,6 +422,12 @@ may_load_without_seat key slots c first near s o count small = let e = o.each c 
       total_push (moves q) s.views blank,
       total_push (settled q) s.views blank,
       o.even_moves q,
+    );
+    named_moves = λ q. omega (
+      arith,
+      total_push (in_progress q) s.views blank,
+      total_push (underway q) s.views blank,
+      o.named_moves q,
     );
     own_chunks = omega (arith, total_push foreign s.views blank, o.own_chunks);
     own_labels = labelled_push s.views blank o.own_labels tt;

@@ -55,7 +55,7 @@ parted_evidence v n a outcome.TimeOnly = omega arith
 -- the rule doesn't notice that a bump is sent off
 pub ride_splits : (key : Config) (id : ℕ) (v : View) → Splits (Kept key) id v (without_ride v) (ride_only v)
 ride_splits key id v = splits key id v (without_ride v) (ride_only v) (parted v)
-    (λ n a. (omega arith, parted_evidence v n a a.outcome)) (λ q. (omega arith, omega arith)) (omega arith)
+    (λ n a. (omega arith, parted_evidence v n a a.outcome)) (λ q. (omega arith, omega arith, omega arith, omega arith)) (omega arith)
     (λ have. (have, tt)) (λ n. omega (
       arith,
       on_first_total (λ w. cond (w.worker == n) 1 0) sent (λ w. refl)
@@ -89,5 +89,5 @@ module _ (p : WorkerPart) (h : HoldPart) (r : Ride) where
   pub ride_joins : (key : Config) (id other : ℕ) → Joins (Kept key) id idle other travels (return_both idle travels)
       blank
   ride_joins key id other = joins key id idle other travels (return_both idle travels) blank even
-      (λ n a. (refl, same_evidence n a a.outcome)) (λ q. (refl, refl)) refl (λ have more. (tt, tt)) (λ n. refl)
+      (λ n a. (refl, same_evidence n a a.outcome)) (λ q. (refl, refl, refl, refl)) refl (λ have more. (tt, tt)) (λ n. refl)
       (λ n. refl) refl

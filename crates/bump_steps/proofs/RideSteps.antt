@@ -77,6 +77,7 @@ module _ (p : WorkerPart) (q : HoldPart) (l : ItemId) where
     quiet = record {
       backs = λ w e. (by w e e.outcome, λ more. absurd (omega arith));
       even = λ y. omega arith;
+      progress = λ y. omega arith;
       own =
           omega arith;
       labels = λ have. have;

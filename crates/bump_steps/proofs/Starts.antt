@@ -1,5 +1,5 @@
 -- The start: the rule holds of fresh words and the first seat.
-use Rattle.std.proofs.Common.{◌≡◌, ℕ, zero, suc, cond, ◌+◌, ◌-◌, ◌^◌, ◌<◌, ◌≤◌, ◌&&◌, eqb, ltb, leb, not, Bool, true, false, List, [], ◌∷◌, length, refl, sym, ap, ap₂, ◌∙◌, subst, arith, eq-eqb, ne_eqb, lt-ltb, le-ltb}
+use Rattle.std.proofs.Common.{◌≡◌, ℕ, zero, suc, cond, ◌+◌, ◌-◌, ◌^◌, ◌<◌, ◌≤◌, ◌&&◌, eqb, ltb, leb, not, Bool, true, false, List, [], ◌∷◌, length, None, refl, sym, ap, ap₂, ◌∙◌, subst, arith, eq-eqb, ne_eqb, lt-ltb, le-ltb}
 use Rattle.std.proofs.lemmas.Bool.{le-leb, lt-leb}
 use mathlib.Core.Logic.{dite}
 use native.Mathlib.Decide.{dec_le, ℕ_discrete}
@@ -20,7 +20,7 @@ use Rattle.bump_rules.specs.History.{is_standing}
 use Rattle.bump_rules.specs.Entries.{is_move_for}
 use Rattle.bump_rules.proofs.Standings.{standing_same}
 use Rattle.bump_word.specs.Layout.{generation_width}
-use Rattle.bump_steps.specs.Views.{owns, standing, last_label, held, named, saw, weight, refers, in_hand, is_fetch_of, bump_aboard, claimed_in, settled_in, foreign_in, HaveLabels, untidy_in}
+use Rattle.bump_steps.specs.Views.{owns, standing, last_label, held, named, saw, weight, refers, in_hand, is_fetch_of, bump_aboard, claimed_in, settled_in, names_move, underway_in, foreign_in, HaveLabels, untidy_in}
 use Rattle.bump_steps.specs.Rule.{chunks, Kept, class_parts, worker_part, worker_parts, lane_part, lane_parts, opened, AreFresh, HasFittingLimit}
 
 -- there are chunks where there are classes
@@ -37,6 +37,7 @@ new_class fresh i first n = record {
   fresh = fresh;
   history = [];
   labels = [];
+  applying = None;
   steps = [];
 }
 
@@ -144,6 +145,7 @@ no_classes : (f : ClassPart → ℕ)
       fresh = g;
       history = [];
       labels = [];
+      applying = None;
       steps =
           [];
     }) ≡ 0) → (g i at : ℕ) (ks : List ClassConfig) → total f (class_parts g i at ks) ≡ 0
@@ -244,6 +246,11 @@ starts key words fresh limits generations = record {
         (λ g i at n. refl) (key.first_generation - 1) 0 0 key.classes,
     no_lanes (settled_in q)
         (λ w. cond_none (eqb w q.worker)) 0 key.workers,
+  );
+  named_moves = λ q. omega (
+    arith,
+    no_classes (λ k. names_move q k.applying) (λ g i at n. refl) (key.first_generation - 1) 0 0 key.classes,
+    no_lanes (underway_in q) (λ w. cond_none (eqb w q.worker)) 0 key.workers,
   );
   own_chunks = omega (arith, no_classes foreign_in (λ g i at n. refl) (key.first_generation - 1) 0 0 key.classes);
   own_labels = (fresh_labels (key.first_generation - 1) 0 0 key.classes, tt);

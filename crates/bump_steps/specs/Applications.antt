@@ -22,6 +22,7 @@ use Rattle.bump_steps.specs.declared.views.Kind.{Kind}
 use Rattle.bump_steps.specs.declared.views.Kind.TheVariants as kind
 use Rattle.bump_steps.specs.declared.views.ClassPart.{ClassPart}
 use Rattle.bump_steps.specs.declared.views.LanePart.{LanePart}
+use Rattle.bump_steps.specs.declared.views.Ride.{Ride}
 use Rattle.bump_steps.specs.declared.views.View.{View}
 use Rattle.bump_steps.specs.Views.{bump_aboard, active_clear, owns, standing, evidence}
 use Rattle.bump_word.specs.Layout.{active_first}
@@ -100,10 +101,24 @@ change_of_move item from to (this_lane ∷ ls) = change_of_move_for item from to
 abbrev pub life_in : ClassPart → ℕ → ItemId
 life_in class chunk = life chunk (standing class chunk).1
 
+-- the application in progress of a lane at this stage: one that is past its move
+abbrev pub application_of : ℕ → Lane → Option Ride
+application_of worker lane.Empty = None
+application_of worker (lane.Carrying bump) = None
+application_of worker (lane.Tried bump) = None
+application_of worker (lane.Cleared bump found) = None
+application_of worker (lane.Moved bump) = Some (record { worker = worker; number = bump.number; life = bump.life })
+
+-- a class names it from the move on; a pull names nothing new
+abbrev pub applying_after_move : List LanePart → Option Ride → Option Ride
+applying_after_move [] named = named
+applying_after_move (this_lane ∷ ls) named = application_of this_lane.worker (stage_after_move this_lane.stage)
+
 abbrev pub class_after_move : Segment → Segment → ℕ → ℕ → List LanePart → ClassPart → ClassPart
 class_after_move from to chunk word ls class =
     record class {
       history = class.history ++ change_of_move (life_in class chunk) from to ls ∷ [];
+      applying = applying_after_move ls class.applying;
       steps =
           class.steps ++ step_of kind.Move chunk word (for_first ls) ∷ [];
     }
@@ -147,9 +162,16 @@ lane_after_alight ending chunk word this_lane =
           ∷ [];
     }
 
+-- no application is in progress
+abbrev pub class_at_rest : ClassPart → ClassPart
+class_at_rest class = record class { applying = None }
+
 abbrev pub view_after_alight : Outcome → ℕ → ℕ → View → View
 view_after_alight ending chunk word view =
-    record view { lanes = on_first (lane_after_alight ending chunk word) view.lanes }
+    record view {
+      classes = on_first class_at_rest view.classes;
+      lanes = on_first (lane_after_alight ending chunk word) view.lanes;
+    }
 
 abbrev pub alight_tells : Outcome → Tells
 alight_tells ending chunk operand before word after =
@@ -183,6 +205,7 @@ pub record MovesForBump (from to : Segment) (here : ℕ) (seat : View) (class : 
     (bump : Bump) : Type 0 where
   pub view : seat ≡ applying class this_lane
   pub stage : this_lane.stage ≡ lane.Cleared bump true
+  pub named : class.applying ≡ None
   pub chunk : bump.life.chunk ≡ here
   pub stands : StandsIn from here class
   pub from_cold : from ≡ Cold
@@ -204,6 +227,7 @@ pub record Alights (here : ℕ) (ending : Outcome) (seat : View) (class : ClassP
   pub aboard : bump_aboard this_lane.stage ≡ Some bump
   pub chunk : bump.life.chunk ≡ here
   pub past : is_past_move this_lane.stage ≡ is_moved ending
+  pub named : class.applying ≡ application_of this_lane.worker this_lane.stage
   pub proof : 0 < evidence this_lane.worker (applied_bump bump ending) (applying class this_lane)
 
 abbrev pub MayAlight : ℕ → Outcome → View → Type 0

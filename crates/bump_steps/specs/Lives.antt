@@ -3,13 +3,18 @@ use Rattle.std.specs.Prelude.{◌≡◌, ℕ, ◌+◌, ◌/◌, ◌%◌, ◌^◌
 use Rattle.atomic_table.specs.Table.{Step}
 use Rattle.bump_rules.specs.declared.places.Place.{Place}
 use Rattle.bump_rules.specs.declared.places.Place.TheVariants.{Dying, Unused}
+use Rattle.bump_rules.specs.declared.places.Segment.TheVariants as segment
+use Rattle.bump_rules.specs.declared.places.Start.{Start}
+use Rattle.bump_rules.specs.declared.places.Start.TheVariants as start
 use Rattle.bump_rules.specs.declared.history.Change.TheVariants as change
 use Rattle.bump_rules.specs.declared.labels.LabelStep.TheVariants.{Stored, Linked}
 use Rattle.bump_rules.specs.History.{freed_change}
+use Rattle.bump_rules.specs.Starts.{begun_change}
 use Rattle.bump_rules.specs.Lawful.{bit}
 use Rattle.bump_rules.specs.Lives.{life}
 use Rattle.bump_rules.specs.Places.{is_segment_place}
 use Rattle.bump_word.specs.Layout.{refs_width, generation_first}
+use Rattle.bump_word.specs.Words.{number_of, segment_bits}
 use Rattle.bump_steps.specs.declared.views.Empty.{Empty}
 use Rattle.bump_steps.specs.declared.views.Kind.TheVariants as kind
 use Rattle.bump_steps.specs.declared.views.ClassPart.{ClassPart}
@@ -35,10 +40,10 @@ class_after_put_label chunk label class = record class {
 }
 
 -- after the store of the head of a new life, which is this number
-abbrev pub class_after_link : ℕ → ℕ → ℕ → ClassPart → ClassPart
-class_after_link chunk generation word class =
+abbrev pub class_after_link : Start → ℕ → ℕ → ℕ → ClassPart → ClassPart
+class_after_link start chunk generation word class =
     record class {
-      history = class.history ++ change.Linked (life chunk generation) ∷ [];
+      history = class.history ++ begun_change start (life chunk generation) ∷ [];
       labels =
           class.labels ++ Linked (life chunk generation) ∷ [];
       steps = class.steps ++ step_of kind.Link chunk word None
@@ -115,10 +120,17 @@ put_label_tells st before word after = after ≡ (
   before.1,
 )
 
--- the store of a new life's head: the life's generation is the one in it
+-- where a life begins, by the segment in its head word
+abbrev pub start_in : ℕ → Start
+start_in word = if segment_bits word == number_of segment.Temp then start.Temp else start.Hot
+
+-- the store of a new life's head: the life begins in the segment that is in it, and its generation is the one in it
 abbrev pub link_tells : Step Empty → Sat → ℕ → Sat → Type 0
 link_tells st before word after =
-    after ≡ (on_class (class_after_link (chunk_of st.word) (word / 2 ^ generation_first) word) before.0, before.1)
+    after ≡ (
+      on_class (class_after_link (start_in word) (chunk_of st.word) (word / 2 ^ generation_first) word) before.0,
+      before.1,
+    )
 
 -- an unlinking: a linked chunk has at least the reference of its link
 abbrev pub unlink_tells : Tells

@@ -1,4 +1,4 @@
--- A hold meets its class.
+-- A hold meets its class, and a lane meets a class.
 use Rattle.std.specs.Prelude.{◌≡◌, ℕ, true, [], ◌∷◌}
 use Rattle.bump_rules.specs.Lawful.{IsUsed}
 use Rattle.bump_rules.specs.Totals.{total}
@@ -6,7 +6,9 @@ use Rattle.bump_steps.specs.declared.views.ClassPart.{ClassPart}
 use Rattle.bump_steps.specs.declared.views.HoldPart.{HoldPart}
 use Rattle.bump_steps.specs.declared.views.View.{View}
 use Rattle.bump_steps.specs.Views.{owns, standing, last_label, differs}
-use Rattle.bump_steps.specs.Plays.{Tells}
+use Rattle.atomic_table.specs.Table.{Step}
+use Rattle.bump_steps.specs.declared.views.Empty.{Empty}
+use Rattle.bump_steps.specs.Plays.{Sat, Tells, TellsOfMoves}
 
 -- what a class and a hold of one of its chunks know, where x is the label word of the chunk
 pub record Met (class : ClassPart) (hold : HoldPart) (word : ℕ) : Type 0 where
@@ -24,3 +26,7 @@ Meets chunk view label = (k : ClassPart) (h : HoldPart) → view.classes ≡ k �
 
 abbrev pub load_to_meet_tells : Tells
 load_to_meet_tells chunk operand before word after = (after ≡ before) × Meets chunk before.0 word
+
+-- a load that changes nothing, of a class's seat to which a lane is joined: what both have of moves for bumps agrees
+abbrev pub load_to_meet_lane_tells : Step Empty → Sat → ℕ → Sat → Type 0
+load_to_meet_lane_tells st before word after = (after ≡ before) × TellsOfMoves before.0

@@ -65,6 +65,12 @@ pub record Told (chunk : ℕ) (view : View) (head : Head) : Type 0 where
   -- they have as many moves of own items for a bump whose lane is in the view as this lane tells
   pub told : (q : Query) → IsOwn q.test view → 0 < lanes_of q.worker view → moves q view ≡ settled q view
 
+-- What a view tells of moves for bumps, whatever head is found: as in Told.
+pub record TellsOfMoves (view : View) : Type 0 where
+  pub once : (w n : ℕ) → moves (every w n) view ≤ 1
+  pub own : foreign view ≡ 0
+  pub told : (q : Query) → IsOwn q.test view → 0 < lanes_of q.worker view → moves q view ≡ settled q view
+
 -- Each step is noted in the list of a part: a seat that has none makes no such step. The seat has the part of a worker,
 -- or of a class.
 abbrev pub HasWorker : View → Type 0

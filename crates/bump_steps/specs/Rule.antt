@@ -1,5 +1,5 @@
 -- The rule: what holds of the words and of all views between any two atomic steps of all threads.
-use Rattle.std.specs.Prelude.{◌≡◌, ℕ, zero, suc, ◌+◌, ◌-◌, ◌*◌, ◌^◌, ◌<◌, ◌≤◌, List, [], ◌∷◌, length, slice_index}
+use Rattle.std.specs.Prelude.{◌≡◌, ℕ, zero, suc, ◌+◌, ◌-◌, ◌*◌, ◌^◌, ◌<◌, ◌≤◌, List, [], ◌∷◌, length, slice_index, None}
 use Rattle.atomic_table.specs.Table.{State}
 use Rattle.bump_rules.specs.declared.places.Place.{Place}
 use Rattle.bump_rules.specs.declared.items.Head.{Head}
@@ -19,7 +19,7 @@ use Rattle.bump_steps.specs.declared.views.ClassPart.{ClassPart}
 use Rattle.bump_steps.specs.declared.views.LanePart.{LanePart}
 use Rattle.bump_steps.specs.declared.views.WorkerPart.{WorkerPart}
 use Rattle.bump_steps.specs.declared.views.View.{View}
-use Rattle.bump_steps.specs.Views.{Measure, held, named, saw, owners, strays, mislabels, misreads, weight, tally, claims, evidence, Query, moves, settled, foreign, AreLabelled, workers_of, lanes_of, untidy}
+use Rattle.bump_steps.specs.Views.{Measure, held, named, saw, owners, strays, mislabels, misreads, weight, tally, claims, evidence, Query, moves, settled, in_progress, underway, foreign, AreLabelled, workers_of, lanes_of, untidy}
 
 -- A chunk is sound: n is its head word, x its label word, and t what all views together count of it.
 pub record Sound (limit word label : ℕ) (tally_of : Measure → ℕ) : Type 0 where
@@ -62,6 +62,8 @@ pub record Kept (key : Config) (state : State Empty View) : Type 0 where
       → 0 < total (evidence w a) state.views
   -- each move for a bump is told by one entry of a lane, or is in progress there
   pub even_moves : (q : Query) → total (moves q) state.views ≡ total (settled q) state.views
+  -- and a class names it exactly while it is in progress
+  pub named_moves : (q : Query) → total (in_progress q) state.views ≡ total (underway q) state.views
   -- a class's history speaks of its own chunks alone
   pub own_chunks : total foreign state.views ≡ 0
   -- and has the label of each life
@@ -84,6 +86,7 @@ class_parts fresh class first (config ∷ ks) = record {
       fresh;
   history = [];
   labels = [];
+  applying = None;
   steps = [];
 } ∷ class_parts fresh (class + 1) (first + config.chunks) ks
 

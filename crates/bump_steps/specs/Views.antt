@@ -15,7 +15,7 @@ use Rattle.bump_rules.specs.Lives.{life, is_same, one_if, count_of}
 use Rattle.bump_rules.specs.Labels.{label_word, label_of_life}
 use Rattle.bump_rules.specs.Lawful.{IsUsed}
 use Rattle.bump_rules.specs.History.{Standing, standing_in, is_standing, is_between, subject}
-use Rattle.bump_rules.specs.Entries.{is_move_for, is_unlink_of, moves_told}
+use Rattle.bump_rules.specs.Entries.{is_move_for, is_unlink_of, is_told_moved, moving, moves_told}
 use Rattle.bump_word.specs.Layout.{linked_first, active_first, generation_first}
 use Rattle.bump_rules.specs.declared.places.Segment.TheVariants.{Cold}
 use Rattle.bump_word.specs.Words.{number_of, segment_bits}
@@ -205,11 +205,42 @@ settled_in query this_lane = cond (this_lane.worker == query.worker)
 abbrev pub settled : Query → View → ℕ
 settled query view = total (settled_in query) view.lanes
 
+-- 1 where a class names the move for such a bump as its application in progress
+abbrev pub names_move : Query → Option Ride → ℕ
+names_move query None = 0
+names_move query (Some ride) =
+    cond (ride.worker == query.worker) (cond ((ride.number == query.number) && query.test ride.life) 1 0) 0
+
+abbrev pub in_progress : Query → View → ℕ
+in_progress query view = total (λ k. names_move query k.applying) view.classes
+
+-- how often lanes tell of the move for such a bump by an entry
+abbrev pub told_in : Query → LanePart → ℕ
+told_in query this_lane = cond (this_lane.worker == query.worker)
+    (how_many (is_told_moved query.test query.number) this_lane.applied) 0
+
+abbrev pub told_by : Query → View → ℕ
+told_by query view = total (told_in query) view.lanes
+
+-- 1 where a lane has made the move for such a bump, and hasn't told it yet
+abbrev pub underway_in : Query → LanePart → ℕ
+underway_in query this_lane = cond (this_lane.worker == query.worker) (moving query.test query.number this_lane.stage) 0
+
+abbrev pub underway : Query → View → ℕ
+underway query view = total (underway_in query) view.lanes
+
 -- Histories.
 
--- how many entries of the class's history are of a chunk that isn't the class's
+-- 1 where the application that is named is of a chunk outside these bounds
+abbrev pub names_outside : ℕ → ℕ → Option Ride → ℕ
+names_outside first end None = 0
+names_outside first end (Some ride) = cond (is_between first end ride.life.chunk) 0 1
+
+-- how many entries of the class's history are of a chunk that isn't the class's, and whether the application that it
+-- names is
 abbrev pub foreign_in : ClassPart → ℕ
 foreign_in class = how_many (λ e. not (owns (subject e).chunk class)) class.history
+    + names_outside class.first (class.first + class.count) class.applying
 
 abbrev pub foreign : View → ℕ
 foreign view = total foreign_in view.classes
@@ -257,13 +288,14 @@ untidy_in this_lane = cond (in_order 0 this_lane.applied (bump_aboard this_lane.
 abbrev pub untidy : View → ℕ
 untidy view = total untidy_in view.lanes
 
--- A view may become another one: what it adds to the entries is shown by what it has, each move is settled, no entry of
--- a chunk of another class joins a history, lives have their labels, the workers and the lanes stay the same ones, and
+-- A view may become another one: what it adds to the entries is shown by what it has, each move is settled, and named
+-- while it is in progress, no entry of a chunk of another class joins a history, lives have their labels, the workers and the lanes stay the same ones, and
 -- the lanes stay in order.
 pub record IsBacked (before after : View) : Type 0 where
   pub backs : (worker : ℕ) (a : AppliedBump) → (evidence worker a before ≤ evidence worker a after)
       × (claims worker a before < claims worker a after → 0 < evidence worker a after)
   pub even : (q : Query) → moves q after + settled q before ≡ moves q before + settled q after
+  pub progress : (q : Query) → in_progress q after + underway q before ≡ in_progress q before + underway q after
   pub own : foreign after ≤ foreign before
   pub labels : HaveLabels before.classes → HaveLabels after.classes
   pub workers : (n : ℕ) → workers_of n after ≡ workers_of n before

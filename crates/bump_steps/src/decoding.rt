@@ -34,5 +34,8 @@ fn segment_in(word: u64) -> Segment
     if bits == segment_xor(Segment::Hot, Segment::Cold) {
         return Segment::Cold;
     }
+    if bits == segment_xor(Segment::Hot, Segment::Temp) {
+        return Segment::Temp;
+    }
     Segment::Hot
 }

@@ -143,6 +143,10 @@ pub struct ClassPart {
     /// The labels that it stored, and the lives that it began, in order.
     pub labels: LinkedList<LabelStep>,
 
+    /// The bump for which it moved an item last, until that bump's reference is given back: the application in
+    /// progress.
+    pub applying: Option<Ride>,
+
     /// The steps that it made, in order.
     pub steps: LinkedList<OwnStep>,
 }

@@ -2,11 +2,13 @@
 use Rattle.std.proofs.Common.{◌≡◌, ℕ, zero, suc, ◌+◌, ◌<◌, ◌++◌, List, [], ◌∷◌, length, ap, ◌∙◌, subst, arith}
 use Rattle.std.specs.Prelude.{slice_index_or}
 use Rattle.bump_rules.specs.declared.configs.ClassConfig.{ClassConfig}
-use Rattle.bump_rules.specs.declared.places.Place.TheVariants.{Hot, Warm, Cold, Dying, Unused, Retired}
+use Rattle.bump_rules.specs.Lists.{list_at}
+use Rattle.bump_rules.specs.Places.{all_places}
+use Rattle.bump_rules.proofs.Updates.{total_same}
 use Rattle.bump_class.specs.Books.{BookView}
 use Rattle.bump_class.proofs.SizeLemmas.{book_sizes}
 use Rattle.bump_store.specs.declared.finishing.ClassSizes.{ClassSizes}
-use Rattle.bump_store.specs.Finishing.{sum_of, AreSizesOf, AreOfClasses}
+use Rattle.bump_store.specs.Finishing.{size_at, sum_of, AreSizesOf, AreOfClasses}
 use Rattle.bump_store.specs.Stores.{first_chunk}
 
 -- the next class's chunks are behind those of a class
@@ -25,12 +27,7 @@ sum_of_class class classes sizes book none are low =
     let next : class + 1 ≡ suc class = omega arith in
     omega (
       arith,
-      are.each Hot,
-      are.each Warm,
-      are.each Cold,
-      are.each Dying,
-      are.each Unused,
-      are.each Retired,
+      total_same (size_at sizes) (λ p. length (list_at book.lists p)) are.each all_places,
       book_sizes book are.kept,
       are.of_class.first,
       are.of_class.end ∙ ap (λ n. first_chunk n classes) next,

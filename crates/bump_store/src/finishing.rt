@@ -10,7 +10,7 @@ use bump_rules::Place;
 use std::alloc::Global;
 use std::sync::Wait;
 
-/// How many chunks stand in each of a class's six lists (memcached's `sizes` of `items.c`).
+/// How many chunks stand in each of a class's seven lists (memcached's `sizes` of `items.c`).
 #[derive(Debug, PartialEq, Eq, Clone, Copy)]
 pub struct ClassSizes {
     /// In HOT.
@@ -21,6 +21,9 @@ pub struct ClassSizes {
 
     /// In COLD.
     pub cold: u32,
+
+    /// In TEMP.
+    pub temp: u32,
 
     /// In DYING: unlinked, and at the last look still held.
     pub dying: u32,
@@ -52,6 +55,7 @@ impl<N: Name> Store<N> {
             hot: book.size(Place::Hot),
             warm: book.size(Place::Warm),
             cold: book.size(Place::Cold),
+            temp: book.size(Place::Temp),
             dying: book.size(Place::Dying),
             unused: book.size(Place::Unused),
             retired: book.size(Place::Retired),

@@ -39,6 +39,13 @@ impl<N: Name> Lane<N> {
         self.raw.applied()
     }
 
+    /// The number of its worker.
+    pub fn worker(&self) -> u32
+        ensures { result ≡ self.now.lane.part.worker }
+    {
+        self.raw.worker()
+    }
+
     /// Applies the next bump of its ring under the lock of its class, and gives its reference back: it waits until no
     /// other thread has the lock. `now` is the time of the application, in the caller's ticks. It answers what was
     /// done, which is the lane's last entry from then on. It answers None, and nothing is changed, only where no bump

@@ -1,12 +1,17 @@
-//! A hold meets the Book of its class.
+//! A hold meets the Book of its class, and a lane meets a Book.
 ghost use Rattle.std.specs.Prelude.{◌≡◌, ℕ, Some, true};
 ghost use Rattle.bump_links.specs.Lists.{times};
 ghost use Rattle.bump_rules.specs.Labels.{label_of_life};
 ghost use Rattle.bump_rules.specs.Totals.{total};
 ghost use Rattle.bump_heads.specs.Linking.{generation_of_chunk};
 ghost use Rattle.bump_steps.specs.Views.{owns, differs};
+ghost use Rattle.bump_rules.specs.Entries.{moves_of};
+ghost use Rattle.bump_heads.specs.Applying.{NamesNoBumpTwice};
+ghost use Rattle.bump_class.specs.Applications.{EachMoveIsTold, moved_in};
+ghost use Rattle.bump_class.specs.Lanes.{entries};
 
 use crate::holds::Hold;
+use crate::lanes::Lane;
 use bump_class::Book;
 use bump_heads::Name;
 
@@ -23,5 +28,22 @@ impl<N: Name> Hold<N> {
         ensures in_use { (times self.old.life.chunk book.old.lists.unused ≡ 0) × (times self.old.life.chunk book.old.lists.retired ≡ 0) }
     {
         book.meet(&mut self.held);
+    }
+}
+
+impl<N: Name> Lane<N> {
+    /// Shows a lane and the Book of a class each other, by one load. It answers nothing, and changes nothing: from then
+    /// on it is known that the class's history names no bump twice; that each move that it has for a bump of the lane's
+    /// worker is this lane's entry of that bump's number, with the same life and the outcome Moved; and that there are
+    /// as many such moves as the lane has entries with the outcome Moved of items of the class. So `moves` of the Book
+    /// tells how many these are.
+    pub fn meet(&mut self, book: &mut Book<N>)
+        ensures lane { self.new ≡ self.old }
+        ensures book { book.new ≡ book.old }
+        ensures once { NamesNoBumpTwice book.old.part }
+        ensures told { EachMoveIsTold book.old.part self.old.lane.part }
+        ensures moves { moves_of self.old.lane.part.worker book.old.part.history ≡ moved_in book.old.part (entries self.old.lane) }
+    {
+        book.meet_lane(&mut self.raw);
     }
 }

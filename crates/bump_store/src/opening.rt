@@ -73,6 +73,7 @@ fn make_books<N: Name>(
     seats: Vec<ClassSeat<N>>,
     classes: &[ClassConfig],
     first_generation: u32,
+    workers: u32,
 ) -> Result<(Vec<Mutex<Book<N>>>, Vec<u32>), AllocError>
     requires seats { seats.items ≡ map class_seen (class_parts (first_generation - 1) 0 0 classes.now) }
     requires chunks { HaveChunks classes.now }
@@ -88,7 +89,8 @@ fn make_books<N: Name>(
         let Some(seat) = left.next() else {
             unreachable!()
         };
-        books.push(Mutex::new(Book::new(alloc, seat, first, *class)?))?;
+        let book = Book::new(alloc, seat, first, *class, workers)?;
+        books.push(Mutex::new(book))?;
         starts.push(first)?;
         first += class.chunks;
     }
@@ -122,12 +124,19 @@ impl<N: Name> Store<N> {
             lanes,
         } = Heads::<N>::new(alloc, blank, config)?;
         let slice = config.classes.as_slice();
-        let (books, starts) = make_books(alloc, classes, slice, config.first_generation)?;
+        let (books, starts) = make_books(
+            alloc,
+            classes,
+            slice,
+            config.first_generation,
+            config.workers,
+        )?;
         let (workers, lanes) = make_rings(alloc, workers, lanes, config.workers, config.capacity)?;
         let store = Store {
             heads,
             books,
             starts,
+            workers: config.workers,
         };
         Ok((store, workers, Maintainer { lanes }))
     }

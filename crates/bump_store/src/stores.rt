@@ -27,6 +27,7 @@ pub struct Store<N: Name> {
     pub(crate) books: Vec<Mutex<Book<N>>>,
     // the first chunk of each class, and behind them the number of all chunks
     pub(crate) starts: Vec<u32>,
+    pub(crate) workers: u32,
 }
 
 impl<N: Name> Model for Store<N> {
@@ -34,7 +35,7 @@ impl<N: Name> Model for Store<N> {
 
     ghost view = { λ s. arc_value s.heads };
 
-    ghost invariant = { λ s. IsStore (arc_value s.heads).classes s.starts.items (vec_len s.books) };
+    ghost invariant = { λ s. IsStore (arc_value s.heads).classes s.starts.items (vec_len s.books) × (s.workers ≡ (arc_value s.heads).workers) };
 }
 
 impl<N: Name> Deref for Store<N> {
@@ -53,11 +54,12 @@ impl<N: Name> Store<N> {
     /// The Book of a class, under its lock, which is let go with the guard: it waits until no other thread has it.
     /// `class` is any number. It is refused as NoSuchClass exactly where there is no such class.
     ///
-    /// The Book is that of this class: it has its number, and its chunks. Both are compared under the lock, since a
-    /// caller that has two guards could exchange their Books. Where that was done, the call goes round the locks, one
+    /// The Book is that of this class: it has its number, and its chunks, and it counts moves for as many workers as the
+    /// store has. All three are compared under the lock, since a caller that has two guards could exchange their Books. Where that was done, the call goes round the locks, one
     /// at a time, until it finds the right one.
     pub fn lock<R: Wait>(&self, rt: &R, class: u32) -> Result<MutexGuard<'_, Book<N>>, NoSuchClass>
         ensures class { IfOk result (λ guard. IsOfClass class self.now.classes (mutex_guard_value guard).part) }
+        ensures workers { IfOk result (λ guard. (mutex_guard_value guard).workers ≡ self.now.workers) }
         ensures none { IsErr result ↔ (length self.now.classes ≤ class) }
     {
         if class as usize >= self.books.len() {
@@ -69,7 +71,8 @@ impl<N: Name> Store<N> {
     // The Book of a class that there is.
     pub(crate) fn lock_class<R: Wait>(&self, rt: &R, class: u32) -> MutexGuard<'_, Book<N>>
         requires { class < length self.now.classes }
-        ensures { IsOfClass class self.now.classes (mutex_guard_value result).part }
+        ensures class { IsOfClass class self.now.classes (mutex_guard_value result).part }
+        ensures workers { (mutex_guard_value result).workers ≡ self.now.workers }
     {
         let mut at = class as usize;
         for _ in rt.forever() {
@@ -82,16 +85,18 @@ impl<N: Name> Store<N> {
         unreachable!()
     }
 
-    // Whether the Book is that of the class, by its number and its chunks.
+    // Whether the Book is that of the class, by its number, its chunks and the number of workers.
     fn is_of_class(&self, book: &Book<N>, class: u32) -> bool
         requires { class < length self.now.classes }
-        ensures { result ≡ true → IsOfClass class self.now.classes book.now.part }
+        ensures class { result ≡ true → IsOfClass class self.now.classes book.now.part }
+        ensures workers { result ≡ true → book.now.workers ≡ self.now.workers }
     {
         let place = class as usize;
         let range = book.range();
         book.class() == class
             && range.start == self.starts[place]
             && range.end == self.starts[place + 1]
+            && book.workers() == self.workers as usize
     }
 
     // The place of the lock that is tried behind this one.

@@ -19,7 +19,7 @@ use Rattle.bump_rules.specs.declared.bumps.Outcome.TheVariants as outcome
 use Rattle.bump_rules.specs.declared.places.Segment.{Segment}
 use Rattle.bump_rules.specs.declared.places.Tail.{Tail}
 use Rattle.bump_rules.specs.declared.places.Tail.TheVariants as tail
-use Rattle.bump_core.specs.Commands.{is_allowed, command_after, freed_by, unlink_item, unlinked_as, pull, pull_to, pulled_at, hit, hit_at, attempt, dropped_at, is_exhausted, apply_bump, bumped_lists, outcome_next, gone_as, bump_next, last_pulled_in, get_at, held_by_get}
+use Rattle.bump_core.specs.Commands.{is_allowed, may_store, command_after, freed_by, unlink_item, unlinked_as, pull, pull_to, pulled_at, hit, hit_at, attempt, dropped_at, is_exhausted, apply_bump, bumped_lists, outcome_next, gone_as, bump_next, last_pulled_in, get_at, held_by_get}
 use Rattle.bump_rules.specs.Lanes.{is_half_made}
 use Rattle.bump_state.specs.Events.{next_chunk}
 use Rattle.bump_rules.specs.Lives.{life}
@@ -129,6 +129,7 @@ keeps_get s l IsHeld = keeps_chunk s l.chunk _
 -- each command
 pub keeps_command : (s : State) (c : Command) → Keeps s (command_after s c)
 keeps_command s (command.Link k x now) = keeps_option s _ (next_chunk s k) (λ c. keeps_both _ _ _ (keeps_chunk s c _) (keeps_class _ k _))
+keeps_command s (command.LinkTemp k x now) = keeps_option s _ (next_chunk s k) (λ c. keeps_both _ _ _ (keeps_chunk s c _) (keeps_class _ k _))
 keeps_command s (command.Unlink l) = keeps_if s _ _ _ (keeps_end s l) (keeps_same s)
 keeps_command s (command.Sweep k) = keeps_class s k _
 keeps_command s (command.Pull k t) = keeps_option s _ (last_pulled_in s k t) (keeps_pull s k t)
@@ -161,8 +162,8 @@ no_bar : (a b c : Bool) → a ≡ true → c ≡ false → a && (not b || not c)
 no_bar a b c p q = rw (p, q) (elim b as (λ v. true && (not v || true) ≡ true) [ true ↦ refl | false ↦ refl ])
 
 -- a link into a class that is there is allowed
-pub link_allowed : (s : State) (k x now : ℕ) → IsAtRest s → is_class s k ≡ true → is_allowed s (command.Link k x now) ≡ true
-link_allowed s k x now r e = no_bar _ _ _ e (none_applied s k r)
+pub link_allowed : (s : State) (k : ℕ) → IsAtRest s → is_class s k ≡ true → may_store s k ≡ true
+link_allowed s k r e = no_bar _ _ _ e (none_applied s k r)
 
 -- a pull of a class that is there is allowed
 pub pull_allowed : (s : State) (k : ℕ) (t : Tail) → IsAtRest s → is_class s k ≡ true → is_allowed s (command.Pull k t) ≡ true

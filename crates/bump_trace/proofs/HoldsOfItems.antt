@@ -21,6 +21,9 @@ use Rattle.bump_rules.specs.declared.items.ItemId.{ItemId}
 use Rattle.bump_rules.specs.declared.places.Segment.{Segment}
 use Rattle.bump_rules.specs.declared.places.Tail.{Tail}
 use Rattle.bump_rules.specs.declared.places.Tail.TheVariants as tail
+use Rattle.bump_rules.specs.declared.places.Start.{Start}
+use Rattle.bump_rules.specs.declared.places.Start.TheVariants as start
+use Rattle.bump_rules.specs.Starts.{link_command}
 use Rattle.bump_core.specs.Commands.{is_allowed, answer_of, command_after, freed_by, unlink_item, unlinked_as, pull, pull_to, pulled_at, get_answer, get_at, held_by_get, hit, hit_at, attempt, dropped_at, apply_bump, bumped_chunk, bumped_lists, outcome_next, gone_as, bump_next, last_pulled_in, link_labelled}
 use Rattle.bump_state.specs.Events.{next_chunk, with_hold, without_hold}
 use Rattle.bump_rules.specs.Lives.{life, one_if}
@@ -147,13 +150,19 @@ stay_get s l IsRefsFull = stay_same s
 stay_get s l IsHeld = stay_hold s l.chunk
 
 -- a link
-stay_link : (s : State) (k x now : ℕ) → IsLawful s → k < length s.classes → (n : Option ℕ) → next_chunk s k ≡ n → HoldsStay s (option_map_or (link_labelled s k x now) n s)
-stay_link s k x now o within None is = stay_same s
-stay_link s k x now o within (Some c) is = stay_both _ _ _ (stay_chunk s c _ (λ g. omega (arith, unheld_next s o k c g within is))) (stay_class _ k _)
+stay_link : (s : State) (a : Start) (k x now : ℕ) → IsLawful s → k < length s.classes → (n : Option ℕ) → next_chunk s k ≡ n → HoldsStay s (option_map_or (link_labelled s a k x now) n s)
+stay_link s a k x now o within None is = stay_same s
+stay_link s a k x now o within (Some c) is = stay_both _ _ _ (stay_chunk s c _ (λ g. omega (arith, unheld_next s o k c g within is))) (stay_class _ k _)
+
+-- the command of a link is no release
+pub link_keeps : (a : Start) (k x now : ℕ) → is_release (link_command a k x now) ≡ false
+link_keeps start.Hot k x now = refl
+link_keeps start.Temp k x now = refl
 
 -- Each command but a release leaves every item its holds.
 pub holds_stay : (s : State) (c : Command) → IsLawful s → is_allowed s c ≡ true → is_release c ≡ false → HoldsStay s (command_after s c)
-holds_stay s (command.Link k x now) o allowed other = stay_link s k x now o (ltb-true k (length s.classes) (and_parts _ _ allowed).0) (next_chunk s k) refl
+holds_stay s (command.Link k x now) o allowed other = stay_link s start.Hot k x now o (ltb-true k (length s.classes) (and_parts _ _ allowed).0) (next_chunk s k) refl
+holds_stay s (command.LinkTemp k x now) o allowed other = stay_link s start.Temp k x now o (ltb-true k (length s.classes) (and_parts _ _ allowed).0) (next_chunk s k) refl
 holds_stay s (command.Unlink l) o allowed other = stay_if s _ _ _ (stay_end s l) (stay_same s)
 holds_stay s (command.Sweep k) o allowed other = stay_class s k _
 holds_stay s (command.Pull k t) o allowed other = stay_option s _ (last_pulled_in s k t) (stay_pull s k t)

@@ -6,15 +6,17 @@ use Rattle.bump_rules.specs.declared.commands.Answer.TheVariants as answer
 use Rattle.bump_rules.specs.declared.commands.Command.{Command}
 use Rattle.bump_rules.specs.declared.commands.Command.TheVariants as command
 use Rattle.bump_rules.specs.declared.items.ItemId.{ItemId}
+use Rattle.bump_rules.specs.declared.places.Start.{Start}
 use Rattle.bump_rules.specs.declared.places.Tail.{Tail}
+use Rattle.bump_rules.specs.Starts.{link_command}
 use Rattle.bump_core.specs.Commands.{answer_of, command_after}
 use Rattle.bump_rules.specs.Lists.{ascending}
 use Rattle.bump_state.specs.State.{State, is_class, is_worker, is_open}
-use Rattle.trace_lines.specs.Lines.{Instruction, Set, Get, Hold, Hit, Read, Drop, Del, Pull, Sweep, Drain, Close, Show, Par, may_follow_par}
+use Rattle.trace_lines.specs.Lines.{Instruction, Set, Get, Hold, Hit, Read, Drop, Del, Pull, Sweep, Drain, Close, Show, Moves, Par, may_follow_par}
 use Rattle.bump_trace.specs.Names.{Names, bind, unbind}
 use Rattle.bump_trace.specs.Stages.{StoreState, Open, Said, say}
 use Rattle.trace_lines.specs.Text.{set_line, get_line, get_held_line, hold_line, hit_line, read_line, drop_line, del_line, pull_line, sweep_line, bump_line, drain_line, closed_line}
-use Rattle.bump_trace.specs.Shows.{close_line, show_text}
+use Rattle.bump_trace.specs.Shows.{close_line, show_text, moves_text}
 use Rattle.trace_lines.specs.declared.faults.Fault.{Fault}
 use Rattle.trace_lines.specs.declared.faults.Fault.TheVariants as fault
 
@@ -22,21 +24,23 @@ use Rattle.trace_lines.specs.declared.faults.Fault.TheVariants as fault
 abbrev pub with_command : StoreState → Command → StoreState
 with_command store made = record store { state = command_after store.state made }
 
--- set NAME CLASS LABEL: an item is linked, and the name is bound to it; after any other answer the bindings stay.
+-- set NAME CLASS LABEL, or temp NAME CLASS LABEL: an item is linked, and the name is bound to it; after any other answer
+-- the bindings stay.
 abbrev pub names_after : Answer → List ℕ → Names → Names
 names_after (answer.Linked id) name names = bind name id names
 names_after _ name names = names
 
 -- the text of the answer, and the name bound
-abbrev pub set_by : StoreState → List ℕ → Answer → Said
-set_by store name given = say (Open (record store { names = names_after given name store.names })) (set_line name given)
+abbrev pub set_by : StoreState → Start → List ℕ → Answer → Said
+set_by store start name given =
+    say (Open (record store { names = names_after given name store.names })) (set_line start name given)
 
 -- where there is such a class
-unfoldable pub set_said : StoreState → ℕ → List ℕ → ℕ → ℕ → Result Said Fault
-set_said store now name class label =
-    let made = command.Link class label now in
+unfoldable pub set_said : StoreState → ℕ → Start → List ℕ → ℕ → ℕ → Result Said Fault
+set_said store now start name class label =
+    let made = link_command start class label now in
     if is_class store.state class
-    then Ok (set_by (with_command store made) name (answer_of store.state made))
+    then Ok (set_by (with_command store made) start name (answer_of store.state made))
     else Err fault.Class
 
 -- Closed workers take no holds, hits or bumps. What a worker's command answers, unless the worker is closed.
@@ -229,13 +233,17 @@ close_said store now worker =
 unfoldable pub show_said : StoreState → Result Said Fault
 show_said store = Ok (say (Open store) (show_text store.state))
 
+-- moves
+unfoldable pub moves_said : StoreState → Result Said Fault
+moves_said store = Ok (say (Open store) (moves_text store.state))
+
 -- par: it does nothing but that it says which lines may follow
 unfoldable pub par_said : StoreState → Result Said Fault
 par_said store = Ok (say (Open (record store { is_past_par = true })) [])
 
 -- what each line does
 abbrev pub made_by : StoreState → ℕ → Instruction → Result Said Fault
-made_by store now (Set name class label) = set_said store now name class label
+made_by store now (Set start name class label) = set_said store now start name class label
 made_by store now (Get worker name) = get_said store now worker name
 made_by store now (Hold worker name hold) = hold_said store worker name hold
 made_by store now (Hit worker hold) = hit_said store now worker hold
@@ -247,6 +255,7 @@ made_by store now (Sweep class) = sweep_said store class
 made_by store now Drain = drain_said store now
 made_by store now (Close worker) = close_said store now worker
 made_by store now Show = show_said store
+made_by store now Moves = moves_said store
 made_by store now Par = par_said store
 
 -- where it may stand

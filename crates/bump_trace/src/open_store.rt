@@ -14,7 +14,7 @@ ghost use Rattle.trace_lines.specs.declared.faults.LineError.TheVariants.{Memory
 mod shows;
 
 use crate::names::Names;
-use bump_core::{Answer, Command, Config, ItemId, Refused, Tail, World};
+use bump_core::{Answer, Command, Config, ItemId, Refused, Start, Tail, World};
 pub use shows::PLACES;
 use std::alloc::Global;
 use std::hash::RandomState;
@@ -123,23 +123,24 @@ impl<'a> OpenStore<'a> {
     fn set(
         &mut self,
         now: u64,
+        start: Start,
         name: &'a [u8],
         class: u32,
         label: u64,
         out: &mut Vec<u8>,
     ) -> Result<(), LineError>
         requires { MayRun self.old out.old.items }
-        ensures said { Does (Open (store_of self.new)) out.new.items result (set_said (store_of self.old) now name.entry.now class label) }
+        ensures said { Does (Open (store_of self.new)) out.new.items result (set_said (store_of self.old) now start name.entry.now class label) }
         ensures steady { OnOk result (IsSteady self.new) }
     {
         if class >= self.classes {
             return Err(LineError::Fault(Fault::Class));
         }
-        let answer = self.command(Command::Link { class, label, now })?;
+        let answer = self.command(Command::store(start, class, label, now))?;
         if let Answer::Linked(id) = answer {
             self.names.bind(name, id)?;
         }
-        put_set(out, name, answer)?;
+        put_set(out, start, name, answer)?;
         Ok(())
     }
 
@@ -402,7 +403,12 @@ impl<'a> OpenStore<'a> {
         ensures steady { OnOk result (IsSteady self.new) }
     {
         match instruction {
-            Instruction::Set { name, class, label } => self.set(now, name, class, label, out),
+            Instruction::Set {
+                start,
+                name,
+                class,
+                label,
+            } => self.set(now, start, name, class, label, out),
             Instruction::Get { worker, name } => self.get(now, worker, name, out),
             Instruction::Hold { worker, name, hold } => self.hold(worker, name, hold, out),
             Instruction::Hit { worker, hold } => self.hit(now, worker, hold, out),
@@ -414,6 +420,7 @@ impl<'a> OpenStore<'a> {
             Instruction::Drain => self.drain(now, out),
             Instruction::Close { worker } => self.close(now, worker, out),
             Instruction::Show => self.show(out),
+            Instruction::Moves => self.moves(out),
             Instruction::Par => {
                 self.is_past_par = true;
                 Ok(())

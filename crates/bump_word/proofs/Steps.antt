@@ -11,7 +11,8 @@ use Rattle.bump_word.specs.Layout.{refs_width, linked_first, fetched_first, acti
 use Rattle.bump_word.specs.Words.{number_of, word_of, Spells, segment_bits, segment_change}
 use Rattle.bump_rules.specs.Lawful.{bit}
 use Rattle.bump_word.specs.Steps.{Changes, Tests, Reads}
-use Rattle.bump_rules.specs.Heads.{linked_head}
+use Rattle.bump_rules.specs.declared.places.Segment.TheVariants.{Hot}
+use Rattle.bump_rules.specs.Heads.{linked_head_in}
 use Rattle.bump_word.proofs.Words.{fields, number_lt}
 
 -- a reference more is the next number
@@ -51,9 +52,15 @@ unlink n h spelled held = (
   (omega (arith, spelled.1.0), spelled.1.1),
 )
 
--- a store of a linked_head Head's word begins a life
-pub new_life_stored : (g : ℕ) → g < 2 ^ generation_width → Changes (λ _. word_of (linked_head g)) (λ _. ⊤) (λ _. linked_head g)
-new_life_stored g fits n h spelled _ = (refl, (omega arith, fits))
+-- a store of the word of a new life's Head begins a life
+pub new_life_stored : (s : Segment) (g : ℕ) → g < 2 ^ generation_width
+    → Changes (λ _. word_of (linked_head_in s g)) (λ _. ⊤) (λ _. linked_head_in s g)
+new_life_stored s g fits n h spelled _ = (refl, (omega arith, fits))
+
+-- that word in numbers
+pub new_life_number : (s : Segment) (g : ℕ) → word_of (linked_head_in s g)
+    ≡ 2 ^ linked_first + 1 + segment_change Hot s + g * 2 ^ generation_first
+new_life_number s g = omega (arith, xor_zero_l (number_of s))
 
 -- an or with FETCHED sets it
 pub set_fetched : Changes (λ n. bit_or n (2 ^ fetched_first)) (λ _. ⊤) (λ h. record h { fetched = true })

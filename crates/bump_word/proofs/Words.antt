@@ -2,7 +2,7 @@
 use Rattle.std.proofs.Common.{◌≡◌, ℕ, zero, suc, ◌+◌, ◌*◌, ◌/◌, ◌%◌, ◌^◌, ◌<◌, ◌≤◌, Bool, true, false, refl, sym, ap, ◌∙◌, arith, Option, Some}
 use Rattle.bump_rules.specs.declared.items.Head.{Head}
 use Rattle.bump_rules.specs.declared.places.Segment.{Segment}
-use Rattle.bump_rules.specs.declared.places.Segment.TheVariants.{Hot, Warm, Cold}
+use Rattle.bump_rules.specs.declared.places.Segment.TheVariants.{Hot, Warm, Cold, Temp}
 use Rattle.bump_word.specs.Layout.{refs_width, linked_first, fetched_first, active_first, segment_first, segment_width, generation_first, generation_width}
 use Rattle.bump_word.specs.Words.{number_of, Spells, IsPacked, FindsHead, zeros_of, segment_bits}
 use Rattle.bump_rules.specs.Lawful.{bit}
@@ -17,6 +17,7 @@ pub number_lt : (s : Segment) → number_of s < 2 ^ segment_width
 number_lt Hot = omega arith
 number_lt Warm = omega arith
 number_lt Cold = omega arith
+number_lt Temp = omega arith
 
 -- flags with one number are equal
 pub bit_one : (a b : Bool) → bit a ≡ bit b → a ≡ b
@@ -25,11 +26,12 @@ bit_one true false e = absurd (omega arith)
 bit_one false true e = absurd (omega arith)
 bit_one false false e = refl
 
--- the segment of a number; of a number that is no segment's, any
+-- the segment of a number; of a number that is no segment's, TEMP
 segment_at : ℕ → Segment
 segment_at zero = Hot
 segment_at (suc zero) = Warm
-segment_at (suc (suc _)) = Cold
+segment_at (suc (suc zero)) = Cold
+segment_at (suc (suc (suc _))) = Temp
 
 -- a segment is the segment of its number
 segment_at-number : (s : Segment) → segment_at (number_of s) ≡ s
@@ -37,6 +39,7 @@ unfolding segment_at
 segment_at-number Hot = refl
 segment_at-number Warm = refl
 segment_at-number Cold = refl
+segment_at-number Temp = refl
 
 -- segments with one number are equal
 pub number_one : (a b : Segment) → number_of a ≡ number_of b → a ≡ b

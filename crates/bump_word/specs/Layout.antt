@@ -3,7 +3,7 @@ use Rattle.std.specs.Prelude.{ℕ, ◌+◌, ◌-◌}
 
 -- the reference count has this many bits
 abbrev pub refs_width : ℕ
-refs_width = 16
+refs_width = 20
 
 -- the bit that says that the item is linked
 abbrev pub linked_first : ℕ

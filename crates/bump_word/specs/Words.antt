@@ -3,7 +3,7 @@ use Rattle.std.specs.Prelude.{◌≡◌, ℕ, ◌+◌, ◌*◌, ◌/◌, ◌%◌
 use Rattle.bump_rules.specs.declared.items.Head.{Head}
 use Rattle.bump_rules.specs.Lawful.{bit}
 use Rattle.bump_rules.specs.declared.places.Segment.{Segment}
-use Rattle.bump_rules.specs.declared.places.Segment.TheVariants.{Hot, Warm, Cold}
+use Rattle.bump_rules.specs.declared.places.Segment.TheVariants.{Hot, Warm, Cold, Temp}
 use Rattle.bump_word.specs.Layout.{refs_width, linked_first, fetched_first, active_first, segment_first, segment_width, zero_first, zero_width, generation_first, generation_width}
 
 -- the number of a segment
@@ -11,6 +11,7 @@ abbrev pub number_of : Segment → ℕ
 number_of Hot = 0
 number_of Warm = 1
 number_of Cold = 2
+number_of Temp = 3
 
 -- the word of a Head: each field, shifted to its place
 abbrev pub word_of : Head → ℕ

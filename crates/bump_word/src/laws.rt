@@ -7,12 +7,12 @@ ghost use Rattle.std.specs.Prelude.{◌≡◌, ◌≢◌, ◌==◌, ℕ, ◌+◌
 ghost use prog.Atomic.{either};
 ghost use Rattle.bump_rules.specs.declared.items.Head.{Head as TheHead};
 ghost use Rattle.bump_rules.specs.declared.places.Segment.{Segment as TheSegment};
-ghost use Rattle.bump_rules.specs.declared.places.Segment.TheVariants.{Hot, Warm, Cold};
+ghost use Rattle.bump_rules.specs.declared.places.Segment.TheVariants.{Hot, Warm, Cold, Temp};
 ghost use Rattle.bump_rules.specs.Configs.{most_refs};
 ghost use Rattle.bump_word.specs.Layout.{refs_width, segment_first, generation_first, generation_width};
 ghost use Rattle.bump_word.specs.Words.{Spells, IsPacked, FindsHead, number_of, word_of, segment_bits, segment_change};
 ghost use Rattle.bump_word.specs.Steps.{Changes, Tests, Reads};
-ghost use Rattle.bump_rules.specs.Heads.{linked_head, unlinked_head, one_more as with_one_more, one_fewer, fetched_head, marked_head, cleared_head, moved_head};
+ghost use Rattle.bump_rules.specs.Heads.{linked_head_in, unlinked_head, one_more as with_one_more, one_fewer, fetched_head, marked_head, cleared_head, moved_head};
 
 use crate::layout::{ACTIVE, FETCHED, GENERATION_AT, LINKED, REFS_AT, REFS_MAX, SEGMENT_AT};
 use bump_rules::MAX_REFS;
@@ -101,16 +101,20 @@ pub fn change_back()
 pub fn segment_changes()
     ensures same { (a : TheSegment) → segment_change a a ≡ 0 }
     ensures both_ways { (a b : TheSegment) → segment_change a b ≡ segment_change b a }
-    ensures hot_warm { segment_change Hot Warm ≡ 524288 }
-    ensures hot_cold { segment_change Hot Cold ≡ 1048576 }
-    ensures warm_cold { segment_change Warm Cold ≡ 1572864 }
+    ensures hot_warm { segment_change Hot Warm ≡ 8388608 }
+    ensures hot_cold { segment_change Hot Cold ≡ 16777216 }
+    ensures warm_cold { segment_change Warm Cold ≡ 25165824 }
+    ensures hot_temp { segment_change Hot Temp ≡ 25165824 }
+    ensures warm_temp { segment_change Warm Temp ≡ 16777216 }
+    ensures cold_temp { segment_change Cold Temp ≡ 8388608 }
 {}
 
-/// A new life begins with one store, whatever word was there: one reference, linked, without marks, in HOT.
+/// A new life begins with one store, whatever word was there: one reference, linked, without marks, in HOT or in TEMP.
 pub fn new_life()
-    ensures stored { (g : ℕ) → g < 2 ^ generation_width →
-        Changes (λ _. word_of (linked_head g)) (λ _. ⊤) (λ _. linked_head g) }
-    ensures number { (g : ℕ) → word_of (linked_head g) ≡ LINK + g * ONE_GENERATION }
+    ensures stored { (s : TheSegment) (g : ℕ) → g < 2 ^ generation_width →
+        Changes (λ _. word_of (linked_head_in s g)) (λ _. ⊤) (λ _. linked_head_in s g) }
+    ensures number { (s : TheSegment) (g : ℕ) →
+        word_of (linked_head_in s g) ≡ LINK + segment_change Hot s + g * ONE_GENERATION }
 {}
 
 /// LINKED is set where the item is linked (memcached's `ITEM_LINKED`).

@@ -8,7 +8,7 @@ ghost use Rattle.bump_rules.specs.Lawful.{bit};
 /// The reference count: lowest, so that one reference is the number 1.
 pub const REFS_AT: Field = Field {
     first: 0,
-    width: 16,
+    width: 20,
 };
 
 /// The flag of an item that is linked.
@@ -56,12 +56,12 @@ pub const FETCHED: u64 = 1 << FETCHED_AT.first;
 /// The bit of an item that was hit twice or more since the bit was last cleared (memcached's `ITEM_ACTIVE`).
 pub const ACTIVE: u64 = 1 << ACTIVE_AT.first;
 
-/// The greatest reference count that a word holds (memcached's `refcount` has 16 bits, too).
+/// The greatest reference count that a word holds (memcached's `refcount` has 16 bits).
 pub const REFS_MAX: u32 = (1 << REFS_AT.width) - 1;
 
 /// The narrowest number that a reference count fits into: a count cast to it stays as it is. Its limit is kept as
 /// one, too.
-pub type Count = u16;
+pub type Count = u32;
 
 /// A run of bits of the word.
 #[derive(Clone, Copy)]

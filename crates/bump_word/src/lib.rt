@@ -3,12 +3,12 @@
 //!
 //! | Bits | Field |
 //! |---|---|
-//! | 0 to 15 | reference count |
-//! | 16 | `LINKED` |
-//! | 17 | `FETCHED` |
-//! | 18 | `ACTIVE` |
-//! | 19, 20 | segment: 0 HOT, 1 WARM, 2 COLD |
-//! | 21 to 31 | zero |
+//! | 0 to 19 | reference count |
+//! | 20 | `LINKED` |
+//! | 21 | `FETCHED` |
+//! | 22 | `ACTIVE` |
+//! | 23, 24 | segment: 0 HOT, 1 WARM, 2 COLD |
+//! | 25 to 31 | zero |
 //! | 32 to 63 | generation |
 #![tactic(auto)]
 

@@ -1,7 +1,7 @@
 //! The numbers of the segments, and the step from one to another.
-ghost use Rattle.std.specs.Prelude.{◌≡◌, ◌↔◌, ◌<◌, IsNone};
+ghost use Rattle.std.specs.Prelude.{◌≡◌, ◌<◌, ◌^◌};
+ghost use Rattle.bump_word.specs.Layout.{segment_width};
 ghost use Rattle.bump_word.specs.Words.{number_of, segment_change};
-ghost use Rattle.bump_rules.specs.declared.places.Segment.{Segment as TheSegment};
 
 use crate::layout::SEGMENT_AT;
 use bump_rules::Segment;
@@ -12,6 +12,8 @@ const WARM: u64 = 1;
 
 const COLD: u64 = 2;
 
+const TEMP: u64 = 3;
+
 /// The number that stands for a segment in the head word.
 pub fn number(segment: Segment) -> u64
     ensures { result ≡ number_of segment }
@@ -20,19 +22,20 @@ pub fn number(segment: Segment) -> u64
         Segment::Hot => HOT,
         Segment::Warm => WARM,
         Segment::Cold => COLD,
+        Segment::Temp => TEMP,
     }
 }
 
-/// The segment of a number, or None where no segment has it.
-pub fn segment_of(number: u64) -> Option<Segment>
-    ensures some { (s : TheSegment) → (result ≡ Some s) ↔ (number ≡ number_of s) }
-    ensures none { IsNone result ↔ (2 < number) }
+/// The segment of a number. Each number that the segment's bits can make is one's.
+pub fn segment_of(number: u64) -> Segment
+    requires { number < 2 ^ segment_width }
+    ensures { number ≡ number_of result }
 {
     match number {
-        HOT => Some(Segment::Hot),
-        WARM => Some(Segment::Warm),
-        COLD => Some(Segment::Cold),
-        _ => None,
+        HOT => Segment::Hot,
+        WARM => Segment::Warm,
+        COLD => Segment::Cold,
+        _ => Segment::Temp,
     }
 }
 

@@ -40,7 +40,7 @@ fn back_and_there(word: u64) -> Option<u64>
 
 #[test]
 fn known_words(rt: HostRuntime) {
-    expect(&rt, "a new item's word", &pack(NEWBORN), &4_295_032_833);
+    expect(&rt, "a new item's word", &pack(NEWBORN), &4_296_015_873);
     let marked = Head {
         refs: 2,
         linked: true,
@@ -49,7 +49,7 @@ fn known_words(rt: HostRuntime) {
         segment: Segment::Cold,
         generation: 1,
     };
-    expect(&rt, "a word with every mark", &pack(marked), &4_296_474_626);
+    expect(&rt, "a word with every mark", &pack(marked), &4_319_084_546);
     expect(
         &rt,
         "the last generation",
@@ -57,7 +57,7 @@ fn known_words(rt: HostRuntime) {
             generation: u32::MAX,
             ..NEWBORN
         }),
-        &18_446_744_069_414_649_857,
+        &18_446_744_069_415_632_897,
     );
     let blank = Head {
         refs: 0,
@@ -68,12 +68,21 @@ fn known_words(rt: HostRuntime) {
         generation: 0,
     };
     expect(&rt, "the word without a life", &unpack(0), &Some(blank));
+    let temp = Head {
+        segment: Segment::Temp,
+        ..blank
+    };
+    expect(&rt, "TEMP alone", &unpack(25_165_824), &Some(temp));
+    let fetched = Head {
+        fetched: true,
+        ..blank
+    };
+    expect(&rt, "FETCHED alone", &unpack(2_097_152), &Some(fetched));
 }
 
 #[test]
 fn words_of_no_head(rt: HostRuntime) {
-    expect(&rt, "segment 3", &unpack(1_572_864), &None);
-    expect(&rt, "bit 21", &unpack(2_097_152), &None);
+    expect(&rt, "bit 25", &unpack(33_554_432), &None);
     expect(&rt, "bit 31", &unpack(2_147_483_648), &None);
     expect(&rt, "all bits", &unpack(u64::MAX), &None);
 }
@@ -84,9 +93,9 @@ fn named_numbers(rt: HostRuntime) {
         &rt,
         "the bits",
         &[LINKED, FETCHED, ACTIVE],
-        &[65_536, 131_072, 262_144],
+        &[1_048_576, 2_097_152, 4_194_304],
     );
-    expect(&rt, "the limit", &REFS_MAX, &65_535);
+    expect(&rt, "the limit", &REFS_MAX, &1_048_575);
     expect(
         &rt,
         "from WARM to WARM",
@@ -97,26 +106,36 @@ fn named_numbers(rt: HostRuntime) {
         &rt,
         "from HOT to WARM",
         &segment_xor(Segment::Hot, Segment::Warm),
-        &524_288,
+        &8_388_608,
     );
     expect(
         &rt,
         "from COLD to HOT",
         &segment_xor(Segment::Cold, Segment::Hot),
-        &1_048_576,
+        &16_777_216,
     );
     expect(
         &rt,
         "from WARM to COLD",
         &segment_xor(Segment::Warm, Segment::Cold),
-        &1_572_864,
+        &25_165_824,
+    );
+    expect(
+        &rt,
+        "from HOT, WARM and COLD to TEMP",
+        &[
+            segment_xor(Segment::Hot, Segment::Temp),
+            segment_xor(Segment::Warm, Segment::Temp),
+            segment_xor(Segment::Cold, Segment::Temp),
+        ],
+        &[25_165_824, 16_777_216, 8_388_608],
     );
 }
 
 #[test]
 fn table_there_and_back(rt: HostRuntime) {
     for flags in 0..8u32 {
-        for segment in [Segment::Hot, Segment::Warm, Segment::Cold] {
+        for segment in [Segment::Hot, Segment::Warm, Segment::Cold, Segment::Temp] {
             for refs in [0, 1, 2, REFS_MAX] {
                 for generation in [0, 1, u32::MAX] {
                     let head = Head {

@@ -1,6 +1,6 @@
 //! From a Head to its word, and back.
-ghost use Rattle.std.specs.Prelude.{◌≡◌, ◌≢◌, ◌⊎◌, ◌↔◌, ◌≤◌, IsNone, IfSome};
-ghost use Rattle.bump_word.specs.Words.{IsPacked, FindsHead, Spells, zeros_of, segment_bits};
+ghost use Rattle.std.specs.Prelude.{◌≡◌, ◌≢◌, ◌↔◌, ◌≤◌, IsNone, IfSome};
+ghost use Rattle.bump_word.specs.Words.{IsPacked, FindsHead, Spells, zeros_of};
 
 use crate::layout::{
     ACTIVE_AT, FETCHED_AT, GENERATION_AT, LINKED_AT, REFS_AT, REFS_MAX, SEGMENT_AT, ZERO_AT,
@@ -21,23 +21,22 @@ pub fn pack(head: Head) -> u64
         | u64::from(head.generation) << GENERATION_AT.first
 }
 
-/// The Head of a word. None exactly where one of the bits between segment and generation is set, or where the segment's
-/// bits are no segment's number: such a word is no Head's.
+/// The Head of a word. None exactly where one of the bits between segment and generation is set: such a word is no
+/// Head's.
 pub fn unpack(word: u64) -> Option<Head>
     ensures head { IfSome result (λ h. Spells word h) }
     ensures every { FindsHead word result }
-    ensures none { IsNone result ↔ ((zeros_of word ≢ 0) ⊎ (segment_bits word ≡ 3)) }
+    ensures none { IsNone result ↔ (zeros_of word ≢ 0) }
 {
     if ZERO_AT.read(word) != 0 {
         return None;
     }
-    let segment = segment_of(SEGMENT_AT.read(word))?;
     Some(Head {
         refs: REFS_AT.read(word) as u32,
         linked: LINKED_AT.is_set(word),
         fetched: FETCHED_AT.is_set(word),
         active: ACTIVE_AT.is_set(word),
-        segment,
+        segment: segment_of(SEGMENT_AT.read(word)),
         generation: GENERATION_AT.read(word) as u32,
     })
 }

@@ -6,6 +6,7 @@ use Rattle.bump_rules.specs.declared.commands.Answer.TheVariants as answer
 use Rattle.bump_rules.specs.declared.commands.Command.{Command}
 use Rattle.bump_rules.specs.declared.commands.Command.TheVariants as command
 use Rattle.bump_rules.specs.declared.items.ItemId.{ItemId}
+use Rattle.bump_rules.specs.declared.places.Start.TheVariants as start
 use Rattle.bump_core.specs.Commands.{is_allowed, answer_of, command_after, get_at, get_answer, held_by_get, link_labelled}
 use Rattle.bump_state.specs.Events.{next_chunk, next_life}
 use Rattle.bump_state.specs.State.{State, is_chunk}
@@ -59,7 +60,7 @@ no_link s k x now h = record { full = found (next_chunk s k) h; left = stays (ne
     found (Some c) h = absurd (h (next_life s c) refl)
 
     stays : (o : Option ℕ) → ((l : ItemId) → option_map_or (λ c. answer.Linked (next_life s c)) o answer.NoFreeChunk ≡ answer.Linked l → ⊥)
-        → option_map_or (link_labelled s k x now) o s ≡ s
+        → option_map_or (link_labelled s start.Hot k x now) o s ≡ s
     stays None h = refl
     stays (Some c) h = absurd (h (next_life s c) refl)
 

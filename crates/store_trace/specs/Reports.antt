@@ -1,5 +1,5 @@
 -- The lines of the report of a run with threads.
-use Rattle.std.specs.Prelude.{ℕ, List, ◌++◌, codes, decimal}
+use Rattle.std.specs.Prelude.{ℕ, ◌==◌, List, [], ◌++◌, codes, decimal, if◌then◌else◌}
 use Rattle.bump_store.specs.declared.finishing.ClassSizes.{ClassSizes}
 use Rattle.store_trace.specs.declared.totals.Totals.{Totals}
 
@@ -23,9 +23,14 @@ others_text totals =
 abbrev pub total_line : Totals → List ℕ
 total_line totals = hits_text totals ++ bumps_text totals ++ others_text totals ++ codes "\n"
 
--- sizes CLASS hot A warm B cold D dying E unused F retired G
+-- temp H, where any item is in TEMP
+abbrev pub temp_text : ClassSizes → List ℕ
+temp_text sizes = if sizes.temp == 0 then [] else codes " temp " ++ decimal sizes.temp
+
+-- sizes CLASS hot A warm B cold D dying E unused F retired G, and what is in TEMP
 abbrev pub sizes_line : ℕ → ClassSizes → List ℕ
 sizes_line class sizes =
     codes "sizes " ++ decimal class ++ codes " hot " ++ decimal sizes.hot ++ codes " warm " ++ decimal sizes.warm
     ++ codes " cold " ++ decimal sizes.cold ++ codes " dying " ++ decimal sizes.dying
-    ++ codes " unused " ++ decimal sizes.unused ++ codes " retired " ++ decimal sizes.retired ++ codes "\n"
+    ++ codes " unused " ++ decimal sizes.unused ++ codes " retired " ++ decimal sizes.retired ++ temp_text sizes
+    ++ codes "\n"

@@ -2,6 +2,8 @@
 use Rattle.std.specs.Prelude.{ℕ, Bool, true, false, ◌==◌, nat_lt, List, [], ◌∷◌, find, length, codes, Option, Some, None, Result, Ok, Err, if◌then◌else◌}
 use Rattle.std.specs.List.{slice_split}
 use Rattle.std.specs.Str.{bytes_eq}
+use Rattle.bump_rules.specs.declared.places.Start.{Start}
+use Rattle.bump_rules.specs.declared.places.Start.TheVariants as start
 use Rattle.bump_rules.specs.declared.places.Tail.{Tail}
 use Rattle.trace_lines.specs.Faults.{◌>>=◌}
 use Rattle.trace_lines.specs.Fields.{Kind, U32, U64, Name, Segment, Value, field}
@@ -14,7 +16,7 @@ use Rattle.trace_lines.specs.declared.lines.Declaration.TheVariants.{Store, Clas
 
 -- what is done on an open store, with the fields of its line
 pub data Instruction : Type 0 where
-  Set : List ℕ → ℕ → ℕ → Instruction
+  Set : Start → List ℕ → ℕ → ℕ → Instruction
   Get : ℕ → List ℕ → Instruction
   Hold : ℕ → List ℕ → List ℕ → Instruction
   Hit : ℕ → List ℕ → Instruction
@@ -26,6 +28,7 @@ pub data Instruction : Type 0 where
   Drain : Instruction
   Close : ℕ → Instruction
   Show : Instruction
+  Moves : Instruction
   Par : Instruction
 
 -- Behind `par` stand these lines alone: a worker's thread makes gets, and the maintenance thread the others.
@@ -52,6 +55,7 @@ abbrev pub keyword_word : Keyword → List ℕ
 keyword_word keyword.Store = codes "store"
 keyword_word keyword.Class = codes "class"
 keyword_word keyword.Set = codes "set"
+keyword_word keyword.Temp = codes "temp"
 keyword_word keyword.Get = codes "get"
 keyword_word keyword.Hold = codes "hold"
 keyword_word keyword.Hit = codes "hit"
@@ -63,14 +67,15 @@ keyword_word keyword.Sweep = codes "sweep"
 keyword_word keyword.Drain = codes "drain"
 keyword_word keyword.Close = codes "close"
 keyword_word keyword.Show = codes "show"
+keyword_word keyword.Moves = codes "moves"
 keyword_word keyword.Par = codes "par"
 
 -- all of them
 abbrev pub all_keywords : List Keyword
 all_keywords =
-    keyword.Store ∷ keyword.Class ∷ keyword.Set ∷ keyword.Get ∷ keyword.Hold ∷ keyword.Hit ∷ keyword.Read ∷
-    keyword.Drop ∷ keyword.Del ∷ keyword.Pull ∷ keyword.Sweep ∷ keyword.Drain ∷ keyword.Close ∷ keyword.Show ∷
-    keyword.Par ∷ []
+    keyword.Store ∷ keyword.Class ∷ keyword.Set ∷ keyword.Temp ∷ keyword.Get ∷ keyword.Hold ∷ keyword.Hit ∷
+    keyword.Read ∷ keyword.Drop ∷ keyword.Del ∷ keyword.Pull ∷ keyword.Sweep ∷ keyword.Drain ∷ keyword.Close ∷ keyword.Show ∷
+    keyword.Moves ∷ keyword.Par ∷ []
 
 -- the first word that these bytes are
 abbrev pub keyword_of : List ℕ → Option Keyword
@@ -118,7 +123,10 @@ by_row keyword.Store words = fields_of (U32 ∷ U32 ∷ U32 ∷ U32 ∷ []) (λ 
     }))) words
 by_row keyword.Class words = fields_of (U32 ∷ U32 ∷ U32 ∷ []) (λ chunks hot warm.
     Declares (Class (record { chunks = chunks; hot = hot; warm = warm }))) words
-by_row keyword.Set words = fields_of (Name ∷ U32 ∷ U64 ∷ []) (λ name class label. Makes (Set name class label)) words
+by_row keyword.Set words =
+    fields_of (Name ∷ U32 ∷ U64 ∷ []) (λ name class label. Makes (Set start.Hot name class label)) words
+by_row keyword.Temp words =
+    fields_of (Name ∷ U32 ∷ U64 ∷ []) (λ name class label. Makes (Set start.Temp name class label)) words
 by_row keyword.Get words = fields_of (U32 ∷ Name ∷ []) (λ worker name. Makes (Get worker name)) words
 by_row keyword.Hold words = fields_of (U32 ∷ Name ∷ Name ∷ []) (λ worker name hold. Makes (Hold worker name hold)) words
 by_row keyword.Hit words = fields_of (U32 ∷ Name ∷ []) (λ worker hold. Makes (Hit worker hold)) words
@@ -130,6 +138,7 @@ by_row keyword.Sweep words = fields_of (U32 ∷ []) (λ class. Makes (Sweep clas
 by_row keyword.Drain words = fields_of [] (Makes Drain) words
 by_row keyword.Close words = fields_of (U32 ∷ []) (λ worker. Makes (Close worker)) words
 by_row keyword.Show words = fields_of [] (Makes Show) words
+by_row keyword.Moves words = fields_of [] (Makes Moves) words
 by_row keyword.Par words = fields_of [] (Makes Par) words
 
 -- COMMAND where there is no such first word, else the fields by its row

@@ -11,7 +11,7 @@ use Rattle.trace_lines.specs.declared.lines.Line.TheVariants.{Declares, Makes}
 
 -- a command with its names as bytes
 abbrev pub seen_instruction : Instruction → lines.Instruction
-seen_instruction (instruction.Set name class label) = lines.Set name.now class label
+seen_instruction (instruction.Set start name class label) = lines.Set start name.now class label
 seen_instruction (instruction.Get worker name) = lines.Get worker name.now
 seen_instruction (instruction.Hold worker name hold) = lines.Hold worker name.now hold.now
 seen_instruction (instruction.Hit worker hold) = lines.Hit worker hold.now
@@ -23,6 +23,7 @@ seen_instruction (instruction.Sweep class) = lines.Sweep class
 seen_instruction instruction.Drain = lines.Drain
 seen_instruction (instruction.Close worker) = lines.Close worker
 seen_instruction instruction.Show = lines.Show
+seen_instruction instruction.Moves = lines.Moves
 seen_instruction instruction.Par = lines.Par
 
 -- a line with its names as bytes

@@ -1,5 +1,5 @@
 -- The printed text: ids, flags, the starts of list lines, accounts, answers, and the line of each command.
-use Rattle.std.specs.Prelude.{ℕ, List, [], ◌++◌, codes, decimal, Option, None, Some, if◌then◌else◌}
+use Rattle.std.specs.Prelude.{ℕ, Bool, true, nat_lt, List, [], ◌++◌, codes, decimal, Option, None, Some, if◌then◌else◌}
 use Rattle.bump_rules.specs.declared.bumps.Accounts.{Accounts}
 use Rattle.bump_rules.specs.declared.bumps.Applied.{Applied}
 use Rattle.bump_rules.specs.declared.bumps.Applied.TheVariants.{Moved, TimeOnly, Gone}
@@ -16,6 +16,8 @@ use Rattle.bump_rules.specs.declared.items.Head.{Head}
 use Rattle.bump_rules.specs.declared.items.ItemId.{ItemId}
 use Rattle.bump_rules.specs.declared.places.Place.{Place}
 use Rattle.bump_rules.specs.declared.places.Place.TheVariants as place
+use Rattle.bump_rules.specs.declared.places.Start.{Start}
+use Rattle.bump_rules.specs.declared.places.Start.TheVariants as start
 use Rattle.bump_rules.specs.declared.places.Tail.{Tail}
 use Rattle.bump_rules.specs.Lives.{life}
 use Rattle.trace_lines.specs.Faults.{fault_word}
@@ -47,9 +49,15 @@ abbrev pub place_word : Place → List ℕ
 place_word place.Hot = codes "hot"
 place_word place.Warm = codes "warm"
 place_word place.Cold = codes "cold"
+place_word place.Temp = codes "temp"
 place_word place.Dying = codes "dying"
 place_word place.Unused = codes "unused"
 place_word place.Retired = codes "retired"
+
+-- The list of TEMP is told of only where it isn't empty.
+abbrev pub is_shown : Place → ℕ → Bool
+is_shown place.Temp size = nat_lt 0 size
+is_shown _ size = true
 
 -- class CLASS LIST SIZE
 abbrev pub list_start : ℕ → Place → ℕ → List ℕ
@@ -125,9 +133,14 @@ abbrev pub told : Option Answer → List ℕ
 told None = codes "closed"
 told (Some given) = answer_text given
 
--- set NAME, and the answer
-abbrev pub set_line : List ℕ → Answer → List ℕ
-set_line name given = codes "set " ++ name ++ codes " " ++ answer_text given ++ codes "\n"
+-- the word of a link, by where its item begins
+abbrev pub link_word : Start → List ℕ
+link_word start.Hot = codes "set"
+link_word start.Temp = codes "temp"
+
+-- set NAME or temp NAME, and the answer
+abbrev pub set_line : Start → List ℕ → Answer → List ℕ
+set_line begins name given = link_word begins ++ codes " " ++ name ++ codes " " ++ answer_text given ++ codes "\n"
 
 -- get WORKER NAME
 abbrev pub get_start : ℕ → List ℕ → List ℕ
@@ -189,6 +202,11 @@ bump_line worker entry = codes "bump " ++ decimal worker ++ codes " " ++ entry_t
 -- drain COUNT
 abbrev pub drain_line : ℕ → List ℕ
 drain_line count = codes "drain " ++ decimal count ++ codes "\n"
+
+-- moves CLASS WORKER COUNT
+abbrev pub moves_line : ℕ → ℕ → ℕ → List ℕ
+moves_line class worker count = codes "moves " ++ decimal class ++ codes " " ++ decimal worker ++ codes " "
+    ++ decimal count ++ codes "\n"
 
 -- close WORKER
 abbrev pub close_start : ℕ → List ℕ

@@ -39,7 +39,7 @@ pub enum Fault {
     /// A ring's capacity is not 1 to 65,536.
     Capacity,
 
-    /// The limit of reference counts is not 2 to 65,535.
+    /// The limit of reference counts is not 2 to 1,048,575.
     Refs,
 
     /// The first generation is 0.

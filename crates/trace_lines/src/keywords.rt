@@ -15,6 +15,9 @@ pub enum Keyword {
     /// `set`: an item is stored under a name.
     Set,
 
+    /// `temp`: an item is stored in TEMP under a name.
+    Temp,
+
     /// `get`: the item of a name is held, read, hit and given back.
     Get,
 
@@ -48,15 +51,19 @@ pub enum Keyword {
     /// `show`: all lists and accounts are printed.
     Show,
 
+    /// `moves`: the moves for bumps of each class and worker are counted.
+    Moves,
+
     /// `par`: only some lines may follow.
     Par,
 }
 
 /// All first words, in the order in which they are looked for.
-const KEYWORDS: [Keyword; 15] = [
+const KEYWORDS: [Keyword; 17] = [
     Keyword::Store,
     Keyword::Class,
     Keyword::Set,
+    Keyword::Temp,
     Keyword::Get,
     Keyword::Hold,
     Keyword::Hit,
@@ -68,6 +75,7 @@ const KEYWORDS: [Keyword; 15] = [
     Keyword::Drain,
     Keyword::Close,
     Keyword::Show,
+    Keyword::Moves,
     Keyword::Par,
 ];
 
@@ -82,6 +90,7 @@ impl Keyword {
             Keyword::Store => "store",
             Keyword::Class => "class",
             Keyword::Set => "set",
+            Keyword::Temp => "temp",
             Keyword::Get => "get",
             Keyword::Hold => "hold",
             Keyword::Hit => "hit",
@@ -93,6 +102,7 @@ impl Keyword {
             Keyword::Drain => "drain",
             Keyword::Close => "close",
             Keyword::Show => "show",
+            Keyword::Moves => "moves",
             Keyword::Par => "par",
         }
     }

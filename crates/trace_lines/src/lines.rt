@@ -8,7 +8,7 @@ ghost use Rattle.trace_lines.specs.Seen.{seen_line, Gives, Says};
 use crate::faults::{Fault, LineError};
 use crate::fields::{name_field, segment_field, u32_field, u64_field};
 use crate::keywords::{Keyword, read_keyword};
-use bump_rules::{ClassConfig, Tail};
+use bump_rules::{ClassConfig, Start, Tail};
 use smallvec::SmallVec;
 use std::alloc::{AllocError, Global};
 
@@ -41,8 +41,11 @@ pub enum Declaration {
 /// A line that says what is done on the open store.
 #[derive(Clone, Copy)]
 pub enum Instruction<'a> {
-    /// `set`: an item is stored under a name.
+    /// `set` or `temp`: an item is stored under a name.
     Set {
+        /// Where the item begins: `set` in HOT, `temp` in TEMP.
+        start: Start,
+
         /// The name that is bound to the item.
         name: &'a [u8],
 
@@ -128,6 +131,9 @@ pub enum Instruction<'a> {
     /// `show`: all lists and accounts are printed.
     Show,
 
+    /// `moves`: for each class and worker, how many moves for bumps there were.
+    Moves,
+
     /// `par`: only some lines may follow.
     Par,
 }
@@ -153,6 +159,7 @@ impl<'a> Instruction<'a> {
             | Instruction::Drop { .. }
             | Instruction::Close { .. }
             | Instruction::Show
+            | Instruction::Moves
             | Instruction::Par => false,
         }
     }
@@ -281,7 +288,21 @@ fn by_keyword<'a>(keyword: Keyword, words: &[&'a [u8]]) -> Result<Line<'a>, Faul
         }
         Keyword::Set => {
             let (name, class, label) = name_and_numbers(words)?;
-            Instruction::Set { name, class, label }
+            Instruction::Set {
+                start: Start::Hot,
+                name,
+                class,
+                label,
+            }
+        }
+        Keyword::Temp => {
+            let (name, class, label) = name_and_numbers(words)?;
+            Instruction::Set {
+                start: Start::Temp,
+                name,
+                class,
+                label,
+            }
         }
         Keyword::Get => {
             let (worker, name) = number_and_name(words)?;
@@ -315,6 +336,10 @@ fn by_keyword<'a>(keyword: Keyword, words: &[&'a [u8]]) -> Result<Line<'a>, Faul
         Keyword::Show => {
             no_field(words)?;
             Instruction::Show
+        }
+        Keyword::Moves => {
+            no_field(words)?;
+            Instruction::Moves
         }
         Keyword::Par => {
             no_field(words)?;

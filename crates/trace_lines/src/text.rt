@@ -2,12 +2,13 @@
 //! there.
 
 ghost use Rattle.std.specs.Prelude.{◌≡◌, ◌++◌, OnOk, codes, decimal};
-ghost use Rattle.trace_lines.specs.Text.{id_text, flags_text, item_text, chunk_text, place_word, list_start, accounts_text, accounts_line, touch_text, pulled_text, applied_text, entry_text, answer_text, told, set_line, get_line, busy_get_line, get_held_line, hold_line, busy_hold_line, hit_line, read_line, drop_line, del_line, pull_line, sweep_line, bump_line, drain_line, close_start, closed_line, fault_line};
+ghost use Rattle.trace_lines.specs.Text.{id_text, flags_text, item_text, chunk_text, place_word, is_shown, list_start, accounts_text, accounts_line, touch_text, pulled_text, applied_text, entry_text, answer_text, told, link_word, set_line, get_line, busy_get_line, get_held_line, hold_line, busy_hold_line, hit_line, read_line, drop_line, del_line, pull_line, sweep_line, bump_line, drain_line, moves_line, close_start, closed_line, fault_line};
 ghost use Rattle.trace_lines.specs.Fields.{tail_word};
 
 use crate::faults::Fault;
 use bump_rules::{
-    Accounts, Answer, Applied, Dropped, Ended, Entry, Head, ItemId, Place, Pulled, Tail, Touch,
+    Accounts, Answer, Applied, Dropped, Ended, Entry, Head, ItemId, Place, Pulled, Start, Tail,
+    Touch,
 };
 use itoa::Buffer;
 use std::alloc::AllocError;
@@ -78,9 +79,20 @@ fn word_of_place(place: Place) -> &'static str
         Place::Hot => "hot",
         Place::Warm => "warm",
         Place::Cold => "cold",
+        Place::Temp => "temp",
         Place::Dying => "dying",
         Place::Unused => "unused",
         Place::Retired => "retired",
+    }
+}
+
+/// Whether a list of so many chunks is told of: TEMP's isn't where it is empty.
+pub fn is_shown(place: Place, len: u32) -> bool
+    ensures { result ≡ is_shown place len }
+{
+    match place {
+        Place::Temp => len > 0,
+        _ => true,
     }
 }
 
@@ -224,11 +236,26 @@ fn put_told(out: &mut Vec<u8>, answer: Option<Answer>) -> Result<(), AllocError>
     }
 }
 
-/// The line of a `set`.
-pub fn put_set(out: &mut Vec<u8>, name: &[u8], answer: Answer) -> Result<(), AllocError>
-    ensures { OnOk result (out.new.items ≡ out.old.items ++ set_line name.now answer) }
+fn word_of_link(start: Start) -> &'static str
+    ensures { result.now ≡ link_word start }
 {
-    out.extend_from_slice(b"set ")?;
+    match start {
+        Start::Hot => "set",
+        Start::Temp => "temp",
+    }
+}
+
+/// The line of a `set`, or of a `temp`.
+pub fn put_set(
+    out: &mut Vec<u8>,
+    start: Start,
+    name: &[u8],
+    answer: Answer,
+) -> Result<(), AllocError>
+    ensures { OnOk result (out.new.items ≡ out.old.items ++ set_line start name.now answer) }
+{
+    out.extend_from_slice(word_of_link(start).as_bytes())?;
+    out.extend_from_slice(b" ")?;
     out.extend_from_slice(name)?;
     out.extend_from_slice(b" ")?;
     put_answer(out, answer)?;
@@ -398,6 +425,21 @@ pub fn put_drain(out: &mut Vec<u8>, count: u64) -> Result<(), AllocError>
     ensures { OnOk result (out.new.items ≡ out.old.items ++ drain_line count) }
 {
     put_word(out, b"drain ", count)?;
+    out.extend_from_slice(b"\n")
+}
+
+/// The line of a class and a worker of `moves`.
+pub fn put_moves(
+    out: &mut Vec<u8>,
+    class: u32,
+    worker: u32,
+    count: u64,
+) -> Result<(), AllocError>
+    ensures { OnOk result (out.new.items ≡ out.old.items ++ moves_line class worker count) }
+{
+    put_word(out, b"moves ", u64::from(class))?;
+    put_word(out, b" ", u64::from(worker))?;
+    put_word(out, b" ", count)?;
     out.extend_from_slice(b"\n")
 }
 

@@ -79,6 +79,16 @@ pub fn again_in_warm()
     ensures { verdict_of (codes "store 1 4 4 1\nclass 2 0 1\nset a 0 7\nget 0 a\nget 0 a\npull 0 hot\nget 0 a\npull 0 warm\npull 0 warm\nsweep 0\nshow\n") ≡ record { text = codes "set a 0.1\nget 0 a 7 first\nget 0 a 7 marked\npull 0 hot warm 0.1\nget 0 a 7 marked\npull 0 warm again 0.1\npull 0 warm stay 0.1\nsweep 0 0\nclass 0 hot 0\nclass 0 warm 1 0.1:1:f:7\nclass 0 cold 0\nclass 0 dying 0\nclass 0 unused 1 1\nclass 0 retired 0\nworker 0 attempted 0 accepted 0 full 0 busy 0 refs 0 applied 0\n"; is_fault = false } }
 {}
 
+/// An item of TEMP stays there, whatever is pulled; hits mark it and queue nothing.
+pub fn hits_in_temp()
+    ensures { verdict_of (codes "store 1 4 4 1\nclass 2 0 5\ntemp a 0 7\nget 0 a\nget 0 a\nget 0 a\npull 0 hot\npull 0 evict\nshow\ndel a\n") ≡ record { text = codes "temp a 0.1\nget 0 a 7 first\nget 0 a 7 marked\nget 0 a 7 already\npull 0 hot empty\npull 0 evict empty\nclass 0 hot 0\nclass 0 warm 0\nclass 0 cold 0\nclass 0 temp 1 0.1:1:fa:5\nclass 0 dying 0\nclass 0 unused 1 1\nclass 0 retired 0\nworker 0 attempted 0 accepted 0 full 0 busy 0 refs 0 applied 0\ndel a freed\n"; is_fault = false } }
+{}
+
+/// Where no chunk is free none goes to TEMP.
+pub fn full_for_temp()
+    ensures { verdict_of (codes "store 1 4 4 1\nclass 1 0 5\nset a 0 7\ntemp b 0 8\n") ≡ record { text = codes "set a 0.1\ntemp b full\n"; is_fault = false } }
+{}
+
 /// The second class has the chunks behind those of the first.
 pub fn two_classes()
     ensures { verdict_of (codes "store 1 4 4 1\nclass 1 5 5\nclass 2 5 5\nset a 1 7\nshow\n") ≡ record { text = codes "set a 1.1\nclass 0 hot 0\nclass 0 warm 0\nclass 0 cold 0\nclass 0 dying 0\nclass 0 unused 1 0\nclass 0 retired 0\nclass 1 hot 1 1.1:1:-:4\nclass 1 warm 0\nclass 1 cold 0\nclass 1 dying 0\nclass 1 unused 1 2\nclass 1 retired 0\nworker 0 attempted 0 accepted 0 full 0 busy 0 refs 0 applied 0\n"; is_fault = false } }

@@ -22,7 +22,9 @@ use faults::{
     EVERY_LINE_FAULT, EVERY_STORE_FAULT, LINE_COUNTS, LINE_FIELDS, LINE_NAMES, LINE_ORDER,
     PAIRS_OF_CONFIGS, PAIRS_OF_FIELDS, PAIRS_OF_STORES, PAIRS_OF_WORDS, SURPRISES,
 };
-use worked::{COUNT_FAULTS, FIELD_FAULTS, HOSTILE_FAULTS, ORDER_FAULTS, WORKED, WORKED_FAULTS};
+use worked::{
+    COUNT_FAULTS, FIELD_FAULTS, HOSTILE_FAULTS, ORDER_FAULTS, TEMP, WORKED, WORKED_FAULTS,
+};
 
 /// The text that a trace gives, and how its run ends.
 fn text_by(alloc: Global, keys: RandomState, trace: &[u8]) -> (Vec<u8>, Result<(), SimFault>) {
@@ -93,6 +95,11 @@ fn gives(
 #[test]
 fn worked_traces(rt: HostRuntime) -> Result<(), Fail> {
     gives(&rt, rt.alloc(), &WORKED, Ok(()))
+}
+
+#[test]
+fn worked_temp(rt: HostRuntime) -> Result<(), Fail> {
+    gives(&rt, rt.alloc(), &TEMP, Ok(()))
 }
 
 #[test]
@@ -326,26 +333,29 @@ fn a_byte_more_than_the_longest_trace(rt: HostRuntime) -> Result<(), Fail> {
     Ok(())
 }
 
-/// A trace with as many holds of one item as there may be, and one more, and its text.
-fn most_holds(alloc: Global) -> Result<(Vec<u8>, Vec<u8>), Fail> {
+/// A trace with as many holds of one item as a limit of references allows, and one more, and its text.
+fn most_holds(alloc: Global, limit: u32) -> Result<(Vec<u8>, Vec<u8>), Fail> {
     let mut trace = Vec::new(alloc);
     let mut text = Vec::new(alloc);
-    trace.extend_from_slice(b"store 1 4 65535 1\nclass 1 5 5\nset a 0 7\n")?;
+    trace.extend_from_slice(
+        format!(in alloc; "store 1 4 {limit} 1\nclass 1 5 5\nset a 0 7\n")?.as_bytes(),
+    )?;
     text.extend_from_slice(b"set a 0.1\n")?;
-    for hold in 0..65_534u32 {
+    let last = limit.saturating_sub(1);
+    for hold in 0..last {
         trace.extend_from_slice(format!(in alloc; "hold 0 a h{hold}\n")?.as_bytes())?;
         text.extend_from_slice(format!(in alloc; "hold 0 a h{hold} held\n")?.as_bytes())?;
     }
-    trace.extend_from_slice(b"hold 0 a h65534\n")?;
-    text.extend_from_slice(b"hold 0 a h65534 refs\n")?;
+    trace.extend_from_slice(format!(in alloc; "hold 0 a h{last}\n")?.as_bytes())?;
+    text.extend_from_slice(format!(in alloc; "hold 0 a h{last} refs\n")?.as_bytes())?;
     Ok((trace, text))
 }
 
-/// The greatest limit of references leaves room for 65,534 holds of a linked item.
+/// A limit of 65,536 references leaves room for 65,535 holds of a linked item.
 #[test]
 fn as_many_holds_as_there_may_be(rt: HostRuntime) -> Result<(), Fail> {
     let keys = RandomState::new(&rt)?;
-    let (trace, text) = most_holds(rt.alloc())?;
+    let (trace, text) = most_holds(rt.alloc(), 65_536)?;
     let told = text_by(rt.alloc(), keys, &trace);
     expect_run(&rt, "most holds, by the model", &told, Ok(()), &text);
     let told = serial_text_by(&rt, rt.alloc(), keys, &trace);

@@ -41,13 +41,13 @@ const FAULTS: [(Numbers, &[Sizes], Option<ConfigFault>); 13] = [
     ((65, 4, 1, 1), &[(2, 5, 5)], Some(ConfigFault::Workers)),
     ((1, 0, 1, 1), &[(2, 5, 5)], Some(ConfigFault::Capacity)),
     (
-        (1, 65_537, 65_536, 1),
+        (1, 65_537, 1_048_576, 1),
         &[(2, 5, 5)],
         Some(ConfigFault::Capacity),
     ),
     ((1, 4, 1, 0), &[(2, 5, 5)], Some(ConfigFault::RefsLimit)),
     (
-        (1, 4, 65_536, 0),
+        (1, 4, 1_048_576, 0),
         &[(2, 5, 5)],
         Some(ConfigFault::RefsLimit),
     ),
@@ -57,7 +57,7 @@ const FAULTS: [(Numbers, &[Sizes], Option<ConfigFault>); 13] = [
     (GOOD, &[(0, 5, 5)], Some(ConfigFault::Chunks)),
     (GOOD, &[(1_000_001, 5, 5)], Some(ConfigFault::Chunks)),
     (GOOD, &[(2, 5, 5)], None),
-    ((64, 65_536, 65_535, u32::MAX), &[(2, 5, 5)], None),
+    ((64, 65_536, 1_048_575, u32::MAX), &[(2, 5, 5)], None),
 ];
 
 /// A configuration of these numbers and classes has this fault first, or none.

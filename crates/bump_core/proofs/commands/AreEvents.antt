@@ -6,6 +6,7 @@ use Rattle.bump_rules.specs.declared.events.Refused.{Refused}
 use Rattle.bump_rules.specs.declared.events.Refused.TheVariants.{NotEnabled, OutOfMemory}
 use Rattle.bump_rules.specs.declared.commands.Command.{Command}
 use Rattle.bump_rules.specs.declared.commands.Command.TheVariants as command
+use Rattle.bump_rules.specs.declared.places.Start.TheVariants as start
 use Rattle.bump_state.specs.State.{State, SameSizes}
 use Rattle.bump_state.specs.Worlds.{IsLawful}
 use Rattle.bump_core.specs.Runs.{run_of, made_by}
@@ -22,7 +23,8 @@ use Rattle.bump_core.proofs.commands.LanesAsEvents.{next_made}
 -- a command leaves the state that its events leave
 pub commands_are_events : (s : State) → IsLawful s → (c : Command) → is_allowed s c ≡ true → run_of s (events_of s c)
     ≡ Some (command_after s c)
-commands_are_events s o (command.Link k x now) allowed = link_made s o k x now allowed
+commands_are_events s o (command.Link k x now) allowed = link_made s o start.Hot k x now allowed
+commands_are_events s o (command.LinkTemp k x now) allowed = link_made s o start.Temp k x now allowed
 commands_are_events s o (command.Unlink l) allowed = unlink_made s o l allowed
 commands_are_events s o (command.Sweep k) allowed = sweep_made s o k allowed
 commands_are_events s o (command.Pull k t) allowed = pull_made s o k t allowed

@@ -1,5 +1,5 @@
 -- Commands that are made: what each row asks of its answer and of the state that is left, from what its code knows.
-use Rattle.std.proofs.Common.{◌≡◌, ℕ, ◌+◌, ◌<◌, ◌≤◌, ltb, eqb, Bool, true, false, not, ◌&&◌, ◌||◌, [], ◌∷◌, ◌++◌, Option, Some, Ok, if◌then◌else◌, refl, sym, ap, ap₂, ◌∙◌}
+use Rattle.std.proofs.Common.{◌≡◌, ℕ, ◌+◌, ◌<◌, ◌≤◌, ltb, eqb, Bool, true, false, not, ◌&&◌, ◌||◌, [], ◌∷◌, ◌++◌, Option, Some, Ok, Err, if◌then◌else◌, refl, sym, ap, ap₂, ◌∙◌}
 use Rattle.std.specs.Option.{option_map_or}
 use Rattle.std.specs.Prelude.{is_none}
 use Rattle.std.proofs.lemmas.Bool.{and_parts, and_from, cond-true, cond-false, lt-ltb, le-ltb}
@@ -13,15 +13,20 @@ use Rattle.bump_rules.specs.declared.bumps.Outcome.{Outcome}
 use Rattle.bump_rules.specs.declared.bumps.Outcome.TheVariants as outcome
 use Rattle.bump_rules.specs.declared.commands.Answer.TheVariants as answer
 use Rattle.bump_rules.specs.declared.commands.Command.TheVariants as command
+use Rattle.bump_rules.specs.declared.events.Event.TheVariants as event
+use Rattle.bump_rules.specs.declared.events.Refused.TheVariants.{OutOfMemory}
 use Rattle.bump_rules.specs.declared.commands.Hit.{Hit}
 use Rattle.bump_rules.specs.declared.commands.Hit.TheVariants.{First as IsFirst}
-use Rattle.bump_rules.specs.declared.history.Change.TheVariants as change
+use Rattle.bump_rules.specs.declared.places.Start.{Start}
+use Rattle.bump_rules.specs.declared.places.Start.TheVariants as start
 use Rattle.bump_rules.specs.Heads.{linked_head, fetched_head, one_fewer}
+use Rattle.bump_rules.specs.Starts.{begun_change, link_event}
 use Rattle.bump_rules.specs.Lives.{life}
 use Rattle.bump_rules.specs.Tables.{Get, IsStale, IsRefsFull, IsHeld, hit_of, outcome_of, ended_of}
 use Rattle.bump_state.specs.State.{State, chunk_at, head_at, worker_at, class_of, is_chunk, is_class, is_linked, is_current, is_open, with_chunk, with_head, with_worker, with_change}
-use Rattle.bump_state.specs.Events.{is_at_rest, next_chunk, next_life}
-use Rattle.bump_core.specs.Commands.{Commands, get_at, get_answer, held_by_get, unlink_item, unlinked_as, link_labelled, hit, hit_at, bumped_chunk, bumped_worker, bumped_lists, apply_bump}
+use Rattle.bump_state.specs.Events.{is_at_rest, next_chunk, next_life, asks_for_memory, after}
+use Rattle.bump_core.specs.Runs.{one_asks}
+use Rattle.bump_core.specs.Commands.{Commands, Stores, store_events, get_at, get_answer, held_by_get, unlink_item, unlinked_as, link_labelled, hit, hit_at, bumped_chunk, bumped_worker, bumped_lists, apply_bump}
 
 -- A get.
 module _ (s : State) (w : ℕ) (l : ItemId) (may : is_open s w ≡ true) where
@@ -98,20 +103,35 @@ life_ended s l e new there linked rest comes left = (
 
 -- A link.
 -- the first free chunk of a class at rest begins its next life
-pub life_begun : (s : State) (k x now c : ℕ) (z : Chunk) (h : Head) (listed new : State) → is_class s k ≡ true
-    → is_at_rest s k ≡ true → Some c ≡ next_chunk s k → z ≡ chunk_at s c
-    → listed ≡ with_change s k (change.Linked (life c (z.head.generation + 1)))
-    → h ≡ linked_head (z.head.generation + 1)
+pub life_begun : (s : State) (a : Start) (k x now c : ℕ) (z : Chunk) (h : Head) (listed new : State)
+    → is_class s k ≡ true → is_at_rest s k ≡ true → Some c ≡ next_chunk s k → z ≡ chunk_at s c
+    → listed ≡ with_change s k (begun_change a (life c (z.head.generation + 1)))
+    → h ≡ linked_head a (z.head.generation + 1)
     → new ≡ with_chunk listed c (record z { head = h; time = now; label = x })
-    → Commands s (command.Link k x now) new (Ok (answer.Linked (life c (z.head.generation + 1))))
-life_begun s k x now c z h listed new there rest is read lists head left = (
+    → Stores s a k x now new (Ok (answer.Linked (life c (z.head.generation + 1))))
+life_begun s a k x now c z h listed new there rest is read lists head left = (
   and_from _ _ there (ap (λ (o : Option ℕ). is_none o || is_at_rest s k) (sym is) ∙ rest),
   left ∙ (ap₂ (λ (t : State) (g : Head). with_chunk t c (record z { head = g; time = now; label = x })) lists head
-      ∙ (ap (λ (a : Chunk). with_chunk (with_change s k (change.Linked (life c (a.head.generation + 1)))) c
-      (record a { head = linked_head (a.head.generation + 1); time = now; label = x })) read
-      ∙ ap (λ (o : Option ℕ). option_map_or (link_labelled s k x now) o s) is)),
-  ap (λ (a : Chunk). answer.Linked (life c (a.head.generation + 1))) read
+      ∙ (ap (λ (y : Chunk). with_chunk (with_change s k (begun_change a (life c (y.head.generation + 1)))) c
+      (record y { head = linked_head a (y.head.generation + 1); time = now; label = x })) read
+      ∙ ap (λ (o : Option ℕ). option_map_or (link_labelled s a k x now) o s) is)),
+  ap (λ (y : Chunk). answer.Linked (life c (y.head.generation + 1))) read
       ∙ ap (λ (o : Option ℕ). option_map_or (λ d. answer.Linked (next_life s d)) o answer.NoFreeChunk) is,
+)
+
+-- which asks for memory
+link_asks : (s : State) (a : Start) (k : ℕ) → asks_for_memory s (link_event a k) ≡ true
+link_asks s start.Hot k = refl
+link_asks s start.Temp k = refl
+
+pub store_wants : (s : State) (a : Start) (k x now c : ℕ) (new : State) → is_class s k ≡ true → is_at_rest s k ≡ true
+    → Some c ≡ next_chunk s k → new ≡ s → Stores s a k x now new (Err OutOfMemory)
+store_wants s a k x now c new there rest is left = (
+  and_from _ _ there (ap (λ (o : Option ℕ). is_none o || is_at_rest s k) (sym is) ∙ rest),
+  left,
+  ap (λ (o : Option ℕ). one_asks s (option_map_or
+      (λ _. event.PutLabel k x ∷ event.PutTime k now ∷ link_event a k ∷ []) o [])) (sym is)
+      ∙ ap (λ b. b || false) (link_asks (after (after s (event.PutLabel k x)) (event.PutTime k now)) a k),
 )
 
 -- A hit.

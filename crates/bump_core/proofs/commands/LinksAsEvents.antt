@@ -5,16 +5,17 @@ use Rattle.std.proofs.lemmas.Bool.{and_parts, and_from, ltb-true}
 use Rattle.std.specs.Option.{option_map_or}
 use Rattle.std.proofs.lemmas.List.{get_or-set_same, set-set}
 use Rattle.bump_state.specs.declared.chunks.Chunk.{Chunk}
-use Rattle.bump_rules.specs.declared.history.Change.TheVariants as change
 use Rattle.bump_rules.specs.declared.events.Event.TheVariants as event
-use Rattle.bump_rules.specs.declared.commands.Command.TheVariants as command
+use Rattle.bump_rules.specs.declared.places.Start.{Start}
+use Rattle.bump_rules.specs.declared.places.Start.TheVariants as start
+use Rattle.bump_rules.specs.Starts.{begun_change, link_event}
 use Rattle.bump_rules.specs.Lives.{life}
 use Rattle.bump_state.specs.State.{State, chunk_at, head_at, no_chunk, is_class, with_chunk, with_change, is_under_application}
 use Rattle.bump_state.specs.Worlds.{IsLawful}
-use Rattle.bump_state.specs.Events.{after, is_class_at_rest, next_chunk, next_life, with_label, with_time, link}
+use Rattle.bump_state.specs.Events.{is_enabled, after, is_class_at_rest, may_link, next_chunk, next_life, with_label, with_time, link, link_next}
 use Rattle.bump_rules.specs.Heads.{linked_head}
 use Rattle.bump_core.specs.Runs.{run_of}
-use Rattle.bump_core.specs.Commands.{is_allowed, events_of, command_after, link_labelled}
+use Rattle.bump_core.specs.Commands.{may_store, store_events, store_item, link_labelled}
 use Rattle.bump_state.proofs.Fronts.{next_front}
 use Rattle.bump_core.proofs.events.Runs.{run_step}
 
@@ -28,13 +29,23 @@ at_rest s k c m is allowed = let both = and_parts (is_class s k) (is_none m || n
     (is_under_application s k)) (sym is) ∙ both.1 in
     (ltb-true k (length s.classes) both.0, and_from (is_class s k) (not (is_under_application s k)) both.0 rest, rest)
 
+-- when the event of a link is enabled, and what it leaves
+link_enabled : (s : State) (a : Start) (k : ℕ) → is_enabled s (link_event a k) ≡ may_link s k
+link_enabled s start.Hot k = refl
+link_enabled s start.Temp k = refl
+
+link_left : (s : State) (a : Start) (k : ℕ) → after s (link_event a k) ≡ link_next s a k
+link_left s start.Hot k = refl
+link_left s start.Temp k = refl
+
 -- a link stores the label and the time, and begins the life
-pub link_made : (s : State) → IsLawful s → (k x now : ℕ) → is_allowed s (command.Link k x now) ≡ true
-    → run_of s (events_of s (command.Link k x now)) ≡ Some (command_after s (command.Link k x now))
-link_made s o k x now allowed = by (next_chunk s k) refl
+pub link_made : (s : State) → IsLawful s → (a : Start) (k x now : ℕ) → may_store s k ≡ true
+    → run_of s (store_events s a k x now) ≡ Some (store_item s a k x now)
+link_made s o a k x now allowed = by (next_chunk s k) refl
   where
     linked : (c : ℕ) → next_chunk s k ≡ Some c
-        → run_of s (event.PutLabel k x ∷ event.PutTime k now ∷ event.Link k ∷ []) ≡ Some (link_labelled s k x now c)
+        → run_of s (event.PutLabel k x ∷ event.PutTime k now ∷ link_event a k ∷ [])
+        ≡ Some (link_labelled s a k x now c)
     linked c is =
         let found = at_rest s k c (next_chunk s k) is allowed in
         let c_in = (next_front s o k c found.0 is).1 in
@@ -51,18 +62,19 @@ link_made s o k x now allowed = by (next_chunk s k) refl
         let put_too : after t (event.PutTime k now) ≡ u = ap (λ m. option_map_or (λ d. with_time t d now) m t) is
         ∙ ap (λ cs. record s { chunks = cs }) (set-set s.chunks c y (record (chunk_at t c) { time = now })
         ∙ ap (λ a. slice_set s.chunks c (record a { time = now })) read) in
-        let done : after u (event.Link k) ≡ link_labelled s k x now c = ap (λ m. option_map_or (link u k) m u) is
-        ∙ (ap (λ cs. with_change (record s { chunks = cs }) k (change.Linked (next_life u c))) (set-set s.chunks c v
-        (record (chunk_at u c) { head = linked_head ((head_at u c).generation + 1) })
-        ∙ ap (λ a. slice_set s.chunks c (record a { head = linked_head (a.head.generation + 1) })) read_too)
-        ∙ ap (λ a. with_change (with_chunk s c (record v { head = linked_head (z.head.generation + 1) })) k
-        (change.Linked (life c (a.head.generation + 1)))) read_too) in
-        run_step s t (event.PutLabel k x) (event.PutTime k now ∷ event.Link k ∷ []) enabled put
-        ∙ (run_step t u (event.PutTime k now) (event.Link k ∷ []) enabled put_too
-        ∙ run_step u (link_labelled s k x now c) (event.Link k) [] enabled done)
+        let done : link_next u a k ≡ link_labelled s a k x now c = ap (λ m. option_map_or (link u a k) m u) is
+        ∙ (ap (λ cs. with_change (record s { chunks = cs }) k (begun_change a (next_life u c))) (set-set s.chunks c v
+        (record (chunk_at u c) { head = linked_head a ((head_at u c).generation + 1) })
+        ∙ ap (λ y. slice_set s.chunks c (record y { head = linked_head a (y.head.generation + 1) })) read_too)
+        ∙ ap (λ y. with_change (with_chunk s c (record v { head = linked_head a (z.head.generation + 1) })) k
+        (begun_change a (life c (y.head.generation + 1)))) read_too) in
+        run_step s t (event.PutLabel k x) (event.PutTime k now ∷ link_event a k ∷ []) enabled put
+        ∙ (run_step t u (event.PutTime k now) (link_event a k ∷ []) enabled put_too
+        ∙ run_step u (link_labelled s a k x now c) (link_event a k) [] (link_enabled u a k ∙ enabled)
+        (link_left u a k ∙ done))
 
     by : (m : Option ℕ) → next_chunk s k ≡ m
-        → run_of s (option_map_or (λ c. event.PutLabel k x ∷ event.PutTime k now ∷ event.Link k ∷ []) m [])
-        ≡ Some (option_map_or (link_labelled s k x now) m s)
+        → run_of s (option_map_or (λ c. event.PutLabel k x ∷ event.PutTime k now ∷ link_event a k ∷ []) m [])
+        ≡ Some (option_map_or (link_labelled s a k x now) m s)
     by None is = refl
     by (Some c) is = linked c is

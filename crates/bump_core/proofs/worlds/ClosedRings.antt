@@ -6,6 +6,7 @@ use Rattle.std.proofs.lemmas.List.{get_or-set_other}
 use native.Mathlib.Decide.{ℕ_discrete}
 use Rattle.bump_rules.specs.declared.events.Event.{Event}
 use Rattle.bump_rules.specs.declared.events.Event.TheVariants as event
+use Rattle.bump_rules.specs.declared.places.Start.TheVariants as start
 use Rattle.bump_state.specs.Events.{is_enabled, after, next_chunk, next_bump, ending, waiting, reserve, drop_refs, drop_busy, push, drop_full, unmark, with_label, with_time, link, take_bump, clear_for, move_for, alight}
 use Rattle.bump_rules.specs.Lanes.{carried, tried, applied_now, cleared_active}
 use Rattle.bump_core.specs.Headline.{ClosedStay, ClosedStayFrom}
@@ -75,8 +76,10 @@ closed_after s (event.PutLabel k x) enabled = by_value (ClosedStay s) (λ c. wit
     (λ c is. closed_here s) (closed_here s)
 closed_after s (event.PutTime k t) enabled = by_value (ClosedStay s) (λ c. with_time s c t) (next_chunk s k) s
     (λ c is. closed_here s) (closed_here s)
-closed_after s (event.Link k) enabled = by_value (ClosedStay s) (link s k) (next_chunk s k) s (λ c is. closed_here s)
-    (closed_here s)
+closed_after s (event.Link k) enabled = by_value (ClosedStay s) (link s start.Hot k) (next_chunk s k) s
+    (λ c is. closed_here s) (closed_here s)
+closed_after s (event.LinkTemp k) enabled = by_value (ClosedStay s) (link s start.Temp k) (next_chunk s k) s
+    (λ c is. closed_here s) (closed_here s)
 closed_after s (event.Unlink l) enabled = closed_here s
 closed_after s (event.Sweep c) enabled = closed_here s
 closed_after s (event.ClearActive c) enabled = closed_here s

@@ -11,11 +11,12 @@ use Rattle.bump_rules.specs.Lists.{list_at, times_in_all}
 use Rattle.bump_state.specs.Rings.{in_ring, IsWorker}
 use Rattle.bump_rules.specs.Rings.{numbered_from}
 use Rattle.bump_state.specs.State.{State, WorkerState, class_at, head_at, worker_at}
-use Rattle.bump_state.specs.Worlds.{owns, place, place_in, stands_in, IsLawful}
+use Rattle.bump_state.specs.Worlds.{owns, place, place_in, stands_in, is_of_class, IsLawful}
 use Rattle.bump_state.proofs.LawfulStates.{referred_in_range, referred_used}
 use Rattle.bump_state.proofs.Fronts.{times_in, listed, never_at}
 use Rattle.bump_core.proofs.worlds.TrueEntries.{named_once, move_shown, not_named, true_entry}
 use Rattle.bump_state.proofs.Ring.{numbered_append}
+use Rattle.bump_rules.proofs.MovesOf.{moves_as_told}
 use Rattle.bump_rules.proofs.Standings.{other_place, once_in_places}
 
 -- a lawful worker's lane applies what its ring accepted, in order
@@ -59,6 +60,8 @@ headline s o = record {
   once = once_in_all s o;
   causes = λ k within. (o.classes k within).causes;
   moves = o.moves;
+  moves_in_all = λ k w within. moves_as_told w (is_of_class s k (λ l. true)) (class_at s k).history
+      (worker_at s w).applied (worker_at s w).lane (o.classes k within).causes (λ n. o.moves k w n (λ l. true));
   named_once = named_once s o;
   shown = λ k w n l within has. move_shown s o k w n l has;
   unmoved = λ w a within has stays. not_named s o w a has stays;

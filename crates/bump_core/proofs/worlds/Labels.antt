@@ -16,10 +16,14 @@ use Rattle.bump_rules.specs.declared.bumps.Bump.{Bump}
 use Rattle.bump_rules.specs.declared.places.Place.TheVariants.{Unused}
 use Rattle.bump_rules.specs.declared.places.Segment.{Segment}
 use Rattle.bump_rules.specs.declared.places.Segment.TheVariants as segment
+use Rattle.bump_rules.specs.declared.places.Start.{Start}
+use Rattle.bump_rules.specs.declared.places.Start.TheVariants as start
 use Rattle.bump_rules.specs.Heads.{linked_head, moved_head, one_more, one_fewer, fetched_head, marked_head, cleared_head, unlinked_head}
-use Rattle.bump_state.specs.Events.{is_enabled, after, next_chunk, next_life, next_bump, ending, reserve, drop_refs, drop_busy, push, drop_full, unmark, with_label, with_time, link, take_bump, clear_for, move_for, alight, unlink, sweep}
+use Rattle.bump_state.specs.Events.{is_enabled, after, may_link, link_next, next_chunk, next_life, next_bump, ending, reserve, drop_refs, drop_busy, push, drop_full, unmark, with_label, with_time, link, take_bump, clear_for, move_for, alight, unlink, sweep}
 use Rattle.bump_rules.specs.Lanes.{carried, tried, applied_now, cleared_active}
 use Rattle.bump_rules.specs.History.{subject, freed_change}
+use Rattle.bump_rules.specs.Starts.{begun_change}
+use Rattle.bump_rules.proofs.Beginnings.{begun_subject}
 use Rattle.bump_rules.specs.declared.labels.LabelStep.{LabelStep}
 use Rattle.bump_rules.specs.declared.labels.LabelStep.TheVariants.{Stored, Linked}
 use Rattle.bump_rules.specs.Labels.{label_of_life}
@@ -143,6 +147,7 @@ swept_stays s o c enabled =
 abbrev IsOther : Event → Type 0
 IsOther (event.PutLabel k x) = ⊥
 IsOther (event.Link k) = ⊥
+IsOther (event.LinkTemp k) = ⊥
 IsOther _ = Unit {0}
 
 -- from a lawful state each chunk stays by each such event that is enabled
@@ -177,6 +182,7 @@ stays_after s o (event.PutLabel k x) enabled other = absurd other
 stays_after s o (event.PutTime k t) enabled other = by_value (AllStay s) (λ c. with_time s c t) (next_chunk s k) s
     (λ c is. stays_written s c _ s.workers refl refl) (stays_here s)
 stays_after s o (event.Link k) enabled other = absurd other
+stays_after s o (event.LinkTemp k) enabled other = absurd other
 stays_after s o (event.Unlink l) enabled other = unlinked_stays s o l enabled
 stays_after s o (event.Sweep c) enabled other = swept_stays s o c enabled
 stays_after s o (event.ClearActive c) enabled other = stays_headed s c (cleared_head (head_at s c)) s.workers refl
@@ -197,37 +203,58 @@ stays_after s o (event.Alight w) enabled other = by_value (AllStay s) (alight s 
 
 -- What a link leaves.
 
-module _ (s : State) (o : IsLawful s) (k d : ℕ) (within : k < length s.classes) (next : next_chunk s k ≡ Some d) where
+module _ (s : State) (o : IsLawful s) (a : Start) (k d : ℕ) (within : k < length s.classes)
+    (next : next_chunk s k ≡ Some d) where
   -- the chunk is of the class
   link_owns : owns (class_at s k) d ≡ true
   link_owns = let at = next_front s o k d within next in subst (λ (j : ℕ). owns (class_at s j) d
       ≡ true) at.0 (class_owns s o.tiles d at.1)
 
+  -- its head and its entry
+  abbrev born : Head
+  born = linked_head a ((head_at s d).generation + 1)
+
+  abbrev entry : Change
+  entry = begun_change a (next_life s d)
+
+  entry_of : (subject entry).chunk ≡ d
+  entry_of = ap (λ (l : ItemId). l.chunk) (begun_subject a (next_life s d))
+
   -- it begins the next life, with the label that stands there
-  link_here : chunk_at (link s k d) d ≡ record (chunk_at s d) { head = linked_head ((head_at s d).generation + 1) }
-  link_here = chunk_changed s o d (linked_head ((head_at s d).generation + 1)) k (change.Linked
-      (next_life s d)) within link_owns refl
+  link_here : chunk_at (link s a k d) d ≡ record (chunk_at s d) { head = born }
+  link_here = chunk_changed s o d born k entry within link_owns entry_of
 
   -- the other chunks stay
-  link_else : (c : ℕ) → ((c ≡ d) → ⊥) → Stays c s (link s k d)
-  link_else c other = let there = chunk_unchanged s o d (linked_head ((head_at s d).generation + 1)) k (change.Linked
-      (next_life s d)) within link_owns refl c other in record {
-        generation = ap (λ (y : Chunk). y.head.generation) there;
-        label = ap (λ (y : Chunk). y.label) there;
-        used = λ used. subst IsUsed (place_unchanged s o d (linked_head ((head_at s d).generation + 1)) k (change.Linked
-            (next_life s d)) within link_owns refl c other) used;
-      }
+  link_else : (c : ℕ) → ((c ≡ d) → ⊥) → Stays c s (link s a k d)
+  link_else c other = let there = chunk_unchanged s o d born k entry within link_owns entry_of c other in record {
+    generation = ap (λ (y : Chunk). y.head.generation) there;
+    label = ap (λ (y : Chunk). y.label) there;
+    used = λ used. subst IsUsed (place_unchanged s o d born k entry within link_owns entry_of c other) used;
+  }
 
   -- no label changes
-  link_label : (c : ℕ) → (chunk_at (link s k d) c).label ≡ (chunk_at s c).label
+  link_label : (c : ℕ) → (chunk_at (link s a k d) c).label ≡ (chunk_at s c).label
   link_label c = by (ℕ_discrete c d)
     where
-      by : Dec (c ≡ d) → (chunk_at (link s k d) c).label ≡ (chunk_at s c).label
-      by (yes is) = ap (λ (j : ℕ). (chunk_at (link s k d) j).label) is ∙ (ap (λ (y : Chunk). y.label) link_here
+      by : Dec (c ≡ d) → (chunk_at (link s a k d) c).label ≡ (chunk_at s c).label
+      by (yes is) = ap (λ (j : ℕ). (chunk_at (link s a k d) j).label) is ∙ (ap (λ (y : Chunk). y.label) link_here
           ∙ ap (λ (j : ℕ). (chunk_at s j).label) (sym is))
       by (no other) = (link_else c other).label
 
--- The generation of a chunk never falls.
+-- The generation of a chunk never falls: by a link,
+later_link : (s : State) → IsLawful s → (a : Start) (k : ℕ) → may_link s k ≡ true → (c : ℕ)
+    → (head_at s c).generation ≤ (head_at (link_next s a k) c).generation
+later_link s o a k enabled c = by_value (λ t. (head_at s c).generation ≤ (head_at t c).generation)
+    (link s a k) (next_chunk s k) s
+    (λ d is. by d is (ℕ_discrete c d)) (omega arith)
+  where
+    by : (d : ℕ) → next_chunk s k ≡ Some d → Dec (c ≡ d)
+        → (head_at s c).generation ≤ (head_at (link s a k d) c).generation
+    by d is (yes same) = subst (λ (j : ℕ). (head_at s j).generation ≤ (head_at (link s a k d) j).generation) (sym same)
+        (omega (arith, ap (λ (y : Chunk). y.head.generation) (link_here s o a k d (next_from s k enabled).1 is)))
+    by d is (no other) = omega (arith, (link_else s o a k d (next_from s k enabled).1 is c other).generation)
+
+-- and by any event.
 later_after : (s : State) → IsLawful s → (e : Event) → is_enabled s e ≡ true → (c : ℕ)
     → (head_at s c).generation ≤ (head_at (after s e) c).generation
 later_after s o (event.PutLabel k x) enabled c = by_value (λ t. (head_at s c).generation ≤ (head_at t c).generation)
@@ -235,15 +262,8 @@ later_after s o (event.PutLabel k x) enabled c = by_value (λ t. (head_at s c).g
     (λ d is. let same = same_read (λ (y : Chunk). y.head.generation) s.chunks d (record (chunk_at s d) {
       label = x;
     }) no_chunk refl c in omega (arith, same)) (omega arith)
-later_after s o (event.Link k) enabled c = by_value (λ t. (head_at s c).generation ≤ (head_at t c).generation)
-    (link s k) (next_chunk s k) s
-    (λ d is. by d is (ℕ_discrete c d)) (omega arith)
-  where
-    by : (d : ℕ) → next_chunk s k ≡ Some d → Dec (c ≡ d)
-        → (head_at s c).generation ≤ (head_at (link s k d) c).generation
-    by d is (yes same) = subst (λ (j : ℕ). (head_at s j).generation ≤ (head_at (link s k d) j).generation) (sym same)
-        (omega (arith, ap (λ (y : Chunk). y.head.generation) (link_here s o k d (next_from s k enabled).1 is)))
-    by d is (no other) = omega (arith, (link_else s o k d (next_from s k enabled).1 is c other).generation)
+later_after s o (event.Link k) enabled c = later_link s o start.Hot k enabled c
+later_after s o (event.LinkTemp k) enabled c = later_link s o start.Temp k enabled c
 later_after s o e enabled c = omega (arith, (stays_after s o e enabled tt c).generation)
 
 -- a life that tests as this one has its chunk and its generation
@@ -273,6 +293,16 @@ link_begins s (Some d) l x y steps is = by (is_same l (next_life s d)) refl
         inl (omega (arith, ap (λ (c : ℕ). (head_at s c).generation) both.0, both.1))
     by false other = inr (sym (ap (λ (b : Bool). if b then Some x else label_of_life l x steps) other) ∙ is)
 
+-- A life that begins with a link, or behind it, had not begun before.
+begun_behind : (s : State) → IsLawful s → (a : Start) (k : ℕ) → may_link s k ≡ true → (l : ItemId) (x y : ℕ)
+    (steps : List LabelStep)
+    → (label_of_life l x steps ≡ Some y → (head_at (link_next s a k) l.chunk).generation < l.generation)
+    → label_of_life l x (option_map_or (λ c. Linked (next_life s c) ∷ []) (next_chunk s k) [] ++ steps) ≡ Some y
+    → (head_at s l.chunk).generation < l.generation
+begun_behind s o a k enabled l x y steps rest is = ⊎_elim (λ here. here)
+    (λ behind. omega (arith, rest behind, later_link s o a k enabled l.chunk))
+    (link_begins s (next_chunk s k) l x y steps is)
+
 -- A life that begins in a run had not begun before it.
 begun_later : (es : List Event) (s t : State) → IsLawful s → run_of s es ≡ Some t → (l : ItemId) (x y : ℕ)
     → label_of_life l x (label_steps s es) ≡ Some y → (head_at s l.chunk).generation < l.generation
@@ -289,13 +319,13 @@ begun_later (event.PutLabel k z ∷ es) s t o ends l x y is =
 begun_later (event.Link k ∷ es) s t o ends l x y is =
     let parts = run_parts s (event.Link k) es t ends in
     let u = after s (event.Link k) in
-    ⊎_elim (λ here. here)
-    (λ behind. omega (
-      arith,
-      begun_later es u t (lawful_after s o (event.Link k) parts.0) parts.1 l x y behind,
-      later_after s o (event.Link k) parts.0 l.chunk,
-    ))
-    (link_begins s (next_chunk s k) l x y (label_steps u es) is)
+    begun_behind s o start.Hot k parts.0 l x y (label_steps u es)
+    (λ behind. begun_later es u t (lawful_after s o (event.Link k) parts.0) parts.1 l x y behind) is
+begun_later (event.LinkTemp k ∷ es) s t o ends l x y is =
+    let parts = run_parts s (event.LinkTemp k) es t ends in
+    let u = after s (event.LinkTemp k) in
+    begun_behind s o start.Temp k parts.0 l x y (label_steps u es)
+    (λ behind. begun_later es u t (lawful_after s o (event.LinkTemp k) parts.0) parts.1 l x y behind) is
 begun_later (e ∷ es) s t o ends l x y is =
     let parts = run_parts s e es t ends in
     omega (
@@ -358,24 +388,24 @@ stored_before s d z within unused c g x steps now = by (ℕ_discrete d c)
         (still s u c g x steps (record { generation = generations; label = word; used = λ used. used }) now)
 
 -- a life begins with the label that stands at its chunk
-begun_before : (s : State) (o : IsLawful s) (k d : ℕ) (within : k < length s.classes) (next : next_chunk s k
-    ≡ Some d) (c g x : ℕ) (steps : List LabelStep)
-    → ((y : ℕ) → label_of_life (life c g) (chunk_at (link s k d) c).label steps ≡ Some y
-    → (head_at (link s k d) c).generation < g)
-    → IsLabel (link s k d) c g x (label_of_life (life c g) (chunk_at (link s k d) c).label steps)
+begun_before : (s : State) (o : IsLawful s) (a : Start) (k d : ℕ) (within : k < length s.classes)
+    (next : next_chunk s k ≡ Some d) (c g x : ℕ) (steps : List LabelStep)
+    → ((y : ℕ) → label_of_life (life c g) (chunk_at (link s a k d) c).label steps ≡ Some y
+    → (head_at (link s a k d) c).generation < g)
+    → IsLabel (link s a k d) c g x (label_of_life (life c g) (chunk_at (link s a k d) c).label steps)
     → IsLabel s c g x (if is_same (life c g) (next_life s d) then Some (chunk_at s c).label else label_of_life
     (life c g) (chunk_at s c).label steps)
-begun_before s o k d within next c g x steps later now = by (is_same (life c g) (next_life s d)) refl
+begun_before s o a k d within next c g x steps later now = by (is_same (life c g) (next_life s d)) refl
   where
     u : State
-    u = link s k d
+    u = link s a k d
 
     begun : (head_at u d).generation ≡ (head_at s d).generation + 1
-    begun = ap (λ (y : Chunk). y.head.generation) (link_here s o k d within next)
+    begun = ap (λ (y : Chunk). y.head.generation) (link_here s o a k d within next)
 
     here : c ≡ d → g ≡ (head_at s d).generation + 1 → (m : Option ℕ)
         → label_of_life (life c g) (chunk_at u c).label steps ≡ m → IsLabel u c g x m → x ≡ (chunk_at s c).label
-    here same grown None is was = sym was.label ∙ link_label s o k d within next c
+    here same grown None is was = sym was.label ∙ link_label s o a k d within next c
     here same grown (Some y) is label = absurd (omega (
       arith,
       later y is,
@@ -385,7 +415,7 @@ begun_before s o k d within next c g x steps later now = by (is_same (life c g) 
     ))
 
     there : is_same (life c g) (next_life s d) ≡ false → (m : Option ℕ) → IsLabel u c g x m → IsLabel s c g x m
-    there other None was = was_before s u c g x (link_else s o k d within next c (λ same. both_ways
+    there other None was = was_before s u c g x (link_else s o a k d within next c (λ same. both_ways
         (is_same (life c g) (next_life s d)) other
         (and_from _ _ (eq-eqb c d same) (eq-eqb g ((head_at s d).generation + 1) (sym was.generation
         ∙ (ap (λ (j : ℕ). (head_at u j).generation) same ∙ begun)))))) None was
@@ -403,7 +433,7 @@ begun_before s o k d within next c g x steps later now = by (is_same (life c g) 
         subst (λ (b : Bool). IsLabel s c g x (if b then Some (chunk_at s c).label else label_of_life (life c g)
         (chunk_at s c).label steps)) (sym other)
         (there other (label_of_life (life c g) (chunk_at s c).label steps)
-        (subst (λ (n : ℕ). IsLabel u c g x (label_of_life (life c g) n steps)) (link_label s o k d within next c) now))
+        (subst (λ (n : ℕ). IsLabel u c g x (label_of_life (life c g) n steps)) (link_label s o a k d within next c) now))
 
 -- the same by the next chunk, if there is one
 stored_by : (s : State) (k z c g x : ℕ) (steps : List LabelStep) (m : Option ℕ) → ((d : ℕ) → m ≡ Some d
@@ -415,16 +445,16 @@ stored_by : (s : State) (k z c g x : ℕ) (steps : List LabelStep) (m : Option �
 stored_by s k z c g x steps None front now = now
 stored_by s k z c g x steps (Some d) front now = stored_before s d z (front d refl).0 (front d refl).1 c g x steps now
 
-begun_by : (s : State) (o : IsLawful s) (k : ℕ) (within : k < length s.classes) (c g x : ℕ) (steps : List LabelStep)
-    (m : Option ℕ) → next_chunk s k ≡ m
-    → ((y : ℕ) → label_of_life (life c g) (chunk_at (option_map_or (link s k) m s) c).label steps ≡ Some y
-    → (head_at (option_map_or (link s k) m s) c).generation < g)
-    → IsLabel (option_map_or (link s k) m s) c g x (label_of_life (life c g)
-    (chunk_at (option_map_or (link s k) m s) c).label steps)
+begun_by : (s : State) (o : IsLawful s) (a : Start) (k : ℕ) (within : k < length s.classes) (c g x : ℕ)
+    (steps : List LabelStep) (m : Option ℕ) → next_chunk s k ≡ m
+    → ((y : ℕ) → label_of_life (life c g) (chunk_at (option_map_or (link s a k) m s) c).label steps ≡ Some y
+    → (head_at (option_map_or (link s a k) m s) c).generation < g)
+    → IsLabel (option_map_or (link s a k) m s) c g x (label_of_life (life c g)
+    (chunk_at (option_map_or (link s a k) m s) c).label steps)
     → IsLabel s c g x (label_of_life (life c g) (chunk_at s c).label (option_map_or
     (λ d. Linked (next_life s d) ∷ []) m [] ++ steps))
-begun_by s o k within c g x steps None is later now = now
-begun_by s o k within c g x steps (Some d) is later now = begun_before s o k d within is c g x steps later now
+begun_by s o a k within c g x steps None is later now = now
+begun_by s o a k within c g x steps (Some d) is later now = begun_before s o a k d within is c g x steps later now
 
 -- Each chunk in use has its life's label.
 pub keeps_labels : (es : List Event) (s t : State) → IsLawful s → run_of s es ≡ Some t → KeepsLabels s es t
@@ -443,8 +473,16 @@ keeps_labels (event.Link k ∷ es) s t o ends c used =
     let parts = run_parts s (event.Link k) es t ends in
     let u = after s (event.Link k) in
     let p = lawful_after s o (event.Link k) parts.0 in
-    begun_by s o k (next_from s k parts.0).1 c (head_at t c).generation (chunk_at t c).label (label_steps u es)
-    (next_chunk s k) refl
+    begun_by s o start.Hot k (next_from s k parts.0).1 c (head_at t c).generation (chunk_at t c).label
+    (label_steps u es) (next_chunk s k) refl
+    (λ y is. begun_later es u t p parts.1 (life c (head_at t c).generation) (chunk_at u c).label y is)
+    (keeps_labels es u t p parts.1 c used)
+keeps_labels (event.LinkTemp k ∷ es) s t o ends c used =
+    let parts = run_parts s (event.LinkTemp k) es t ends in
+    let u = after s (event.LinkTemp k) in
+    let p = lawful_after s o (event.LinkTemp k) parts.0 in
+    begun_by s o start.Temp k (next_from s k parts.0).1 c (head_at t c).generation (chunk_at t c).label
+    (label_steps u es) (next_chunk s k) refl
     (λ y is. begun_later es u t p parts.1 (life c (head_at t c).generation) (chunk_at u c).label y is)
     (keeps_labels es u t p parts.1 c used)
 keeps_labels (e ∷ es) s t o ends c used =

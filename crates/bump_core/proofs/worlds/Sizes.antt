@@ -3,6 +3,7 @@ use Rattle.std.proofs.Common.{◌≡◌, ℕ, List, Some, Result, Err, refl, ◌
 use Rattle.std.proofs.lemmas.List.{length-set}
 use Rattle.bump_state.specs.declared.chunks.Chunk.{Chunk}
 use Rattle.bump_rules.specs.declared.places.Segment.TheVariants as segment
+use Rattle.bump_rules.specs.declared.places.Start.TheVariants as start
 use Rattle.bump_rules.specs.declared.history.Cause.TheVariants.{Pull, Bump as BumpOf}
 use Rattle.bump_rules.specs.declared.history.Change.{Change}
 use Rattle.bump_rules.specs.declared.history.Change.TheVariants as change
@@ -73,8 +74,10 @@ after_sizes s (event.PutLabel k x) = by_value (SameSizes s) (λ c. with_label s 
     (λ c is. chunk_sizes s c _) (refl, refl, refl)
 after_sizes s (event.PutTime k t) = by_value (SameSizes s) (λ c. with_time s c t) (next_chunk s k) s
     (λ c is. chunk_sizes s c _) (refl, refl, refl)
-after_sizes s (event.Link k) = by_value (SameSizes s) (link s k) (next_chunk s k) s (λ c is. change_sizes s c k _
-    (change.Linked (next_life s c))) (refl, refl, refl)
+after_sizes s (event.Link k) = by_value (SameSizes s) (link s start.Hot k) (next_chunk s k) s
+    (λ c is. change_sizes s c k _ (change.Linked (next_life s c))) (refl, refl, refl)
+after_sizes s (event.LinkTemp k) = by_value (SameSizes s) (link s start.Temp k) (next_chunk s k) s
+    (λ c is. change_sizes s c k _ (change.LinkedTemp (next_life s c))) (refl, refl, refl)
 after_sizes s (event.Unlink l) = change_sizes s l.chunk _ _ (change.Unlinked l)
 after_sizes s (event.Sweep c) = class_sizes s _ _
 after_sizes s (event.ClearActive c) = chunk_sizes s _ _

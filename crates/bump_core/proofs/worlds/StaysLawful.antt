@@ -4,6 +4,7 @@ use Rattle.std.proofs.Common.{◌≡◌, true, List, Some, Result, arith}
 use Rattle.bump_rules.specs.declared.events.Event.{Event}
 use Rattle.bump_rules.specs.declared.events.Event.TheVariants as event
 use Rattle.bump_rules.specs.declared.events.Reply.{Reply}
+use Rattle.bump_rules.specs.declared.places.Start.TheVariants as start
 use Rattle.bump_rules.specs.declared.events.Refused.{Refused}
 use Rattle.bump_core.specs.Runs.{Steps, run_of}
 use Rattle.bump_state.specs.State.{State, SameSizes}
@@ -41,7 +42,8 @@ lawful_after s o (event.StoreTime l t) = after_store_time s l t o
 lawful_after s o (event.Release l) = after_release s l o
 lawful_after s o (event.PutLabel k x) = after_put_label s k x o
 lawful_after s o (event.PutTime k t) = after_put_time s k t o
-lawful_after s o (event.Link k) = after_link s o k
+lawful_after s o (event.Link k) = after_link s o start.Hot k
+lawful_after s o (event.LinkTemp k) = after_link s o start.Temp k
 lawful_after s o (event.Unlink l) = after_unlink s o l
 lawful_after s o (event.Sweep c) = after_sweep s o c
 lawful_after s o (event.ClearActive c) = after_clear_active s c o

@@ -1,17 +1,22 @@
-//! The command of a link: an item is stored at once.
+//! The commands of a link: an item is stored at once, in HOT or in TEMP.
 ghost use Rattle.std.specs.Prelude.{◌≡◌};
-ghost use Rattle.bump_core.specs.Commands.{Commands};
+ghost use Rattle.bump_core.specs.Commands.{Stores};
 ghost use Rattle.bump_state.specs.Views.{state_of};
 ghost use Rattle.bump_state.specs.Worlds.{IsLawful};
-ghost use Rattle.bump_rules.specs.declared.commands.Command.TheVariants as command;
 
-use bump_rules::{Answer, Change, Head, ItemId, Refused};
+use bump_rules::{Answer, Change, Head, ItemId, Refused, Start};
 use bump_state::{Chunk, Parts};
 
-/// Stores an item in a class.
-pub fn call_link(parts: &mut Parts, class: u32, label: u64, now: u64) -> Result<Answer, Refused>
+/// Stores an item in a class, where it begins.
+pub fn call_link(
+    parts: &mut Parts,
+    start: Start,
+    class: u32,
+    label: u64,
+    now: u64,
+) -> Result<Answer, Refused>
     requires { IsLawful (state_of parts.old) }
-    ensures { Commands (state_of parts.old) (command.Link class label now) (state_of parts.new) result }
+    ensures { Stores (state_of parts.old) start class label now (state_of parts.new) result }
 {
     if !parts.has_class(class) {
         return Err(Refused::NotEnabled);
@@ -27,11 +32,11 @@ pub fn call_link(parts: &mut Parts, class: u32, label: u64, now: u64) -> Result<
         chunk: next,
         generation: chunk.head.generation + 1,
     };
-    parts.change_class(class as usize, Change::Linked(life))?;
+    parts.change_class(class as usize, Change::begun(start, life))?;
     parts.set_chunk(
         next,
         Chunk {
-            head: Head::after_link(life.generation),
+            head: Head::after_link(start, life.generation),
             time: now,
             label,
             ..chunk

@@ -3,6 +3,7 @@ ghost use Rattle.std.specs.Prelude.{◌≡◌, ◌<◌, All, length};
 ghost use Rattle.bump_links.specs.Lists.{last_of};
 ghost use Rattle.bump_state.specs.State.{head_at, is_open};
 ghost use Rattle.bump_core.specs.Headline.{Headline};
+ghost use Rattle.bump_rules.specs.Entries.{moves_of};
 ghost use Rattle.bump_state.specs.Worlds.{IsLawful};
 ghost use Rattle.bump_core.specs.Readers.{list_of, history_of, time_of, label_of, holds_at, accounts_of, sent_of, received_of, applied_of, limits_of};
 
@@ -38,7 +39,7 @@ impl World {
         self.parts.capacity
     }
 
-    /// The limit of a reference count: 2 to 65,535.
+    /// The limit of a reference count: 2 to 1,048,575.
     pub fn refs_limit(&self) -> u32
         ensures { result ≡ self.now.refs_limit }
     {
@@ -105,6 +106,22 @@ impl World {
         ensures { result.now ≡ history_of self.now class }
     {
         self.parts.classes[class as usize].history.as_slice()
+    }
+
+    /// How many moves for bumps of a worker the history of a class has. Both are of the configuration's. It takes no
+    /// memory, and the time of the class's history.
+    pub fn moves(&self, class: u32, worker: u32) -> u64
+        requires class { class < length self.now.classes }
+        requires worker { worker < length self.now.workers }
+        ensures { result ≡ moves_of worker (history_of self.now class) }
+    {
+        let mut count = 0;
+        for entry in self.history(class) {
+            if entry.is_move_of(worker) {
+                count += 1;
+            }
+        }
+        count
     }
 
     /// A chunk's head. The chunk is one of the configuration's.

@@ -10,7 +10,7 @@ use Rattle.std.proofs.lemmas.List.{length-map, get_or-set_same, get_or-set_other
 use Rattle.bump_links.specs.Lists.{times, without, first_of, last_of, next_of, moved_to_front, IsHeldBy, HoldsEachOnce}
 use Rattle.bump_links.specs.Lists as links
 use Rattle.bump_rules.specs.declared.places.Place.{Place}
-use Rattle.bump_rules.specs.declared.places.Place.TheVariants.{Hot, Warm, Cold, Dying, Unused, Retired}
+use Rattle.bump_rules.specs.declared.places.Place.TheVariants.{Hot, Warm, Cold, Temp, Dying, Unused, Retired}
 use Rattle.bump_rules.specs.History.{place_number, is_place}
 use Rattle.bump_rules.specs.Lists.{list_at, lists_by, to_front, opening, IsListed}
 use Rattle.bump_rules.specs.Places.{place_count}
@@ -19,11 +19,12 @@ use Rattle.bump_rules.proofs.SixLists.{same_lists, list_at_by, list_at_front}
 
 -- Which list is at a place.
 
--- a place has one of six numbers
+-- a place has one of the numbers
 pub number_below : (p : Place) → place_number p < place_count
 number_below Hot = omega arith
 number_below Warm = omega arith
 number_below Cold = omega arith
+number_below Temp = omega arith
 number_below Dying = omega arith
 number_below Unused = omega arith
 number_below Retired = omega arith
@@ -270,7 +271,7 @@ next_is first c s p o r six some read as_chunk =
     ∙ ap (λ k. next_of k (chunks_from first xs)) (node_at first c s six p some).is
     ∙ ap (next_of c) (sym (list_at_from first s p))
 
--- lists of six that were moved in are lists of six
+-- lists that were moved in are as many as before
 pub six_moved : (first n l : ℕ) (s t : links.Lists) → AreSixLists first s → t.nodes ≡ s.nodes → length t.lists
     ≡ length s.lists → HoldsEachOnce t → AreSixLists first t
 six_moved first n l s t six nodes lists each =

@@ -1,6 +1,6 @@
 //! Events of links: the next item of a class gets its label and its time, and begins its life.
 ghost use Rattle.std.specs.Prelude.{◌≡◌, IfOk, IfErr, OnOk, OnErr};
-ghost use Rattle.bump_state.specs.Events.{IsEnabledBy, is_class_at_rest, is_enabled, after, reply_of};
+ghost use Rattle.bump_state.specs.Events.{IsEnabledBy, is_class_at_rest, may_link, is_enabled, link_next, after, link_reply, reply_of};
 ghost use Rattle.bump_state.specs.Views.{state_of};
 ghost use Rattle.bump_state.specs.Worlds.{IsLawful};
 ghost use Rattle.bump_rules.specs.declared.events.Event.TheVariants as event;
@@ -8,7 +8,7 @@ ghost use Rattle.bump_rules.specs.declared.events.Refused.TheVariants.{NotEnable
 
 use crate::chunks::Chunk;
 use crate::parts::Parts;
-use bump_rules::{Change, Head, ItemId, Refused, Reply};
+use bump_rules::{Change, Head, ItemId, Refused, Reply, Start};
 
 impl Parts {
     /// Whether a class exists and no lane applies a bump of it.
@@ -59,13 +59,12 @@ impl Parts {
         Ok(Reply::Done)
     }
 
-    /// The next item of a class begins its life, at the front of HOT, and its life is
-    /// answered. Refused as its label is.
-    pub fn link(&mut self, class: u32) -> Result<Reply, Refused>
+    /// The next item of a class begins its life, at the front of a segment, and its life is answered.
+    fn begin_life(&mut self, class: u32, start: Start) -> Result<Reply, Refused>
         requires { IsLawful (state_of self.old) }
-        ensures enabled { IsEnabledBy (is_enabled (state_of self.old) (event.Link class)) result }
-        ensures state { OnOk result (state_of self.new ≡ after (state_of self.old) (event.Link class)) }
-        ensures reply { IfOk result (λ r. r ≡ reply_of (state_of self.old) (event.Link class)) }
+        ensures enabled { IsEnabledBy (may_link (state_of self.old) class) result }
+        ensures state { OnOk result (state_of self.new ≡ link_next (state_of self.old) start class) }
+        ensures reply { IfOk result (λ r. r ≡ link_reply (state_of self.old) class) }
         ensures unchanged { OnErr result (state_of self.new ≡ state_of self.old) }
     {
         if !self.is_class_at_rest(class) {
@@ -78,8 +77,31 @@ impl Parts {
             chunk: next,
             generation: self.head(next).generation + 1,
         };
-        self.change_class(class as usize, Change::Linked(life))?;
-        self.set_head(next, Head::after_link(life.generation));
+        self.change_class(class as usize, Change::begun(start, life))?;
+        self.set_head(next, Head::after_link(start, life.generation));
         Ok(Reply::Life(life))
+    }
+
+    /// The next item of a class begins its life, at the front of HOT, and its life is
+    /// answered. Refused as its label is.
+    pub fn link(&mut self, class: u32) -> Result<Reply, Refused>
+        requires { IsLawful (state_of self.old) }
+        ensures enabled { IsEnabledBy (is_enabled (state_of self.old) (event.Link class)) result }
+        ensures state { OnOk result (state_of self.new ≡ after (state_of self.old) (event.Link class)) }
+        ensures reply { IfOk result (λ r. r ≡ reply_of (state_of self.old) (event.Link class)) }
+        ensures unchanged { OnErr result (state_of self.new ≡ state_of self.old) }
+    {
+        self.begin_life(class, Start::Hot)
+    }
+
+    /// The same at the front of TEMP.
+    pub fn link_temp(&mut self, class: u32) -> Result<Reply, Refused>
+        requires { IsLawful (state_of self.old) }
+        ensures enabled { IsEnabledBy (is_enabled (state_of self.old) (event.LinkTemp class)) result }
+        ensures state { OnOk result (state_of self.new ≡ after (state_of self.old) (event.LinkTemp class)) }
+        ensures reply { IfOk result (λ r. r ≡ reply_of (state_of self.old) (event.LinkTemp class)) }
+        ensures unchanged { OnErr result (state_of self.new ≡ state_of self.old) }
+    {
+        self.begin_life(class, Start::Temp)
     }
 }

@@ -9,7 +9,9 @@ ghost use Rattle.bump_steps.specs.Lives.{unlisted_load_tells, load_tells, put_la
 use crate::views::{Empty, View};
 use crate::words::{HEAD, LABEL, Seat, Words};
 use atomic_table::Play;
-use bump_word::laws::{LINK, ONE_GENERATION};
+use bump_rules::{Head, Start};
+use bump_word::laws::LINK;
+use bump_word::pack;
 
 pub struct UnlistedLoad;
 
@@ -84,14 +86,14 @@ impl Words {
             .store::<PutLabel>(seat, 3 * chunk as usize + LABEL, label);
     }
 
-    /// The store of the head of a new life.
-    pub fn open_life(&self, seat: &mut Seat, chunk: u32, generation: u32)
+    /// The store of the head of a new life, where it begins.
+    pub fn open_life(&self, seat: &mut Seat, chunk: u32, start: Start, generation: u32)
         requires seat { (seat.old.table_id ≡ words_id self.now) × HasChunk (words_id self.now) chunk }
         requires may { MayLink chunk generation seat.old.me.0 }
         ensures same { (seat.new.table_id ≡ seat.old.table_id) × (seat.new.id ≡ seat.old.id) }
-        ensures told { seat.new.me ≡ (on_class (class_after_link chunk generation (word_of (linked_head generation))) seat.old.me.0, seat.old.me.1) }
+        ensures told { seat.new.me ≡ (on_class (class_after_link start chunk generation (word_of (linked_head start generation))) seat.old.me.0, seat.old.me.1) }
     {
-        let word = LINK + u64::from(generation) * ONE_GENERATION;
+        let word = pack(Head::after_link(start, generation));
         self.table
             .shared
             .store::<Link>(seat, 3 * chunk as usize + HEAD, word);

@@ -1,8 +1,8 @@
-//! The step by which a hold meets its class.
-ghost use Rattle.std.specs.Prelude.{◌≡◌};
+//! The steps by which a hold meets its class, and a lane a class.
+ghost use Rattle.std.specs.Prelude.{◌≡◌, ◌<◌};
 ghost use Rattle.bump_steps.specs.Words.{HasChunk, words_id};
-ghost use Rattle.bump_steps.specs.Plays.{on_chunk, HasClass};
-ghost use Rattle.bump_steps.specs.Meetings.{load_to_meet_tells};
+ghost use Rattle.bump_steps.specs.Plays.{on_chunk, HasClass, TellsOfMoves};
+ghost use Rattle.bump_steps.specs.Meetings.{load_to_meet_tells, load_to_meet_lane_tells};
 
 use crate::views::{Empty, View};
 use crate::words::{LABEL, Seat, Words};
@@ -12,6 +12,12 @@ pub struct LoadToMeet;
 
 impl Play<Empty, View> for LoadToMeet {
     ghost then = { on_chunk load_to_meet_tells };
+}
+
+pub struct LoadToMeetLane;
+
+impl Play<Empty, View> for LoadToMeetLane {
+    ghost then = { load_to_meet_lane_tells };
 }
 
 impl Words {
@@ -25,5 +31,16 @@ impl Words {
         self.table
             .shared
             .load::<LoadToMeet>(seat, 3 * chunk as usize + LABEL)
+    }
+
+    /// A load of the table's first word, for `meet_lane`: of a spare one, so that no class needs a chunk for it.
+    pub fn meet_lane(&self, seat: &mut Seat)
+        requires seat { seat.old.table_id ≡ words_id self.now }
+        requires some { 0 < (words_id self.now).words }
+        requires class { HasClass seat.old.me.0 }
+        ensures same { (seat.new.table_id ≡ seat.old.table_id) × (seat.new.id ≡ seat.old.id) × (seat.new.me ≡ seat.old.me) }
+        ensures told { TellsOfMoves seat.old.me.0 }
+    {
+        let _spare = self.table.shared.load::<LoadToMeetLane>(seat, 0);
     }
 }

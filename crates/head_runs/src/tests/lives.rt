@@ -68,7 +68,7 @@ fn live<N: Name>(
 )
     requires chunks { all_chunks heads.now ≡ 2 }
     requires alone { class.old.lane ≡ None }
-    requires first { class.old.part ≡ record { class = 0; first = 0; count = 2; fresh = 0; history = []; labels = []; steps = [] } }
+    requires first { class.old.part ≡ record { class = 0; first = 0; count = 2; fresh = 0; history = []; labels = []; applying = None; steps = [] } }
     requires worker { worker.old ≡ worker_seen (worker_part 0) }
 {
     class.put_label(0, 7);

@@ -69,7 +69,7 @@ fn fill<N: Name>(
 )
     requires chunks { all_chunks heads.now ≡ 2 }
     requires free { class.old.lane ≡ None }
-    requires first { class.old.part ≡ record { class = 0; first = 0; count = 2; fresh = 0; history = []; labels = []; steps = [] } }
+    requires first { class.old.part ≡ record { class = 0; first = 0; count = 2; fresh = 0; history = []; labels = []; applying = None; steps = [] } }
     requires alone { worker.old.hold ≡ None }
 {
     let first = life_of(0, 1);

@@ -22,7 +22,7 @@ pub struct Small<N: Name> {
     pub lane: LaneSeat<N>,
 }
 
-/// The configuration of such a store, whose first generation is 1, with this limit of references, 2 to 65,535.
+/// The configuration of such a store, whose first generation is 1, with this limit of references, 2 to 1,048,575.
 /// None where memory is refused.
 pub fn config_of(alloc: Global, limit: u32) -> Option<Config>
     ensures limit { IfSome result (λ c. c.refs_limit ≡ limit) }
@@ -42,7 +42,7 @@ pub fn open<N: Name>(alloc: Global, blank: Blank, config: &Config) -> Result<Sma
     requires config { blank.config ≡ config.now }
     requires small { (config.now.workers ≡ 1) × (config.now.first_generation ≡ 1) × (config.now.classes ≡ record { chunks = 2; hot = 1; warm = 1 } ∷ []) }
     ensures chunks { IfOk result (λ s. all_chunks (arc_value s.heads) ≡ 2) }
-    ensures class { IfOk result (λ s. s.class ≡ class_seen (record { class = 0; first = 0; count = 2; fresh = 0; history = []; labels = []; steps = [] })) }
+    ensures class { IfOk result (λ s. s.class ≡ class_seen (record { class = 0; first = 0; count = 2; fresh = 0; history = []; labels = []; applying = None; steps = [] })) }
     ensures worker { IfOk result (λ s. s.worker ≡ worker_seen (worker_part 0)) }
     ensures lane { IfOk result (λ s. s.lane ≡ lane_seen (lane_part 0)) }
 {

@@ -112,11 +112,11 @@ fn open<N: Name>(
         return Err("ring");
     };
     let seat = classes.pop().expect(rt, "there is a class");
-    let Ok(second) = Book::new(alloc, seat, ITEMS, CLASS) else {
+    let Ok(second) = Book::new(alloc, seat, ITEMS, CLASS, 1) else {
         return Err("Book::new");
     };
     let seat = classes.pop().expect(rt, "there is a class");
-    let Ok(first) = Book::new(alloc, seat, 0, CLASS) else {
+    let Ok(first) = Book::new(alloc, seat, 0, CLASS, 1) else {
         return Err("Book::new");
     };
     let small = Small {

@@ -62,6 +62,7 @@ fn expect_new<N: Name>(rt: &impl Abort, book: &Book<N>) {
         Place::Hot,
         Place::Warm,
         Place::Cold,
+        Place::Temp,
         Place::Dying,
         Place::Retired,
     ] {

@@ -188,6 +188,7 @@ pub fn sizes(cold: u32, unused: u32) -> ClassSizes {
         hot: 0,
         warm: 0,
         cold,
+        temp: 0,
         dying: 0,
         unused,
         retired: 0,

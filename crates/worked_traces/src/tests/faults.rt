@@ -123,7 +123,7 @@ pub(super) const LINE_NAMES: [(&str, &str); 15] = [
 ];
 
 /// What may not stand before the store is open, and each line that may not stand behind `par`.
-pub(super) const LINE_ORDER: [(&str, &str); 12] = [
+pub(super) const LINE_ORDER: [(&str, &str); 13] = [
     ("par\n", "line 1: ORDER\n"),
     ("store 1 4 4 1\npar\n", "line 2: CLASSES\n"),
     (
@@ -136,6 +136,10 @@ pub(super) const LINE_ORDER: [(&str, &str); 12] = [
     ),
     (
         "store 1 4 4 1\nclass 2 5 5\npar\nset a 0 7\n",
+        "line 4: ORDER\n",
+    ),
+    (
+        "store 1 4 4 1\nclass 2 5 5\npar\ntemp a 0 7\n",
         "line 4: ORDER\n",
     ),
     (
@@ -220,13 +224,17 @@ pub(super) const PAIRS_OF_FIELDS: [(&str, &str); 11] = [
 ];
 
 /// Configurations with two faults or more.
-pub(super) const PAIRS_OF_CONFIGS: [(&str, &str); 10] = [
+pub(super) const PAIRS_OF_CONFIGS: [(&str, &str); 11] = [
     ("store 0 0 1 0\nshow\n", "line 2: WORKERS\n"),
     ("store 65 0 1 0\nshow\n", "line 2: WORKERS\n"),
     ("store 1 0 1 0\nshow\n", "line 2: CAPACITY\n"),
     ("store 1 65537 1 0\nshow\n", "line 2: CAPACITY\n"),
     ("store 1 4 1 0\nshow\n", "line 2: REFS\n"),
-    ("store 1 4 65536 0\nshow\n", "line 2: REFS\n"),
+    ("store 1 4 1048576 0\nshow\n", "line 2: REFS\n"),
+    (
+        "store 1 4 1048576 1\nclass 1 5 5\nshow\n",
+        "line 3: REFS\n",
+    ),
     ("store 1 4 4 0\nshow\n", "line 2: GENERATION\n"),
     (
         "store 1 4 4 1\nclass 0 5 5\nclass 0 5 5\nclass 0 5 5\nclass 0 5 5\nclass 0 5 5\nclass 0 5 5\nclass 0 5 5\nclass 0 5 5\nclass 0 5 5\nclass 0 5 5\nclass 0 5 5\nclass 0 5 5\nclass 0 5 5\nclass 0 5 5\nclass 0 5 5\nclass 0 5 5\nclass 0 5 5\nshow\n",

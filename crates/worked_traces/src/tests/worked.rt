@@ -52,6 +52,18 @@ pub(super) const WORKED: [(&str, &str); 11] = [
     ),
 ];
 
+/// Items of TEMP.
+pub(super) const TEMP: [(&str, &str); 2] = [
+    (
+        "store 1 4 4 1\nclass 2 0 5\ntemp a 0 7\nget 0 a\nget 0 a\nget 0 a\npull 0 hot\npull 0 evict\nshow\ndel a\n",
+        "temp a 0.1\nget 0 a 7 first\nget 0 a 7 marked\nget 0 a 7 already\npull 0 hot empty\npull 0 evict empty\nclass 0 hot 0\nclass 0 warm 0\nclass 0 cold 0\nclass 0 temp 1 0.1:1:fa:5\nclass 0 dying 0\nclass 0 unused 1 1\nclass 0 retired 0\nworker 0 attempted 0 accepted 0 full 0 busy 0 refs 0 applied 0\ndel a freed\n",
+    ),
+    (
+        "store 1 4 4 1\nclass 1 0 5\nset a 0 7\ntemp b 0 8\n",
+        "set a 0.1\ntemp b full\n",
+    ),
+];
+
 /// Traces that end with a fault of what they say.
 pub(super) const WORKED_FAULTS: [(&str, &str); 10] = [
     ("", "line 1: ORDER\n"),

@@ -198,6 +198,7 @@ const PROMOTED: Readers = Readers {
         (1, Some(0), Some(0)),
         (0, None, None),
         (0, None, None),
+        (0, None, None),
         (1, Some(1), Some(1)),
         (0, None, None),
     ],

@@ -24,8 +24,8 @@ pub struct Readers {
     pub bounds: Bounds,
     pub chunks: (OfChunk, OfChunk),
 
-    /// HOT, WARM, COLD, DYING, UNUSED and RETIRED.
-    pub lists: [Ends; 6],
+    /// HOT, WARM, COLD, TEMP, DYING, UNUSED and RETIRED.
+    pub lists: [Ends; 7],
 
     /// How much happened to them, and what was last.
     pub history: (usize, Option<Change>),
@@ -114,6 +114,7 @@ pub fn told_by(rt: &impl Abort, world: &World) -> Readers {
             ends(rt, world, Place::Hot),
             ends(rt, world, Place::Warm),
             ends(rt, world, Place::Cold),
+            ends(rt, world, Place::Temp),
             ends(rt, world, Place::Dying),
             ends(rt, world, Place::Unused),
             ends(rt, world, Place::Retired),

@@ -7,8 +7,8 @@ use Rattle.bump_heads.specs.Applying.{life_aboard}
 use Rattle.bump_heads.proofs.Endings as on
 use Rattle.bump_heads.proofs.Joining.{one_outcome}
 use Rattle.bump_steps.specs.Views.{owns}
-use Rattle.bump_class.specs.Applications.{FoundHeads, AllFit, with_time, with_clearing}
-use Rattle.bump_class.proofs.UpdateLemmas.{carrying_it, not_cold, gone_by, elsewhere_by, clear_by, moved_by, updates}
+use Rattle.bump_class.specs.Applications.{FoundHeads, AllFit, with_time, with_clearing, with_move}
+use Rattle.bump_class.proofs.UpdateLemmas.{carrying_it, not_cold, gone_by, elsewhere_by, clear_by, moved_by, rests, updates}
 use Rattle.bump_class.proofs.applications.update.Goals as goal
 use Rattle.bump_class.proofs.applications.update.Goals.{in-Cold, in_default}
 
@@ -88,8 +88,8 @@ returns-then-not-tried g c =
     t.new.self o m.0 b b.life.chunk t.result m.1 refl t.ensures.tried t.ensures.found t.ensures.fits c.requires.own
     c.if-not-tried.true) in
     let all = updates v o m.0 b c.args.now c.requires.alone m.1 Gone f fit t.ensures.found
-    (sym (gone_by t.result t.result c.if-not-tried.true)) t.new.self a.new.self a.new.lane _ _ is refl refl refl
-    a.result.0 came a.ensures.class a.ensures.lane a.ensures.entry a.ensures.once a.ensures.moves in
+    (sym (gone_by t.result t.result c.if-not-tried.true)) t.new.self a.new.self a.new.lane _ _ is
+    (rests v.part c.requires.idle) refl refl a.result.0 came a.ensures.class a.ensures.lane a.ensures.entry a.ensures.once a.ensures.moves in
     record { whole = all.0; updates = (f, all.1) }
 
 pub returns-then-not-matches : goal.returns-then-not-matches
@@ -127,8 +127,8 @@ returns-then-not-matches g c =
     let timed = with_time m.0.worker b c.args.now v.part in
     let part = sym (ap (λ (x : Bool). if x then with_clearing m.0.worker b t.result timed else timed) elsewhere) in
     let all = updates v o m.0 b c.args.now c.requires.alone m.1 TimeOnly f fit t.ensures.found
-    (sym (elsewhere_by t.result t.result c.if-not-tried.false elsewhere)) p.new.self a.new.self a.new.lane _ _ is part
-    refl refl a.result.0 came a.ensures.class a.ensures.lane a.ensures.entry a.ensures.once a.ensures.moves in
+    (sym (elsewhere_by t.result t.result c.if-not-tried.false elsewhere)) p.new.self a.new.self a.new.lane _ _ is
+    (rests timed c.requires.idle ∙ part) refl refl a.result.0 came a.ensures.class a.ensures.lane a.ensures.entry a.ensures.once a.ensures.moves in
     record { whole = all.0; updates = (f, all.1) }
 
 pub returns-then-not-cleared : goal.returns-then-not-cleared
@@ -167,7 +167,7 @@ returns-then-not-cleared g c =
     let part = sym (ap (λ (x : Bool). if x then with_clearing m.0.worker b d.result timed else timed) cold) in
     let all = updates v o m.0 b c.args.now c.requires.alone m.1 TimeOnly f fit t.ensures.found
     (sym (clear_by t.result d.result c.if-not-tried.false cold c.if-not-cleared.true)) d.new.self a.new.self
-    a.new.lane _ _ is part refl refl a.result.0 came a.ensures.class a.ensures.lane a.ensures.entry a.ensures.once
+    a.new.lane _ _ is (rests (with_clearing m.0.worker b d.result timed) c.requires.idle ∙ part) refl refl a.result.0 came a.ensures.class a.ensures.lane a.ensures.entry a.ensures.once
     a.ensures.moves in
     record { whole = all.0; updates = (f, all.1) }
 
@@ -208,6 +208,7 @@ returns g c =
     c.if-not-cleared.false) in
     let all = updates v o m.0 b c.args.now c.requires.alone m.1 Moved f fit t.ensures.found
     (sym (moved_by t.result d.result c.if-not-tried.false cold c.if-not-cleared.false)) s.new.self a.new.self
-    a.new.lane _ _ is refl refl refl a.result.0 came a.ensures.class a.ensures.lane a.ensures.entry a.ensures.once
+    a.new.lane _ _ is (rests (with_move m.0.worker b s.result (with_clearing m.0.worker b d.result
+    (with_time m.0.worker b c.args.now v.part))) c.requires.idle) refl refl a.result.0 came a.ensures.class a.ensures.lane a.ensures.entry a.ensures.once
     a.ensures.moves in
     record { whole = all.0; updates = (f, all.1) }

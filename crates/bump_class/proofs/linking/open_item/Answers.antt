@@ -13,4 +13,4 @@ returns-clause-label g c =
     let stored = ap (λ v. word (seat_after_put_time at c.args.now v)) c.put_label.ensures.labelled in
     let last = word_stored at 0 c.args.seat.now.part.labels at c.args.label
     ∙ ap (λ (b : Bool). if b then c.args.label else last_label c.args.seat.now.part at) (eq-eqb at at refl) in
-    c.open_life.ensures.label ∙ ap (λ (x : ℕ). Some x) (timed ∙ (stored ∙ last))
+    c.open_life_in.ensures.label ∙ ap (λ (x : ℕ). Some x) (timed ∙ (stored ∙ last))

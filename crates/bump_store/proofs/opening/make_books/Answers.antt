@@ -19,7 +19,7 @@ unreachable-requires g c = let l = c.loop-class in
 pub new-requires-clause-fresh : goal.new-requires-clause-fresh
 new-requires-clause-fresh g c = let l = c.loop-class in
     let is = ap (head_or (class_seen no_class)) (sym c.in-Some.ensures.items ∙ l.invariant.seats ∙ ap (λ (ks : List ClassConfig). map class_seen (class_parts (c.args.first_generation - 1) l.class-index l.first ks)) (drop_more c.args.classes.now l.class-index none c.loop-class-test.true)) in
-    record { alone = ap (λ (x : ClassView). x.lane) is; history = ap (λ (x : ClassView). x.part.history) is; labels = ap (λ (x : ClassView). x.part.labels) is; steps = ap (λ (x : ClassView). x.part.steps) is }
+    record { alone = ap (λ (x : ClassView). x.lane) is; history = ap (λ (x : ClassView). x.part.history) is; labels = ap (λ (x : ClassView). x.part.labels) is; steps = ap (λ (x : ClassView). x.part.steps) is; idle = ap (λ (x : ClassView). x.part.applying) is }
 
 pub new-requires-clause-first : goal.new-requires-clause-first
 new-requires-clause-first g c = let l = c.loop-class in

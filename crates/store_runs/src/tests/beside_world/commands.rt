@@ -51,7 +51,8 @@ pub fn command_of(number: u64, item: ItemId, now: u64) -> Command {
     let class = (number / 16 % 3) as u32;
     let label = number;
     match number % 16 {
-        0..=2 => Command::Link { class, label, now },
+        0 | 1 => Command::Link { class, label, now },
+        2 => Command::LinkTemp { class, label, now },
         3 => Command::Unlink { id: item },
         4 => Command::Unlink {
             id: ItemId {
@@ -71,6 +72,7 @@ pub fn command_of(number: u64, item: ItemId, now: u64) -> Command {
 fn class_of<N: Name>(store: &Store<N>, command: Command) -> Result<u32, NoSuchChunk> {
     match command {
         Command::Link { class, .. } => Ok(class),
+        Command::LinkTemp { class, .. } => Ok(class),
         Command::Sweep { class } => Ok(class),
         Command::Pull { class, .. } => Ok(class),
         Command::Unlink { id } => store.class_of(id.chunk),
@@ -79,8 +81,8 @@ fn class_of<N: Name>(store: &Store<N>, command: Command) -> Result<u32, NoSuchCh
 }
 
 // A link, as a World answers it.
-fn linked<N: Name>(book: &mut Book<N>, label: u64, now: u64) -> Answer {
-    match book.link(label, now) {
+fn linked(linked: Result<ItemId, LinkRefusal>) -> Answer {
+    match linked {
         Ok(id) => Answer::Linked(id),
         Err(LinkRefusal::NoFreeChunk) => Answer::NoFreeChunk,
     }
@@ -98,7 +100,8 @@ fn unlinked<N: Name>(book: &mut Book<N>, id: ItemId) -> Answer {
 // Makes the call of a Book that is a World's command. None where there is no such call.
 fn answer<N: Name>(book: &mut Book<N>, command: Command) -> Option<Answer> {
     Some(match command {
-        Command::Link { label, now, .. } => linked(book, label, now),
+        Command::Link { label, now, .. } => linked(book.link(label, now)),
+        Command::LinkTemp { label, now, .. } => linked(book.link_temp(label, now)),
         Command::Unlink { id } => unlinked(book, id),
         Command::Sweep { .. } => Answer::Swept(sweep(book)),
         Command::Pull { tail, .. } => Answer::Pulled(pull(book, tail)),

@@ -54,6 +54,7 @@ fn expect_same_lists<N: Name>(
         Place::Hot,
         Place::Warm,
         Place::Cold,
+        Place::Temp,
         Place::Dying,
         Place::Unused,
         Place::Retired,

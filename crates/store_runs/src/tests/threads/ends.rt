@@ -72,7 +72,7 @@ fn apply_rest<N: Name, R: Abort + Wait>(
 // How many items there are in a class.
 fn items_in<N: Name>(book: &Book<N>) -> u64 {
     let mut items = 0u64;
-    for place in [Place::Hot, Place::Warm, Place::Cold] {
+    for place in [Place::Hot, Place::Warm, Place::Cold, Place::Temp] {
         items = items.saturating_add(book.size(place).into());
     }
     items

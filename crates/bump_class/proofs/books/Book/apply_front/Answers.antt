@@ -1,4 +1,4 @@
-use Rattle.std.proofs.Common.{refl, sym, ap, ◌∙◌, subst, arith}
+use Rattle.std.proofs.Common.{◌≡◌, ◌==◌, ◌<◌, ◌+◌, ℕ, refl, sym, ap, ◌∙◌, subst, arith, length, slice_index}
 use Rattle.bump_rules.specs.declared.bumps.Applied.TheVariants as applied
 use Rattle.bump_rules.specs.declared.bumps.Outcome.TheVariants.{Moved, TimeOnly, Gone}
 use Rattle.bump_rules.specs.declared.history.Cause.TheVariants as cause
@@ -7,13 +7,15 @@ use Rattle.bump_rules.specs.declared.places.Segment.TheVariants.{Warm, Cold}
 use Rattle.bump_heads.specs.declared.views.ClassView.{ClassView}
 use Rattle.bump_heads.specs.Applying.{IsShown, NamesNoBumpTwice, TellsMoves}
 use Rattle.bump_heads.specs.Linking.{place_of_chunk}
-use Rattle.bump_steps.specs.declared.views.LanePart.{LanePart}
 use Rattle.bump_class.specs.Books.{BookView}
 use Rattle.bump_class.specs.Changes.{book_after_sweep_or_load}
 use Rattle.bump_class.specs.Lanes.{part_or}
-use Rattle.bump_class.proofs.Keeping.{listed, entered}
-use Rattle.bump_class.proofs.LaneLemmas.{few_aboard, applied_keeps, carried_part, each_told}
-use Rattle.bump_class.proofs.ApplicationLemmas.{gone_dies, shown_behind, once_behind, told_behind, fronts, owned, IsSameClass, same_class}
+use Rattle.bump_rules.specs.Entries.{moves_of}
+use Rattle.bump_rules.specs.Lawful.{bit}
+use Rattle.bump_class.proofs.Keeping.{listed, entered_with}
+use Rattle.bump_class.proofs.MoveLemmas.{counts_bump, few_before}
+use Rattle.bump_class.proofs.LaneLemmas.{few_aboard, applied_keeps, carried_part, each_told, worker_of}
+use Rattle.bump_class.proofs.ApplicationLemmas.{gone_dies, shown_behind, once_behind, told_behind, fronts, owned, time_only_keeps, IsSameClass, same_class}
 use Rattle.bump_class.proofs.books.Book.apply_front.Goals as goal
 use Rattle.bump_class.proofs.books.Book.apply_front.Goals.{in-Moved, in-TimeOnly, in-Gone}
 
@@ -36,6 +38,7 @@ to_front-requires g c =
       lists = i.lists;
       hot_limit = i.hot_limit;
       warm_limit = i.warm_limit;
+      workers = length i.moved.items;
     } in
     let carried = carried_part y.seat b (sym c.aboard.ensures.carried ∙ c.in-Some.is) in
     listed k b.life.chunk c.self.invariant.3 (owned k c.args.self.now _ c.args.lane.now b c.self.view_is
@@ -51,12 +54,49 @@ invariant_of-self g c =
       lists = i.lists;
       hot_limit = i.hot_limit;
       warm_limit = i.warm_limit;
+      workers = length i.moved.items;
     } in
     let carried = carried_part y.seat b (sym c.aboard.ensures.carried ∙ c.in-Some.is) in
     let own = owned k c.args.self.now _ c.args.lane.now b c.self.view_is c.lane.view_is carried c.requires.own in
     let e = change.Moved b.life Cold Warm (cause.Bump (part_or y.seat).worker b.number) in
-    entered i.seat c.update-outcome.new.class i.first i.end i.hot_limit i.warm_limit i.lists c.to_front.new.self e _ _
-    c.self.invariant c.in-Moved.ensures.updates.1.class c.to_front.ensures own refl
+    let more = c.count_move.new.moved.items in
+    let one = subst (λ (n : ℕ). (w : ℕ) → w < length i.moved.items
+    → slice_index more w ≡ slice_index i.moved.items w + bit (n == w))
+    (sym (worker_of y.seat y.applied y.receiver.received c.worker-worker.result c.lane.invariant c.worker-worker.ensures.worker))
+    c.count_move.ensures.counted in
+    entered_with i.seat c.update-outcome.new.class i.first i.end i.hot_limit i.warm_limit i.moved.items more i.lists
+    c.to_front.new.self e _ _ c.self.invariant c.in-Moved.ensures.updates.1.class c.to_front.ensures own refl
+    c.count_move.ensures.long (counts_bump i.moved.items more i.seat.part.history (part_or y.seat).worker b
+    c.self.invariant.4 c.count_move.ensures.long one)
+
+pub count_move-requires : goal.count_move-requires
+count_move-requires g c =
+    let i = c.self.inside in
+    let y = c.lane.inside in
+    let b = c.in-Some.bump in
+    let x = c.update-outcome.new.lane in
+    let after = c.update-outcome.new.class in
+    let u = c.in-Moved.ensures.updates in
+    let worker = worker_of y.seat y.applied y.receiver.received c.worker-worker.result c.lane.invariant c.worker-worker.ensures.worker in
+    record {
+      few = λ near. omega (
+      arith,
+      c.self.invariant.4 c.worker-worker.result near,
+      ap (λ (w : ℕ). moves_of w i.seat.part.history) worker,
+      few_before i.seat.part after.part (part_or y.seat) (part_or x) b c.args.now u.0 c.self.invariant.3.causes
+          (ap (λ (v : ClassView). v.part) u.1.class) u.1.lane u.1.told,
+      few_aboard y.seat y.applied y.receiver.received b c.lane.invariant (sym c.aboard.ensures.carried ∙ c.in-Some.is),
+      c.lane.invariant.counted,
+    );
+    }
+
+pub invariant_of-self-in-TimeOnly : goal.invariant_of-self-in-TimeOnly
+invariant_of-self-in-TimeOnly g c =
+    let i = c.self.inside in
+    let y = c.lane.inside in
+    let u = c.in-TimeOnly.ensures.updates in
+    time_only_keeps i.seat c.update-outcome.new.class i.first i.end i.hot_limit i.warm_limit i.moved.items i.lists
+    (part_or y.seat).worker c.in-Some.bump c.args.now u.0 c.self.invariant u.1.class
 
 pub seen_unheld-requires-clause-dying : goal.seen_unheld-requires-clause-dying
 seen_unheld-requires-clause-dying g c =
@@ -69,6 +109,7 @@ seen_unheld-requires-clause-dying g c =
       lists = i.lists;
       hot_limit = i.hot_limit;
       warm_limit = i.warm_limit;
+      workers = length i.moved.items;
     } in
     let carried = carried_part y.seat b (sym c.aboard.ensures.carried ∙ c.in-Some.is) in
     let own = owned k c.args.self.now _ c.args.lane.now b c.self.view_is c.lane.view_is carried c.requires.own in
@@ -98,10 +139,11 @@ returns-clause-applied g c =
       lists = i.lists;
       hot_limit = i.hot_limit;
       warm_limit = i.warm_limit;
+      workers = length i.moved.items;
     } in
     let carried = carried_part y.seat b (sym c.aboard.ensures.carried ∙ c.in-Some.is) in
     let own = owned k old _ from b c.self.view_is c.lane.view_is carried c.requires.own in
-    let made = fronts i.seat i.lists i.hot_limit i.warm_limit y.receiver.ring y.receiver.received y.receiver.known
+    let made = fronts i.seat i.lists i.hot_limit i.warm_limit (length i.moved.items) y.receiver.ring y.receiver.received y.receiver.known
     y.seat x b c.args.now in
     elim c.match-outcome.branch [
       | in-Moved w ↦ let u = w.in-Moved.ensures.updates in
@@ -111,6 +153,7 @@ returns-clause-applied g c =
             lists = w.to_front.ensures j;
             hot_limit = i.hot_limit;
             warm_limit = i.warm_limit;
+            workers = w.count_move.ensures.long j;
           })) (subst (λ (z : BookView). IsShown z.part (part_or x) b Moved) (sym w.self-is) u.1.entry)
       | in-TimeOnly w ↦ let u = w.in-TimeOnly.ensures.updates in
           made TimeOnly u.0 after u.1 own old from c.self.view_is c.lane.view_is carried u.0.tried m.result m.self
@@ -119,6 +162,7 @@ returns-clause-applied g c =
             lists = i.lists;
             hot_limit = i.hot_limit;
             warm_limit = i.warm_limit;
+      workers = length i.moved.items;
           }) u.1.class) (subst (λ (z : BookView). IsShown z.part (part_or x) b TimeOnly) (sym w.self-is) u.1.entry)
       | in-Gone w ↦ let u = w.in-Gone.ensures.updates in
           let h = w.seen_unheld.result in
@@ -130,6 +174,7 @@ returns-clause-applied g c =
             lists = i.lists;
             hot_limit = i.hot_limit;
             warm_limit = i.warm_limit;
+      workers = length i.moved.items;
           })) u.1.class) (subst (λ (z : BookView). IsShown z.part (part_or x) b Gone) (sym left)
           (shown_behind after.part b.life.chunk h (part_or x) b u.1.entry))
     ]
@@ -171,4 +216,4 @@ returns-clause-told g c =
           (sym (w.self-is ∙ w.seen_unheld.ensures.seen))
           (told_behind after.part b.life.chunk w.seen_unheld.result (part_or x) w.in-Gone.ensures.updates.1.told)
     ] in
-    each_told m.self.part (part_or x) y.receiver.received keeps.lane (ap (λ (p : LanePart). p.stage) u.1.lane) tells
+    each_told m.self.part (part_or x) y.receiver.received keeps.lane tells

@@ -1,4 +1,4 @@
-use Rattle.std.proofs.Common.{◌≡◌, true, sym, ap, ap₂, subst, ◌∙◌}
+use Rattle.std.proofs.Common.{◌≡◌, true, sym, ap, ap₂, subst, ◌∙◌, length}
 use Rattle.bump_rules.specs.declared.items.ItemId.{ItemId}
 use Rattle.bump_rules.specs.History.{subject, target, freed_change}
 use Rattle.bump_rules.specs.Lives.{life}
@@ -9,7 +9,6 @@ use Rattle.bump_rules.specs.Lists.{to_front}
 use Rattle.bump_steps.specs.Lives.{class_after_sweep_or_load}
 use Rattle.bump_steps.specs.Views.{owns}
 use Rattle.bump_class.specs.Books.{BookView}
-use Rattle.bump_rules.proofs.ToldMoves.{no_stray}
 use Rattle.bump_steps.proofs.Entering.{freed_subject, freed_quiet}
 use Rattle.bump_class.proofs.Keeping.{entered, listed, sweep_where_unheld}
 use Rattle.bump_class.proofs.books.Book.seen_unheld.Goals as goal
@@ -21,8 +20,8 @@ to_front-requires g c =
       part = i.seat.part;
       lists = i.lists;
       hot_limit = i.hot_limit;
-      warm_limit =
-          i.warm_limit;
+      warm_limit = i.warm_limit;
+      workers = length i.moved.items;
     } in
     listed b c.args.chunk c.self.invariant.3
     (subst (λ (x : BookView). owns c.args.chunk x.part ≡ true) (sym c.self.view_is) c.requires.own)
@@ -36,7 +35,7 @@ invariant_of-self g c =
     let of : (subject (freed_change l)).chunk ≡ c.args.chunk = ap (λ (m : ItemId). m.chunk) (freed_subject l) in
     let same : life c.args.chunk h.generation ≡ l = ap (life c.args.chunk) (c.seen_unheld-head.ensures.generation) in
     let place = c.place.ensures ∙ ap target (c.freed.ensures ∙ ap freed_change same) in
-    entered i.seat c.seen_unheld-head.new.self i.first i.end i.hot_limit i.warm_limit i.lists c.to_front.new.self
+    entered i.seat c.seen_unheld-head.new.self i.first i.end i.hot_limit i.warm_limit i.moved.items i.lists c.to_front.new.self
     (freed_change l) _ _ c.self.invariant
     (◌∙◌ {b = record i.seat { part = class_after_sweep_or_load c.args.chunk h.refs (word_of h) i.seat.part }}
     c.seen_unheld-head.ensures.seen
@@ -44,4 +43,4 @@ invariant_of-self g c =
     (sweep_where_unheld c.args.chunk h.refs (word_of h) i.seat.part c.if-head-eq0.true)))
     (◌∙◌ {b = to_front c.args.chunk c.place.result i.lists} c.to_front.ensures
     (ap₂ (λ d p. to_front d p i.lists) (sym of) place)) (ap (λ d. owns d i.seat.part) of ∙ own)
-    (no_stray (freed_change l) (freed_quiet l))
+    (freed_quiet l)

@@ -4,10 +4,10 @@ use Rattle.bump_rules.specs.declared.configs.Config.{Config}
 use Rattle.atomic_table.specs.Seated.{TableId}
 use Rattle.bump_rules.specs.Configs.{chunks_of}
 use Rattle.bump_steps.specs.Rule.{opened}
-use Rattle.bump_heads.specs.Making.{BlankView, AreNewClasses, AreEmpty}
+use Rattle.bump_heads.specs.Making.{BlankView, AreNewClasses, AreNewLanes}
 use Rattle.bump_readers.specs.Workers.{AreNewWorkers}
 use Rattle.bump_readers.proofs.WorkerTurns.{new_workers, length_workers}
-use Rattle.bump_heads.proofs.Makings.{length_classes, new_classes, length_lanes, empty_lanes}
+use Rattle.bump_heads.proofs.Makings.{length_classes, new_classes, length_lanes, new_lanes}
 use Rattle.bump_heads.proofs.heads.Heads.new.Goals as goal
 
 pub part_classes-requires-clause-parts : goal.part_classes-requires-clause-parts
@@ -37,4 +37,4 @@ part_lanes-requires-clause-parts g c = let k = c.args.config.now in let me = c.b
     ∙ ap (λ (x : Config). (opened x, [])) (ap (λ (b : BlankView). b.config) c.blank.view_is ∙ c.requires.config) in
     let lanes = ap (λ (x : Sat). x.0.lanes) c.in_ok-workers.ensures.rest.1
     ∙ ap (λ (x : Sat). x.0.lanes) c.in_ok-classes.ensures.rest.1 ∙ ap (λ (x : Sat). x.0.lanes) me in
-    (ap length lanes ∙ length_lanes 0 k.workers, subst AreEmpty (sym lanes) (empty_lanes 0 k.workers))
+    (ap length lanes ∙ length_lanes 0 k.workers, subst (AreNewLanes 0) (sym lanes) (new_lanes 0 k.workers))

@@ -1,6 +1,6 @@
 use Rattle.std.proofs.Common.{rules, subst}
 use Rattle.bump_rules.specs.Lawful.{Shows}
-use Rattle.bump_heads.proofs.Seeing.{told_as, own_told, life_told, change_segment_chunk, shifted_whole}
+use Rattle.bump_heads.proofs.Seeing.{told_as, own_told, life_told, change_segment_chunk, may_change_segment, shifted_whole}
 use Rattle.bump_heads.specs.Seats.{class_in}
 use Rattle.bump_heads.proofs.seats.ClassSeat.change_segment.Goals as goal
 
@@ -18,6 +18,11 @@ invariant_of-self g c = let t = shifted_whole g.N.Name.table c.self.inside.class
       t.3,
       t.4,
     )
+
+pub change_segment-word-requires-clause-may : goal.change_segment-word-requires-clause-may
+change_segment-word-requires-clause-may g c = may_change_segment c.args.from c.args.to c.args.chunk
+    c.self.inside.seat.me (class_in c.self.inside.seat.me.0) c.args.self.now c.self.inside.joined c.self.invariant.0
+    (cc c.self.view_is) c.self.invariant.5 c.requires.own c.requires.stands c.requires.may
 
 pub returns-clause-shows : goal.returns-clause-shows
 returns-clause-shows g c = subst (Shows c.head_of.result) c.requires.stands

@@ -17,7 +17,7 @@ invariant_of-self g c = seat_kept c.self.inside.seat.me c.end_life.new.seat.me c
     c.self.invariant.5 refl (λ o. keeps_unlink g.N.Name.table.words c.args.self.now.part o c.args.chunk
     c.end_life.result c.requires.own c.requires.linked)
     (λ o. alone_joined c.args.self.now.part (class_after_unlink c.args.chunk c.end_life.result c.args.self.now.part)
-    c.args.self.now.lane c.self.inside.joined c.requires.alone o)
+    c.args.self.now.lane c.self.inside.joined c.requires.alone refl o)
 
 pub returns-clause-agrees : goal.returns-clause-agrees
 returns-clause-agrees g c =

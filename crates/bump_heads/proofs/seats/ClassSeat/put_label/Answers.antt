@@ -13,7 +13,7 @@ invariant_of-self g c = seat_kept c.self.inside.seat.me c.put_label.new.seat.me 
     c.self.invariant.5 refl (λ o. keeps_put_label g.N.Name.table.words c.args.self.now.part o c.args.chunk
     c.args.label c.requires.unused)
     (λ o. alone_joined c.args.self.now.part (class_after_put_label c.args.chunk c.args.label c.args.self.now.part)
-    c.args.self.now.lane c.self.inside.joined c.requires.alone o)
+    c.args.self.now.lane c.self.inside.joined c.requires.alone refl o)
 
 pub returns : goal.returns
 returns g c = search rules

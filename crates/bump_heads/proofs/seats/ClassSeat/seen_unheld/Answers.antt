@@ -5,7 +5,7 @@ use Rattle.bump_word.specs.Layout.{refs_width}
 use Rattle.bump_word.proofs.Words.{fields}
 use Rattle.bump_steps.specs.Lives.{class_after_sweep_or_load}
 use Rattle.bump_heads.specs.Seats.{class_me}
-use Rattle.bump_heads.proofs.ClassLives.{keeps_sweep_or_load, number_kept}
+use Rattle.bump_heads.proofs.ClassLives.{keeps_sweep_or_load, number_kept, naming_kept}
 use Rattle.bump_heads.proofs.Joining.{alone_joined}
 use Rattle.bump_heads.proofs.ClassSeats.{view_after, seat_kept, finds}
 use Rattle.bump_heads.proofs.seats.ClassSeat.seen_unheld.Goals as goal
@@ -21,7 +21,8 @@ invariant_of-self g c = seat_kept c.self.inside.seat.me c.seen_unheld.new.seat.m
     (c.seen_unheld.result % 2 ^ refs_width) c.seen_unheld.result c.requires.own)
     (λ o. alone_joined c.args.self.now.part
     (class_after_sweep_or_load c.args.chunk (c.seen_unheld.result % 2 ^ refs_width) c.seen_unheld.result
-    c.args.self.now.part) c.args.self.now.lane c.self.inside.joined c.requires.alone o)
+    c.args.self.now.part) c.args.self.now.lane c.self.inside.joined c.requires.alone (naming_kept c.args.chunk (c.seen_unheld.result % 2 ^ refs_width) c.seen_unheld.result
+    c.args.self.now.part) o)
 
 pub returns-clause-unlinked : goal.returns-clause-unlinked
 returns-clause-unlinked g c = subst (λ (p : Place). Shows c.head_of.result p) c.requires.dying

@@ -1,6 +1,6 @@
-use Rattle.std.proofs.Common.{◌+◌, ◌*◌, ◌^◌, arith}
-use Rattle.bump_word.specs.Layout.{linked_first, generation_first}
-use Rattle.bump_steps.proofs.Entering.{may_link}
+use Rattle.std.proofs.Common.{arith, ap, ◌∙◌}
+use Rattle.bump_word.specs.Words.{word_of}
+use Rattle.bump_steps.proofs.Entering.{may_link, link_told}
 use Rattle.bump_steps.proofs.words.Words.open_life.Goals as goal
 
 pub store-requires : goal.store-requires
@@ -9,5 +9,10 @@ store-requires c = let t = c.args.self.now.table.shared in (
   omega (arith, c.requires.seat.1),
   may_link t.key t.table_id.slots c.args.seat.now.id
       c.args.chunk c.args.generation c.args.seat.now.me (omega (arith, c.args.self.now.sized, c.requires.seat.1))
-      c.requires.may (2 ^ linked_first + 1 + c.from.result * 2 ^ generation_first) (omega (arith, c.from.ensures)),
+      c.args.start c.requires.may c.pack-word.result (c.pack-word.ensures ∙ ap word_of c.after_link.ensures),
 )
+
+pub returns-clause-told : goal.returns-clause-told
+returns-clause-told c = link_told c.args.self.now.table.shared.table_id.slots c.args.chunk c.args.generation c.args.start
+    c.args.seat.now.me c.store.new.seat.me c.pack-word.result c.ranges.generation.fits
+    (c.pack-word.ensures ∙ ap word_of c.after_link.ensures) c.store.ensures.2

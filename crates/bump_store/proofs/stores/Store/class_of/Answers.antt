@@ -14,6 +14,6 @@ returns-clause-none g c =
     let same = c.deref.ensures.value in
     let found = subst (λ (xs : List ℕ). IfSome place (λ n. IsBetweenStarts chunk xs n)) same c.place_of.ensures.some in
     let behind = subst (λ (xs : List ℕ). IfNone place (slice_index xs (length xs - 1) ≤ chunk)) same c.place_of.ensures.none in
-    let store = subst (λ (key : Config). IsStore key.classes starts (vec_len c.self.inside.books)) c.self.view_is c.self.invariant in
+    let store = subst (λ (key : Config). IsStore key.classes starts (vec_len c.self.inside.books)) c.self.view_is c.self.invariant.0 in
     subst (λ r. IsErr r ↔ (chunks_of c.args.self.now.classes ≤ chunk)) (sym c.ok_or.ensures.value)
     (refused_exactly _ starts _ chunk place _ store found behind)

@@ -17,7 +17,7 @@ loop-place-preserved c =
 
 pub returns : goal.returns
 returns c =
-    let all : c.loop-place.place-index ≡ 6 = omega (arith, c.loop-place-test.false, c.loop-place.auto.place-index-end) in
+    let all : c.loop-place.place-index ≡ 7 = omega (arith, c.loop-place-test.false, c.loop-place.auto.place-index-end) in
     sym (append-nil c.loop-place.out.items)
     ∙ ap (λ i. c.loop-place.out.items ++ flat_map (list_line c.args.self.now.world c.args.class) (drop i all_places)) (sym all)
     ∙ c.loop-place.invariant
