@@ -1,6 +1,9 @@
 -- The lines of the report of a run with threads.
-use Rattle.std.specs.Prelude.{ℕ, ◌==◌, List, [], ◌++◌, codes, decimal, if◌then◌else◌}
+use Rattle.std.specs.Prelude.{ℕ, List, [], ◌++◌, codes, decimal, if◌then◌else◌}
+use Rattle.bump_rules.specs.declared.places.Place.{Place}
+use Rattle.bump_rules.specs.declared.places.Place.TheVariants as place
 use Rattle.bump_store.specs.declared.finishing.ClassSizes.{ClassSizes}
+use Rattle.trace_lines.specs.Text.{is_shown}
 use Rattle.store_trace.specs.declared.totals.Totals.{Totals}
 
 -- total first A already B marked C
@@ -23,9 +26,9 @@ others_text totals =
 abbrev pub total_line : Totals → List ℕ
 total_line totals = hits_text totals ++ bumps_text totals ++ others_text totals ++ codes "\n"
 
--- temp H, where any item is in TEMP
-abbrev pub temp_text : ClassSizes → List ℕ
-temp_text sizes = if sizes.temp == 0 then [] else codes " temp " ++ decimal sizes.temp
+-- temp H, where TEMP is told of
+unfoldable pub temp_text : ClassSizes → List ℕ
+temp_text sizes = if is_shown place.Temp sizes.temp then codes " temp " ++ decimal sizes.temp else []
 
 -- sizes CLASS hot A warm B cold D dying E unused F retired G, and what is in TEMP
 abbrev pub sizes_line : ℕ → ClassSizes → List ℕ
