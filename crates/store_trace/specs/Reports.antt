@@ -30,10 +30,18 @@ total_line totals = hits_text totals ++ bumps_text totals ++ others_text totals 
 unfoldable pub temp_text : ClassSizes → List ℕ
 temp_text sizes = if is_shown place.Temp sizes.temp then codes " temp " ++ decimal sizes.temp else []
 
--- sizes CLASS hot A warm B cold D dying E unused F retired G, and what is in TEMP
-abbrev pub sizes_line : ℕ → ClassSizes → List ℕ
-sizes_line class sizes =
+-- sizes CLASS hot A warm B cold D
+abbrev pub segments_text : ℕ → ClassSizes → List ℕ
+segments_text class sizes =
     codes "sizes " ++ decimal class ++ codes " hot " ++ decimal sizes.hot ++ codes " warm " ++ decimal sizes.warm
-    ++ codes " cold " ++ decimal sizes.cold ++ codes " dying " ++ decimal sizes.dying
-    ++ codes " unused " ++ decimal sizes.unused ++ codes " retired " ++ decimal sizes.retired ++ temp_text sizes
-    ++ codes "\n"
+    ++ codes " cold " ++ decimal sizes.cold
+
+-- dying E unused F retired G
+abbrev pub ended_text : ClassSizes → List ℕ
+ended_text sizes =
+    codes " dying " ++ decimal sizes.dying ++ codes " unused " ++ decimal sizes.unused
+    ++ codes " retired " ++ decimal sizes.retired
+
+-- all in one line, and what is in TEMP
+abbrev pub sizes_line : ℕ → ClassSizes → List ℕ
+sizes_line class sizes = segments_text class sizes ++ ended_text sizes ++ temp_text sizes ++ codes "\n"
