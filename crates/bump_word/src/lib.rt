@@ -7,7 +7,7 @@
 //! | 20 | `LINKED` |
 //! | 21 | `FETCHED` |
 //! | 22 | `ACTIVE` |
-//! | 23, 24 | segment: 0 HOT, 1 WARM, 2 COLD |
+//! | 23, 24 | segment: 0 HOT, 1 WARM, 2 COLD, 3 TEMP |
 //! | 25 to 31 | zero |
 //! | 32 to 63 | generation |
 #![tactic(auto)]
