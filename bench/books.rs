@@ -3,11 +3,9 @@
 
 use crate::lists::Lists;
 use crate::places::{Ended, Place, Tail};
-use crate::words::{ACTIVE, COLD, Chunk, ItemId, LINKED, REFS, SEGMENT, generation_of};
+use crate::words::{ACTIVE, COLD, Chunk, ItemId, LINKED, REFS, SEGMENT, WARM, generation_of};
 use std::sync::Arc;
 use std::sync::atomic::Ordering::SeqCst;
-
-const WARM: u64 = 1 << 19;
 
 #[derive(Clone, Copy)]
 enum Segment {

@@ -92,7 +92,7 @@ struct Trace<W: Write> {
 impl<W: Write> Trace<W> {
     fn store_all(&mut self, pulled: bool) -> io::Result<()> {
         let chunks = self.items * 6 / 5;
-        writeln!(self.out, "store {WORKERS} 8192 65535 1\nclass {chunks} 1000 2000\nclass {chunks} 1000 2000\nclass {} 1000 2000", HELD * 4)?;
+        writeln!(self.out, "store {WORKERS} 8192 1048575 1\nclass {chunks} 1000 2000\nclass {chunks} 1000 2000\nclass {} 1000 2000", HELD * 4)?;
         for item in 0..self.items {
             writeln!(self.out, "set i{item} {} {item}", item % 2)?;
         }

@@ -1,13 +1,16 @@
-//! The words of a chunk, and items. A module of reads.rs and of changes.rs.
+//! The words of a chunk, and items. A module of reads.rs and of changes.rs. The fields of a head word stand where those of bump_word do.
 
 use std::sync::atomic::AtomicU64;
 
-pub const REFS: u64 = 0xffff;
-pub const LINKED: u64 = 1 << 16;
-pub const FETCHED: u64 = 1 << 17;
-pub const ACTIVE: u64 = 1 << 18;
-pub const SEGMENT: u64 = 3 << 19;
-pub const COLD: u64 = 2 << 19;
+const REFS_BITS: u32 = 20;
+const SEGMENT_AT: u32 = REFS_BITS + 3;
+pub const REFS: u64 = (1 << REFS_BITS) - 1;
+pub const LINKED: u64 = 1 << REFS_BITS;
+pub const FETCHED: u64 = LINKED << 1;
+pub const ACTIVE: u64 = LINKED << 2;
+pub const SEGMENT: u64 = 3 << SEGMENT_AT;
+pub const WARM: u64 = 1 << SEGMENT_AT;
+pub const COLD: u64 = 2 << SEGMENT_AT;
 
 #[derive(Clone, Copy)]
 pub struct ItemId {

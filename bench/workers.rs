@@ -77,7 +77,7 @@ impl Store {
                 (Worker { sender, accounts: Accounts::default() }, receiver)
             })
             .unzip();
-        (Store { chunks, refs_limit: 65_535 }, workers, receivers)
+        (Store { chunks, refs_limit: REFS }, workers, receivers)
     }
 
     fn chunk(&self, life: ItemId) -> &Chunk {

@@ -1,7 +1,7 @@
 //! Stores that are measured: how they are configured and filled, and the lives of their items.
 use bump_class::Book;
 use bump_heads::Name;
-use bump_rules::{ClassConfig, Config, ItemId, Tail};
+use bump_rules::{ClassConfig, Config, ItemId, MAX_REFS, Tail};
 use bump_store::Store;
 use std::alloc::{AllocError, Global};
 use std::sync::Wait;
@@ -57,7 +57,7 @@ impl Shape {
         for _class in 0..self.classes {
             classes.push(self.class).ok()?;
         }
-        Config::new(self.workers, self.capacity, 65_535, 1, classes).ok()
+        Config::new(self.workers, self.capacity, MAX_REFS, 1, classes).ok()
     }
 
     /// Fills each class. None where the store has fewer.
