@@ -61,7 +61,7 @@ pub record Headline (state : State) : Type 0 where
       × (times chunk (class_at state (class_of state chunk)).lists.retired ≡ 0)
   -- the lists of a class have no repeats and no chunk of another class, and agree with its history and the heads
   pub stands : (class chunk : ℕ) (place : Place) → class < length state.classes → Stands state class chunk place
-  -- each chunk of a class stands once in its six lists
+  -- each chunk of a class stands once in its seven lists
   pub once : (class chunk : ℕ) → class < length state.classes → owns (class_at state class) chunk ≡ true
       → times_in_all chunk (class_at state class).lists ≡ 1
   -- each entry of a history that names a bump as its cause is a move from COLD to WARM

@@ -69,8 +69,8 @@ impl<N: Name> ClassSeat<N> {
     }
 
     /// Clears ACTIVE of the chunk, which is the class's, by one and (memcached's `ITEM_ACTIVE` in `lru_pull_tail`).
-    /// Without a lane it is a pull's step, and the chunk stands in HOT, WARM or COLD; with a lane joined it is made
-    /// for its bump, which is of this chunk, in COLD, and at whose head the lane looked. Answers the head that was
+    /// Without a lane it is a pull's step, and the chunk stands in HOT, WARM, COLD or TEMP; with a lane joined it is
+    /// made for its bump, which is of this chunk, in COLD, and at whose head the lane looked. Answers the head that was
     /// found.
     #[inline(always)]
     pub fn clear_active(&mut self, chunk: u32) -> Head

@@ -17,7 +17,7 @@ use bump_steps::head_of;
 
 impl<N: Name> ClassSeat<N> {
     /// Looks at the head of a chunk of the class, by one load. It agrees with the list in which the class has the
-    /// chunk: in HOT, WARM and COLD it is linked and has this segment, elsewhere it is not linked; and it has the
+    /// chunk: in HOT, WARM, COLD and TEMP it is linked and has this segment, elsewhere it is not linked; and it has the
     /// chunk's generation.
     pub fn look(&mut self, chunk: u32) -> Head
         requires own { owns chunk self.old.part ≡ true }
@@ -82,10 +82,10 @@ impl<N: Name> ClassSeat<N> {
         self.open_life_in(chunk, Start::Hot)
     }
 
-    /// Ends the life of a chunk of HOT, WARM or COLD, by one subtraction that clears LINKED and gives back the link's
-    /// reference (memcached's `do_item_unlink`, which clears `ITEM_LINKED` and calls `do_item_remove`). The chunk is
-    /// DYING from then on. Answers the head before: linked, with the segment of the chunk's list and its generation,
-    /// and with the link's reference at least.
+    /// Ends the life of a chunk of HOT, WARM, COLD or TEMP, by one subtraction that clears LINKED and gives back the
+    /// link's reference (memcached's `do_item_unlink`, which clears `ITEM_LINKED` and calls `do_item_remove`). The
+    /// chunk is DYING from then on. Answers the head before: linked, with the segment of the chunk's list and its
+    /// generation, and with the link's reference at least.
     pub fn end_life(&mut self, chunk: u32) -> Head
         requires alone { self.old.lane ≡ None }
         requires own { owns chunk self.old.part ≡ true }

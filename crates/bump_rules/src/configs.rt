@@ -12,7 +12,8 @@ pub const MAX_CHUNKS: u32 = 1_000_000;
 /// The greatest limit of a reference count: as much as the count of a head word holds.
 pub const MAX_REFS: u32 = 1_048_575;
 
-/// What a class is made from.
+/// What a class is made from. Where its limits of HOT and WARM together aren't below its chunks, COLD may stay empty:
+/// then no evict finds an item, and no chunk comes free but by an unlink.
 #[derive(Clone, Copy, Debug, PartialEq, Eq)]
 pub struct ClassConfig {
     /// How many chunks it has: 1 or more, and all classes together at most 1,000,000.

@@ -5,7 +5,7 @@ ghost use Rattle.bump_rules.specs.Places.{place_of, first_segment, place_number,
 /// A segment of a class's recency list: memcached's HOT, WARM, COLD and TEMP.
 #[derive(Clone, Copy, Debug, PartialEq, Eq)]
 pub enum Segment {
-    /// Where an item begins.
+    /// Where an item begins that isn't linked in TEMP.
     Hot,
 
     /// Where an item goes that a pull or a bump finds ACTIVE.

@@ -36,9 +36,8 @@ pub enum RideRefusal {
     Busy,
 }
 
-// Why a get of the life is refused where this head is found, if it is: Stale comes before RefsFull. The limit is of
-// the type of a count: where its bits are all of that type's, one instruction compares the word's lowest bits with
-// the limit in memory.
+// Why a get of the life is refused where this head is found, if it is: Stale comes before RefsFull. The limit is lent,
+// so that it is read where it lies, anew for each head.
 pub fn refusal(head: Head, life: ItemId, limit: &Count) -> Option<TakeRefusal>
     requires { Fits head }
     ensures { result ≡ refused_by (get_of limit.now life.generation head) }

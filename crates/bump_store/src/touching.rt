@@ -171,7 +171,7 @@ impl<N: Name> Worker<N> {
     /// heads that they found it answers
     /// 1. First, where FETCHED was clear: it is the item's first hit, and is told to no other worker;
     /// 2. Already, where ACTIVE was set;
-    /// 3. Marked, where ACTIVE was clear in HOT or WARM: the time is stored;
+    /// 3. Marked, where ACTIVE was clear in HOT, WARM or TEMP: the time is stored;
     /// 4. where ACTIVE was clear in COLD, what its attempt to bump the item comes to. A reference is taken for the
     ///    bump, by one load and at most 8 exchanges, and the bump is put into the worker's ring: Queued, with its
     ///    number among the worker's accepted bumps, from 0. Or it is dropped: as RefsFull, where the item's reference

@@ -179,7 +179,7 @@ module _ (s : State) (w : ℕ) (l : ItemId) (now : ℕ) (w_in : w < length s.wor
   mark_enabled : h.fetched ≡ true → is_enabled s (event.Mark w l) ≡ true
   mark_enabled set = and_from _ _ may (and_from _ _ set few)
 
-  -- a hit in HOT or WARM sets ACTIVE and stores the time
+  -- a hit in HOT, WARM or TEMP sets ACTIVE and stores the time
   marked_made : h.fetched ≡ true → is_cold h.segment ≡ false → run_of s (hit_events s w l now IsMarked)
       ≡ Some (hit s w l now IsMarked)
   marked_made set warm =

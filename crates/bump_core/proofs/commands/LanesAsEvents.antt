@@ -187,7 +187,7 @@ module _ (s : State) (b : Bump) (w now : ℕ) (c_in : b.life.chunk < length s.ch
   begun on es = looked (event.BumpTime w now ∷ es)
       ∙ time_step s b w c_in w_in s.classes x (y (lane.Tried b)) es now refl on
 
-  -- an item in HOT or WARM gets the time alone
+  -- an item in HOT, WARM or TEMP gets the time alone
   timed : h.linked ≡ true → is_cold h.segment ≡ false
       → run_of taken (event.Try w ∷ event.BumpTime w now ∷ event.Alight w ∷ [])
       ≡ Some (at s c w s.classes (bumped_chunk x now outcome.TimeOnly) (z outcome.TimeOnly))

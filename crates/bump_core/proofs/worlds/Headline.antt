@@ -26,7 +26,7 @@ applies_in_order capacity x p =
     ∙ (sym (numbered_append 0 x.received (in_ring x) (length x.received) (omega arith))
     ∙ ap (numbered_from 0) (sym p.ring.prefix))
 
--- a chunk of a class stands once in its six lists
+-- a chunk of a class stands once in its seven lists
 pub once_in_all : (s : State) → IsLawful s → (k c : ℕ) → k < length s.classes → owns (class_at s k) c ≡ true
     → times_in_all c (class_at s k).lists ≡ 1
 once_in_all s o k c within own = once_in_places (place_in (class_at s k) c)
