@@ -52,7 +52,7 @@ use Rattle.bump_steps.specs.Lives as lives
 use Rattle.bump_steps.proofs.Frame.{Same, Amid, Reaches, on_head, same_sound}
 use Rattle.bump_steps.proofs.LabelLists.{word_linked}
 use Rattle.bump_steps.proofs.LifeLabels.{entered_labels, link_labels}
-use Rattle.bump_steps.proofs.Looking.{load_same, load_backed}
+use Rattle.bump_steps.proofs.Looking.{look_same, look_backed}
 use Rattle.bump_steps.proofs.StepLemmas.{chunk_is, at_chunk, owned_push, same_counts}
 use Rattle.bump_steps.proofs.Told.{at_standing, tells, stands_alone}
 
@@ -311,10 +311,10 @@ module _ (key : Config) (slots id c : ℕ) (near : c < chunks key) (sl : List (�
       by n label t o a false is = (
         on_class (class_after_load c n) (alone k),
         (λ u moves. same_sound key.refs_limit n label t u
-            (same_counts c (alone k) (on_class (class_after_load c n) (alone k)) t u (load_same c n (alone k) c)
+            (same_counts c (alone k) (on_class (class_after_load c n) (alone k)) t u (look_same kind.Load c n (alone k) c)
             moves) o),
-        (λ d ne. load_same c n (alone k) d),
-        load_backed c n (alone k),
+        (λ d ne. look_same kind.Load c n (alone k) d),
+        look_backed kind.Load c n (alone k),
         (
           ap (λ (b : Bool). (
             on_class (λ j. if b then class_after_sweep c n j else class_after_load c n j) (alone k),

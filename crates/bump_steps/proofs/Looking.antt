@@ -1,5 +1,5 @@
 -- Looks of a class's seat at a chunk change nothing that is counted.
-use Rattle.std.proofs.Common.{◌+◌, ℕ, ◌*◌, ◌<◌, ◌≤◌, ◌&&◌, eqb, cond, not, None, refl, arith}
+use Rattle.std.proofs.Common.{◌≡◌, ◌+◌, ℕ, ◌*◌, ◌/◌, ◌^◌, ◌<◌, ◌≤◌, ◌&&◌, eqb, cond, not, [], ◌∷◌, ◌++◌, None, refl, sym, subst, arith}
 use mathlib.Core.Option.{none}
 use Rattle.atomic_table.specs.Table.{step, Allows}
 use Rattle.bump_rules.specs.declared.bumps.AppliedBump.{AppliedBump}
@@ -10,93 +10,103 @@ use Rattle.bump_rules.specs.Entries.{is_move_for, is_unlink_of}
 use Rattle.bump_rules.specs.History.{is_standing}
 use Rattle.bump_rules.specs.Lives.{is_same}
 use Rattle.bump_rules.specs.Totals.{how_many}
+use Rattle.bump_word.specs.Layout.{generation_first}
+use Rattle.bump_steps.specs.declared.views.Kind.{Kind}
 use Rattle.bump_steps.specs.declared.views.Kind.TheVariants as kind
+use Rattle.bump_steps.specs.declared.views.ClassPart.{ClassPart}
 use Rattle.bump_steps.specs.declared.views.View.{View}
-use Rattle.bump_steps.specs.Views.{held, named, saw, owners, strays, mislabels, misreads, owns, standing, last_label, shown_by, shows_time_only, of_owner, names_move, foreign_in, IsBacked}
-use Rattle.bump_steps.specs.Rule.{chunks, Kept}
+use Rattle.bump_steps.specs.Views.{Measure, held, named, saw, owners, strays, mislabels, misreads, owns, standing, last_label, shown_by, shows_time_only, of_owner, names_move, foreign_in, IsBacked}
+use Rattle.bump_steps.specs.Rule.{Sound, chunks, Kept}
 use Rattle.bump_steps.specs.Plays.{Sat, on_chunk, step_of}
-use Rattle.bump_steps.specs.Lives.{class_after_load, on_class, unlisted_load_tells, load_tells}
+use Rattle.bump_steps.specs.Lives.{class_after_see_time, on_class, generation_load_tells, load_tells, time_load_tells}
 use Rattle.bump_steps.proofs.LifeLabels.{have_on_first, noted_labels}
-use Rattle.bump_steps.proofs.Frame.{Same, same_sound}
-use Rattle.bump_steps.proofs.StepLemmas.{at_chunk, on_first_total, on_first_le, owned_push, same_counts}
+use Rattle.bump_steps.proofs.Frame.{Same, Reaches, on_time, same_sound}
+use Rattle.bump_steps.proofs.StepLemmas.{at_chunk, time_chunk_is, on_first_total, on_first_le, owned_push, same_counts}
 use Rattle.bump_steps.proofs.Told.{tells}
 
-module _ (c n : ℕ) (v : View) where
+-- the class noted a step of this kind, for no bump
+abbrev pub noted_by : Kind → ℕ → ℕ → ClassPart → ClassPart
+noted_by kind c n k = record k { steps = k.steps ++ step_of kind c n None ∷ [] }
+
+module _ (kind : Kind) (c n : ℕ) (v : View) where
   -- a look is counted of no chunk
-  pub load_same : (b : ℕ) → Same b v (on_class (class_after_load c n) v)
-  load_same b (held j) = refl
-  load_same b (named j) = refl
-  load_same b (saw j) = refl
-  load_same b owners = on_first_total (λ k. cond (owns b k) 1 0) (class_after_load c n) (λ k. refl) v.classes
-  load_same b (strays s) = on_first_total (λ k. cond (owns b k && not (is_standing (standing k b) s)) 1 0)
-      (class_after_load c n) (λ k. refl) v.classes
-  load_same b (mislabels x) = on_first_total (λ k. cond (owns b k && not (eqb (last_label k b) x)) 1 0)
-      (class_after_load c n) (λ k. refl) v.classes
-  load_same b (misreads j x) = refl
+  pub look_same : (b : ℕ) → Same b v (on_class (noted_by kind c n) v)
+  look_same b (held j) = refl
+  look_same b (named j) = refl
+  look_same b (saw j) = refl
+  look_same b owners = on_first_total (λ k. cond (owns b k) 1 0) (noted_by kind c n) (λ k. refl) v.classes
+  look_same b (strays s) = on_first_total (λ k. cond (owns b k && not (is_standing (standing k b) s)) 1 0)
+      (noted_by kind c n) (λ k. refl) v.classes
+  look_same b (mislabels x) = on_first_total (λ k. cond (owns b k && not (eqb (last_label k b) x)) 1 0)
+      (noted_by kind c n) (λ k. refl) v.classes
+  look_same b (misreads j x) = refl
 
   -- and shows what was shown, and no move
-  pub load_backed : IsBacked v (on_class (class_after_load c n) v)
-  load_backed = record {
+  pub look_backed : IsBacked v (on_class (noted_by kind c n) v)
+  look_backed = record {
     backs = λ wk e. (by wk e e.outcome, λ more. absurd (omega arith));
     even = λ q. let same_moves = on_first_total (λ k. how_many (is_move_for q.test q.worker q.number) k.history)
-        (class_after_load c n) (λ k. refl) v.classes in omega arith;
-    progress = λ q. let same = on_first_total (λ k. names_move q k.applying) (class_after_load c n) (λ k. refl)
+        (noted_by kind c n) (λ k. refl) v.classes in omega arith;
+    progress = λ q. let same = on_first_total (λ k. names_move q k.applying) (noted_by kind c n) (λ k. refl)
         v.classes in omega arith;
-    own = let same = on_first_total foreign_in (class_after_load c n) (λ k. refl) v.classes in omega arith;
-    labels = have_on_first (class_after_load c n) (λ k p. noted_labels k (class_after_load c n k).steps p) v.classes;
+    own = let same = on_first_total foreign_in (noted_by kind c n) (λ k. refl) v.classes in omega arith;
+    labels = have_on_first (noted_by kind c n) (λ k p. noted_labels k (noted_by kind c n k).steps p) v.classes;
     workers = λ w. refl;
     lanes = λ w. refl;
     tidy = omega arith;
   }
     where
       by : (wk : ℕ) (e : AppliedBump) (o : Outcome) → shown_by o wk e v ≤ shown_by o wk e
-          (on_class (class_after_load c n) v)
+          (on_class (noted_by kind c n) v)
       by wk e outcome.Moved = omega (
         arith,
         on_first_total (of_owner e.life.chunk
-            (λ k. how_many (is_move_for (is_same e.life) wk e.number) k.history)) (class_after_load c n) (λ k. refl)
+            (λ k. how_many (is_move_for (is_same e.life) wk e.number) k.history)) (noted_by kind c n) (λ k. refl)
             v.classes,
       )
       by wk e outcome.Gone = omega (
         arith,
         on_first_total (of_owner e.life.chunk (λ k. how_many (is_unlink_of e.life) k.history))
-            (class_after_load c n) (λ k. refl) v.classes,
+            (noted_by kind c n) (λ k. refl) v.classes,
       )
       by wk e outcome.TimeOnly = let more =
           on_first_le (of_owner e.life.chunk (λ k. how_many (shows_time_only wk e.number e.life.chunk) k.steps))
-          (class_after_load c n) (λ k. owned_push (owns e.life.chunk k)
-          (λ x. cond (shows_time_only wk e.number e.life.chunk x) 1 0) k.steps (step_of kind.Load c n None)) v.classes
+          (noted_by kind c n) (λ k. owned_push (owns e.life.chunk k)
+          (λ x. cond (shows_time_only wk e.number e.life.chunk x) 1 0) k.steps (step_of kind c n None)) v.classes
           in omega arith
 
 module _ (key : Config) (slots id : ℕ) (m : Sat) (c : ℕ) (near : c < chunks key) where
+  -- whatever is noted of the word that was found
+  reaches_by_look : (kind : Kind) (y n x : ℕ) (t : Measure → ℕ) (tell : Sat → Type 0) → Sound key.refs_limit n x t
+      → tell (on_class (noted_by kind c y) m.0, m.1) → Reaches key c m tell n x t
+  reaches_by_look kind y n x t tell o told = (
+    on_class (noted_by kind c y) m.0,
+    (λ u moved. same_sound key.refs_limit n x t u
+        (same_counts c m.0 (on_class (noted_by kind c y) m.0) t u (look_same kind c y m.0 c) moved) o),
+    (λ b ne. look_same kind c y m.0 b),
+    look_backed kind c y m.0,
+    told,
+  )
+
   -- any class may look at any chunk
   pub may_load : Allows (Kept key) slots id m (3 * c + 9) (λ n. n)
       (on_chunk load_tells (step slots (3 * c + 9) 0 0 none) m)
-  may_load = at_chunk load_tells key slots id m c 0 (λ n. n) near (λ n x t limits o a. (
-    on_class (class_after_load c n) m.0,
-    (λ u moved. same_sound key.refs_limit n x t u
-        (same_counts c m.0 (on_class (class_after_load c n) m.0) t u (load_same c n m.0 c) moved) o),
-    (λ b ne. load_same c n m.0 b),
-    load_backed c n m.0,
-    (refl, (o.head, o.spells, tells c key.refs_limit n x m.0 t o a)),
-  ))
+  may_load = at_chunk load_tells key slots id m c 0 (λ n. n) near (λ n x t limits o a.
+      reaches_by_look kind.Load n n x t (load_tells c 0 m n) o
+      (refl, (o.head, o.spells, tells c key.refs_limit n x m.0 t o a)))
 
-  -- also without a step of its list
-  pub may_load_unlisted : Allows (Kept key) slots id m (3 * c + 9) (λ n. n)
-      (on_chunk unlisted_load_tells (step slots (3 * c + 9) 0 0 none) m)
-  may_load_unlisted = at_chunk unlisted_load_tells key slots id m c 0 (λ n. n) near (λ n x t limits o a. (
-    m.0,
-    (λ u moved. same_sound key.refs_limit n x t u (λ y. let e = moved y in omega arith) o),
-    (λ b ne y. refl),
-    record {
-      backs = λ wk e. (omega arith, λ more. absurd (omega arith));
-      even = λ q. omega arith;
-      progress = λ q. omega arith;
-      own = omega arith;
-      labels = λ have. have;
-      workers = λ w. refl;
-      lanes = λ w. refl;
-      tidy = omega arith;
-    },
-    (refl, (o.head, o.spells, tells c key.refs_limit n x m.0 t o a)),
-  ))
+  -- also for its generation
+  pub may_see_generation : Allows (Kept key) slots id m (3 * c + 9) (λ n. n)
+      (on_chunk generation_load_tells (step slots (3 * c + 9) 0 0 none) m)
+  may_see_generation = at_chunk generation_load_tells key slots id m c 0 (λ n. n) near (λ n x t limits o a.
+      reaches_by_look kind.SeeGeneration (n / 2 ^ generation_first) n x t (generation_load_tells c 0 m n) o
+      (refl, (o.head, o.spells, tells c key.refs_limit n x m.0 t o a)))
+
+  -- and at its time
+  pub may_see_time : Allows (Kept key) slots id m (3 * c + 10) (λ y. y)
+      (time_load_tells (step slots (3 * c + 10) 0 0 none) m)
+  may_see_time = subst (λ (d : ℕ). Allows (Kept key) slots id m (3 * c + 10) (λ y. y)
+      (λ y w. w ≡ (on_class (class_after_see_time d y) m.0, m.1))) (sym (time_chunk_is c))
+      (on_time key slots id m c (λ y. y) (λ y w. w ≡ (on_class (class_after_see_time c y) m.0, m.1)) near
+      (λ y n x t limits o a. reaches_by_look kind.SeeTime y n x t
+      (λ w. w ≡ (on_class (class_after_see_time c y) m.0, m.1)) o refl))

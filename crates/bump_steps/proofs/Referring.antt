@@ -30,8 +30,8 @@ use Rattle.bump_steps.specs.declared.views.Kind.TheVariants as kind
 use Rattle.bump_steps.specs.declared.views.View.{View}
 use Rattle.bump_steps.specs.declared.views.WorkerPart.{WorkerPart}
 use Rattle.bump_steps.specs.Plays.{Sat, on_chunk, behind, on_first, step_of}
-use Rattle.bump_steps.specs.Marks.{noted}
-use Rattle.bump_steps.specs.References.{view_after_load, load_to_take_tells, new_hold, view_after_take, take_tells, HasHold, view_after_release, release_of_hold_tells, hold_after_label_load, view_after_label_load, IsLabel, label_load_tells, load_without_seat_tells}
+use Rattle.bump_steps.specs.Marks.{noted, on_worker}
+use Rattle.bump_steps.specs.References.{load_to_take_tells, new_hold, view_after_take, take_tells, HasHold, view_after_release, release_of_hold_tells, hold_after_label_load, view_after_label_load, IsLabel, label_load_tells, load_without_seat_tells}
 use Rattle.bump_steps.specs.Rule.{Sound, chunks, Kept, blank, HasFittingLimit}
 use Rattle.bump_steps.specs.Views.{Measure, held, named, saw, owners, strays, mislabels, misreads, is_fetch, is_fetch_of, in_hand, misread, differs, weight, tally, claims, evidence, shown_by, moves, settled, in_progress, underway, foreign, workers_of, lanes_of, untidy, IsBacked}
 use Rattle.bump_steps.proofs.LifeLabels.{labelled_push}
@@ -143,15 +143,16 @@ held_is limit g h is = by (is_of g h) refl (nat_lt h.refs limit) refl is
     by false of few less is = absurd (cc is)
 
 module _ (key : Config) (slots id : ℕ) (m : Sat) (c : ℕ) (near : c < chunks key) where
-  -- a load by a worker changes no word, and nothing that counts
-  reaches_by_load : (n x : ℕ) (t : Measure → ℕ) (tell : Sat → Type 0) → Sound key.refs_limit n x t
-      → tell (view_after_load c n m.0, m.1) → Reaches key c m tell n x t
-  reaches_by_load n x t tell o told = (
-    view_after_load c n m.0,
+  -- a load by a worker, or its exchange that failed, changes no word, and nothing that counts
+  reaches_by_look : (kind : Kind) → is_fetch kind ≡ false → (n x : ℕ) (t : Measure → ℕ) (tell : Sat → Type 0)
+      → Sound key.refs_limit n x t
+      → tell (on_worker (noted kind c n) m.0, m.1) → Reaches key c m tell n x t
+  reaches_by_look kind plain n x t tell o told = (
+    on_worker (noted kind c n) m.0,
     (λ u moved. same_sound key.refs_limit n x t u
-        (same_counts c m.0 (view_after_load c n m.0) t u (noted_same kind.Load refl c n m.0 m.0.holds c) moved) o),
-    (λ b ne. noted_same kind.Load refl c n m.0 m.0.holds b),
-    quiet m.0 (on_first (noted kind.Load c n) m.0.workers) m.0.holds m.0.returned (same_workers kind.Load c n m.0),
+        (same_counts c m.0 (on_worker (noted kind c n) m.0) t u (noted_same kind plain c n m.0 m.0.holds c) moved) o),
+    (λ b ne. noted_same kind plain c n m.0 m.0.holds b),
+    quiet m.0 (on_first (noted kind c n) m.0.workers) m.0.holds m.0.returned (same_workers kind c n m.0),
     told,
   )
 
@@ -159,7 +160,7 @@ module _ (key : Config) (slots id : ℕ) (m : Sat) (c : ℕ) (near : c < chunks 
   pub may_load_to_take : Allows (Kept key) slots id m (3 * c + 9) (λ n. n)
       (on_chunk load_to_take_tells (step slots (3 * c + 9) 0 0 none) m)
   may_load_to_take = at_chunk load_to_take_tells key slots id m c 0 (λ n. n) near
-      (λ n x t limits o a. reaches_by_load n x t (load_to_take_tells c 0 m n) o
+      (λ n x t limits o a. reaches_by_look kind.Load refl n x t (load_to_take_tells c 0 m n) o
       (refl, (o.head, o.spells, tells c key.refs_limit n x m.0 t o a)))
 
   -- a reference is taken where the word is the one that the exchange expects
@@ -221,7 +222,7 @@ module _ (key : Config) (slots id : ℕ) (m : Sat) (c : ℕ) (near : c < chunks 
       (λ n x t limits o a.
       exchanged n old (old + 1) (λ p. Reaches key c m (take_tells c old m n) p x t)
       (λ hit. won g old h is may n x t limits o a hit)
-      (λ miss. reaches_by_load n x t (take_tells c old m n) o (
+      (λ miss. reaches_by_look kind.Failed refl n x t (take_tells c old m n) o (
         (λ hit. absurd (miss hit)),
         (λ _. refl),
         (o.head, o.spells, tells c key.refs_limit n x m.0 t o a),

@@ -23,6 +23,7 @@ use Rattle.bump_word.specs.Words.{Spells, word_of}
 use Rattle.bump_word.proofs.Steps.{one_less}
 use Rattle.bump_word.proofs.Words.{one_head}
 use Rattle.bump_steps.specs.declared.views.Empty.{Empty}
+use Rattle.bump_steps.specs.declared.views.Kind.{Kind}
 use Rattle.bump_steps.specs.declared.views.Kind.TheVariants as kind
 use Rattle.bump_steps.specs.declared.views.OwnStep.{OwnStep}
 use Rattle.bump_steps.specs.declared.views.WorkerPart.{WorkerPart}
@@ -32,7 +33,7 @@ use Rattle.bump_steps.specs.Views.{Measure, held, named, saw, owners, strays, mi
 use Rattle.bump_steps.specs.Rule.{Sound, chunks, Kept, HasFittingLimit}
 use Rattle.bump_steps.specs.Plays.{Sat, step_of}
 use Rattle.bump_rules.specs.Accounts.{counted_drop}
-use Rattle.bump_steps.specs.Rides.{touching, judged_hand, IsOfHeld, load_to_ride_tells, reserve_tells, try_to_ride_tells, release_tells, IsOn, HasRoom}
+use Rattle.bump_steps.specs.Rides.{touching, judged_hand, IsOfHeld, look_to_ride_tells, load_to_ride_tells, reserve_tells, try_to_ride_tells, release_tells, IsOn, HasRoom}
 use Rattle.bump_steps.proofs.Frame.{Same, Amid, Reaches, on_head, same_sound}
 use Rattle.bump_steps.proofs.StepLemmas.{level, one_life, other_life, other_chunk, same_counts}
 
@@ -131,20 +132,21 @@ module _ (key : Config) (slots id : ℕ) (p : WorkerPart) (q : HoldPart) (l : It
       (sym gen, omega (arith, o.lawful.counted, ap (λ (j : ℕ). t (held j)) gen, mine), o.lawful.within)
 
   -- a load, or an exchange that failed: the attempt ends here or goes on
-  load_reaches : (failed n y : ℕ) (t : Measure → ℕ) (o : Sound key.refs_limit n y t)
+  look_reaches : (kind : Kind) → is_fetch kind ≡ false → (failed n y : ℕ) (t : Measure → ℕ)
+      (o : Sound key.refs_limit n y t)
       → Amid l.chunk (seat_with (hand.Trying l)).0 t → Reaches key l.chunk (seat_with (hand.Trying l))
-      (load_to_ride_tells key.refs_limit failed l (seat_with (hand.Trying l)) n) n y t
-  load_reaches failed n y t o a = let why : Option Dropped = refused_of key.refs_limit failed o.head in
-      let x : OwnStep = step_of kind.Load l.chunk (word_of o.head) None in
+      (look_to_ride_tells kind key.refs_limit failed l (seat_with (hand.Trying l)) n) n y t
+  look_reaches kind plain failed n y t o a = let why : Option Dropped = refused_of key.refs_limit failed o.head in
+      let x : OwnStep = step_of kind l.chunk (word_of o.head) None in
       let next : (b k : ℕ) → in_hand b k (judged_hand why l) ≡ 0 = none_in_hand why l in (
         with_hold p q l (judged_hand why l) (counted_drop why p.accounts) (p.steps ++ x ∷ []),
         (λ u moves. same_sound key.refs_limit n y t u
             (same_counts l.chunk (seat_with (hand.Trying l)).0
             (with_hold p q l (judged_hand why l) (counted_drop why p.accounts) (p.steps ++ x ∷ [])) t u
-            (elsewhere p q l (hand.Trying l) (judged_hand why l) (counted_drop why p.accounts) x refl l.chunk
+            (elsewhere p q l (hand.Trying l) (judged_hand why l) (counted_drop why p.accounts) x plain l.chunk
             (next l.chunk)) moves) o),
-        (λ b ne. elsewhere p q l (hand.Trying l) (judged_hand why l) (counted_drop why p.accounts) x refl b (next b)),
-        quiet p q l (hand.Trying l) (judged_hand why l) (counted_drop why p.accounts) x refl,
+        (λ b ne. elsewhere p q l (hand.Trying l) (judged_hand why l) (counted_drop why p.accounts) x plain b (next b)),
+        quiet p q l (hand.Trying l) (judged_hand why l) (counted_drop why p.accounts) x plain,
         (o.head, o.spells, held_here (hand.Trying l) n y t o a, refl),
       )
 
@@ -152,7 +154,7 @@ module _ (key : Config) (slots id : ℕ) (p : WorkerPart) (q : HoldPart) (l : It
       (load_to_ride_tells key.refs_limit failed l (seat_with (hand.Trying l)))
   loads_to_ride failed = on_head key slots id (seat_with (hand.Trying l)) l.chunk (λ n. n)
       (load_to_ride_tells key.refs_limit failed l (seat_with (hand.Trying l))) near
-      (λ n y t limits o a. load_reaches failed n y t o a)
+      (λ n y t limits o a. look_reaches kind.Load refl failed n y t o a)
 
   -- an exchange that found the word that it expects
   reserve_reaches : (old : ℕ) → HasRoom key.refs_limit old → (n y : ℕ) (t : Measure → ℕ) → HasFittingLimit key
@@ -195,7 +197,7 @@ module _ (key : Config) (slots id : ℕ) (p : WorkerPart) (q : HoldPart) (l : It
       (try_to_ride_tells key.refs_limit failed l old (seat_with (hand.Trying l)) n) k y t)
       (λ hit. let r = reserve_reaches old room n y t limits o a hit in
       (r.0, r.1, r.2, r.3, ((λ _. r.4), (λ miss. absurd (miss hit)))))
-      (λ miss. let r = load_reaches failed n y t o a in
+      (λ miss. let r = look_reaches kind.Failed refl failed n y t o a in
       (r.0, r.1, r.2, r.3, ((λ hit. absurd (miss hit)), (λ _. r.4)))))
 
   -- a bump's reference is given back

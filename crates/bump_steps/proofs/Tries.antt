@@ -16,8 +16,8 @@ use Rattle.bump_steps.specs.declared.views.View.{View}
 use Rattle.bump_steps.specs.declared.views.WorkerPart.{WorkerPart}
 use Rattle.bump_steps.specs.Marks.{on_worker}
 use Rattle.bump_steps.specs.Plays.{Sat, HasWorker, on_first, step_of}
-use Rattle.bump_steps.specs.References.{new_hold, view_after_load, load_to_take_tells, view_after_take, take_tells}
-use Rattle.bump_steps.specs.Tries.{last_found, AreAll, AreTries, AttemptFound, TakeFound, refused_by, take_refused, refusal_of, loads, takes, with_more, held_by, view_after_attempt}
+use Rattle.bump_steps.specs.References.{new_hold, view_after_load, view_after_failed, load_to_take_tells, view_after_take, take_tells}
+use Rattle.bump_steps.specs.Tries.{last_found, AreAll, AreTries, AttemptFound, TakeFound, refused_by, take_refused, refusal_of, failures, looks, takes, with_more, held_by, view_after_attempt}
 use Rattle.bump_steps.proofs.Referring.{held_is}
 
 -- ---- lists of heads and of steps
@@ -45,11 +45,16 @@ pub last_is_one : (Is : Head → Type 0) (h : Head) (more : List Head) → AreAl
 last_is_one Is h [] are = are
 last_is_one Is h (k ∷ more) are = last_is_one Is k more are.1
 
--- one load more
-loads_push : (c : ℕ) (hs : List Head) (k : Head) → loads c (hs ++ k ∷ []) ≡ loads c hs ++ step_of kind.Load c
+-- one exchange more that failed
+failures_push : (c : ℕ) (hs : List Head) (k : Head) → failures c (hs ++ k ∷ []) ≡ failures c hs ++ step_of kind.Failed c
     (word_of k) None ∷ []
-loads_push c [] k = refl
-loads_push c (h ∷ hs) k = ap (λ (l : List OwnStep). step_of kind.Load c (word_of h) None ∷ l) (loads_push c hs k)
+failures_push c [] k = refl
+failures_push c (h ∷ hs) k =
+    ap (λ (l : List OwnStep). step_of kind.Failed c (word_of h) None ∷ l) (failures_push c hs k)
+
+looks_push : (c : ℕ) (h : Head) (hs : List Head) (k : Head) → looks c h (hs ++ k ∷ []) ≡ looks c h hs
+    ++ step_of kind.Failed c (word_of k) None ∷ []
+looks_push c h hs k = ap (λ (l : List OwnStep). step_of kind.Load c (word_of h) None ∷ l) (failures_push c hs k)
 
 -- two changes of the first element, one after the other
 pub first_again : {A : Type 0} (f g : A → A) (l : List A) → on_first g (on_first f l) ≡ on_first (λ x. g (f x)) l
@@ -81,14 +86,14 @@ pub record Trying {Refusal : Type 0} (Is IsOpen : Head → Type 0) (refused : �
   pub tries : AreTries IsOpen first more
   pub count : length more ≡ failed
   pub last : word ≡ word_of (last_found first more)
-  pub view : now ≡ (seen (refused (length more) (last_found first more)) (loads c (first ∷ more)) before.0, before.1)
+  pub view : now ≡ (seen (refused (length more) (last_found first more)) (looks c first more) before.0, before.1)
 
 module _ {Refusal : Type 0} (Is IsOpen : Head → Type 0) (refused : ℕ → Head → Option Refusal)
     (seen : Option Refusal → List OwnStep → View → View) (c : ℕ) (fits : (h : Head) → Is h → Fits h) (before : Sat)
   where
     -- after the load
     pub tries_start : (now : Sat) (word : ℕ) (h : Head) → Spells word h → Is h
-        → now ≡ (seen (refused 0 h) (loads c (h ∷ [])) before.0, before.1)
+        → now ≡ (seen (refused 0 h) (looks c h []) before.0, before.1)
         → (first : Head) × (more : List Head) × Trying Is IsOpen refused seen c before now word 0 first more
     tries_start now word h spelled is view =
         (h, [], record { heads = is; tries = tt; count = refl; last = spelled.0; view = view })
@@ -110,9 +115,9 @@ module _ {Refusal : Type 0} (Is IsOpen : Head → Type 0) (refused : ℕ → Hea
 
       -- what is known of it
       pub view_is : (h : Head) → Spells word h → (o : Option Refusal) → refused failed h ≡ o
-          → now ≡ (seen o (loads c (first ∷ more)) before.0, before.1)
+          → now ≡ (seen o (looks c first more) before.0, before.1)
       view_is h spelled o is = y.view
-          ∙ ap (λ (x : Option Refusal). (seen x (loads c (first ∷ more)) before.0, before.1))
+          ∙ ap (λ (x : Option Refusal). (seen x (looks c first more) before.0, before.1))
           (refused_is h spelled ∙ is)
 
       -- an exchange failed
@@ -121,7 +126,7 @@ module _ {Refusal : Type 0} (Is IsOpen : Head → Type 0) (refused : ℕ → Hea
           → Spells found k → Is k
           → ((s : List OwnStep) → now ≡ (seen None s before.0, before.1)
           → next ≡ (
-            seen (refused (failed + 1) k) (s ++ step_of kind.Load c (word_of k) None ∷ []) before.0,
+            seen (refused (failed + 1) k) (s ++ step_of kind.Failed c (word_of k) None ∷ []) before.0,
             before.1,
           ))
           → (j : Head) × Trying Is IsOpen refused seen c before next found (failed + 1) first (more ++ j ∷ [])
@@ -134,9 +139,9 @@ module _ {Refusal : Type 0} (Is IsOpen : Head → Type 0) (refused : ℕ → Hea
                   (λ e. miss (other.0 ∙ ap word_of e ∙ sym y.last));
               count = count;
               last = other.0 ∙ ap word_of (sym (last_push first more k));
-              view = step (loads c (first ∷ more)) (view_is h spelled None none)
+              view = step (looks c first more) (view_is h spelled None none)
                   ∙ ap₂ (λ (o : Option Refusal) (s : List OwnStep). (seen o s before.0, before.1))
-                  (sym (ap₂ refused count (last_push first more k))) (sym (loads_push c (first ∷ more) k));
+                  (sym (ap₂ refused count (last_push first more k))) (sym (looks_push c first more k));
             },
           )
 
@@ -187,7 +192,7 @@ module _ (limit : ℕ) (l : ItemId) (before : Sat) where
       -- the seat still has its worker's part
       pub still_working : HasWorker before.0 → HasWorker now.0
       still_working some = subst (λ (m : Sat). HasWorker m.0) (sym y.view)
-          (some_first (with_more (loads l.chunk (first ∷ more))) before.0.workers some)
+          (some_first (with_more (looks l.chunk first more)) before.0.workers some)
 
       -- the word is that of a head
       pub take_head : (h : Head) × Spells word h
@@ -213,9 +218,9 @@ module _ (limit : ℕ) (l : ItemId) (before : Sat) where
           goes_on Fits open_to_take (take_refused limit l) seen_to_take l.chunk (λ h fits. fits) before now word failed
           first more y
           h spelled (unrefused (get_of limit l.generation h) can) (decides few h ∙ can) next found miss k t.2.1 t.2.1.1
-          (λ s view. t.1 miss ∙ ap₂ (λ (n : ℕ) (m : Sat). (view_after_load l.chunk n m.0, m.1)) t.2.1.0 view
+          (λ s view. t.1 miss ∙ ap₂ (λ (n : ℕ) (m : Sat). (view_after_failed l.chunk n m.0, m.1)) t.2.1.0 view
           ∙ ap (λ (v : View). (v, before.1))
-          (more_again s (step_of kind.Load l.chunk (word_of k) None ∷ []) before.0))
+          (more_again s (step_of kind.Failed l.chunk (word_of k) None ∷ []) before.0))
 
       -- a refusal adds no step
       take_stays : (r : TakeRefusal) → failed ≤ 8 → refusal_of limit l first more ≡ Some r → TakesSo limit l before now
@@ -225,10 +230,10 @@ module _ (limit : ℕ) (l : ItemId) (before : Sat) where
             failed first more y few;
         view = y.view
             ∙ ap (λ (s : List OwnStep). (on_worker (with_more s) before.0, before.1))
-            (sym (append-nil (loads l.chunk (first ∷ more))))
+            (sym (append-nil (looks l.chunk first more)))
             ∙ ap (λ (o : Option TakeRefusal). (
               record before.0 {
-                workers = on_first (with_more (loads l.chunk (first ∷ more) ++ takes l.chunk o (last_found first more)))
+                workers = on_first (with_more (looks l.chunk first more ++ takes l.chunk o (last_found first more)))
                     before.0.workers;
                 holds = held_by o l before.0.holds;
               },
@@ -271,11 +276,11 @@ module _ (limit : ℕ) (l : ItemId) (before : Sat) where
                   record v { holds = new_hold (life l.chunk g) ∷ before.0.holds },
                   before.1,
                 ))
-                (more_again (loads l.chunk (first ∷ more)) (step_of kind.Take l.chunk (word_of k) None ∷ [])
+                (more_again (looks l.chunk first more) (step_of kind.Take l.chunk (word_of k) None ∷ [])
                 before.0) gen
                 ∙ ap (λ (o : Option TakeRefusal). (
                   record before.0 {
-                    workers = on_first (with_more (loads l.chunk (first ∷ more) ++ takes l.chunk o k)) before.0.workers;
+                    workers = on_first (with_more (looks l.chunk first more ++ takes l.chunk o k)) before.0.workers;
                     holds = held_by o l before.0.holds;
                   },
                   before.1,

@@ -31,6 +31,16 @@ alone class = record blank { classes = class ∷ [] }
 abbrev pub class_after_load : ℕ → ℕ → ClassPart → ClassPart
 class_after_load chunk word class = record class { steps = class.steps ++ step_of kind.Load chunk word None ∷ [] }
 
+-- after a load of its time
+abbrev pub class_after_see_time : ℕ → ℕ → ClassPart → ClassPart
+class_after_see_time chunk time class = record class { steps = class.steps ++ step_of kind.SeeTime chunk time None ∷ [] }
+
+-- after a load of its head for the generation in it
+abbrev pub class_after_see_generation : ℕ → ℕ → ClassPart → ClassPart
+class_after_see_generation chunk generation class = record class {
+  steps = class.steps ++ step_of kind.SeeGeneration chunk generation None ∷ [];
+}
+
 -- after the store of a label
 abbrev pub class_after_put_label : ℕ → ℕ → ClassPart → ClassPart
 class_after_put_label chunk label class = record class {
@@ -104,11 +114,20 @@ on_class step view = record view { classes = on_first step view.classes }
 
 -- What the steps tell.
 
--- a load that is no step of the class's list
-abbrev pub unlisted_load_tells : Tells
-unlisted_load_tells chunk operand before word after = (after ≡ before) × Found word (Told chunk before.0)
+-- a load of a head for its generation
+abbrev pub generation_load_tells : Tells
+generation_load_tells chunk operand before word after =
+    (after ≡ (on_class (class_after_see_generation chunk (word / 2 ^ generation_first)) before.0, before.1))
+    × Found word (Told chunk before.0)
 
--- and one that is
+-- a load of a time
+abbrev pub time_load_tells : Step Empty → Sat → ℕ → Sat → Type 0
+time_load_tells st before word after = after ≡ (
+  on_class (class_after_see_time (chunk_of st.word) word) before.0,
+  before.1,
+)
+
+-- a load of a head
 abbrev pub load_tells : Tells
 load_tells chunk operand before word after = (after ≡ (on_class (class_after_load chunk word) before.0, before.1))
     × Found word (Told chunk before.0)

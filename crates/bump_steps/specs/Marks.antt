@@ -87,6 +87,10 @@ abbrev pub store_time_tells : Step Empty → Sat → ℕ → Sat → Type 0
 store_time_tells st before word after =
     after ≡ (on_worker (worker_after_store_time (life (chunk_of st.word) 0) word) before.0, before.1)
 
--- the seat refers to a life of the chunk, and set its FETCHED
+-- the seat refers to a life of the chunk
+abbrev pub RefersTo : ℕ → View → Type 0
+RefersTo chunk view = (g : ℕ) × (0 < weight chunk (held g) view)
+
+-- and set its FETCHED
 abbrev pub MayMark : ℕ → View → Type 0
 MayMark chunk view = (g : ℕ) × (0 < weight chunk (held g) view) × (0 < weight chunk (saw g) view)

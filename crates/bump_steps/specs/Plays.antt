@@ -79,6 +79,10 @@ HasWorker view = 0 < length view.workers
 abbrev pub HasClass : View → Type 0
 HasClass view = 0 < length view.classes
 
+-- or of the class that has the chunk
+abbrev pub OwnsChunk : ℕ → View → Type 0
+OwnsChunk chunk view = 0 < weight chunk owners view
+
 -- ---- lists
 
 abbrev pub behind : {A : Type 0} → List A → List A

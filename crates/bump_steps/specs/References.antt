@@ -22,6 +22,10 @@ use Rattle.bump_steps.specs.Views.{differs}
 abbrev pub view_after_load : ℕ → ℕ → View → View
 view_after_load chunk word view = on_worker (noted kind.Load chunk word) view
 
+-- an exchange of the worker on it failed, which found n
+abbrev pub view_after_failed : ℕ → ℕ → View → View
+view_after_failed chunk word view = on_worker (noted kind.Failed chunk word) view
+
 abbrev pub load_to_take_tells : Tells
 load_to_take_tells chunk operand before word after = (after ≡ (view_after_load chunk word before.0, before.1))
     × Found word (Told chunk before.0)
@@ -38,11 +42,11 @@ view_after_take chunk word view = record view {
       new_hold (life chunk (word / 2 ^ generation_first)) ∷ view.holds;
 }
 
--- an exchange that finds another word than it expects is a load
+-- an exchange that finds another word than it expects failed
 abbrev pub take_tells : Tells
 take_tells chunk operand before word after =
     (word ≡ operand → after ≡ (view_after_take chunk word before.0, before.1))
-    × (word ≢ operand → after ≡ (view_after_load chunk word before.0, before.1)) × Found word (Told chunk before.0)
+    × (word ≢ operand → after ≡ (view_after_failed chunk word before.0, before.1)) × Found word (Told chunk before.0)
 
 -- by this word a get of the life is a hold
 abbrev pub MayTake : ℕ → ItemId → ℕ → Type 0

@@ -11,6 +11,7 @@ use Rattle.bump_rules.specs.Tables.{refused_of}
 use Rattle.bump_rules.specs.declared.hands.Hand.{Hand}
 use Rattle.bump_rules.specs.declared.hands.Hand.TheVariants as hand
 use Rattle.bump_word.specs.Words.{Spells, word_of}
+use Rattle.bump_steps.specs.declared.views.Kind.{Kind}
 use Rattle.bump_steps.specs.declared.views.Kind.TheVariants as kind
 use Rattle.bump_steps.specs.declared.views.Ride.{Ride}
 use Rattle.bump_steps.specs.declared.views.WorkerPart.{WorkerPart}
@@ -44,11 +45,11 @@ judged_hand (Some why) item = hand.Clearing item
 abbrev pub judged : Option Dropped → ItemId → WorkerPart → WorkerPart
 judged why item worker = record worker { hand = judged_hand why item; accounts = counted_drop why worker.accounts }
 
--- a load that looks for room found this head, and so many exchanges have failed: by the rule of an attempt it ends
--- here, or goes on
-abbrev pub worker_after_load_to_ride : ℕ → ℕ → ItemId → Head → WorkerPart → WorkerPart
-worker_after_load_to_ride limit failed item head worker = judged (refused_of limit failed head) item
-    (noted kind.Load item.chunk (word_of head) worker)
+-- a step of this kind that looks for room found this head, and so many exchanges have failed: by the rule of an attempt
+-- it ends here, or goes on
+abbrev pub worker_after_look_to_ride : Kind → ℕ → ℕ → ItemId → Head → WorkerPart → WorkerPart
+worker_after_look_to_ride kind limit failed item head worker = judged (refused_of limit failed head) item
+    (noted kind item.chunk (word_of head) worker)
 
 -- the worker has the reference in its hand, which an exchange took that found this head
 abbrev pub worker_after_reserve : ItemId → Head → WorkerPart → WorkerPart
@@ -62,10 +63,18 @@ worker_after_release item head worker = judged (Some dropped.Full) item
 
 -- ---- what the steps tell
 
--- a load that looks for room, or an exchange that failed
+-- a step of this kind that looks for room
+abbrev pub look_to_ride_tells : Kind → ℕ → ℕ → ItemId → Sat → ℕ → Sat → Type 0
+look_to_ride_tells kind limit failed item before word after = (h : Head) × Spells word h × IsOfHeld limit item h
+    × (after ≡ (on_worker (worker_after_look_to_ride kind limit failed item h) before.0, before.1))
+
+-- a load, behind no exchange
 abbrev pub load_to_ride_tells : ℕ → ℕ → ItemId → Sat → ℕ → Sat → Type 0
-load_to_ride_tells limit failed item before word after = (h : Head) × Spells word h × IsOfHeld limit item h
-    × (after ≡ (on_worker (worker_after_load_to_ride limit failed item h) before.0, before.1))
+load_to_ride_tells = look_to_ride_tells kind.Load
+
+-- an exchange that failed
+abbrev pub failed_to_ride_tells : ℕ → ℕ → ItemId → Sat → ℕ → Sat → Type 0
+failed_to_ride_tells = look_to_ride_tells kind.Failed
 
 -- an exchange that found the word that it expects took the reference
 abbrev pub reserve_tells : ℕ → ItemId → Sat → ℕ → Sat → Type 0
@@ -75,7 +84,7 @@ reserve_tells limit item before word after = (h : Head) × Spells word h × IsOf
 abbrev pub try_to_ride_tells : ℕ → ℕ → ItemId → ℕ → Sat → ℕ → Sat → Type 0
 try_to_ride_tells limit failed item expected before word after =
     (word ≡ expected → reserve_tells limit item before word after)
-    × (word ≢ expected → load_to_ride_tells limit failed item before word after)
+    × (word ≢ expected → failed_to_ride_tells limit failed item before word after)
 
 abbrev pub release_tells : ItemId → Sat → ℕ → Sat → Type 0
 release_tells item before word after = (h : Head) × Spells word h × (h.generation ≡ item.generation) × (2 ≤ h.refs)

@@ -50,10 +50,14 @@ TakeFound limit item first more = AttemptFound Fits (λ h. get_of limit item.gen
 abbrev pub RideFound : ℕ → ItemId → Head → List Head → Type 0
 RideFound limit item first more = AttemptFound (λ h. Fits h × IsOfHeld limit item h) (λ h. h.refs < limit) first more
 
+-- each exchange that failed
+abbrev pub failures : ℕ → List Head → List OwnStep
+failures chunk [] = []
+failures chunk (head ∷ more) = step_of kind.Failed chunk (word_of head) None ∷ failures chunk more
+
 -- the load, and each exchange that failed
-abbrev pub loads : ℕ → List Head → List OwnStep
-loads chunk [] = []
-loads chunk (head ∷ more) = step_of kind.Load chunk (word_of head) None ∷ loads chunk more
+abbrev pub looks : ℕ → Head → List Head → List OwnStep
+looks chunk first more = step_of kind.Load chunk (word_of first) None ∷ failures chunk more
 
 -- the worker made these steps
 abbrev pub with_more : List OwnStep → WorkerPart → WorkerPart
@@ -84,7 +88,7 @@ takes chunk (Some refusal) head = []
 
 -- the steps of the call
 abbrev pub steps_of : ℕ → ItemId → Head → List Head → List OwnStep
-steps_of limit item first more = loads item.chunk (first ∷ more) ++ takes item.chunk
+steps_of limit item first more = looks item.chunk first more ++ takes item.chunk
     (refusal_of limit item first more) (last_found first more)
 
 -- the new hold, if there is one, is the first
@@ -114,4 +118,4 @@ reserved_or_dropped (Some why) item head worker = judged (Some why) item worker
 -- the worker after the attempt
 abbrev pub worker_after_attempt : ℕ → ItemId → Head → List Head → WorkerPart → WorkerPart
 worker_after_attempt limit item first more worker = reserved_or_dropped (drop_of limit first more) item
-    (last_found first more) (with_more (loads item.chunk (first ∷ more)) worker)
+    (last_found first more) (with_more (looks item.chunk first more) worker)

@@ -5,8 +5,11 @@ use std::collections::LinkedList;
 /// A kind of atomic step.
 #[derive(Clone, Copy)]
 pub enum Kind {
-    /// A load, or an exchange that failed.
+    /// A load of a head word.
     Load,
+
+    /// An exchange that failed, since it found another word than it expects.
+    Failed,
 
     /// A reference was taken for a hold.
     Take,
@@ -55,6 +58,12 @@ pub enum Kind {
 
     /// The time was stored under the class's lock.
     PutTime,
+
+    /// The time was loaded by a class.
+    SeeTime,
+
+    /// A head word was loaded for the generation in it.
+    SeeGeneration,
 }
 
 /// A step that a seat made.
@@ -66,7 +75,7 @@ pub struct OwnStep {
     /// The chunk on one of whose words it was made.
     pub chunk: u32,
 
-    /// The word that it found, or the value that it stored.
+    /// The word that it found, or the value that it stored; of a `SeeGeneration` the generation that it found.
     pub word: u64,
 
     /// The bump for which it was made, if it was for one: its worker, and its number.

@@ -3,7 +3,7 @@ ghost use Rattle.std.specs.Prelude.{ℕ, ◌≡◌};
 ghost use Rattle.bump_rules.specs.declared.bumps.Outcome.{Outcome as TheOutcome};
 ghost use Rattle.bump_rules.specs.declared.bumps.Outcome.TheVariants.{Gone};
 ghost use Rattle.bump_steps.specs.Words.{HasChunk, words_id};
-ghost use Rattle.bump_steps.specs.Plays.{on_chunk, HasClass};
+ghost use Rattle.bump_steps.specs.Plays.{on_chunk, OwnsChunk};
 ghost use Rattle.bump_steps.specs.Applications.{try_tells, clear_active_tells, put_time_tells, view_after_put_time, move_tells, alight_tells, MayTry, MayMove, MayAlight};
 ghost use Rattle.bump_rules.specs.declared.places.Segment.{Segment as TheSegment};
 ghost use Rattle.bump_rules.specs.declared.places.Segment.TheVariants.{Hot};
@@ -88,7 +88,7 @@ impl Words {
     /// ACTIVE is cleared, for a pull or for the bump aboard.
     pub fn clear_active(&self, seat: &mut Seat, chunk: u32) -> u64
         requires seat { (seat.old.table_id ≡ words_id self.now) × HasChunk (words_id self.now) chunk }
-        requires class { HasClass seat.old.me.0 }
+        requires own { OwnsChunk chunk seat.old.me.0 }
         ensures same { (seat.new.table_id ≡ seat.old.table_id) × (seat.new.id ≡ seat.old.id) }
         ensures told { clear_active_tells chunk ALL_BUT_ACTIVE seat.old.me result seat.new.me }
     {
@@ -100,7 +100,7 @@ impl Words {
     /// The time is stored under the class's lock, for a link or for the bump aboard.
     pub fn put_time(&self, seat: &mut Seat, chunk: u32, now: u64)
         requires seat { (seat.old.table_id ≡ words_id self.now) × HasChunk (words_id self.now) chunk }
-        requires class { HasClass seat.old.me.0 }
+        requires own { OwnsChunk chunk seat.old.me.0 }
         ensures same { (seat.new.table_id ≡ seat.old.table_id) × (seat.new.id ≡ seat.old.id) }
         ensures told { seat.new.me ≡ (view_after_put_time chunk now seat.old.me.0, seat.old.me.1) }
     {

@@ -4,19 +4,25 @@ ghost use Rattle.bump_steps.specs.Words.{HasChunk, words_id};
 ghost use Rattle.bump_steps.specs.Plays.{on_chunk, HasClass};
 ghost use Rattle.bump_word.specs.Words.{word_of};
 ghost use Rattle.bump_rules.specs.Heads.{linked_head};
-ghost use Rattle.bump_steps.specs.Lives.{unlisted_load_tells, load_tells, put_label_tells, link_tells, unlink_tells, sweep_or_load_tells, class_after_put_label, class_after_link, on_class, IsUnused, IsDying, IsLinked, MayLink};
+ghost use Rattle.bump_steps.specs.Lives.{generation_load_tells, load_tells, time_load_tells, put_label_tells, link_tells, unlink_tells, sweep_or_load_tells, class_after_see_time, class_after_put_label, class_after_link, on_class, IsUnused, IsDying, IsLinked, MayLink};
 
 use crate::views::{Empty, View};
-use crate::words::{HEAD, LABEL, Seat, Words};
+use crate::words::{HEAD, LABEL, Seat, TIME, Words};
 use atomic_table::Play;
 use bump_rules::{Head, Start};
 use bump_word::laws::LINK;
 use bump_word::pack;
 
-pub struct UnlistedLoad;
+pub struct LoadGeneration;
 
-impl Play<Empty, View> for UnlistedLoad {
-    ghost then = { on_chunk unlisted_load_tells };
+impl Play<Empty, View> for LoadGeneration {
+    ghost then = { on_chunk generation_load_tells };
+}
+
+pub struct LoadTime;
+
+impl Play<Empty, View> for LoadTime {
+    ghost then = { time_load_tells };
 }
 
 pub struct Load;
@@ -50,16 +56,28 @@ impl Play<Empty, View> for SweepOrLoad {
 }
 
 impl Words {
-    /// A load that the class's list of steps has not.
-    pub fn peek(&self, seat: &mut Seat, chunk: u32) -> u64
+    /// A load of a head by its class, for the generation in it.
+    pub fn see_generation(&self, seat: &mut Seat, chunk: u32) -> u64
         requires seat { (seat.old.table_id ≡ words_id self.now) × HasChunk (words_id self.now) chunk }
         requires class { HasClass seat.old.me.0 }
         ensures same { (seat.new.table_id ≡ seat.old.table_id) × (seat.new.id ≡ seat.old.id) }
-        ensures told { unlisted_load_tells chunk 0 seat.old.me result seat.new.me }
+        ensures told { generation_load_tells chunk 0 seat.old.me result seat.new.me }
     {
         self.table
             .shared
-            .load::<UnlistedLoad>(seat, 3 * chunk as usize + HEAD)
+            .load::<LoadGeneration>(seat, 3 * chunk as usize + HEAD)
+    }
+
+    /// A load of a time by its class.
+    pub fn see_time(&self, seat: &mut Seat, chunk: u32) -> u64
+        requires seat { (seat.old.table_id ≡ words_id self.now) × HasChunk (words_id self.now) chunk }
+        requires class { HasClass seat.old.me.0 }
+        ensures same { (seat.new.table_id ≡ seat.old.table_id) × (seat.new.id ≡ seat.old.id) }
+        ensures told { seat.new.me ≡ (on_class (class_after_see_time chunk result) seat.old.me.0, seat.old.me.1) }
+    {
+        self.table
+            .shared
+            .load::<LoadTime>(seat, 3 * chunk as usize + TIME)
     }
 
     /// A load of a head by its class.

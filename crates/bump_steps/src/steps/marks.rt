@@ -3,7 +3,7 @@ ghost use Rattle.std.specs.Prelude.{◌≡◌};
 ghost use Rattle.bump_rules.specs.Lives.{life};
 ghost use Rattle.bump_steps.specs.Words.{HasChunk, words_id};
 ghost use Rattle.bump_steps.specs.Plays.{on_chunk, HasWorker};
-ghost use Rattle.bump_steps.specs.Marks.{fetch_tells, mark_tells, unmark_tells, store_time_tells, on_worker, worker_after_store_time, MayMark};
+ghost use Rattle.bump_steps.specs.Marks.{fetch_tells, mark_tells, unmark_tells, store_time_tells, on_worker, worker_after_store_time, MayMark, RefersTo};
 
 use crate::views::{Empty, View};
 use crate::words::{HEAD, Seat, TIME, Words};
@@ -36,10 +36,11 @@ impl Play<Empty, View> for StoreTime {
 }
 
 impl Words {
-    /// A worker sets FETCHED.
+    /// A worker sets FETCHED of a chunk to a life of which its seat refers.
     pub fn mark_fetched(&self, seat: &mut Seat, chunk: u32) -> u64
         requires seat { (seat.old.table_id ≡ words_id self.now) × HasChunk (words_id self.now) chunk }
         requires worker { HasWorker seat.old.me.0 }
+        requires held { RefersTo chunk seat.old.me.0 }
         ensures same { (seat.new.table_id ≡ seat.old.table_id) × (seat.new.id ≡ seat.old.id) }
         ensures told { fetch_tells chunk FETCHED seat.old.me result seat.new.me }
     {
@@ -60,10 +61,11 @@ impl Words {
             .fetch_or::<Mark>(seat, 3 * chunk as usize + HEAD, ACTIVE)
     }
 
-    /// A worker clears ACTIVE.
+    /// A worker clears ACTIVE of a chunk to a life of which its seat refers.
     pub fn unmark(&self, seat: &mut Seat, chunk: u32) -> u64
         requires seat { (seat.old.table_id ≡ words_id self.now) × HasChunk (words_id self.now) chunk }
         requires worker { HasWorker seat.old.me.0 }
+        requires held { RefersTo chunk seat.old.me.0 }
         ensures same { (seat.new.table_id ≡ seat.old.table_id) × (seat.new.id ≡ seat.old.id) }
         ensures told { unmark_tells chunk ALL_BUT_ACTIVE seat.old.me result seat.new.me }
     {
@@ -72,10 +74,11 @@ impl Words {
             .fetch_and::<Unmark>(seat, 3 * chunk as usize + HEAD, ALL_BUT_ACTIVE)
     }
 
-    /// A worker stores the time.
+    /// A worker stores the time of a chunk to a life of which its seat refers.
     pub fn set_time(&self, seat: &mut Seat, chunk: u32, now: u64)
         requires seat { (seat.old.table_id ≡ words_id self.now) × HasChunk (words_id self.now) chunk }
         requires worker { HasWorker seat.old.me.0 }
+        requires held { RefersTo chunk seat.old.me.0 }
         ensures same { (seat.new.table_id ≡ seat.old.table_id) × (seat.new.id ≡ seat.old.id) }
         ensures told { seat.new.me ≡ (on_worker (worker_after_store_time (life chunk 0) now) seat.old.me.0, seat.old.me.1) }
     {

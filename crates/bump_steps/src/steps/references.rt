@@ -159,7 +159,7 @@ impl Words {
     }
 
     /// A load of a time word, without a seat.
-    pub fn see_time(&self, chunk: u32) -> u64
+    pub fn see_time_unlisted(&self, chunk: u32) -> u64
         requires { HasChunk (words_id self.now) chunk }
     {
         self.table.shared.peek(3 * chunk as usize + TIME)

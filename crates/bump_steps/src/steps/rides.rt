@@ -128,7 +128,8 @@ impl Words {
         )
     }
 
-    /// An exchange that takes the bump's reference. Where it fails it is a load, and `failed` exchanges have failed.
+    /// An exchange that takes the bump's reference. Where it fails it is noted as one that failed, and `failed`
+    /// exchanges have failed with it.
     pub fn try_to_ride(
         &self,
         seat: &mut Seat,

@@ -1,11 +1,11 @@
 use Rattle.std.proofs.Common.{arith}
-use Rattle.bump_steps.proofs.Looking.{may_load_unlisted}
-use Rattle.bump_steps.proofs.words.Words.peek.Goals as goal
+use Rattle.bump_steps.proofs.Looking.{may_see_generation}
+use Rattle.bump_steps.proofs.words.Words.see_generation.Goals as goal
 
 pub load-requires : goal.load-requires
 load-requires c = let t = c.args.self.now.table.shared in (
   c.requires.seat.0,
   omega (arith, c.requires.seat.1),
-  may_load_unlisted t.key t.table_id.slots c.args.seat.now.id
+  may_see_generation t.key t.table_id.slots c.args.seat.now.id
       c.args.seat.now.me c.args.chunk (omega (arith, c.args.self.now.sized, c.requires.seat.1)),
 )
