@@ -32,7 +32,7 @@ use Rattle.bump_steps.specs.Plays.{step_of}
 use Rattle.bump_steps.specs.Riders.{ride_me}
 use Rattle.bump_steps.specs.Rides.{judged, return_both, returned, sent, without_ride, worker_after_release}
 use Rattle.bump_steps.specs.Rule.{blank}
-use Rattle.bump_steps.specs.Tries.{drop_of, held_by, last_found, loads, refusal_of, reserved_or_dropped, steps_of, takes, view_after_attempt, with_more, worker_after_attempt}
+use Rattle.bump_steps.specs.Tries.{drop_of, held_by, last_found, failures, looks, refusal_of, reserved_or_dropped, steps_of, takes, view_after_attempt, with_more, worker_after_attempt}
 use Rattle.bump_readers.specs.declared.views.WorkerView.{WorkerView}
 use Rattle.bump_readers.specs.Attempts.{is_attempt, attempts_in}
 use Rattle.bump_readers.specs.Riding.{sent_unless}
@@ -50,10 +50,14 @@ attempts_push : (xs : List OwnStep) (x : OwnStep) → attempts_in (xs ++ x ∷ [
     1 0
 attempts_push xs x = how_many_push is_attempt xs x
 
--- loads attempt nothing
-no_load : (c : ℕ) (hs : List Head) → attempts_in (loads c hs) ≡ 0
-no_load c [] = refl
-no_load c (h ∷ hs) = omega (arith, no_load c hs)
+-- exchanges that failed attempt nothing
+no_failure : (c : ℕ) (hs : List Head) → attempts_in (failures c hs) ≡ 0
+no_failure c [] = refl
+no_failure c (h ∷ hs) = omega (arith, no_failure c hs)
+
+-- nor does the load before them
+no_look : (c : ℕ) (h : Head) (hs : List Head) → attempts_in (looks c h hs) ≡ 0
+no_look c h hs = omega (arith, no_failure c hs)
 
 -- nor does an exchange that takes a reference for a hold
 no_take : (c : ℕ) (o : Option TakeRefusal) (h : Head) → attempts_in (takes c o h) ≡ 0
@@ -92,9 +96,9 @@ pub take_kept : (limit : ℕ) (l : ItemId) (first : Head) (more : List Head) (p 
     → IsWorkerPart (with_more (steps_of limit l first more) p)
 take_kept limit l first more p is = more_kept p (steps_of limit l first more) (omega (
   arith,
-  attempts_append (loads l.chunk (first ∷ more))
+  attempts_append (looks l.chunk first more)
       (takes l.chunk (refusal_of limit l first more) (last_found first more)),
-  no_load l.chunk (first ∷ more),
+  no_look l.chunk first more,
   no_take l.chunk (refusal_of limit l first more) (last_found first more),
 )) is
 
@@ -200,10 +204,10 @@ drop_kept dropped.Full l p trying is = record {
 }
 
 -- the reference of a bump was taken and sent off, or the bump dropped
-pub ride_kept : (o : Option Dropped) (l : ItemId) (h : Head) (c : ℕ) (hs : List Head) (p : WorkerPart)
+pub ride_kept : (o : Option Dropped) (l : ItemId) (h : Head) (c : ℕ) (first : Head) (more : List Head) (p : WorkerPart)
     → p.hand ≡ hand.Trying l
-    → IsWorkerPart p → IsWorkerPart (sent_unless o (reserved_or_dropped o l h (with_more (loads c hs) p)))
-ride_kept None l h c hs p trying is = record {
+    → IsWorkerPart p → IsWorkerPart (sent_unless o (reserved_or_dropped o l h (with_more (looks c first more) p)))
+ride_kept None l h c first more p trying is = record {
   accounts = record {
     accepted = refl;
     attempted = omega (arith, is.accounts.attempted, ap attempts_of trying);
@@ -213,13 +217,13 @@ ride_kept None l h c hs p trying is = record {
   attempts = omega (
     arith,
     is.attempts,
-    attempts_append p.steps (loads c hs),
-    no_load c hs,
-    attempts_push (p.steps ++ loads c hs) (step_of kind.Reserve l.chunk (word_of h) None),
+    attempts_append p.steps (looks c first more),
+    no_look c first more,
+    attempts_push (p.steps ++ looks c first more) (step_of kind.Reserve l.chunk (word_of h) None),
   );
 }
-ride_kept (Some d) l h c hs p trying is = drop_kept d l (with_more (loads c hs) p) (ap attempts_of trying)
-    (more_kept p (loads c hs) (no_load c hs) is)
+ride_kept (Some d) l h c first more p trying is = drop_kept d l (with_more (looks c first more) p) (ap attempts_of trying)
+    (more_kept p (looks c first more) (no_look c first more) is)
 
 -- a bump came back
 pub back_kept : (r : Ride) (p : WorkerPart) → p.hand ≡ hand.Idle → r.number + 1 ≡ p.accounts.accepted → IsWorkerPart p
@@ -351,10 +355,10 @@ module _ (table : TableId) (number : ℕ) (id id₁ : TableId) (m m₁ : Me Empt
       → IsWhole table number id₁ m₁
   dropped_seat limit l d first more trying view is =
       let after : Option Dropped → WorkerPart = λ o. reserved_or_dropped o l (last_found first more)
-      (with_more (loads l.chunk (first ∷ more)) w.part) in
+      (with_more (looks l.chunk first more) w.part) in
       stepped_seat (worker_after_attempt limit l first more) view (ap (λ (o : Option Dropped). (after o).worker) is)
       (λ part. subst (λ (o : Option Dropped). IsWorkerPart (after o)) (sym is)
-      (ride_kept (Some d) l (last_found first more) l.chunk (first ∷ more) w.part trying part))
+      (ride_kept (Some d) l (last_found first more) l.chunk first more w.part trying part))
 
   pub sent_seat : (limit : ℕ) (l : ItemId) (first : Head) (more : List Head) (p : Me Empty View)
       → w.part.hand ≡ hand.Trying l
@@ -362,12 +366,12 @@ module _ (table : TableId) (number : ℕ) (id id₁ : TableId) (m m₁ : Me Empt
       → m₁ ≡ (without_ride p.0, p.1) → IsWhole table number id₁ m₁
   sent_seat limit l first more p trying view is told =
       let after : Option Dropped → WorkerPart → WorkerPart = λ o q. reserved_or_dropped o l (last_found first more)
-      (with_more (loads l.chunk (first ∷ more)) q) in
+      (with_more (looks l.chunk first more) q) in
       changed_seat table number id id₁ m m₁ w (record w { part = sent (after None w.part) }) whole same other
       (told ∙ ap (λ (x : Me Empty View). (without_ride x.0, x.1)) (view
       ∙ ap (λ (x : Me Empty View). (on_worker (after (drop_of limit first more)) x.0, x.1)) before_is)
       ∙ ap (λ (o : Option Dropped). worker_me (record w { part = sent (after o w.part) })) is)
-      refl (λ near. near) (ride_kept None l (last_found first more) l.chunk (first ∷ more) w.part trying)
+      refl (λ near. near) (ride_kept None l (last_found first more) l.chunk first more w.part trying)
 
   pub back_seat : (r : Ride) (p : Me Empty View) → w.part.hand ≡ hand.Idle → r.number + 1 ≡ w.part.accounts.accepted
       → p ≡ ride_me r

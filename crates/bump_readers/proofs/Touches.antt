@@ -21,7 +21,7 @@ use Rattle.bump_steps.specs.declared.views.View.{View}
 use Rattle.bump_steps.specs.Views.{held, is_life_of, is_fetch_of, weight}
 use Rattle.bump_steps.specs.Plays.{Told, step_of}
 use Rattle.bump_readers.specs.Seats.{worker_in, worker_me, held_life, first, listed}
-use Rattle.bump_steps.specs.Marks.{on_worker, noted, hits_after, worker_after_fetch, trying, attempting, worker_after_mark, done, worker_after_unmark, changed_by, MayMark}
+use Rattle.bump_steps.specs.Marks.{on_worker, noted, hits_after, worker_after_fetch, trying, attempting, worker_after_mark, done, worker_after_unmark, changed_by, MayMark, RefersTo}
 use Rattle.bump_readers.specs.Touching.{fetches_of}
 use Rattle.bump_steps.proofs.Marking.{is_its_fetch}
 use Rattle.bump_steps.proofs.StepLemmas.{one_life}
@@ -85,7 +85,13 @@ touched operand change m m₁ v w l x r h is same holds told spells =
           (omega (arith, many)));
     }
 
--- a worker that has a hold, and fetched its life, may mark it
+-- a worker that has a hold refers to its life
+pub may_touch : (m : Me Empty View) (v w : WorkerView) (l : ItemId) → m ≡ worker_me v → v ≡ w
+    → held_life w.hold ≡ Some l → RefersTo l.chunk m.0
+may_touch m v w l is same holds = subst (λ (x : Me Empty View). RefersTo l.chunk x.0) (sym (is ∙ ap worker_me same))
+    (l.generation, refers w l holds)
+
+-- and may mark it, if it fetched it
 pub may_mark : (m : Me Empty View) (v w : WorkerView) (l : ItemId) → m ≡ worker_me v → v ≡ w
     → held_life w.hold ≡ Some l → 0 < fetches_of l w.part → MayMark l.chunk m.0
 may_mark m v w l is same holds many = subst (λ (x : Me Empty View). MayMark l.chunk x.0)

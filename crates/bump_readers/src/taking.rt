@@ -20,19 +20,18 @@ use std::marker::PhantomData;
 
 impl<N: Name> Hold<N> {
     // Only a hold whose reference was given back may go: it is hollow, and the seat that it had has the mark of the
-    // step that gave back a reference to its life, and found this head, and nothing else. The head is answered.
-    fn forget(self, spent: Seat, found: Head) -> Head
+    // step that gave back a reference to its life, and nothing else.
+    fn forget(self, spent: &Seat, found: Head)
         requires hollow { self.part ≡ None }
-        requires spent { spent.me ≡ spent_me self.life (word_of found) }
-        ensures { result ≡ found }
+        requires spent { spent.now.me ≡ spent_me self.life (word_of found) }
     {
+        let _seat = spent;
+        let _head = found;
         let Hold {
             badge: _,
             life: _,
             of: _,
         } = self;
-        drop(spent);
-        found
     }
 }
 
@@ -68,17 +67,21 @@ impl<N: Name> ReaderHeads<N> {
     }
 
     /// Gives the hold's reference back by one subtraction, as memcached's `refcount_decr` in `do_item_remove`, and
-    /// answers the head before it: of the hold's life, and with a count of at least 1. The hold is whole. Its chunk
-    /// may become free from then on.
-    pub fn give_back(&self, hold: Hold<N>) -> Head
+    /// answers the head before it: of the hold's life, and with a count of at least 1. With it comes the seat that the
+    /// hold had: it has the mark of the step, which found that head, and nothing else. The hold is whole. Its chunk may
+    /// become free from then on.
+    pub fn give_back(&self, hold: Hold<N>) -> (Head, Seat)
         requires whole { IsSome hold.part }
-        ensures generation { result.generation ≡ hold.life.generation }
-        ensures counted { 0 < result.refs }
-        ensures fits { Fits result }
+        ensures generation { result.0.generation ≡ hold.life.generation }
+        ensures counted { 0 < result.0.refs }
+        ensures fits { Fits result.0 }
+        ensures spent { result.1.me ≡ spent_me hold.life (word_of result.0) }
+        ensures table { result.1.table_id ≡ N.table }
     {
         let mut held = hold;
         let (head, spent) = self.release(&mut held);
-        held.forget(spent, head)
+        held.forget(&spent, head);
+        (head, spent)
     }
 
     // The reference is given back, so that the hold is hollow from then on. Its seat, which is answered too, has the
@@ -90,6 +93,7 @@ impl<N: Name> ReaderHeads<N> {
         ensures counted { 0 < result.0.refs }
         ensures fits { Fits result.0 }
         ensures spent { result.1.me ≡ spent_me hold.old.life (word_of result.0) }
+        ensures table { result.1.table_id ≡ N.table }
     {
         let mut seat = hold.seat_out();
         let head = head_of(self.words.give_back(&mut seat, hold.life.chunk));
@@ -120,6 +124,6 @@ impl<N: Name> ReaderHeads<N> {
         ensures fits { Fits result.0 }
     {
         let head = head_of(self.words.see(chunk));
-        (head, self.words.see_time(chunk))
+        (head, self.words.see_time_unlisted(chunk))
     }
 }

@@ -3,7 +3,7 @@ use Rattle.bump_word.specs.Layout.{fetched_first}
 use Rattle.bump_readers.specs.Seats.{worker_in}
 use Rattle.bump_steps.specs.Marks.{worker_after_fetch}
 use Rattle.bump_readers.proofs.Attempts.{changed_seat, fetch_kept}
-use Rattle.bump_readers.proofs.Touches.{touched, worker_read_back, first_hit, named_hit, once_after, noted_after}
+use Rattle.bump_readers.proofs.Touches.{touched, may_touch, worker_read_back, first_hit, named_hit, once_after, noted_after}
 use Rattle.bump_readers.proofs.heads.ReaderHeads.mark_fetched.Goals as goal
 
 pub returns-clause-worker : goal.returns-clause-worker
@@ -66,3 +66,7 @@ invariant_of-worker g c = let t = touched (2 ^ fetched_first) worker_after_fetch
     c.worker.invariant
     (cc c.worker.view_is) c.mark_fetched.ensures.same.0 t.view (refl) (λ near. near)
     (fetch_kept c.args.life c.head_of.result c.args.worker.now.part)
+
+pub mark_fetched-requires-clause-held : goal.mark_fetched-requires-clause-held
+mark_fetched-requires-clause-held g c = may_touch c.worker.inside.seat.me (worker_in c.worker.inside.seat.me.0)
+    c.args.worker.now c.args.life c.worker.invariant.0 (cc c.worker.view_is) c.requires.held

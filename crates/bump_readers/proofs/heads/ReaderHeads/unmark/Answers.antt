@@ -3,7 +3,7 @@ use Rattle.bump_word.specs.Layout.{active_first}
 use Rattle.bump_readers.specs.Seats.{worker_in}
 use Rattle.bump_steps.specs.Marks.{worker_after_unmark}
 use Rattle.bump_readers.proofs.Attempts.{changed_seat, unmark_kept}
-use Rattle.bump_readers.proofs.Touches.{touched, idle_after}
+use Rattle.bump_readers.proofs.Touches.{touched, may_touch, idle_after}
 use Rattle.bump_readers.proofs.heads.ReaderHeads.unmark.Goals as goal
 
 pub returns-clause-generation : goal.returns-clause-generation
@@ -46,3 +46,7 @@ invariant_of-worker g c = let t = touched (2 ^ 64 - 1 - 2 ^ active_first) worker
     c.unmark.ensures.same.0 t.view (refl) (λ near. near)
     (unmark_kept c.args.life c.head_of.result c.args.worker.now.part
     c.requires.clearing)
+
+pub unmark-requires-clause-held : goal.unmark-requires-clause-held
+unmark-requires-clause-held g c = may_touch c.worker.inside.seat.me (worker_in c.worker.inside.seat.me.0)
+    c.args.worker.now c.args.life c.worker.invariant.0 (cc c.worker.view_is) c.requires.held
