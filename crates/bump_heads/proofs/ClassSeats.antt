@@ -1,5 +1,5 @@
 -- A class's seat after a step on its part, and what it knows of the Head that it finds.
-use Rattle.std.proofs.Common.{◌≡◌, ℕ, true, Option, Some, None, refl, sym, ap, ◌∙◌, subst}
+use Rattle.std.proofs.Common.{◌≡◌, ℕ, ◌+◌, ◌<◌, Bool, true, cond, List, Option, Some, None, refl, sym, ap, ◌∙◌, subst, arith}
 use Rattle.atomic_table.specs.Seated.{TableId}
 use Rattle.bump_rules.specs.declared.items.Head.{Head}
 use Rattle.bump_rules.specs.Lawful.{Shows}
@@ -11,11 +11,12 @@ use Rattle.bump_heads.specs.declared.views.ClassView.{ClassView}
 use Rattle.bump_heads.specs.Applying.{IsJoined}
 use Rattle.bump_steps.specs.declared.views.LanePart.{LanePart}
 use Rattle.bump_steps.specs.Views.{owns, standing}
-use Rattle.bump_steps.specs.Plays.{Sat, Found, Told}
+use Rattle.bump_steps.specs.Plays.{Sat, Found, Told, OwnsChunk}
 use Rattle.bump_readers.specs.Seats.{listed, first}
 use Rattle.bump_heads.specs.Seats.{class_in, class_me, aboard_lane, IsInRange, IsClassPart}
 use Rattle.bump_steps.specs.Lives.{alone, on_class}
 use Rattle.bump_steps.proofs.Told.{stands_alone}
+use Rattle.bump_steps.proofs.Tries.{first_again}
 
 -- a seat's parts are read back
 pub class_in_me : (x : ClassView) → class_in (class_me x).0 ≡ x
@@ -49,10 +50,17 @@ module _ (m w : Sat) (v : ClassView) (f : ClassPart → ClassPart) (is : m ≡ c
   pub whole_after : w ≡ class_me (class_in w.0)
   whole_after = me_after ∙ ap class_me (sym view_after)
 
--- a look before the step that leaves the seat as it was
-pub after_unlisted_load : (m p w : Sat) (f : ClassPart → ClassPart) → p ≡ m → w ≡ (on_class f p.0, p.1)
-    → w ≡ (on_class f m.0, m.1)
-after_unlisted_load m p w f same after = after ∙ ap (λ (y : Sat). (on_class f y.0, y.1)) same
+-- two steps on its part, one after the other
+pub after_two : (m p w : Sat) (f g : ClassPart → ClassPart) → p ≡ (on_class f m.0, m.1) → w ≡ (on_class g p.0, p.1)
+    → w ≡ (on_class (λ k. g (f k)) m.0, m.1)
+after_two m p w f g one two = two ∙ ap (λ (y : Sat). (on_class g y.0, y.1)) one
+    ∙ ap (λ (ks : List ClassPart). (record m.0 { classes = ks }, m.1))
+    (first_again f g m.0.classes)
+
+-- a class's seat has the chunk that its class has
+pub owns_here : (m : Sat) (v : ClassView) (c : ℕ) → m ≡ class_me v → owns c v.part ≡ true → OwnsChunk c m.0
+owns_here m v c is own = subst (λ (x : Sat). OwnsChunk c x.0) (sym is)
+    (omega (arith, ap {B = ℕ} (λ (b : Bool). cond b 1 0) own))
 
 -- what the class's seat keeps, it keeps by a step on its part that its part keeps, with what it knows of a lane that is
 -- joined

@@ -7,7 +7,7 @@ ghost use Rattle.bump_rules.specs.Lawful.{bit, Shows};
 ghost use Rattle.bump_rules.specs.Lives.{life};
 ghost use Rattle.bump_word.specs.Words.{Fits, word_of};
 ghost use Rattle.bump_steps.specs.Views.{owns, last_label};
-ghost use Rattle.bump_steps.specs.Lives.{class_after_load, class_after_put_label, class_after_sweep_or_load, class_after_unlink, IsInSegment};
+ghost use Rattle.bump_steps.specs.Lives.{class_after_load, class_after_see_time, class_after_put_label, class_after_sweep_or_load, class_after_unlink, IsInSegment};
 ghost use Rattle.bump_heads.specs.Linking.{place_of_chunk, generation_of_chunk, class_after_open_life};
 
 use crate::seats::ClassSeat;
@@ -30,12 +30,12 @@ impl<N: Name> ClassSeat<N> {
         head_of(self.heads.words().look(&mut self.seat, chunk))
     }
 
-    /// The time of a chunk of the class, by one load. Nothing is promised of it, and the load is no step of the
-    /// class's list.
-    pub fn see_time(&self, chunk: u32) -> u64
-        requires own { owns chunk self.now.part ≡ true }
+    /// The time of a chunk of the class, by one load, which is noted with what it found.
+    pub fn see_time(&mut self, chunk: u32) -> u64
+        requires own { owns chunk self.old.part ≡ true }
+        ensures seen { self.new ≡ record self.old { part = class_after_see_time chunk result self.old.part } }
     {
-        self.heads.words().see_time(chunk)
+        self.heads.words().see_time(&mut self.seat, chunk)
     }
 
     /// Stores the label of a chunk, by one store: a number that says what the chunk's next life is, and that each
@@ -53,7 +53,7 @@ impl<N: Name> ClassSeat<N> {
     /// Begins the next life of a chunk, in HOT or in TEMP, by one store of its head: linked, with the one reference of
     /// the link, and without marks (memcached's `do_item_link`). The chunk must be in UNUSED, so it has a generation to
     /// come. Its label is the last one that was stored for the chunk. Answers the life. A load before the store finds
-    /// the generation; it is no step of the class's list.
+    /// the generation, which is noted as a step.
     pub fn open_life_in(&mut self, chunk: u32, start: Start) -> ItemId
         requires alone { self.old.lane ≡ None }
         requires own { owns chunk self.old.part ≡ true }
@@ -62,7 +62,7 @@ impl<N: Name> ClassSeat<N> {
         ensures opened { self.new ≡ record self.old { part = class_after_open_life start result self.old.part } }
         ensures label { label_of_life result 0 self.new.part.labels ≡ Some (last_label self.old.part chunk) }
     {
-        let found = head_of(self.heads.words().peek(&mut self.seat, chunk));
+        let found = head_of(self.heads.words().see_generation(&mut self.seat, chunk));
         let generation = found.generation + 1;
         self.heads
             .words()

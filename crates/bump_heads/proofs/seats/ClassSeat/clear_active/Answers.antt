@@ -1,6 +1,7 @@
-use Rattle.std.proofs.Common.{◌∙◌}
+use Rattle.std.proofs.Common.{ap, ◌∙◌}
 use Rattle.bump_heads.proofs.Seeing.{cleared_whole, told_as, own_told, life_told, clear_active_chunk}
-use Rattle.bump_heads.specs.Seats.{class_in}
+use Rattle.bump_heads.specs.Seats.{class_in, class_me}
+use Rattle.bump_heads.proofs.ClassSeats.{owns_here}
 use Rattle.bump_steps.specs.Views.{standing}
 use Rattle.bump_heads.proofs.seats.ClassSeat.clear_active.Goals as goal
 
@@ -33,3 +34,7 @@ returns-clause-life g c = life_told c.args.self.now c.args.chunk c.head_of.resul
     c.requires.may) (told_as c.self.inside.seat.me c.self.inside.seat.me (class_in c.self.inside.seat.me.0)
     c.args.self.now c.self.invariant.0 (cc c.self.view_is) c.clear_active-word.result c.args.chunk
     c.head_of.result c.head_of.ensures c.clear_active-word.ensures.told.2)
+
+pub clear_active-word-requires-clause-own : goal.clear_active-word-requires-clause-own
+clear_active-word-requires-clause-own g c = owns_here c.self.inside.seat.me c.args.self.now c.args.chunk
+    (c.self.invariant.0 ∙ ap class_me c.self.view_is) c.requires.own

@@ -1,6 +1,7 @@
-use Rattle.std.proofs.Common.{rules, ◌∙◌}
+use Rattle.std.proofs.Common.{rules, ap, ◌∙◌}
 use Rattle.bump_heads.proofs.Seeing.{timed_whole}
-use Rattle.bump_heads.specs.Seats.{class_in}
+use Rattle.bump_heads.specs.Seats.{class_in, class_me}
+use Rattle.bump_heads.proofs.ClassSeats.{owns_here}
 use Rattle.bump_heads.proofs.seats.ClassSeat.put_time.Goals as goal
 
 pub invariant_of-self : goal.invariant_of-self
@@ -13,3 +14,7 @@ invariant_of-self g c =
 
 pub returns : goal.returns
 returns g c = search rules
+
+pub put_time-requires-clause-own : goal.put_time-requires-clause-own
+put_time-requires-clause-own g c = owns_here c.self.inside.seat.me c.args.self.now c.args.chunk
+    (c.self.invariant.0 ∙ ap class_me c.self.view_is) c.requires.own
