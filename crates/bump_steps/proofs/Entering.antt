@@ -375,8 +375,10 @@ link_told slots c g a m w new fits is told =
     let n : ℕ = word_of h in
     let spells : Spells n h = (refl, (omega arith, fits)) in
     told
-    ∙ (ap (λ (x : ℕ). (on_class (class_after_link (start_in x) ((3 * c + 9) / 3 - 3) (x / 2 ^ generation_first) x) m.0,
-    m.1)) is
+    ∙ (ap (λ (x : ℕ). (
+      on_class (class_after_link (start_in x) ((3 * c + 9) / 3 - 3) (x / 2 ^ generation_first) x) m.0,
+      m.1,
+    )) is
     ∙ (ap (λ (d : ℕ). (on_class (class_after_link (start_in n) d (n / 2 ^ generation_first) n) m.0, m.1)) (chunk_is c)
     ∙ (ap (λ (b : Start). (on_class (class_after_link b c (n / 2 ^ generation_first) n) m.0, m.1)) (starts a n g spells)
     ∙ ap (λ (j : ℕ). (on_class (class_after_link a c j n) m.0, m.1)) (fields n h spells).generation)))

@@ -5,30 +5,88 @@ use Rattle.bump_steps.specs.declared.views.Kind.{Kind}
 use Rattle.bump_steps.specs.declared.views.Kind.TheVariants as kind
 use Rattle.bump_steps.specs.declared.views.OwnStep.{OwnStep}
 
--- a load of a head word, or an exchange on it; one that failed is noted as a load
-abbrev pub is_try : OwnStep → Bool
-is_try x = by x.kind
+-- a load of a head word, by which nothing else is done
+abbrev pub is_load : OwnStep → Bool
+is_load x = by x.kind
   where
     by : Kind → Bool
     by kind.Load = true
+    by kind.Failed = false
+    by kind.Take = false
+    by kind.Fetch = false
+    by kind.Mark = false
+    by kind.Reserve = false
+    by kind.Unmark = false
+    by kind.Release = false
+    by kind.StoreTime = false
+    by kind.Link = false
+    by kind.Unlink = false
+    by kind.Sweep = false
+    by kind.ClearActive = false
+    by kind.Move = false
+    by kind.Try = false
+    by kind.Alight = false
+    by kind.PutLabel = false
+    by kind.PutTime = false
+    by kind.SeeTime = false
+    by kind.SeeGeneration = false
+
+-- an exchange on a head word that takes a reference, or failed to
+abbrev pub is_exchange : OwnStep → Bool
+is_exchange x = by x.kind
+  where
+    by : Kind → Bool
+    by kind.Load = false
+    by kind.Failed = true
     by kind.Take = true
+    by kind.Fetch = false
+    by kind.Mark = false
     by kind.Reserve = true
-    by _ = false
+    by kind.Unmark = false
+    by kind.Release = false
+    by kind.StoreTime = false
+    by kind.Link = false
+    by kind.Unlink = false
+    by kind.Sweep = false
+    by kind.ClearActive = false
+    by kind.Move = false
+    by kind.Try = false
+    by kind.Alight = false
+    by kind.PutLabel = false
+    by kind.PutTime = false
+    by kind.SeeTime = false
+    by kind.SeeGeneration = false
 
 -- another step of a worker on a head word
 abbrev pub is_other : OwnStep → Bool
 is_other x = by x.kind
   where
     by : Kind → Bool
+    by kind.Load = false
+    by kind.Failed = false
+    by kind.Take = false
     by kind.Fetch = true
     by kind.Mark = true
-    by kind.Release = true
+    by kind.Reserve = false
     by kind.Unmark = true
-    by _ = false
+    by kind.Release = true
+    by kind.StoreTime = false
+    by kind.Link = false
+    by kind.Unlink = false
+    by kind.Sweep = false
+    by kind.ClearActive = false
+    by kind.Move = false
+    by kind.Try = false
+    by kind.Alight = false
+    by kind.PutLabel = false
+    by kind.PutTime = false
+    by kind.SeeTime = false
+    by kind.SeeGeneration = false
 
--- The steps that were made are at most so many loads and exchanges, and at most so many others on a head word.
-pub record MakesAtMost (tries others : ℕ) (before after : List OwnStep) : Type 0 where
+-- The steps that were made are at most so many loads, so many exchanges, and so many others on a head word.
+pub record MakesAtMost (loads exchanges others : ℕ) (before after : List OwnStep) : Type 0 where
   pub made : List OwnStep
   pub grown : after ≡ before ++ made
-  pub few_tries : how_many is_try made ≤ tries
+  pub few_loads : how_many is_load made ≤ loads
+  pub few_exchanges : how_many is_exchange made ≤ exchanges
   pub few_others : how_many is_other made ≤ others

@@ -17,7 +17,7 @@ use Rattle.bump_steps.specs.declared.views.OwnStep.{OwnStep}
 use Rattle.bump_steps.specs.declared.views.Ride.{Ride}
 use Rattle.bump_steps.specs.declared.views.WorkerPart.{WorkerPart}
 use Rattle.bump_steps.specs.Plays.{step_of}
-use Rattle.bump_steps.specs.Tries.{RideFound, last_found, loads}
+use Rattle.bump_steps.specs.Tries.{RideFound, last_found, looks}
 use Rattle.bump_store.specs.Counts.{counted}
 use Rattle.bump_store.specs.Workers.{WorkerState}
 
@@ -83,7 +83,7 @@ end_steps (touch.Dropped why) item found = drop_steps why item found
 end_steps _ item found = []
 
 abbrev pub attempt_steps : Touch → ItemId → Findings → List OwnStep
-attempt_steps answered item found = loads item.chunk (found.look ∷ found.failed) ++ end_steps answered item found
+attempt_steps answered item found = looks item.chunk found.look found.failed ++ end_steps answered item found
 
 -- what a touch makes behind its first step, by its answer
 abbrev pub later_steps : Touch → ItemId → ℕ → Findings → List OwnStep

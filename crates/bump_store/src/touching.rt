@@ -150,7 +150,7 @@ impl<N: Name> Worker<N> {
     pub fn get(&mut self, heads: &ReaderHeads<N>, id: ItemId) -> Result<Hold<N>, GetRefusal>
         ensures missing { all_chunks heads.now ≤ id.chunk → (result ≡ Err refused.NoSuchChunk) × (self.new ≡ self.old) }
         ensures got { id.chunk < all_chunks heads.now → (first : TheHead) × (more : List TheHead) × Got heads.now.refs_limit id self.old self.new result first more }
-        ensures few { MakesAtMost 9 0 self.old.part.steps self.new.part.steps }
+        ensures few { MakesAtMost 1 8 0 self.old.part.steps self.new.part.steps }
         ensures sender { self.new.sender ≡ self.old.sender }
     {
         if id.chunk >= heads.chunks() {
@@ -185,7 +185,7 @@ impl<N: Name> Worker<N> {
     pub fn touch(&mut self, heads: &ReaderHeads<N>, hold: &mut Hold<N>, now: u64) -> Touch
         ensures exhausted { self.old.part.accounts.attempted ≡ most_attempts → (result ≡ touch.Exhausted) × (self.new ≡ self.old) }
         ensures touched { self.old.part.accounts.attempted < most_attempts → (found : TheFindings) × Touched heads.now.refs_limit hold.old.life now self.old self.new result found }
-        ensures few { MakesAtMost 9 4 self.old.part.steps self.new.part.steps }
+        ensures few { MakesAtMost 1 8 4 self.old.part.steps self.new.part.steps }
         ensures hold { hold.new ≡ hold.old }
         ensures ring { self.new.sender.ring ≡ self.old.sender.ring }
     {
