@@ -170,7 +170,7 @@ fn drop_in<N: Name>(
     } else {
         drop_full(rt, &heads, &mut worker, &mut hold);
     }
-    expect_head(rt, heads.give_back(hold), head(2, "lf", Segment::Cold, 1));
+    expect_head(rt, heads.give_back(hold).0, head(2, "lf", Segment::Cold, 1));
     expect_head_of(rt, &heads, 0, head(1, "lf", Segment::Cold, 1));
     Ok(())
 }

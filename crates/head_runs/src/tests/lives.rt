@@ -85,7 +85,7 @@ fn live<N: Name>(
     expect_head(rt, held, head(1, "fa", Segment::Hot, 1));
     assert!(rt; held.refs == 1);
     expect(rt, "the label", &heads.label_of(&mut hold), &7);
-    expect_head(rt, heads.give_back(hold), held);
+    expect_head(rt, heads.give_back(hold).0, held);
     let free = class.seen_unheld(0);
     expect_head(rt, free, head(0, "fa", Segment::Hot, 1));
     assert!(rt; free.refs == 0);
