@@ -16,7 +16,7 @@ pub use faults::{Fault, LineError};
 pub use fields::read_number;
 pub use lines::{Declaration, Instruction, Line, Shape, read_line, rest_fault};
 pub use text::{
-    is_shown, put_bump, put_chunk, put_close, put_closed, put_del, put_drain, put_drop, put_fault, put_get,
-    put_get_busy, put_get_held, put_hit, put_hold, put_hold_busy, put_list_start, put_moves, put_pull,
-    put_read, put_set, put_sweep, put_word, put_worker,
+    is_shown, put_bump, put_chunk, put_close, put_closed, put_del, put_drain, put_drop, put_fault,
+    put_get, put_get_busy, put_get_held, put_hit, put_hold, put_hold_busy, put_list_start,
+    put_moves, put_pull, put_read, put_set, put_sweep, put_word, put_worker,
 };

@@ -429,12 +429,7 @@ pub fn put_drain(out: &mut Vec<u8>, count: u64) -> Result<(), AllocError>
 }
 
 /// The line of a class and a worker of `moves`.
-pub fn put_moves(
-    out: &mut Vec<u8>,
-    class: u32,
-    worker: u32,
-    count: u64,
-) -> Result<(), AllocError>
+pub fn put_moves(out: &mut Vec<u8>, class: u32, worker: u32, count: u64) -> Result<(), AllocError>
     ensures { OnOk result (out.new.items ≡ out.old.items ++ moves_line class worker count) }
 {
     put_word(out, b"moves ", u64::from(class))?;
