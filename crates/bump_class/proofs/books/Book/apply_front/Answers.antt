@@ -80,14 +80,14 @@ count_move-requires g c =
     let worker = worker_of y.seat y.applied y.receiver.received c.worker-worker.result c.lane.invariant c.worker-worker.ensures.worker in
     record {
       few = λ near. omega (
-      arith,
-      c.self.invariant.4 c.worker-worker.result near,
-      ap (λ (w : ℕ). moves_of w i.seat.part.history) worker,
-      few_before i.seat.part after.part (part_or y.seat) (part_or x) b c.args.now u.0 c.self.invariant.3.causes
-          (ap (λ (v : ClassView). v.part) u.1.class) u.1.lane u.1.told,
-      few_aboard y.seat y.applied y.receiver.received b c.lane.invariant (sym c.aboard.ensures.carried ∙ c.in-Some.is),
-      c.lane.invariant.counted,
-    );
+        arith,
+        c.self.invariant.4 c.worker-worker.result near,
+        ap (λ (w : ℕ). moves_of w i.seat.part.history) worker,
+        few_before i.seat.part after.part (part_or y.seat) (part_or x) b c.args.now u.0 c.self.invariant.3.causes
+            (ap (λ (v : ClassView). v.part) u.1.class) u.1.lane u.1.told,
+        few_aboard y.seat y.applied y.receiver.received b c.lane.invariant (sym c.aboard.ensures.carried ∙ c.in-Some.is),
+        c.lane.invariant.counted,
+      );
     }
 
 pub invariant_of-self-in-TimeOnly : goal.invariant_of-self-in-TimeOnly
@@ -162,7 +162,7 @@ returns-clause-applied g c =
             lists = i.lists;
             hot_limit = i.hot_limit;
             warm_limit = i.warm_limit;
-      workers = length i.moved.items;
+            workers = length i.moved.items;
           }) u.1.class) (subst (λ (z : BookView). IsShown z.part (part_or x) b TimeOnly) (sym w.self-is) u.1.entry)
       | in-Gone w ↦ let u = w.in-Gone.ensures.updates in
           let h = w.seen_unheld.result in
@@ -174,7 +174,7 @@ returns-clause-applied g c =
             lists = i.lists;
             hot_limit = i.hot_limit;
             warm_limit = i.warm_limit;
-      workers = length i.moved.items;
+            workers = length i.moved.items;
           })) u.1.class) (subst (λ (z : BookView). IsShown z.part (part_or x) b Gone) (sym left)
           (shown_behind after.part b.life.chunk h (part_or x) b u.1.entry))
     ]

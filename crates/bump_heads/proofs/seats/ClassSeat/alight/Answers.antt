@@ -112,22 +112,21 @@ invariant_of-lane g c =
     let r = c.requires.ends in
     let lane = subst (λ (x : ClassView). IsJoined x.part x.lane c.self.inside.joined) (cc c.self.view_is)
     c.self.invariant.5 in
-    let e = ending_told c.args.self.now r.0 r.1 r.2 r.3 r.4 c.self.inside.joined lane in
-    (
+    let e = ending_told c.args.self.now r.0 r.1 r.2 r.3 r.4 c.self.inside.joined lane in (
       alighted_lane c.self.inside.seat.me (class_in c.self.inside.seat.me.0) c.args.self.now c.self.invariant.0
-    (cc c.self.view_is) c.self.inside.joined.chunk c.self.inside.joined.outcome r.0 r.1 e
-    c.alight-word.result c.head_of.result c.head_of.ensures c.part_lanes-part.new.seat.me
-    c.part_lanes-part.result.me c.alight-word.new.seat.me c.alight-word.ensures.told.0
-    c.part_lanes-part.ensures.parts.0 c.part_lanes-part.ensures.parts.1
+          (cc c.self.view_is) c.self.inside.joined.chunk c.self.inside.joined.outcome r.0 r.1 e
+          c.alight-word.result c.head_of.result c.head_of.ensures c.part_lanes-part.new.seat.me
+          c.part_lanes-part.result.me c.alight-word.new.seat.me c.alight-word.ensures.told.0
+          c.part_lanes-part.ensures.parts.0 c.part_lanes-part.ensures.parts.1
           g.N.Name.table c.part_lanes-part.result.table_id
           (c.part_lanes-part.ensures.same.2 ∙ c.alight-word.ensures.same.0 ∙ c.self.invariant.1)
           c.part_lanes-part.result refl refl,
       search rules,
       search rules,
       alighted_worker c.self.inside.seat.me (class_in c.self.inside.seat.me.0) c.args.self.now c.self.invariant.0
-    (cc c.self.view_is) c.self.inside.joined.chunk c.self.inside.joined.outcome r.0 r.1 e
-    c.alight-word.result c.head_of.result c.head_of.ensures c.part_lanes-part.new.seat.me
-    c.part_lanes-part.result.me c.alight-word.new.seat.me c.alight-word.ensures.told.0
-    c.part_lanes-part.ensures.parts.0 c.part_lanes-part.ensures.parts.1
+          (cc c.self.view_is) c.self.inside.joined.chunk c.self.inside.joined.outcome r.0 r.1 e
+          c.alight-word.result c.head_of.result c.head_of.ensures c.part_lanes-part.new.seat.me
+          c.part_lanes-part.result.me c.alight-word.new.seat.me c.alight-word.ensures.told.0
+          c.part_lanes-part.ensures.parts.0 c.part_lanes-part.ensures.parts.1
           ∙ sym (worker_is c.args.self.now r.0 r.1 r.2 r.3 r.4 c.self.inside.joined lane),
     )
