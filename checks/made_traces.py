@@ -4,7 +4,7 @@ import re
 from reports import run
 
 BEHIND_PAR = ["get", "get", "get", "get", "del", "pull", "sweep", "drain"]
-LINES = BEHIND_PAR + ["set", "set", "set", "hold", "hit", "read", "drop", "close", "show", "pull"]
+LINES = BEHIND_PAR + ["set", "set", "set", "hold", "hit", "read", "drop", "close", "show", "moves", "pull"]
 
 
 def line_of(word, state, chance):
@@ -15,7 +15,7 @@ def line_of(word, state, chance):
     hold = chance.choice(sorted(holds)) if holds else None
     if word == "set":
         name = f"n{chance.randrange(12)}"
-        return f"set {name} {klass} {chance.randrange(2 ** 64)}"
+        return f"{'temp' if chance.random() < 0.1 else 'set'} {name} {klass} {chance.randrange(2 ** 64)}"
     if word == "get":
         return f"get {worker} {name}" if names else None
     if word == "hold":
@@ -39,7 +39,7 @@ def line_of(word, state, chance):
 def fault(chance):
     """A line that is most likely a fault."""
     return chance.choice(
-        ["fly 0", "get 0", "set a 0 07", "set A 0 7", "pull 0 tepid", "class 2 5 5", "get 64 a", "get 0 unbound", "pull 16 hot",
+        ["fly 0", "get 0", "set a 0 07", "set A 0 7", "temp a 64 7", "moves 0", "pull 0 tepid", "class 2 5 5", "get 64 a", "get 0 unbound", "pull 16 hot",
          "read unheld", "#" * 256, "show ", ""])
 
 
@@ -47,7 +47,7 @@ def ask(program, lines):
     """What a program says of the trace so far: the names that are bound, and the hold names in use, read off its text."""
     names, holds = set(), set()
     for line in lines:
-        if match := re.match(r"set (\w+) \d+\.", line):
+        if match := re.match(r"(?:set|temp) (\w+) \d+\.", line):
             names.add(match.group(1))
         if match := re.match(r"hold \d+ \w+ (\w+) held", line):
             holds.add(match.group(1))
@@ -60,7 +60,7 @@ def make(program, chance, file):
     """A trace, made up in pieces: what a piece bound is read off the model's text before the next one is made."""
     workers, classes = chance.choice([1, 1, 2, 3, 8]), chance.choice([1, 1, 2, 3])
     state = {"workers": workers, "classes": classes, "names": [], "holds": set()}
-    lines = [f"store {workers} {chance.choice([1, 2, 4, 16])} {chance.choice([2, 3, 8, 65535])} {chance.choice([1, 4294967294])}"]
+    lines = [f"store {workers} {chance.choice([1, 2, 4, 16])} {chance.choice([2, 3, 8, 65535, 1048575])} {chance.choice([1, 4294967294])}"]
     lines += [f"class {chance.randrange(1, 6)} {chance.randrange(3)} {chance.randrange(3)}" for _ in range(classes)]
     words = LINES
     for piece in range(chance.randrange(1, 5)):
@@ -83,6 +83,8 @@ def make(program, chance, file):
             line = line_of(chance.choice(BEHIND_PAR), state, chance)
             if line is not None:
                 lines.append(line)
+    else:
+        lines.append("moves")
     if chance.random() < 1 / 6:
         lines.insert(chance.randrange(len(lines) + 1), fault(chance))
     file.write_text("\n".join(lines) + ("\n" if chance.random() < 0.98 else ""))

@@ -15,9 +15,29 @@ def run(program, mode, trace, *more):
     return ended.returncode, ended.stdout.decode(), ended.stderr.decode()
 
 
+def moves_faults(text):
+    """What is wrong with the `moves` lines of a run on one thread: wherever they stand, those of a worker add up to the bumps of that worker
+    which the text before told to have moved an item to WARM."""
+    wrong = []
+    moved, counted = {}, {}
+    for line in [*text.splitlines(), ""]:
+        if match := re.fullmatch(r"moves \d+ (\d+) (\d+)", line):
+            worker, count = (int(n) for n in match.groups())
+            counted[worker] = counted.get(worker, 0) + count
+            continue
+        if counted:
+            wrong += [f"worker {w}: {n} moves, of {moved.get(w, 0)}" for w, n in counted.items() if n != moved.get(w, 0)]
+            counted = {}
+        if match := re.fullmatch(r"bump (\d+) \d+ \d+\.\d+ warm", line):
+            worker = int(match.group(1))
+            moved[worker] = moved.get(worker, 0) + 1
+    return wrong
+
+
 def report_faults(lines, text):
     """What is wrong with the report of par: of each worker the accounts add up, and each bump that was accepted is applied; the answers of
-    the lines behind par add up to their number; the sizes of a class's lists add up to its chunks."""
+    the lines behind par add up to their number; there is a `moves` line for each class and worker, and those of a worker are no more than
+    its applied bumps; the sizes of a class's lists add up to its chunks."""
     wrong = []
     chunks = [int(line.split()[1]) for line in lines if line.startswith("class ")]
     report = text.splitlines()
@@ -28,15 +48,25 @@ def report_faults(lines, text):
     told = [line for line in report[:at] if line.startswith("worker ")][-workers:]
     if len(told) != workers:
         wrong.append(f"{len(told)} workers are told")
+    left = []
     for line in told:
         attempted, accepted, full, busy, refs, applied = (int(n) for n in re.findall(r" (\d+)", line)[1:])
+        left.append(applied)
         if attempted != accepted + full + busy + refs or accepted != applied:
             wrong.append(line)
     totals = [int(n) for n in re.findall(r" (\d+)", report[at])]
     behind = lines[lines.index("par") + 1:] if "par" in lines else []
     if sum(totals) != sum(line.startswith("get ") for line in behind):
         wrong.append(report[at])
-    for line, count in zip(report[at + 1:], chunks, strict=True):
+    moves, sizes = report[at + 1:][:len(chunks) * workers], report[at + 1:][len(chunks) * workers:]
+    for number, line in enumerate(moves):
+        match = re.fullmatch(r"moves {} {} (\d+)".format(*divmod(number, workers)), line)
+        left[number % workers] -= int(match.group(1)) if match else 0
+        if not match or left[number % workers] < 0:
+            wrong.append(line)
+    if len(sizes) != len(chunks):
+        wrong.append(f"{len(sizes)} lines behind those of moves")
+    for line, count in zip(sizes, chunks):
         if sum(int(n) for n in re.findall(r" (\d+)", line)[1:]) != count:
             wrong.append(line)
     return wrong
