@@ -16,3 +16,9 @@ returns-clause-moves g c = (met_told c.self.inside.seat.me c.join.new.seat.me c.
     c.args.lane.now c.self.invariant.0 (cc c.self.view_is) c.requires.alone c.lane.invariant.0
     (cc (c.take.ensures.value, c.in-Some.is)) (cc c.lane.view_is) c.join.ensures.joined (search rules) (search rules)
     c.meet_lane.ensures.told).1
+
+pub invariant_of-lane : goal.invariant_of-lane
+invariant_of-lane g c = search rules
+
+pub returns-clause-lane : goal.returns-clause-lane
+returns-clause-lane g c = search rules
