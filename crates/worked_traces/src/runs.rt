@@ -89,6 +89,16 @@ pub fn full_for_temp()
     ensures { verdict_of (codes "store 1 4 4 1\nclass 1 0 5\nset a 0 7\ntemp b 0 8\n") ≡ record { text = codes "set a 0.1\ntemp b full\n"; is_fault = false } }
 {}
 
+/// A move for a bump is counted for the worker whose bump it was; the other worker's bump found the item in WARM.
+pub fn moves_of_two_workers()
+    ensures { verdict_of (codes "store 2 4 8 1\nclass 2 0 0\nset a 0 7\npull 0 hot\nget 0 a\nget 0 a\npull 0 cold\npull 0 warm\nget 1 a\ndrain\nmoves\n") ≡ record { text = codes "set a 0.1\npull 0 hot cold 0.1\nget 0 a 7 first\nget 0 a 7 queued 0\npull 0 cold warm 0.1\npull 0 warm cold 0.1\nget 1 a 7 queued 0\nbump 0 0 0.1 warm\nbump 1 0 0.1 time\ndrain 2\nmoves 0 0 1\nmoves 0 1 0\n"; is_fault = false } }
+{}
+
+/// A move by a pull is no move for a bump.
+pub fn moves_by_a_pull()
+    ensures { verdict_of (codes "store 1 4 4 1\nclass 2 0 5\nset a 0 7\npull 0 hot\nget 0 a\nget 0 a\npull 0 cold\ndrain\nmoves\n") ≡ record { text = codes "set a 0.1\npull 0 hot cold 0.1\nget 0 a 7 first\nget 0 a 7 queued 0\npull 0 cold warm 0.1\nbump 0 0 0.1 time\ndrain 1\nmoves 0 0 0\n"; is_fault = false } }
+{}
+
 /// The second class has the chunks behind those of the first.
 pub fn two_classes()
     ensures { verdict_of (codes "store 1 4 4 1\nclass 1 5 5\nclass 2 5 5\nset a 1 7\nshow\n") ≡ record { text = codes "set a 1.1\nclass 0 hot 0\nclass 0 warm 0\nclass 0 cold 0\nclass 0 dying 0\nclass 0 unused 1 0\nclass 0 retired 0\nclass 1 hot 1 1.1:1:-:4\nclass 1 warm 0\nclass 1 cold 0\nclass 1 dying 0\nclass 1 unused 1 2\nclass 1 retired 0\nworker 0 attempted 0 accepted 0 full 0 busy 0 refs 0 applied 0\n"; is_fault = false } }

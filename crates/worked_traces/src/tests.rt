@@ -8,9 +8,12 @@ use std::sync::Wait;
 use std::test::*;
 use store_trace::run_serial;
 
+mod behind_par;
 mod ends;
 mod expecting;
 mod faults;
+mod gates;
+mod numbers;
 mod slow;
 mod streams;
 mod threads;
@@ -23,7 +26,8 @@ use faults::{
     PAIRS_OF_CONFIGS, PAIRS_OF_FIELDS, PAIRS_OF_STORES, PAIRS_OF_WORDS, SURPRISES,
 };
 use worked::{
-    COUNT_FAULTS, FIELD_FAULTS, HOSTILE_FAULTS, ORDER_FAULTS, TEMP, WORKED, WORKED_FAULTS,
+    COUNT_FAULTS, FIELD_FAULTS, HOSTILE_FAULTS, LARGEST, MOVES, ORDER_FAULTS, TEMP, WORKED,
+    WORKED_FAULTS,
 };
 
 /// The text that a trace gives, and how its run ends.
@@ -100,6 +104,16 @@ fn worked_traces(rt: HostRuntime) -> Result<(), Fail> {
 #[test]
 fn worked_temp(rt: HostRuntime) -> Result<(), Fail> {
     gives(&rt, rt.alloc(), &TEMP, Ok(()))
+}
+
+#[test]
+fn worked_moves(rt: HostRuntime) -> Result<(), Fail> {
+    gives(&rt, rt.alloc(), &MOVES, Ok(()))
+}
+
+#[test]
+fn worked_largest(rt: HostRuntime) -> Result<(), Fail> {
+    gives(&rt, rt.alloc(), &LARGEST, Ok(()))
 }
 
 #[test]
@@ -351,15 +365,17 @@ fn most_holds(alloc: Global, limit: u32) -> Result<(Vec<u8>, Vec<u8>), Fail> {
     Ok((trace, text))
 }
 
-/// A limit of 65,536 references leaves room for 65,535 holds of a linked item.
+/// A limit of references leaves room for one hold less of a linked item, whether or not it is more than 16 bits.
 #[test]
 fn as_many_holds_as_there_may_be(rt: HostRuntime) -> Result<(), Fail> {
     let keys = RandomState::new(&rt)?;
-    let (trace, text) = most_holds(rt.alloc(), 65_536)?;
-    let told = text_by(rt.alloc(), keys, &trace);
-    expect_run(&rt, "most holds, by the model", &told, Ok(()), &text);
-    let told = serial_text_by(&rt, rt.alloc(), keys, &trace);
-    expect_run(&rt, "most holds, on a store", &told, Ok(()), &text);
+    for limit in [65_535u32, 65_536] {
+        let (trace, text) = most_holds(rt.alloc(), limit)?;
+        let told = text_by(rt.alloc(), keys, &trace);
+        expect_run(&rt, "most holds, by the model", &told, Ok(()), &text);
+        let told = serial_text_by(&rt, rt.alloc(), keys, &trace);
+        expect_run(&rt, "most holds, on a store", &told, Ok(()), &text);
+    }
     Ok(())
 }
 

@@ -102,8 +102,8 @@ pub(super) const LATE_FAULTS: [(&str, &str); 2] = [
 
 /// A trace that has each line of the language, as short as can be, and its text.
 pub(super) const EVERY_LINE: (&str, &str) = (
-    "store 1 1 4 1\nclass 1 0 5\nset a 0 7\npull 0 hot\nhold 0 a h\nhit 0 h\nhit 0 h\nget 0 a\nread h\ndel a\ndrain\ndrop h\nsweep 0\nclose 0\nshow\npar\nsweep 0\n",
-    "set a 0.1\npull 0 hot cold 0.1\nhold 0 a h held\nhit 0 h first\nhit 0 h queued 0\nget 0 a 7 already\nread h 7\ndel a deferred\nbump 0 0 0.1 gone deferred\ndrain 1\ndrop h\nsweep 0 1\nclose 0 attempted 1 accepted 1 full 0 busy 0 refs 0 applied 1\nclass 0 hot 0\nclass 0 warm 0\nclass 0 cold 0\nclass 0 dying 0\nclass 0 unused 1 0\nclass 0 retired 0\nworker 0 attempted 1 accepted 1 full 0 busy 0 refs 0 applied 1\nsweep 0 0\n",
+    "store 1 1 4 1\nclass 1 0 5\nset a 0 7\npull 0 hot\nhold 0 a h\nhit 0 h\nhit 0 h\nget 0 a\nread h\ndel a\ndrain\ndrop h\nsweep 0\ntemp b 0 8\nclose 0\nshow\nmoves\npar\nsweep 0\n",
+    "set a 0.1\npull 0 hot cold 0.1\nhold 0 a h held\nhit 0 h first\nhit 0 h queued 0\nget 0 a 7 already\nread h 7\ndel a deferred\nbump 0 0 0.1 gone deferred\ndrain 1\ndrop h\nsweep 0 1\ntemp b 0.2\nclose 0 attempted 1 accepted 1 full 0 busy 0 refs 0 applied 1\nclass 0 hot 0\nclass 0 warm 0\nclass 0 cold 0\nclass 0 temp 1 0.2:1:-:14\nclass 0 dying 0\nclass 0 unused 0\nclass 0 retired 0\nworker 0 attempted 1 accepted 1 full 0 busy 0 refs 0 applied 1\nmoves 0 0 0\nsweep 0 0\n",
 );
 
 /// A longer trace with each line of the language, and its text.

@@ -10,6 +10,9 @@ pub(super) enum Ending {
     /// It answers Err.
     Fails,
 
+    /// It answers Err once, and then takes what is left.
+    FailsOnce,
+
     /// It takes nothing.
     TakesNothing,
 }
@@ -67,6 +70,10 @@ impl<'a> Write for Expecting<'a> {
         if self.room == 0 {
             return match self.ending {
                 Ending::Fails => Err(io::Error::from(ErrorKind::BrokenPipe)),
+                Ending::FailsOnce => {
+                    self.room = usize::MAX;
+                    Err(io::Error::from(ErrorKind::BrokenPipe))
+                }
                 Ending::TakesNothing => Ok(0),
             };
         }

@@ -123,7 +123,7 @@ pub(super) const LINE_NAMES: [(&str, &str); 15] = [
 ];
 
 /// What may not stand before the store is open, and each line that may not stand behind `par`.
-pub(super) const LINE_ORDER: [(&str, &str); 13] = [
+pub(super) const LINE_ORDER: [(&str, &str); 14] = [
     ("par\n", "line 1: ORDER\n"),
     ("store 1 4 4 1\npar\n", "line 2: CLASSES\n"),
     (
@@ -163,6 +163,10 @@ pub(super) const LINE_ORDER: [(&str, &str); 13] = [
         "line 4: ORDER\n",
     ),
     ("store 1 4 4 1\nclass 2 5 5\npar\nshow\n", "line 4: ORDER\n"),
+    (
+        "store 1 4 4 1\nclass 2 5 5\npar\nmoves\n",
+        "line 4: ORDER\n",
+    ),
     ("store 1 4 4 1\nclass 2 5 5\npar\npar\n", "line 4: ORDER\n"),
 ];
 

@@ -6,7 +6,9 @@ use bump_trace::{Counted, SimFault, run_model};
 use std::alloc::Global;
 use std::hash::RandomState;
 use std::process::Abort;
+use std::sync::Wait;
 use std::test::*;
+use store_trace::run_serial;
 
 /// A reader or a writer was asked so often, and failed so often.
 fn expect_calls(rt: &impl Abort, told: (u64, u64), wanted: (u64, u64)) {
@@ -91,6 +93,38 @@ fn each_write_takes_nothing(rt: HostRuntime) -> Result<(), Fail> {
     for taken in 0..text.len() {
         assert!(rt;
             ends_at_write(rt.alloc(), keys, taken, Ending::TakesNothing),
+            "{taken}"
+        );
+    }
+    Ok(())
+}
+
+/// The same of a run on a store whose writer fails once.
+fn serial_ends_at_write(rt: &impl Wait, alloc: Global, keys: RandomState, taken: usize) -> bool {
+    let (trace, text) = PROMOTION;
+    let mut reader = Counted::new(trace.as_bytes());
+    let mut writer = Counted::new(Expecting::narrow(
+        text.as_bytes(),
+        taken,
+        Ending::FailsOnce,
+    ));
+    let ended = run_serial(rt, alloc, keys, &mut reader, &mut writer);
+    let is_last = writer.calls().saturating_sub(1) == taken as u64 && writer.failed() == 1;
+    let written = writer.into_inner();
+    ended == Err(SimFault::Write)
+        && is_last
+        && written.is_front()
+        && written.left() == text.len().saturating_sub(taken)
+}
+
+/// A write that failed isn't made again.
+#[test]
+fn each_write_fails_once(rt: HostRuntime) -> Result<(), Fail> {
+    let keys = RandomState::new(&rt)?;
+    let (_, text) = PROMOTION;
+    for taken in 0..text.len() {
+        assert!(rt;
+            serial_ends_at_write(&rt, rt.alloc(), keys, taken),
             "{taken}"
         );
     }

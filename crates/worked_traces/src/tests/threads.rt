@@ -1,8 +1,13 @@
 //! Worked traces whose lines behind `par` are made by threads, and a gate that shows that they are several.
 ghost use Rattle.std.specs.Prelude.{◌≤◌};
 
+use super::behind_par::{
+    ENDED, FAULTS_BEHIND_PAR, GATED, ONE_ITEM, OWN_ITEMS, REPORTED, TOLD_APART,
+};
 use super::expect_run;
-use super::expecting::{Expecting, expect_whole, tell_left, tell_refused};
+use super::expecting::{Ending, Expecting, expect_whole, tell_left, tell_refused};
+use super::gates::Counting;
+use super::numbers::{behind, number_behind, sum_behind};
 use bump_trace::{Counted, SimFault};
 use std::alloc::Global;
 use std::hash::RandomState;
@@ -29,61 +34,6 @@ fn text_by<R: Threads + Wait + Sync, G: Gate + Sync>(
     let ended = run_par(rt, alloc, keys, gate, drainers, &mut reader, &mut writer);
     (writer.into_inner(), ended)
 }
-
-/// Two workers, each with an item of its own in COLD, which each hits twice behind `par`.
-const OWN_ITEMS: (&str, &str) = (
-    "store 2 4 8 1\nclass 2 0 5\nset a 0 7\nset b 0 8\npull 0 hot\npull 0 hot\npar\nget 0 a\nget 0 a\nget 1 b\nget 1 b\n",
-    "set a 0.1\nset b 1.1\npull 0 hot cold 0.1\npull 0 hot cold 1.1\nworker 0 attempted 1 accepted 1 full 0 busy 0 refs 0 applied 1\nworker 1 attempted 1 accepted 1 full 0 busy 0 refs 0 applied 1\ntotal first 2 already 0 marked 0 queued 2 dropped 0 miss 0 refs 0 busy 0 closed 0\nsizes 0 hot 0 warm 2 cold 0 dying 0 unused 0 retired 0\n",
-);
-
-/// Both workers hit one item, which one of them queues.
-const ONE_ITEM: (&str, &str) = (
-    "store 2 4 8 1\nclass 1 0 5\nset a 0 7\npull 0 hot\npar\nget 0 a\nget 0 a\nget 1 a\nget 1 a\n",
-    "total first 1 already 2 marked 0 queued 1 dropped 0 miss 0 refs 0 busy 0 closed 0\nsizes 0 hot 0 warm 1 cold 0 dying 0 unused 0 retired 0\n",
-);
-
-/// Traces whose text is the same for each schedule: each worker with an item of its own; a worker that was closed before, a hold
-/// that is kept, and lines of maintenance alone; no `par`; and nothing at all.
-const REPORTED: [(&str, &str); 4] = [
-    OWN_ITEMS,
-    (
-        "store 2 4 8 1\nclass 2 0 5\nset a 0 7\nhold 1 a h\nclose 0\npar\nget 0 a\nget 0 a\ndel a\nsweep 0\npull 0 hot\ndrain\n",
-        "set a 0.1\nhold 1 a h held\nclose 0 attempted 0 accepted 0 full 0 busy 0 refs 0 applied 0\nworker 0 attempted 0 accepted 0 full 0 busy 0 refs 0 applied 0\nworker 1 attempted 0 accepted 0 full 0 busy 0 refs 0 applied 0\ntotal first 0 already 0 marked 0 queued 0 dropped 0 miss 0 refs 0 busy 0 closed 2\nsizes 0 hot 0 warm 0 cold 0 dying 1 unused 1 retired 0\n",
-    ),
-    (
-        "store 1 4 4 1\nclass 2 0 5\nset a 0 7\npull 0 hot\nget 0 a\nget 0 a\n",
-        "set a 0.1\npull 0 hot cold 0.1\nget 0 a 7 first\nget 0 a 7 queued 0\nworker 0 attempted 1 accepted 1 full 0 busy 0 refs 0 applied 1\ntotal first 0 already 0 marked 0 queued 0 dropped 0 miss 0 refs 0 busy 0 closed 0\nsizes 0 hot 0 warm 1 cold 0 dying 0 unused 1 retired 0\n",
-    ),
-    (
-        "store 1 4 4 1\nclass 2 0 5\n",
-        "worker 0 attempted 0 accepted 0 full 0 busy 0 refs 0 applied 0\ntotal first 0 already 0 marked 0 queued 0 dropped 0 miss 0 refs 0 busy 0 closed 0\nsizes 0 hot 0 warm 0 cold 0 dying 0 unused 2 retired 0\n",
-    ),
-];
-
-/// Where a line has a fault, its line is all that follows: no line behind `par` is made before.
-const FAULTS_BEHIND_PAR: [(&str, &str); 6] = [
-    ("", "line 1: ORDER\n"),
-    (
-        "store 1 4 4 1\nclass 2 5 5\nset a 0 7\npar\nget 0 a\nshow\n",
-        "set a 0.1\nline 6: ORDER\n",
-    ),
-    (
-        "store 1 4 4 1\nclass 2 5 5\nset a 0 7\npar\nget 0 a\nget 1 a\n",
-        "set a 0.1\nline 6: WORKER\n",
-    ),
-    (
-        "store 1 4 4 1\nclass 2 5 5\nset a 0 7\npar\nget 0 a\ndel b\n",
-        "set a 0.1\nline 6: UNBOUND\n",
-    ),
-    (
-        "store 1 4 4 1\nclass 2 5 5\nset a 0 7\npar\nget 0 a\nsweep 1\n",
-        "set a 0.1\nline 6: CLASS\n",
-    ),
-    (
-        "store 1 4 4 1\nclass 2 5 5\nset a 0 7\npar\nget 0 a\ndrain",
-        "set a 0.1\nline 6: TRUNCATED\n",
-    ),
-];
 
 /// Each trace gives its text by threads with so many drainers, and its run ends so.
 fn all_give<R: Threads + Wait + Abort + Sync>(
@@ -143,10 +93,66 @@ fn drains_by_several(rt: HostRuntime) -> Result<(), Fail> {
 #[test]
 fn two_workers_hit_one_item(rt: HostRuntime) -> Result<(), Fail> {
     let keys = RandomState::new(&rt)?;
-    let (trace, text) = ONE_ITEM;
+    let (trace, texts) = ONE_ITEM;
     let (written, ended) = text_by(&rt, rt.alloc(), keys, &OpenGate, 1, trace.as_bytes());
     assert!(rt; ended == Ok(()));
-    assert!(rt; written.ends_with(text.as_bytes()));
+    let text = written.as_slice();
+    assert!(rt; text == texts[0].as_bytes() || text == texts[1].as_bytes());
+    Ok(())
+}
+
+#[test]
+fn threads_are_told_apart(rt: HostRuntime) -> Result<(), Fail> {
+    let keys = RandomState::new(&rt)?;
+    all_give(&rt, rt.alloc(), keys, 1, &TOLD_APART, Ok(()));
+    all_give(&rt, rt.alloc(), keys, 2, &TOLD_APART, Ok(()));
+    Ok(())
+}
+
+/// Each bump of a worker that was accepted was applied, and no more than these moved an item.
+fn expect_applied(rt: &impl Abort, text: &[u8], worker: &[u8], moves: &[u8]) {
+    let told = behind(text, worker).unwrap_or(b"");
+    let applied = number_behind(told, b" applied ");
+    assert!(rt; applied.is_some() && number_behind(told, b" accepted ") == applied);
+    let moved = number_behind(text, moves).unwrap_or(u64::MAX);
+    assert!(rt; moved <= applied.unwrap_or(0));
+}
+
+/// The numbers of the total.
+const TOTALS: [&[u8]; 9] = [
+    b" first ",
+    b" already ",
+    b" marked ",
+    b" queued ",
+    b" dropped ",
+    b" miss ",
+    b" refs ",
+    b" busy ",
+    b" closed ",
+];
+
+/// The report of an item that ends beside its four hits, however many of them find it.
+fn expect_ended(rt: &impl Abort, text: &[u8]) {
+    expect_applied(rt, text, b"\nworker 0", b"\nmoves 0 0 ");
+    expect_applied(rt, text, b"\nworker 1", b"\nmoves 0 1 ");
+    let total = behind(text, b"\ntotal").unwrap_or(b"");
+    assert!(rt; sum_behind(total, &TOTALS) == Some(4));
+    assert!(rt; matches!(number_behind(total, b" first "), Some(0 | 1)));
+    let is_free =
+        text.ends_with(b"\nsizes 0 hot 0 warm 0 cold 0 dying 0 unused 1 retired 0\n");
+    let is_dying =
+        text.ends_with(b"\nsizes 0 hot 0 warm 0 cold 0 dying 1 unused 0 retired 0\n");
+    assert!(rt; is_free || is_dying);
+}
+
+#[test]
+fn an_item_ends_beside_its_hits(rt: HostRuntime) -> Result<(), Fail> {
+    let keys = RandomState::new(&rt)?;
+    for drainers in 1..3u32 {
+        let told = text_by(&rt, rt.alloc(), keys, &OpenGate, drainers, ENDED.as_bytes());
+        assert!(rt; told.1 == Ok(()));
+        expect_ended(&rt, &told.0);
+    }
     Ok(())
 }
 
@@ -185,26 +191,33 @@ fn two_workers_are_in_their_lines_at_once(rt: HostRuntime) -> Result<(), Fail> {
     Ok(())
 }
 
-/// Lets worker 0's first line not pass, and all others.
-#[derive(Drop)]
-struct Shut;
-
-impl Gate for Shut {
-    fn enter(&self, worker: u32, call: u64) -> bool {
-        worker != 0 || call != 0
-    }
-
-    fn leave(&self, _worker: u32, _call: u64) {}
+/// The gate is asked before each `get` line of each worker, and told after it.
+#[test]
+fn a_gate_at_each_line(rt: HostRuntime) -> Result<(), Fail> {
+    let keys = RandomState::new(&rt)?;
+    let gate = Counting::new(u64::MAX);
+    let (trace, text) = GATED;
+    let told = text_by(&rt, rt.alloc(), keys, &gate, 1, trace.as_bytes());
+    expect_run(&rt, trace, &told, Ok(()), text.as_bytes());
+    assert!(rt; gate.counts() == ((3, 3), (2, 2)));
+    assert!(rt; gate.is_in_turn());
+    Ok(())
 }
 
-/// Where the gate lets one line not pass, the run says so, and what was written before stays.
+/// Where the gate lets one line not pass, the run says so, that worker makes no further line, the other makes all of its own, and
+/// what was written before stays.
 #[test]
 fn a_gate_that_does_not_open(rt: HostRuntime) -> Result<(), Fail> {
     let keys = RandomState::new(&rt)?;
-    let (trace, _) = OWN_ITEMS;
-    let told = text_by(&rt, rt.alloc(), keys, &Shut, 1, trace.as_bytes());
-    let text = b"set a 0.1\nset b 1.1\npull 0 hot cold 0.1\npull 0 hot cold 1.1\n";
-    expect_run(&rt, trace, &told, Err(SimFault::Gate), text);
+    let (trace, _) = GATED;
+    for passed in 0..2u64 {
+        let gate = Counting::new(passed);
+        let told = text_by(&rt, rt.alloc(), keys, &gate, 1, trace.as_bytes());
+        expect_run(&rt, trace, &told, Err(SimFault::Gate), b"set a 0.1\nset b 1.1\n");
+        let asked = passed.saturating_add(1);
+        assert!(rt; gate.counts() == ((asked, passed), (2, 2)));
+        assert!(rt; gate.is_in_turn());
+    }
     Ok(())
 }
 
@@ -234,4 +247,42 @@ fn a_refused_allocation_by_threads(rt: HostRuntime) -> Result<(), Fail> {
     }
     expect_whole(&rt, ended, &written);
     tell_left(&rt)
+}
+
+/// Whether a run by threads whose writer takes so many bytes, one for each call, and then fails once, ends as Write, with that call
+/// its last one, and the front of the text written.
+fn ends_at_write<R: Threads + Wait + Sync>(
+    rt: &R,
+    alloc: Global,
+    keys: RandomState,
+    taken: usize,
+) -> bool {
+    let (trace, text) = OWN_ITEMS;
+    let mut reader = Counted::new(trace.as_bytes());
+    let mut writer = Counted::new(Expecting::narrow(
+        text.as_bytes(),
+        taken,
+        Ending::FailsOnce,
+    ));
+    let ended = run_par(rt, alloc, keys, &OpenGate, 1, &mut reader, &mut writer);
+    let is_last = writer.calls().saturating_sub(1) == taken as u64 && writer.failed() == 1;
+    let written = writer.into_inner();
+    ended == Err(SimFault::Write)
+        && is_last
+        && written.is_front()
+        && written.left() == text.len().saturating_sub(taken)
+}
+
+/// A write that failed isn't made again, at the front, in the middle or at the end.
+#[test]
+fn a_write_fails_once(rt: HostRuntime) -> Result<(), Fail> {
+    let keys = RandomState::new(&rt)?;
+    let (_, text) = OWN_ITEMS;
+    for taken in [0, text.len() / 2, text.len().saturating_sub(1)] {
+        assert!(rt;
+            ends_at_write(&rt, rt.alloc(), keys, taken),
+            "{taken}"
+        );
+    }
+    Ok(())
 }
