@@ -4,6 +4,7 @@ mod calls;
 mod classes;
 mod drains;
 mod expecting;
+mod moves;
 mod opening;
 mod pairs;
 mod refused_memory;

@@ -102,6 +102,14 @@ impl<N: Name> ClosedPair<N> {
         );
         settled
     }
+
+    /// The lane, once the closed worker is settled.
+    pub fn settle_lane<R: Abort + Wait>(self, rt: &R, store: &Store<N>, now: u64) -> Lane<N> {
+        let ClosedPair { closed, mut lane } = self;
+        let settled = lane.settle(rt, store, closed, now).ok();
+        assert!(rt; settled.is_some(), "the end is seen");
+        lane
+    }
 }
 
 impl<N: Name> Pair<N> {

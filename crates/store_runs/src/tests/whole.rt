@@ -4,6 +4,7 @@ ghost use Rattle.std.specs.Prelude.{◌≡◌};
 use super::beside_world::run_beside;
 use super::classes::{find_exchanged, tell_classes};
 use super::drains::{drain_again, drain_in_turn};
+use super::moves::move_in_one_class;
 use super::refused_memory::{Call, end_again};
 use super::settling::{end_new, pass_twice, settle_at_once, settle_one_by_one};
 use super::shared_item::share_item;
@@ -28,6 +29,7 @@ pub enum Story {
     SettledOneByOne,
     PassedTwice,
     ItemShared,
+    MovedApart,
     EndedAgain,
     WorkedApart,
     RunBeside,
@@ -60,6 +62,7 @@ fn tell_in<N: Name + Send + Sync, R: Threads + Abort + Wait + Sync>(
         Story::SettledOneByOne => settle_one_by_one(rt, &store, workers, maintainer),
         Story::PassedTwice => pass_twice(rt, &store, workers, maintainer),
         Story::ItemShared => share_item(rt, &store, workers, maintainer),
+        Story::MovedApart => move_in_one_class(rt, &store, workers, maintainer),
         Story::WorkedApart => work_apart(rt, alloc, &store, workers, maintainer),
         Story::RunBeside => run_beside(rt, alloc, store, workers, maintainer, config),
         _ => {
