@@ -19,6 +19,19 @@ fn linked_in(class: u32, id: ItemId) -> Row {
     link(class, Answer::Linked(id))
 }
 
+fn link_temp(class: u32, told: Answer) -> Row {
+    let command = Command::LinkTemp {
+        class,
+        label: 7,
+        now: 3,
+    };
+    (command, Ok(told))
+}
+
+fn linked_in_temp(class: u32, id: ItemId) -> Row {
+    link_temp(class, Answer::Linked(id))
+}
+
 fn unlinked(id: ItemId, told: Answer) -> Row {
     (Command::Unlink { id }, Ok(told))
 }
@@ -92,11 +105,40 @@ fn a_sweep_passes_by_what_is_held(rt: HostRuntime) -> Result<(), Fail> {
     sweep(&rt, rt.alloc(), &mut world)
 }
 
+// An item of TEMP is marked by hits, and no pull takes it.
+fn stay_in_temp<R: Abort + Eprint>(rt: &R, alloc: Global, world: &mut World) -> Result<(), Fail> {
+    let rows = [
+        linked_in_temp(0, FIRST),
+        link_temp(0, Answer::NoFreeChunk),
+        took(0, FIRST, Answer::Held),
+        touched_by(0, FIRST, Touch::First),
+        touched_by(0, FIRST, Touch::Marked),
+        touched_by(0, FIRST, Touch::Already),
+        released_once(FIRST),
+        pulled_in(0, Tail::Hot, Pulled::Empty),
+        pulled_in(0, Tail::Warm, Pulled::Empty),
+        pulled_in(0, Tail::Cold, Pulled::Empty),
+        pulled_in(0, Tail::Evict, Pulled::Empty),
+        nothing(0),
+    ];
+    expect_rows(rt, world, &rows)?;
+    expect_list(rt, alloc, world, Place::Temp, &[0])?;
+    expect_rows(rt, world, &[ended(FIRST, Ended::Freed)])?;
+    Ok(expect_list(rt, alloc, world, Place::Unused, &[0])?)
+}
+
+#[test]
+fn an_item_of_temp_stays_until_it_ends(rt: HostRuntime) -> Result<(), Fail> {
+    let mut world = store(rt.alloc(), (1, 4, 4, 1), &[(1, 0, 0)]).ok_or("no memory")?;
+    stay_in_temp(&rt, rt.alloc(), &mut world)
+}
+
 // Each command with a number out of range, or a life that isn't held.
 fn go_out_of_range<R: Abort + Eprint>(rt: &R, world: &mut World) -> Result<(), Fail> {
     let rows = [
         linked_in(0, FIRST),
         refused(link(2, Answer::NoFreeChunk).0),
+        refused(link_temp(2, Answer::NoFreeChunk).0),
         refused(swept(2, 0).0),
         refused(pulled_in(2, Tail::Evict, Pulled::Empty).0),
         refused(took(2, FIRST, Answer::Held).0),
@@ -137,7 +179,7 @@ fn end_queued<R: Abort + Eprint>(rt: &R, world: &mut World) -> Result<(), Fail> 
 // Then one is swept, and one is evicted.
 fn sweep_and_evict<R: Abort + Eprint>(rt: &R, world: &mut World) -> Result<(), Fail> {
     let rows = [
-        linked_in(0, item(0, 3)),
+        linked_in_temp(0, item(0, 3)),
         took(0, item(0, 3), Answer::Held),
         ended(item(0, 3), Ended::Deferred),
         released_once(item(0, 3)),

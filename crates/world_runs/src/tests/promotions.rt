@@ -206,6 +206,7 @@ const PROMOTED: Readers = Readers {
         3,
         Some(Change::Moved(FIRST, Segment::Cold, Segment::Warm, Cause::Bump(0, 0))),
     ),
+    moves: 1,
     accounts: Accounts {
         attempted: 1,
         accepted: 1,

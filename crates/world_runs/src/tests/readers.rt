@@ -29,6 +29,9 @@ pub struct Readers {
 
     /// How much happened to them, and what was last.
     pub history: (usize, Option<Change>),
+
+    /// How many moves for bumps of the worker there were among it.
+    pub moves: u64,
     pub accounts: Accounts,
     pub is_open: bool,
 
@@ -67,6 +70,12 @@ fn history(rt: &impl Abort, world: &World) -> (usize, Option<Change>) {
     assert!(rt; 0 < world.classes());
     let history = world.history(0);
     (history.len(), history.last().copied())
+}
+
+fn moves(rt: &impl Abort, world: &World) -> u64 {
+    assert!(rt; 0 < world.classes());
+    assert!(rt; 0 < world.workers());
+    world.moves(0, 0)
 }
 
 fn is_open(rt: &impl Abort, world: &World) -> bool {
@@ -120,6 +129,7 @@ pub fn told_by(rt: &impl Abort, world: &World) -> Readers {
             ends(rt, world, Place::Retired),
         ],
         history: history(rt, world),
+        moves: moves(rt, world),
         accounts: accounts_of(rt, world, 0),
         is_open: is_open(rt, world),
         bumps: bumps(rt, world),
