@@ -35,6 +35,8 @@ pub record ReceiverView : Type 0 where
 pub record ClosedView : Type 0 where
   -- which ring it is
   pub ring : Ring
+  -- the ring has room for so many bumps
+  pub capacity : ℕ
   -- the bumps that the ring accepted before it was closed, in order: no more will be
   pub sent : List Ride
   -- whether it can show the receiver the ring's end

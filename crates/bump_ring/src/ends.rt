@@ -2,6 +2,7 @@
 ghost use Rattle.std.specs.Prelude.{◌≡◌, ◌+◌, ◌≤◌, ◌<◌, ◌↔◌, length, cond, is_some, true, false, [], ◌∷◌, ◌++◌};
 ghost use Rattle.std.specs.Prelude.{IfSome, IfOk, IfErr, IfNone, IsNone};
 ghost use Rattle.std.specs.Option.{ForSome};
+ghost use mathlib.Core.List.{IsPrefix};
 ghost use Rattle.rtrb.specs.Ring.{sent, received, known_items, known_free, producer_capacity, Finishes};
 ghost use Rattle.bump_ring.specs.Ends.{SenderView as TheSenderView, ReceiverView as TheReceiverView};
 ghost use Rattle.bump_ring.specs.Ends.{ClosedView as TheClosedView, ring_of};
@@ -55,7 +56,7 @@ pub struct ClosedSender<N: Name> {
 impl<N: Name> Model for ClosedSender<N> {
     ghost Value = { TheClosedView };
 
-    ghost view = { λ c. record { ring = ring_of c.last.value.end; sent = sent c.last.value; shows_end = is_some c.finished } };
+    ghost view = { λ c. record { ring = ring_of c.last.value.end; capacity = producer_capacity c.last.value; sent = sent c.last.value; shows_end = is_some c.finished } };
 
     ghost invariant = { λ c. (c.accepted ≡ length (sent c.last.value)) × ForSome c.finished (λ f. Finishes c.last.value f) };
 }
@@ -91,10 +92,23 @@ impl<N: Name> Sender<N> {
         }
     }
 
+    /// Shows the two ends of a ring each other, by one load. It answers nothing, and changes nothing but what is known
+    /// to be left: from then on it is known that the bumps that were taken are the first of those that were accepted,
+    /// and that those which wait in the ring are at most as many as its capacity is.
+    pub fn meet(&mut self, receiver: &mut Receiver<N>)
+        requires ring { receiver.old.ring ≡ self.old.ring }
+        ensures sender { self.new ≡ self.old }
+        ensures receiver { receiver.new ≡ record receiver.old { known = receiver.new.known } }
+        ensures first { IsPrefix receiver.old.received self.old.sent }
+        ensures few { length self.old.sent ≤ length receiver.old.received + self.old.capacity }
+    {
+        receiver.consumer.slots_beside(&mut self.producer);
+    }
+
     /// Closes the ring: it accepts no more bumps from then on. Those that it accepted are still to be taken. Whether
     /// it can show the receiver the ring's end is settled here: where the receiver is gone it can't.
     pub fn close(self) -> ClosedSender<N>
-        ensures { result ≡ record { ring = self.ring; sent = self.sent; shows_end = result.shows_end } }
+        ensures { result ≡ record { ring = self.ring; capacity = self.capacity; sent = self.sent; shows_end = result.shows_end } }
     {
         let Sender { producer, accepted } = self;
         let last = Snapshot::of(&producer);
@@ -151,7 +165,7 @@ impl<N: Name> Receiver<N> {
     }
 
     /// How many bumps are left in the ring, by the closed sender of this ring: all of them are known from then on,
-    /// and no other will come. It may be asked again. It answers None exactly where the closed sender can't show the
+    /// and no other will come. They are at most as many as the ring's capacity is. It may be asked again. It answers None exactly where the closed sender can't show the
     /// ring's end, and nothing is changed then.
     pub fn rest(&mut self, closed: &mut ClosedSender<N>) -> Option<u64>
         requires ring { closed.old.ring ≡ self.old.ring }
@@ -159,6 +173,7 @@ impl<N: Name> Receiver<N> {
         ensures kept { (self.new.ring ≡ self.old.ring) × (self.new.received ≡ self.old.received) }
         ensures number { IfSome result (λ left. left ≡ length self.new.known) }
         ensures rest { IfSome result (λ left. closed.old.sent ≡ self.new.received ++ self.new.known) }
+        ensures few { IfSome result (λ left. left ≤ closed.old.capacity) }
         ensures none { IsNone result ↔ (closed.old.shows_end ≡ false) }
         ensures unchanged { IfNone result (self.new ≡ self.old) }
     {

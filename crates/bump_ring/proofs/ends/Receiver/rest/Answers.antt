@@ -9,3 +9,6 @@ returns-clause-none g c = search rules
 
 pub returns-clause-unchanged : goal.returns-clause-unchanged
 returns-clause-unchanged g c = search rules
+
+pub returns-clause-few : goal.returns-clause-few
+returns-clause-few g c = search rules
