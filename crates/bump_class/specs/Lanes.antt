@@ -65,8 +65,9 @@ pub record Boards (before : LaneView) (bump : Bump) (after : LaneView) (ride : R
   -- it is the next that was taken, and has the next number
   pub bump_taken : bump ≡ bump_of_ride ride
   pub number : bump.number ≡ length before.received
-  -- where bumps were known, it is the first of them
+  -- where bumps were known, it is the first of them, and where none was, none is
   pub first_known : 0 < length before.known → before.known ≡ ride ∷ after.known
+  pub none_known : before.known ≡ [] → after.known ≡ []
   pub lane : after ≡ record before {
     received = before.received ++ ride ∷ [];
     known = after.known;
