@@ -7,15 +7,14 @@ ghost use Rattle.bump_steps.specs.Words.{words_id, config_of};
 use crate::names::Name;
 use bump_rules::Config;
 use bump_steps::Words;
-use bump_word::Count;
+use bump_word::Limit;
 use std::marker::{Model, PhantomData};
 
 /// The words of all chunks of a store: head, time and label. All threads share them, and seats alone change them.
 #[derive(Drop)]
 pub struct ReaderHeads<N: Name> {
     pub(crate) words: Words,
-    // A limit is of the type of the counts in the words.
-    pub(crate) limit: Count,
+    pub(crate) limit: Limit,
     chunks: u32,
     of: PhantomData<N>,
 }
@@ -38,7 +37,7 @@ impl<N: Name> ReaderHeads<N> {
     {
         ReaderHeads {
             words,
-            limit: config.refs_limit as Count,
+            limit: Limit::new(config.refs_limit),
             chunks: config.chunks(),
             of: PhantomData,
         }
@@ -64,6 +63,6 @@ impl<N: Name> ReaderHeads<N> {
     pub fn refs_limit(&self) -> u32
         ensures { result ≡ self.now.refs_limit }
     {
-        u32::from(self.limit)
+        *self.limit.refs()
     }
 }

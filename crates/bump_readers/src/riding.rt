@@ -47,7 +47,7 @@ impl<N: Name> ReaderHeads<N> {
         ensures dropped { OnErr result (worker.new.part.hand ≡ Clearing life) }
         ensures hold { worker.new.hold ≡ worker.old.hold }
     {
-        if let Some(refusal) = self.words.ride(&mut worker.seat, &self.limit, life) {
+        if let Some(refusal) = self.words.ride(&mut worker.seat, self.limit.refs(), life) {
             return Err(refusal);
         }
         let part = self.words.part_ride(&mut worker.seat);

@@ -2,10 +2,10 @@
 ghost use Rattle.std.specs.Prelude.{◌≡◌};
 ghost use Rattle.bump_rules.specs.Tables.{get_of};
 ghost use Rattle.bump_steps.specs.Tries.{refused_by};
-ghost use Rattle.bump_word.specs.Words.{Fits};
+ghost use Rattle.bump_word.specs.Words.{Spells};
 
 use bump_rules::{Head, ItemId};
-use bump_word::Count;
+use bump_word::Limit;
 use thiserror::Error;
 
 /// Why `take` gave no hold.
@@ -36,17 +36,17 @@ pub enum RideRefusal {
     Busy,
 }
 
-// Why a get of the life is refused where this head is found, if it is: Stale comes before RefsFull. The limit is lent,
-// so that it is read where it lies, anew for each head.
-pub fn refusal(head: Head, life: ItemId, limit: &Count) -> Option<TakeRefusal>
-    requires { Fits head }
+// Why a get of the life is refused where this word is found, the head's, if it is: Stale comes before RefsFull. The
+// limit is lent, so that it is read where it lies, anew for each word.
+pub fn refusal(word: u64, head: Head, life: ItemId, limit: &Limit) -> Option<TakeRefusal>
+    requires { Spells word head }
     ensures { result ≡ refused_by (get_of limit.now life.generation head) }
 {
+    if head.generation == life.generation && limit.has_room(word) {
+        return None;
+    }
     if !head.linked || head.generation != life.generation {
         return Some(TakeRefusal::Stale);
     }
-    if head.refs as Count >= *limit {
-        return Some(TakeRefusal::RefsFull);
-    }
-    None
+    Some(TakeRefusal::RefsFull)
 }

@@ -14,10 +14,12 @@
 
 pub mod laws;
 mod layout;
+mod limits;
 mod segment;
 mod word;
 
 pub use layout::{ACTIVE, Count, FETCHED, LINKED, REFS_MAX};
+pub use limits::Limit;
 pub use segment::segment_xor;
 pub use word::{pack, unpack};
 

@@ -13,7 +13,7 @@ use crate::views::{Empty, View};
 use crate::words::{HEAD, LABEL, Seat, TIME, Words};
 use atomic_table::Play;
 use bump_rules::ItemId;
-use bump_word::Count;
+use bump_word::Limit;
 use bump_word::laws::ONE_REFERENCE;
 use std::marker::{Brand, PhantomData};
 
@@ -91,7 +91,7 @@ impl Words {
 
     /// One load, and at most 8 exchanges. The limit is read anew for each word, as its comparison's operand.
     #[inline(always)]
-    pub fn take(&self, seat: &mut Seat, life: ItemId, limit: &Count) -> Option<TakeRefusal>
+    pub fn take(&self, seat: &mut Seat, life: ItemId, limit: &Limit) -> Option<TakeRefusal>
         requires seat { (seat.old.table_id ≡ words_id self.now) × HasChunk (words_id self.now) life.chunk }
         requires worker { HasWorker seat.old.me.0 }
         requires limit { limit.now ≡ (config_of self.now).refs_limit }
@@ -101,7 +101,7 @@ impl Words {
         let mut word = self.look_to_take(seat, life.chunk);
         for failed in 0..8u32 {
             let head = head_of(word);
-            if let Some(refused) = refusal(head, life, limit) {
+            if let Some(refused) = refusal(word, head, life, limit) {
                 return Some(refused);
             }
             let found = self.try_take(seat, life, word);
