@@ -28,7 +28,7 @@ use Rattle.bump_steps.proofs.Entering.{freed_quiet}
 use Rattle.bump_heads.specs.declared.views.ClassView.{ClassView}
 use Rattle.bump_heads.specs.Applying.{IsShown, FoundOfBump, NamesNoBumpTwice, TellsMoves, is_own}
 use Rattle.bump_ring.specs.Ends.{Ring}
-use Rattle.bump_class.specs.Applications.{FoundHeads, Updates, Applies, AppliesFront, with_time, with_clearing, class_after_update, book_after_update, answer_of}
+use Rattle.bump_class.specs.Applications.{FoundHeads, Updates, Applies, AppliesFront, with_time, with_clearing, class_after_update, book_after_update, applied_answer}
 use Rattle.bump_class.specs.Books.{BookView, KeepsBook}
 use Rattle.bump_class.specs.Lanes.{LaneView, carries, part_or}
 
@@ -110,7 +110,7 @@ module _ (v : ClassView) (lists : Lists) (hot warm workers : ℕ) (ring : Ring) 
   lane_left = record { ring = ring; received = rs; known = ks; part = part_or x }
 
   pub applies : (behind : Head) (answer : Applied) (a : BookView) → Fits behind
-      → answer ≡ answer_of out (ended_of behind)
+      → answer ≡ applied_answer out (ended_of behind)
       → a ≡ book_after_update out (part_or o).worker b now (record f { behind = behind }) book
       → IsShown a.part (part_or x) b out
       → Applies book this_lane b now out answer a lane_left (record f { behind = behind })
@@ -129,7 +129,7 @@ module _ (v : ClassView) (lists : Lists) (hot warm workers : ℕ) (ring : Ring) 
 
   pub fronts : (k : BookView) (l : LaneView) → book ≡ k → this_lane ≡ l → carried (part_or o).stage ≡ Some b
       → (behind : Head) (answer : Applied) (a : BookView) → Fits behind
-      → answer ≡ answer_of out (ended_of behind)
+      → answer ≡ applied_answer out (ended_of behind)
       → a ≡ book_after_update out (part_or o).worker b now (record f { behind = behind }) book
       → IsShown a.part (part_or x) b out → AppliesFront now k l answer a lane_left
   fronts k l books lanes aboard behind answer a fits answered is entry = (

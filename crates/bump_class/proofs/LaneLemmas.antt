@@ -21,7 +21,7 @@ use Rattle.bump_steps.specs.Riders.{lane_after_board, bump_of_ride, applied_by}
 use Rattle.bump_steps.specs.Views.{bump_aboard, owns}
 use Rattle.bump_heads.specs.Applying.{carried_by, TellsMoves, is_own}
 use Rattle.bump_heads.specs.Seats.{aboard_lane, IsOfWorker}
-use Rattle.bump_class.specs.Lanes.{KeepsLane, IsLane, part_or, lives}
+use Rattle.bump_class.specs.Lanes.{KeepsLane, IsRawLane, part_or, lives}
 use Rattle.bump_class.specs.Applications.{FoundHeads, lane_after_update, EachMoveIsTold}
 
 -- a numbered list is as long as its lives
@@ -109,7 +109,7 @@ pub applied_keeps : (o x : Option LanePart) (n : ℕ) (rs : List Ride) (b : Bump
     → part_or x ≡ lane_after_update out b f (part_or o) → KeepsLane x (n + 1) rs
 applied_keeps o x n rs b out f keeps is whole after =
     let l = part_or o in
-    let all = subst (λ (p : LanePart). (n + 1 ≡ length p.applied) × IsLane p rs
+    let all = subst (λ (p : LanePart). (n + 1 ≡ length p.applied) × IsRawLane p rs
     × IfSome (carried p.stage) (λ d. n + 1 < most_attempts)) (sym after) (
       omega (arith, keeps.counted, length-append l.applied (applied_bump b out ∷ [])),
       record {
@@ -132,7 +132,7 @@ same_lives l m e =
     λ i. life (sym chunks i) (sym generations i)
 
 -- a lane tells each move by its entry of the bump's number
-pub each_told : (k : ClassPart) (l : LanePart) (rs : List Ride) → IsLane l rs → TellsMoves k l → EachMoveIsTold k l
+pub each_told : (k : ClassPart) (l : LanePart) (rs : List Ride) → IsRawLane l rs → TellsMoves k l → EachMoveIsTold k l
 each_told k l rs is tells item n some = by (told_shows item (is_own k (is_same item)) own_life n l.applied l.stage
     (lives rs) is.in_order (omega (arith, some, tells (is_same item) n)))
   where

@@ -21,7 +21,7 @@ use Rattle.bump_steps.specs.declared.views.LanePart.{LanePart}
 use Rattle.bump_steps.specs.Views.{owns}
 use Rattle.bump_heads.specs.Applying.{TellsMoves, is_own}
 use Rattle.bump_class.specs.Applications.{FoundHeads, moved_in, class_after_update, lane_after_update}
-use Rattle.bump_class.specs.Books.{CountsMoves}
+use Rattle.bump_class.specs.Books.{CountsEachWorker}
 
 -- the moves for bumps of the lane's worker are the lane's entries Moved of items of the class
 pub all_told : (k : ClassPart) (l : LanePart) → how_many is_stray k.history ≡ 0 → is_half_made l.stage ≡ false
@@ -44,10 +44,10 @@ few_moves k l fair rests told = omega (
 )
 
 -- one more move is counted
-pub counts_bump : (counts more : List ℕ) (history : List Change) (worker : ℕ) (b : Bump) → CountsMoves counts history
+pub counts_bump : (counts more : List ℕ) (history : List Change) (worker : ℕ) (b : Bump) → CountsEachWorker counts history
     → length more ≡ length counts
     → ((w : ℕ) → w < length counts → slice_index more w ≡ slice_index counts w + bit (worker == w))
-    → CountsMoves more (history ++ change.Moved b.life Cold Warm (cause.Bump worker b.number) ∷ [])
+    → CountsEachWorker more (history ++ change.Moved b.life Cold Warm (cause.Bump worker b.number) ∷ [])
 counts_bump counts more history worker b counted long one w near = omega (
   arith,
   one w (omega (arith, near, long)),

@@ -103,10 +103,10 @@ lane_after_update came_out bump found this_lane = record this_lane {
 }
 
 -- what is answered, by the outcome and by what became of an item that was gone
-abbrev pub answer_of : Outcome → Ended → Applied
-answer_of outcome.Moved ended = applied.Moved
-answer_of outcome.TimeOnly ended = applied.TimeOnly
-answer_of outcome.Gone ended = applied.Gone ended
+abbrev pub applied_answer : Outcome → Ended → Applied
+applied_answer outcome.Moved ended = applied.Moved
+applied_answer outcome.TimeOnly ended = applied.TimeOnly
+applied_answer outcome.Gone ended = applied.Gone ended
 
 -- Each head is one that a word spells.
 pub record AllFit (found : FoundHeads) : Type 0 where
@@ -140,7 +140,7 @@ pub record Applies (book : BookView) (from : LaneView) (bump : Bump) (now : ℕ)
   -- the outcome is the update table's, by what the look and the clearing found
   pub table : came_out ≡ outcome_of found.tried found.cleared
   -- a gone item is free where nobody holds it any more
-  pub answered : answer ≡ answer_of came_out (ended_of found.behind)
+  pub answered : answer ≡ applied_answer came_out (ended_of found.behind)
   pub book_after : left ≡ book_after_update came_out from.part.worker bump now found book
   pub lane_after : to ≡ record from { part = lane_after_update came_out bump found from.part }
   -- the entry that the lane has now is true

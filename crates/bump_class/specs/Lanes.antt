@@ -35,7 +35,7 @@ abbrev pub lives : List Ride → List ItemId
 lives rides = map (λ ride. ride.life) rides
 
 -- What every lane keeps, as each lane of a World does.
-pub record IsLane (part : LanePart) (received : List Ride) : Type 0 where
+pub record IsRawLane (part : LanePart) (received : List Ride) : Type 0 where
   -- what was applied, followed by the bump aboard, is what was received, and the numbers are 0, 1, 2 and so on
   pub in_order : map bump_applied part.applied ++ aboard part.stage ≡ numbered_from 0 (lives received)
   -- no bump is half applied
@@ -52,7 +52,7 @@ pub record KeepsLane (seat : Option LanePart) (count : ℕ) (received : List Rid
   pub whole : seat ≡ Some (part_or seat)
   -- its count is that of the bumps that it applied
   pub counted : count ≡ length (part_or seat).applied
-  pub lane : IsLane (part_or seat) received
+  pub lane : IsRawLane (part_or seat) received
   -- and one more has a number too
   pub few : IfSome (carried (part_or seat).stage) (λ bump. count < most_attempts)
 

@@ -4,7 +4,7 @@ ghost use Rattle.bump_rules.specs.declared.lanes.Lane.TheVariants.{Empty as IsEm
 ghost use Rattle.bump_steps.specs.declared.views.Ride.{Ride as TheRide};
 ghost use Rattle.bump_steps.specs.Riders.{applied_by};
 ghost use Rattle.bump_heads.specs.Applying.{stage_of};
-ghost use Rattle.bump_class.specs.Lanes.{LaneView as TheLaneView, carries, entries, part_or, IsLane, KeepsLane, new_lane, Boards};
+ghost use Rattle.bump_class.specs.Lanes.{LaneView as TheLaneView, carries, entries, part_or, IsRawLane, KeepsLane, new_lane, Boards};
 
 use bump_heads::{LaneSeat, Name};
 use bump_ring::{ClosedSender, Receiver};
@@ -48,7 +48,7 @@ impl<N: Name> RawLane<N> {
     /// What every lane keeps: what it applied, followed by the bump aboard, is what it received, with the numbers 0,
     /// 1, 2 and so on; and no bump is half applied.
     pub fn promise(&self)
-        ensures { IsLane self.now.part self.now.received }
+        ensures { IsRawLane self.now.part self.now.received }
     {
         let _applied = &self.applied;
     }

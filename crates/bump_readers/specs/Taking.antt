@@ -14,9 +14,9 @@ abbrev pub whole_hold : ItemId → HoldView
 whole_hold item = record { life = item; part = Some (new_hold item) }
 
 -- the answer: a hold of the life, or the refusal
-abbrev pub answer_of : Option TakeRefusal → ItemId → Result HoldView TakeRefusal
-answer_of None item = Ok (whole_hold item)
-answer_of (Some refusal) item = Err refusal
+abbrev pub take_answer : Option TakeRefusal → ItemId → Result HoldView TakeRefusal
+take_answer None item = Ok (whole_hold item)
+take_answer (Some refusal) item = Err refusal
 
 -- what a call of `take` comes to that found these heads
 pub record Took (limit : ℕ) (item : ItemId) (before after : WorkerView) (answered : Result HoldView TakeRefusal)
@@ -25,4 +25,4 @@ pub record Took (limit : ℕ) (item : ItemId) (before after : WorkerView) (answe
   pub found : TakeFound limit item first more
   -- nothing but the steps is new to the worker: where the call is refused none of them changed the word
   pub steps : after ≡ record before { part = with_more (steps_of limit item first more) before.part }
-  pub answer : answered ≡ answer_of (refusal_of limit item first more) item
+  pub answer : answered ≡ take_answer (refusal_of limit item first more) item

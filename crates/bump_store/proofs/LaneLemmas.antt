@@ -14,9 +14,9 @@ use Rattle.bump_rules.specs.declared.lanes.Lane.TheVariants as lane
 use Rattle.bump_rules.specs.Lanes.{carried, is_half_made}
 use Rattle.bump_rules.specs.Rings.{aboard, bump_applied, numbered_from}
 use Rattle.bump_steps.specs.declared.views.Ride.{Ride}
-use Rattle.bump_class.specs.Applications.{answer_of, AppliesFront}
+use Rattle.bump_class.specs.Applications.{applied_answer, AppliesFront}
 use Rattle.bump_class.specs.Books.{BookView}
-use Rattle.bump_class.specs.Lanes.{LaneView, IsLane, carries, entries, lives}
+use Rattle.bump_class.specs.Lanes.{LaneView, IsRawLane, carries, entries, lives}
 use Rattle.bump_store.specs.Lanes.{outcome_told, told}
 
 -- a numbered list is as long as its lives
@@ -33,7 +33,7 @@ none_aboard (lane.Cleared bump found) rest none = absurd (cc rest)
 none_aboard (lane.Moved bump) rest none = absurd (cc rest)
 
 -- then it applied as many bumps as it took
-pub all_applied : (this_lane : LaneView) → IsLane this_lane.part this_lane.received → carries this_lane ≡ None
+pub all_applied : (this_lane : LaneView) → IsRawLane this_lane.part this_lane.received → carries this_lane ≡ None
     → length this_lane.received ≡ length (entries this_lane)
 all_applied this_lane keeps none = omega (
   arith,
@@ -52,7 +52,7 @@ first_ones_kept before between after more grown next =
     (grown.0 ++ more, sym (append_assoc before grown.0 more) ∙ ap (λ xs. xs ++ more) grown.1 ∙ sym next)
 
 -- what was answered tells the outcome
-pub told_outcome : (came_out : Outcome) (ended : Ended) → outcome_told (answer_of came_out ended) ≡ came_out
+pub told_outcome : (came_out : Outcome) (ended : Ended) → outcome_told (applied_answer came_out ended) ≡ came_out
 told_outcome outcome.Moved ended = refl
 told_outcome outcome.TimeOnly ended = refl
 told_outcome outcome.Gone ended = refl

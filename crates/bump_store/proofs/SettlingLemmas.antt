@@ -5,13 +5,13 @@ use Rattle.std.proofs.lemmas.List.{append-nil, length-map}
 use Rattle.bump_rules.specs.declared.bumps.Entry.{Entry}
 use Rattle.bump_rules.specs.Rings.{bump_applied, numbered_from}
 use Rattle.bump_steps.specs.declared.views.Ride.{Ride}
-use Rattle.bump_class.specs.Lanes.{LaneView, IsLane, carries, entries, lives}
+use Rattle.bump_class.specs.Lanes.{LaneView, IsRawLane, carries, entries, lives}
 use Rattle.bump_store.specs.Lanes.{AppliesNext, told}
 use Rattle.bump_store.specs.Settling.{AppliedAll, MaySeeEnd, AppliesToEnd, Settles}
 use Rattle.bump_store.proofs.LaneLemmas.{none_aboard, numbered_long}
 
 -- where nothing is aboard, and nothing left, what was applied is what was sent
-pub all_in_order : (this_lane : LaneView) (sent : List Ride) → IsLane this_lane.part this_lane.received
+pub all_in_order : (this_lane : LaneView) (sent : List Ride) → IsRawLane this_lane.part this_lane.received
     → carries this_lane ≡ None → this_lane.known ≡ [] → sent ≡ this_lane.received ++ this_lane.known
     → AppliedAll sent this_lane
 all_in_order this_lane sent keeps none known left =
@@ -97,7 +97,7 @@ looked_once sent before after None lane end same = record { lane = lane; left = 
 looked_once sent before after (Some count) lane end same = record { lane = lane; left = inr end }
 
 -- where it shows that nothing is left, all was applied
-pub all_at_end : (sent : List Ride) (before after : LaneView) (left : Option ℕ) → IsLane before.part before.received
+pub all_at_end : (sent : List Ride) (before after : LaneView) (left : Option ℕ) → IsRawLane before.part before.received
     → carries before ≡ None → after ≡ record before { known = after.known }
     → IfSome left (λ count. count ≡ length after.known)
     → IfSome left (λ count. sent ≡ after.received ++ after.known)
@@ -105,7 +105,7 @@ pub all_at_end : (sent : List Ride) (before after : LaneView) (left : Option ℕ
 all_at_end sent before after None keeps none lane number end = tt
 all_at_end sent before after (Some count) keeps none lane number end =
     λ zeroed. all_in_order after sent
-    (subst (λ (x : LaneView). IsLane x.part x.received) (sym lane) keeps)
+    (subst (λ (x : LaneView). IsRawLane x.part x.received) (sym lane) keeps)
     (ap (λ (x : LaneView). carries x) lane ∙ none)
     (without_any after.known (sym number ∙ zeroed))
     end

@@ -1,7 +1,7 @@
 //! The lanes of a store, each of which applies the bumps of one worker's ring.
 ghost use Rattle.std.specs.Prelude.{◌≡◌, ◌+◌, ◌≤◌, ◌<◌, ◌++◌, ◌∷◌, [], None, IfSome, IfNone, length};
 ghost use mathlib.Core.List.{IsPrefix};
-ghost use Rattle.bump_class.specs.Lanes.{carries, entries, IsLane};
+ghost use Rattle.bump_class.specs.Lanes.{carries, entries, IsRawLane};
 ghost use Rattle.bump_store.specs.Lanes.{LaneState as TheLaneState, told, AppliesNext, AppliesMany};
 
 use crate::stores::Store;
@@ -33,7 +33,7 @@ impl<N: Name> Lane<N> {
     /// so on.
     pub fn applied(&self) -> u64
         ensures count { result ≡ length (entries self.now.lane) }
-        ensures order { IsLane self.now.lane.part self.now.lane.received }
+        ensures order { IsRawLane self.now.lane.part self.now.lane.received }
     {
         self.raw.promise();
         self.raw.applied()

@@ -42,9 +42,9 @@ opening_of opening.Before = stages.Before
 opening_of (opening.Classes shape classes) = stages.Classes shape classes.items
 
 -- a stage as the definitions see it
-abbrev pub stage_of : Stage → stages.Stage
-stage_of (stage.Opens opening) = opening_of opening
-stage_of (stage.Open store) = stages.Open (store_of store)
+abbrev pub seen_stage : Stage → stages.Stage
+seen_stage (stage.Opens opening) = opening_of opening
+seen_stage (stage.Open store) = stages.Open (store_of store)
 
 -- a fault that isn't want of memory is the one that is meant
 abbrev pub FailsBy : {X : Type 0} → LineError → Result X Fault → Type 0

@@ -30,12 +30,12 @@ pub struct Session<'a> {
 
 impl<'a> Session<'a> {
     ghost use Rattle.bump_trace.specs.Ready.{IsSettled};
-    ghost use Rattle.bump_trace.specs.Views.{stage_of, Does, Opens};
+    ghost use Rattle.bump_trace.specs.Views.{seen_stage, Does, Opens};
     ghost use Rattle.trace_lines.specs.Seen.{seen_line};
 
     /// A trace of which no line was run, with the keys by which its names are hashed.
     pub fn new(keys: RandomState) -> Session<'a>
-        ensures stage { stage_of result.stage ≡ Before }
+        ensures stage { seen_stage result.stage ≡ Before }
         ensures settled { IsSettled result.stage }
     {
         Session {
@@ -47,7 +47,7 @@ impl<'a> Session<'a> {
     /// Says what the store is, or what a class is.
     #[tactic(auto, unfolding(crate::specs::Stages::declared))]
     fn declare(&mut self, alloc: Global, declaration: Declaration) -> Result<(), LineError>
-        ensures said { Does (stage_of self.new.stage) [] result (declared (stage_of self.old.stage) declaration) }
+        ensures said { Does (seen_stage self.new.stage) [] result (declared (seen_stage self.old.stage) declaration) }
         ensures settled { OnOk result (IsSettled self.new.stage) }
     {
         match &mut self.stage {
@@ -60,7 +60,7 @@ impl<'a> Session<'a> {
     #[tactic(auto, unfolding(crate::specs::Stages::opened))]
     fn open(&mut self, alloc: Global) -> Result<(), LineError>
         requires { IsSettled self.old.stage }
-        ensures opened { Opens (stage_of self.new.stage) result (opened (stage_of self.old.stage)) }
+        ensures opened { Opens (seen_stage self.new.stage) result (opened (seen_stage self.old.stage)) }
         ensures settled { OnOk result (IsSettled self.new.stage) }
     {
         if let Stage::Open(_) = self.stage {
@@ -90,7 +90,7 @@ impl<'a> Session<'a> {
     ) -> Result<(), LineError>
         requires settled { IsSettled self.old.stage }
         requires empty { out.old.items ≡ [] }
-        ensures said { Does (stage_of self.new.stage) out.new.items result (effect (stage_of self.old.stage) now (seen_line line.entry)) }
+        ensures said { Does (seen_stage self.new.stage) out.new.items result (effect (seen_stage self.old.stage) now (seen_line line.entry)) }
         ensures settled { OnOk result (IsSettled self.new.stage) }
     {
         match line {
@@ -117,7 +117,7 @@ impl<'a> Session<'a> {
     ) -> Result<(), LineError>
         requires settled { IsSettled self.old.stage }
         requires empty { out.old.items ≡ [] }
-        ensures said { Does (stage_of self.new.stage) out.new.items result (step (stage_of self.old.stage) number line.entry.now) }
+        ensures said { Does (seen_stage self.new.stage) out.new.items result (step (seen_stage self.old.stage) number line.entry.now) }
         ensures settled { OnOk result (IsSettled self.new.stage) }
     {
         match read_line(alloc, line)? {
@@ -129,7 +129,7 @@ impl<'a> Session<'a> {
     /// What is wrong at the end of the input, behind whose last line feed this stands.
     #[tactic(auto, unfolding(crate::specs::Meaning::fault_at_end, crate::specs::Stages::opened))]
     pub fn fault_at_end(self, rest: &[u8]) -> Option<Fault>
-        ensures { result ≡ fault_at_end (stage_of self.entry.stage) rest.now }
+        ensures { result ≡ fault_at_end (seen_stage self.entry.stage) rest.now }
     {
         if let Some(fault) = rest_fault(rest) {
             return Some(fault);

@@ -2,7 +2,7 @@ use Rattle.std.proofs.Common.{[], ◌++◌, arith, ap₂, Some}
 use Rattle.std.proofs.lemmas.Result.{err_from_is_err_and}
 use Rattle.trace_lines.specs.Counted.{inner_of}
 use Rattle.bump_trace.specs.Meaning.{prepend, run, parts_of, verdict_of}
-use Rattle.bump_trace.specs.Views.{stage_of}
+use Rattle.bump_trace.specs.Views.{seen_stage}
 use Rattle.bump_trace.proofs.KnownBytes.{appends_start}
 use Rattle.bump_trace.proofs.GatheredText.{gathered_more, line_run, input_ended, runs_failed, runs_stopped}
 use Rattle.bump_trace.proofs.FrontsOfText.{stops_at_line, stops_at_fault, stops_unrun}
@@ -16,7 +16,7 @@ loop-line-init g c =
 pub returns-in-Err-clause-text : goal.returns-in-Err-clause-text
 returns-in-Err-clause-text g c =
     let (sent, wrote, same, room, settled, empty) = c.loop-line.invariant in
-    runs_stopped _ _ _ sent c.loop-line.gathered.items _ c.args.input.now c.in-Some.line.now c.in-Some.after.now c.loop-line.number (stage_of c.loop-line.session.stage) _ c.in-Err.error
+    runs_stopped _ _ _ sent c.loop-line.gathered.items _ c.args.input.now c.in-Some.line.now c.in-Some.after.now c.loop-line.number (seen_stage c.loop-line.session.stage) _ c.in-Err.error
     wrote c.in_ok-stop-in-Err.ensures.ok c.in-Some.ensures.0 c.in-Err.ensures.said same
 
 pub loop-line-preserved : goal.loop-line-preserved
@@ -26,7 +26,7 @@ loop-line-preserved g c =
     let (all, now_wrote, gathered) = gathered_more _ _ _ sent c.loop-line.gathered.items c.gather.new.gathered.items text wrote (rw c.deref.ensures.value at c.in_ok-gather.ensures.ok) in (
       all,
       now_wrote,
-      line_run c.loop-line.number c.in-Some.line.now c.in-Some.after.now (sent ++ c.loop-line.gathered.items) (all ++ c.gather.new.gathered.items) (stage_of c.loop-line.session.stage) (stage_of c.step.new.self.stage) _ text _
+      line_run c.loop-line.number c.in-Some.line.now c.in-Some.after.now (sent ++ c.loop-line.gathered.items) (all ++ c.gather.new.gathered.items) (seen_stage c.loop-line.session.stage) (seen_stage c.step.new.self.stage) _ text _
           c.in-Some.ensures.0 c.in-Ok.ensures.said gathered same,
       omega (arith, room, c.in-Some.ensures.1),
       c.in-Ok.ensures.settled,
@@ -37,7 +37,7 @@ pub returns-in-Some-fault_at_end-clause-text : goal.returns-in-Some-fault_at_end
 returns-in-Some-fault_at_end-clause-text g c =
     let (sent, wrote, same, room, settled, empty) = c.loop-line.invariant in
     runs_failed _ _ _ sent c.loop-line.gathered.items _ c.args.input.now c.loop-line.number c.in-Some-fault_at_end.fault wrote c.in_ok-gather_fault-in-Some-fault_at_end.ensures.ok
-    (input_ended c.loop-line.number c.loop-line.rest.now (sent ++ c.loop-line.gathered.items) (stage_of c.loop-line.session.stage) _ (Some c.in-Some-fault_at_end.fault) _ c.in_default.ensures c.in-Some-fault_at_end.ensures same)
+    (input_ended c.loop-line.number c.loop-line.rest.now (sent ++ c.loop-line.gathered.items) (seen_stage c.loop-line.session.stage) _ (Some c.in-Some-fault_at_end.fault) _ c.in_default.ensures c.in-Some-fault_at_end.ensures same)
 
 pub returns-in_err-stop-in-Err-clause-front : goal.returns-in_err-stop-in-Err-clause-front
 returns-in_err-stop-in-Err-clause-front g c =
@@ -45,7 +45,7 @@ returns-in_err-stop-in-Err-clause-front g c =
     let (sent, wrote, same, room, settled, empty) = c.loop-line.invariant in
     rw (p.1, p.2)
     (stops_unrun (g.W.Sink.contents (inner_of c.args.writer.now)) (g.W.Sink.contents (inner_of c.loop-line.writer)) (g.W.Sink.contents (inner_of c.stop.new.writer))
-    sent c.loop-line.gathered.items c.stop.new.gathered.items c.args.input.now c.in-Some.line.now c.in-Some.after.now c.loop-line.number (stage_of c.loop-line.session.stage) _ c.in-Err.error c.in_err-stop-in-Err.field-0.0
+    sent c.loop-line.gathered.items c.stop.new.gathered.items c.args.input.now c.in-Some.line.now c.in-Some.after.now c.loop-line.number (seen_stage c.loop-line.session.stage) _ c.in-Err.error c.in_err-stop-in-Err.field-0.0
     wrote c.in_err-stop-in-Err.ensures.front c.in-Some.ensures.0 c.in-Err.ensures.said same)
 
 pub returns-in_err-gather-clause-front : goal.returns-in_err-gather-clause-front
@@ -54,7 +54,7 @@ returns-in_err-gather-clause-front g c =
     let (sent, wrote, same, room, settled, empty) = c.loop-line.invariant in
     rw (p.1, p.2)
     (stops_at_line (g.W.Sink.contents (inner_of c.args.writer.now)) (g.W.Sink.contents (inner_of c.loop-line.writer)) (g.W.Sink.contents (inner_of c.gather.new.writer))
-    sent c.loop-line.gathered.items c.gather.new.gathered.items c.step.new.out.items c.args.input.now c.in-Some.line.now c.in-Some.after.now c.loop-line.number (stage_of c.loop-line.session.stage) (stage_of c.step.new.self.stage) _ c.in_err-gather.field-0.0
+    sent c.loop-line.gathered.items c.gather.new.gathered.items c.step.new.out.items c.args.input.now c.in-Some.line.now c.in-Some.after.now c.loop-line.number (seen_stage c.loop-line.session.stage) (seen_stage c.step.new.self.stage) _ c.in_err-gather.field-0.0
     wrote (rw c.deref.ensures.value at c.in_err-gather.ensures.front) c.in-Some.ensures.0 c.in-Ok.ensures.said same)
 
 pub returns-in_err-gather_fault-in-Some-fault_at_end-clause-front : goal.returns-in_err-gather_fault-in-Some-fault_at_end-clause-front
@@ -66,4 +66,4 @@ returns-in_err-gather_fault-in-Some-fault_at_end-clause-front g c =
     (stops_at_fault (g.W.Sink.contents (inner_of c.args.writer.now)) (g.W.Sink.contents (inner_of c.loop-line.writer)) (g.W.Sink.contents (inner_of c.gather_fault.new.writer))
     sent c.loop-line.gathered.items c.gather_fault.new.gathered.items c.args.input.now c.loop-line.number c.in-Some-fault_at_end.fault c.in_err-gather_fault-in-Some-fault_at_end.field-0.0
     wrote c.in_err-gather_fault-in-Some-fault_at_end.ensures.front
-    (input_ended c.loop-line.number c.loop-line.rest.now (sent ++ c.loop-line.gathered.items) (stage_of c.loop-line.session.stage) _ (Some c.in-Some-fault_at_end.fault) _ c.in_default.ensures c.in-Some-fault_at_end.ensures same))
+    (input_ended c.loop-line.number c.loop-line.rest.now (sent ++ c.loop-line.gathered.items) (seen_stage c.loop-line.session.stage) _ (Some c.in-Some-fault_at_end.fault) _ c.in_default.ensures c.in-Some-fault_at_end.ensures same))
