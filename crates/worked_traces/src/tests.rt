@@ -351,9 +351,9 @@ fn a_byte_more_than_the_longest_trace(rt: HostRuntime) -> Result<(), Fail> {
 fn most_holds(alloc: Global, limit: u32) -> Result<(Vec<u8>, Vec<u8>), Fail> {
     let mut trace = Vec::new(alloc);
     let mut text = Vec::new(alloc);
-    trace.extend_from_slice(
-        format!(in alloc; "store 1 4 {limit} 1\nclass 1 5 5\nset a 0 7\n")?.as_bytes(),
-    )?;
+    trace.extend_from_slice(format!(in alloc;
+        "store 1 4 {limit} 1\nclass 1 5 5\nset a 0 7\n"
+    )?.as_bytes())?;
     text.extend_from_slice(b"set a 0.1\n")?;
     let last = limit.saturating_sub(1);
     for hold in 0..last {

@@ -11,7 +11,9 @@ ghost use Rattle.bump_trace.specs.Stages.{Open};
 use super::OpenStore;
 use bump_core::Place;
 use std::alloc::AllocError;
-use trace_lines::{LineError, is_shown, put_chunk, put_close, put_list_start, put_moves, put_worker};
+use trace_lines::{
+    LineError, is_shown, put_chunk, put_close, put_list_start, put_moves, put_worker,
+};
 
 /// The lists of a class, in the order in which they are printed.
 pub const PLACES: [Place; 7] = [

@@ -203,7 +203,10 @@ pub fn move_in_one_class<N: Name + Send + Sync, R: Threads + Abort + Wait + Sync
 )
     requires { worker_rings workers.items ≡ lane_rings maintainer }
 {
-    let mut items = [ItemId { chunk: 0, generation: 0 }; 8];
+    let mut items = [ItemId {
+        chunk: 0,
+        generation: 0,
+    }; 8];
     for at in 0..items.len() {
         items[at] = new_cold(rt, store, 0);
     }

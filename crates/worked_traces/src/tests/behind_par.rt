@@ -95,4 +95,5 @@ pub(super) const GATED: (&str, &str) = (
 );
 
 /// An item that ends beside its hits, whose chunk is free then, or is so with its last reference.
-pub(super) const ENDED: &str = "store 2 4 8 1\nclass 1 0 5\nset a 0 7\npull 0 hot\npar\nget 0 a\nget 0 a\nget 1 a\nget 1 a\ndel a\ndrain\nsweep 0\n";
+pub(super) const ENDED: &str =
+    "store 2 4 8 1\nclass 1 0 5\nset a 0 7\npull 0 hot\npar\nget 0 a\nget 0 a\nget 1 a\nget 1 a\ndel a\ndrain\nsweep 0\n";

@@ -235,10 +235,7 @@ pub(super) const PAIRS_OF_CONFIGS: [(&str, &str); 11] = [
     ("store 1 65537 1 0\nshow\n", "line 2: CAPACITY\n"),
     ("store 1 4 1 0\nshow\n", "line 2: REFS\n"),
     ("store 1 4 1048576 0\nshow\n", "line 2: REFS\n"),
-    (
-        "store 1 4 1048576 1\nclass 1 5 5\nshow\n",
-        "line 3: REFS\n",
-    ),
+    ("store 1 4 1048576 1\nclass 1 5 5\nshow\n", "line 3: REFS\n"),
     ("store 1 4 4 0\nshow\n", "line 2: GENERATION\n"),
     (
         "store 1 4 4 1\nclass 0 5 5\nclass 0 5 5\nclass 0 5 5\nclass 0 5 5\nclass 0 5 5\nclass 0 5 5\nclass 0 5 5\nclass 0 5 5\nclass 0 5 5\nclass 0 5 5\nclass 0 5 5\nclass 0 5 5\nclass 0 5 5\nclass 0 5 5\nclass 0 5 5\nclass 0 5 5\nclass 0 5 5\nshow\n",

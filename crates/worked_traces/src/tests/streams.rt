@@ -103,11 +103,7 @@ fn each_write_takes_nothing(rt: HostRuntime) -> Result<(), Fail> {
 fn serial_ends_at_write(rt: &impl Wait, alloc: Global, keys: RandomState, taken: usize) -> bool {
     let (trace, text) = PROMOTION;
     let mut reader = Counted::new(trace.as_bytes());
-    let mut writer = Counted::new(Expecting::narrow(
-        text.as_bytes(),
-        taken,
-        Ending::FailsOnce,
-    ));
+    let mut writer = Counted::new(Expecting::narrow(text.as_bytes(), taken, Ending::FailsOnce));
     let ended = run_serial(rt, alloc, keys, &mut reader, &mut writer);
     let is_last = writer.calls().saturating_sub(1) == taken as u64 && writer.failed() == 1;
     let written = writer.into_inner();

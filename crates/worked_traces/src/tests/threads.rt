@@ -138,10 +138,8 @@ fn expect_ended(rt: &impl Abort, text: &[u8]) {
     let total = behind(text, b"\ntotal").unwrap_or(b"");
     assert!(rt; sum_behind(total, &TOTALS) == Some(4));
     assert!(rt; matches!(number_behind(total, b" first "), Some(0 | 1)));
-    let is_free =
-        text.ends_with(b"\nsizes 0 hot 0 warm 0 cold 0 dying 0 unused 1 retired 0\n");
-    let is_dying =
-        text.ends_with(b"\nsizes 0 hot 0 warm 0 cold 0 dying 1 unused 0 retired 0\n");
+    let is_free = text.ends_with(b"\nsizes 0 hot 0 warm 0 cold 0 dying 0 unused 1 retired 0\n");
+    let is_dying = text.ends_with(b"\nsizes 0 hot 0 warm 0 cold 0 dying 1 unused 0 retired 0\n");
     assert!(rt; is_free || is_dying);
 }
 
@@ -213,7 +211,13 @@ fn a_gate_that_does_not_open(rt: HostRuntime) -> Result<(), Fail> {
     for passed in 0..2u64 {
         let gate = Counting::new(passed);
         let told = text_by(&rt, rt.alloc(), keys, &gate, 1, trace.as_bytes());
-        expect_run(&rt, trace, &told, Err(SimFault::Gate), b"set a 0.1\nset b 1.1\n");
+        expect_run(
+            &rt,
+            trace,
+            &told,
+            Err(SimFault::Gate),
+            b"set a 0.1\nset b 1.1\n",
+        );
         let asked = passed.saturating_add(1);
         assert!(rt; gate.counts() == ((asked, passed), (2, 2)));
         assert!(rt; gate.is_in_turn());
@@ -259,11 +263,7 @@ fn ends_at_write<R: Threads + Wait + Sync>(
 ) -> bool {
     let (trace, text) = OWN_ITEMS;
     let mut reader = Counted::new(trace.as_bytes());
-    let mut writer = Counted::new(Expecting::narrow(
-        text.as_bytes(),
-        taken,
-        Ending::FailsOnce,
-    ));
+    let mut writer = Counted::new(Expecting::narrow(text.as_bytes(), taken, Ending::FailsOnce));
     let ended = run_par(rt, alloc, keys, &OpenGate, 1, &mut reader, &mut writer);
     let is_last = writer.calls().saturating_sub(1) == taken as u64 && writer.failed() == 1;
     let written = writer.into_inner();
@@ -279,10 +279,7 @@ fn a_write_fails_once(rt: HostRuntime) -> Result<(), Fail> {
     let keys = RandomState::new(&rt)?;
     let (_, text) = OWN_ITEMS;
     for taken in [0, text.len() / 2, text.len().saturating_sub(1)] {
-        assert!(rt;
-            ends_at_write(&rt, rt.alloc(), keys, taken),
-            "{taken}"
-        );
+        assert!(rt; ends_at_write(&rt, rt.alloc(), keys, taken), "{taken}");
     }
     Ok(())
 }
