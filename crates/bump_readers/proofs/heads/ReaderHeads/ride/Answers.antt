@@ -12,7 +12,7 @@ invariant_of-worker g c = let t = c.ride.ensures.told in
     dropped_seat g.N.Name.table c.worker.inside.worker c.worker.inside.seat.table_id c.ride.new.seat.table_id
     c.worker.inside.seat.me
     c.ride.new.seat.me c.args.worker.now c.worker.invariant (cc c.worker.view_is) c.ride.ensures.same.0
-    c.self.inside.limit
+    c.refs.result.now
     c.args.life (dropped_as c.in-Some.refusal) t.0 t.1 c.requires.trying t.3
     (sym t.4 ∙ ap (λ (o : Option RideRefusal). option_map dropped_as o) c.in-Some.is)
 
@@ -26,7 +26,7 @@ pub invariant_of-worker-2 : goal.invariant_of-worker-2
 invariant_of-worker-2 g c = let t = c.ride.ensures.told in
     sent_seat g.N.Name.table c.worker.inside.worker c.worker.inside.seat.table_id c.part_ride-part.new.seat.table_id
     c.worker.inside.seat.me c.part_ride-part.new.seat.me c.args.worker.now c.worker.invariant (cc c.worker.view_is)
-    (c.part_ride-part.ensures.same.0 ∙ c.ride.ensures.same.0) c.self.inside.limit c.args.life t.0 t.1
+    (c.part_ride-part.ensures.same.0 ∙ c.ride.ensures.same.0) c.refs.result.now c.args.life t.0 t.1
     c.ride.new.seat.me
     c.requires.trying t.3 (sym t.4 ∙ ap (λ (o : Option RideRefusal). option_map dropped_as o) c.in_default.is)
     c.part_ride-part.ensures.parts.0
