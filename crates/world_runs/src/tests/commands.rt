@@ -109,6 +109,7 @@ fn a_sweep_passes_by_what_is_held(rt: HostRuntime) -> Result<(), Fail> {
 fn stay_in_temp<R: Abort + Eprint>(rt: &R, alloc: Global, world: &mut World) -> Result<(), Fail> {
     let rows = [
         linked_in_temp(0, FIRST),
+        linked_in_temp(0, item(1, 1)),
         link_temp(0, Answer::NoFreeChunk),
         took(0, FIRST, Answer::Held),
         touched_by(0, FIRST, Touch::First),
@@ -122,14 +123,15 @@ fn stay_in_temp<R: Abort + Eprint>(rt: &R, alloc: Global, world: &mut World) -> 
         nothing(0),
     ];
     expect_rows(rt, world, &rows)?;
-    expect_list(rt, alloc, world, Place::Temp, &[0])?;
+    expect_list(rt, alloc, world, Place::Temp, &[1, 0])?;
     expect_rows(rt, world, &[ended(FIRST, Ended::Freed)])?;
+    expect_list(rt, alloc, world, Place::Temp, &[1])?;
     Ok(expect_list(rt, alloc, world, Place::Unused, &[0])?)
 }
 
 #[test]
 fn an_item_of_temp_stays_until_it_ends(rt: HostRuntime) -> Result<(), Fail> {
-    let mut world = store(rt.alloc(), (1, 4, 4, 1), &[(1, 0, 0)]).ok_or("no memory")?;
+    let mut world = store(rt.alloc(), (1, 4, 4, 1), &[(2, 0, 0)]).ok_or("no memory")?;
     stay_in_temp(&rt, rt.alloc(), &mut world)
 }
 
