@@ -38,7 +38,7 @@ const CLASSES: [ClassConfig; 3] = [
 ];
 
 /// The first generation, so late that chunks are retired during the run.
-const FIRST_GENERATION: u32 = u32::MAX - 35;
+const FIRST_GENERATION: u32 = u32::MAX - 22;
 
 /// Numbers that look random, the same in each run.
 #[derive(Drop)]
