@@ -5,6 +5,7 @@ ghost use Rattle.bump_rules.specs.declared.places.Place.TheVariants as place;
 ghost use Rattle.bump_rules.specs.Lives.{life as life_of};
 ghost use Rattle.bump_heads.specs.Applying.{IsOf, carried_by};
 ghost use Rattle.bump_heads.specs.Linking.{place_of_chunk};
+ghost use Rattle.bump_steps.specs.Applications.{class_at_rest};
 ghost use Rattle.bump_steps.specs.Rule.{chunks as all_chunks};
 ghost use Rattle.bump_readers.specs.Taking.{whole_hold};
 ghost use Rattle.bump_steps.specs.Views.{owns, standing};
@@ -55,7 +56,7 @@ fn apply_front<N: Name>(
     requires carries { IsOf chunk (carried_by lane.old) }
     ensures alone { class.new.lane ≡ None }
     ensures whole { IsSome lane.new }
-    ensures gone { result.tried.linked ≡ false → class.new.part ≡ class.old.part }
+    ensures gone { result.tried.linked ≡ false → class.new.part ≡ class_at_rest class.old.part }
 {
     let tried = class.try_front(lane);
     if !tried.linked {
