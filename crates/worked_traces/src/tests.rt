@@ -366,12 +366,16 @@ fn most_holds(alloc: Global, limit: u32) -> Result<(Vec<u8>, Vec<u8>), Fail> {
 }
 
 // A limit of references leaves room for one hold less of a linked item.
-fn expect_most_holds(rt: &HostRuntime, limit: u32) -> Result<(), Fail> {
-    let keys = RandomState::new(rt)?;
-    let (trace, text) = most_holds(rt.alloc(), limit)?;
-    let told = text_by(rt.alloc(), keys, &trace);
+fn expect_most_holds(
+    rt: &(impl Abort + Wait),
+    alloc: Global,
+    keys: RandomState,
+    limit: u32,
+) -> Result<(), Fail> {
+    let (trace, text) = most_holds(alloc, limit)?;
+    let told = text_by(alloc, keys, &trace);
     expect_run(rt, "most holds, by the model", &told, Ok(()), &text);
-    let told = serial_text_by(rt, rt.alloc(), keys, &trace);
+    let told = serial_text_by(rt, alloc, keys, &trace);
     expect_run(rt, "most holds, on a store", &told, Ok(()), &text);
     Ok(())
 }
@@ -379,13 +383,15 @@ fn expect_most_holds(rt: &HostRuntime, limit: u32) -> Result<(), Fail> {
 /// As many holds as a count of 16 bits has room for.
 #[test]
 fn holds_of_16_bits(rt: HostRuntime) -> Result<(), Fail> {
-    expect_most_holds(&rt, 65_535)
+    let keys = RandomState::new(&rt)?;
+    expect_most_holds(&rt, rt.alloc(), keys, 65_535)
 }
 
 /// One hold more than a count of 16 bits has room for.
 #[test]
 fn holds_past_16_bits(rt: HostRuntime) -> Result<(), Fail> {
-    expect_most_holds(&rt, 65_536)
+    let keys = RandomState::new(&rt)?;
+    expect_most_holds(&rt, rt.alloc(), keys, 65_536)
 }
 
 /// Each fault of a run says what it is.
