@@ -17,17 +17,25 @@ def run(program, mode, trace, *more):
 
 def moves_faults(text):
     """What is wrong with the `moves` lines of a run on one thread: wherever they stand, those of a worker add up to the bumps of that worker
-    which the text before told to have moved an item to WARM."""
+    which the text before told to have moved an item to WARM. A line for a class and a worker that were told already begins another time."""
     wrong = []
     moved, counted = {}, {}
+
+    def compare():
+        sums = {}
+        for (_, worker), count in counted.items():
+            sums[worker] = sums.get(worker, 0) + count
+        wrong.extend(f"worker {w}: {n} moves, of {moved.get(w, 0)}" for w, n in sums.items() if n != moved.get(w, 0))
+        counted.clear()
+
     for line in [*text.splitlines(), ""]:
-        if match := re.fullmatch(r"moves \d+ (\d+) (\d+)", line):
-            worker, count = (int(n) for n in match.groups())
-            counted[worker] = counted.get(worker, 0) + count
+        if match := re.fullmatch(r"moves (\d+) (\d+) (\d+)", line):
+            of, worker, count = (int(n) for n in match.groups())
+            if (of, worker) in counted:
+                compare()
+            counted[of, worker] = count
             continue
-        if counted:
-            wrong += [f"worker {w}: {n} moves, of {moved.get(w, 0)}" for w, n in counted.items() if n != moved.get(w, 0)]
-            counted = {}
+        compare()
         if match := re.fullmatch(r"bump (\d+) \d+ \d+\.\d+ warm", line):
             worker = int(match.group(1))
             moved[worker] = moved.get(worker, 0) + 1
