@@ -42,7 +42,7 @@ pub fn refusal(word: u64, head: Head, life: ItemId, limit: &Limit) -> Option<Tak
     requires { Spells word head }
     ensures { result ≡ refused_by (get_of limit.now life.generation head) }
 {
-    if head.generation == life.generation && limit.has_room(word) {
+    if limit.has_room(word) && head.generation == life.generation {
         return None;
     }
     if !head.linked || head.generation != life.generation {
