@@ -62,11 +62,10 @@ impl<N: Name> ClassSeat<N> {
         ensures opened { self.new ≡ record self.old { part = class_after_open_life start result self.old.part } }
         ensures label { label_of_life result 0 self.new.part.labels ≡ Some (last_label self.old.part chunk) }
     {
-        let found = head_of(self.heads.words().see_generation(&mut self.seat, chunk));
+        let words = self.heads.words();
+        let found = head_of(words.see_generation(&mut self.seat, chunk));
         let generation = found.generation + 1;
-        self.heads
-            .words()
-            .open_life(&mut self.seat, chunk, start, generation);
+        words.open_life(&mut self.seat, chunk, start, generation);
         ItemId { chunk, generation }
     }
 
