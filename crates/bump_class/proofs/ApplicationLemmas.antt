@@ -172,23 +172,24 @@ same_class Gone w b now f k = by (f.behind.refs == 0)
     by false = (refl, refl, refl)
 
 -- what the type of a Book keeps, it keeps by an application that moves nothing
-pub time_only_keeps : (v w : ClassView) (first end hot warm : ℕ) (counts : List ℕ) (lists : Lists) (worker : ℕ) (b : Bump)
-    (now : ℕ) (f : FoundHeads) → KeepsBook v first end lists hot warm counts
+pub time_only_keeps : (v w : ClassView) (first end hot warm workers : ℕ) (counts : List ℕ) (lists : Lists) (worker : ℕ) (b : Bump)
+    (now : ℕ) (f : FoundHeads) → KeepsBook v first end lists hot warm workers counts
     → w ≡ record v { part = class_after_update TimeOnly worker b now f v.part }
-    → KeepsBook w first end lists hot warm counts
-time_only_keeps v w first end hot warm counts lists worker b now f o is =
-    subst (λ (x : ClassView). KeepsBook x first end lists hot warm counts) (sym is) (by (is_cold f.tried.segment))
+    → KeepsBook w first end lists hot warm workers counts
+time_only_keeps v w first end hot warm workers counts lists worker b now f o is =
+    subst (λ (x : ClassView). KeepsBook x first end lists hot warm workers counts) (sym is) (by (is_cold f.tried.segment))
   where
     by : (x : Bool) → KeepsBook (record v {
       part = if x then with_clearing worker b f.cleared (with_time worker b now v.part) else
           with_time worker b now v.part;
-    }) first end lists hot warm counts
+    }) first end lists hot warm workers counts
     by true = (
       o.0,
       o.1,
       o.2,
       record { lists = o.3.lists; entries = o.3.entries; causes = o.3.causes; idle = o.3.idle },
       o.4,
+      o.5,
     )
     by false = (
       o.0,
@@ -196,4 +197,5 @@ time_only_keeps v w first end hot warm counts lists worker b now f o is =
       o.2,
       record { lists = o.3.lists; entries = o.3.entries; causes = o.3.causes; idle = o.3.idle },
       o.4,
+      o.5,
     )

@@ -20,7 +20,7 @@ use Rattle.bump_steps.specs.declared.views.Ride.{Ride}
 use Rattle.bump_steps.specs.Riders.{lane_after_board, bump_of_ride, applied_by}
 use Rattle.bump_steps.specs.Views.{bump_aboard, owns}
 use Rattle.bump_heads.specs.Applying.{carried_by, TellsMoves, is_own}
-use Rattle.bump_heads.specs.Seats.{aboard_lane, IsOfWorker}
+use Rattle.bump_heads.specs.Seats.{aboard_lane}
 use Rattle.bump_class.specs.Lanes.{KeepsLane, IsRawLane, part_or, lives}
 use Rattle.bump_class.specs.Applications.{FoundHeads, lane_after_update, EachMoveIsTold}
 
@@ -51,9 +51,9 @@ carried_part None b is = absurd (cc is)
 carried_part (Some l) b is = is
 
 -- one more bump than a lane applied has a number
-pub few_aboard : (o : Option LanePart) (n : ℕ) (rs : List Ride) (b : Bump) → KeepsLane o n rs
+pub few_aboard : (o : Option LanePart) (v n : ℕ) (rs : List Ride) (b : Bump) → KeepsLane o v n rs
     → carried_by o ≡ Some b → n < most_attempts
-few_aboard o n rs b keeps is = subst (λ (x : Option Bump). IfSome x (λ d. n < most_attempts)) (carried_part o b is)
+few_aboard o v n rs b keeps is = subst (λ (x : Option Bump). IfSome x (λ d. n < most_attempts)) (carried_part o b is)
     keeps.few
 
 -- nothing is aboard
@@ -77,18 +77,20 @@ next_is l rs order none = omega (
   length-map rs (λ (r : Ride). r.life),
 )
 
-pub next_number : (o : Option LanePart) (n : ℕ) (rs : List Ride) → KeepsLane o n rs → aboard_lane o ≡ None
+pub next_number : (o : Option LanePart) (v n : ℕ) (rs : List Ride) → KeepsLane o v n rs → aboard_lane o ≡ None
     → length (applied_by o) ≡ length rs
-next_number None n rs keeps is = absurd (cc keeps.whole)
-next_number (Some l) n rs keeps is = next_is l rs keeps.lane.in_order (none_aboard l.stage is).1
+next_number None v n rs keeps is = absurd (cc keeps.whole)
+next_number (Some l) v n rs keeps is = next_is l rs keeps.lane.in_order (none_aboard l.stage is).1
 
 -- the next bump goes aboard
-pub boarded_keeps : (o : Option LanePart) (n : ℕ) (rs : List Ride) (r : Ride) → KeepsLane o n rs
+pub boarded_keeps : (o : Option LanePart) (v n : ℕ) (rs : List Ride) (r : Ride) → KeepsLane o v n rs
     → aboard_lane o ≡ None → r.number ≡ length rs → r.number < most_attempts
-    → KeepsLane (option_map (lane_after_board (bump_of_ride r)) o) n (rs ++ r ∷ [])
-boarded_keeps None n rs r keeps is next few = absurd (cc keeps.whole)
-boarded_keeps (Some l) n rs r keeps is next few = record {
+    → KeepsLane (option_map (lane_after_board (bump_of_ride r)) o) v n (rs ++ r ∷ [])
+boarded_keeps None v n rs r keeps is next few = absurd (cc keeps.whole)
+boarded_keeps (Some l) v n rs r keeps is next few = record {
   whole = refl;
+  worker_is = keeps.worker_is;
+  worker_few = keeps.worker_few;
   counted = keeps.counted;
   lane = record {
     in_order = ap (λ (bs : List Bump). bs ++ bump_of_ride r ∷ []) (sym (append-nil (map bump_applied l.applied))
@@ -104,10 +106,10 @@ boarded_keeps (Some l) n rs r keeps is next few = record {
 }
 
 -- the bump aboard was applied
-pub applied_keeps : (o x : Option LanePart) (n : ℕ) (rs : List Ride) (b : Bump) (out : Outcome) (f : FoundHeads)
-    → KeepsLane o n rs → carried_by o ≡ Some b → x ≡ Some (part_or x)
-    → part_or x ≡ lane_after_update out b f (part_or o) → KeepsLane x (n + 1) rs
-applied_keeps o x n rs b out f keeps is whole after =
+pub applied_keeps : (o x : Option LanePart) (v n : ℕ) (rs : List Ride) (b : Bump) (out : Outcome) (f : FoundHeads)
+    → KeepsLane o v n rs → carried_by o ≡ Some b → x ≡ Some (part_or x)
+    → part_or x ≡ lane_after_update out b f (part_or o) → KeepsLane x v (n + 1) rs
+applied_keeps o x v n rs b out f keeps is whole after =
     let l = part_or o in
     let all = subst (λ (p : LanePart). (n + 1 ≡ length p.applied) × IsRawLane p rs
     × IfSome (carried p.stage) (λ d. n + 1 < most_attempts)) (sym after) (
@@ -121,7 +123,14 @@ applied_keeps o x n rs b out f keeps is whole after =
         at_rest = refl;
       },
       tt,
-    ) in record { whole = whole; counted = all.0; lane = all.1; few = all.2 }
+    ) in record {
+      whole = whole;
+      worker_is = ap (λ (p : LanePart). p.worker) after ∙ keeps.worker_is;
+      worker_few = keeps.worker_few;
+      counted = all.0;
+      lane = all.1;
+      few = all.2;
+    }
 
 -- lives that test as one are one
 same_lives : (l m : ItemId) → is_same l m ≡ true → m ≡ l
@@ -143,9 +152,3 @@ each_told k l rs is tells item n some = by (told_shows item (is_own k (is_same i
         (applied_bump (bump_of n item) outcome.Moved)
     by (inl told) = told
     by (inr moving) = absurd (let e : true ≡ false = sym (ap is_half_made moving) ∙ is.at_rest in cc e)
-
--- the number of a lane's worker
-pub worker_of : (o : Option LanePart) (n : ℕ) (rs : List Ride) (w : ℕ) → KeepsLane o n rs → IsOfWorker w o
-    → (part_or o).worker ≡ w
-worker_of None n rs w keeps is = absurd (cc keeps.whole)
-worker_of (Some l) n rs w keeps is = is

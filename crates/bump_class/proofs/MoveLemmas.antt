@@ -1,14 +1,13 @@
 -- Moves for bumps: those of a worker in a class's history, and the entries of its lane.
-use Rattle.std.proofs.Common.{◌≡◌, ℕ, ◌+◌, ◌<◌, ◌≤◌, ◌&&◌, ◌==◌, Bool, true, false, List, [], ◌∷◌, ◌++◌, length, slice_index, Option, None, Some, IfSome, refl, sym, ap, ◌∙◌, subst, arith, eq-eqb}
+use Rattle.std.proofs.Common.{◌≡◌, ℕ, ◌+◌, ◌<◌, ◌≤◌, ◌==◌, true, false, List, [], ◌∷◌, ◌++◌, length, slice_index, refl, ap, ◌∙◌, subst, arith, eq-eqb}
 use Rattle.std.proofs.Math.Bool.{and-true}
 use Rattle.std.proofs.lemmas.List.{length-append}
 use Rattle.bump_rules.specs.declared.bumps.Bump.{Bump}
 use Rattle.bump_rules.specs.declared.history.Cause.TheVariants as cause
 use Rattle.bump_rules.specs.declared.history.Change.{Change}
 use Rattle.bump_rules.specs.declared.history.Change.TheVariants as change
-use Rattle.bump_rules.specs.declared.items.ItemId.{ItemId}
 use Rattle.bump_rules.specs.declared.places.Segment.TheVariants.{Warm, Cold}
-use Rattle.bump_rules.specs.Entries.{is_stray, is_told_moved, moving, moves_told, moves_of, told_of}
+use Rattle.bump_rules.specs.Entries.{is_stray, moves_of}
 use Rattle.bump_rules.specs.declared.bumps.Outcome.TheVariants as outcome
 use Rattle.bump_rules.specs.Lanes.{is_half_made, applied_bump}
 use Rattle.bump_rules.proofs.Counted.{how_many_push}
@@ -21,6 +20,7 @@ use Rattle.bump_steps.specs.declared.views.LanePart.{LanePart}
 use Rattle.bump_steps.specs.Views.{owns}
 use Rattle.bump_heads.specs.Applying.{TellsMoves, is_own}
 use Rattle.bump_class.specs.Applications.{FoundHeads, moved_in, class_after_update, lane_after_update}
+use Rattle.bump_heads.specs.Seats.{most_workers}
 use Rattle.bump_class.specs.Books.{CountsEachWorker}
 
 -- the moves for bumps of the lane's worker are the lane's entries Moved of items of the class
@@ -45,13 +45,12 @@ few_moves k l fair rests told = omega (
 
 -- one more move is counted
 pub counts_bump : (counts more : List ℕ) (history : List Change) (worker : ℕ) (b : Bump) → CountsEachWorker counts history
-    → length more ≡ length counts
-    → ((w : ℕ) → w < length counts → slice_index more w ≡ slice_index counts w + bit (worker == w))
+    → ((w : ℕ) → w < most_workers → slice_index more w ≡ slice_index counts w + bit (worker == w))
     → CountsEachWorker more (history ++ change.Moved b.life Cold Warm (cause.Bump worker b.number) ∷ [])
-counts_bump counts more history worker b counted long one w near = omega (
+counts_bump counts more history worker b counted one w near = omega (
   arith,
-  one w (omega (arith, near, long)),
-  counted w (omega (arith, near, long)),
+  one w near,
+  counted w near,
   moves_of_bump w worker b.number history b.life Cold Warm,
 )
 

@@ -8,7 +8,7 @@ use Rattle.bump_rules.specs.Rings.{aboard, bump_applied, numbered_from, most_att
 use Rattle.bump_steps.specs.declared.views.LanePart.{LanePart}
 use Rattle.bump_steps.specs.declared.views.Ride.{Ride}
 use Rattle.bump_steps.specs.Riders.{lane_after_board, bump_of_ride}
-use Rattle.bump_heads.specs.Seats.{no_lane}
+use Rattle.bump_heads.specs.Seats.{no_lane, most_workers}
 use Rattle.bump_ring.specs.Ends.{Ring}
 
 -- What contracts see of a lane.
@@ -46,10 +46,13 @@ abbrev pub part_or : Option LanePart → LanePart
 part_or None = no_lane
 part_or (Some this_lane) = this_lane
 
--- What the type of a lane keeps, by what its seat knows, its count and what it received.
-pub record KeepsLane (seat : Option LanePart) (count : ℕ) (received : List Ride) : Type 0 where
+-- What the type of a lane keeps, by what its seat knows, its worker's number, its count and what it received.
+pub record KeepsLane (seat : Option LanePart) (worker count : ℕ) (received : List Ride) : Type 0 where
   -- its seat is whole
   pub whole : seat ≡ Some (part_or seat)
+  -- it is this worker's
+  pub worker_is : (part_or seat).worker ≡ worker
+  pub worker_few : worker < most_workers
   -- its count is that of the bumps that it applied
   pub counted : count ≡ length (part_or seat).applied
   pub lane : IsRawLane (part_or seat) received

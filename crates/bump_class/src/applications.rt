@@ -3,6 +3,7 @@ ghost use Rattle.std.specs.Prelude.{◌≡◌, ◌==◌, ◌<◌, ℕ, ◌+◌, 
 ghost use Rattle.bump_rules.specs.Lawful.{bit};
 ghost use Rattle.bump_rules.specs.Rings.{most_attempts};
 ghost use Rattle.bump_steps.specs.Views.{owns};
+ghost use Rattle.bump_heads.specs.Seats.{most_workers};
 ghost use Rattle.bump_heads.specs.Applying.{carried_by, NamesNoBumpTwice};
 ghost use Rattle.bump_class.specs.Applications.{FoundHeads as TheFoundHeads, Updates, AppliesFront, EachMoveIsTold};
 ghost use Rattle.bump_class.specs.Lanes.{carries, entries, part_or};
@@ -44,16 +45,13 @@ fn update<N: Name>(
     class.alight(lane).0
 }
 
-// One more move for a bump of the worker, if its moves are counted.
-fn count_move(moved: &mut Vec<u64>, worker: u32)
-    requires few { worker < length moved.old.items → slice_index moved.old.items worker < most_attempts }
-    ensures long { length moved.new.items ≡ length moved.old.items }
-    ensures counted { (w : ℕ) → w < length moved.old.items → slice_index moved.new.items w ≡ slice_index moved.old.items w + bit (worker == w) }
+// One more move for a bump of the worker.
+fn count_move(moved: &mut [u64; 64], worker: u32)
+    requires worker { worker < most_workers }
+    requires few { slice_index moved.old worker < most_attempts }
+    ensures counted { (w : ℕ) → w < most_workers → slice_index moved.new w ≡ slice_index moved.old w + bit (worker == w) }
 {
-    let place = worker as usize;
-    if place < moved.len() {
-        moved[place] += 1;
-    }
+    moved[worker as usize] += 1;
 }
 
 impl<N: Name> Book<N> {
@@ -84,13 +82,12 @@ impl<N: Name> Book<N> {
             unreachable!()
         };
         let chunk = bump.life.chunk;
-        let worker = lane.seat.worker();
         let outcome = update(&mut self.seat, &mut lane.seat, bump, now);
         lane.applied += 1;
         match outcome {
             Outcome::Moved => {
+                count_move(&mut self.moved, lane.worker);
                 self.lists.to_front(chunk, Place::Warm);
-                count_move(&mut self.moved, worker);
                 Applied::Moved
             }
             Outcome::TimeOnly => Applied::TimeOnly,

@@ -17,6 +17,7 @@ use std::marker::Model;
 pub struct RawLane<N: Name> {
     receiver: Receiver<N>,
     pub(crate) seat: LaneSeat<N>,
+    pub(crate) worker: u32,
     pub(crate) applied: u64,
 }
 
@@ -25,7 +26,7 @@ impl<N: Name> Model for RawLane<N> {
 
     ghost view = { λ l. record { ring = l.receiver.ring; received = l.receiver.received; known = l.receiver.known; part = part_or l.seat } };
 
-    ghost invariant = { λ l. KeepsLane l.seat l.applied l.receiver.received };
+    ghost invariant = { λ l. KeepsLane l.seat l.worker l.applied l.receiver.received };
 }
 
 impl<N: Name> RawLane<N> {
@@ -38,9 +39,11 @@ impl<N: Name> RawLane<N> {
         requires fresh { applied_by seat ≡ [] }
         ensures { result ≡ new_lane receiver.ring receiver.known (part_or seat) }
     {
+        let worker = seat.worker();
         RawLane {
             receiver,
             seat,
+            worker,
             applied: 0,
         }
     }
@@ -64,7 +67,7 @@ impl<N: Name> RawLane<N> {
     pub fn worker(&self) -> u32
         ensures { result ≡ self.now.part.worker }
     {
-        self.seat.worker()
+        self.worker
     }
 
     /// Takes the next bump out of the ring and aboard, where none is aboard, and tells the one aboard. It answers

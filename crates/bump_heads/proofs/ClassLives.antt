@@ -1,5 +1,5 @@
 -- What a class's part keeps, it keeps by each step that begins or ends a life.
-use Rattle.std.proofs.Common.{◌≡◌, ◌≢◌, ℕ, ◌+◌, ◌<◌, ◌==◌, ◌&&◌, eqb, cond, Bool, true, false, [], ◌∷◌, ◌++◌, Some, None, if◌then◌else◌, refl, sym, ap, ap₂, ◌∙◌, subst, arith, eq-eqb, ne_eqb}
+use Rattle.std.proofs.Common.{◌≡◌, ℕ, ◌+◌, ◌==◌, eqb, Bool, true, false, [], ◌∷◌, ◌++◌, Some, if◌then◌else◌, refl, sym, ap, subst, arith, eq-eqb}
 use Rattle.std.proofs.lemmas.Bool.{and_from}
 use Rattle.bump_rules.specs.declared.items.ItemId.{ItemId}
 use Rattle.bump_rules.specs.declared.places.Place.TheVariants.{Unused}

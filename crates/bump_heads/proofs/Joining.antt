@@ -36,7 +36,7 @@ use Rattle.bump_steps.specs.Applications.{application_of, is_past_move, lane_aft
 use Rattle.bump_heads.specs.declared.joined.Joined.{Joined}
 use Rattle.bump_heads.specs.declared.views.ClassView.{ClassView}
 use Rattle.bump_readers.specs.Seats.{listed}
-use Rattle.bump_heads.specs.Seats.{aboard_lane, IsOfWorker}
+use Rattle.bump_heads.specs.Seats.{aboard_lane}
 use Rattle.bump_heads.specs.Applying.{carried_by, life_of, life_aboard, IsOf, MayClearActive, MayChangeSegment, IsShown, TryFound, EndsAs, Joins, IsJoined, outcome_by, joined_after_try, joined_after_move, FoundOfBump}
 
 -- ---- words
@@ -101,7 +101,6 @@ noted_joined k x None j is = is
 noted_joined k x (Some l) j is = record {
   bump = is.bump;
   aboard = is.aboard;
-  worker = is.worker;
   chunk = is.chunk;
   named = is.named;
   own = is.own;
@@ -125,11 +124,10 @@ module _ (h : Head) (k : ClassPart) (l : LanePart) (b : Bump) (fits : Fits h) (s
   after_look = lane_after_try b.life.chunk (word_of h) (record l { stage = lane.Carrying b })
 
   -- a lane's look at the head of its bump's item
-  pub tries : Joins k after_look (joined_after_try l.worker b.life.chunk h)
+  pub tries : Joins k after_look (joined_after_try b.life.chunk h)
   tries = record {
     bump = b;
     aboard = refl;
-    worker = refl;
     chunk = refl;
     named = idle;
     own = own;
@@ -168,24 +166,22 @@ module _ (h : Head) (k : ClassPart) (l : LanePart) (b : Bump) (fits : Fits h) (s
       by true false on is d o may = shown_as k after_look b d outcome.TimeOnly o may (time_only on is)
 
 -- a lane that carries a bump joins, and looks
-pub tried_joined : (h : Head) (k : ClassPart) (o : Option LanePart) (w : ℕ) (b : Bump) → IsSome (carried_by o)
-    → aboard_lane o ≡ Some b → IsOfWorker w o → k.applying ≡ None → Fits h → FoundOfBump k (life_aboard o) h
+pub tried_joined : (h : Head) (k : ClassPart) (o : Option LanePart) (b : Bump) → IsSome (carried_by o)
+    → aboard_lane o ≡ Some b → k.applying ≡ None → Fits h → FoundOfBump k (life_aboard o) h
     → owns (life_aboard o).chunk k ≡ true
     → IsJoined k (option_map (lane_after_try (life_aboard o).chunk (word_of h)) o)
-    (joined_after_try w b.life.chunk h)
-tried_joined h k None w b some is whose idle fits seen own = absurd (cc some)
-tried_joined h k (Some l) w b some is whose idle fits seen own =
-    subst (λ (x : ℕ). Joins k (lane_after_try (life_aboard (Some l)).chunk (word_of h) l)
-    (joined_after_try x b.life.chunk h)) whose (by l.stage some is seen own)
+    (joined_after_try b.life.chunk h)
+tried_joined h k None b some is idle fits seen own = absurd (cc some)
+tried_joined h k (Some l) b some is idle fits seen own = by l.stage some is seen own
   where
     by : (s : Lane) → IsSome (carried s) → bump_aboard s ≡ Some b → FoundOfBump k (life_of (bump_aboard s)) h
         → owns (life_of (bump_aboard s)).chunk k ≡ true
         → Joins k (lane_after_try (life_of (bump_aboard s)).chunk (word_of h) (record l { stage = s }))
-        (joined_after_try l.worker b.life.chunk h)
+        (joined_after_try b.life.chunk h)
     by lane.Empty some is seen own = absurd (cc some)
     by (lane.Carrying d) some is seen own = let e : d ≡ b = cc is in
         subst (λ (x : Bump). Joins k (lane_after_try d.life.chunk (word_of h) (record l { stage = lane.Carrying d }))
-        (joined_after_try l.worker x.life.chunk h)) e (tries h k l d fits seen own idle)
+        (joined_after_try x.life.chunk h)) e (tries h k l d fits seen own idle)
     by (lane.Tried d) some is seen own = absurd (cc some)
     by (lane.Cleared d f) some is seen own = absurd (cc some)
     by (lane.Moved d) some is seen own = absurd (cc some)
@@ -211,7 +207,6 @@ clears : (c : ℕ) (h : Head) (k : ClassPart) (l : LanePart) (j : Joined) (b : B
 clears c h k l j b fits of cold is = record {
   bump = is.bump;
   aboard = is.aboard;
-  worker = is.worker;
   chunk = is.chunk;
   named = is.named;
   own = is.own;
@@ -255,7 +250,6 @@ moves : (c n : ℕ) (k : ClassPart) (l : LanePart) (j : Joined) (b : Bump) → b
 moves c n k l j b of cold is = record {
   bump = is.bump;
   aboard = is.aboard;
-  worker = is.worker;
   chunk = is.chunk;
   named = refl;
   own = is.own;
@@ -406,10 +400,6 @@ module _ (v : ClassView) (l : LanePart) (b : Bump) (h : Head) (o : Outcome) (end
 
     chunk_is : b.life.chunk ≡ j.chunk
     chunk_is = ap (λ (x : Bump). x.life.chunk) bump_is ∙ sym joins.chunk
-
-    -- and whose lane it is
-    pub worker_is : j.worker ≡ l.worker
-    worker_is = joins.worker
 
     -- which it tells
     pub ends_told : EndsAs v l b h j.outcome

@@ -27,7 +27,7 @@ use Rattle.bump_heads.specs.Making.{class_seen, lane_seen, AreNewClasses, AreNew
 
 -- what a class's seat keeps before a lane is joined
 abbrev pub no_bump : Joined
-no_bump = record { worker = 0; chunk = 0; outcome = outcome.Gone }
+no_bump = record { chunk = 0; outcome = outcome.Gone }
 
 abbrev pub Turn : TableId → Me Empty View → View → ℕ → ℕ → List ClassView → List ClassView → Me Empty View
     → Me Empty View → Type 0

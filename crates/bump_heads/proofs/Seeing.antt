@@ -9,6 +9,7 @@ use Rattle.bump_rules.specs.declared.items.ItemId.{ItemId}
 use Rattle.bump_rules.specs.declared.places.Segment.{Segment}
 use Rattle.bump_rules.specs.declared.places.Segment.TheVariants.{Warm, Cold}
 use Rattle.bump_rules.specs.declared.bumps.Bump.{Bump}
+use Rattle.bump_rules.specs.declared.bumps.AppliedBump.{AppliedBump}
 use Rattle.bump_rules.specs.declared.bumps.Outcome.{Outcome}
 use Rattle.bump_rules.specs.declared.bumps.Outcome.TheVariants as outcome
 use Rattle.bump_rules.specs.declared.lanes.Lane.{Lane}
@@ -36,10 +37,10 @@ use Rattle.bump_steps.specs.declared.views.View.{View}
 use Rattle.bump_steps.specs.Views.{bump_aboard, active_clear, refers, owns, standing, shows_time_only, of_owner, evidence}
 use Rattle.bump_steps.specs.Plays.{Sat, Told, TellsOfMoves, Found, on_first, step_of}
 use Rattle.bump_steps.specs.Cuts.{joined, lanes_only, without_lanes}
-use Rattle.bump_steps.specs.Applications.{applying, bump_for, lane_after_try, view_after_try, lane_after_clear_active, view_after_clear_active, view_after_put_time, noted_class, stage_after_move, lane_after_move, change_of_move_for, application_of, class_at_rest, class_after_move, view_after_move, life_in, lane_after_alight, view_after_alight, MayTry, MayMove, MayAlight}
+use Rattle.bump_steps.specs.Applications.{applying, bump_for, lane_after_try, view_after_try, lane_after_clear_active, view_after_clear_active, view_after_put_time, noted_class, stage_after_move, lane_after_move, change_of_move_for, application_of, class_at_rest, class_after_move, view_after_move, life_in, lane_after_alight, entries_of_alight, view_after_alight, MayTry, MayMove, MayAlight}
 use Rattle.bump_heads.specs.Applying.{life_aboard, life_of, IsOf, MayClearActive, MayChangeSegment, IsShown, IsJoined, carried_by, joined_after_try, joined_after_move, seat_after_move, seat_after_clear_active, seat_after_put_time, FoundOfBump, NamesNoBumpTwice, is_own, TellsMoves}
 use Rattle.bump_readers.specs.Seats.{head_or, listed}
-use Rattle.bump_steps.specs.Riders.{lane_me}
+use Rattle.bump_steps.specs.Riders.{lane_me, applied_by}
 use Rattle.bump_heads.specs.Seats.{class_me, class_in, lane_in, IsLane, IsOfWorker, IsInRange, IsClassPart, aboard_lane, no_class, no_lane}
 use Rattle.bump_steps.proofs.Applications.{try_going, try_refers, clear_active_refers, alight_refers}
 use Rattle.bump_heads.proofs.ClassParts.{entered_part, noted_part, named_part}
@@ -47,6 +48,11 @@ use Rattle.bump_heads.proofs.ClassSeats.{class_in_me, found_is}
 use Rattle.bump_heads.proofs.Joining.{active_found, noted_joined, joined_cleared, joined_moved, tried_joined, Ending}
 use Rattle.bump_steps.proofs.Told.{stands_alone}
 use Rattle.bump_steps.proofs.StepLemmas.{one_life}
+
+-- a list with an entry more isn't empty
+one_more : (xs : List AppliedBump) (x : AppliedBump) → xs ++ x ∷ [] ≡ [] → ⊥
+one_more [] x none = cc none
+one_more (y ∷ ys) x none = cc none
 
 -- ---- a class's seat as it is seen
 
@@ -437,22 +443,20 @@ module _ (m : Sat) (v w : ClassView) (o : Option (Seat Empty View)) (s : Seat Em
 
     -- it keeps what a class's seat keeps
     pub tried_whole : (number : ℕ) → number ≡ v.part.class → IsClassPart table.words v.part
-        → (kept : Joined) → IsJoined v.part v.lane kept → (worker : ℕ) → IsOfWorker worker (lane_in o)
-        → IsInRange table (aboard_lane (lane_in o)) → IsSome (carried_by lane) → owns (life_aboard lane).chunk w.part
+        → (kept : Joined) → IsJoined v.part v.lane kept → IsInRange table (aboard_lane (lane_in o)) → IsSome (carried_by lane) → owns (life_aboard lane).chunk w.part
         ≡ true → FoundOfBump w.part (life_aboard lane) h
         → (p ≡ class_me (class_in p.0)) × IsInRange table (aboard_lane (class_in p.0).lane)
         × (number ≡ (class_in p.0).part.class) × IsClassPart table.words (class_in p.0).part
-        × IsJoined (class_in p.0).part (class_in p.0).lane (joined_after_try worker b.life.chunk h)
-    tried_whole number class part kept rests worker whose near carries own seen =
+        × IsJoined (class_in p.0).part (class_in p.0).lane (joined_after_try b.life.chunk h)
+    tried_whole number class part kept rests near carries own seen =
         seen_whole table.words table number p
         (record w { lane = option_map (lane_after_try (life_aboard lane).chunk (word_of h)) lane })
-        (joined_after_try worker b.life.chunk h) tried_me
+        (joined_after_try b.life.chunk h) tried_me
         (near_as table (lane_after_try (life_aboard lane).chunk (word_of h)) (λ l. try_refers l.stage) lane
         (subst (λ (x : Option LanePart). IsInRange table (aboard_lane x)) lane_is near))
         (class ∙ ap (λ (x : ClassView). x.part.class) same)
         (subst (λ (x : ClassView). IsClassPart table.words x.part) same part)
-        (tried_joined h w.part lane worker b carries (sym (ap aboard_lane lane_is) ∙ aboard)
-        (subst (IsOfWorker worker) lane_is whose)
+        (tried_joined h w.part lane b carries (sym (ap aboard_lane lane_is) ∙ aboard)
         (idle_alone w.part w.lane kept alone
         (subst (λ (x : ClassView). IsJoined x.part x.lane kept) same rests)) spells.1 seen own)
 
@@ -589,11 +593,13 @@ module _ (m : Sat) (v w : ClassView) (is : m ≡ class_me v) (same : v ≡ w) (c
           (rest ∙ ap (λ (x : Sat). (without_lanes x.0, x.1))
           (told ∙ ap (λ (x : Sat). (view_after_alight out c n x.0, x.1)) view_is))
 
-      -- the lane is its worker's
-      pub alighted_worker : (head_or no_lane p.0.lanes).worker ≡ l.worker
-      alighted_worker = ap (λ (x : Sat). (head_or no_lane x.0.lanes).worker)
-          (parts ∙ ap (λ (x : Sat). (lanes_only x.0, []))
-          (told ∙ ap (λ (x : Sat). (view_after_alight out c n x.0, x.1)) view_is))
+      -- the lane that is back applied a bump, so of its worker nothing is asked
+      pub alighted_worker : (worker : ℕ) → IsOfWorker worker (Some (head_or no_lane p.0.lanes))
+      alighted_worker worker none = absurd (one_more l.applied (applied_bump b out) (sym applied_now_by ∙ none))
+        where
+          applied_now_by : (head_or no_lane p.0.lanes).applied ≡ l.applied ++ applied_bump b out ∷ []
+          applied_now_by = ap applied_by back_is
+              ∙ ap (λ (o : Option Bump). l.applied ++ entries_of_alight out o) (aboard_now l.stage b ends.aboard)
 
       pub alighted_lane : (table id : TableId) → id ≡ table → (s : Seat Empty View) → s.me ≡ p → s.table_id ≡ id
           → IsLane table (Some s)

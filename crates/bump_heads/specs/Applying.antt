@@ -114,10 +114,9 @@ outcome_by found (lane.Cleared bump active) = outcome.TimeOnly
 outcome_by found (lane.Moved bump) = outcome.Moved
 outcome_by found stage = outcome_after_try found
 
--- what the class's seat keeps once a worker's lane looked at the head of its bump's item, in this chunk, and once that
--- was moved
-abbrev pub joined_after_try : ℕ → ℕ → Head → Joined
-joined_after_try worker chunk found = record { worker = worker; chunk = chunk; outcome = outcome_after_try found }
+-- what the class's seat keeps once a lane looked at the head of its bump's item, in this chunk, and once that was moved
+abbrev pub joined_after_try : ℕ → Head → Joined
+joined_after_try chunk found = record { chunk = chunk; outcome = outcome_after_try found }
 
 abbrev pub joined_after_move : Joined → Joined
 joined_after_move joined = record joined { outcome = outcome.Moved }
@@ -127,7 +126,6 @@ pub record Joins (class : ClassPart) (this_lane : LanePart) (joined : Joined) : 
   -- it knows the chunk of the bump aboard, which is the class's
   pub bump : Bump
   pub aboard : applied_now this_lane.stage ≡ Some bump
-  pub worker : joined.worker ≡ this_lane.worker
   pub chunk : joined.chunk ≡ bump.life.chunk
   -- and its part names the application from the move on
   pub named : class.applying ≡ application_of this_lane.worker this_lane.stage

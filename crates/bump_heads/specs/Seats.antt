@@ -42,10 +42,14 @@ IsLane table None = Unit {0}
 IsLane table (Some seat) = (seat.me ≡ lane_me (head_or no_lane seat.me.0.lanes)) × (seat.table_id ≡ table)
     × (is_half_made (head_or no_lane seat.me.0.lanes).stage ≡ false)
 
--- the lane is this worker's, while it is whole
+-- a store has at most so many workers
+abbrev pub most_workers : ℕ
+most_workers = 64
+
+-- the lane is this worker's, while it is whole and applied nothing yet
 abbrev pub IsOfWorker : ℕ → Option LanePart → Type 0
 IsOfWorker worker None = Unit {0}
-IsOfWorker worker (Some this_lane) = this_lane.worker ≡ worker
+IsOfWorker worker (Some this_lane) = this_lane.applied ≡ [] → this_lane.worker ≡ worker
 
 abbrev pub aboard_lane : Option LanePart → Option Bump
 aboard_lane None = None

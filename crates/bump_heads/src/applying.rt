@@ -24,7 +24,7 @@ use bump_steps::head_of;
 // is Gone where the item isn't linked. So for a linked one nothing is stored here.
 fn note_found(joined: &mut Joined, found: Head)
     requires ready { joined.old.outcome ≡ TimeOnly }
-    ensures { joined.new ≡ joined_after_try joined.old.worker joined.old.chunk found }
+    ensures { joined.new ≡ joined_after_try joined.old.chunk found }
 {
     if !found.linked {
         joined.outcome = Outcome::Gone;
@@ -57,7 +57,6 @@ impl<N: Name> ClassSeat<N> {
             unreachable!()
         };
         lane.aboard = None;
-        self.joined.worker = lane.worker;
         self.joined.chunk = bump.life.chunk;
         self.joined.outcome = Outcome::TimeOnly;
         let words = self.heads.words();
@@ -147,13 +146,11 @@ impl<N: Name> ClassSeat<N> {
         ensures once { NamesNoBumpTwice self.new.part }
         ensures moves { IfSome lane.new (TellsMoves self.new.part) }
     {
-        let (worker, chunk) = (self.joined.worker, self.joined.chunk);
-        let outcome = self.joined.outcome;
+        let (chunk, outcome) = (self.joined.chunk, self.joined.outcome);
         let words = self.heads.words();
         let word = words.alight(&mut self.seat, chunk, outcome);
         let part = words.part_lanes(&mut self.seat);
         lane.seat = Some(part);
-        lane.worker = worker;
         (outcome, head_of(word))
     }
 }

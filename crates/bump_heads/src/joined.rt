@@ -5,9 +5,6 @@ use bump_rules::Outcome;
 /// says nothing.
 #[derive(Clone, Copy)]
 pub struct Joined {
-    /// The lane's worker.
-    pub worker: u32,
-
     /// The bump's chunk.
     pub chunk: u32,
 

@@ -1,10 +1,11 @@
 //! A table whose chunks had no life yet, and the seats of its classes, workers and lanes.
-ghost use Rattle.std.specs.Prelude.{◌≡◌, ◌<◌, ◌-◌, [], IfOk, None, Some, length, map};
+ghost use Rattle.std.specs.Prelude.{◌≡◌, ◌≤◌, ◌<◌, ◌-◌, [], IfOk, None, Some, length, map};
 ghost use Rattle.std.specs.Arc.{arc_value};
 ghost use Rattle.bump_steps.specs.Rule.{opened, class_parts, worker_parts, lane_parts, blank};
 ghost use Rattle.bump_steps.specs.Words.{words_id, config_of};
 ghost use Rattle.bump_readers.specs.Workers.{worker_seen};
 ghost use Rattle.bump_heads.specs.Making.{BlankView as TheBlankView, class_seen, lane_seen, AreNewClasses, AreNewLanes};
+ghost use Rattle.bump_heads.specs.Seats.{most_workers};
 
 use crate::heads::Heads;
 use crate::joined::Joined;
@@ -68,7 +69,6 @@ fn part_classes<N: Name>(
             seat: part,
             class,
             joined: Joined {
-                worker: 0,
                 chunk: 0,
                 outcome: Outcome::Gone,
             },
@@ -87,6 +87,7 @@ fn part_lanes<N: Name>(
 ) -> Result<Vec<LaneSeat<N>>, AllocError>
     requires seat { (seat.old.table_id ≡ N.table) × (seat.old.me.1 ≡ []) }
     requires parts { (length seat.old.me.0.lanes ≡ count) × AreNewLanes 0 seat.old.me.0.lanes }
+    requires few { count ≤ most_workers }
     ensures rest { IfOk result (λ v. (seat.new.table_id ≡ N.table) × (seat.new.me ≡ (record seat.old.me.0 { lanes = [] }, []))) }
     ensures seats { IfOk result (λ v. v.items ≡ map lane_seen seat.old.me.0.lanes) }
 {

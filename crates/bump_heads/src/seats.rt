@@ -1,10 +1,10 @@
 //! The seats of classes and lanes of a named store. Contracts see plain data.
-ghost use Rattle.std.specs.Prelude.{◌≡◌, Option as TheOption, is_some, false};
+ghost use Rattle.std.specs.Prelude.{◌≡◌, ◌<◌, Option as TheOption, is_some, false};
 ghost use Rattle.bump_heads.specs.declared.views.ClassView.{ClassView as TheClassView};
 ghost use Rattle.bump_steps.specs.declared.views.LanePart.{LanePart as TheLanePart};
 ghost use Rattle.bump_rules.specs.Lanes.{is_half_made};
 ghost use Rattle.bump_heads.specs.Applying.{carried_by, stage_of, IsJoined};
-ghost use Rattle.bump_heads.specs.Seats.{IsLane, IsOfWorker, lane_in, class_in, class_me, aboard_lane, IsInRange, IsClassPart};
+ghost use Rattle.bump_heads.specs.Seats.{IsLane, IsOfWorker, lane_in, class_in, class_me, aboard_lane, most_workers, IsInRange, IsClassPart};
 
 use crate::heads::Heads;
 use crate::joined::Joined;
@@ -59,7 +59,7 @@ impl<N: Name> Model for LaneSeat<N> {
 
     ghost view = { λ l. lane_in l.seat };
 
-    ghost invariant = { λ l. IsLane N.table l.seat × (l.aboard ≡ aboard_lane (lane_in l.seat)) × IsInRange N.table l.aboard × IsOfWorker l.worker (lane_in l.seat) };
+    ghost invariant = { λ l. IsLane N.table l.seat × (l.aboard ≡ aboard_lane (lane_in l.seat)) × IsInRange N.table l.aboard × IsOfWorker l.worker (lane_in l.seat) × (l.worker < most_workers) };
 }
 
 impl<N: Name> LaneSeat<N> {
@@ -71,9 +71,11 @@ impl<N: Name> LaneSeat<N> {
         self.seat.is_some()
     }
 
-    /// The number of its worker, while it is whole.
+    /// The number of its worker, from 0 to 63, while it is whole and applied nothing yet: whoever takes the seat asks
+    /// for it once, before the first bump.
     pub fn worker(&self) -> u32
         ensures worker { IsOfWorker result self.now }
+        ensures few { result < most_workers }
     {
         self.worker
     }

@@ -4,6 +4,7 @@ ghost use Rattle.bump_rules.specs.Configs.{chunks_of, HaveChunks};
 ghost use Rattle.bump_steps.specs.Rule.{class_parts, worker_parts, lane_parts};
 ghost use Rattle.bump_readers.specs.Workers.{worker_seen};
 ghost use Rattle.bump_heads.specs.Making.{class_seen, lane_seen};
+ghost use Rattle.bump_heads.specs.Seats.{most_workers};
 ghost use Rattle.bump_store.specs.Lanes.{worker_rings, lane_rings, worker_parts_of, lane_parts_of};
 ghost use Rattle.bump_store.specs.Stores.{starts_from};
 
@@ -78,6 +79,7 @@ fn make_books<N: Name>(
     requires seats { seats.items ≡ map class_seen (class_parts (first_generation - 1) 0 0 classes.now) }
     requires chunks { HaveChunks classes.now }
     requires few { chunks_of classes.now ≤ 1000000 }
+    requires workers { workers ≤ most_workers }
     ensures books { IfOk result (λ r. vec_len r.0 ≡ length classes.now) }
     ensures starts { IfOk result (λ r. r.1.items ≡ starts_from 0 classes.now) }
 {

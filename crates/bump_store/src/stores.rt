@@ -96,7 +96,7 @@ impl<N: Name> Store<N> {
         book.class() == class
             && range.start == self.starts[place]
             && range.end == self.starts[place + 1]
-            && book.workers() == self.workers as usize
+            && book.workers() == self.workers
     }
 
     // The place of the lock that is tried behind this one.

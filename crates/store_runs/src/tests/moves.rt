@@ -114,7 +114,7 @@ fn expect_moves<N: Name, R: Abort + Wait>(
     let mut book = lock(rt, store, 0);
     lane.meet(&mut book);
     let worker = lane.worker();
-    assert!(rt; (worker as usize) < book.workers());
+    assert!(rt; worker < book.workers());
     expect(rt, "the moves", &book.moves(worker), &wanted);
 }
 

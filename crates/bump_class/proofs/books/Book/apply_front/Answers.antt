@@ -1,4 +1,4 @@
-use Rattle.std.proofs.Common.{◌≡◌, ◌==◌, ◌<◌, ◌+◌, ℕ, refl, sym, ap, ◌∙◌, subst, arith, length, slice_index}
+use Rattle.std.proofs.Common.{◌≡◌, ◌==◌, ◌<◌, ◌+◌, ℕ, refl, sym, ap, ◌∙◌, subst, arith, slice_index}
 use Rattle.bump_rules.specs.declared.bumps.Applied.TheVariants as applied
 use Rattle.bump_rules.specs.declared.bumps.Outcome.TheVariants.{Moved, TimeOnly, Gone}
 use Rattle.bump_rules.specs.declared.history.Cause.TheVariants as cause
@@ -7,6 +7,7 @@ use Rattle.bump_rules.specs.declared.places.Segment.TheVariants.{Warm, Cold}
 use Rattle.bump_heads.specs.declared.views.ClassView.{ClassView}
 use Rattle.bump_heads.specs.Applying.{IsShown, NamesNoBumpTwice, TellsMoves}
 use Rattle.bump_heads.specs.Linking.{place_of_chunk}
+use Rattle.bump_heads.specs.Seats.{most_workers}
 use Rattle.bump_class.specs.Books.{BookView}
 use Rattle.bump_class.specs.Changes.{book_after_sweep_or_load}
 use Rattle.bump_class.specs.Lanes.{part_or}
@@ -14,7 +15,7 @@ use Rattle.bump_rules.specs.Entries.{moves_of}
 use Rattle.bump_rules.specs.Lawful.{bit}
 use Rattle.bump_class.proofs.Keeping.{listed, entered_with}
 use Rattle.bump_class.proofs.MoveLemmas.{counts_bump, few_before}
-use Rattle.bump_class.proofs.LaneLemmas.{few_aboard, applied_keeps, carried_part, each_told, worker_of}
+use Rattle.bump_class.proofs.LaneLemmas.{few_aboard, applied_keeps, carried_part, each_told}
 use Rattle.bump_class.proofs.ApplicationLemmas.{gone_dies, shown_behind, once_behind, told_behind, fronts, owned, time_only_keeps, IsSameClass, same_class}
 use Rattle.bump_class.proofs.books.Book.apply_front.Goals as goal
 use Rattle.bump_class.proofs.books.Book.apply_front.Goals.{in-Moved, in-TimeOnly, in-Gone}
@@ -24,7 +25,7 @@ overflow_add-lane g c =
     let y = c.lane.inside in
     omega (
       arith,
-      few_aboard y.seat y.applied y.receiver.received c.in-Some.bump c.lane.invariant
+      few_aboard y.seat y.worker y.applied y.receiver.received c.in-Some.bump c.lane.invariant
           (sym c.aboard.ensures.carried ∙ c.in-Some.is),
     )
 
@@ -38,7 +39,7 @@ to_front-requires g c =
       lists = i.lists;
       hot_limit = i.hot_limit;
       warm_limit = i.warm_limit;
-      workers = length i.moved.items;
+      workers = i.workers;
     } in
     let carried = carried_part y.seat b (sym c.aboard.ensures.carried ∙ c.in-Some.is) in
     listed k b.life.chunk c.self.invariant.3 (owned k c.args.self.now _ c.args.lane.now b c.self.view_is
@@ -54,20 +55,18 @@ invariant_of-self g c =
       lists = i.lists;
       hot_limit = i.hot_limit;
       warm_limit = i.warm_limit;
-      workers = length i.moved.items;
+      workers = i.workers;
     } in
     let carried = carried_part y.seat b (sym c.aboard.ensures.carried ∙ c.in-Some.is) in
     let own = owned k c.args.self.now _ c.args.lane.now b c.self.view_is c.lane.view_is carried c.requires.own in
     let e = change.Moved b.life Cold Warm (cause.Bump (part_or y.seat).worker b.number) in
-    let more = c.count_move.new.moved.items in
-    let one = subst (λ (n : ℕ). (w : ℕ) → w < length i.moved.items
-    → slice_index more w ≡ slice_index i.moved.items w + bit (n == w))
-    (sym (worker_of y.seat y.applied y.receiver.received c.worker-worker.result c.lane.invariant c.worker-worker.ensures.worker))
+    let more = c.count_move.new.moved in
+    let one = subst (λ (n : ℕ). (w : ℕ) → w < most_workers
+    → slice_index more w ≡ slice_index i.moved w + bit (n == w)) (sym c.lane.invariant.worker_is)
     c.count_move.ensures.counted in
-    entered_with i.seat c.update-outcome.new.class i.first i.end i.hot_limit i.warm_limit i.moved.items more i.lists
+    entered_with i.seat c.update-outcome.new.class i.first i.end i.hot_limit i.warm_limit i.workers i.moved more i.lists
     c.to_front.new.self e _ _ c.self.invariant c.in-Moved.ensures.updates.1.class c.to_front.ensures own refl
-    c.count_move.ensures.long (counts_bump i.moved.items more i.seat.part.history (part_or y.seat).worker b
-    c.self.invariant.4 c.count_move.ensures.long one)
+    (counts_bump i.moved more i.seat.part.history (part_or y.seat).worker b c.self.invariant.4 one)
 
 pub count_move-requires : goal.count_move-requires
 count_move-requires g c =
@@ -77,15 +76,15 @@ count_move-requires g c =
     let x = c.update-outcome.new.lane in
     let after = c.update-outcome.new.class in
     let u = c.in-Moved.ensures.updates in
-    let worker = worker_of y.seat y.applied y.receiver.received c.worker-worker.result c.lane.invariant c.worker-worker.ensures.worker in
     record {
-      few = λ near. omega (
+      worker = c.lane.invariant.worker_few;
+      few = omega (
         arith,
-        c.self.invariant.4 c.worker-worker.result near,
-        ap (λ (w : ℕ). moves_of w i.seat.part.history) worker,
+        c.self.invariant.4 y.worker c.lane.invariant.worker_few,
+        ap (λ (w : ℕ). moves_of w i.seat.part.history) c.lane.invariant.worker_is,
         few_before i.seat.part after.part (part_or y.seat) (part_or x) b c.args.now u.0 c.self.invariant.3.causes
             (ap (λ (v : ClassView). v.part) u.1.class) u.1.lane u.1.told,
-        few_aboard y.seat y.applied y.receiver.received b c.lane.invariant (sym c.aboard.ensures.carried ∙ c.in-Some.is),
+        few_aboard y.seat y.worker y.applied y.receiver.received b c.lane.invariant (sym c.aboard.ensures.carried ∙ c.in-Some.is),
         c.lane.invariant.counted,
       );
     }
@@ -95,7 +94,7 @@ invariant_of-self-in-TimeOnly g c =
     let i = c.self.inside in
     let y = c.lane.inside in
     let u = c.in-TimeOnly.ensures.updates in
-    time_only_keeps i.seat c.update-outcome.new.class i.first i.end i.hot_limit i.warm_limit i.moved.items i.lists
+    time_only_keeps i.seat c.update-outcome.new.class i.first i.end i.hot_limit i.warm_limit i.workers i.moved i.lists
     (part_or y.seat).worker c.in-Some.bump c.args.now u.0 c.self.invariant u.1.class
 
 pub seen_unheld-requires-clause-dying : goal.seen_unheld-requires-clause-dying
@@ -109,7 +108,7 @@ seen_unheld-requires-clause-dying g c =
       lists = i.lists;
       hot_limit = i.hot_limit;
       warm_limit = i.warm_limit;
-      workers = length i.moved.items;
+      workers = i.workers;
     } in
     let carried = carried_part y.seat b (sym c.aboard.ensures.carried ∙ c.in-Some.is) in
     let own = owned k c.args.self.now _ c.args.lane.now b c.self.view_is c.lane.view_is carried c.requires.own in
@@ -120,7 +119,7 @@ pub invariant_of-lane : goal.invariant_of-lane
 invariant_of-lane g c =
     let y = c.lane.inside in
     let u = c.update-outcome.ensures.updates in
-    applied_keeps y.seat c.update-outcome.new.lane y.applied y.receiver.received c.in-Some.bump
+    applied_keeps y.seat c.update-outcome.new.lane y.worker y.applied y.receiver.received c.in-Some.bump
     c.update-outcome.result u.0 c.lane.invariant (sym c.aboard.ensures.carried ∙ c.in-Some.is)
     c.update-outcome.ensures.whole u.1.lane
 
@@ -139,11 +138,11 @@ returns-clause-applied g c =
       lists = i.lists;
       hot_limit = i.hot_limit;
       warm_limit = i.warm_limit;
-      workers = length i.moved.items;
+      workers = i.workers;
     } in
     let carried = carried_part y.seat b (sym c.aboard.ensures.carried ∙ c.in-Some.is) in
     let own = owned k old _ from b c.self.view_is c.lane.view_is carried c.requires.own in
-    let made = fronts i.seat i.lists i.hot_limit i.warm_limit (length i.moved.items) y.receiver.ring y.receiver.received y.receiver.known
+    let made = fronts i.seat i.lists i.hot_limit i.warm_limit i.workers y.receiver.ring y.receiver.received y.receiver.known
     y.seat x b c.args.now in
     elim c.match-outcome.branch [
       | in-Moved w ↦ let u = w.in-Moved.ensures.updates in
@@ -153,7 +152,7 @@ returns-clause-applied g c =
             lists = w.to_front.ensures j;
             hot_limit = i.hot_limit;
             warm_limit = i.warm_limit;
-            workers = w.count_move.ensures.long j;
+            workers = i.workers;
           })) (subst (λ (z : BookView). IsShown z.part (part_or x) b Moved) (sym w.self-is) u.1.entry)
       | in-TimeOnly w ↦ let u = w.in-TimeOnly.ensures.updates in
           made TimeOnly u.0 after u.1 own old from c.self.view_is c.lane.view_is carried u.0.tried m.result m.self
@@ -162,7 +161,7 @@ returns-clause-applied g c =
             lists = i.lists;
             hot_limit = i.hot_limit;
             warm_limit = i.warm_limit;
-            workers = length i.moved.items;
+            workers = i.workers;
           }) u.1.class) (subst (λ (z : BookView). IsShown z.part (part_or x) b TimeOnly) (sym w.self-is) u.1.entry)
       | in-Gone w ↦ let u = w.in-Gone.ensures.updates in
           let h = w.seen_unheld.result in
@@ -174,7 +173,7 @@ returns-clause-applied g c =
             lists = i.lists;
             hot_limit = i.hot_limit;
             warm_limit = i.warm_limit;
-            workers = length i.moved.items;
+            workers = i.workers;
           })) u.1.class) (subst (λ (z : BookView). IsShown z.part (part_or x) b Gone) (sym left)
           (shown_behind after.part b.life.chunk h (part_or x) b u.1.entry))
     ]
@@ -205,7 +204,7 @@ returns-clause-told g c =
     let m = c.match-outcome in
     let b = c.in-Some.bump in
     let u = c.update-outcome.ensures.updates in
-    let keeps = applied_keeps y.seat x y.applied y.receiver.received b c.update-outcome.result u.0 c.lane.invariant
+    let keeps = applied_keeps y.seat x y.worker y.applied y.receiver.received b c.update-outcome.result u.0 c.lane.invariant
     (sym c.aboard.ensures.carried ∙ c.in-Some.is) c.update-outcome.ensures.whole u.1.lane in
     let tells : TellsMoves m.self.part (part_or x) = elim c.match-outcome.branch [
       | in-Moved w ↦ subst (λ (z : BookView). TellsMoves z.part (part_or x)) (sym w.self-is)

@@ -1,4 +1,4 @@
-use Rattle.std.proofs.Common.{◌∙◌, ◌≡◌, true, refl, sym, ap, subst, length}
+use Rattle.std.proofs.Common.{◌∙◌, ◌≡◌, true, refl, sym, ap, subst}
 use Rattle.bump_rules.specs.declared.history.Change.TheVariants as change
 use Rattle.bump_rules.specs.declared.history.Cause.TheVariants as cause
 use Rattle.bump_rules.specs.Lists.{to_front}
@@ -17,7 +17,7 @@ to_front-requires g c =
       lists = i.lists;
       hot_limit = i.hot_limit;
       warm_limit = i.warm_limit;
-      workers = length i.moved.items;
+      workers = i.workers;
     } in
     listed b c.args.chunk c.self.invariant.3
     (subst (λ (x : BookView). owns c.args.chunk x.part ≡ true) (sym c.self.view_is) c.requires.own)
@@ -28,7 +28,7 @@ invariant_of-self g c =
     let own = subst (λ (x : BookView). owns c.args.chunk x.part ≡ true) (sym c.self.view_is) c.requires.own in
     let none = c.self.invariant.0 in
     let e = change.Moved (life_in i.seat.part c.args.chunk) c.args.from c.args.to cause.Pull in
-    entered i.seat c.change_segment-head.new.self i.first i.end i.hot_limit i.warm_limit i.moved.items i.lists c.to_front.new.self e
+    entered i.seat c.change_segment-head.new.self i.first i.end i.hot_limit i.warm_limit i.workers i.moved i.lists c.to_front.new.self e
     _ _ c.self.invariant
     (◌∙◌ {b = seat_after_move c.args.chunk c.args.from c.args.to c.change_segment-head.result i.seat}
     c.change_segment-head.ensures.moved

@@ -1,4 +1,4 @@
-use Rattle.std.proofs.Common.{rules, ◌≡◌, IfSome, sym, ap, ◌∙◌, subst, Option}
+use Rattle.std.proofs.Common.{◌≡◌, IfSome, subst, Option}
 use Rattle.bump_rules.specs.Entries.{moves_of}
 use Rattle.bump_steps.specs.declared.views.LanePart.{LanePart}
 use Rattle.bump_heads.specs.Applying.{NamesNoBumpTwice, TellsMoves}

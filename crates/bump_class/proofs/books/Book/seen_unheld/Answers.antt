@@ -1,4 +1,4 @@
-use Rattle.std.proofs.Common.{◌≡◌, true, sym, ap, ap₂, subst, ◌∙◌, length}
+use Rattle.std.proofs.Common.{◌≡◌, true, sym, ap, ap₂, subst, ◌∙◌}
 use Rattle.bump_rules.specs.declared.items.ItemId.{ItemId}
 use Rattle.bump_rules.specs.History.{subject, target, freed_change}
 use Rattle.bump_rules.specs.Lives.{life}
@@ -21,7 +21,7 @@ to_front-requires g c =
       lists = i.lists;
       hot_limit = i.hot_limit;
       warm_limit = i.warm_limit;
-      workers = length i.moved.items;
+      workers = i.workers;
     } in
     listed b c.args.chunk c.self.invariant.3
     (subst (λ (x : BookView). owns c.args.chunk x.part ≡ true) (sym c.self.view_is) c.requires.own)
@@ -35,7 +35,7 @@ invariant_of-self g c =
     let of : (subject (freed_change l)).chunk ≡ c.args.chunk = ap (λ (m : ItemId). m.chunk) (freed_subject l) in
     let same : life c.args.chunk h.generation ≡ l = ap (life c.args.chunk) (c.seen_unheld-head.ensures.generation) in
     let place = c.place.ensures ∙ ap target (c.freed.ensures ∙ ap freed_change same) in
-    entered i.seat c.seen_unheld-head.new.self i.first i.end i.hot_limit i.warm_limit i.moved.items i.lists c.to_front.new.self
+    entered i.seat c.seen_unheld-head.new.self i.first i.end i.hot_limit i.warm_limit i.workers i.moved i.lists c.to_front.new.self
     (freed_change l) _ _ c.self.invariant
     (◌∙◌ {b = record i.seat { part = class_after_sweep_or_load c.args.chunk h.refs (word_of h) i.seat.part }}
     c.seen_unheld-head.ensures.seen

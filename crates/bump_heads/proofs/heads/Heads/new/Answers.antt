@@ -3,6 +3,7 @@ use Rattle.bump_steps.specs.Plays.{Sat}
 use Rattle.bump_rules.specs.declared.configs.Config.{Config}
 use Rattle.atomic_table.specs.Seated.{TableId}
 use Rattle.bump_rules.specs.Configs.{chunks_of}
+use Rattle.bump_rules.proofs.Bounds.{bounds}
 use Rattle.bump_steps.specs.Rule.{opened}
 use Rattle.bump_heads.specs.Making.{BlankView, AreNewClasses, AreNewLanes}
 use Rattle.bump_readers.specs.Workers.{AreNewWorkers}
@@ -38,3 +39,7 @@ part_lanes-requires-clause-parts g c = let k = c.args.config.now in let me = c.b
     let lanes = ap (λ (x : Sat). x.0.lanes) c.in_ok-workers.ensures.rest.1
     ∙ ap (λ (x : Sat). x.0.lanes) c.in_ok-classes.ensures.rest.1 ∙ ap (λ (x : Sat). x.0.lanes) me in
     (ap length lanes ∙ length_lanes 0 k.workers, subst (AreNewLanes 0) (sym lanes) (new_lanes 0 k.workers))
+
+pub part_lanes-requires-clause-few : goal.part_lanes-requires-clause-few
+part_lanes-requires-clause-few g c = let k = c.args.config.now in
+    (bounds k.workers k.capacity k.refs_limit k.first_generation k.classes k.valid).workers_most

@@ -1,8 +1,8 @@
-use Rattle.std.proofs.Common.{rules, refl, sym, ◌∙◌, subst}
+use Rattle.std.proofs.Common.{rules, refl, ◌∙◌, subst}
 use Rattle.bump_heads.specs.declared.views.ClassView.{ClassView}
 use Rattle.bump_heads.specs.Applying.{IsJoined}
 use Rattle.bump_heads.specs.Seats.{class_in}
-use Rattle.bump_heads.proofs.Joining.{ends_told, ending_told, worker_is}
+use Rattle.bump_heads.proofs.Joining.{ends_told, ending_told}
 use Rattle.bump_heads.proofs.Seeing.{may_end, alighted_seen, alighted_told, alighted_whole, alighted_seat, alighted_lane, alighted_worker, entry_told}
 use Rattle.bump_heads.proofs.seats.ClassSeat.alight.Goals as goal
 
@@ -127,6 +127,6 @@ invariant_of-lane g c =
           (cc c.self.view_is) c.self.inside.joined.chunk c.self.inside.joined.outcome r.0 r.1 e
           c.alight-word.result c.head_of.result c.head_of.ensures c.part_lanes-part.new.seat.me
           c.part_lanes-part.result.me c.alight-word.new.seat.me c.alight-word.ensures.told.0
-          c.part_lanes-part.ensures.parts.0 c.part_lanes-part.ensures.parts.1
-          ∙ sym (worker_is c.args.self.now r.0 r.1 r.2 r.3 r.4 c.self.inside.joined lane),
+          c.part_lanes-part.ensures.parts.0 c.part_lanes-part.ensures.parts.1 c.lane.inside.worker,
+      c.lane.invariant.4,
     )

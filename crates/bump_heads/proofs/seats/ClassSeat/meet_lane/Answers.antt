@@ -1,5 +1,5 @@
-use Rattle.std.proofs.Common.{rules, sym, ◌∙◌, subst}
-use Rattle.bump_heads.proofs.Seeing.{met_rest, met_back, met_told}
+use Rattle.std.proofs.Common.{rules}
+use Rattle.bump_heads.proofs.Seeing.{met_told}
 use Rattle.bump_heads.specs.Seats.{class_in}
 use Rattle.bump_heads.proofs.seats.ClassSeat.meet_lane.Goals as goal
 

@@ -14,7 +14,6 @@ invariant_of-self g c =
     (sym c.lane.invariant.1 ∙ c.in-Some.is) c.try_front-word.result c.head_of-found.result c.head_of-found.ensures
     c.try_front-word.new.seat.me c.join.new.seat.me c.join.ensures.joined c.try_front-word.ensures.told.0
     c.self.inside.class c.self.invariant.3 c.self.invariant.4 c.self.inside.joined c.self.invariant.5
-    c.lane.inside.worker c.lane.invariant.3
     (subst (λ (x : Option Bump). IsInRange g.N.Name.table x) c.lane.invariant.1 c.lane.invariant.2)
     c.requires.carries c.requires.own
     (tried_seen c.self.inside.seat.me (class_in c.self.inside.seat.me.0) c.args.self.now c.lane.inside.seat

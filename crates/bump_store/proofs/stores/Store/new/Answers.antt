@@ -36,3 +36,7 @@ invariant_of-result g c =
       b.workers_most,
     ) in
     few
+
+pub make_books-requires-clause-workers : goal.make_books-requires-clause-workers
+make_books-requires-clause-workers g c = let key = c.args.config.now in
+    (bounds key.workers key.capacity key.refs_limit key.first_generation key.classes key.valid).workers_most
