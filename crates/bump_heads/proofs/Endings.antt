@@ -24,7 +24,7 @@ use Rattle.bump_steps.specs.declared.views.LanePart.{LanePart}
 use Rattle.bump_steps.specs.Views.{owns, standing}
 use Rattle.bump_steps.specs.Plays.{step_of}
 use Rattle.bump_steps.specs.Applications.{lane_after_try, noted_class, class_after_move}
-use Rattle.bump_heads.specs.Applying.{carried_by, life_aboard, IsOf, MayClearActive, MayPutTime, MayChangeSegment, TryFound, EndsAs, seat_after_clear_active, seat_after_put_time, seat_after_move, FoundOfBump}
+use Rattle.bump_heads.specs.Applying.{carried_by, life_aboard, IsOf, MayClearActive, MayPutTime, MayChangeSegment, TryFound, MayEndAs, seat_after_clear_active, seat_after_put_time, seat_after_move, FoundOfBump}
 use Rattle.bump_steps.specs.Lives.{IsInSegment}
 
 -- a lane that carries a bump of the chunk
@@ -90,7 +90,7 @@ module _ (v v₁ : ClassView) (o : Option LanePart) (l : LanePart) (b : Bump) (c
   }
 
   -- an item that isn't linked is gone
-  pub gone_as : h.linked ≡ false → EndsAs v₁ lane_tried b h Gone
+  pub gone_as : h.linked ≡ false → MayEndAs v₁ lane_tried b h Gone
   gone_as off = record {
     joined = ap (λ (x : ClassView). x.lane) tried_is;
     found_by_try = try_found;
@@ -98,7 +98,7 @@ module _ (v v₁ : ClassView) (o : Option LanePart) (l : LanePart) (b : Bump) (c
         (if not on then Some Gone else (if is_cold h.segment then None else Some TimeOnly))) off;
   }
 
-  pub ends_gone : h.linked ≡ false → (x : LanePart) × (y : Bump) × (g : Head) × (z : Outcome) × EndsAs v₁ x y g z
+  pub ends_gone : h.linked ≡ false → (x : LanePart) × (y : Bump) × (g : Head) × (z : Outcome) × MayEndAs v₁ x y g z
   ends_gone off = (lane_tried, b, h, Gone, gone_as off)
 
   -- the time of one that is linked may be stored
@@ -121,7 +121,7 @@ module _ (v v₁ : ClassView) (o : Option LanePart) (l : LanePart) (b : Bump) (c
     put_time_is = timed ∙ ap (seat_after_put_time c now) tried_is
 
     -- one that isn't in COLD gets its time only
-    pub elsewhere_as : h.linked ≡ true → h.segment ≢ Cold → EndsAs w₁ lane_tried b h TimeOnly
+    pub elsewhere_as : h.linked ≡ true → h.segment ≢ Cold → MayEndAs w₁ lane_tried b h TimeOnly
     elsewhere_as on other = record {
       joined = ap (λ (x : ClassView). x.lane) put_time_is;
       found_by_try = try_found;
@@ -130,7 +130,7 @@ module _ (v v₁ : ClassView) (o : Option LanePart) (l : LanePart) (b : Bump) (c
     }
 
     pub ends_elsewhere : h.linked ≡ true → h.segment ≢ Cold → (x : LanePart) × (y : Bump) × (g : Head) × (z : Outcome)
-        × EndsAs w₁ x y g z
+        × MayEndAs w₁ x y g z
     ends_elsewhere on other = (lane_tried, b, h, TimeOnly, elsewhere_as on other)
 
     -- ACTIVE of one in COLD may be cleared
@@ -156,7 +156,7 @@ module _ (v v₁ : ClassView) (o : Option LanePart) (l : LanePart) (b : Bump) (c
 
       -- one without ACTIVE gets its time only
       pub clear_as : found.active ≡ false
-          → EndsAs v₂ (record lane_tried { stage = lane.Cleared b found.active }) b h TimeOnly
+          → MayEndAs v₂ (record lane_tried { stage = lane.Cleared b found.active }) b h TimeOnly
       clear_as off = record {
         joined = ap (λ (x : ClassView). x.lane) clear_active_is;
         found_by_try = record { before = try_found.before; steps = try_found.steps; fits = fits };
@@ -164,7 +164,7 @@ module _ (v v₁ : ClassView) (o : Option LanePart) (l : LanePart) (b : Bump) (c
       }
 
       pub ends_clear : found.active ≡ false → (x : LanePart) × (y : Bump) × (g : Head) × (z : Outcome)
-          × EndsAs v₂ x y g z
+          × MayEndAs v₂ x y g z
       ends_clear off =
           (record lane_tried { stage = lane.Cleared b found.active }, b, h, TimeOnly, clear_as off)
 
@@ -192,7 +192,7 @@ module _ (v v₁ : ClassView) (o : Option LanePart) (l : LanePart) (b : Bump) (c
 
       -- and its bump ends as moved
       pub moved_as : (last : Head) (v₃ : ClassView) → v₃ ≡ seat_after_move c Cold Warm last v₂ → found.active ≡ true
-          → EndsAs v₃ (record lane_tried { stage = lane.Moved b }) b h Moved
+          → MayEndAs v₃ (record lane_tried { stage = lane.Moved b }) b h Moved
       moved_as last v₃ moved some = record {
         joined = ap (λ (x : ClassView). x.lane) (moved_is last v₃ moved);
         found_by_try = record { before = try_found.before; steps = try_found.steps; fits = fits };
@@ -200,6 +200,6 @@ module _ (v v₁ : ClassView) (o : Option LanePart) (l : LanePart) (b : Bump) (c
       }
 
       pub ends_moved : (last : Head) (v₃ : ClassView) → v₃ ≡ seat_after_move c Cold Warm last v₂ → found.active ≡ true
-          → (x : LanePart) × (y : Bump) × (g : Head) × (z : Outcome) × EndsAs v₃ x y g z
+          → (x : LanePart) × (y : Bump) × (g : Head) × (z : Outcome) × MayEndAs v₃ x y g z
       ends_moved last v₃ moved some =
           (record lane_tried { stage = lane.Moved b }, b, h, Moved, moved_as last v₃ moved some)

@@ -37,7 +37,7 @@ use Rattle.bump_heads.specs.declared.joined.Joined.{Joined}
 use Rattle.bump_heads.specs.declared.views.ClassView.{ClassView}
 use Rattle.bump_readers.specs.Seats.{listed}
 use Rattle.bump_heads.specs.Seats.{aboard_lane}
-use Rattle.bump_heads.specs.Applying.{carried_by, life_of, life_aboard, IsOf, MayClearActive, MayChangeSegment, IsShown, TryFound, EndsAs, Joins, IsJoined, outcome_by, joined_after_try, joined_after_move, FoundOfBump}
+use Rattle.bump_heads.specs.Applying.{carried_by, life_of, life_aboard, IsOf, MayClearActive, MayChangeSegment, IsShown, TryFound, MayEndAs, Joins, IsJoined, outcome_by, joined_after_try, joined_after_move, FoundOfBump}
 
 -- ---- words
 
@@ -359,11 +359,11 @@ one_try l b d g h x y =
     one_head (word_of h) g h (sym word, x.fits) (refl, y.fits)
 
 -- so the bump aboard ends with one outcome
-pub one_outcome : (v : ClassView) (l m : LanePart) (b d : Bump) (h g : Head) (o p : Outcome) → EndsAs v l b h o
-    → EndsAs v m d g p → o ≡ p
+pub one_outcome : (v : ClassView) (l m : LanePart) (b d : Bump) (h g : Head) (o p : Outcome) → MayEndAs v l b h o
+    → MayEndAs v m d g p → o ≡ p
 one_outcome v l m b d h g o p x y =
     let lanes : m ≡ l = let e : Some m ≡ Some l = sym y.joined ∙ x.joined in cc e in
-    let z = subst (λ (n : LanePart). EndsAs v n d g p) lanes y in
+    let z = subst (λ (n : LanePart). MayEndAs v n d g p) lanes y in
     let both : Some (applied_bump b o) ≡ Some (applied_bump d p) =
     sym x.ending ∙ ap (λ (f : Head). ending_at (λ c. f) l.stage) (one_try l b d h g x.found_by_try z.found_by_try)
     ∙ z.ending in
@@ -380,7 +380,7 @@ pub record Ending (v : ClassView) (c : ℕ) (o : Outcome) (l : LanePart) (b : Bu
   pub named : v.part.applying ≡ application_of l.worker l.stage
   pub entry : IsShown v.part l b o
 
-module _ (v : ClassView) (l : LanePart) (b : Bump) (h : Head) (o : Outcome) (ends : EndsAs v l b h o) where
+module _ (v : ClassView) (l : LanePart) (b : Bump) (h : Head) (o : Outcome) (ends : MayEndAs v l b h o) where
   module _ (j : Joined) (is : IsJoined v.part v.lane j) where
     -- the seat keeps what a caller knows of the lane
     joins : Joins v.part l j
@@ -402,8 +402,8 @@ module _ (v : ClassView) (l : LanePart) (b : Bump) (h : Head) (o : Outcome) (end
     chunk_is = ap (λ (x : Bump). x.life.chunk) bump_is ∙ sym joins.chunk
 
     -- which it tells
-    pub ends_told : EndsAs v l b h j.outcome
-    ends_told = subst (λ (x : Outcome). EndsAs v l b h x) outcome_is ends
+    pub ends_told : MayEndAs v l b h j.outcome
+    ends_told = subst (λ (x : Outcome). MayEndAs v l b h x) outcome_is ends
 
     -- and which is true
     pub ending_told : Ending v j.chunk j.outcome l b

@@ -98,7 +98,7 @@ pub record TryFound (this_lane : LanePart) (bump : Bump) (head : Head) : Type 0 
 
 -- The bump aboard the joined lane may end, and with this outcome, by how far the lane is and the head that its look
 -- found: it isn't linked; or it is linked, but not in COLD; or ACTIVE was cleared and not found; or the item was moved.
-pub record EndsAs (seat : ClassView) (this_lane : LanePart) (bump : Bump) (head : Head) (came_out : Outcome) : Type 0
+pub record MayEndAs (seat : ClassView) (this_lane : LanePart) (bump : Bump) (head : Head) (came_out : Outcome) : Type 0
   where
     pub joined : seat.lane ≡ Some this_lane
     pub found_by_try : TryFound this_lane bump head

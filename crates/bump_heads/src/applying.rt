@@ -12,7 +12,7 @@ ghost use Rattle.bump_steps.specs.declared.views.LanePart.{LanePart as TheLanePa
 ghost use Rattle.bump_steps.specs.Views.{bump_aboard, owns, standing};
 ghost use Rattle.bump_steps.specs.Applications.{lane_after_alight, lane_after_try, class_at_rest};
 ghost use Rattle.bump_heads.specs.Seats.{aboard_lane};
-ghost use Rattle.bump_heads.specs.Applying.{carried_by, life_aboard, joined_after_try, MayClearActive, MayPutTime, MayChangeSegment, IsShown, EndsAs, seat_after_clear_active, seat_after_put_time, seat_after_move, FoundOfBump, NamesNoBumpTwice, TellsMoves};
+ghost use Rattle.bump_heads.specs.Applying.{carried_by, life_aboard, joined_after_try, MayClearActive, MayPutTime, MayChangeSegment, IsShown, MayEndAs, seat_after_clear_active, seat_after_put_time, seat_after_move, FoundOfBump, NamesNoBumpTwice, TellsMoves};
 
 use crate::joined::Joined;
 use crate::seats::{ClassSeat, LaneSeat};
@@ -131,8 +131,8 @@ impl<N: Name> ClassSeat<N> {
     #[inline(always)]
     pub fn alight(&mut self, lane: &mut LaneSeat<N>) -> (Outcome, Head)
         requires hollow { lane.old ≡ None }
-        requires ends { (l : TheLanePart) × (b : TheBump) × (h : TheHead) × (o : TheOutcome) × EndsAs self.old l b h o }
-        ensures outcome { (l : TheLanePart) × (b : TheBump) × (h : TheHead) × EndsAs self.old l b h result.0 }
+        requires ends { (l : TheLanePart) × (b : TheBump) × (h : TheHead) × (o : TheOutcome) × MayEndAs self.old l b h o }
+        ensures outcome { (l : TheLanePart) × (b : TheBump) × (h : TheHead) × MayEndAs self.old l b h result.0 }
         ensures class { self.new ≡ record { part = class_at_rest self.old.part; lane = None } }
         ensures lane { lane.new ≡ option_map (lane_after_alight result.0 (life_aboard self.old.lane).chunk (word_of result.1)) self.old.lane }
         ensures found { FoundOfBump self.old.part (life_aboard self.old.lane) result.1 }
