@@ -7,7 +7,7 @@ use Rattle.trace_lines.specs.declared.faults.LineError.TheVariants as errors
 use Rattle.bump_trace.specs.Gathering.{Gathers, GathersFault}
 use Rattle.bump_trace.proofs.KnownBytes.{appends_more}
 use Rattle.bump_trace.proofs.GatheredText.{gathered_more}
-use Rattle.store_trace.specs.Runs.{Tells, TellsInto, GathersSomeFault}
+use Rattle.store_trace.specs.Runs.{TellsText, TellsInto, GathersSomeFault}
 
 -- more text was gathered, and maybe written, behind what was written
 pub wrote_more : (held mid holds : Option (List ℕ)) (old new text : List ℕ) → ((sent : List ℕ) × Appends held mid sent)
@@ -30,7 +30,7 @@ told_stop held mid holds old new number (errors.Fault fault) p q = told_fault he
 
 -- what was gathered is written
 pub told_whole : (held mid holds : Option (List ℕ)) (gathered : List ℕ) (is_fault : Bool) → TellsInto held mid gathered is_fault
-    → Appends mid holds gathered → Tells held holds is_fault
+    → Appends mid holds gathered → TellsText held holds is_fault
 told_whole held mid holds gathered is_fault p q =
     let (sent, wrote, ends) = p in
     (sent ++ gathered, appends_more held mid holds sent gathered wrote q, ends)

@@ -5,7 +5,7 @@ use Rattle.bump_trace.specs.Reading.{IsOfReading, IsOfSize}
 use Rattle.bump_trace.specs.Runs.{most_bytes, IsUncalled}
 use Rattle.bump_trace.specs.declared.runs.SimFault.{SimFault}
 use Rattle.bump_trace.specs.declared.runs.SimFault.TheVariants as faults
-use Rattle.store_trace.specs.Runs.{Tells, Told, StoppedBy}
+use Rattle.store_trace.specs.Runs.{TellsText, TellsTrace, StoppedBy}
 
 -- a writer that was not called keeps what it held
 kept : (held : Option (List ℕ)) → Keeps held held
@@ -37,7 +37,7 @@ unread_stopped had left held reads failed faults.Gate p long = tt
 
 -- a trace that was read whole, and its text
 pub whole_told : (had left held holds : Option (List ℕ)) (input : List ℕ) (is_fault : Bool) → Consumes had left input → IsAtEnd left
-    → length input ≤ most_bytes → Tells held holds is_fault → Told had left held holds is_fault
+    → length input ≤ most_bytes → TellsText held holds is_fault → TellsTrace had left held holds is_fault
 whole_told had left held holds input is_fault read end size told = record {
   input = input;
   read = read;

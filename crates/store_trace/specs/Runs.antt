@@ -19,8 +19,8 @@ TellsInto held holds gathered is_fault =
     (sent : List ℕ) × Appends held holds sent × EndsAs is_fault (sent ++ gathered)
 
 -- What was written is a text that ends as it has to.
-abbrev pub Tells : Option (List ℕ) → Option (List ℕ) → Bool → Type 0
-Tells held holds is_fault = (text : List ℕ) × Appends held holds text × EndsAs is_fault text
+abbrev pub TellsText : Option (List ℕ) → Option (List ℕ) → Bool → Type 0
+TellsText held holds is_fault = (text : List ℕ) × Appends held holds text × EndsAs is_fault text
 
 -- The line of a fault was gathered.
 abbrev pub GathersSomeFault : Option (List ℕ) → Option (List ℕ) → List ℕ → List ℕ → Type 0
@@ -28,7 +28,7 @@ GathersSomeFault held holds old new =
     (number : ℕ) × (fault : Fault) × Gathers held holds old new (fault_line number fault)
 
 -- All that the reader had is a trace, and the writer took a text of it and nothing else.
-pub record Told (had left held holds : Option (List ℕ)) (is_fault : Bool) : Type 0 where
+pub record TellsTrace (had left held holds : Option (List ℕ)) (is_fault : Bool) : Type 0 where
   pub input : List ℕ
   pub read : Consumes had left input
   pub end : IsAtEnd left
@@ -39,7 +39,7 @@ pub record Told (had left held holds : Option (List ℕ)) (is_fault : Bool) : Ty
 
 -- A fault of the trace is the end of its text; where the trace could not be read, nothing was written.
 abbrev pub StoppedBy : Option (List ℕ) → Option (List ℕ) → Option (List ℕ) → Option (List ℕ) → SimFault → Type 0
-StoppedBy had left held holds faults.Trace = Told had left held holds true
+StoppedBy had left held holds faults.Trace = TellsTrace had left held holds true
 StoppedBy had left held holds faults.Read = Keeps held holds
 StoppedBy had left held holds faults.Size = Keeps held holds × TooManyCame had left
 StoppedBy had left held holds faults.Write = Unit {0}
@@ -51,7 +51,7 @@ StoppedBy had left held holds faults.Gate = Unit {0}
 -- what a reader had and has left, and what a writer held and holds, by the answer of the run
 abbrev pub StoreRuns : Option (List ℕ) → Option (List ℕ) → Option (List ℕ) → Option (List ℕ) → Result ⊤ SimFault
     → Type 0
-StoreRuns had left held holds (Ok _) = Told had left held holds false
+StoreRuns had left held holds (Ok _) = TellsTrace had left held holds false
 StoreRuns had left held holds (Err e) = StoppedBy had left held holds e
 
 -- One thread starts no other, and has no gate.

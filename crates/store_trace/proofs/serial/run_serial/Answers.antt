@@ -1,7 +1,7 @@
 use Rattle.std.proofs.Common.{false, true, subst}
 use Rattle.std.proofs.lemmas.Result.{err_from_is_err_and}
 use Rattle.trace_lines.specs.Counted.{inner_of, calls_of, failed_of}
-use Rattle.store_trace.specs.Runs.{Tells}
+use Rattle.store_trace.specs.Runs.{TellsText}
 use Rattle.store_trace.proofs.WholeRuns.{unread_uncalled, unread_stopped, whole_told}
 use Rattle.store_trace.proofs.serial.run_serial.Goals as goal
 
@@ -24,7 +24,7 @@ returns-then-branch-clause-text g c =
     let holds = g.W.Sink.contents (inner_of c.run_input.new.writer) in
     whole_told (g.S.Source.remaining (inner_of c.args.reader.now)) (g.S.Source.remaining (inner_of c.read_all.new.reader)) held holds c.in_ok-input.input.items true
     c.in_ok-input.ensures.bytes c.in_ok-input.ensures.end c.in_ok-input.ensures.size
-    (subst (Tells held holds) c.if-branch.true c.in_ok-run_input.ensures.text)
+    (subst (TellsText held holds) c.if-branch.true c.in_ok-run_input.ensures.text)
 
 pub returns-clause-text : goal.returns-clause-text
 returns-clause-text g c =
@@ -32,4 +32,4 @@ returns-clause-text g c =
     let holds = g.W.Sink.contents (inner_of c.run_input.new.writer) in
     whole_told (g.S.Source.remaining (inner_of c.args.reader.now)) (g.S.Source.remaining (inner_of c.read_all.new.reader)) held holds c.in_ok-input.input.items false
     c.in_ok-input.ensures.bytes c.in_ok-input.ensures.end c.in_ok-input.ensures.size
-    (subst (Tells held holds) c.if-branch.false c.in_ok-run_input.ensures.text)
+    (subst (TellsText held holds) c.if-branch.false c.in_ok-run_input.ensures.text)
