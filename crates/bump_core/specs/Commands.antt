@@ -111,14 +111,19 @@ pull_to state class from chunk (Some to) =
     let moved = with_head state chunk (record head { active = false; segment = to }) in
     with_change moved class (change.Moved (life chunk head.generation) (segment_of from) to Pull)
 
--- a pull moves its item by the tail table, and an evict ends it
+-- whether a pull is an evict
+abbrev pub is_evict : Tail → Bool
+is_evict tail.Hot = false
+is_evict tail.Warm = false
+is_evict tail.Cold = false
+is_evict tail.Evict = true
+
+-- an evict ends its item; any other pull moves it by the tail table
 abbrev pub pull : State → ℕ → Tail → ℕ → State
-pull state class tail.Hot chunk = pull_to state class tail.Hot chunk (pulled_to (pulled_at state class tail.Hot chunk))
-pull state class tail.Warm chunk =
-    pull_to state class tail.Warm chunk (pulled_to (pulled_at state class tail.Warm chunk))
-pull state class tail.Cold chunk =
-    pull_to state class tail.Cold chunk (pulled_to (pulled_at state class tail.Cold chunk))
-pull state class tail.Evict chunk = unlink_item state (life chunk (head_at state chunk).generation)
+pull state class from chunk =
+    if is_evict from
+    then unlink_item state (life chunk (head_at state chunk).generation)
+    else pull_to state class from chunk (pulled_to (pulled_at state class from chunk))
 
 -- Holds.
 
@@ -362,15 +367,12 @@ abbrev pub move_events : ℕ → Option Segment → List Event
 move_events chunk None = []
 move_events chunk (Some to) = event.Move chunk to ∷ []
 
--- a pull clears ACTIVE and moves its item by the tail table; an evict's events are those of an end
+-- an evict's events are those of an end; any other pull clears ACTIVE and moves its item by the tail table
 abbrev pub pull_events : State → ℕ → Tail → ℕ → List Event
-pull_events state class tail.Hot chunk =
-    event.ClearActive chunk ∷ move_events chunk (pulled_to (pulled_at state class tail.Hot chunk))
-pull_events state class tail.Warm chunk =
-    event.ClearActive chunk ∷ move_events chunk (pulled_to (pulled_at state class tail.Warm chunk))
-pull_events state class tail.Cold chunk =
-    event.ClearActive chunk ∷ move_events chunk (pulled_to (pulled_at state class tail.Cold chunk))
-pull_events state class tail.Evict chunk = unlink_events state (life chunk (head_at state chunk).generation)
+pull_events state class from chunk =
+    if is_evict from
+    then unlink_events state (life chunk (head_at state chunk).generation)
+    else event.ClearActive chunk ∷ move_events chunk (pulled_to (pulled_at state class from chunk))
 
 abbrev pub attempt_events : ℕ → Option Dropped → List Event
 attempt_events worker None = event.Reserve worker ∷ event.Push worker ∷ []
