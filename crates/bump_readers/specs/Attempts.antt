@@ -13,7 +13,8 @@ abbrev pub is_mark : Kind → Bool
 is_mark kind.Mark = true
 is_mark _ = false
 
--- the step set ACTIVE, and the word that it found has ACTIVE clear, and the segment bits of COLD: a bump is attempted
+-- the step set ACTIVE, and the word that it found has ACTIVE clear, and the segment bits of COLD: a bump is attempted,
+-- as the head that the word spells has it
 abbrev pub is_attempt : OwnStep → Bool
 is_attempt step = is_mark step.kind && (active_clear step.word && (segment_bits step.word == number_of Cold))
 

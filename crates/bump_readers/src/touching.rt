@@ -1,10 +1,10 @@
 //! A touch: a hold is joined to a worker's seat, the worker leaves marks and a time on its item, and the hold is
 //! split off again.
-ghost use Rattle.std.specs.Prelude.{◌≡◌, ◌<◌, ◌≤◌, ◌&&◌, not, None, Some, IsSome, true, false};
+ghost use Rattle.std.specs.Prelude.{◌≡◌, ◌<◌, ◌≤◌, None, Some, IsSome, true, false};
 ghost use Rattle.bump_rules.specs.declared.hands.Hand.TheVariants as hand;
 ghost use Rattle.bump_rules.specs.Lives.{count_of};
 ghost use Rattle.bump_rules.specs.Rings.{most_attempts};
-ghost use Rattle.bump_rules.specs.Tables.{is_cold};
+ghost use Rattle.bump_rules.specs.Tables.{attempts_bump};
 ghost use Rattle.bump_word.specs.Words.{Fits};
 ghost use Rattle.bump_steps.specs.declared.views.HoldPart.{HoldPart as TheHoldPart};
 ghost use Rattle.bump_readers.specs.Seats.{held_life};
@@ -76,7 +76,7 @@ impl<N: Name> ReaderHeads<N> {
         requires attempts { worker.old.part.accounts.attempted < most_attempts }
         ensures worker { worker.new ≡ record worker.old { part = worker_after_mark life result worker.old.part } }
         ensures fits { Fits result }
-        ensures tries { (not result.active && is_cold result.segment) ≡ true → worker.new.part.hand ≡ hand.Trying life }
+        ensures tries { attempts_bump result ≡ true → worker.new.part.hand ≡ hand.Trying life }
         ensures generation { result.generation ≡ life.generation }
         ensures count { 0 < result.refs }
         ensures fetched { result.fetched ≡ true }

@@ -63,6 +63,10 @@ abbrev pub is_warm : Segment → Bool
 is_warm segment.Warm = true
 is_warm _ = false
 
+-- whether a step that sets ACTIVE, and found this word, attempts a bump: ACTIVE was clear in COLD
+abbrev pub attempts_bump : Head → Bool
+attempts_bump found = not found.active && is_cold found.segment
+
 -- whether a hit that found this word by its first step makes the second one
 abbrev pub makes_second : Head → Bool
 makes_second first = first.fetched && not first.active

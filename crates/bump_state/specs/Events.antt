@@ -22,7 +22,7 @@ use Rattle.bump_rules.specs.declared.events.Reply.TheVariants as reply
 use Rattle.bump_rules.specs.declared.events.Refused.{Refused}
 use Rattle.bump_rules.specs.declared.events.Refused.TheVariants.{NotEnabled, OutOfMemory}
 use Rattle.bump_rules.specs.Lives.{life}
-use Rattle.bump_rules.specs.Tables.{is_cold, is_unheld, may_move}
+use Rattle.bump_rules.specs.Tables.{attempts_bump, is_cold, is_unheld, may_move}
 use Rattle.bump_rules.specs.Rings.{most_attempts}
 use Rattle.bump_links.specs.Lists.{first_of, times}
 use Rattle.bump_rules.specs.History.{freed_change}
@@ -172,7 +172,7 @@ mark state worker item =
     let old = worker_at state worker in
     let head = head_at state item.chunk in
     let marked = with_head state item.chunk (marked_head head) in
-    if not head.active && is_cold head.segment
+    if attempts_bump head
     then with_worker marked worker (record old {
       hand = hand.Trying item;
       accounts = record old.accounts { attempted = old.accounts.attempted + 1 };

@@ -1,12 +1,12 @@
 -- The steps of a worker's seat on the marks of a chunk, and on its time.
-use Rattle.std.specs.Prelude.{◌≡◌, ℕ, ◌+◌, ◌-◌, ◌^◌, ◌<◌, Bool, true, false, not, ◌&&◌, if◌then◌else◌, List, [], ◌∷◌, ◌++◌, None}
+use Rattle.std.specs.Prelude.{◌≡◌, ℕ, ◌+◌, ◌-◌, ◌^◌, ◌<◌, Bool, true, false, if◌then◌else◌, List, [], ◌∷◌, ◌++◌, None}
 use Rattle.atomic_table.specs.Table.{Step}
 use Rattle.bump_rules.specs.declared.hands.Hand.{Hand}
 use Rattle.bump_rules.specs.declared.hands.Hand.TheVariants as hand
 use Rattle.bump_rules.specs.declared.items.Head.{Head}
 use Rattle.bump_rules.specs.declared.items.ItemId.{ItemId}
 use Rattle.bump_rules.specs.Lives.{life}
-use Rattle.bump_rules.specs.Tables.{is_cold}
+use Rattle.bump_rules.specs.Tables.{attempts_bump}
 use Rattle.bump_word.specs.Layout.{fetched_first, active_first}
 use Rattle.bump_word.specs.Words.{word_of}
 use Rattle.bump_steps.specs.declared.views.Empty.{Empty}
@@ -52,7 +52,7 @@ attempting item worker =
 -- the worker set ACTIVE of the life, and found this head: a bump is attempted where ACTIVE was clear in COLD
 abbrev pub worker_after_mark : ItemId → Head → WorkerPart → WorkerPart
 worker_after_mark item head worker = let q = noted kind.Mark item.chunk (word_of head) worker in
-    if not head.active && is_cold head.segment then attempting item q else q
+    if attempts_bump head then attempting item q else q
 
 -- a worker that was to clear ACTIVE is Idle
 abbrev pub done : Hand → Hand
