@@ -27,10 +27,7 @@ applied_now _ = None
 
 -- the life on which a lane works under the class lock, if it does
 abbrev pub applied_life : Lane → Option ItemId
-applied_life (lane.Tried bump) = Some bump.life
-applied_life (lane.Cleared bump found) = Some bump.life
-applied_life (lane.Moved bump) = Some bump.life
-applied_life _ = None
+applied_life stage = option_map (λ (bump : Bump). bump.life) (applied_now stage)
 
 abbrev pub cleared_active : Lane → Option Bump
 cleared_active (lane.Cleared bump true) = Some bump

@@ -131,11 +131,7 @@ cleared_from (lane.Moved a) b is = absurd (let u : ⊥ = cc in u)
 
 -- the bump that a lane applies is of the life on which it works
 pub applied_from : (x : Lane) (b : Bump) → applied_now x ≡ Some b → applied_life x ≡ Some b.life
-applied_from lane.Empty b is = absurd (let u : ⊥ = cc in u)
-applied_from (lane.Carrying a) b is = absurd (let u : ⊥ = cc in u)
-applied_from (lane.Tried a) b is = let same : a ≡ b = cc in ap (λ (z : Bump). Some z.life) same
-applied_from (lane.Cleared a found) b is = let same : a ≡ b = cc in ap (λ (z : Bump). Some z.life) same
-applied_from (lane.Moved a) b is = let same : a ≡ b = cc in ap (λ (z : Bump). Some z.life) same
+applied_from x b is = ap (option_map (λ (z : Bump). z.life)) is
 
 -- there is a worker of this number
 pub worker_from : (s : State) (w : ℕ) → is_worker s w ≡ true → w < length s.workers

@@ -13,6 +13,7 @@ use Rattle.bump_rules.specs.Lawful.{Lawful}
 use Rattle.bump_rules.specs.History.{Standing, standing_in, is_between, AreBetween, replayed}
 use Rattle.bump_state.specs.State.{State, ClassState, WorkerState, chunk_at, head_at, class_at, worker_at, class_of, workers_on}
 use Rattle.bump_rules.specs.Lanes.{applied_life}
+use Rattle.bump_rules.specs.Rings.{aboard}
 use Rattle.bump_state.specs.Rings.{in_ring, IsWorker}
 use Rattle.bump_rules.specs.Entries.{is_stray, is_move_for, is_unlink_of, is_told_gone, moves_told}
 
@@ -26,13 +27,9 @@ abbrev pub in_hand_of : ItemId → Hand → ℕ
 in_hand_of item (hand.InHand life) = one_if item life
 in_hand_of item _ = 0
 
--- 1 where the lane carries a bump of the life
+-- the references to a life that the bump aboard a lane has
 abbrev pub in_lane_of : ItemId → Lane → ℕ
-in_lane_of item lane.Empty = 0
-in_lane_of item (lane.Carrying bump) = one_if item bump.life
-in_lane_of item (lane.Tried bump) = one_if item bump.life
-in_lane_of item (lane.Cleared bump found) = one_if item bump.life
-in_lane_of item (lane.Moved bump) = one_if item bump.life
+in_lane_of item stage = total (λ bump. one_if item bump.life) (aboard stage)
 
 -- the references to a life that a worker's bumps have: in its hand, in its ring and in its lane
 abbrev pub bumps_of : ItemId → WorkerState → ℕ

@@ -13,7 +13,7 @@ use Rattle.bump_rules.specs.declared.lanes.Lane.TheVariants as lane
 use Rattle.bump_rules.specs.declared.bumps.AppliedBump.{AppliedBump}
 use Rattle.bump_rules.specs.declared.events.Event.TheVariants as event
 use Rattle.bump_rules.specs.Lives.{life, is_same, one_if, count_of}
-use Rattle.bump_rules.specs.Totals.{how_many}
+use Rattle.bump_rules.specs.Totals.{total, how_many}
 use Rattle.bump_rules.specs.Entries.{is_move_for, is_unlink_of, is_gone, is_told_moved, is_told_gone, moving, moves_told}
 use Rattle.bump_rules.specs.Tables.{is_cold}
 use Rattle.bump_state.specs.Rings.{in_ring, IsWorker}
@@ -145,11 +145,8 @@ applied_alone_aboard (lane.Moved a) b is = ap (λ (z : Bump). z ∷ []) (let sam
 -- and its life is the one that counts
 pub applied_counts_for : (x : Lane) (b : Bump) → applied_now x ≡ Some b → (m : ItemId) → in_lane_of m x
     ≡ one_if m b.life
-applied_counts_for lane.Empty b is m = absurd (let u : ⊥ = cc in u)
-applied_counts_for (lane.Carrying a) b is m = absurd (let u : ⊥ = cc in u)
-applied_counts_for (lane.Tried a) b is m = ap (λ (z : Bump). one_if m z.life) (let same : a ≡ b = cc in same)
-applied_counts_for (lane.Cleared a found) b is m = ap (λ (z : Bump). one_if m z.life) (let same : a ≡ b = cc in same)
-applied_counts_for (lane.Moved a) b is m = ap (λ (z : Bump). one_if m z.life) (let same : a ≡ b = cc in same)
+applied_counts_for x b is m =
+    omega (arith, ap (λ bs. total (λ (z : Bump). one_if m z.life) bs) (applied_alone_aboard x b is))
 
 -- the lane gives the reference of the bump that it applied back
 pub alight_lawful : (s : State) (w : ℕ) (a : AppliedBump) → IsLawful s → w < length s.workers → ending s w ≡ Some a
