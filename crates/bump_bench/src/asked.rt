@@ -5,7 +5,8 @@ use std::alloc::{AllocError, Global};
 // How often each workload is passed through, where the command line doesn't say.
 const PASSES: u32 = 15;
 
-/// What is to be measured. The words behind the program's name are the name of a workload, or `all`; how many passes are wanted; and of how many threads.
+/// What is to be measured. The words behind the program's name are the name of a workload, or `all`; how many passes
+/// are wanted; and of how many threads.
 #[derive(Drop)]
 pub struct Asked {
     word: String,

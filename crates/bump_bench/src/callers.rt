@@ -28,7 +28,8 @@ pub enum Call {
 /// What is done with each item before the calls.
 #[derive(Clone, Copy)]
 pub enum Before {
-    /// It is hit: the first hit sets FETCHED, and the second ACTIVE. In COLD its bump is under way from then on, which holds it.
+    /// It is hit: the first hit sets FETCHED, and the second ACTIVE. In COLD its bump is under way from then on, which
+    /// holds it.
     Hit,
 
     /// It is pulled.
@@ -123,8 +124,8 @@ fn timed_calls<N: Name>(book: &mut Book<N>, call: Call, times: u32) -> Tally {
     }
 }
 
-/// Does what the calls want done before, one thing after another, and times them. Beside what they count stands the length of the list in which all items are
-/// then. None where memory or the clock is refused.
+/// Does what the calls want done before, one thing after another, and times them. Beside what they count stands the
+/// length of the list in which all items are then. None where memory or the clock is refused.
 pub fn prepare_and_call<N: Name, R: Clock + Wait>(
     rt: &R,
     alloc: Global,

@@ -9,7 +9,8 @@ use std::rt::Clock;
 use std::sync::Wait;
 use std::time::Instant;
 
-// The calls that are timed: bumps are applied, each under the lock of its class, until none is left in the ring. Its name is what callgrind is told to count.
+// The calls that are timed: bumps are applied, each under the lock of its class, until none is left in the ring. Its
+// name is what callgrind is told to count.
 #[inline(never)]
 fn timed_drain<N: Name, R: Wait>(rt: &R, store: &Store<N>, lane: &mut Lane<N>) -> Tally {
     let mut right: u64 = 0;

@@ -81,7 +81,8 @@ pub fn gets<N: Name>(
     }
 }
 
-// Gets, touches, reads the label of and releases each item, as often as there are rounds. This answer of each touch is wanted.
+// Gets, touches, reads the label of and releases each item, as often as there are rounds. This answer of each touch is
+// wanted.
 fn hits<W: Wanted, N: Name>(
     heads: &ReaderHeads<N>,
     worker: &mut Worker<N>,

@@ -1,5 +1,6 @@
-//! Measures what the calls of `bump_store` and `bump_class` and the moves of `bump_links` cost. It prints only when it is given a word: the name of a workload,
-//! or `all`. Behind it may stand how many passes are wanted, and then of how many threads.
+//! Measures what the calls of `bump_store` and `bump_class` and the moves of `bump_links` cost. It prints only when it
+//! is given a word: the name of a workload, or `all`. Behind it may stand how many passes are wanted, and then of how
+//! many threads.
 #![tactic(auto)]
 
 ghost use Rattle.std.specs.Prelude.{◌≡◌, ◌<◌, ◌≤◌, [], ◌∷◌};
@@ -51,7 +52,8 @@ fn pass_in<N: Name + Send + Sync, R: Threads + Clock + Wait + Sync>(
     work_in_store(rt, alloc, &store, &mut workers, &mut lanes, work)
 }
 
-// Does the work once, in a store or on lists that are made for it, and picks the store's name. None where memory or the clock is refused.
+// Does the work once, in a store or on lists that are made for it, and picks the store's name. None where memory or the
+// clock is refused.
 fn pass<R: Threads + Clock + Wait + Sync>(rt: &R, alloc: Global, work: Work) -> Option<Spent> {
     if let Work::Moves(moves) = work {
         return moves.pass(rt, alloc);

@@ -97,7 +97,8 @@ fn timed_moves(links: &mut Links, moves: &[Move])
 }
 
 impl Moves {
-    /// Makes all moves twice, and times them the second time: the nodes are mixed then, and all memory was touched. None where memory or the clock is refused.
+    /// Makes all moves twice, and times them the second time: the nodes are mixed then, and all memory was touched.
+    /// None where memory or the clock is refused.
     pub fn pass<R: Clock>(self, rt: &R, alloc: Global) -> Option<Spent> {
         if self.nodes == 0 || self.nodes > NODES_MAX {
             return None;

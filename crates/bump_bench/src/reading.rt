@@ -11,8 +11,8 @@ use std::sync::Wait;
 use std::sync::atomic::AtomicU64;
 use std::time::Instant;
 
-// Fills the ring and drains it, so that its memory was in use before. The items go to WARM by that, and as many are pulled back to COLD. None where the store
-// has no class.
+// Fills the ring and drains it, so that its memory was in use before. The items go to WARM by that, and as many are
+// pulled back to COLD. None where the store has no class.
 fn warm_ring<N: Name, R: Wait>(
     rt: &R,
     store: &Store<N>,
@@ -32,7 +32,8 @@ fn warm_ring<N: Name, R: Wait>(
     Some(())
 }
 
-/// Hits the items as often as is wanted before, and once all threads have come, times the pass through them. None where the clock is refused.
+/// Hits the items as often as is wanted before, and once all threads have come, times the pass through them. None where
+/// the clock is refused.
 pub fn read<N: Name, R: Clock + Wait>(
     rt: &R,
     store: &Store<N>,

@@ -9,7 +9,8 @@ use std::alloc::{AllocError, Global};
 pub struct Reads {
     pub name: &'static str,
 
-    /// How many threads there are, and how many items each of them has: 1 to 1,000,000 together, and as many chunks. And whether all stand in COLD.
+    /// How many threads there are, and how many items each of them has: 1 to 1,000,000 together, and as many chunks.
+    /// And whether all stand in COLD.
     pub threads: u32,
     pub items: u32,
     pub cold: bool,

@@ -1,4 +1,5 @@
-//! Bumps of several classes that wait in several rings, in runs of one class, and are applied by one or several drainers at once.
+//! Bumps of several classes that wait in several rings, in runs of one class, and are applied by one or several
+//! drainers at once.
 use crate::hits::touch_all;
 use crate::meeting::meet;
 use crate::tallies::{Spent, Tally};
@@ -17,7 +18,8 @@ const RUN: u32 = 64;
 /// How many wait in each ring.
 pub const BUMPS: u32 = 8_192;
 
-/// A workload: each worker's ring is full of bumps of items of its own, which are of all classes in turn, and the drainers share the lanes.
+/// A workload: each worker's ring is full of bumps of items of its own, which are of all classes in turn, and the
+/// drainers share the lanes.
 #[derive(Clone, Copy)]
 pub struct Runs {
     pub name: &'static str,

@@ -22,7 +22,8 @@ pub struct Shape {
     pub cold: bool,
 }
 
-// Links so many items, as far as chunks are free: the label of each is its number. Pulls as many to COLD, if that is wanted.
+// Links so many items, as far as chunks are free: the label of each is its number. Pulls as many to COLD, if that is
+// wanted.
 fn fill<N: Name>(book: &mut Book<N>, items: u32, cold: bool) {
     for number in 0..items {
         let _linked = book.link(u64::from(number), 0);

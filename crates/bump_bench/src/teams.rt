@@ -86,7 +86,8 @@ fn work_alone<N: Name, R: Clock + Wait>(
     }
 }
 
-/// Does the work in a store that is new. Answers the mean of the threads, and what all of them counted. None where memory or the clock is refused.
+/// Does the work in a store that is new. Answers the mean of the threads, and what all of them counted. None where
+/// memory or the clock is refused.
 pub fn work_in_store<N: Name + Send + Sync, R: Threads + Clock + Wait + Sync>(
     rt: &R,
     alloc: Global,

@@ -4,7 +4,8 @@ ghost use Rattle.bump_rules.specs.declared.lanes.Lane.TheVariants.{Empty as IsEm
 ghost use Rattle.bump_steps.specs.declared.views.Ride.{Ride as TheRide};
 ghost use Rattle.bump_steps.specs.Riders.{applied_by};
 ghost use Rattle.bump_heads.specs.Applying.{stage_of};
-ghost use Rattle.bump_class.specs.Lanes.{LaneView as TheLaneView, carries, entries, part_or, IsRawLane, KeepsLane, new_lane, Boards};
+ghost use Rattle.bump_class.specs.Lanes.{LaneView as TheLaneView, carries, entries, part_or, IsRawLane, KeepsLane};
+ghost use Rattle.bump_class.specs.Lanes.{new_lane, Boards};
 
 use bump_heads::{LaneSeat, Name};
 use bump_ring::{ClosedSender, Receiver};

@@ -1,5 +1,6 @@
 -- Commands: what each answers and leaves, by the tables and in one go, and the events that it is made of.
-use Rattle.std.specs.Prelude.{◌≡◌, ℕ, ◌+◌, Bool, true, false, not, ◌==◌, ◌&&◌, ◌||◌, nat_lt, List, [], ◌∷◌, ◌++◌, length, map, is_none, Option, None, Some, Result, Ok, Err, if◌then◌else◌}
+use Rattle.std.specs.Prelude.{◌≡◌, ℕ, ◌+◌, Bool, true, false, not, ◌==◌, ◌&&◌, ◌||◌, nat_lt, List, [], ◌∷◌, ◌++◌}
+use Rattle.std.specs.Prelude.{length, map, is_none, Option, None, Some, Result, Ok, Err, if◌then◌else◌}
 use Rattle.std.specs.Option.{option_map_or}
 use Rattle.std.specs.List.{list_any}
 use Rattle.bump_rules.specs.declared.places.Limits.{Limits}
@@ -31,7 +32,8 @@ use Rattle.bump_rules.specs.declared.commands.Answer.TheVariants as answer
 use Rattle.bump_rules.specs.declared.commands.Touch.{Touch}
 use Rattle.bump_rules.specs.declared.commands.Touch.TheVariants as touch
 use Rattle.bump_rules.specs.declared.commands.Hit.{Hit}
-use Rattle.bump_rules.specs.declared.commands.Hit.TheVariants.{First as IsFirst, Already as IsAlready, Marked as IsMarked, Attempts}
+use Rattle.bump_rules.specs.declared.commands.Hit.TheVariants.{First as IsFirst, Already as IsAlready}
+use Rattle.bump_rules.specs.declared.commands.Hit.TheVariants.{Marked as IsMarked, Attempts}
 use Rattle.bump_rules.specs.declared.commands.Dropped.{Dropped}
 use Rattle.bump_rules.specs.declared.commands.Dropped.TheVariants.{Full, Busy, RefsFull}
 use Rattle.bump_rules.specs.declared.commands.Room.{Room}
@@ -46,14 +48,18 @@ use Rattle.bump_rules.specs.Accounts.{counted}
 use Rattle.bump_rules.specs.Lives.{life}
 use Rattle.bump_rules.specs.History.{freed_change}
 use Rattle.bump_rules.specs.Starts.{begun_change, link_event}
-use Rattle.bump_rules.specs.Tables.{Get, IsStale, IsRefsFull, IsHeld, is_cold, get_of, ended_of, is_unheld, hit_of, dropped_of, touch_of, outcome_of, pulled_of, pulled_to, segment_of, last_pulled}
+use Rattle.bump_rules.specs.Tables.{Get, IsStale, IsRefsFull, IsHeld, is_cold, get_of, ended_of, is_unheld, hit_of}
+use Rattle.bump_rules.specs.Tables.{dropped_of, touch_of, outcome_of, pulled_of, pulled_to, segment_of, last_pulled}
 use Rattle.bump_state.specs.Sweeps.{sweep_of}
-use Rattle.bump_state.specs.State.{State, ClassState, WorkerState, chunk_at, head_at, class_at, worker_at, is_chunk, is_class, is_worker, with_chunk, with_head, with_worker, with_change, with_changes, class_of, is_linked, is_held, has_free_hold, is_open}
+use Rattle.bump_state.specs.State.{State, ClassState, WorkerState, chunk_at, head_at, class_at, worker_at, is_chunk}
+use Rattle.bump_state.specs.State.{is_class, is_worker, with_chunk, with_head, with_worker, with_change, with_changes}
+use Rattle.bump_state.specs.State.{class_of, is_linked, is_held, has_free_hold, is_open}
 use Rattle.bump_core.specs.Runs.{one_asks}
 use Rattle.bump_rules.specs.Hands.{is_idle}
 use Rattle.bump_rules.specs.Rings.{most_attempts}
 use Rattle.bump_rules.specs.Heads.{linked_head, one_more, one_fewer, fetched_head, marked_head, unlinked_head}
-use Rattle.bump_state.specs.Events.{is_at_rest, next_chunk, next_life, waiting, next_bump, with_hold, without_hold, unlink, close}
+use Rattle.bump_state.specs.Events.{is_at_rest, next_chunk, next_life, waiting, next_bump, with_hold, without_hold}
+use Rattle.bump_state.specs.Events.{unlink, close}
 use Rattle.bump_rules.specs.Lanes.{bump_of, applied_bump, is_half_made}
 
 -- Ends.

@@ -1,5 +1,6 @@
 -- Steps, and runs of many.
-use Rattle.std.specs.Prelude.{◌≡◌, ℕ, Bool, true, false, ◌||◌, List, [], ◌∷◌, take, slice_get, Option, None, Some, Result, Ok, Err, OnOk, IfOk, OnErr, if◌then◌else◌}
+use Rattle.std.specs.Prelude.{◌≡◌, ℕ, Bool, true, false, ◌||◌, List, [], ◌∷◌, take, slice_get, Option, None, Some}
+use Rattle.std.specs.Prelude.{Result, Ok, Err, OnOk, IfOk, OnErr, if◌then◌else◌}
 use Rattle.bump_rules.specs.declared.events.Event.{Event}
 use Rattle.bump_rules.specs.declared.events.Reply.{Reply}
 use Rattle.bump_rules.specs.declared.events.Refused.{Refused}

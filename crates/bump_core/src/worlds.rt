@@ -38,7 +38,8 @@ impl World {
     ghost use Rattle.bump_core.specs.Runs.{Steps, Runs, run_of, made, made_by};
     ghost use Rattle.bump_state.specs.Events.{asks_for_memory};
     ghost use Rattle.bump_state.specs.State.{head_at, SameSizes};
-    ghost use Rattle.bump_core.specs.Readers.{list_of, time_of, label_of, holds_at, accounts_of, sent_of, received_of, applied_of};
+    ghost use Rattle.bump_core.specs.Readers.{list_of, time_of, label_of, holds_at, accounts_of, sent_of, received_of};
+    ghost use Rattle.bump_core.specs.Readers.{applied_of};
     ghost use Rattle.bump_state.specs.Worlds.{IsLawful};
 
     /// A World in which nothing has happened: every chunk is UNUSED, in ascending order, and every worker is idle.

@@ -1,6 +1,7 @@
 -- The steps under a class's lock, as the contracts of the class's seat tell them: without a lane they are made for a
 -- link or a pull, and with a lane joined for the bump aboard it.
-use Rattle.std.specs.Prelude.{◌≡◌, ℕ, ◌+◌, ◌<◌, ◌≤◌, ◌&&◌, not, if◌then◌else◌, Bool, true, false, List, [], ◌∷◌, ◌++◌, Option, Some, None, option_map}
+use Rattle.std.specs.Prelude.{◌≡◌, ℕ, ◌+◌, ◌<◌, ◌≤◌, ◌&&◌, not, if◌then◌else◌, Bool, true, false, List, [], ◌∷◌, ◌++◌}
+use Rattle.std.specs.Prelude.{Option, Some, None, option_map}
 use Rattle.bump_rules.specs.declared.items.Head.{Head}
 use Rattle.bump_rules.specs.declared.items.ItemId.{ItemId}
 use Rattle.bump_rules.specs.declared.places.Place.{Place}
@@ -29,7 +30,8 @@ use Rattle.bump_steps.specs.declared.views.LanePart.{LanePart}
 use Rattle.bump_steps.specs.Views.{owns, standing, shows_time_only}
 use Rattle.bump_steps.specs.Lives.{IsInSegment}
 use Rattle.bump_steps.specs.Plays.{step_of}
-use Rattle.bump_steps.specs.Applications.{application_of, lane_after_clear_active, lane_after_move, noted_class, class_after_move}
+use Rattle.bump_steps.specs.Applications.{application_of, lane_after_clear_active, lane_after_move, noted_class}
+use Rattle.bump_steps.specs.Applications.{class_after_move}
 use Rattle.bump_readers.specs.Seats.{listed}
 use Rattle.bump_heads.specs.Seats.{aboard_lane}
 

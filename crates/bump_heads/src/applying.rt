@@ -12,7 +12,10 @@ ghost use Rattle.bump_steps.specs.declared.views.LanePart.{LanePart as TheLanePa
 ghost use Rattle.bump_steps.specs.Views.{bump_aboard, owns, standing};
 ghost use Rattle.bump_steps.specs.Applications.{lane_after_alight, lane_after_try, class_at_rest};
 ghost use Rattle.bump_heads.specs.Seats.{aboard_lane};
-ghost use Rattle.bump_heads.specs.Applying.{carried_by, life_aboard, joined_after_try, MayClearActive, MayPutTime, MayChangeSegment, IsShown, MayEndAs, seat_after_clear_active, seat_after_put_time, seat_after_move, FoundOfBump, NamesNoBumpTwice, TellsMoves};
+ghost use Rattle.bump_heads.specs.Applying.{carried_by, life_aboard, joined_after_try, MayClearActive, MayPutTime};
+ghost use Rattle.bump_heads.specs.Applying.{MayChangeSegment, IsShown, MayEndAs, seat_after_clear_active};
+ghost use Rattle.bump_heads.specs.Applying.{seat_after_put_time, seat_after_move, FoundOfBump, NamesNoBumpTwice};
+ghost use Rattle.bump_heads.specs.Applying.{TellsMoves};
 
 use crate::joined::Joined;
 use crate::seats::{ClassSeat, LaneSeat};
@@ -20,8 +23,8 @@ use bump_readers::Name;
 use bump_rules::{Head, Outcome, Segment};
 use bump_steps::head_of;
 
-// What is kept once the head of the bump's item was looked at: that the bump may end as TimeOnly was kept before, and it
-// is Gone where the item isn't linked. So for a linked one nothing is stored here.
+// What is kept once the head of the bump's item was looked at: that the bump may end as TimeOnly was kept before, and
+// it is Gone where the item isn't linked. So for a linked one nothing is stored here.
 fn note_found(joined: &mut Joined, found: Head)
     requires ready { joined.old.outcome ≡ TimeOnly }
     ensures { joined.new ≡ joined_after_try joined.old.chunk found }

@@ -7,7 +7,8 @@ ghost use Rattle.bump_rules.specs.Lawful.{bit, Shows};
 ghost use Rattle.bump_rules.specs.Lives.{life};
 ghost use Rattle.bump_word.specs.Words.{Fits, word_of};
 ghost use Rattle.bump_steps.specs.Views.{owns, last_label};
-ghost use Rattle.bump_steps.specs.Lives.{class_after_load, class_after_see_time, class_after_put_label, class_after_sweep_or_load, class_after_unlink, IsInSegment};
+ghost use Rattle.bump_steps.specs.Lives.{class_after_load, class_after_see_time, class_after_put_label};
+ghost use Rattle.bump_steps.specs.Lives.{class_after_sweep_or_load, class_after_unlink, IsInSegment};
 ghost use Rattle.bump_heads.specs.Linking.{place_of_chunk, generation_of_chunk, class_after_open_life};
 
 use crate::seats::ClassSeat;

@@ -4,7 +4,8 @@ ghost use Rattle.bump_heads.specs.declared.views.ClassView.{ClassView as TheClas
 ghost use Rattle.bump_steps.specs.declared.views.LanePart.{LanePart as TheLanePart};
 ghost use Rattle.bump_rules.specs.Lanes.{is_half_made};
 ghost use Rattle.bump_heads.specs.Applying.{carried_by, stage_of, IsJoined};
-ghost use Rattle.bump_heads.specs.Seats.{IsLane, IsOfWorker, lane_in, class_in, class_me, aboard_lane, most_workers, IsInRange, IsClassPart};
+ghost use Rattle.bump_heads.specs.Seats.{IsLane, IsOfWorker, lane_in, class_in, class_me, aboard_lane, most_workers};
+ghost use Rattle.bump_heads.specs.Seats.{IsInRange, IsClassPart};
 
 use crate::heads::Heads;
 use crate::joined::Joined;

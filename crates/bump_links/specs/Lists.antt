@@ -1,5 +1,6 @@
 -- What a `Links` means: numbered lists of nodes, front first, with no link in them.
-use Rattle.std.specs.Prelude.{◌≡◌, ◌≢◌, ℕ, suc, ◌<◌, ◌==◌, not, if◌then◌else◌, List, [], ◌∷◌, length, map, filter, replicate, slice_index_or, slice_set, Option, Some, None, unwrap_or, All}
+use Rattle.std.specs.Prelude.{◌≡◌, ◌≢◌, ℕ, suc, ◌<◌, ◌==◌, not, if◌then◌else◌, List, [], ◌∷◌, length, map, filter}
+use Rattle.std.specs.Prelude.{replicate, slice_index_or, slice_set, Option, Some, None, unwrap_or, All}
 use Rattle.std.specs.List.{range_with_len}
 
 -- how many nodes there are, numbered from 0, and the nodes of each list, front first

@@ -5,7 +5,8 @@
 ghost use Rattle.std.specs.Prelude.{◌≡◌, ◌<◌, ◌≤◌, length, All, IfOk, IfSome};
 ghost use Rattle.bump_links.specs.Chain.{node_or_none};
 ghost use Rattle.bump_links.specs.Spelled.{IsSpelled, lists_of};
-ghost use Rattle.bump_links.specs.Lists.{list_at, moved_to_front, all_in_first, first_of, last_of, IsHeldBy, IsNextOf, HoldsEachOnce};
+ghost use Rattle.bump_links.specs.Lists.{list_at, moved_to_front, all_in_first, first_of, last_of, IsHeldBy, IsNextOf};
+ghost use Rattle.bump_links.specs.Lists.{HoldsEachOnce};
 
 mod ascending;
 mod chain;

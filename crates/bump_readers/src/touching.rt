@@ -8,7 +8,8 @@ ghost use Rattle.bump_rules.specs.Tables.{attempts_bump};
 ghost use Rattle.bump_word.specs.Words.{Fits};
 ghost use Rattle.bump_steps.specs.declared.views.HoldPart.{HoldPart as TheHoldPart};
 ghost use Rattle.bump_readers.specs.Seats.{held_life};
-ghost use Rattle.bump_steps.specs.Marks.{worker_after_fetch, worker_after_mark, worker_after_unmark, worker_after_store_time};
+ghost use Rattle.bump_steps.specs.Marks.{worker_after_fetch, worker_after_mark, worker_after_unmark};
+ghost use Rattle.bump_steps.specs.Marks.{worker_after_store_time};
 ghost use Rattle.bump_readers.specs.Touching.{fetches_of};
 
 use crate::heads::ReaderHeads;

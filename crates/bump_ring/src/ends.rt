@@ -165,8 +165,8 @@ impl<N: Name> Receiver<N> {
     }
 
     /// How many bumps are left in the ring, by the closed sender of this ring: all of them are known from then on,
-    /// and no other will come. They are at most as many as the ring's capacity is. It may be asked again. It answers None exactly where the closed sender can't show the
-    /// ring's end, and nothing is changed then.
+    /// and no other will come. They are at most as many as the ring's capacity is. It may be asked again. It answers
+    /// None exactly where the closed sender can't show the ring's end, and nothing is changed then.
     pub fn rest(&mut self, closed: &mut ClosedSender<N>) -> Option<u64>
         requires ring { closed.old.ring ≡ self.old.ring }
         ensures closed { closed.new ≡ closed.old }

@@ -18,7 +18,8 @@ listed_from first linked place = chunks_from first (links.list_at linked (place_
 abbrev pub lists_from : ℕ → links.Lists → Lists
 lists_from first linked = lists_by (listed_from first linked)
 
--- there are as many lists as places, each node stands in one of them, once, and the number behind the last chunk fits 32 bits too
+-- there are as many lists as places, each node stands in one of them, once, and the number behind the last chunk fits
+-- 32 bits too
 pub record AreSixLists (first : ℕ) (linked : links.Lists) : Type 0 where
   pub six : length linked.lists ≡ place_count
   pub each_once : HoldsEachOnce linked

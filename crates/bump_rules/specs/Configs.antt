@@ -1,9 +1,11 @@
 -- Which configurations are refused, and why.
-use Rattle.std.specs.Prelude.{ℕ, ◌<◌, ◌≤◌, Bool, List, [], ◌∷◌, Option, length, nat_lt, nat_le, not, ◌&&◌, ◌||◌, ◌==◌, find}
+use Rattle.std.specs.Prelude.{ℕ, ◌<◌, ◌≤◌, Bool, List, [], ◌∷◌, Option, length, nat_lt, nat_le, not, ◌&&◌, ◌||◌, ◌==◌}
+use Rattle.std.specs.Prelude.{find}
 use Rattle.std.specs.List.{list_any}
 use Rattle.bump_rules.specs.declared.configs.ClassConfig.{ClassConfig}
 use Rattle.bump_rules.specs.declared.configs.ConfigFault.{ConfigFault}
-use Rattle.bump_rules.specs.declared.configs.ConfigFault.TheVariants.{Workers, Capacity, RefsLimit, Generation, Classes, Chunks}
+use Rattle.bump_rules.specs.declared.configs.ConfigFault.TheVariants.{Workers, Capacity, RefsLimit, Generation, Classes}
+use Rattle.bump_rules.specs.declared.configs.ConfigFault.TheVariants.{Chunks}
 use Rattle.bump_rules.specs.Totals.{total}
 
 -- the number is within these bounds

@@ -11,8 +11,8 @@ use Rattle.bump_rules.specs.declared.items.Head.{Head}
 abbrev pub bit : Bool → ℕ
 bit mark = cond mark 1 0
 
--- LINKED is set exactly in HOT, WARM, COLD and TEMP, and there the segment bits name the list. No chunk of UNUSED has the
--- last generation, and every chunk of RETIRED has it.
+-- LINKED is set exactly in HOT, WARM, COLD and TEMP, and there the segment bits name the list. No chunk of UNUSED has
+-- the last generation, and every chunk of RETIRED has it.
 abbrev pub Shows : Head → Place → Type 0
 Shows head Hot = (head.linked ≡ true) × (head.segment ≡ segment.Hot)
 Shows head Warm = (head.linked ≡ true) × (head.segment ≡ segment.Warm)

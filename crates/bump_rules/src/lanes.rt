@@ -1,6 +1,7 @@
 //! Draining lanes: each takes the bumps of one worker's ring, and applies them in order.
 ghost use Rattle.std.specs.Prelude.{◌≡◌, is_some};
-ghost use Rattle.bump_rules.specs.Lanes.{applied_life, is_half_made, carried, tried, applied_now, cleared_active, is_empty, ending_at};
+ghost use Rattle.bump_rules.specs.Lanes.{applied_life, is_half_made, carried, tried, applied_now, cleared_active};
+ghost use Rattle.bump_rules.specs.Lanes.{is_empty, ending_at};
 
 use crate::bumps::{AppliedBump, Bump, Outcome};
 use crate::items::{Head, ItemId};

@@ -1,6 +1,7 @@
 //! The tables: what a hit, an attempt, an applied bump, an end and a pull come to, by the words found.
 ghost use Rattle.std.specs.Prelude.{◌≡◌};
-ghost use Rattle.bump_rules.specs.Tables.{dropped_of, ended_of, hit_of, makes_second, may_move, most_exchanges, outcome_of, pulled_of, pulled_to, refused_of, segment_of, touch_of};
+ghost use Rattle.bump_rules.specs.Tables.{dropped_of, ended_of, hit_of, makes_second, may_move, most_exchanges};
+ghost use Rattle.bump_rules.specs.Tables.{outcome_of, pulled_of, pulled_to, refused_of, segment_of, touch_of};
 
 use crate::bumps::{Ended, Outcome};
 use crate::class_lists::ClassLists;

@@ -1,7 +1,9 @@
 -- Events: when each is enabled, the state after it, its reply, and what an answer tells of that.
-use Rattle.std.specs.Prelude.{◌≡◌, ℕ, ◌+◌, ◌-◌, Bool, true, false, not, ◌&&◌, nat_lt, [], ◌∷◌, ◌++◌, length, slice_get, is_some, Option, Result, Ok, Err, if◌then◌else◌}
+use Rattle.std.specs.Prelude.{◌≡◌, ℕ, ◌+◌, ◌-◌, Bool, true, false, not, ◌&&◌, nat_lt, [], ◌∷◌, ◌++◌, length, slice_get}
+use Rattle.std.specs.Prelude.{is_some, Option, Result, Ok, Err, if◌then◌else◌}
 use Rattle.std.specs.Option.{option_map_or}
-use Rattle.bump_rules.specs.Heads.{linked_head, one_more, one_fewer, fetched_head, marked_head, cleared_head, moved_head, unlinked_head}
+use Rattle.bump_rules.specs.Heads.{linked_head, one_more, one_fewer, fetched_head, marked_head, cleared_head}
+use Rattle.bump_rules.specs.Heads.{moved_head, unlinked_head}
 use Rattle.bump_rules.specs.declared.places.Segment.{Segment}
 use Rattle.bump_rules.specs.declared.places.Segment.TheVariants as segment
 use Rattle.bump_rules.specs.declared.places.Start.{Start}
@@ -27,7 +29,9 @@ use Rattle.bump_rules.specs.Rings.{most_attempts}
 use Rattle.bump_links.specs.Lists.{first_of, times}
 use Rattle.bump_rules.specs.History.{freed_change}
 use Rattle.bump_rules.specs.Starts.{begun_change}
-use Rattle.bump_state.specs.State.{State, WorkerState, chunk_at, head_at, class_at, worker_at, is_chunk, is_class, with_chunk, with_head, with_worker, with_change, class_of, is_linked, is_held, has_free_hold, is_open, some_and, is_under_application}
+use Rattle.bump_state.specs.State.{State, WorkerState, chunk_at, head_at, class_at, worker_at, is_chunk, is_class}
+use Rattle.bump_state.specs.State.{with_chunk, with_head, with_worker, with_change, class_of, is_linked, is_held}
+use Rattle.bump_state.specs.State.{has_free_hold, is_open, some_and, is_under_application}
 use Rattle.bump_rules.specs.Hands.{tried_life, life_in_hand, cleared_life, is_idle}
 use Rattle.bump_rules.specs.Lanes.{carried, tried, applied_now, cleared_active, is_empty, bump_of, ending_at}
 

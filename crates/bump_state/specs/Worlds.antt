@@ -11,7 +11,8 @@ use Rattle.bump_rules.specs.Totals.{total, how_many}
 use Rattle.bump_rules.specs.Lives.{life, one_if, count_of}
 use Rattle.bump_rules.specs.Lawful.{Lawful}
 use Rattle.bump_rules.specs.History.{Standing, standing_in, is_between, AreBetween, replayed}
-use Rattle.bump_state.specs.State.{State, ClassState, WorkerState, chunk_at, head_at, class_at, worker_at, class_of, workers_on}
+use Rattle.bump_state.specs.State.{State, ClassState, WorkerState, chunk_at, head_at, class_at, worker_at, class_of}
+use Rattle.bump_state.specs.State.{workers_on}
 use Rattle.bump_rules.specs.Lanes.{applied_life}
 use Rattle.bump_rules.specs.Rings.{aboard}
 use Rattle.bump_state.specs.Rings.{in_ring, IsWorker}

@@ -19,7 +19,9 @@ use Rattle.bump_steps.specs.declared.views.ClassPart.{ClassPart}
 use Rattle.bump_steps.specs.declared.views.LanePart.{LanePart}
 use Rattle.bump_steps.specs.declared.views.WorkerPart.{WorkerPart}
 use Rattle.bump_steps.specs.declared.views.View.{View}
-use Rattle.bump_steps.specs.Views.{Measure, held, named, saw, owners, strays, mislabels, misreads, weight, tally, claims, evidence, Query, moves, settled, in_progress, underway, foreign, AreLabelled, workers_of, lanes_of, untidy}
+use Rattle.bump_steps.specs.Views.{Measure, held, named, saw, owners, strays, mislabels, misreads, weight, tally}
+use Rattle.bump_steps.specs.Views.{claims, evidence, Query, moves, settled, in_progress, underway, foreign, AreLabelled}
+use Rattle.bump_steps.specs.Views.{workers_of, lanes_of, untidy}
 
 -- A chunk is sound: n is its head word, x its label word, and t what all views together count of it.
 pub record Sound (limit word label : ℕ) (tally_of : Measure → ℕ) : Type 0 where

@@ -1,6 +1,7 @@
 -- What views count for one chunk, what they claim of applied bumps, and what they have of moves for bumps. The rule
 -- reads views through these sums alone.
-use Rattle.std.specs.Prelude.{ℕ, ◌+◌, ◌*◌, ◌/◌, ◌%◌, ◌^◌, ◌<◌, ◌≤◌, ◌≡◌, Bool, true, false, cond, not, ◌&&◌, ◌==◌, List, [], ◌∷◌, Option, Some, None}
+use Rattle.std.specs.Prelude.{ℕ, ◌+◌, ◌*◌, ◌/◌, ◌%◌, ◌^◌, ◌<◌, ◌≤◌, ◌≡◌, Bool, true, false, cond, not, ◌&&◌, ◌==◌, List}
+use Rattle.std.specs.Prelude.{[], ◌∷◌, Option, Some, None}
 use Rattle.bump_rules.specs.declared.items.ItemId.{ItemId}
 use Rattle.bump_rules.specs.declared.bumps.Outcome.{Outcome}
 use Rattle.bump_rules.specs.declared.bumps.Outcome.TheVariants as outcome
@@ -289,8 +290,8 @@ abbrev pub untidy : View → ℕ
 untidy view = total untidy_in view.lanes
 
 -- A view may become another one: what it adds to the entries is shown by what it has, each move is settled, and named
--- while it is in progress, no entry of a chunk of another class joins a history, lives have their labels, the workers and the lanes stay the same ones, and
--- the lanes stay in order.
+-- while it is in progress, no entry of a chunk of another class joins a history, lives have their labels, the workers
+-- and the lanes stay the same ones, and the lanes stay in order.
 pub record IsBacked (before after : View) : Type 0 where
   pub backs : (worker : ℕ) (a : AppliedBump) → (evidence worker a before ≤ evidence worker a after)
       × (claims worker a before < claims worker a after → 0 < evidence worker a after)

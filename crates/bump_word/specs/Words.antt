@@ -4,7 +4,8 @@ use Rattle.bump_rules.specs.declared.items.Head.{Head}
 use Rattle.bump_rules.specs.Lawful.{bit}
 use Rattle.bump_rules.specs.declared.places.Segment.{Segment}
 use Rattle.bump_rules.specs.declared.places.Segment.TheVariants.{Hot, Warm, Cold, Temp}
-use Rattle.bump_word.specs.Layout.{refs_width, linked_first, fetched_first, active_first, segment_first, segment_width, zero_first, zero_width, generation_first, generation_width}
+use Rattle.bump_word.specs.Layout.{refs_width, linked_first, fetched_first, active_first, segment_first, segment_width}
+use Rattle.bump_word.specs.Layout.{zero_first, zero_width, generation_first, generation_width}
 
 -- the number of a segment
 abbrev pub number_of : Segment → ℕ

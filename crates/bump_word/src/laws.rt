@@ -3,7 +3,8 @@
 //!
 //! A step is written as a function from the number that it finds to the number that it leaves. It answers the number
 //! that it found, so what it answers is the word of the Head before.
-ghost use Rattle.std.specs.Prelude.{◌≡◌, ◌≢◌, ◌==◌, ℕ, ◌+◌, ◌-◌, ◌*◌, ◌%◌, ◌/◌, ◌^◌, ◌<◌, true, false, ◌≤◌, bit_and, bit_or, bit_xor, ⊤, Option, Some};
+ghost use Rattle.std.specs.Prelude.{◌≡◌, ◌≢◌, ◌==◌, ℕ, ◌+◌, ◌-◌, ◌*◌, ◌%◌, ◌/◌, ◌^◌, ◌<◌, true, false, ◌≤◌, bit_and};
+ghost use Rattle.std.specs.Prelude.{bit_or, bit_xor, ⊤, Option, Some};
 ghost use prog.Atomic.{either};
 ghost use Rattle.bump_rules.specs.declared.items.Head.{Head as TheHead};
 ghost use Rattle.bump_rules.specs.declared.places.Segment.{Segment as TheSegment};
@@ -12,7 +13,8 @@ ghost use Rattle.bump_rules.specs.Configs.{most_refs};
 ghost use Rattle.bump_word.specs.Layout.{refs_width, segment_first, generation_first, generation_width};
 ghost use Rattle.bump_word.specs.Words.{Spells, IsPacked, FindsHead, number_of, word_of, segment_bits, segment_change};
 ghost use Rattle.bump_word.specs.Steps.{Changes, Tests, Reads};
-ghost use Rattle.bump_rules.specs.Heads.{linked_head_in, unlinked_head, one_more as with_one_more, one_fewer, fetched_head, marked_head, cleared_head, moved_head};
+ghost use Rattle.bump_rules.specs.Heads.{linked_head_in, unlinked_head, one_more as with_one_more, one_fewer};
+ghost use Rattle.bump_rules.specs.Heads.{fetched_head, marked_head, cleared_head, moved_head};
 
 use crate::layout::{ACTIVE, FETCHED, GENERATION_AT, LINKED, REFS_AT, REFS_MAX, SEGMENT_AT};
 use bump_rules::MAX_REFS;

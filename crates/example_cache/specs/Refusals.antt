@@ -8,7 +8,8 @@ use Rattle.bump_rules.specs.declared.items.ItemId.{ItemId}
 use Rattle.bump_core.specs.Commands.{is_allowed, answer_of}
 use Rattle.bump_state.specs.State.{State}
 use Rattle.example_cache.specs.declared.cache.CacheError.{CacheError}
-use Rattle.example_cache.specs.declared.cache.CacheError.TheVariants.{Unknown, Taken, Full, Gone, Busy, NotAllowed, Memory}
+use Rattle.example_cache.specs.declared.cache.CacheError.TheVariants.{Unknown, Taken, Full, Gone, Busy, NotAllowed}
+use Rattle.example_cache.specs.declared.cache.CacheError.TheVariants.{Memory}
 
 -- A call is refused exactly where there is a reason, and by that one. Want of memory comes last: only a call that
 -- nothing else refuses meets it.

@@ -1,6 +1,7 @@
 //! A cache of named items over a World.
 
-ghost use Rattle.std.specs.Prelude.{◌≡◌, ℕ, ◌<◌, List, Some, None, true, IfOk, IfErr, OnOk, OnErr, length, map, string_bytes};
+ghost use Rattle.std.specs.Prelude.{◌≡◌, ℕ, ◌<◌, List, Some, None, true, IfOk, IfErr, OnOk, OnErr, length, map};
+ghost use Rattle.std.specs.Prelude.{string_bytes};
 ghost use Rattle.std.specs.Str.{bytes_eq};
 ghost use Rattle.std.specs.Map.{update};
 ghost use Rattle.bump_core.specs.Commands.{answer_of, command_after};
@@ -49,7 +50,8 @@ pub enum CacheError {
     Memory,
 }
 
-/// Items by name, in the lists of a World with one class. The label of an item is for the caller, as the place of its value.
+/// Items by name, in the lists of a World with one class. The label of an item is for the caller, as the place of its
+/// value.
 #[derive(Drop)]
 pub struct Cache {
     world: World,
@@ -73,7 +75,8 @@ fn made(world: &mut World, command: Command) -> Result<Answer, CacheError>
 }
 
 impl Cache {
-    ghost use Rattle.example_cache.specs.Cache.{named, after_command, put_refused, get_refused, remove_refused, ended_by, may_get, Drains};
+    ghost use Rattle.example_cache.specs.Cache.{named, after_command, put_refused, get_refused, remove_refused};
+    ghost use Rattle.example_cache.specs.Cache.{ended_by, may_get, Drains};
 
     /// A cache without items. It is refused for want of memory alone.
     pub fn new(alloc: Global, config: &Config) -> Result<Cache, AllocError>
@@ -104,11 +107,11 @@ impl Cache {
         Ok(id)
     }
 
-    /// Stores an item with its label, and gives it the name. Refused as Taken where the name has an item, and as Full where no
-    /// chunk is free.
+    /// Stores an item with its label, and gives it the name. Refused as Taken where the name has an item, and as Full
+    /// where no chunk is free.
     ///
-    /// It doesn't end the name's old item: that would be a second command, and where memory is wanting for it the first one
-    /// would have been made. Whoever stores under the name again calls `remove`, and then this.
+    /// It doesn't end the name's old item: that would be a second command, and where memory is wanting for it the first
+    /// one would have been made. Whoever stores under the name again calls `remove`, and then this.
     pub fn put(&mut self, name: String, label: u64, now: u64) -> Result<ItemId, CacheError>
         ensures refusal { RefusesOrLacks (put_refused self.old (string_bytes name) label now) result }
         ensures answer { IfOk result (λ id. Answer.Linked id ≡ answer_of self.old.world (Command.Link 0 label now)) }
@@ -144,8 +147,8 @@ impl Cache {
         Ok(id)
     }
 
-    /// Ends the item that has the name, which has none then. Says whether its chunk is free or still held, or `None` where the
-    /// item had ended before, as by an evict. Refused as Unknown where no item has the name.
+    /// Ends the item that has the name, which has none then. Says whether its chunk is free or still held, or `None`
+    /// where the item had ended before, as by an evict. Refused as Unknown where no item has the name.
     pub fn remove(&mut self, name: &str) -> Result<Option<Ended>, CacheError>
         ensures refusal { Refuses (remove_refused self.old name.now) result }
         ensures answer { IfOk result (λ ended. (id : ItemId) → named self.old name.now ≡ Some id → ended ≡ ended_by (answer_of self.old.world (Command.Unlink id))) }
@@ -166,8 +169,8 @@ impl Cache {
         }
     }
 
-    /// Takes a hold of the item that has the name. Whoever has it gives it back by `release`. Refused as Unknown where no
-    /// item has the name, as Gone where it has ended, and as Busy at the limit of references.
+    /// Takes a hold of the item that has the name. Whoever has it gives it back by `release`. Refused as Unknown where
+    /// no item has the name, as Gone where it has ended, and as Busy at the limit of references.
     pub fn get(&mut self, worker: u32, name: &str) -> Result<ItemId, CacheError>
         ensures refusal { RefusesOrLacks (get_refused self.old worker name.now) result }
         ensures memory { IfErr result (λ e. e ≡ CacheError.Memory → may_get self.old worker name.now ≡ true) }
@@ -221,8 +224,8 @@ impl Cache {
         Ok(())
     }
 
-    /// One step of ageing: looks at the last item of a list, and moves it by the tail table. An evict ends the last item of
-    /// COLD, which makes room where nobody holds it; its name stays with it until it is removed.
+    /// One step of ageing: looks at the last item of a list, and moves it by the tail table. An evict ends the last
+    /// item of COLD, which makes room where nobody holds it; its name stays with it until it is removed.
     pub fn age(&mut self, tail: Tail) -> Result<Pulled, CacheError>
         ensures refusal { Refuses (command_refused self.old.world (Command.Pull 0 tail)) result }
         ensures answer { IfOk result (λ pulled. Answer.Pulled pulled ≡ answer_of self.old.world (Command.Pull 0 tail)) }
@@ -250,9 +253,9 @@ impl Cache {
         }
     }
 
-    /// Applies a worker's bumps until none waits, and says how many. The worker is one of the configuration's. Then all that its
-    /// ring ever accepted is applied, once and in order. A refusal leaves those that it applied before it, and the others where
-    /// they were.
+    /// Applies a worker's bumps until none waits, and says how many. The worker is one of the configuration's. Then all
+    /// that its ring ever accepted is applied, once and in order. A refusal leaves those that it applied before it, and
+    /// the others where they were.
     pub fn drain(&mut self, worker: u32, now: u64) -> Result<u64, CacheError>
         requires { worker < length self.old.world.workers }
         ensures drained { Drains self.old worker now self.new result }

@@ -63,7 +63,8 @@ impl<N: Name> Reader<N> {
         let Ok(mut hold) = self.worker.get(&cache.store, id) else {
             return;
         };
-        // While there is the hold its chunk isn't used for another item, even if this one is ended: here the value is read.
+        // While there is the hold its chunk isn't used for another item, even if this one is ended: here the value is
+        // read.
         if hold.label(&cache.store) != u64::from(key) {
             self.wrong = self.wrong.saturating_add(1);
         }

@@ -7,8 +7,8 @@ ghost use Rattle.std.specs.declared.io.Error.{Error};
 
 use std::io::{self, Read, Write};
 
-/// A reader. Whoever calls one of which nothing else is known has `gives` of the answer by the call alone: so a clause that
-/// says `gives` says that the reader was called, and what it answered.
+/// A reader. Whoever calls one of which nothing else is known has `gives` of the answer by the call alone: so a clause
+/// that says `gives` says that the reader was called, and what it answered.
 pub trait Source {
     // The bytes that are left, where they are known.
     ghost remaining: { Self → Option (List ℕ) };

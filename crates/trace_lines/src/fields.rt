@@ -8,8 +8,8 @@ ghost use Rattle.trace_lines.specs.Seen.{Gives};
 use crate::faults::Fault;
 use bump_rules::Tail;
 
-/// The number below 2^64 that these decimal digits spell, without leading zeros. None where they are none, where another byte
-/// stands among them, or where the number is larger.
+/// The number below 2^64 that these decimal digits spell, without leading zeros. None where they are none, where
+/// another byte stands among them, or where the number is larger.
 pub fn read_number(digits: &[u8]) -> Option<u64>
     ensures { result ≡ number_of (2 ^ 64) digits.now }
 {

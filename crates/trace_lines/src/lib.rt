@@ -1,5 +1,5 @@
-//! The lines of a trace and of its text, and readers and writers whose calls are counted: what the trace language needs and
-//! what stands on no World.
+//! The lines of a trace and of its text, and readers and writers whose calls are counted: what the trace language needs
+//! and what stands on no World.
 #![tactic(auto)]
 
 mod calls;

@@ -2,7 +2,8 @@
 
 ghost use Rattle.std.specs.Prelude.{◌≡◌, ◌∷◌, [], IfOk, map};
 ghost use Rattle.trace_lines.specs.Fields.{U32, U64, Name, Segment};
-ghost use Rattle.trace_lines.specs.Lines.{split_at_spaces, values_of, by_row, line_of_words, is_long, is_skipped, line_said, rest_fault};
+ghost use Rattle.trace_lines.specs.Lines.{split_at_spaces, values_of, by_row, line_of_words, is_long, is_skipped};
+ghost use Rattle.trace_lines.specs.Lines.{line_said, rest_fault};
 ghost use Rattle.trace_lines.specs.Seen.{seen_line, Gives, Says};
 
 use crate::faults::{Fault, LineError};
@@ -380,8 +381,8 @@ fn is_skipped(line: &[u8]) -> bool
     }
 }
 
-/// What a whole line says, or nothing where it is skipped. It is refused by its first fault: LONG, COMMAND, COUNT, and then
-/// field by field from the left NUMBER, NAME and SEGMENT.
+/// What a whole line says, or nothing where it is skipped. It is refused by its first fault: LONG, COMMAND, COUNT, and
+/// then field by field from the left NUMBER, NAME and SEGMENT.
 #[tactic(auto, unfolding(crate::specs::Lines::line_said))]
 pub fn read_line<'a>(alloc: Global, line: &'a [u8]) -> Result<Option<Line<'a>>, LineError>
     ensures { Says result (line_said line.entry.now) }

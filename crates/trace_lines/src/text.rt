@@ -2,7 +2,12 @@
 //! there.
 
 ghost use Rattle.std.specs.Prelude.{◌≡◌, ◌++◌, OnOk, codes, decimal};
-ghost use Rattle.trace_lines.specs.Text.{id_text, flags_text, item_text, chunk_text, place_word, is_shown, list_start, accounts_text, accounts_line, touch_text, pulled_text, applied_text, entry_text, answer_text, told, link_word, set_line, get_line, busy_get_line, get_held_line, hold_line, busy_hold_line, hit_line, read_line, drop_line, del_line, pull_line, sweep_line, bump_line, drain_line, moves_line, close_start, closed_line, fault_line};
+ghost use Rattle.trace_lines.specs.Text.{id_text, flags_text, item_text, chunk_text, place_word, is_shown, list_start};
+ghost use Rattle.trace_lines.specs.Text.{accounts_text, accounts_line, touch_text, pulled_text, applied_text};
+ghost use Rattle.trace_lines.specs.Text.{entry_text, answer_text, told, link_word, set_line, get_line, busy_get_line};
+ghost use Rattle.trace_lines.specs.Text.{get_held_line, hold_line, busy_hold_line, hit_line, read_line, drop_line};
+ghost use Rattle.trace_lines.specs.Text.{del_line, pull_line, sweep_line, bump_line, drain_line, moves_line};
+ghost use Rattle.trace_lines.specs.Text.{close_start, closed_line, fault_line};
 ghost use Rattle.trace_lines.specs.Fields.{tail_word};
 
 use crate::faults::Fault;

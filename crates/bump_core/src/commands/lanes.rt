@@ -3,7 +3,8 @@ ghost use Rattle.std.specs.Prelude.{◌≡◌, ◌<◌, [], ◌∷◌, ◌++◌,
 ghost use Rattle.bump_state.specs.State.{class_at, class_of, head_at, worker_at, with_worker};
 ghost use Rattle.bump_rules.specs.Lanes.{applied_bump, is_half_made};
 ghost use Rattle.bump_state.specs.Events.{next_bump};
-ghost use Rattle.bump_core.specs.Commands.{Commands, bump_next, bumped_chunk, bumped_worker, bumped_lists, apply_bump, entry_next};
+ghost use Rattle.bump_core.specs.Commands.{Commands, bump_next, bumped_chunk, bumped_worker, bumped_lists, apply_bump};
+ghost use Rattle.bump_core.specs.Commands.{entry_next};
 ghost use Rattle.bump_state.specs.Views.{state_of};
 ghost use Rattle.bump_state.specs.Workers.{HasRoom};
 ghost use Rattle.bump_state.specs.Worlds.{IsLawful};

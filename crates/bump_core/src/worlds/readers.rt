@@ -5,7 +5,8 @@ ghost use Rattle.bump_state.specs.State.{head_at, is_open};
 ghost use Rattle.bump_core.specs.Headline.{Headline};
 ghost use Rattle.bump_rules.specs.Entries.{moves_of};
 ghost use Rattle.bump_state.specs.Worlds.{IsLawful};
-ghost use Rattle.bump_core.specs.Readers.{list_of, history_of, time_of, label_of, holds_at, accounts_of, sent_of, received_of, applied_of, limits_of};
+ghost use Rattle.bump_core.specs.Readers.{list_of, history_of, time_of, label_of, holds_at, accounts_of, sent_of};
+ghost use Rattle.bump_core.specs.Readers.{received_of, applied_of, limits_of};
 
 use crate::worlds::World;
 use bump_rules::{Accounts, AppliedBump, Change, Head, ItemId, ListedChunks, Place};

@@ -1,6 +1,7 @@
 //! Events of links: the next item of a class gets its label and its time, and begins its life.
 ghost use Rattle.std.specs.Prelude.{◌≡◌, IfOk, IfErr, OnOk, OnErr};
-ghost use Rattle.bump_state.specs.Events.{IsEnabledBy, is_class_at_rest, may_link, is_enabled, link_next, after, link_reply, reply_of};
+ghost use Rattle.bump_state.specs.Events.{IsEnabledBy, is_class_at_rest, may_link, is_enabled, link_next, after};
+ghost use Rattle.bump_state.specs.Events.{link_reply, reply_of};
 ghost use Rattle.bump_state.specs.Views.{state_of};
 ghost use Rattle.bump_state.specs.Worlds.{IsLawful};
 ghost use Rattle.bump_rules.specs.declared.events.Event.TheVariants as event;

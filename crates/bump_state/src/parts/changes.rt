@@ -2,7 +2,8 @@
 ghost use Rattle.std.specs.Prelude.{◌≡◌, ◌<◌, ◌+◌, ◌≤◌, ◌^◌, [], ◌∷◌, ◌++◌, OnOk, OnErr, length, Some};
 ghost use Rattle.bump_rules.specs.Lists.{IsListed};
 ghost use Rattle.bump_rules.specs.History.{subject, AreListed};
-ghost use Rattle.bump_state.specs.State.{chunk_at, class_at, worker_at, with_chunk, with_head, with_worker, with_change, with_changes};
+ghost use Rattle.bump_state.specs.State.{chunk_at, class_at, worker_at, with_chunk, with_head, with_worker};
+ghost use Rattle.bump_state.specs.State.{with_change, with_changes};
 ghost use Rattle.bump_state.specs.Events.{with_lane, next_bump, take_bump, push, close};
 ghost use Rattle.bump_state.specs.Sweeps.{sweep_of};
 ghost use Rattle.bump_state.specs.Views.{state_of};

@@ -1,6 +1,8 @@
 //! How the parts of a World are read.
 ghost use Rattle.std.specs.Prelude.{◌≡◌, ◌<◌, nat_lt, IfSome, length};
-ghost use Rattle.bump_state.specs.State.{chunk_at, head_at, worker_at, is_chunk, is_class, is_worker, is_current, is_linked, is_held, workers_on, has_free_hold, class_of, is_under_application, is_open, class_at};
+ghost use Rattle.bump_state.specs.State.{chunk_at, head_at, worker_at, is_chunk, is_class, is_worker, is_current};
+ghost use Rattle.bump_state.specs.State.{is_linked, is_held, workers_on, has_free_hold, class_of, is_under_application};
+ghost use Rattle.bump_state.specs.State.{is_open, class_at};
 ghost use Rattle.bump_state.specs.Events.{next_bump, waiting, next_chunk};
 ghost use Rattle.bump_rules.specs.Lists.{list_at, IsListed};
 ghost use Rattle.bump_state.specs.Worlds.{IsLawful};

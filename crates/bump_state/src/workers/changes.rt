@@ -1,5 +1,6 @@
 //! How workers are changed. What changes a hand or a lane counts anew.
-ghost use Rattle.std.specs.Prelude.{◌≡◌, ◌<◌, ◌+◌, ◌≤◌, ◌^◌, [], ◌∷◌, ◌++◌, OnOk, OnErr, Some, false, length, slice_set};
+ghost use Rattle.std.specs.Prelude.{◌≡◌, ◌<◌, ◌+◌, ◌≤◌, ◌^◌, [], ◌∷◌, ◌++◌, OnOk, OnErr, Some, false, length};
+ghost use Rattle.std.specs.Prelude.{slice_set};
 ghost use Rattle.bump_rules.specs.Lanes.{bump_of};
 ghost use Rattle.bump_state.specs.Events.{next_bump};
 ghost use Rattle.bump_rules.specs.Lawful.{bit};

@@ -4,7 +4,8 @@ ghost use Rattle.bump_rules.specs.declared.bumps.Outcome.{Outcome as TheOutcome}
 ghost use Rattle.bump_rules.specs.declared.bumps.Outcome.TheVariants.{Gone};
 ghost use Rattle.bump_steps.specs.Words.{HasChunk, words_id};
 ghost use Rattle.bump_steps.specs.Plays.{on_chunk, OwnsChunk};
-ghost use Rattle.bump_steps.specs.Applications.{try_tells, clear_active_tells, put_time_tells, view_after_put_time, move_tells, alight_tells, MayTry, MayMove, MayAlight};
+ghost use Rattle.bump_steps.specs.Applications.{try_tells, clear_active_tells, put_time_tells, view_after_put_time};
+ghost use Rattle.bump_steps.specs.Applications.{move_tells, alight_tells, MayTry, MayMove, MayAlight};
 ghost use Rattle.bump_rules.specs.declared.places.Segment.{Segment as TheSegment};
 ghost use Rattle.bump_rules.specs.declared.places.Segment.TheVariants.{Hot};
 

@@ -2,7 +2,8 @@
 ghost use Rattle.std.specs.Prelude.{◌≡◌, ◌<◌, []};
 ghost use Rattle.bump_steps.specs.Words.{words_id};
 ghost use Rattle.bump_steps.specs.Rule.{blank};
-ghost use Rattle.bump_steps.specs.Cuts.{joined, without_lanes, lanes_only, without_holds, holds_only, without_class, class_only, without_worker, worker_only, without_lane, lane_only};
+ghost use Rattle.bump_steps.specs.Cuts.{joined, without_lanes, lanes_only, without_holds, holds_only, without_class};
+ghost use Rattle.bump_steps.specs.Cuts.{class_only, without_worker, worker_only, without_lane, lane_only};
 
 use crate::views::View;
 use crate::words::{Seat, Words};

@@ -4,7 +4,10 @@ ghost use Rattle.bump_steps.specs.Words.{HasChunk, words_id};
 ghost use Rattle.bump_steps.specs.Plays.{on_chunk, HasClass};
 ghost use Rattle.bump_word.specs.Words.{word_of};
 ghost use Rattle.bump_rules.specs.Heads.{linked_head};
-ghost use Rattle.bump_steps.specs.Lives.{generation_load_tells, load_tells, time_load_tells, put_label_tells, link_tells, unlink_tells, sweep_or_load_tells, class_after_see_time, class_after_put_label, class_after_link, on_class, IsUnused, IsDying, IsLinked, MayLink};
+ghost use Rattle.bump_steps.specs.Lives.{generation_load_tells, load_tells, time_load_tells, put_label_tells};
+ghost use Rattle.bump_steps.specs.Lives.{link_tells, unlink_tells, sweep_or_load_tells, class_after_see_time};
+ghost use Rattle.bump_steps.specs.Lives.{class_after_put_label, class_after_link, on_class, IsUnused, IsDying};
+ghost use Rattle.bump_steps.specs.Lives.{IsLinked, MayLink};
 
 use crate::views::{Empty, View};
 use crate::words::{HEAD, LABEL, Seat, TIME, Words};

@@ -3,7 +3,8 @@ ghost use Rattle.std.specs.Prelude.{◌≡◌};
 ghost use Rattle.bump_rules.specs.Lives.{life};
 ghost use Rattle.bump_steps.specs.Words.{HasChunk, words_id};
 ghost use Rattle.bump_steps.specs.Plays.{on_chunk, HasWorker};
-ghost use Rattle.bump_steps.specs.Marks.{fetch_tells, mark_tells, unmark_tells, store_time_tells, on_worker, worker_after_store_time, MayMark, RefersTo};
+ghost use Rattle.bump_steps.specs.Marks.{fetch_tells, mark_tells, unmark_tells, store_time_tells, on_worker};
+ghost use Rattle.bump_steps.specs.Marks.{worker_after_store_time, MayMark, RefersTo};
 
 use crate::views::{Empty, View};
 use crate::words::{HEAD, Seat, TIME, Words};

@@ -4,7 +4,8 @@ ghost use Rattle.std.specs.Prelude.{ℕ, ◌≡◌, List};
 ghost use Rattle.bump_rules.specs.declared.items.Head.{Head as TheHead};
 ghost use Rattle.bump_steps.specs.Words.{HasChunk, words_id, config_of};
 ghost use Rattle.bump_steps.specs.Plays.{on_chunk, Found, HasWorker};
-ghost use Rattle.bump_steps.specs.References.{load_to_take_tells, take_tells, MayTake, HasHold, release_of_hold_tells, label_load_tells, load_without_seat_tells, IsAnyHead};
+ghost use Rattle.bump_steps.specs.References.{load_to_take_tells, take_tells, MayTake, HasHold, release_of_hold_tells};
+ghost use Rattle.bump_steps.specs.References.{label_load_tells, load_without_seat_tells, IsAnyHead};
 ghost use Rattle.bump_steps.specs.Tries.{TakeFound, refusal_of, view_after_attempt};
 
 use crate::decoding::head_of;

@@ -10,7 +10,8 @@ ghost use Rattle.bump_steps.specs.Rule.{blank};
 ghost use Rattle.bump_steps.specs.Riders.{ride_me};
 ghost use Rattle.bump_steps.specs.Marks.{on_worker};
 ghost use Rattle.bump_steps.specs.Tries.{RideFound, drop_of, worker_after_attempt};
-ghost use Rattle.bump_steps.specs.Rides.{dropped_as, load_to_ride_tells, try_to_ride_tells, release_tells, IsOn, HasRoom, without_ride, ride_only, return_both};
+ghost use Rattle.bump_steps.specs.Rides.{dropped_as, load_to_ride_tells, try_to_ride_tells, release_tells, IsOn};
+ghost use Rattle.bump_steps.specs.Rides.{HasRoom, without_ride, ride_only, return_both};
 
 use crate::decoding::head_of;
 use crate::refusals::RideRefusal;

@@ -1,5 +1,5 @@
-//! Calls of a World, whose answers are looked at as a test runs. None has a contract: what a call promises would stand in
-//! the proof of each step behind it, and no test needs it.
+//! Calls of a World, whose answers are looked at as a test runs. None has a contract: what a call promises would stand
+//! in the proof of each step behind it, and no test needs it.
 use super::readers::{expect_told, told_by};
 use super::*;
 use crate::opening::config_of;

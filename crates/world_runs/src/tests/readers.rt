@@ -14,8 +14,8 @@ pub type Ends = (usize, Option<u32>, Option<u32>);
 /// How many bumps a ring accepted or a lane took, and the last of them.
 pub type Bumps = (usize, Option<ItemId>);
 
-/// How much there is, and the limits: classes, chunks and workers; the room of a ring, and of a count of references; HOT and
-/// WARM.
+/// How much there is, and the limits: classes, chunks and workers; the room of a ring, and of a count of references;
+/// HOT and WARM.
 pub type Bounds = ((u32, u32, u32), (u32, u32), (u32, u32));
 
 /// What the readers tell. Taking it asks for no memory.
