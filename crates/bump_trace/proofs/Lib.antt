@@ -4,6 +4,7 @@ pub mod AscendingLoops
 pub mod CountedReads
 pub mod CutLines
 pub mod Draining
+pub mod WaitingBumps
 pub mod SameButWorld
 pub mod HoldsOfItems
 pub mod HeldNames

@@ -11,7 +11,8 @@ use Rattle.bump_rules.specs.declared.places.Tail.{Tail}
 use Rattle.bump_rules.specs.Starts.{link_command}
 use Rattle.bump_core.specs.Commands.{answer_of, command_after}
 use Rattle.bump_rules.specs.Lists.{ascending}
-use Rattle.bump_state.specs.State.{State, is_class, is_worker, is_open}
+use Rattle.bump_state.specs.State.{State, worker_at, is_class, is_worker, is_open}
+use Rattle.bump_state.specs.Events.{waiting}
 use Rattle.trace_lines.specs.Lines.{Instruction, Set, Get, Hold, Hit, Read, Drop, Del, Pull, Sweep, Drain, Close, Show, Moves, Par, may_follow_par}
 use Rattle.bump_trace.specs.Names.{Names, bind, unbind}
 use Rattle.bump_trace.specs.Stages.{StoreState, Open, Said, say}
@@ -212,7 +213,7 @@ unfoldable pub drain_said : StoreState → ℕ → Result Said Fault
 drain_said store now =
     Ok (drain_by store (drained_through now (ascending 0 (length store.state.workers)) store.state))
 
--- close W: the ring is closed, and the bumps that wait in it are applied: no more than it has room for.
+-- close W: the ring is closed, and the bumps that wait in it are applied.
 abbrev pub close_by : StoreState → ℕ → Drained → Said
 close_by store worker drained =
     say (Open (record store { state = drained.state })) (drained.text ++ close_line drained.state worker)
@@ -220,7 +221,7 @@ close_by store worker drained =
 abbrev pub close_open : StoreState → ℕ → ℕ → Said
 close_open store now worker =
     let closed = command_after store.state (command.Close worker) in
-    close_by store worker (drained_of now worker store.state.capacity closed)
+    close_by store worker (drained_of now worker (waiting (worker_at closed worker)) closed)
 
 -- where there is such a worker, and it isn't closed yet
 unfoldable pub close_said : StoreState → ℕ → ℕ → Result Said Fault

@@ -1,11 +1,12 @@
-use Rattle.std.proofs.Common.{ap, sym, subst, rules}
+use Rattle.std.proofs.Common.{◌<◌, ap, sym, subst, ◌∙◌, length, rules, arith}
 use Rattle.bump_state.specs.State.{State}
 use Rattle.bump_trace.specs.Ready.{HoldsStay}
 use Rattle.bump_trace.specs.declared.open_store.OpenStore.{OpenStore}
 use Rattle.bump_trace.proofs.CommandsAtRest.{close_allowed}
 use Rattle.bump_trace.proofs.HoldsOfItems.{stay_drained}
 use Rattle.bump_trace.proofs.HeldNames.{store_still}
-use Rattle.bump_trace.specs.OpenStore.{close_said}
+use Rattle.bump_trace.proofs.WaitingBumps.{waiting_drained}
+use Rattle.bump_trace.specs.OpenStore.{close_said, drained_of}
 use Rattle.bump_trace.proofs.open_store.OpenStore.close.Goals as goal
 
 pub command_by-requires-clause-allowed : goal.command_by-requires-clause-allowed
@@ -25,4 +26,15 @@ returns-clause-steady c =
 
 pub returns-clause-said : goal.returns-clause-said
 unfolding close_said
-returns-clause-said c = search rules
+returns-clause-said c =
+    let b = c.command_by.new.self in
+    let ready = c.in_ok-command_by.ensures.ready in
+    let within : c.args.worker < length b.world.workers = omega (
+      arith,
+      ready.workers,
+      ap (λ (x : OpenStore). x.workers) c.in_ok-command_by.ensures.after,
+    ) in
+    let all =
+    ap (λ i. drained_of c.args.now c.args.worker i b.world) (sym ready.capacity)
+    ∙ waiting_drained c.args.now c.args.worker b.world within ready.rest ready.lawful in
+    search (rules, all)
