@@ -53,7 +53,10 @@ answer_of limit found accepted = touch_of (hit_of found.first found.second) (why
 abbrev pub is_attempted : Touch → Bool
 is_attempted (touch.Queued number) = true
 is_attempted (touch.Dropped why) = true
-is_attempted _ = false
+is_attempted touch.First = false
+is_attempted touch.Already = false
+is_attempted touch.Marked = false
+is_attempted touch.Exhausted = false
 
 -- ---- the steps
 
@@ -80,7 +83,10 @@ drop_steps dropped.RefsFull item found = own_step kind.Unmark item found.cleared
 abbrev pub end_steps : Touch → ItemId → Findings → List OwnStep
 end_steps (touch.Queued number) item found = own_step kind.Reserve item (decisive found) ∷ []
 end_steps (touch.Dropped why) item found = drop_steps why item found
-end_steps _ item found = []
+end_steps touch.First item found = []
+end_steps touch.Already item found = []
+end_steps touch.Marked item found = []
+end_steps touch.Exhausted item found = []
 
 abbrev pub attempt_steps : Touch → ItemId → Findings → List OwnStep
 attempt_steps answered item found = looks item.chunk found.look found.failed ++ end_steps answered item found
@@ -94,7 +100,8 @@ later_steps (touch.Queued number) item now found =
     own_step kind.Mark item found.second ∷ attempt_steps (touch.Queued number) item found
 later_steps (touch.Dropped why) item now found =
     own_step kind.Mark item found.second ∷ attempt_steps (touch.Dropped why) item found
-later_steps _ item now found = []
+later_steps touch.First item now found = []
+later_steps touch.Exhausted item now found = []
 
 -- all steps of a touch that isn't exhausted
 abbrev pub touch_steps : Touch → ItemId → ℕ → Findings → List OwnStep
@@ -105,12 +112,20 @@ touch_steps answered item now found = own_step kind.Fetch item found.first ∷ l
 -- the items that the worker hit first
 abbrev pub first_hits : Touch → ItemId → List ItemId → List ItemId
 first_hits touch.First item hits = hits ++ item ∷ []
-first_hits _ item hits = hits
+first_hits touch.Already item hits = hits
+first_hits touch.Marked item hits = hits
+first_hits (touch.Queued number) item hits = hits
+first_hits (touch.Dropped why) item hits = hits
+first_hits touch.Exhausted item hits = hits
 
 -- the bump that the ring accepted, if it accepted one
 abbrev pub queued : Touch → ℕ → ItemId → List Ride
 queued (touch.Queued number) worker item = record { worker = worker; number = number; life = item } ∷ []
-queued _ worker item = []
+queued touch.First worker item = []
+queued touch.Already worker item = []
+queued touch.Marked worker item = []
+queued (touch.Dropped why) worker item = []
+queued touch.Exhausted worker item = []
 
 abbrev pub touched_part : Touch → ItemId → ℕ → Findings → WorkerPart → WorkerPart
 touched_part answered item now found part = record part {
