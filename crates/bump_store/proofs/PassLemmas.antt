@@ -1,6 +1,6 @@
 -- A maintainer's pass: the lanes that it drained so far.
 use Rattle.std.proofs.Common.{◌≡◌, ℕ, zero, suc, ◌<◌, List, [], ◌∷◌, length, refl, sym, ap, subst, arith}
-use Rattle.std.specs.Prelude.{slice_index_or, slice_set}
+use Rattle.std.specs.Prelude.{slice_index_or, slice_set, slice_get, Some}
 use Rattle.bump_store.specs.Lanes.{LaneState}
 use Rattle.bump_store.specs.Passes.{IsDrained, AllDrained}
 
@@ -35,10 +35,20 @@ as_many now (suc count) (before ∷ befores) [] so_far = absurd so_far
 as_many now (suc count) (before ∷ befores) (after ∷ afters) so_far =
     ap suc (as_many now count befores afters so_far.1)
 
--- where as many were as there are, all were
+-- where as many were as there are, each was
+each_was : (now : ℕ) (befores afters : List LaneState) → DrainedSoFar now (length befores) befores afters
+    → (worker : ℕ) (before after : LaneState) → slice_get befores worker ≡ Some before
+    → slice_get afters worker ≡ Some after → IsDrained now before after
+each_was now [] afters so_far worker before after was is = absurd (cc was)
+each_was now (first ∷ befores) [] so_far worker before after was is = absurd so_far
+each_was now (first ∷ befores) (left ∷ afters) so_far zero before after was is =
+    let same : first ≡ before = cc was in
+    let same_after : left ≡ after = cc is in
+    subst (λ x. IsDrained now x after) same (subst (λ x. IsDrained now first x) same_after so_far.0)
+each_was now (first ∷ befores) (left ∷ afters) so_far (suc worker) before after was is =
+    each_was now befores afters so_far.1 worker before after was is
+
 pub all_were : (now : ℕ) (befores afters : List LaneState) → DrainedSoFar now (length befores) befores afters
     → AllDrained now befores afters
-all_were now [] [] so_far = tt
-all_were now [] (after ∷ afters) so_far = absurd (cc so_far)
-all_were now (before ∷ befores) [] so_far = absurd so_far
-all_were now (before ∷ befores) (after ∷ afters) so_far = (so_far.0, all_were now befores afters so_far.1)
+all_were now befores afters so_far =
+    record { as_many = as_many now (length befores) befores afters so_far; each = each_was now befores afters so_far }

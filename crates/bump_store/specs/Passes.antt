@@ -1,5 +1,5 @@
 -- What a maintainer's pass comes to.
-use Rattle.std.specs.Prelude.{◌≡◌, ℕ, ◌+◌, ◌≤◌, ◌<◌, List, [], ◌∷◌, length}
+use Rattle.std.specs.Prelude.{◌≡◌, ℕ, ◌+◌, ◌≤◌, ◌<◌, List, [], Some, length, slice_get}
 use Rattle.bump_rules.specs.Totals.{total}
 use Rattle.bump_class.specs.Lanes.{entries}
 use Rattle.bump_store.specs.Lanes.{LaneState, AppliesMany}
@@ -21,9 +21,8 @@ pub record IsDrained (now : ℕ) (before after : LaneState) : Type 0 where
   pub ring : after.lane.ring ≡ before.lane.ring
   pub capacity : after.capacity ≡ before.capacity
 
--- each of these lanes was drained once
-abbrev pub AllDrained : ℕ → List LaneState → List LaneState → Type 0
-AllDrained now [] [] = Unit {0}
-AllDrained now [] (after ∷ afters) = ⊥
-AllDrained now (before ∷ befores) [] = ⊥
-AllDrained now (before ∷ befores) (after ∷ afters) = IsDrained now before after × AllDrained now befores afters
+-- Each of these lanes, by its worker's number, was drained once.
+pub record AllDrained (now : ℕ) (befores afters : List LaneState) : Type 0 where
+  pub as_many : length afters ≡ length befores
+  pub each : (worker : ℕ) (before after : LaneState) → slice_get befores worker ≡ Some before
+      → slice_get afters worker ≡ Some after → IsDrained now before after
