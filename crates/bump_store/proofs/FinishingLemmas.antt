@@ -1,6 +1,6 @@
 -- The sizes of a store's classes: they add up to the classes' chunks.
 use Rattle.std.proofs.Common.{◌≡◌, ℕ, zero, suc, ◌+◌, ◌<◌, ◌++◌, List, [], ◌∷◌, length, ap, ◌∙◌, subst, arith}
-use Rattle.std.specs.Prelude.{slice_index_or}
+use Rattle.std.specs.Prelude.{slice_index_or, slice_get, Some}
 use Rattle.bump_rules.specs.declared.configs.ClassConfig.{ClassConfig}
 use Rattle.bump_rules.specs.Lists.{list_at}
 use Rattle.bump_rules.specs.Places.{all_places}
@@ -34,17 +34,19 @@ sum_of_class class classes sizes book none are low =
       next_first class classes none low,
     )
 
+-- what holds of each element of a list by its place holds of each of a list that has one more, of which it holds too
+each_with_one_more : {A : Type 0} (P : ℕ → A → Type 0) (made : List A) (x : A)
+    → ((place : ℕ) (y : A) → slice_get made place ≡ Some y → P place y) → P (length made) x
+    → (place : ℕ) (y : A) → slice_get (made ++ x ∷ []) place ≡ Some y → P place y
+each_with_one_more P [] x so_far new zero y is = let same : x ≡ y = cc is in subst (P 0) same new
+each_with_one_more P [] x so_far new (suc place) y is = absurd (cc is)
+each_with_one_more P (z ∷ made) x so_far new zero y is = so_far zero y is
+each_with_one_more P (z ∷ made) x so_far new (suc place) y is =
+    each_with_one_more (λ n. P (suc n)) made x (λ n. so_far (suc n)) new place y is
+
 -- the sizes of one more class
-pub one_more : (first : ℕ) (classes : List ClassConfig) (made : List ClassSizes) (sizes : ClassSizes)
-    → AreOfClasses first classes made
-    → (book : BookView) × AreSizesOf (first + length made) classes sizes book
-    → AreOfClasses first classes (made ++ sizes ∷ [])
-one_more first classes [] sizes so_far are = (
-  subst (λ n. (book : BookView) × AreSizesOf n classes sizes book) (omega arith) are,
-  tt,
-)
-one_more first classes (some ∷ made) sizes so_far are = (
-  so_far.0,
-  one_more (suc first) classes made sizes so_far.1
-      (subst (λ n. (book : BookView) × AreSizesOf n classes sizes book) (omega arith) are),
-)
+pub one_more : (classes : List ClassConfig) (made : List ClassSizes) (sizes : ClassSizes) → AreOfClasses classes made
+    → (book : BookView) × AreSizesOf (length made) classes sizes book
+    → AreOfClasses classes (made ++ sizes ∷ [])
+one_more classes made sizes so_far are =
+    each_with_one_more (λ class told. (book : BookView) × AreSizesOf class classes told book) made sizes so_far are

@@ -2,22 +2,22 @@
 use Rattle.std.proofs.Common.{◌≡◌, ℕ, suc, ◌++◌, List, [], ◌∷◌, length, map, false, None, Some, refl, sym, ap, ◌∙◌, arith, length-append}
 use Rattle.std.proofs.lemmas.List.{length-map, append_assoc}
 use mathlib.Core.List.{IsPrefix}
-use Rattle.bump_rules.specs.declared.bumps.Applied.{Applied}
 use Rattle.bump_rules.specs.declared.bumps.AppliedBump.{AppliedBump}
 use Rattle.bump_rules.specs.declared.bumps.Bump.{Bump}
+use Rattle.bump_rules.specs.declared.bumps.Entry.{Entry}
 use Rattle.bump_rules.specs.declared.bumps.Ended.{Ended}
 use Rattle.bump_rules.specs.declared.bumps.Outcome.{Outcome}
 use Rattle.bump_rules.specs.declared.bumps.Outcome.TheVariants as outcome
 use Rattle.bump_rules.specs.declared.items.ItemId.{ItemId}
 use Rattle.bump_rules.specs.declared.lanes.Lane.{Lane}
 use Rattle.bump_rules.specs.declared.lanes.Lane.TheVariants as lane
-use Rattle.bump_rules.specs.Lanes.{carried, is_half_made}
+use Rattle.bump_rules.specs.Lanes.{bump_of, carried, is_half_made}
 use Rattle.bump_rules.specs.Rings.{aboard, bump_applied, numbered_from}
 use Rattle.bump_steps.specs.declared.views.Ride.{Ride}
-use Rattle.bump_class.specs.Applications.{applied_answer, AppliesFront}
+use Rattle.bump_class.specs.Applications.{applied_answer}
 use Rattle.bump_class.specs.Books.{BookView}
 use Rattle.bump_class.specs.Lanes.{LaneView, IsRawLane, carries, entries, lives}
-use Rattle.bump_store.specs.Lanes.{outcome_told, told}
+use Rattle.bump_store.specs.Lanes.{AppliesAboard, outcome_told, told}
 
 -- a numbered list is as long as its lives
 pub numbered_long : (first : ℕ) (items : List ItemId) → length (numbered_from first items) ≡ length items
@@ -58,11 +58,12 @@ told_outcome outcome.TimeOnly ended = refl
 told_outcome outcome.Gone ended = refl
 
 -- so the entry that is answered is the one that the lane keeps
-pub entry_kept : (now : ℕ) (book left : BookView) (from to : LaneView) (answer : Applied) (bump : Bump)
-    → carries from ≡ Some bump → AppliesFront now book from answer left to
-    → entries to ≡ entries from ++ told (record { number = bump.number; life = bump.life; applied = answer }) ∷ []
-entry_kept now book left from to answer bump aboard front =
-    let same : front.0 ≡ bump = cc (sym front.3 ∙ aboard) in
-    let outcome : outcome_told answer ≡ front.1 = ap outcome_told front.4.answered ∙ told_outcome front.1 _ in
+pub entry_kept : (now : ℕ) (book left : BookView) (from to : LaneView) (entry : Entry)
+    → AppliesAboard now book from entry left to → entries to ≡ entries from ++ told entry ∷ []
+entry_kept now book left from to entry applies =
+    let front = applies.front in
+    let bump : Bump = bump_of entry.number entry.life in
+    let same : front.0 ≡ bump = cc (sym front.3 ∙ applies.aboard) in
+    let outcome : outcome_told entry.applied ≡ front.1 = ap outcome_told front.4.answered ∙ told_outcome front.1 _ in
     ap entries front.4.lane_after
     ∙ (λ i. entries from ++ record { number = (same i).number; life = (same i).life; outcome = sym outcome i } ∷ [])

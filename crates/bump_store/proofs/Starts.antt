@@ -4,13 +4,13 @@ use Rattle.std.proofs.lemmas.List.{length-map}
 use Rattle.std.specs.Prelude.{slice_index}
 use Rattle.bump_rules.specs.declared.configs.ClassConfig.{ClassConfig}
 use Rattle.bump_rules.specs.Configs.{chunks_of}
-use Rattle.bump_steps.specs.declared.views.ClassPart.{ClassPart}
 use Rattle.bump_steps.specs.Rule.{worker_part, worker_parts, lane_part, lane_parts}
 use Rattle.bump_readers.proofs.WorkerTurns.{length_workers}
 use Rattle.bump_heads.proofs.Makings.{length_lanes}
+use Rattle.bump_class.specs.Books.{BookView}
 use Rattle.bump_store.specs.Lanes.{LaneState, worker_parts_of, lane_parts_of}
 use Rattle.bump_store.specs.Workers.{WorkerState}
-use Rattle.bump_store.specs.Stores.{first_chunk, starts_from, HasChunk, IsBetweenStarts, IsOfClass, IsStore}
+use Rattle.bump_store.specs.Stores.{first_chunk, starts_from, HasChunk, HasLimitsOf, IsBetweenStarts, IsOfClass, IsStore}
 
 -- there is one more than there are classes
 pub length_starts : (first : ℕ) (classes : List ClassConfig) → length (starts_from first classes) ≡ length classes + 1
@@ -98,15 +98,16 @@ behind_all classes starts locks chunk store last =
 pub among_all : (classes : List ClassConfig) (chunk class : ℕ) → HasChunk chunk class classes → chunk < chunks_of classes
 among_all classes chunk class has = omega (arith, has.1, some_of_all (class + 1) classes)
 
--- a part that has a class's number and its chunks is that of the class
-pub part_of_class : (classes : List ClassConfig) (starts : List ℕ) (locks class : ℕ) (part : ClassPart)
-    → IsStore classes starts locks → class < length classes → part.class ≡ class
-    → part.first ≡ slice_index starts class → part.first + part.count ≡ slice_index starts (class + 1)
-    → IsOfClass class classes part
-part_of_class classes starts locks class part store low number first end = record {
+-- a Book that has a class's number, its chunks and its limits is that of the class
+pub book_of_class : (classes : List ClassConfig) (starts : List ℕ) (locks class : ℕ) (book : BookView)
+    → IsStore classes starts locks → class < length classes → book.part.class ≡ class
+    → book.part.first ≡ slice_index starts class → book.part.first + book.part.count ≡ slice_index starts (class + 1)
+    → HasLimitsOf class classes book → IsOfClass class classes book
+book_of_class classes starts locks class book store low number first end limits = record {
   number = number;
   first = first ∙ store.each class (omega (arith, low));
   end = end ∙ store.each (class + 1) (omega (arith, low));
+  limits = limits;
 }
 
 -- a chunk is refused exactly where no class has it

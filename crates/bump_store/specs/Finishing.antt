@@ -1,9 +1,9 @@
 -- The sizes of the lists of a store's classes.
-use Rattle.std.specs.Prelude.{◌≡◌, ℕ, suc, List, [], ◌∷◌, length}
+use Rattle.std.specs.Prelude.{◌≡◌, ℕ, List, Some, length, slice_get}
 use Rattle.bump_rules.specs.declared.configs.ClassConfig.{ClassConfig}
 use Rattle.bump_rules.specs.declared.places.Place.{Place}
 use Rattle.bump_rules.specs.declared.places.Place.TheVariants.{Hot, Warm, Cold, Temp, Dying, Unused, Retired}
-use Rattle.bump_rules.specs.Lists.{list_at}
+use Rattle.bump_rules.specs.Lists.{Lists, list_at}
 use Rattle.bump_rules.specs.Places.{all_places}
 use Rattle.bump_rules.specs.Totals.{total}
 use Rattle.bump_class.specs.Books.{BookView, IsBook}
@@ -24,14 +24,17 @@ size_at sizes Retired = sizes.retired
 abbrev pub sum_of : ClassSizes → ℕ
 sum_of sizes = total (size_at sizes) all_places
 
+-- they are the sizes of these lists, each by its place
+abbrev pub AreSizesOfLists : ClassSizes → Lists → Type 0
+AreSizesOfLists sizes lists = (place : Place) → size_at sizes place ≡ length (list_at lists place)
+
 -- They are the sizes of the lists of this Book, which is that of the class with this number.
 pub record AreSizesOf (class : ℕ) (classes : List ClassConfig) (sizes : ClassSizes) (book : BookView) : Type 0 where
   pub kept : IsBook book
-  pub of_class : IsOfClass class classes book.part
-  pub each : (place : Place) → size_at sizes place ≡ length (list_at book.lists place)
+  pub of_class : IsOfClass class classes book
+  pub each : AreSizesOfLists sizes book.lists
 
--- those of the class with this number, of the next one, and so on
-abbrev pub AreOfClasses : ℕ → List ClassConfig → List ClassSizes → Type 0
-AreOfClasses class classes [] = Unit {0}
-AreOfClasses class classes (sizes ∷ more) =
-    ((book : BookView) × AreSizesOf class classes sizes book) × AreOfClasses (suc class) classes more
+-- those at each place are of a Book of the class with this number
+abbrev pub AreOfClasses : List ClassConfig → List ClassSizes → Type 0
+AreOfClasses classes all = (class : ℕ) (sizes : ClassSizes) → slice_get all class ≡ Some sizes
+    → (book : BookView) × AreSizesOf class classes sizes book

@@ -1,5 +1,5 @@
 -- What contracts see of lanes, of the rings that workers and lanes share, and what applying the next bump comes to.
-use Rattle.std.specs.Prelude.{◌≡◌, ℕ, zero, suc, true, List, map}
+use Rattle.std.specs.Prelude.{◌≡◌, ℕ, zero, suc, true, Some, None, List, map}
 use Rattle.bump_rules.specs.declared.bumps.Applied.{Applied}
 use Rattle.bump_rules.specs.declared.bumps.Applied.TheVariants as applied
 use Rattle.bump_rules.specs.declared.bumps.AppliedBump.{AppliedBump}
@@ -14,7 +14,7 @@ use Rattle.bump_steps.specs.Views.{owns}
 use Rattle.bump_heads.specs.Applying.{NamesNoBumpTwice}
 use Rattle.bump_class.specs.Applications.{AppliesFront, EachMoveIsTold}
 use Rattle.bump_class.specs.Books.{BookView}
-use Rattle.bump_class.specs.Lanes.{LaneView, Boards}
+use Rattle.bump_class.specs.Lanes.{LaneView, Boards, carries}
 use Rattle.bump_ring.specs.Ends.{Ring}
 use Rattle.bump_store.specs.Workers.{WorkerState}
 
@@ -46,6 +46,21 @@ outcome_told (applied.Gone ended) = outcome.Gone
 abbrev pub told : Entry → AppliedBump
 told entry = record { number = entry.number; life = entry.life; outcome = outcome_told entry.applied }
 
+-- no bump is aboard
+abbrev pub NothingAboard : LaneView → Type 0
+NothingAboard this_lane = carries this_lane ≡ None
+
+-- The bump aboard a lane was applied to a Book, as this entry tells it, and nothing else was done.
+pub record AppliesAboard (now : ℕ) (book : BookView) (from : LaneView) (entry : Entry) (left : BookView)
+    (to : LaneView) : Type 0 where
+  -- the entry is of the bump aboard
+  pub aboard : carries from ≡ Some (bump_of entry.number entry.life)
+  -- what that comes to is the update table's, and the entry is true
+  pub front : AppliesFront now book from entry.applied left to
+  -- no bump is named twice by the class's history, and each move that it has for a bump of the lane is the lane's entry
+  pub once : NamesNoBumpTwice left.part
+  pub tells : EachMoveIsTold left.part to.part
+
 -- The next bump of a lane's ring was applied, as this entry tells it, to a Book that was locked for it.
 pub record IsNextApplied (now : ℕ) (before : LaneView) (entry : Entry) (after : LaneView) (ride : Ride)
     (fetched : LaneView) (book left : BookView) : Type 0 where
@@ -53,11 +68,8 @@ pub record IsNextApplied (now : ℕ) (before : LaneView) (entry : Entry) (after 
   pub boards : Boards before (bump_of entry.number entry.life) fetched ride
   -- the Book is that of its chunk's class
   pub own : owns entry.life.chunk book.part ≡ true
-  -- what that comes to is the update table's, and the entry is true
-  pub front : AppliesFront now book fetched entry.applied left after
-  -- no bump is named twice by the class's history, and each move that it has for a bump of the lane is the lane's entry
-  pub once : NamesNoBumpTwice left.part
-  pub tells : EachMoveIsTold left.part after.part
+  -- and it alone was applied to it
+  pub applied : AppliesAboard now book fetched entry left after
 
 abbrev pub AppliesNext : ℕ → LaneView → Entry → LaneView → Type 0
 AppliesNext now before entry after = (ride : Ride) × (fetched : LaneView) × (book : BookView) × (left : BookView)

@@ -1,7 +1,9 @@
 -- Which class of a store has which chunks, and what a store keeps.
-use Rattle.std.specs.Prelude.{◌≡◌, ℕ, ◌+◌, ◌≤◌, ◌<◌, List, [], ◌∷◌, length, take, slice_index}
+use Rattle.std.specs.Prelude.{◌≡◌, ℕ, ◌+◌, ◌≤◌, ◌<◌, List, [], ◌∷◌, length, map, take, slice_index, slice_get, Some}
+use Rattle.std.specs.List.{zip}
 use Rattle.bump_rules.specs.declared.configs.ClassConfig.{ClassConfig}
 use Rattle.bump_rules.specs.Configs.{chunks_of}
+use Rattle.bump_class.specs.Books.{BookView, new_book}
 use Rattle.bump_steps.specs.declared.views.ClassPart.{ClassPart}
 
 -- a class's first chunk: as many as the classes before it have together
@@ -12,11 +14,23 @@ first_chunk class classes = chunks_of (take class classes)
 abbrev pub HasChunk : ℕ → ℕ → List ClassConfig → Type 0
 HasChunk chunk class classes = (first_chunk class classes ≤ chunk) × (chunk < first_chunk (class + 1) classes)
 
--- The part of a Book is that of the class with this number: it has the number, and the class's chunks.
-pub record IsOfClass (class : ℕ) (classes : List ClassConfig) (part : ClassPart) : Type 0 where
-  pub number : part.class ≡ class
-  pub first : part.first ≡ first_chunk class classes
-  pub end : part.first + part.count ≡ first_chunk (class + 1) classes
+-- The Book has the limits of HOT and WARM that the configuration of the class with this number has.
+pub record HasLimitsOf (class : ℕ) (classes : List ClassConfig) (book : BookView) : Type 0 where
+  pub config : ClassConfig
+  pub configured : slice_get classes class ≡ Some config
+  pub hot : book.hot_limit ≡ config.hot
+  pub warm : book.warm_limit ≡ config.warm
+
+-- The Book is that of the class with this number: it has the number, the class's chunks, and its limits.
+pub record IsOfClass (class : ℕ) (classes : List ClassConfig) (book : BookView) : Type 0 where
+  pub number : book.part.class ≡ class
+  pub first : book.part.first ≡ first_chunk class classes
+  pub end : book.part.first + book.part.count ≡ first_chunk (class + 1) classes
+  pub limits : HasLimitsOf class classes book
+
+-- the new Books of classes with these parts and these configurations, in order
+abbrev pub new_books : List ClassPart → List ClassConfig → ℕ → List BookView
+new_books parts classes workers = map (λ class. new_book class.0 class.1 workers) (zip parts classes)
 
 -- the first chunk of each of these classes, of which the first begins here, and the chunk behind them all
 abbrev pub starts_from : ℕ → List ClassConfig → List ℕ

@@ -1,7 +1,7 @@
 //! A store that is finished: the sizes of its classes' lists.
 ghost use Rattle.std.specs.Prelude.{◌≡◌, ◌<◌, length, map, IfOk, IfErr};
 ghost use Rattle.bump_class.specs.Books.{BookView as TheBookView};
-ghost use Rattle.bump_store.specs.Finishing.{sum_of, size_at, AreSizesOf, AreOfClasses};
+ghost use Rattle.bump_store.specs.Finishing.{sum_of, AreSizesOf, AreSizesOfLists, AreOfClasses};
 
 use crate::stores::Store;
 use bump_class::Book;
@@ -38,12 +38,27 @@ pub struct ClassSizes {
 /// Why `finish` told no sizes: memory was refused. The store comes back.
 #[derive(Drop)]
 pub struct Unfinished<N: Name> {
-    /// The store, as it was.
+    /// The store. Its locks, and what stands behind them, were not changed.
     pub store: Store<N>,
 }
 
+// The sizes of a Book's lists.
+fn sizes_of<N: Name>(book: &Book<N>) -> ClassSizes
+    ensures { AreSizesOfLists result book.now.lists }
+{
+    ClassSizes {
+        hot: book.size(Place::Hot),
+        warm: book.size(Place::Warm),
+        cold: book.size(Place::Cold),
+        temp: book.size(Place::Temp),
+        dying: book.size(Place::Dying),
+        unused: book.size(Place::Unused),
+        retired: book.size(Place::Retired),
+    }
+}
+
 impl<N: Name> Store<N> {
-    // The sizes of a class's lists, which its lock shows.
+    // The sizes of the lists of a Book of the class.
     fn class_sizes<R: Wait>(&self, rt: &R, class: u32) -> ClassSizes
         requires { class < length self.now.classes }
         ensures { (book : TheBookView) × AreSizesOf class self.now.classes result book }
@@ -51,22 +66,14 @@ impl<N: Name> Store<N> {
         let guard = self.lock_class(rt, class);
         let book: &Book<N> = &guard;
         book.promise();
-        ClassSizes {
-            hot: book.size(Place::Hot),
-            warm: book.size(Place::Warm),
-            cold: book.size(Place::Cold),
-            temp: book.size(Place::Temp),
-            dying: book.size(Place::Dying),
-            unused: book.size(Place::Unused),
-            retired: book.size(Place::Retired),
-        }
+        sizes_of(book)
     }
 
     /// Ends the store, and tells the sizes of its classes' lists, by class: it waits until no other thread has the
-    /// lock of a class, for one class after the other. A class's sizes add up to the number of its chunks. It is
-    /// refused only for want of memory, and the store comes back.
+    /// lock of a class, for one class after the other. A class's sizes are those of the lists of some Book of the
+    /// class, and add up to the number of its chunks. It is refused only for want of memory, and the store comes back.
     pub fn finish<R: Wait>(self, alloc: Global, rt: &R) -> Result<Vec<ClassSizes>, Unfinished<N>>
-        ensures books { IfOk result (λ sizes. AreOfClasses 0 self.classes sizes.items) }
+        ensures books { IfOk result (λ sizes. AreOfClasses self.classes sizes.items) }
         ensures sums { IfOk result (λ sizes. map sum_of sizes.items ≡ map (λ class. class.chunks) self.classes) }
         ensures store { IfErr result (λ unfinished. unfinished.store ≡ self) }
     {

@@ -6,7 +6,7 @@ ghost use Rattle.bump_readers.specs.Workers.{worker_seen};
 ghost use Rattle.bump_heads.specs.Making.{class_seen, lane_seen};
 ghost use Rattle.bump_heads.specs.Seats.{most_workers};
 ghost use Rattle.bump_store.specs.Lanes.{worker_rings, lane_rings, worker_parts_of, lane_parts_of};
-ghost use Rattle.bump_store.specs.Stores.{starts_from};
+ghost use Rattle.bump_store.specs.Stores.{starts_from, new_books};
 
 use crate::lanes::Lane;
 use crate::maintainers::Maintainer;
@@ -68,19 +68,20 @@ fn make_rings<N: Name>(
     Ok((workers, lanes))
 }
 
-// The Books of all classes, each under its lock, and where the classes' chunks start and the last one's end.
+// The Books of all classes, and where the classes' chunks start and the last one's end.
 fn make_books<N: Name>(
     alloc: Global,
     seats: Vec<ClassSeat<N>>,
     classes: &[ClassConfig],
     first_generation: u32,
     workers: u32,
-) -> Result<(Vec<Mutex<Book<N>>>, Vec<u32>), AllocError>
+) -> Result<(Vec<Book<N>>, Vec<u32>), AllocError>
     requires seats { seats.items ≡ map class_seen (class_parts (first_generation - 1) 0 0 classes.now) }
     requires chunks { HaveChunks classes.now }
     requires few { chunks_of classes.now ≤ 1000000 }
     requires workers { workers ≤ most_workers }
-    ensures books { IfOk result (λ r. vec_len r.0 ≡ length classes.now) }
+    ensures opened_books { IfOk result (λ r. r.0.items ≡ new_books (class_parts (first_generation - 1) 0 0 classes.now) classes.now workers) }
+    ensures books { IfOk result (λ r. length r.0.items ≡ length classes.now) }
     ensures starts { IfOk result (λ r. r.1.items ≡ starts_from 0 classes.now) }
 {
     let mut books = Vec::with_capacity(alloc, classes.len())?;
@@ -92,12 +93,26 @@ fn make_books<N: Name>(
             unreachable!()
         };
         let book = Book::new(alloc, seat, first, *class, workers)?;
-        books.push(Mutex::new(book))?;
+        books.push(book)?;
         starts.push(first)?;
         first += class.chunks;
     }
     starts.push(first)?;
     Ok((books, starts))
+}
+
+// Puts each Book under a lock of its own.
+fn put_under_locks<N: Name>(
+    alloc: Global,
+    books: Vec<Book<N>>,
+) -> Result<Vec<Mutex<Book<N>>>, AllocError>
+    ensures { IfOk result (λ locks. vec_len locks ≡ length books.items) }
+{
+    let mut locks = Vec::with_capacity(alloc, books.len())?;
+    for book in books {
+        locks.push(Mutex::new(book))?;
+    }
+    Ok(locks)
 }
 
 impl<N: Name> Store<N> {
@@ -133,11 +148,14 @@ impl<N: Name> Store<N> {
             config.first_generation,
             config.workers,
         )?;
+        let locks = put_under_locks(alloc, books)?;
+        let configs = Vec::from_slice(alloc, slice)?;
         let (workers, lanes) = make_rings(alloc, workers, lanes, config.workers, config.capacity)?;
         let store = Store {
             heads,
-            books,
+            books: locks,
             starts,
+            classes: configs,
             workers: config.workers,
         };
         Ok((store, workers, Maintainer { lanes }))

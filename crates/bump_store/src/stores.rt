@@ -4,10 +4,11 @@ ghost use Rattle.std.specs.Arc.{arc_value};
 ghost use Rattle.std.specs.Sync.Mutex.{mutex_guard_value};
 ghost use Rattle.bump_rules.specs.declared.configs.Config.{Config as TheConfig};
 ghost use Rattle.bump_steps.specs.Views.{owns};
-ghost use Rattle.bump_store.specs.Stores.{IsStore, IsOfClass};
+ghost use Rattle.bump_store.specs.Stores.{IsStore, HasLimitsOf, IsOfClass};
 
 use bump_class::Book;
 use bump_heads::{Heads, Name, ReaderHeads};
+use bump_rules::ClassConfig;
 use std::alloc::Global;
 use std::marker::Model;
 use std::ops::Deref;
@@ -27,6 +28,8 @@ pub struct Store<N: Name> {
     pub(crate) books: Vec<Mutex<Book<N>>>,
     // the first chunk of each class, and behind them the number of all chunks
     pub(crate) starts: Vec<u32>,
+    // the configuration of each class
+    pub(crate) classes: Vec<ClassConfig>,
     pub(crate) workers: u32,
 }
 
@@ -35,7 +38,7 @@ impl<N: Name> Model for Store<N> {
 
     ghost view = { λ s. arc_value s.heads };
 
-    ghost invariant = { λ s. IsStore (arc_value s.heads).classes s.starts.items (vec_len s.books) × (s.workers ≡ (arc_value s.heads).workers) };
+    ghost invariant = { λ s. IsStore (arc_value s.heads).classes s.starts.items (vec_len s.books) × (s.classes.items ≡ (arc_value s.heads).classes) × (s.workers ≡ (arc_value s.heads).workers) };
 }
 
 impl<N: Name> Deref for Store<N> {
@@ -54,11 +57,12 @@ impl<N: Name> Store<N> {
     /// The Book of a class, under its lock, which is let go with the guard: it waits until no other thread has it.
     /// `class` is any number. It is refused as NoSuchClass exactly where there is no such class.
     ///
-    /// The Book is that of this class: it has its number, and its chunks, and it counts moves for as many workers as the
-    /// store has. All three are compared under the lock, since a caller that has two guards could exchange their Books. Where that was done, the call goes round the locks, one
-    /// at a time, until it finds the right one.
+    /// The Book is a Book of this class: it has its number, its chunks, and the limits of its configuration, and it
+    /// counts moves for as many workers as the store has. All four are compared under the lock, since a caller that has
+    /// two guards could exchange their Books. Where that was done, the call goes round the locks, one at a time, until
+    /// it finds the right one.
     pub fn lock<R: Wait>(&self, rt: &R, class: u32) -> Result<MutexGuard<'_, Book<N>>, NoSuchClass>
-        ensures class { IfOk result (λ guard. IsOfClass class self.now.classes (mutex_guard_value guard).part) }
+        ensures class { IfOk result (λ guard. IsOfClass class self.now.classes (mutex_guard_value guard)) }
         ensures workers { IfOk result (λ guard. (mutex_guard_value guard).workers ≡ self.now.workers) }
         ensures none { IsErr result ↔ (length self.now.classes ≤ class) }
     {
@@ -71,7 +75,7 @@ impl<N: Name> Store<N> {
     // The Book of a class that there is.
     pub(crate) fn lock_class<R: Wait>(&self, rt: &R, class: u32) -> MutexGuard<'_, Book<N>>
         requires { class < length self.now.classes }
-        ensures class { IsOfClass class self.now.classes (mutex_guard_value result).part }
+        ensures class { IsOfClass class self.now.classes (mutex_guard_value result) }
         ensures workers { (mutex_guard_value result).workers ≡ self.now.workers }
     {
         let mut at = class as usize;
@@ -85,10 +89,10 @@ impl<N: Name> Store<N> {
         unreachable!()
     }
 
-    // Whether the Book is that of the class, by its number, its chunks and the number of workers.
+    // Whether the Book is that of the class, by its number, its chunks, its limits and the number of workers.
     fn is_of_class(&self, book: &Book<N>, class: u32) -> bool
         requires { class < length self.now.classes }
-        ensures class { result ≡ true → IsOfClass class self.now.classes book.now.part }
+        ensures class { result ≡ true → IsOfClass class self.now.classes book.now }
         ensures workers { result ≡ true → book.now.workers ≡ self.now.workers }
     {
         let place = class as usize;
@@ -97,6 +101,17 @@ impl<N: Name> Store<N> {
             && range.start == self.starts[place]
             && range.end == self.starts[place + 1]
             && book.workers() == self.workers
+            && self.has_limits_of(book, class)
+    }
+
+    // Whether the Book has the limits that the class's configuration has.
+    fn has_limits_of(&self, book: &Book<N>, class: u32) -> bool
+        requires { class < length self.now.classes }
+        ensures { result ≡ true → HasLimitsOf class self.now.classes book.now }
+    {
+        let config = self.classes[class as usize];
+        let (hot, warm) = book.limits();
+        hot == config.hot && warm == config.warm
     }
 
     // The place of the lock that is tried behind this one.

@@ -20,13 +20,13 @@ loop-class-preserved g c =
     let sizes = c.class_sizes.result in
     let items : c.push.new.self.items ≡ made ++ sizes ∷ [] = search rules in
     let long : vec_len c.loop-class.all ≡ length made = search rules in
-    let place : n ≡ 0 + length made = omega (arith, was.count, long) in
+    let place : n ≡ length made = omega (arith, was.count, long) in
     let low : n < length classes = omega (arith, c.loop-class-test.true, was.end) in
     let is = c.class_sizes.ensures in record {
       count = search rules;
       end = was.end;
       room = search rules;
-      books = subst (AreOfClasses 0 classes) (sym items) (one_more 0 classes made sizes was.books (subst (λ m. (book : BookView) × AreSizesOf m classes sizes book) place is));
+      books = subst (AreOfClasses classes) (sym items) (one_more classes made sizes was.books (subst (λ m. (book : BookView) × AreSizesOf m classes sizes book) place is));
       sums = pushed sum_of made c.push.new.self.items sizes (slice_index_or classes n none).chunks (map (λ (k : ClassConfig). k.chunks) (drop (n + 1) classes)) (map (λ (k : ClassConfig). k.chunks) classes) items
           (sum_of_class n classes sizes is.0 none is.1 low)
           (ap (λ ks. map sum_of made ++ map (λ (k : ClassConfig). k.chunks) ks) (sym (drop_more classes n none low)) ∙ was.sums);

@@ -8,7 +8,7 @@ invariant-loop-class g l = record {
   count : vec_len l.all ≡ l.class;
   end : l.class-end ≡ length l.fn.self.classes;
   room : length l.fn.self.classes ≤ vec_capacity l.all;
-  books : AreOfClasses 0 l.fn.self.classes l.all.items;
+  books : AreOfClasses l.fn.self.classes l.all.items;
   sums : map sum_of l.all.items ++ map (λ (k : ClassConfig). k.chunks) (drop l.class l.fn.self.classes)
       ≡ map (λ (k : ClassConfig). k.chunks) l.fn.self.classes;
 }

@@ -1,4 +1,4 @@
-use Rattle.std.proofs.Common.{◌≡◌, ◌≤◌, length, sym, ap, ◌∙◌, subst, vec_len, arith}
+use Rattle.std.proofs.Common.{rules, ◌≡◌, ◌≤◌, length, sym, ap, ◌∙◌, subst, vec_len, arith}
 use Rattle.std.specs.Arc.{arc_value}
 use Rattle.bump_rules.specs.Configs.{HaveChunks}
 use Rattle.bump_rules.specs.declared.configs.Config.{Config}
@@ -16,9 +16,12 @@ invariant_of-store g c =
     let b = bounds key.workers key.capacity key.refs_limit key.first_generation key.classes key.valid in
     let made = c.in_ok-books.ensures in
     let same : c.as_slice-slice.result.now ≡ (arc_value c.in_ok-heads.field-0.heads).classes = c.as_slice-slice.ensures ∙ sym (ap (λ (k : Config). k.classes) c.in_ok-heads.ensures.heads) in
-    let count : vec_len c.in_ok-books.books ≡ length key.classes = made.books ∙ ap length c.as_slice-slice.ensures in (
-      subst (λ ks. IsStore ks c.in_ok-books.starts.items (vec_len c.in_ok-books.books)) same
-          (made_store _ _ _ made.starts made.books (omega (arith, count, b.classes_least)) (omega (arith, count, b.classes_most))),
+    let copied : c.in_ok-configs.configs.items ≡ c.as_slice-slice.result.now = search rules in
+    let count : vec_len c.in_ok-locks.locks ≡ length key.classes =
+    c.in_ok-locks.ensures ∙ made.books ∙ ap length c.as_slice-slice.ensures in (
+      subst (λ ks. IsStore ks c.in_ok-books.starts.items (vec_len c.in_ok-locks.locks)) same
+          (made_store _ _ _ made.starts (c.in_ok-locks.ensures ∙ made.books) (omega (arith, count, b.classes_least)) (omega (arith, count, b.classes_most))),
+      copied ∙ same,
       sym (ap (λ (k : Config). k.workers) c.in_ok-heads.ensures.heads),
     )
 
