@@ -8,12 +8,17 @@ pub invariant_of-push : goal.invariant_of-push
 invariant_of-push g c = let o = c.loop-worker.invariant in let t = lane_turn c.loop-worker.seat.me
     c.args.seat.now.me.0 c.loop-worker.worker c.args.count c.loop-worker.seats.items
     (map lane_seen c.args.seat.now.me.0.lanes) c.part_lane-part.new.seat.me c.part_lane-part.result.me o.rest o.count
-    c.loop-worker-test.true o.empty o.parts c.part_lane-part.ensures.parts.0 c.part_lane-part.ensures.parts.1 in
-    ((t.0, c.part_lane-part.ensures.same.2 ∙ o.id, t.2), t.1, tt, λ new. t.7, omega (
-      arith,
-      c.loop-worker-test.true,
-      c.requires.few,
-    ))
+    c.loop-worker-test.true o.empty o.parts c.part_lane-part.ensures.parts.0 c.part_lane-part.ensures.parts.1 in (
+      (t.0, c.part_lane-part.ensures.same.2 ∙ o.id, t.2),
+      t.1,
+      tt,
+      λ new. t.7,
+      omega (
+        arith,
+        c.loop-worker-test.true,
+        c.requires.few,
+      ),
+    )
 
 pub loop-worker-preserved : goal.loop-worker-preserved
 loop-worker-preserved g c = let o = c.loop-worker.invariant in let t = lane_turn c.loop-worker.seat.me
