@@ -71,7 +71,8 @@ impl<N: Name> Lane<N> {
     /// done, which is the lane's last entry from then on. It answers None, and nothing is changed, only where no bump
     /// is known to be left in the ring. Nothing is aboard then, nor before.
     ///
-    /// The clauses speak of some Book of the class: another thread may have had the lock before and has it behind.
+    /// The clauses speak of some Book that has the bump's chunk: another thread may have the lock just before, and just
+    /// behind.
     pub fn next<R: Wait>(&mut self, rt: &R, store: &Store<N>, now: u64) -> Option<Entry>
         ensures ring { (self.new.lane.ring ≡ self.old.lane.ring) × (self.new.capacity ≡ self.old.capacity) }
         ensures next { IfSome result (λ entry. AppliesNext now self.old.lane entry self.new.lane) }
@@ -90,8 +91,8 @@ impl<N: Name> Lane<N> {
 
     /// Applies the next bumps of its ring, each as `next` does (memcached's `lru_maintainer_bumps`, of one worker's
     /// buffer), and answers how many: at most as many as the ring's capacity, and fewer only where then none is known
-    /// to be left in the ring. A lock is taken once for all bumps of its class that follow each other. Nothing is aboard
-    /// then, nor before. As those of `next`, the clauses speak of some Book of each bump's class.
+    /// to be left in the ring. A lock is taken once for all bumps of its class that follow each other. Nothing is
+    /// aboard then, nor before. As those of `next`, the clauses speak of some Book of each bump's class.
     pub fn drain<R: Wait>(&mut self, rt: &R, store: &Store<N>, now: u64) -> u64
         ensures ring { (self.new.lane.ring ≡ self.old.lane.ring) × (self.new.capacity ≡ self.old.capacity) }
         ensures most { result ≤ self.old.capacity }
