@@ -3,7 +3,7 @@ use super::expecting::{Ending, Expecting, expect_whole};
 use super::slow::{Interrupted, Slow};
 use super::worked::PROMOTION;
 use bump_trace::{Counted, SimFault, run_model};
-use std::alloc::Global;
+use std::alloc::{AllocError, Global};
 use std::hash::RandomState;
 use std::process::Abort;
 use std::sync::Wait;
@@ -123,6 +123,38 @@ fn each_write_fails_once(rt: HostRuntime) -> Result<(), Fail> {
             serial_ends_at_write(&rt, rt.alloc(), keys, taken),
             "{taken}"
         );
+    }
+    Ok(())
+}
+
+/// A trace with so many pulls that find nothing, and its text, of 18 bytes a line.
+pub(super) fn empty_pulls(alloc: Global, lines: u32) -> Result<(Vec<u8>, Vec<u8>), AllocError> {
+    let mut trace = Vec::new(alloc);
+    let mut text = Vec::new(alloc);
+    trace.extend_from_slice(b"store 1 4 4 1\nclass 1 5 5\n")?;
+    for _ in 0..lines {
+        trace.extend_from_slice(b"pull 0 warm\n")?;
+        text.extend_from_slice(b"pull 0 warm empty\n")?;
+    }
+    Ok((trace, text))
+}
+
+/// The text is over 64 KiB, so that its first 65,520 bytes are written between two lines. Where one of these writes fails the run
+/// says so, and that write isn't made again, nor any other.
+#[test]
+fn a_write_fails_once_between_lines(rt: HostRuntime) -> Result<(), Fail> {
+    let keys = RandomState::new(&rt)?;
+    let (trace, text) = empty_pulls(rt.alloc(), 4_000)?;
+    for taken in [0, 65_519] {
+        let mut reader = Counted::new(trace.as_slice());
+        let mut writer = Counted::new(Expecting::narrow(&text, taken, Ending::FailsOnce));
+        let ended = run_serial(&rt, rt.alloc(), keys, &mut reader, &mut writer);
+        assert!(rt; ended == Err(SimFault::Write));
+        let told = (writer.calls().saturating_sub(1), writer.failed());
+        expect_calls(&rt, told, (taken as u64, 1));
+        let written = writer.into_inner();
+        assert!(rt; written.is_front());
+        assert_eq!(rt; written.left(), text.len().saturating_sub(taken));
     }
     Ok(())
 }

@@ -8,6 +8,7 @@ use super::expect_run;
 use super::expecting::{Ending, Expecting, expect_whole, tell_left, tell_refused};
 use super::gates::Counting;
 use super::numbers::{behind, number_behind, sum_behind};
+use super::streams::empty_pulls;
 use bump_trace::{Counted, SimFault};
 use std::alloc::Global;
 use std::hash::RandomState;
@@ -280,6 +281,34 @@ fn a_write_fails_once(rt: HostRuntime) -> Result<(), Fail> {
     let (_, text) = OWN_ITEMS;
     for taken in [0, text.len() / 2, text.len().saturating_sub(1)] {
         assert!(rt; ends_at_write(&rt, rt.alloc(), keys, taken), "{taken}");
+    }
+    Ok(())
+}
+
+/// The text before the report is so long that it is written as the report is gathered. Where one of these writes fails the run says
+/// so, and that write isn't made again, nor is the report written.
+#[test]
+fn a_write_fails_once_before_the_report(rt: HostRuntime) -> Result<(), Fail> {
+    let keys = RandomState::new(&rt)?;
+    let (trace, text) = empty_pulls(rt.alloc(), 3_640)?;
+    for taken in [0, 65_519] {
+        let mut reader = Counted::new(trace.as_slice());
+        let mut writer = Counted::new(Expecting::narrow(&text, taken, Ending::FailsOnce));
+        let ended = run_par(
+            &rt,
+            rt.alloc(),
+            keys,
+            &OpenGate,
+            1,
+            &mut reader,
+            &mut writer,
+        );
+        assert!(rt; ended == Err(SimFault::Write));
+        assert_eq!(rt; writer.calls().saturating_sub(1), taken as u64);
+        assert_eq!(rt; writer.failed(), 1);
+        let written = writer.into_inner();
+        assert!(rt; written.is_front());
+        assert_eq!(rt; written.left(), text.len().saturating_sub(taken));
     }
     Ok(())
 }
