@@ -3,7 +3,8 @@ ghost use Rattle.std.specs.Prelude.{◌≡◌, ◌+◌, ◌≤◌, ◌<◌, ◌+
 ghost use mathlib.Core.List.{IsPrefix};
 ghost use Rattle.bump_steps.specs.Views.{owns};
 ghost use Rattle.bump_class.specs.Lanes.{carries, entries, IsRawLane};
-ghost use Rattle.bump_store.specs.Lanes.{LaneState as TheLaneState, told, NothingAboard, AppliesAboard, AppliesNext, AppliesMany};
+ghost use Rattle.bump_store.specs.Lanes.{LaneState as TheLaneState, told, NothingAboard, AppliesAboard, AppliesNext};
+ghost use Rattle.bump_store.specs.Lanes.{AppliesMany};
 
 use crate::stores::Store;
 use bump_class::{Book, RawLane};

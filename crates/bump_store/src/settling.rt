@@ -1,5 +1,6 @@
 //! Lanes of closed workers: what is left in a closed ring is applied.
-ghost use Rattle.std.specs.Prelude.{◌≡◌, ◌+◌, ◌++◌, ◌∷◌, ◌↔◌, [], length, None, Ok, IfOk, IfErr, IfSome, IfNone, false, true};
+ghost use Rattle.std.specs.Prelude.{◌≡◌, ◌+◌, ◌++◌, ◌∷◌, ◌↔◌, [], length, None, Ok, IfOk, IfErr, IfSome, IfNone, false};
+ghost use Rattle.std.specs.Prelude.{true};
 ghost use mathlib.Core.List.{IsPrefix};
 ghost use Rattle.bump_class.specs.Lanes.{LaneView as TheLaneView, entries};
 ghost use Rattle.bump_store.specs.Lanes.{told, AppliesNext};

@@ -164,8 +164,8 @@ impl<N: Name> Worker<N> {
         }
     }
 
-    /// A hit of the item that is held, as memcached's `do_item_bump` with `lru_bump_async`. No lock is taken, and it waits for
-    /// no other thread. `now` is the time that it stores, in the caller's ticks, where it stores one.
+    /// A hit of the item that is held, as memcached's `do_item_bump` with `lru_bump_async`. No lock is taken, and it
+    /// waits for no other thread. `now` is the time that it stores, in the caller's ticks, where it stores one.
     ///
     /// A first step sets FETCHED, and a second one ACTIVE, where the first found FETCHED set and ACTIVE clear. By the
     /// heads that they found it answers

@@ -1,5 +1,6 @@
 -- What is done on an open store by each line, by the tables on the whole state, and the text that each gives.
-use Rattle.std.specs.Prelude.{ℕ, true, not, ◌&&◌, zero, suc, ◌+◌, List, [], ◌∷◌, ◌++◌, length, Option, Some, None, Result, Ok, Err, if◌then◌else◌}
+use Rattle.std.specs.Prelude.{ℕ, true, not, ◌&&◌, zero, suc, ◌+◌, List, [], ◌∷◌, ◌++◌, length, Option, Some, None}
+use Rattle.std.specs.Prelude.{Result, Ok, Err, if◌then◌else◌}
 use Rattle.bump_rules.specs.declared.bumps.Entry.{Entry}
 use Rattle.bump_rules.specs.declared.commands.Answer.{Answer}
 use Rattle.bump_rules.specs.declared.commands.Answer.TheVariants as answer
@@ -13,10 +14,12 @@ use Rattle.bump_core.specs.Commands.{answer_of, command_after}
 use Rattle.bump_rules.specs.Lists.{ascending}
 use Rattle.bump_state.specs.State.{State, worker_at, is_class, is_worker, is_open}
 use Rattle.bump_state.specs.Events.{waiting}
-use Rattle.trace_lines.specs.Lines.{Instruction, Set, Get, Hold, Hit, Read, Drop, Del, Pull, Sweep, Drain, Close, Show, Moves, Par, may_follow_par}
+use Rattle.trace_lines.specs.Lines.{Instruction, Set, Get, Hold, Hit, Read, Drop, Del, Pull, Sweep, Drain, Close, Show}
+use Rattle.trace_lines.specs.Lines.{Moves, Par, may_follow_par}
 use Rattle.bump_trace.specs.Names.{Names, bind, unbind}
 use Rattle.bump_trace.specs.Stages.{StoreState, Open, Said, say}
-use Rattle.trace_lines.specs.Text.{set_line, get_line, get_held_line, hold_line, hit_line, read_line, drop_line, del_line, pull_line, sweep_line, bump_line, drain_line, closed_line}
+use Rattle.trace_lines.specs.Text.{set_line, get_line, get_held_line, hold_line, hit_line, read_line, drop_line}
+use Rattle.trace_lines.specs.Text.{del_line, pull_line, sweep_line, bump_line, drain_line, closed_line}
 use Rattle.bump_trace.specs.Shows.{close_line, show_text, moves_text}
 use Rattle.trace_lines.specs.declared.faults.Fault.{Fault}
 use Rattle.trace_lines.specs.declared.faults.Fault.TheVariants as fault
@@ -25,8 +28,8 @@ use Rattle.trace_lines.specs.declared.faults.Fault.TheVariants as fault
 abbrev pub with_command : StoreState → Command → StoreState
 with_command store made = record store { state = command_after store.state made }
 
--- set NAME CLASS LABEL, or temp NAME CLASS LABEL: an item is linked, and the name is bound to it; after any other answer
--- the bindings stay.
+-- set NAME CLASS LABEL, or temp NAME CLASS LABEL: an item is linked, and the name is bound to it; after any other
+-- answer the bindings stay.
 abbrev pub names_after : Answer → List ℕ → Names → Names
 names_after (answer.Linked id) name names = bind name id names
 names_after _ name names = names

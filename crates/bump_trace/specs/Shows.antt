@@ -6,7 +6,8 @@ use Rattle.bump_rules.specs.Lists.{list_at, ascending}
 use Rattle.bump_rules.specs.Places.{all_places}
 use Rattle.bump_state.specs.State.{State, chunk_at, head_at, class_at, worker_at}
 use Rattle.bump_rules.specs.Entries.{moves_of}
-use Rattle.trace_lines.specs.Text.{chunk_text, is_shown, list_start, moves_line, accounts_text, accounts_line, close_start}
+use Rattle.trace_lines.specs.Text.{chunk_text, is_shown, list_start, moves_line, accounts_text, accounts_line}
+use Rattle.trace_lines.specs.Text.{close_start}
 
 -- a space, and what is told of a chunk of the list
 abbrev pub list_entry : State → Place → ℕ → List ℕ

@@ -3,7 +3,8 @@
 ghost use Rattle.std.specs.Prelude.{◌≡◌, ◌++◌, [], OnOk, IfErr};
 ghost use Rattle.std.specs.Io.KnownBytes.{Appends};
 ghost use Rattle.trace_lines.specs.Counted.{inner_of, failed_of};
-ghost use Rattle.bump_trace.specs.Gathering.{Gathers, GathersFault, IsOfWriting, WritesFront, StopsWithin, stopped_line};
+ghost use Rattle.bump_trace.specs.Gathering.{Gathers, GathersFault, IsOfWriting, WritesFront, StopsWithin};
+ghost use Rattle.bump_trace.specs.Gathering.{stopped_line};
 ghost use Rattle.bump_trace.specs.declared.runs.SimFault.TheVariants.{Write};
 ghost use Rattle.trace_lines.specs.Text.{fault_line};
 

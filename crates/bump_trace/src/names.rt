@@ -8,8 +8,8 @@ use std::alloc::{AllocError, Global};
 use std::collections::HashMap;
 use std::hash::RandomState;
 
-/// What each name is bound to. A name is a part of the trace itself, so strangers choose it: it is hashed with keys that they don't
-/// know.
+/// What each name is bound to. A name is a part of the trace itself, so strangers choose it: it is hashed with keys
+/// that they don't know.
 #[derive(Drop)]
 pub struct Names<'a> {
     ids: HashMap<&'a [u8], ItemId, RandomState>,

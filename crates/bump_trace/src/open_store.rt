@@ -5,7 +5,9 @@ ghost use Rattle.bump_core.specs.Commands.{is_allowed, answer_of, command_after}
 ghost use Rattle.bump_rules.specs.declared.commands.Command.TheVariants as command;
 ghost use Rattle.bump_state.specs.State.{is_held, is_open};
 ghost use Rattle.bump_trace.specs.Stages.{Open};
-ghost use Rattle.bump_trace.specs.OpenStore.{answer_by, state_by, get_held, set_said, get_said, hold_said, hit_said, read_said, drop_said, del_said, pull_said, sweep_said, drain_said, close_said, made_by, instruction_said, drained_of};
+ghost use Rattle.bump_trace.specs.OpenStore.{answer_by, state_by, get_held, set_said, get_said, hold_said, hit_said};
+ghost use Rattle.bump_trace.specs.OpenStore.{read_said, drop_said, del_said, pull_said, sweep_said, drain_said};
+ghost use Rattle.bump_trace.specs.OpenStore.{close_said, made_by, instruction_said, drained_of};
 ghost use Rattle.bump_trace.specs.Names.{no_names};
 ghost use Rattle.bump_state.specs.Opening.{new_state};
 ghost use Rattle.trace_lines.specs.Lines.{may_follow_par};
@@ -23,8 +25,8 @@ use trace_lines::{
     put_get_held, put_hit, put_hold, put_pull, put_read, put_set, put_sweep,
 };
 
-/// An open store: a World with the names of its items and of the holds that are kept, whether `par` was read, and how many
-/// workers and classes it has and bumps each ring has room for.
+/// An open store: a World with the names of its items and of the holds that are kept, whether `par` was read, and how
+/// many workers and classes it has and bumps each ring has room for.
 #[derive(Drop)]
 pub struct OpenStore<'a> {
     world: World,

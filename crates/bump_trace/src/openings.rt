@@ -53,8 +53,8 @@ fn config(shape: Shape, classes: Vec<ClassConfig>) -> Result<Config, Fault>
     }
 }
 
-/// Says what the store is, or what a class is. It is refused as ORDER where the line may not stand there, and for want of
-/// memory; the opening is as it was then.
+/// Says what the store is, or what a class is. It is refused as ORDER where the line may not stand there, and for want
+/// of memory; the opening is as it was then.
 #[tactic(auto, unfolding(crate::specs::Stages::declared))]
 pub fn declare(
     opening: &mut Opening,
@@ -77,8 +77,8 @@ pub fn declare(
     }
 }
 
-/// The configuration with which the first command opens a store, or the end of the input does. It is refused as ORDER where
-/// `store` wasn't said, and else by the configuration's first fault.
+/// The configuration with which the first command opens a store, or the end of the input does. It is refused as ORDER
+/// where `store` wasn't said, and else by the configuration's first fault.
 #[tactic(auto, unfolding(crate::specs::Stages::opened))]
 pub fn configure(opening: Opening) -> Result<Config, Fault>
     ensures { Configures result (opened (opening_of opening)) }

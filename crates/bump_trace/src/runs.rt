@@ -127,8 +127,8 @@ fn run_input<W: Sink>(
 }
 
 /// Runs a trace on a World. The whole trace, of at most 16,777,216 bytes, is read in at most 20,000,000 calls before
-/// anything is written. Where it answers Write or Memory, what was written is a front of the trace's text. Names are hashed
-/// with these keys: a trace can't be made whose names collide under keys that its maker doesn't know.
+/// anything is written. Where it answers Write or Memory, what was written is a front of the trace's text. Names are
+/// hashed with these keys: a trace can't be made whose names collide under keys that its maker doesn't know.
 pub fn run_model<R: Source, W: Sink>(
     alloc: Global,
     keys: RandomState,

@@ -5,7 +5,8 @@ ghost use Rattle.std.specs.List.{flat_map};
 ghost use Rattle.bump_core.specs.Readers.{list_of};
 ghost use Rattle.bump_rules.specs.Lists.{ascending};
 ghost use Rattle.bump_trace.specs.OpenStore.{show_said, moves_said};
-ghost use Rattle.bump_trace.specs.Shows.{list_entry, list_line, class_lines, worker_line, moves_line_of, class_moves, close_line};
+ghost use Rattle.bump_trace.specs.Shows.{list_entry, list_line, class_lines, worker_line, moves_line_of, class_moves};
+ghost use Rattle.bump_trace.specs.Shows.{close_line};
 ghost use Rattle.bump_trace.specs.Stages.{Open};
 
 use super::OpenStore;

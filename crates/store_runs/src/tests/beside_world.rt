@@ -1,5 +1,5 @@
-//! 10,000 commands that a Store and a World get, with the same answers, lists, heads, times and accounts after each. The Store has three classes,
-//! so that two of them begin behind chunk 0, and three workers.
+//! 10,000 commands that a Store and a World get, with the same answers, lists, heads, times and accounts after each.
+//! The Store has three classes, so that two of them begin behind chunk 0, and three workers.
 mod commands;
 mod sides;
 mod turns;

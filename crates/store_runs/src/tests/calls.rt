@@ -1,5 +1,5 @@
-//! Calls of stores, Books and workers, whose answers are looked at as a test runs. What their contracts promise would stand
-//! in the proof of each step behind them: here it is left behind, but for what later calls ask for.
+//! Calls of stores, Books and workers, whose answers are looked at as a test runs. What their contracts promise would
+//! stand in the proof of each step behind them: here it is left behind, but for what later calls ask for.
 ghost use Rattle.std.specs.Prelude.{◌≡◌};
 
 use super::expecting::{expect, expect_of};

@@ -79,7 +79,8 @@ fn fill_and_drain<N: Name, R: Abort + Wait>(
     expect_drained(rt, store, lane, 4);
 }
 
-/// A drain goes on with the bumps of the other class where a run ended. Nothing is aboard then, so the ring takes four again.
+/// A drain goes on with the bumps of the other class where a run ended. Nothing is aboard then, so the ring takes four
+/// again.
 pub fn drain_in_turn<N: Name, R: Abort + Wait>(
     rt: &R,
     store: &Store<N>,

@@ -1,5 +1,5 @@
-//! What tests compare. Each comparison is proved here, once, and not where it is made: so a failure names this file, and
-//! says what was compared.
+//! What tests compare. Each comparison is proved here, once, and not where it is made: so a failure names this file,
+//! and says what was compared.
 use std::fmt::Debug;
 use std::process::Abort;
 

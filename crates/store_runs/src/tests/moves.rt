@@ -1,5 +1,5 @@
-//! Two workers hit the items of one class while a thread for each lane applies their bumps. Once both are settled, the class's Book
-//! tells of each worker as many moves as its lane told.
+//! Two workers hit the items of one class while a thread for each lane applies their bumps. Once both are settled, the
+//! class's Book tells of each worker as many moves as its lane told.
 ghost use Rattle.std.specs.Prelude.{◌≡◌};
 ghost use Rattle.bump_store.specs.Lanes.{worker_rings, lane_rings};
 

@@ -183,8 +183,8 @@ fn play_on<N: Name, R: Abort>(
     Ok(())
 }
 
-/// Plays a scene in a new store, whose first generation is 1 and whose ring has room for so many bumps. Else it tells the call
-/// that was refused.
+/// Plays a scene in a new store, whose first generation is 1 and whose ring has room for so many bumps. Else it tells
+/// the call that was refused.
 pub fn play<R: Threads + Abort + Sync>(
     rt: &R,
     alloc: Global,

@@ -100,8 +100,8 @@ fn serve<N: Name, R: Abort + Wait>(rt: &R, store: &Store<N>, worker: &mut Worker
     new_cold(rt, store, 0);
 }
 
-/// A store with an item in COLD ends with its sizes. One that can't for want of memory comes back, serves as before, and ends
-/// then.
+/// A store with an item in COLD ends with its sizes. One that can't for want of memory comes back, serves as before,
+/// and ends then.
 pub fn end_again<N: Name, R: Abort + Wait>(
     rt: &R,
     alloc: Global,

@@ -135,7 +135,8 @@ fn meet<N: Name, R: Abort + Wait>(rt: &R, store: &Store<N>, hold: &mut Hold<N>) 
     hold.meet(&mut book);
 }
 
-// Two touches of a new item under one hold, of which the second queues the worker's first bump. The hold meets its class.
+// Two touches of a new item under one hold, of which the second queues the worker's first bump. The hold meets its
+// class.
 fn touch_twice<N: Name, R: Abort + Wait>(rt: &R, store: &Store<N>, worker: &mut Worker<N>) {
     let item = new_cold(rt, store, 0);
     let mut hold = get(rt, store, worker, item);
