@@ -14,6 +14,7 @@ mod expecting;
 mod faults;
 mod gates;
 mod numbers;
+mod settled;
 mod slow;
 mod streams;
 mod threads;

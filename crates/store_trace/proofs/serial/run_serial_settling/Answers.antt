@@ -3,7 +3,7 @@ use Rattle.std.proofs.lemmas.Result.{err_from_is_err_and}
 use Rattle.trace_lines.specs.Counted.{inner_of, calls_of, failed_of}
 use Rattle.store_trace.specs.Runs.{TellsText}
 use Rattle.store_trace.proofs.WholeRuns.{unread_uncalled, unread_stopped, whole_told}
-use Rattle.store_trace.proofs.serial.run_serial.Goals as goal
+use Rattle.store_trace.proofs.serial.run_serial_settling.Goals as goal
 
 pub returns-in_err-input-clause-unwritten : goal.returns-in_err-input-clause-unwritten
 returns-in_err-input-clause-unwritten g c =
