@@ -4,8 +4,8 @@ use Rattle.std.specs.declared.collections.VecDeque.{VecDeque}
 use Rattle.bump_ring.specs.Ends.{Ring}
 use Rattle.bump_store.specs.Lanes.{LaneState, lane_rings}
 
--- The first so many that groups have in turn: the first of the first group, then that of the second one, and so on, and behind
--- the last group the second of the first one. Up to the turn of a group that has no more.
+-- The first so many that groups have in turn: the first of the first group, then that of the second one, and so on, and
+-- behind the last group the second of the first one. Up to the turn of a group that has no more.
 abbrev pub in_turn : {A : Type 0} → ℕ → List (List A) → List A
 in_turn zero groups = []
 in_turn (suc n) [] = []

@@ -1,5 +1,5 @@
-//! Traces with a fault: each function has the text of a trace, which ends with the fault's line, as its clause, and nothing
-//! to do.
+//! Traces with a fault: each function has the text of a trace, which ends with the fault's line, as its clause, and
+//! nothing to do.
 #![tactic(auto, unfolding(crate::proofs::WorkedTraces::on_traces))]
 
 ghost use Rattle.std.specs.Prelude.{◌≡◌, true, codes};

@@ -1,4 +1,5 @@
-//! Worked traces through the whole run, by the model and on a store, and readers and writers that take little at a time.
+//! Worked traces through the whole run, by the model and on a store, and readers and writers that take little at a
+//! time.
 use bump_trace::{Counted, SimFault, run_model};
 use std::alloc::{AllocError, Global};
 use std::hash::RandomState;
@@ -247,9 +248,9 @@ fn run_expecting<'a>(
 }
 
 /// Whichever one allocation is refused: the run ends with its whole text, or as Memory with a front of it, and then the
-/// same run made again ends with its whole text. A refusal that a `Vec` makes up for, as it asks for less, ends no run; so
-/// the test makes one allocation more behind the run, and says so where that one was refused. Whoever refuses each in turn
-/// knows by this that no allocation of the run is left.
+/// same run made again ends with its whole text. A refusal that a `Vec` makes up for, as it asks for less, ends no run;
+/// so the test makes one allocation more behind the run, and says so where that one was refused. Whoever refuses each
+/// in turn knows by this that no allocation of the run is left.
 #[test]
 fn a_refused_allocation_leaves_a_front_of_the_text(rt: HostRuntime) -> Result<(), Fail> {
     let keys = RandomState::new(&rt)?;

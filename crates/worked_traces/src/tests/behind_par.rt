@@ -6,7 +6,8 @@ pub(super) const OWN_ITEMS: (&str, &str) = (
     "set a 0.1\nset b 1.1\npull 0 hot cold 0.1\npull 0 hot cold 1.1\nworker 0 attempted 1 accepted 1 full 0 busy 0 refs 0 applied 1\nworker 1 attempted 1 accepted 1 full 0 busy 0 refs 0 applied 1\ntotal first 2 already 0 marked 0 queued 2 dropped 0 miss 0 refs 0 busy 0 closed 0\nmoves 0 0 1\nmoves 0 1 1\nsizes 0 hot 0 warm 2 cold 0 dying 0 unused 0 retired 0\n",
 );
 
-/// Both workers hit one item, which one of them queues: the trace, and its text where worker 0 does and where worker 1 does.
+/// Both workers hit one item, which one of them queues: the trace, and its text where worker 0 does and where worker 1
+/// does.
 pub(super) const ONE_ITEM: (&str, [&str; 2]) = (
     "store 2 4 8 1\nclass 1 0 5\nset a 0 7\npull 0 hot\npar\nget 0 a\nget 0 a\nget 1 a\nget 1 a\n",
     [
@@ -15,8 +16,8 @@ pub(super) const ONE_ITEM: (&str, [&str; 2]) = (
     ],
 );
 
-/// Traces whose text is the same for each schedule: each worker with an item of its own; a worker that was closed before, a hold
-/// that is kept, and lines of maintenance alone; an item of TEMP; no `par`; and nothing at all.
+/// Traces whose text is the same for each schedule: each worker with an item of its own; a worker that was closed
+/// before, a hold that is kept, and lines of maintenance alone; an item of TEMP; no `par`; and nothing at all.
 pub(super) const REPORTED: [(&str, &str); 5] = [
     OWN_ITEMS,
     (
@@ -37,9 +38,9 @@ pub(super) const REPORTED: [(&str, &str); 5] = [
     ),
 ];
 
-/// What each thread does, in which order, and what is reported of it: a drained item is pulled from WARM; one thread alone makes a
-/// `pull`; a worker's lines are made in their order, and each class has sizes of its own; a hold that is kept is given back before
-/// the workers are settled; and a miss is no want of references.
+/// What each thread does, in which order, and what is reported of it: a drained item is pulled from WARM; one thread
+/// alone makes a `pull`; a worker's lines are made in their order, and each class has sizes of its own; a hold that is
+/// kept is given back before the workers are settled; and a miss is no want of references.
 pub(super) const TOLD_APART: [(&str, &str); 5] = [
     (
         "store 1 4 4 1\nclass 1 0 0\nset a 0 7\npull 0 hot\nget 0 a\nget 0 a\npar\ndrain\npull 0 warm\n",

@@ -1,6 +1,7 @@
 //! Worked traces of pulls, ends, evicts, sweeps, closings, holds, several workers and several classes.
 
-/// What a pull finds to do, a bump that finds its item back in COLD and not ACTIVE, and a chunk that is retired by an evict and a sweep.
+/// What a pull finds to do, a bump that finds its item back in COLD and not ACTIVE, and a chunk that is retired by an
+/// evict and a sweep.
 pub(super) const PULLS: [(&str, &str); 3] = [
     (
         "store 1 4 4 1\nclass 3 1 1\npull 0 hot\npull 0 warm\npull 0 cold\nset a 0 7\npull 0 hot\nget 0 a\nget 0 a\nget 0 a\nshow\n",

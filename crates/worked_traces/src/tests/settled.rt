@@ -1,4 +1,5 @@
-//! What the end of a run on a store applies: the bumps that wait in the rings of its workers, which nothing else tells of.
+//! What the end of a run on a store applies: the bumps that wait in the rings of its workers, which nothing else tells
+//! of.
 use std::alloc::Global;
 use std::hash::RandomState;
 use std::random::RandomSource;

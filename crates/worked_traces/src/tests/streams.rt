@@ -31,7 +31,8 @@ fn byte_by_byte(rt: HostRuntime) -> Result<(), Fail> {
     Ok(())
 }
 
-/// Whether a run whose reader breaks after so many calls ends as Read, with that call its last one, and without a write.
+/// Whether a run whose reader breaks after so many calls ends as Read, with that call its last one, and without a
+/// write.
 fn ends_at_read(alloc: Global, keys: RandomState, trace: &[u8], calls: u64) -> bool {
     let mut reader = Counted::new(Slow::broken(trace, calls));
     let mut writer = Counted::new(Expecting::new(b""));
@@ -56,8 +57,8 @@ fn each_read_fails(rt: HostRuntime) -> Result<(), Fail> {
     Ok(())
 }
 
-/// Whether a run whose writer takes so many bytes, one for each call, ends as Write, with the next call its last one, and the
-/// front of the text written.
+/// Whether a run whose writer takes so many bytes, one for each call, ends as Write, with the next call its last one,
+/// and the front of the text written.
 fn ends_at_write(alloc: Global, keys: RandomState, taken: usize, ending: Ending) -> bool {
     let (trace, text) = PROMOTION;
     let mut reader = Counted::new(trace.as_bytes());
@@ -139,8 +140,8 @@ pub(super) fn empty_pulls(alloc: Global, lines: u32) -> Result<(Vec<u8>, Vec<u8>
     Ok((trace, text))
 }
 
-/// The text is over 64 KiB, so that its first 65,520 bytes are written between two lines. Where one of these writes fails the run
-/// says so, and that write isn't made again, nor any other.
+/// The text is over 64 KiB, so that its first 65,520 bytes are written between two lines. Where one of these writes
+/// fails the run says so, and that write isn't made again, nor any other.
 #[test]
 fn a_write_fails_once_between_lines(rt: HostRuntime) -> Result<(), Fail> {
     let keys = RandomState::new(&rt)?;

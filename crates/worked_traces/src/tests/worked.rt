@@ -84,8 +84,8 @@ pub(super) const LARGEST: [(&str, &str); 3] = [
     ),
 ];
 
-/// What `moves` counts, by class and worker: each move for a bump, whether it was drained or left by a closed worker; no bump that
-/// found its item out of COLD or ended, and no move by a pull.
+/// What `moves` counts, by class and worker: each move for a bump, whether it was drained or left by a closed worker;
+/// no bump that found its item out of COLD or ended, and no move by a pull.
 pub(super) const MOVES: [(&str, &str); 5] = [
     (
         "store 2 4 8 1\nclass 2 0 0\nset a 0 7\npull 0 hot\nget 0 a\nget 0 a\npull 0 cold\npull 0 warm\nget 1 a\ndrain\nmoves\n",
