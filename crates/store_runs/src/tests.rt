@@ -1,5 +1,6 @@
 //! What no clause says: that calls succeed, and known answers.
 mod beside_world;
+mod besides;
 mod calls;
 mod classes;
 mod drains;

@@ -26,8 +26,8 @@ fn drain<N: Name, R: Wait>(rt: &R, store: &Store<N>, lane: &mut Lane<N>) -> u64 
     lane.drain(rt, store, 9)
 }
 
-// A drain applies so many.
-fn expect_drained<N: Name, R: Abort + Wait>(
+/// A drain applies so many.
+pub fn expect_drained<N: Name, R: Abort + Wait>(
     rt: &R,
     store: &Store<N>,
     lane: &mut Lane<N>,

@@ -28,8 +28,8 @@ fn settled(bumps: u64) -> Settled {
     }
 }
 
-// What is told of a bump that moved its item.
-fn moved(number: u64, life: ItemId) -> Option<Entry> {
+/// What is told of a bump that moved its item.
+pub fn moved(number: u64, life: ItemId) -> Option<Entry> {
     Some(Entry {
         number,
         life,

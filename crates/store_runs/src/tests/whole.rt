@@ -2,6 +2,7 @@
 ghost use Rattle.std.specs.Prelude.{◌≡◌};
 
 use super::beside_world::run_beside;
+use super::besides::{end_full, keep_times, leave_the_rest, pass_in_order, tell_opened};
 use super::classes::{find_exchanged, tell_classes};
 use super::drains::{drain_again, drain_in_turn};
 use super::moves::move_in_one_class;
@@ -33,6 +34,11 @@ pub enum Story {
     EndedAgain,
     WorkedApart,
     RunBeside,
+    RestLeft,
+    Opened,
+    PassedInOrder,
+    TimesKept,
+    EndedFull,
 }
 
 // Two workers. None where memory is refused.
@@ -61,6 +67,8 @@ fn tell_in<N: Name + Send + Sync, R: Threads + Abort + Wait + Sync>(
         Story::SettledAtOnce => settle_at_once(rt, &store, workers, maintainer),
         Story::SettledOneByOne => settle_one_by_one(rt, &store, workers, maintainer),
         Story::PassedTwice => pass_twice(rt, &store, workers, maintainer),
+        Story::PassedInOrder => pass_in_order(rt, alloc, &store, workers, maintainer),
+        Story::TimesKept => keep_times(rt, &store, workers, maintainer),
         Story::ItemShared => share_item(rt, &store, workers, maintainer),
         Story::MovedApart => move_in_one_class(rt, &store, workers, maintainer),
         Story::WorkedApart => work_apart(rt, alloc, &store, workers, maintainer),
@@ -89,6 +97,9 @@ fn tell_short<N: Name, R: Abort + Wait>(
             end_new(rt, alloc, store);
         }
         Story::EndedAgain => return end_again(rt, alloc, store, worker),
+        Story::Opened => tell_opened(rt, &store),
+        Story::EndedFull => end_full(rt, alloc, store, worker, lane),
+        Story::RestLeft => leave_the_rest(rt, &store, worker, lane),
         Story::Exchanged => find_exchanged(rt, &store, worker, lane),
         Story::DrainedAgain => drain_again(rt, &store, worker, lane),
         _ => drain_in_turn(rt, &store, worker, lane),
