@@ -2,24 +2,23 @@
 #![tactic(auto)]
 
 ghost use Rattle.std.specs.Prelude.{◌≡◌};
-ghost use Rattle.bumpsim.specs.Status.{status_of, IsWordOf};
+ghost use Rattle.bumpsim.specs.Status.{status_of, status_by, IsWordOf, EndsByRun};
 
 mod command_line;
 mod runs;
+mod ways;
 pub mod worked_command_lines;
 
-use bump_trace::{Counted, SimFault, run_model};
+use bump_trace::SimFault;
 use command_line::Refusal;
-use runs::{Mode, Run};
+use runs::Run;
 use std::env;
-use std::fs::File;
-use std::hash::RandomState;
 use std::process::ExitCode;
 use std::random::RandomSource;
 use std::rt::{Env, Files};
 use std::sync::Wait;
 use std::thread::Threads;
-use store_trace::{OpenGate, run_par, run_serial};
+use ways::{ToOutput, Ways, run_as};
 
 /// Why the program ends with another status than 0.
 #[derive(Clone, Copy)]
@@ -70,36 +69,24 @@ fn failed(rt: &impl Eprint, failure: Failure) -> u8
     status(failure)
 }
 
-/// Runs the trace of a file, and answers the status with which the program ends.
-fn run_file<R: Print + Eprint + Files + AllocGlobal + RandomSource + Threads + Wait + Sync>(
-    rt: &R,
-    chosen: Run<'_>,
-) -> u8 {
-    let Ok(file) = File::open(rt, chosen.file) else {
-        return failed(rt, Failure::Run(SimFault::Read));
-    };
-    let Ok(keys) = RandomState::new(rt) else {
-        return failed(rt, Failure::Run(SimFault::Read));
-    };
-    let mut reader = Counted::new(file);
-    let mut writer = Counted::new(std::io::writer(rt));
-    let ended = match chosen.mode {
-        Mode::Model => run_model(rt.alloc(), keys, &mut reader, &mut writer),
-        Mode::Serial => run_serial(rt, rt.alloc(), keys, &mut reader, &mut writer),
-        Mode::Par => run_par(
-            rt,
-            rt.alloc(),
-            keys,
-            &OpenGate,
-            chosen.drainers,
-            &mut reader,
-            &mut writer,
-        ),
-    };
-    match ended {
+/// Says the word of an answer that is a fault, and answers the status with which the program ends.
+fn ended(rt: &impl Eprint, answer: Result<(), SimFault>) -> u8
+    ensures { result ≡ status_by answer }
+{
+    match answer {
         Ok(()) => 0,
         Err(fault) => failed(rt, Failure::Run(fault)),
     }
+}
+
+/// Runs the trace of a file as was chosen, and answers the status with which the program ends: that of the run's answer.
+fn run_file<
+    R: Print + Eprint + Files + AllocGlobal + RandomSource + Threads + Wait + Sync,
+    W: Ways,
+>(rt: &R, ways: &W, chosen: Run<'_>) -> u8
+    ensures { EndsByRun (W.models ways.now chosen.entry.file.now) (W.serials ways.now chosen.entry.file.now) (W.pars ways.now chosen.entry.file.now) chosen.entry.mode chosen.entry.drainers result }
+{
+    ended(rt, run_as(rt, ways, chosen))
 }
 
 /// Does what the words of the command line ask for, and answers the status with which the program ends.
@@ -113,7 +100,7 @@ fn run<R: Print + Eprint + Env + Files + AllocGlobal + RandomSource + Threads + 
         return failed(rt, Failure::Run(SimFault::Memory));
     };
     match command_line::choose(rt.alloc(), &words) {
-        Ok(chosen) => run_file(rt, chosen),
+        Ok(chosen) => run_file(rt, &ToOutput, chosen),
         Err(Refusal::Memory) => failed(rt, Failure::Run(SimFault::Memory)),
         Err(Refusal::Usage) => failed(rt, Failure::Usage),
     }
