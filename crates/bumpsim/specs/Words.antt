@@ -1,5 +1,6 @@
 -- Which words the command line takes.
-use Rattle.std.specs.Prelude.{◌≡◌, ℕ, ◌^◌, ◌&&◌, nat_le, Bool, true, false, List, [], ◌∷◌, Option, Some, None, Result, Ok, Err, option_map, codes, if◌then◌else◌}
+use Rattle.std.specs.Prelude.{◌≡◌, ℕ, ◌^◌, ◌&&◌, nat_le, Bool, true, false, List, [], ◌∷◌, Option, Some, None, Result}
+use Rattle.std.specs.Prelude.{Ok, Err, option_map, codes, if◌then◌else◌}
 use Rattle.std.specs.Str.{bytes_eq}
 use Rattle.clap.specs.Words.{App, Rule, Text, new_app, new_rule, with_rule, fault_of, matches_of, first_of}
 use Rattle.clap.specs.declared.builder.ArgAction.TheVariants.{Set}
@@ -68,8 +69,8 @@ abbrev pub has_none : {A : Type 0} → List A → Bool
 has_none [] = true
 has_none (x ∷ xs) = false
 
--- How to run which file, and how many drainers there are: the command takes the words, the first one names a way of running, and
--- the third one, where there is one, says how many.
+-- How to run which file, and how many drainers there are: the command takes the words, the first one names a way of
+-- running, and the third one, where there is one, says how many.
 abbrev pub run_of : List Text → Option (Mode × Text × ℕ)
 run_of words =
     if has_none (fault_of app words) then asked

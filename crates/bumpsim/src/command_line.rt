@@ -87,8 +87,8 @@ fn read_drainers(mode: Mode, word: Option<&str>) -> Option<u32>
     }
 }
 
-/// The run that `model FILE`, `serial FILE`, `par FILE` or `par FILE DRAINERS` asks for, of which the program's own name is the
-/// first word. All other words are refused.
+/// The run that `model FILE`, `serial FILE`, `par FILE` or `par FILE DRAINERS` asks for, of which the program's own
+/// name is the first word. All other words are refused.
 pub fn choose<'a>(alloc: Global, words: &'a [String]) -> Result<Run<'a>, Refusal>
     ensures { TakesRun (run_of (map string_bytes words.entry.now)) result }
 {

@@ -79,7 +79,8 @@ fn ended(rt: &impl Eprint, answer: Result<(), SimFault>) -> u8
     }
 }
 
-/// Runs the trace of a file as was chosen, and answers the status with which the program ends: that of the run's answer.
+/// Runs the trace of a file as was chosen, and answers the status with which the program ends: that of the run's
+/// answer.
 fn run_file<
     R: Print + Eprint + Files + AllocGlobal + RandomSource + Threads + Wait + Sync,
     W: Ways,

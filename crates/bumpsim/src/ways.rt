@@ -15,9 +15,9 @@ use std::sync::Wait;
 use std::thread::Threads;
 use store_trace::{OpenGate, run_par, run_serial};
 
-/// The three runs of the trace of a file, each with a relation between the file's name and the answer. Where nothing more is known
-/// of the runs, a relation holds by the call alone: so a clause that says `serials` says that `serial` was called for this file,
-/// and what it answered.
+/// The three runs of the trace of a file, each with a relation between the file's name and the answer. Where nothing
+/// more is known of the runs, a relation holds by the call alone: so a clause that says `serials` says that `serial`
+/// was called for this file, and what it answered.
 pub trait Ways {
     // The trace of the file of this name, run on a World, answers this.
     ghost models: { Self → List ℕ → Result ⊤ SimFault → Type 0 };
@@ -56,7 +56,8 @@ pub trait Ways {
         ensures { pars self.now file.now drainers result };
 }
 
-/// Runs the trace of the file as was chosen: by the run of the mode, and by threads with as many drainers as were chosen.
+/// Runs the trace of the file as was chosen: by the run of the mode, and by threads with as many drainers as were
+/// chosen.
 pub fn run_as<R: Print + Files + AllocGlobal + RandomSource + Threads + Wait + Sync, W: Ways>(
     rt: &R,
     ways: &W,
