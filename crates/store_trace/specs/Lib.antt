@@ -4,3 +4,4 @@ pub mod Dealing
 pub mod Jobs
 pub mod Totals
 pub mod Reports
+pub mod Gates
