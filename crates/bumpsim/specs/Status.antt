@@ -26,8 +26,8 @@ status_by (Ok _) = 0
 status_by (Err e) = status_of (failure.Run e)
 
 -- The status is that of an answer of the run that the mode names.
-abbrev pub EndsByRun : (Result ⊤ SimFault → Type 0) → (Result ⊤ SimFault → Type 0) → (ℕ → Result ⊤ SimFault → Type 0) → Mode → ℕ
-    → ℕ → Type 0
+abbrev pub EndsByRun : (Result ⊤ SimFault → Type 0) → (Result ⊤ SimFault → Type 0)
+    → (ℕ → Result ⊤ SimFault → Type 0) → Mode → ℕ → ℕ → Type 0
 EndsByRun models serials pars mode drainers status =
     (answer : Result ⊤ SimFault) × RanAs models serials pars mode drainers answer × (status ≡ status_by answer)
 
