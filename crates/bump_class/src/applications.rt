@@ -26,7 +26,8 @@ fn update<N: Name>(
     requires own { owns bump.life.chunk class.old.part ≡ true }
     requires carries { carried_by lane.old ≡ Some bump }
     ensures whole { lane.new ≡ Some (part_or lane.new) }
-    ensures updates { (found : TheFoundHeads) × Updates class.old (part_or lane.old) bump now result class.new (part_or lane.new) found }
+    ensures updates { (found : TheFoundHeads) × Updates class.old (part_or lane.old) bump now result class.new
+        (part_or lane.new) found }
 {
     let chunk = bump.life.chunk;
     let tried = class.try_front(lane);
@@ -49,7 +50,8 @@ fn update<N: Name>(
 fn count_move(moved: &mut [u64; 64], worker: u32)
     requires worker { worker < most_workers }
     requires few { slice_index moved.old worker < most_attempts }
-    ensures counted { (w : ℕ) → w < most_workers → slice_index moved.new w ≡ slice_index moved.old w + bit (worker == w) }
+    ensures counted { (w : ℕ) → w < most_workers → slice_index moved.new w ≡ slice_index moved.old w
+        + bit (worker == w) }
 {
     moved[worker as usize] += 1;
 }
@@ -71,7 +73,8 @@ impl<N: Name> Book<N> {
         ensures known { lane.new.known ≡ lane.old.known }
         ensures empty { carries lane.new ≡ None }
         ensures count { length (entries lane.new) ≡ length (entries lane.old) + 1 }
-        ensures class { (self.new.part.class ≡ self.old.part.class) × (self.new.part.first ≡ self.old.part.first) × (self.new.part.count ≡ self.old.part.count) }
+        ensures class { (self.new.part.class ≡ self.old.part.class) × (self.new.part.first ≡ self.old.part.first)
+            × (self.new.part.count ≡ self.old.part.count) }
 
         // No bump is named twice by the class's history, and each move that it has for a bump of the lane's worker is
         // this lane's entry.

@@ -25,7 +25,12 @@ pub struct RawLane<N: Name> {
 impl<N: Name> Model for RawLane<N> {
     ghost Value = { TheLaneView };
 
-    ghost view = { λ l. record { ring = l.receiver.ring; received = l.receiver.received; known = l.receiver.known; part = part_or l.seat } };
+    ghost view = { λ l. record {
+      ring = l.receiver.ring;
+      received = l.receiver.received;
+      known = l.receiver.known;
+      part = part_or l.seat;
+    } };
 
     ghost invariant = { λ l. KeepsLane l.seat l.worker l.applied l.receiver.received };
 }
@@ -79,7 +84,8 @@ impl<N: Name> RawLane<N> {
         ensures entries { entries self.new ≡ entries self.old }
         ensures aboard { carries self.new ≡ result }
         ensures kept { IsSome (carries self.old) → self.new ≡ self.old }
-        ensures next { IfSome result (λ bump. carries self.old ≡ None → (ride : TheRide) × Boards self.old bump self.new ride) }
+        ensures next { IfSome result (λ bump. carries self.old ≡ None → (ride : TheRide)
+            × Boards self.old bump self.new ride) }
         ensures none { IfNone result (self.old.known ≡ []) }
         ensures unchanged { IfNone result (self.new ≡ self.old) }
     {

@@ -22,7 +22,8 @@ impl<N: Name> Book<N> {
         requires carries { IsSome (carries lane.old) }
         requires own { IfSome (carries lane.old) (λ bump. owns bump.life.chunk self.old.part ≡ true) }
         requires some { 1 ≤ limit }
-        ensures applied { (last : TheLaneView) × AppliesRun now self.old lane.old result self.new last × MayHaveBoarded (carries lane.new) last lane.new }
+        ensures applied { (last : TheLaneView) × AppliesRun now self.old lane.old result self.new last
+            × MayHaveBoarded (carries lane.new) last lane.new }
         ensures some { 1 ≤ result }
         ensures most { result ≤ limit }
         ensures over { result < limit → IsRunOver (carries lane.new) self.new lane.new }
@@ -30,7 +31,8 @@ impl<N: Name> Book<N> {
         ensures ring { lane.new.ring ≡ lane.old.ring }
         ensures count { length (entries lane.new) ≡ length (entries lane.old) + result }
         ensures grown { IsPrefix (entries lane.old) (entries lane.new) }
-        ensures class { (self.new.part.class ≡ self.old.part.class) × (self.new.part.first ≡ self.old.part.first) × (self.new.part.count ≡ self.old.part.count) }
+        ensures class { (self.new.part.class ≡ self.old.part.class) × (self.new.part.first ≡ self.old.part.first)
+            × (self.new.part.count ≡ self.old.part.count) }
 
         // No bump is named twice by the class's history, and each move that it has for a bump of the lane's worker is
         // this lane's entry.

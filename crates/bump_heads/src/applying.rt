@@ -44,7 +44,10 @@ impl<N: Name> ClassSeat<N> {
         requires carries { IsSome (carried_by lane.old) }
         requires own { owns (life_aboard lane.old).chunk self.old.part ≡ true }
         ensures hollow { lane.new ≡ None }
-        ensures tried { self.new ≡ record self.old { lane = option_map (lane_after_try (life_aboard lane.old).chunk (word_of result)) lane.old } }
+        ensures tried { self.new ≡ record self.old {
+          lane = option_map
+              (lane_after_try (life_aboard lane.old).chunk (word_of result)) lane.old;
+        } }
         ensures found { FoundOfBump self.old.part (life_aboard lane.old) result }
         ensures fits { Fits result }
 
@@ -134,15 +137,18 @@ impl<N: Name> ClassSeat<N> {
     #[inline(always)]
     pub fn alight(&mut self, lane: &mut LaneSeat<N>) -> (Outcome, Head)
         requires hollow { lane.old ≡ None }
-        requires ends { (l : TheLanePart) × (b : TheBump) × (h : TheHead) × (o : TheOutcome) × MayEndAs self.old l b h o }
+        requires ends { (l : TheLanePart) × (b : TheBump) × (h : TheHead) × (o : TheOutcome)
+            × MayEndAs self.old l b h o }
         ensures outcome { (l : TheLanePart) × (b : TheBump) × (h : TheHead) × MayEndAs self.old l b h result.0 }
         ensures class { self.new ≡ record { part = class_at_rest self.old.part; lane = None } }
-        ensures lane { lane.new ≡ option_map (lane_after_alight result.0 (life_aboard self.old.lane).chunk (word_of result.1)) self.old.lane }
+        ensures lane { lane.new ≡ option_map (lane_after_alight result.0 (life_aboard self.old.lane).chunk
+            (word_of result.1)) self.old.lane }
         ensures found { FoundOfBump self.old.part (life_aboard self.old.lane) result.1 }
         ensures fits { Fits result.1 }
 
         // The entry that was written is true.
-        ensures entry { IfSome self.old.lane (λ l. IfSome (bump_aboard l.stage) (λ b. IsShown self.new.part l b result.0)) }
+        ensures entry { IfSome self.old.lane (λ l. IfSome (bump_aboard l.stage)
+            (λ b. IsShown self.new.part l b result.0)) }
 
         // No bump is named twice by the history of the class, and its moves for bumps of this lane's worker are those
         // that entries of the lane tell of items of the class.

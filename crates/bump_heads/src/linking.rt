@@ -108,7 +108,10 @@ impl<N: Name> ClassSeat<N> {
         requires alone { self.old.lane ≡ None }
         requires own { owns chunk self.old.part ≡ true }
         requires dying { place_of_chunk self.old.part chunk ≡ Dying }
-        ensures seen { self.new ≡ record self.old { part = class_after_sweep_or_load chunk result.refs (word_of result) self.old.part } }
+        ensures seen { self.new ≡ record self.old {
+          part = class_after_sweep_or_load chunk result.refs
+              (word_of result) self.old.part;
+        } }
         ensures fits { Fits result }
         ensures unlinked { result.linked ≡ false }
         ensures generation { result.generation ≡ generation_of_chunk self.old.part chunk }

@@ -29,7 +29,8 @@ impl Model for Blank {
 
     ghost view = { λ b. record { config = config_of b.words; table = words_id b.words } };
 
-    ghost invariant = { λ b. (b.seat.table_id ≡ words_id b.words) × (b.seat.me ≡ (opened (config_of b.words), [])) × (0 < (words_id b.words).words) };
+    ghost invariant = { λ b. (b.seat.table_id ≡ words_id b.words) × (b.seat.me ≡ (opened (config_of b.words), []))
+        × (0 < (words_id b.words).words) };
 }
 
 /// What a store's heads are made of: the heads, and a seat for each class, worker and lane, by number.
@@ -59,7 +60,8 @@ fn part_classes<N: Name>(
 ) -> Result<Vec<ClassSeat<N>>, AllocError>
     requires seat { (seat.old.table_id ≡ N.table) × (seat.old.me.1 ≡ []) }
     requires parts { (length seat.old.me.0.classes ≡ count) × AreNewClasses N.table.words 0 seat.old.me.0.classes }
-    ensures rest { IfOk result (λ v. (seat.new.table_id ≡ N.table) × (seat.new.me ≡ (record seat.old.me.0 { classes = [] }, []))) }
+    ensures rest { IfOk result (λ v. (seat.new.table_id ≡ N.table)
+        × (seat.new.me ≡ (record seat.old.me.0 { classes = [] }, []))) }
     ensures seats { IfOk result (λ v. v.items ≡ map class_seen seat.old.me.0.classes) }
 {
     let mut seats = Vec::with_capacity(alloc, count as usize)?;
@@ -88,7 +90,8 @@ fn part_lanes<N: Name>(
     requires seat { (seat.old.table_id ≡ N.table) × (seat.old.me.1 ≡ []) }
     requires parts { (length seat.old.me.0.lanes ≡ count) × AreNewLanes 0 seat.old.me.0.lanes }
     requires few { count ≤ most_workers }
-    ensures rest { IfOk result (λ v. (seat.new.table_id ≡ N.table) × (seat.new.me ≡ (record seat.old.me.0 { lanes = [] }, []))) }
+    ensures rest { IfOk result (λ v. (seat.new.table_id ≡ N.table)
+        × (seat.new.me ≡ (record seat.old.me.0 { lanes = [] }, []))) }
     ensures seats { IfOk result (λ v. v.items ≡ map lane_seen seat.old.me.0.lanes) }
 {
     let mut seats = Vec::with_capacity(alloc, count as usize)?;
@@ -111,7 +114,8 @@ impl<N: Name> Heads<N> {
         requires name { blank.table ≡ N.table }
         requires config { blank.config ≡ config.now }
         ensures heads { IfOk result (λ p. arc_value p.heads ≡ config.now) }
-        ensures classes { IfOk result (λ p. p.classes.items ≡ map class_seen (class_parts (config.now.first_generation - 1) 0 0 config.now.classes)) }
+        ensures classes { IfOk result (λ p. p.classes.items ≡ map class_seen
+            (class_parts (config.now.first_generation - 1) 0 0 config.now.classes)) }
         ensures workers { IfOk result (λ p. p.workers.items ≡ map worker_seen (worker_parts 0 config.now.workers)) }
         ensures lanes { IfOk result (λ p. p.lanes.items ≡ map lane_seen (lane_parts 0 config.now.workers)) }
     {

@@ -23,7 +23,8 @@ impl<N: Name> ClassSeat<N> {
         ensures label { result ≡ last_label self.old.part hold.old.life.chunk }
         ensures stored { label_of_life hold.old.life 0 self.old.part.labels ≡ Some result }
         ensures read { total (differs result) (labels_in hold.old.part) ≡ 0 }
-        ensures in_use { IsUsed (standing self.old.part hold.old.life.chunk).0 × ((standing self.old.part hold.old.life.chunk).1 ≡ hold.old.life.generation) }
+        ensures in_use { IsUsed (standing self.old.part hold.old.life.chunk).0
+            × ((standing self.old.part hold.old.life.chunk).1 ≡ hold.old.life.generation) }
     {
         self.heads.words().join(&mut self.seat, hold.seat_out());
         let label = self.heads.words().meet(&mut self.seat, hold.life().chunk);

@@ -32,7 +32,10 @@ impl<N: Name> Model for ClassSeat<N> {
 
     ghost view = { λ s. class_in s.seat.me.0 };
 
-    ghost invariant = { λ s. (s.seat.me ≡ class_me (class_in s.seat.me.0)) × (s.seat.table_id ≡ N.table) × IsInRange N.table (aboard_lane (class_in s.seat.me.0).lane) × (s.class ≡ (class_in s.seat.me.0).part.class) × IsClassPart N.table.words (class_in s.seat.me.0).part × IsJoined (class_in s.seat.me.0).part (class_in s.seat.me.0).lane s.joined };
+    ghost invariant = { λ s. (s.seat.me ≡ class_me (class_in s.seat.me.0)) × (s.seat.table_id ≡ N.table)
+        × IsInRange N.table (aboard_lane (class_in s.seat.me.0).lane) × (s.class ≡ (class_in s.seat.me.0).part.class)
+        × IsClassPart N.table.words (class_in s.seat.me.0).part
+        × IsJoined (class_in s.seat.me.0).part (class_in s.seat.me.0).lane s.joined };
 }
 
 impl<N: Name> ClassSeat<N> {
@@ -60,7 +63,8 @@ impl<N: Name> Model for LaneSeat<N> {
 
     ghost view = { λ l. lane_in l.seat };
 
-    ghost invariant = { λ l. IsLane N.table l.seat × (l.aboard ≡ aboard_lane (lane_in l.seat)) × IsInRange N.table l.aboard × IsOfWorker l.worker (lane_in l.seat) × (l.worker < most_workers) };
+    ghost invariant = { λ l. IsLane N.table l.seat × (l.aboard ≡ aboard_lane (lane_in l.seat))
+        × IsInRange N.table l.aboard × IsOfWorker l.worker (lane_in l.seat) × (l.worker < most_workers) };
 }
 
 impl<N: Name> LaneSeat<N> {

@@ -24,7 +24,8 @@ impl<N: Name> Model for ReaderHeads<N> {
 
     ghost view = { λ h. config_of h.words };
 
-    ghost invariant = { λ h. (words_id h.words ≡ N.table) × (0 < N.table.words) × (h.limit ≡ (config_of h.words).refs_limit) × (h.chunks ≡ all_chunks (config_of h.words)) };
+    ghost invariant = { λ h. (words_id h.words ≡ N.table) × (0 < N.table.words)
+        × (h.limit ≡ (config_of h.words).refs_limit) × (h.chunks ≡ all_chunks (config_of h.words)) };
 }
 
 impl<N: Name> ReaderHeads<N> {

@@ -25,7 +25,9 @@ impl<N: Name> Model for Hold<N> {
 
     ghost view = { λ h. record { life = h.life; part = hold_in_views h.badge.views } };
 
-    ghost invariant = { λ h. (h.badge.views ≡ hold_views (hold_in_views h.badge.views)) × (IsSome (hold_in_views h.badge.views) → h.badge.table_id ≡ N.table) × IsHoldOf h.life (hold_in_views h.badge.views) × HasChunk N.table h.life.chunk };
+    ghost invariant = { λ h. (h.badge.views ≡ hold_views (hold_in_views h.badge.views))
+        × (IsSome (hold_in_views h.badge.views) → h.badge.table_id ≡ N.table)
+        × IsHoldOf h.life (hold_in_views h.badge.views) × HasChunk N.table h.life.chunk };
 }
 
 impl<N: Name> Hold<N> {

@@ -22,7 +22,8 @@ impl<N: Name> Model for Rider<N> {
 
     ghost view = { λ r. r.ride };
 
-    ghost invariant = { λ r. (r.seat.me ≡ ride_me r.ride) × (r.seat.table_id ≡ N.table) × HasChunk N.table r.ride.life.chunk × (r.ride.number < 4611686018427387903) };
+    ghost invariant = { λ r. (r.seat.me ≡ ride_me r.ride) × (r.seat.table_id ≡ N.table)
+        × HasChunk N.table r.ride.life.chunk × (r.ride.number < 4611686018427387903) };
 }
 
 impl<N: Name> Rider<N> {

@@ -41,7 +41,8 @@ impl<N: Name> ReaderHeads<N> {
         requires held { (h : TheHoldPart) × (worker.old.hold ≡ Some h) × (h.life ≡ life) }
         requires trying { worker.old.part.hand ≡ Trying life }
         requires next { number ≡ worker.old.part.accounts.accepted }
-        ensures rode { (first : TheHead) × (more : List TheHead) × Rode self.now.refs_limit life worker.old worker.new result first more }
+        ensures rode { (first : TheHead) × (more : List TheHead)
+            × Rode self.now.refs_limit life worker.old worker.new result first more }
         ensures rider { IfOk result (λ r. r ≡ ride_of worker.old number life) }
         ensures idle { OnOk result (worker.new.part.hand ≡ Idle) }
         ensures dropped { OnErr result (worker.new.part.hand ≡ Clearing life) }

@@ -51,7 +51,8 @@ impl<N: Name> ReaderHeads<N> {
     pub fn take(&self, worker: &mut WorkerSeat<N>, life: ItemId) -> Result<Hold<N>, TakeRefusal>
         requires alone { worker.old.hold ≡ None }
         requires chunk { life.chunk < all_chunks self.now }
-        ensures took { (first : TheHead) × (more : List TheHead) × Took self.now.refs_limit life worker.old worker.new result first more }
+        ensures took { (first : TheHead) × (more : List TheHead)
+            × Took self.now.refs_limit life worker.old worker.new result first more }
         ensures alone { worker.new.hold ≡ None }
         ensures hold { IfOk result (λ h. h ≡ whole_hold life) }
     {

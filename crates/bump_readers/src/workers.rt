@@ -25,7 +25,9 @@ impl<N: Name> Model for WorkerSeat<N> {
 
     ghost view = { λ w. worker_in w.seat.me.0 };
 
-    ghost invariant = { λ w. (w.seat.me ≡ worker_me (worker_in w.seat.me.0)) × (w.seat.table_id ≡ N.table) × (w.worker ≡ (worker_in w.seat.me.0).part.worker) × IsLifeInRange N.table (held_life (worker_in w.seat.me.0).hold) × IsWorkerPart (worker_in w.seat.me.0).part };
+    ghost invariant = { λ w. (w.seat.me ≡ worker_me (worker_in w.seat.me.0)) × (w.seat.table_id ≡ N.table)
+        × (w.worker ≡ (worker_in w.seat.me.0).part.worker) × IsLifeInRange N.table
+        (held_life (worker_in w.seat.me.0).hold) × IsWorkerPart (worker_in w.seat.me.0).part };
 }
 
 impl<N: Name> WorkerSeat<N> {
@@ -59,7 +61,8 @@ impl<N: Name> ReaderHeads<N> {
     ) -> Result<Vec<WorkerSeat<N>>, AllocError>
         requires seat { (seat.old.table_id ≡ N.table) × (seat.old.me.1 ≡ []) }
         requires parts { (length seat.old.me.0.workers ≡ count) × AreNewWorkers 0 seat.old.me.0.workers }
-        ensures rest { IfOk result (λ v. (seat.new.table_id ≡ N.table) × (seat.new.me ≡ (record seat.old.me.0 { workers = [] }, []))) }
+        ensures rest { IfOk result (λ v. (seat.new.table_id ≡ N.table)
+            × (seat.new.me ≡ (record seat.old.me.0 { workers = [] }, []))) }
         ensures seats { IfOk result (λ v. v.items ≡ map worker_seen seat.old.me.0.workers) }
     {
         let mut seats = Vec::with_capacity(alloc, count as usize)?;

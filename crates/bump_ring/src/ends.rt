@@ -24,10 +24,15 @@ pub struct Sender<N: Name> {
 impl<N: Name> Model for Sender<N> {
     ghost Value = { TheSenderView };
 
-    ghost view = { λ s. record { ring = ring_of s.producer.end; capacity = producer_capacity s.producer; sent = sent s.producer } };
+    ghost view = { λ s. record {
+      ring = ring_of s.producer.end;
+      capacity = producer_capacity s.producer;
+      sent = sent s.producer;
+    } };
 
     // There is room for as many bumps as weren't accepted yet, so the ring is full only behind so many.
-    ghost invariant = { λ s. (s.accepted ≡ length (sent s.producer)) × (producer_capacity s.producer ≤ known_free s.producer + length (sent s.producer)) };
+    ghost invariant = { λ s. (s.accepted ≡ length (sent s.producer))
+        × (producer_capacity s.producer ≤ known_free s.producer + length (sent s.producer)) };
 }
 
 /// The end of a worker's ring that gives bumps out: the worker's lane has it.
@@ -41,7 +46,11 @@ pub struct Receiver<N: Name> {
 impl<N: Name> Model for Receiver<N> {
     ghost Value = { TheReceiverView };
 
-    ghost view = { λ r. record { ring = ring_of r.consumer.end; received = received r.consumer; known = cond r.end_seen (known_items r.consumer) [] } };
+    ghost view = { λ r. record {
+      ring = ring_of r.consumer.end;
+      received = received r.consumer;
+      known = cond r.end_seen (known_items r.consumer) [];
+    } };
 }
 
 /// A sender that takes no more bumps in.
@@ -56,9 +65,15 @@ pub struct ClosedSender<N: Name> {
 impl<N: Name> Model for ClosedSender<N> {
     ghost Value = { TheClosedView };
 
-    ghost view = { λ c. record { ring = ring_of c.last.value.end; capacity = producer_capacity c.last.value; sent = sent c.last.value; shows_end = is_some c.finished } };
+    ghost view = { λ c. record {
+      ring = ring_of c.last.value.end;
+      capacity = producer_capacity c.last.value;
+      sent = sent c.last.value;
+      shows_end = is_some c.finished;
+    } };
 
-    ghost invariant = { λ c. (c.accepted ≡ length (sent c.last.value)) × ForSome c.finished (λ f. Finishes c.last.value f) };
+    ghost invariant = { λ c. (c.accepted ≡ length (sent c.last.value))
+        × ForSome c.finished (λ f. Finishes c.last.value f) };
 }
 
 impl<N: Name> Sender<N> {
@@ -108,7 +123,12 @@ impl<N: Name> Sender<N> {
     /// Closes the ring: it accepts no more bumps from then on. Those that it accepted are still to be taken. Whether
     /// it can show the receiver the ring's end is settled here: where the receiver is gone it can't.
     pub fn close(self) -> ClosedSender<N>
-        ensures { result ≡ record { ring = self.ring; capacity = self.capacity; sent = self.sent; shows_end = result.shows_end } }
+        ensures { result ≡ record {
+          ring = self.ring;
+          capacity = self.capacity;
+          sent = self.sent;
+          shows_end = result.shows_end;
+        } }
     {
         let Sender { producer, accepted } = self;
         let last = Snapshot::of(&producer);

@@ -1,5 +1,5 @@
 -- Steps of an application: whatever the other seats have, a class's seat with a lane joined to it can go on.
-use Rattle.std.proofs.Common.{◌≡◌, ℕ, ◌+◌, ◌-◌, ◌*◌, ◌%◌, ◌^◌, ◌<◌, ◌≤◌, ◌≢◌, ◌&&◌, ◌==◌, eqb, cond, not, Bool, true, false, List, [], ◌∷◌, ◌++◌, Option, Some, None, refl, sym, ap, ap₂, ◌∙◌, subst, arith, eq-eqb, ne_eqb, eqb-true, bit_xor, bit_and}
+use Rattle.std.proofs.Common.{◌≡◌, ℕ, ◌+◌, ◌-◌, ◌*◌, ◌%◌, ◌^◌, ◌<◌, ◌≤◌, ◌≢◌, ◌&&◌, ◌==◌, eqb, cond, not, Bool, true, false, List, [], ◌∷◌, ◌++◌, Option, Some, None, refl, sym, ap, ap₂, ◌∙◌, subst, arith, eq-eqb, ne_eqb, eqb-true, bit_xor, bit_and, inl, inr}
 use mathlib.Core.Bool.{false≢true}
 use mathlib.Core.Option.{none}
 use Rattle.atomic_table.specs.Table.{step, Allows}
@@ -30,18 +30,15 @@ use Rattle.bump_steps.specs.declared.views.LanePart.{LanePart}
 use Rattle.bump_steps.specs.declared.views.Ride.{Ride}
 use Rattle.bump_steps.specs.declared.views.View.{View}
 use Rattle.bump_steps.specs.Views.{refers, bump_aboard, Measure, held, named, saw, owners, strays, mislabels, misreads, owns, standing, last_label, weight, evidence, shown_by, claims, claimed_in, settled_in, names_move, underway_in, names_outside, is_entry, outcome_number, Query, in_order, untidy_in, shows_time_only, of_owner, foreign_in, foreign, active_clear, IsBacked}
-use Rattle.bump_steps.specs.Rule.{Sound, chunks, Kept, HasFittingLimit}
+use Rattle.bump_steps.specs.Rule.{Sound, chunks, Kept, HasFittingLimit, blank}
 use Rattle.bump_steps.specs.Plays.{Sat, Tells, on_chunk, step_of, Stands}
-use Rattle.bump_steps.specs.Applications.{for_bump, for_first, stage_after_try, lane_after_try, view_after_try, try_tells, stage_after_clear_active, view_after_clear_active, clear_active_tells, noted_class, view_after_put_time, put_time_tells, move_tells, view_after_alight, alight_tells, entries_of_alight, application_of}
+use Rattle.bump_steps.specs.Applications.{for_bump, for_first, stage_after_try, lane_after_try, view_after_try, try_tells, stage_after_clear_active, view_after_clear_active, clear_active_tells, noted_class, view_after_put_time, put_time_tells, move_tells, view_after_alight, alight_tells, entries_of_alight, application_of, applying, StandsIn, life_in, lane_after_clear_active, MayMove, is_past_move, Alights, MayAlight}
 use Rattle.bump_steps.specs.Lives.{alone}
-use Rattle.bump_steps.specs.Applications.{applying, StandsIn, life_in, lane_after_clear_active, MayMove, is_past_move, Alights, MayAlight}
 use Rattle.bump_rules.specs.declared.places.Segment.{Segment}
 use Rattle.bump_rules.specs.declared.history.Cause.{Cause}
 use Rattle.bump_rules.specs.History.{place_of, subject}
 use Rattle.bump_rules.proofs.ToldMoves.{no_move}
 use Rattle.bump_rules.specs.Tables.{is_cold as is_cold_segment, is_warm as is_warm_segment}
-use Rattle.std.proofs.Common.{inl, inr}
-use Rattle.bump_steps.specs.Rule.{blank}
 use Rattle.bump_steps.proofs.Told.{at_standing, tells, stands_alone}
 use Rattle.bump_rules.specs.Lives.{life, one_if, is_same}
 use Rattle.bump_rules.specs.Lanes.{applied_bump}

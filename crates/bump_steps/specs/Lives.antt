@@ -33,7 +33,8 @@ class_after_load chunk word class = record class { steps = class.steps ++ step_o
 
 -- after a load of its time
 abbrev pub class_after_see_time : ℕ → ℕ → ClassPart → ClassPart
-class_after_see_time chunk time class = record class { steps = class.steps ++ step_of kind.SeeTime chunk time None ∷ [] }
+class_after_see_time chunk time class =
+    record class { steps = class.steps ++ step_of kind.SeeTime chunk time None ∷ [] }
 
 -- after a load of its head for the generation in it
 abbrev pub class_after_see_generation : ℕ → ℕ → ClassPart → ClassPart

@@ -25,7 +25,8 @@ impl<N: Name> Model for ClosedWorker<N> {
 
     ghost view = { λ w. record { part = w.seat.part; sender = w.sender } };
 
-    ghost invariant = { λ w. (w.counts ≡ w.seat.part.accounts) × IsClosedWorker (record { part = w.seat.part; sender = w.sender }) };
+    ghost invariant = { λ w. (w.counts ≡ w.seat.part.accounts)
+        × IsClosedWorker (record { part = w.seat.part; sender = w.sender }) };
 }
 
 impl<N: Name> Worker<N> {

@@ -23,9 +23,11 @@ impl<N: Name> Hold<N> {
         requires own { owns self.old.life.chunk book.old.part ≡ true }
         ensures hold { self.new ≡ self.old }
         ensures book { book.new ≡ book.old }
-        ensures label { (label : ℕ) × (label_of_life self.old.life 0 book.old.part.labels ≡ Some label) × (total (differs label) self.old.labels ≡ 0) }
+        ensures label { (label : ℕ) × (label_of_life self.old.life 0 book.old.part.labels ≡ Some label)
+            × (total (differs label) self.old.labels ≡ 0) }
         ensures generation { generation_of_chunk book.old.part self.old.life.chunk ≡ self.old.life.generation }
-        ensures in_use { (times self.old.life.chunk book.old.lists.unused ≡ 0) × (times self.old.life.chunk book.old.lists.retired ≡ 0) }
+        ensures in_use { (times self.old.life.chunk book.old.lists.unused ≡ 0)
+            × (times self.old.life.chunk book.old.lists.retired ≡ 0) }
     {
         book.meet(&mut self.held);
     }
@@ -42,7 +44,8 @@ impl<N: Name> Lane<N> {
         ensures book { book.new ≡ book.old }
         ensures once { NamesNoBumpTwice book.old.part }
         ensures told { EachMoveIsTold book.old.part self.old.lane.part }
-        ensures moves { moves_of self.old.lane.part.worker book.old.part.history ≡ moved_in book.old.part (entries self.old.lane) }
+        ensures moves { moves_of self.old.lane.part.worker book.old.part.history
+            ≡ moved_in book.old.part (entries self.old.lane) }
     {
         book.meet_lane(&mut self.raw);
     }

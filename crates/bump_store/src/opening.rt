@@ -26,7 +26,8 @@ fn add<N: Name>(
     worker: Worker<N>,
     lane: Lane<N>,
 ) -> Result<(), AllocError>
-    ensures { OnOk result ((workers.new.items ≡ workers.old.items ++ worker ∷ []) × (lanes.new.items ≡ lanes.old.items ++ lane ∷ [])) }
+    ensures { OnOk result ((workers.new.items ≡ workers.old.items ++ worker ∷ [])
+        × (lanes.new.items ≡ lanes.old.items ++ lane ∷ [])) }
 {
     workers.push(worker)?;
     lanes.push(lane)?;
@@ -47,7 +48,8 @@ fn make_rings<N: Name>(
     ensures rings { IfOk result (λ r. worker_rings r.0.items ≡ lane_rings r.1.items) }
     ensures workers { IfOk result (λ r. worker_parts_of r.0.items ≡ worker_parts 0 count) }
     ensures lanes { IfOk result (λ r. lane_parts_of r.1.items ≡ lane_parts 0 count) }
-    ensures capacity { IfOk result (λ r. All (λ w. w.sender.capacity ≡ capacity) r.0.items × All (λ l. l.capacity ≡ capacity) r.1.items) }
+    ensures capacity { IfOk result (λ r. All (λ w. w.sender.capacity ≡ capacity) r.0.items
+        × All (λ l. l.capacity ≡ capacity) r.1.items) }
 {
     let mut workers = Vec::with_capacity(alloc, count as usize)?;
     let mut lanes = Vec::with_capacity(alloc, count as usize)?;
@@ -80,7 +82,8 @@ fn make_books<N: Name>(
     requires chunks { HaveChunks classes.now }
     requires few { chunks_of classes.now ≤ 1000000 }
     requires workers { workers ≤ most_workers }
-    ensures opened_books { IfOk result (λ r. r.0.items ≡ new_books (class_parts (first_generation - 1) 0 0 classes.now) classes.now workers) }
+    ensures opened_books { IfOk result (λ r. r.0.items ≡ new_books
+        (class_parts (first_generation - 1) 0 0 classes.now) classes.now workers) }
     ensures books { IfOk result (λ r. length r.0.items ≡ length classes.now) }
     ensures starts { IfOk result (λ r. r.1.items ≡ starts_from 0 classes.now) }
 {
@@ -132,7 +135,8 @@ impl<N: Name> Store<N> {
         ensures rings { IfOk result (λ r. worker_rings r.1.items ≡ lane_rings r.2) }
         ensures workers { IfOk result (λ r. worker_parts_of r.1.items ≡ worker_parts 0 config.now.workers) }
         ensures lanes { IfOk result (λ r. lane_parts_of r.2 ≡ lane_parts 0 config.now.workers) }
-        ensures capacity { IfOk result (λ r. All (λ w. w.sender.capacity ≡ config.now.capacity) r.1.items × All (λ l. l.capacity ≡ config.now.capacity) r.2) }
+        ensures capacity { IfOk result (λ r. All (λ w. w.sender.capacity ≡ config.now.capacity) r.1.items
+            × All (λ l. l.capacity ≡ config.now.capacity) r.2) }
     {
         let HeadParts {
             heads,

@@ -67,7 +67,8 @@ impl<N: Name> Lane<N> {
         ensures counts { result.counts ≡ closed.now.part.accounts }
         ensures applied { result.applied ≡ length (entries self.now.lane) }
         ensures accepted { result.applied ≡ result.counts.accepted }
-        ensures attempted { result.counts.attempted ≡ result.counts.accepted + result.counts.full + result.counts.busy + result.counts.refs }
+        ensures attempted { result.counts.attempted ≡ result.counts.accepted + result.counts.full + result.counts.busy
+            + result.counts.refs }
     {
         Settled {
             counts: closed.counts(),
@@ -92,9 +93,12 @@ impl<N: Name> Lane<N> {
         ensures ring { (self.new.lane.ring ≡ self.old.lane.ring) × (self.new.capacity ≡ self.old.capacity) }
         ensures closed { closed.new ≡ closed.old }
         ensures none { (result ≡ Ok None) ↔ (length (entries self.old.lane) ≡ length closed.old.sender.sent) }
-        ensures next { IfOk result (λ answered. IfSome answered (λ entry. (seen : TheLaneView) × MaySeeEnd closed.old.sender.sent self.old.lane seen × AppliesNext now seen entry self.new.lane)) }
-        ensures number { IfOk result (λ answered. IfSome answered (λ entry. entry.number ≡ length (entries self.old.lane))) }
-        ensures entry { IfOk result (λ answered. IfSome answered (λ entry. entries self.new.lane ≡ entries self.old.lane ++ told entry ∷ [])) }
+        ensures next { IfOk result (λ answered. IfSome answered (λ entry. (seen : TheLaneView)
+            × MaySeeEnd closed.old.sender.sent self.old.lane seen × AppliesNext now seen entry self.new.lane)) }
+        ensures number { IfOk result (λ answered. IfSome answered (λ entry.
+            entry.number ≡ length (entries self.old.lane))) }
+        ensures entry { IfOk result (λ answered. IfSome answered (λ entry.
+            entries self.new.lane ≡ entries self.old.lane ++ told entry ∷ [])) }
         ensures all_unchanged { result ≡ Ok None → self.new ≡ self.old }
         ensures unknown { IfErr result (λ e. self.old.lane.known ≡ []) }
         ensures unseen { IfErr result (λ e. closed.old.sender.shows_end ≡ false) }
@@ -136,7 +140,8 @@ impl<N: Name> Lane<N> {
         ensures counts { IfOk result (λ settled. settled.counts ≡ closed.part.accounts) }
         ensures applied { IfOk result (λ settled. settled.applied ≡ length (entries self.new.lane)) }
         ensures accepted { IfOk result (λ settled. settled.applied ≡ settled.counts.accepted) }
-        ensures attempted { IfOk result (λ settled. settled.counts.attempted ≡ settled.counts.accepted + settled.counts.full + settled.counts.busy + settled.counts.refs) }
+        ensures attempted { IfOk result (λ settled. settled.counts.attempted ≡ settled.counts.accepted
+            + settled.counts.full + settled.counts.busy + settled.counts.refs) }
         ensures closed { IfErr result (λ unsettled. unsettled.closed ≡ closed) }
         ensures unknown { IfErr result (λ unsettled. self.new.lane.known ≡ []) }
         ensures unseen { IfErr result (λ unsettled. closed.sender.shows_end ≡ false) }

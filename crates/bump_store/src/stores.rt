@@ -38,7 +38,8 @@ impl<N: Name> Model for Store<N> {
 
     ghost view = { λ s. arc_value s.heads };
 
-    ghost invariant = { λ s. IsStore (arc_value s.heads).classes s.starts.items (vec_len s.books) × (s.classes.items ≡ (arc_value s.heads).classes) × (s.workers ≡ (arc_value s.heads).workers) };
+    ghost invariant = { λ s. IsStore (arc_value s.heads).classes s.starts.items (vec_len s.books)
+        × (s.classes.items ≡ (arc_value s.heads).classes) × (s.workers ≡ (arc_value s.heads).workers) };
 }
 
 impl<N: Name> Deref for Store<N> {

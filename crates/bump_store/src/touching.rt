@@ -55,7 +55,8 @@ fn attempt<N: Name>(
     requires trying { seat.old.part.hand ≡ hand.Trying life }
     requires accepted { seat.old.part.accounts.accepted ≡ length sender.old.sent }
     requires fetched { 0 < fetches_of life seat.old.part }
-    ensures { (found : TheFindings) × Attempted heads.now.refs_limit life seat.old seat.new sender.old sender.new result found }
+    ensures { (found : TheFindings) × Attempted heads.now.refs_limit life seat.old seat.new sender.old sender.new result
+        found }
 {
     let number = sender.accepted();
     let dropped = match heads.ride(seat, life, number) {
@@ -88,7 +89,8 @@ fn attempt_counted<N: Name>(
     requires fetched { 0 < fetches_of life seat.old.part }
     requires add_up { IsAccounts counts.old counts.old.accepted hand.Idle }
     requires room { counts.old.attempted < most_attempts }
-    ensures attempted { (found : TheFindings) × Attempted heads.now.refs_limit life seat.old seat.new sender.old sender.new result found }
+    ensures attempted { (found : TheFindings) × Attempted heads.now.refs_limit life seat.old seat.new sender.old
+        sender.new result found }
     ensures counted { counts.new ≡ counted result counts.old }
 {
     let touch = attempt(heads, seat, sender, life);
@@ -112,7 +114,8 @@ fn hit<N: Name>(
     requires attempts { seat.old.part.accounts.attempted < most_attempts }
     requires add_up { IsAccounts counts.old counts.old.accepted hand.Idle }
     requires room { counts.old.attempted < most_attempts }
-    ensures hit { (found : TheFindings) × DoesHit heads.now.refs_limit life now seat.old seat.new sender.old sender.new result found }
+    ensures hit { (found : TheFindings) × DoesHit heads.now.refs_limit life now seat.old seat.new sender.old sender.new
+        result found }
     ensures counted { counts.new ≡ counted result counts.old }
 {
     let first = heads.mark_fetched(seat, life);
@@ -149,7 +152,8 @@ impl<N: Name> Worker<N> {
     #[inline(always)]
     pub fn get(&mut self, heads: &ReaderHeads<N>, id: ItemId) -> Result<Hold<N>, GetRefusal>
         ensures missing { all_chunks heads.now ≤ id.chunk → (result ≡ Err refused.NoSuchChunk) × (self.new ≡ self.old) }
-        ensures got { id.chunk < all_chunks heads.now → (first : TheHead) × (more : List TheHead) × Got heads.now.refs_limit id self.old self.new result first more }
+        ensures got { id.chunk < all_chunks heads.now → (first : TheHead) × (more : List TheHead)
+            × Got heads.now.refs_limit id self.old self.new result first more }
         ensures few { MakesAtMost 1 8 0 self.old.part.steps self.new.part.steps }
         ensures sender { self.new.sender ≡ self.old.sender }
     {
@@ -183,8 +187,10 @@ impl<N: Name> Worker<N> {
     /// further step, and answers Exhausted.
     #[inline(always)]
     pub fn touch(&mut self, heads: &ReaderHeads<N>, hold: &mut Hold<N>, now: u64) -> Touch
-        ensures exhausted { self.old.part.accounts.attempted ≡ most_attempts → (result ≡ touch.Exhausted) × (self.new ≡ self.old) }
-        ensures touched { self.old.part.accounts.attempted < most_attempts → (found : TheFindings) × Touched heads.now.refs_limit hold.old.life now self.old self.new result found }
+        ensures exhausted { self.old.part.accounts.attempted ≡ most_attempts → (result ≡ touch.Exhausted)
+            × (self.new ≡ self.old) }
+        ensures touched { self.old.part.accounts.attempted < most_attempts → (found : TheFindings)
+            × Touched heads.now.refs_limit hold.old.life now self.old self.new result found }
         ensures few { MakesAtMost 1 8 4 self.old.part.steps self.new.part.steps }
         ensures hold { hold.new ≡ hold.old }
         ensures ring { self.new.sender.ring ≡ self.old.sender.ring }

@@ -26,7 +26,8 @@ impl<N: Name> Model for Worker<N> {
 
     ghost view = { λ w. record { part = w.seat.part; sender = w.sender } };
 
-    ghost invariant = { λ w. (w.seat.hold ≡ None) × (w.counts ≡ w.seat.part.accounts) × IsWorker (record { part = w.seat.part; sender = w.sender }) };
+    ghost invariant = { λ w. (w.seat.hold ≡ None) × (w.counts ≡ w.seat.part.accounts)
+        × IsWorker (record { part = w.seat.part; sender = w.sender }) };
 }
 
 impl<N: Name> Worker<N> {

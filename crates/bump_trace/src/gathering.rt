@@ -19,7 +19,8 @@ fn write_whole<W: Sink>(writer: &mut Counted<W>, bytes: &[u8]) -> Result<(), Sim
     ensures ok { OnOk result (Appends (W.contents (inner_of writer.old)) (W.contents (inner_of writer.new)) bytes.now) }
     ensures err { IfErr result (λ e. IsOfWriting (failed_of writer.new) e) }
     ensures only { IfErr result (λ e. e ≡ Write) }
-    ensures front { IfErr result (λ _. WritesFront (W.contents (inner_of writer.old)) (W.contents (inner_of writer.new)) bytes.now) }
+    ensures front { IfErr result (λ _. WritesFront (W.contents (inner_of writer.old))
+        (W.contents (inner_of writer.new)) bytes.now) }
 {
     let mut rest = bytes;
     while !rest.is_empty() {
@@ -34,11 +35,13 @@ fn write_whole<W: Sink>(writer: &mut Counted<W>, bytes: &[u8]) -> Result<(), Sim
 
 /// Writes what was gathered.
 pub fn flush<W: Sink>(writer: &mut Counted<W>, gathered: &mut Vec<u8>) -> Result<(), SimFault>
-    ensures ok { OnOk result (Appends (W.contents (inner_of writer.old)) (W.contents (inner_of writer.new)) gathered.old.items) }
+    ensures ok { OnOk result (Appends (W.contents (inner_of writer.old))
+        (W.contents (inner_of writer.new)) gathered.old.items) }
     ensures none { OnOk result (gathered.new.items ≡ []) }
     ensures err { IfErr result (λ e. IsOfWriting (failed_of writer.new) e) }
     ensures only { IfErr result (λ e. e ≡ Write) }
-    ensures front { IfErr result (λ _. WritesFront (W.contents (inner_of writer.old)) (W.contents (inner_of writer.new)) gathered.old.items) }
+    ensures front { IfErr result (λ _. WritesFront (W.contents (inner_of writer.old))
+        (W.contents (inner_of writer.new)) gathered.old.items) }
 {
     write_whole(writer, gathered)?;
     gathered.clear();
@@ -51,9 +54,11 @@ pub fn gather<W: Sink>(
     gathered: &mut Vec<u8>,
     text: &[u8],
 ) -> Result<(), SimFault>
-    ensures ok { OnOk result (Gathers (W.contents (inner_of writer.old)) (W.contents (inner_of writer.new)) gathered.old.items gathered.new.items text.now) }
+    ensures ok { OnOk result (Gathers (W.contents (inner_of writer.old))
+        (W.contents (inner_of writer.new)) gathered.old.items gathered.new.items text.now) }
     ensures err { IfErr result (λ e. IsOfWriting (failed_of writer.new) e) }
-    ensures front { IfErr result (λ e. StopsWithin (W.contents (inner_of writer.old)) (W.contents (inner_of writer.new)) gathered.new.items (gathered.old.items ++ text.now) e) }
+    ensures front { IfErr result (λ e. StopsWithin (W.contents (inner_of writer.old))
+        (W.contents (inner_of writer.new)) gathered.new.items (gathered.old.items ++ text.now) e) }
 {
     if text.len() <= ROOM.saturating_sub(gathered.len()) {
         gathered.extend_from_slice(text)?;
@@ -76,9 +81,11 @@ pub fn gather_fault<W: Sink>(
     number: u64,
     fault: Fault,
 ) -> Result<(), SimFault>
-    ensures ok { OnOk result (Gathers (W.contents (inner_of writer.old)) (W.contents (inner_of writer.new)) gathered.old.items gathered.new.items (fault_line number fault)) }
+    ensures ok { OnOk result (Gathers (W.contents (inner_of writer.old))
+        (W.contents (inner_of writer.new)) gathered.old.items gathered.new.items (fault_line number fault)) }
     ensures err { IfErr result (λ e. IsOfWriting (failed_of writer.new) e) }
-    ensures front { IfErr result (λ e. StopsWithin (W.contents (inner_of writer.old)) (W.contents (inner_of writer.new)) gathered.new.items (gathered.old.items ++ fault_line number fault) e) }
+    ensures front { IfErr result (λ e. StopsWithin (W.contents (inner_of writer.old))
+        (W.contents (inner_of writer.new)) gathered.new.items (gathered.old.items ++ fault_line number fault) e) }
 {
     text.clear();
     put_fault(text, number, fault)?;
@@ -93,9 +100,11 @@ pub fn stop<W: Sink>(
     number: u64,
     error: LineError,
 ) -> Result<(), SimFault>
-    ensures ok { OnOk result (GathersFault (W.contents (inner_of writer.old)) (W.contents (inner_of writer.new)) gathered.old.items gathered.new.items number error) }
+    ensures ok { OnOk result (GathersFault (W.contents (inner_of writer.old))
+        (W.contents (inner_of writer.new)) gathered.old.items gathered.new.items number error) }
     ensures err { IfErr result (λ e. IsOfWriting (failed_of writer.new) e) }
-    ensures front { IfErr result (λ e. StopsWithin (W.contents (inner_of writer.old)) (W.contents (inner_of writer.new)) gathered.new.items (gathered.old.items ++ stopped_line number error) e) }
+    ensures front { IfErr result (λ e. StopsWithin (W.contents (inner_of writer.old))
+        (W.contents (inner_of writer.new)) gathered.new.items (gathered.old.items ++ stopped_line number error) e) }
 {
     match error {
         LineError::Memory => Err(SimFault::Memory),

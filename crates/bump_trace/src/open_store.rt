@@ -49,7 +49,12 @@ impl<'a> OpenStore<'a> {
         keys: RandomState,
         config: &Config,
     ) -> Result<OpenStore<'a>, LineError>
-        ensures new { IfOk result (λ b. store_of b ≡ record { state = new_state config.now; names = no_names; holds = no_names; is_past_par = false }) }
+        ensures new { IfOk result (λ b. store_of b ≡ record {
+          state = new_state config.now;
+          names = no_names;
+          holds = no_names;
+          is_past_par = false;
+        }) }
         ensures ready { IfOk result (λ b. IsReady b) }
         ensures holds { IfOk result (λ b. KeepsHolds b) }
         ensures err { IfErr result (λ e. e ≡ Memory) }
@@ -109,7 +114,8 @@ impl<'a> OpenStore<'a> {
         requires hold { is_held self.old.world id ≡ true }
         requires allowed { is_allowed self.old.world (command.Release id) ≡ true }
         ensures err { IfErr result (λ e. e ≡ Memory) }
-        ensures after { OnOk result (self.new ≡ record self.old { world = command_after self.old.world (command.Release id) }) }
+        ensures after { OnOk result (self.new ≡ record self.old
+            { world = command_after self.old.world (command.Release id) }) }
         ensures ready { OnOk result (IsReady self.new) }
         ensures holds { OnOk result (GivesBack id self.old.world self.new.world) }
     {
@@ -132,7 +138,8 @@ impl<'a> OpenStore<'a> {
         out: &mut Vec<u8>,
     ) -> Result<(), LineError>
         requires { MayRun self.old out.old.items }
-        ensures said { Does (Open (store_of self.new)) out.new.items result (set_said (store_of self.old) now start name.entry.now class label) }
+        ensures said { Does (Open (store_of self.new)) out.new.items result
+            (set_said (store_of self.old) now start name.entry.now class label) }
         ensures steady { OnOk result (IsSteady self.new) }
     {
         if class >= self.classes {
@@ -159,7 +166,8 @@ impl<'a> OpenStore<'a> {
         requires worker { is_open self.old.world worker ≡ true }
         requires hold { is_held self.old.world id ≡ true }
         requires empty { out.old.items ≡ [] }
-        ensures said { Does (Open (store_of self.new)) out.new.items result (Ok (get_held (store_of self.old) now worker name.now id)) }
+        ensures said { Does (Open (store_of self.new)) out.new.items result
+            (Ok (get_held (store_of self.old) now worker name.now id)) }
         ensures same { OnOk result (self.new ≡ record self.old { world = self.new.world }) }
         ensures ready { OnOk result (IsReady self.new) }
         ensures holds { OnOk result (GivesBack id self.old.world self.new.world) }
@@ -181,7 +189,8 @@ impl<'a> OpenStore<'a> {
         out: &mut Vec<u8>,
     ) -> Result<(), LineError>
         requires { MayRun self.old out.old.items }
-        ensures said { Does (Open (store_of self.new)) out.new.items result (get_said (store_of self.old) now worker name.entry.now) }
+        ensures said { Does (Open (store_of self.new)) out.new.items result
+            (get_said (store_of self.old) now worker name.entry.now) }
         ensures steady { OnOk result (IsSteady self.new) }
     {
         if worker >= self.workers {
@@ -210,7 +219,8 @@ impl<'a> OpenStore<'a> {
         out: &mut Vec<u8>,
     ) -> Result<(), LineError>
         requires { MayRun self.old out.old.items }
-        ensures said { Does (Open (store_of self.new)) out.new.items result (hold_said (store_of self.old) worker name.entry.now hold.entry.now) }
+        ensures said { Does (Open (store_of self.new)) out.new.items result
+            (hold_said (store_of self.old) worker name.entry.now hold.entry.now) }
         ensures steady { OnOk result (IsSteady self.new) }
     {
         if worker >= self.workers {
@@ -246,7 +256,8 @@ impl<'a> OpenStore<'a> {
         out: &mut Vec<u8>,
     ) -> Result<(), LineError>
         requires { MayRun self.old out.old.items }
-        ensures said { Does (Open (store_of self.new)) out.new.items result (hit_said (store_of self.old) now worker hold.entry.now) }
+        ensures said { Does (Open (store_of self.new)) out.new.items result
+            (hit_said (store_of self.old) now worker hold.entry.now) }
         ensures steady { OnOk result (IsSteady self.new) }
     {
         if worker >= self.workers {
@@ -264,7 +275,8 @@ impl<'a> OpenStore<'a> {
     #[tactic(auto, unfolding(crate::specs::OpenStore::read_said))]
     fn read(&mut self, hold: &'a [u8], out: &mut Vec<u8>) -> Result<(), LineError>
         requires { MayRun self.old out.old.items }
-        ensures said { Does (Open (store_of self.new)) out.new.items result (read_said (store_of self.old) hold.entry.now) }
+        ensures said { Does (Open (store_of self.new)) out.new.items result
+            (read_said (store_of self.old) hold.entry.now) }
         ensures steady { OnOk result (IsSteady self.new) }
     {
         let Some(id) = self.holds.get(hold) else {
@@ -279,7 +291,8 @@ impl<'a> OpenStore<'a> {
     #[tactic(auto, unfolding(crate::specs::OpenStore::drop_said))]
     fn drop_hold(&mut self, hold: &'a [u8], out: &mut Vec<u8>) -> Result<(), LineError>
         requires { MayRun self.old out.old.items }
-        ensures said { Does (Open (store_of self.new)) out.new.items result (drop_said (store_of self.old) hold.entry.now) }
+        ensures said { Does (Open (store_of self.new)) out.new.items result
+            (drop_said (store_of self.old) hold.entry.now) }
         ensures steady { OnOk result (IsSteady self.new) }
     {
         let Some(id) = self.holds.get(hold) else {
@@ -295,7 +308,8 @@ impl<'a> OpenStore<'a> {
     #[tactic(auto, unfolding(crate::specs::OpenStore::del_said))]
     fn del(&mut self, name: &'a [u8], out: &mut Vec<u8>) -> Result<(), LineError>
         requires { MayRun self.old out.old.items }
-        ensures said { Does (Open (store_of self.new)) out.new.items result (del_said (store_of self.old) name.entry.now) }
+        ensures said { Does (Open (store_of self.new)) out.new.items result
+            (del_said (store_of self.old) name.entry.now) }
         ensures steady { OnOk result (IsSteady self.new) }
     {
         let Some(id) = self.names.get(name) else {
@@ -340,7 +354,8 @@ impl<'a> OpenStore<'a> {
     fn drain_worker(&mut self, now: u64, worker: u32, out: &mut Vec<u8>) -> Result<u64, LineError>
         requires ready { IsReady self.old }
         requires worker { worker < self.old.workers }
-        ensures drained { Drains self.old self.new out.old.items out.new.items result (drained_of now worker self.old.capacity self.old.world) }
+        ensures drained { Drains self.old self.new out.old.items out.new.items result
+            (drained_of now worker self.old.capacity self.old.world) }
         ensures few { IfOk result (λ n. n < 2 ^ 32) }
         ensures ready { OnOk result (IsReady self.new) }
     {
@@ -374,7 +389,8 @@ impl<'a> OpenStore<'a> {
     #[tactic(auto, unfolding(crate::specs::OpenStore::close_said))]
     fn close(&mut self, now: u64, worker: u32, out: &mut Vec<u8>) -> Result<(), LineError>
         requires { MayRun self.old out.old.items }
-        ensures said { Does (Open (store_of self.new)) out.new.items result (close_said (store_of self.old) now worker) }
+        ensures said { Does (Open (store_of self.new)) out.new.items result
+            (close_said (store_of self.old) now worker) }
         ensures steady { OnOk result (IsSteady self.new) }
     {
         if worker >= self.workers {
@@ -401,7 +417,8 @@ impl<'a> OpenStore<'a> {
         out: &mut Vec<u8>,
     ) -> Result<(), LineError>
         requires { MayRun self.old out.old.items }
-        ensures said { Does (Open (store_of self.new)) out.new.items result (made_by (store_of self.old) now (seen_instruction instruction.entry)) }
+        ensures said { Does (Open (store_of self.new)) out.new.items result
+            (made_by (store_of self.old) now (seen_instruction instruction.entry)) }
         ensures steady { OnOk result (IsSteady self.new) }
     {
         match instruction {
@@ -432,7 +449,8 @@ impl<'a> OpenStore<'a> {
 
     /// Whether `par` was read, and the line may not stand behind it.
     fn is_misplaced(&self, instruction: &Instruction<'a>) -> bool
-        ensures { result ≡ ((store_of self.now).is_past_par && not (may_follow_par (seen_instruction instruction.now))) }
+        ensures { result ≡ ((store_of self.now).is_past_par
+            && not (may_follow_par (seen_instruction instruction.now))) }
     {
         self.is_past_par && !instruction.may_follow_par()
     }
@@ -446,7 +464,8 @@ impl<'a> OpenStore<'a> {
         out: &mut Vec<u8>,
     ) -> Result<(), LineError>
         requires { MayRun self.old out.old.items }
-        ensures said { Does (Open (store_of self.new)) out.new.items result (instruction_said (store_of self.old) now (seen_instruction instruction.entry)) }
+        ensures said { Does (Open (store_of self.new)) out.new.items result
+            (instruction_said (store_of self.old) now (seen_instruction instruction.entry)) }
         ensures steady { OnOk result (IsSteady self.new) }
     {
         if self.is_misplaced(&instruction) {

@@ -38,7 +38,8 @@ fn fault_of(fault: ConfigFault) -> Fault
 fn config(shape: Shape, classes: Vec<ClassConfig>) -> Result<Config, Fault>
     ensures fault { result_err result ≡ config_fault shape classes.items }
     ensures counts { IfOk result (λ c. (c.workers ≡ shape.workers) × (c.capacity ≡ shape.capacity)) }
-    ensures limits { IfOk result (λ c. (c.refs_limit ≡ shape.refs_limit) × (c.first_generation ≡ shape.first_generation)) }
+    ensures limits { IfOk result (λ c. (c.refs_limit ≡ shape.refs_limit)
+        × (c.first_generation ≡ shape.first_generation)) }
     ensures classes { IfOk result (λ c. c.classes ≡ classes.items) }
 {
     match Config::new(

@@ -19,12 +19,14 @@ const MAX_READS: u32 = 20_000_000;
 /// All that the reader has left. An interrupted read is made again.
 pub fn read_all<R: Source>(alloc: Global, reader: &mut Counted<R>) -> Result<Vec<u8>, SimFault>
     requires { (calls_of reader.old ≡ 0) × (failed_of reader.old ≡ 0) }
-    ensures bytes { IfOk result (λ v. Consumes (R.remaining (inner_of reader.old)) (R.remaining (inner_of reader.new)) v.items) }
+    ensures bytes { IfOk result (λ v. Consumes (R.remaining (inner_of reader.old))
+        (R.remaining (inner_of reader.new)) v.items) }
     ensures end { OnOk result (IsAtEnd (R.remaining (inner_of reader.new))) }
     ensures size { IfOk result (λ v. length v.items ≤ most_bytes) }
     ensures calls { calls_of reader.new ≤ most_reads }
     ensures err { IfErr result (λ e. IsOfReading (calls_of reader.new) (failed_of reader.new) e) }
-    ensures long { IfErr result (λ e. IsOfSize (R.remaining (inner_of reader.old)) (R.remaining (inner_of reader.new)) e) }
+    ensures long { IfErr result (λ e. IsOfSize (R.remaining (inner_of reader.old))
+        (R.remaining (inner_of reader.new)) e) }
 {
     let mut bytes = Vec::new(alloc);
     let mut piece = [0u8; 4096];

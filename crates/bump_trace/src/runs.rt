@@ -71,8 +71,10 @@ fn run_lines<W: Sink>(
     requires size { length input.now ≤ most_bytes }
     requires empty { gathered.old.items ≡ [] }
     ensures err { IfErr result (λ e. IsOfWriting (failed_of writer.new) e) }
-    ensures front { IfErr result (λ e. StopsWithin (W.contents (inner_of writer.old)) (W.contents (inner_of writer.new)) gathered.new.items (verdict_of input.now).text e) }
-    ensures text { IfOk result (λ is_fault. RunsInto (W.contents (inner_of writer.old)) (W.contents (inner_of writer.new)) gathered.new.items input.now is_fault) }
+    ensures front { IfErr result (λ e. StopsWithin (W.contents (inner_of writer.old))
+        (W.contents (inner_of writer.new)) gathered.new.items (verdict_of input.now).text e) }
+    ensures text { IfOk result (λ is_fault. RunsInto (W.contents (inner_of writer.old))
+        (W.contents (inner_of writer.new)) gathered.new.items input.now is_fault) }
 {
     let mut session = Session::new(keys);
     let mut text = Vec::new(alloc);
@@ -109,8 +111,10 @@ fn run_input<W: Sink>(
 ) -> Result<bool, SimFault>
     requires { length input.now ≤ most_bytes }
     ensures err { IfErr result (λ e. IsOfWriting (failed_of writer.new) e) }
-    ensures front { IfErr result (λ _. WritesFront (W.contents (inner_of writer.old)) (W.contents (inner_of writer.new)) (verdict_of input.now).text) }
-    ensures text { IfOk result (λ is_fault. RunsInto (W.contents (inner_of writer.old)) (W.contents (inner_of writer.new)) [] input.now is_fault) }
+    ensures front { IfErr result (λ _. WritesFront (W.contents (inner_of writer.old)) (W.contents (inner_of writer.new))
+        (verdict_of input.now).text) }
+    ensures text { IfOk result (λ is_fault. RunsInto (W.contents (inner_of writer.old))
+        (W.contents (inner_of writer.new)) [] input.now is_fault) }
 {
     let mut gathered = Vec::with_capacity(alloc, ROOM)?;
     match run_lines(alloc, keys, input, writer, &mut gathered) {
@@ -139,8 +143,10 @@ pub fn run_model<R: Source, W: Sink>(
     requires writer { (calls_of writer.old ≡ 0) × (failed_of writer.old ≡ 0) }
     ensures reads { calls_of reader.new ≤ most_reads }
     ensures unwritten { IfErr result (λ e. IsUncalled (calls_of writer.new) e) }
-    ensures failed { IfErr result (λ e. FailsAsCounted (calls_of reader.new) (failed_of reader.new) (failed_of writer.new) e) }
-    ensures text { ModelRuns (R.remaining (inner_of reader.old)) (R.remaining (inner_of reader.new)) (W.contents (inner_of writer.old)) (W.contents (inner_of writer.new)) result }
+    ensures failed { IfErr result (λ e. FailsAsCounted (calls_of reader.new) (failed_of reader.new)
+        (failed_of writer.new) e) }
+    ensures text { ModelRuns (R.remaining (inner_of reader.old)) (R.remaining (inner_of reader.new))
+        (W.contents (inner_of writer.old)) (W.contents (inner_of writer.new)) result }
 {
     let input = read_all(alloc, reader)?;
     let is_fault = run_input(alloc, keys, &input, writer)?;

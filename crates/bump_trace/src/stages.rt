@@ -90,7 +90,8 @@ impl<'a> Session<'a> {
     ) -> Result<(), LineError>
         requires settled { IsSettled self.old.stage }
         requires empty { out.old.items ≡ [] }
-        ensures said { Does (seen_stage self.new.stage) out.new.items result (effect (seen_stage self.old.stage) now (seen_line line.entry)) }
+        ensures said { Does (seen_stage self.new.stage) out.new.items result
+            (effect (seen_stage self.old.stage) now (seen_line line.entry)) }
         ensures settled { OnOk result (IsSettled self.new.stage) }
     {
         match line {
@@ -117,7 +118,8 @@ impl<'a> Session<'a> {
     ) -> Result<(), LineError>
         requires settled { IsSettled self.old.stage }
         requires empty { out.old.items ≡ [] }
-        ensures said { Does (seen_stage self.new.stage) out.new.items result (step (seen_stage self.old.stage) number line.entry.now) }
+        ensures said { Does (seen_stage self.new.stage) out.new.items result
+            (step (seen_stage self.old.stage) number line.entry.now) }
         ensures settled { OnOk result (IsSettled self.new.stage) }
     {
         match read_line(alloc, line)? {

@@ -85,7 +85,8 @@ fn run_file<
     R: Print + Eprint + Files + AllocGlobal + RandomSource + Threads + Wait + Sync,
     W: Ways,
 >(rt: &R, ways: &W, chosen: Run<'_>) -> u8
-    ensures { EndsByRun (W.models ways.now chosen.entry.file.now) (W.serials ways.now chosen.entry.file.now) (W.pars ways.now chosen.entry.file.now) chosen.entry.mode chosen.entry.drainers result }
+    ensures { EndsByRun (W.models ways.now chosen.entry.file.now) (W.serials ways.now chosen.entry.file.now)
+        (W.pars ways.now chosen.entry.file.now) chosen.entry.mode chosen.entry.drainers result }
 {
     ended(rt, run_as(rt, ways, chosen))
 }

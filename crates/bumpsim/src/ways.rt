@@ -63,7 +63,8 @@ pub fn run_as<R: Print + Files + AllocGlobal + RandomSource + Threads + Wait + S
     ways: &W,
     chosen: Run<'_>,
 ) -> Result<(), SimFault>
-    ensures { RanAs (W.models ways.now chosen.entry.file.now) (W.serials ways.now chosen.entry.file.now) (W.pars ways.now chosen.entry.file.now) chosen.entry.mode chosen.entry.drainers result }
+    ensures { RanAs (W.models ways.now chosen.entry.file.now) (W.serials ways.now chosen.entry.file.now)
+        (W.pars ways.now chosen.entry.file.now) chosen.entry.mode chosen.entry.drainers result }
 {
     match chosen.mode {
         Mode::Model => ways.model(rt, chosen.file),

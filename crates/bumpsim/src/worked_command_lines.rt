@@ -23,12 +23,14 @@ pub fn par_and_file()
 
 /// `par`, a file and a number of drainers, 1 to 64.
 pub fn one_drainer()
-    ensures { run_of (codes "bumpsim" ∷ codes "par" ∷ codes "trace" ∷ codes "1" ∷ []) ≡ Some (mode.Par, codes "trace", 1) }
+    ensures { run_of (codes "bumpsim" ∷ codes "par" ∷ codes "trace" ∷ codes "1" ∷ [])
+        ≡ Some (mode.Par, codes "trace", 1) }
 {}
 
 /// The most drainers.
 pub fn most_drainers()
-    ensures { run_of (codes "bumpsim" ∷ codes "par" ∷ codes "trace" ∷ codes "64" ∷ []) ≡ Some (mode.Par, codes "trace", 64) }
+    ensures { run_of (codes "bumpsim" ∷ codes "par" ∷ codes "trace" ∷ codes "64" ∷ [])
+        ≡ Some (mode.Par, codes "trace", 64) }
 {}
 
 /// None are too few.

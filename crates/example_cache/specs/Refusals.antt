@@ -35,7 +35,8 @@ link_refused _ = None
 
 -- and none under a name that has an item
 abbrev pub store_refused : State → Option ItemId → ℕ → ℕ → Option CacheError
-store_refused s None label now = let c = command.Link 0 label now in if is_allowed s c then link_refused (answer_of s c) else Some NotAllowed
+store_refused s None label now =
+    let c = command.Link 0 label now in if is_allowed s c then link_refused (answer_of s c) else Some NotAllowed
 store_refused s (Some id) label now = Some Taken
 
 -- no hold is taken where the item has as many references as it may have, or is there no more
@@ -47,7 +48,8 @@ hold_refused _ = Some Gone
 -- by a worker of the item that a name has, if it has one
 abbrev pub take_refused : State → ℕ → Option ItemId → Option CacheError
 take_refused s w None = Some Unknown
-take_refused s w (Some id) = let c = command.Take w id in if is_allowed s c then hold_refused (answer_of s c) else Some NotAllowed
+take_refused s w (Some id) =
+    let c = command.Take w id in if is_allowed s c then hold_refused (answer_of s c) else Some NotAllowed
 
 -- no item is ended by a name that has none
 abbrev pub end_refused : State → Option ItemId → Option CacheError

@@ -116,7 +116,8 @@ impl Cache {
         ensures refusal { RefusesOrLacks (put_refused self.old (string_bytes name) label now) result }
         ensures answer { IfOk result (λ id. Answer.Linked id ≡ answer_of self.old.world (Command.Link 0 label now)) }
         ensures world { OnOk result (self.new.world ≡ command_after self.old.world (Command.Link 0 label now)) }
-        ensures name { IfOk result (λ id. (other : List ℕ) → named self.new other ≡ update bytes_eq (named self.old) (string_bytes name) (Some id) other) }
+        ensures name { IfOk result (λ id. (other : List ℕ) → named self.new other
+            ≡ update bytes_eq (named self.old) (string_bytes name) (Some id) other) }
         ensures kept_world { OnErr result (self.new.world ≡ self.old.world) }
         ensures kept_names { OnErr result ((other : List ℕ) → named self.new other ≡ named self.old other) }
         ensures sizes { SameSizes self.old.world self.new.world }
@@ -151,9 +152,12 @@ impl Cache {
     /// where the item had ended before, as by an evict. Refused as Unknown where no item has the name.
     pub fn remove(&mut self, name: &str) -> Result<Option<Ended>, CacheError>
         ensures refusal { Refuses (remove_refused self.old name.now) result }
-        ensures answer { IfOk result (λ ended. (id : ItemId) → named self.old name.now ≡ Some id → ended ≡ ended_by (answer_of self.old.world (Command.Unlink id))) }
-        ensures world { OnOk result ((id : ItemId) → named self.old name.now ≡ Some id → self.new.world ≡ command_after self.old.world (Command.Unlink id)) }
-        ensures name { OnOk result ((other : List ℕ) → named self.new other ≡ update bytes_eq (named self.old) name.now None other) }
+        ensures answer { IfOk result (λ ended. (id : ItemId) → named self.old name.now ≡ Some id
+            → ended ≡ ended_by (answer_of self.old.world (Command.Unlink id))) }
+        ensures world { OnOk result ((id : ItemId) → named self.old name.now ≡ Some id
+            → self.new.world ≡ command_after self.old.world (Command.Unlink id)) }
+        ensures name { OnOk result ((other : List ℕ) → named self.new other
+            ≡ update bytes_eq (named self.old) name.now None other) }
         ensures kept { OnErr result (self.new ≡ self.old) }
         ensures sizes { SameSizes self.old.world self.new.world }
     {
@@ -202,7 +206,8 @@ impl Cache {
     /// A hit by a worker on a held item. It moves nothing: it leaves marks and, in COLD, queues a bump.
     pub fn hit_held(&mut self, worker: u32, id: ItemId, now: u64) -> Result<Touch, CacheError>
         ensures refusal { Refuses (command_refused self.old.world (Command.Touch worker id now)) result }
-        ensures answer { IfOk result (λ hit. Answer.Touched hit ≡ answer_of self.old.world (Command.Touch worker id now)) }
+        ensures answer { IfOk result (λ hit. Answer.Touched hit
+            ≡ answer_of self.old.world (Command.Touch worker id now)) }
         ensures after { OnOk result (self.new ≡ after_command self.old (Command.Touch worker id now)) }
         ensures kept { OnErr result (self.new ≡ self.old) }
         ensures sizes { SameSizes self.old.world self.new.world }
@@ -260,7 +265,8 @@ impl Cache {
         requires { worker < length self.old.world.workers }
         ensures drained { Drains self.old worker now self.new result }
         ensures refusal { Refuses (command_refused self.new.world (Command.Next worker now)) result }
-        ensures all { OnOk result (map bump_applied (applied_of self.new.world worker) ≡ numbered_from 0 (sent_of self.new.world worker)) }
+        ensures all { OnOk result (map bump_applied (applied_of self.new.world worker)
+            ≡ numbered_from 0 (sent_of self.new.world worker)) }
         ensures sizes { SameSizes self.old.world self.new.world }
     {
         let mut count = 0;

@@ -75,8 +75,8 @@ keyword_word keyword.Par = codes "par"
 abbrev pub all_keywords : List Keyword
 all_keywords =
     keyword.Store ∷ keyword.Class ∷ keyword.Set ∷ keyword.Temp ∷ keyword.Get ∷ keyword.Hold ∷ keyword.Hit ∷
-    keyword.Read ∷ keyword.Drop ∷ keyword.Del ∷ keyword.Pull ∷ keyword.Sweep ∷ keyword.Drain ∷ keyword.Close ∷ keyword.Show ∷
-    keyword.Moves ∷ keyword.Par ∷ []
+    keyword.Read ∷ keyword.Drop ∷ keyword.Del ∷ keyword.Pull ∷ keyword.Sweep ∷ keyword.Drain ∷ keyword.Close ∷
+    keyword.Show ∷ keyword.Moves ∷ keyword.Par ∷ []
 
 -- the first word that these bytes are
 abbrev pub keyword_of : List ℕ → Option Keyword

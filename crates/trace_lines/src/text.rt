@@ -458,7 +458,8 @@ pub fn put_close(
     accounts: Accounts,
     applied: u64,
 ) -> Result<(), AllocError>
-    ensures { OnOk result (out.new.items ≡ out.old.items ++ close_start worker ++ accounts_text accounts applied ++ codes "\n") }
+    ensures { OnOk result (out.new.items ≡ out.old.items ++ close_start worker ++ accounts_text accounts applied
+        ++ codes "\n") }
 {
     put_close_start(out, worker)?;
     put_accounts(out, accounts, applied)?;

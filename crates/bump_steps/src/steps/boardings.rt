@@ -23,8 +23,10 @@ impl Join<View> for Board {
 impl Words {
     /// A rider's seat joins a lane's, which has nothing aboard.
     pub fn board(&self, seat: &mut Seat, rider: Seat)
-        requires seats { (seat.old.table_id ≡ words_id self.now) × (rider.table_id ≡ words_id self.now) × (0 < (words_id self.now).words) }
-        requires views { (l : TheLanePart) × (r : TheRide) × (seat.old.me ≡ lane_me l) × (l.stage ≡ IsEmpty) × (rider.me ≡ ride_me r) }
+        requires seats { (seat.old.table_id ≡ words_id self.now) × (rider.table_id ≡ words_id self.now)
+            × (0 < (words_id self.now).words) }
+        requires views { (l : TheLanePart) × (r : TheRide) × (seat.old.me ≡ lane_me l) × (l.stage ≡ IsEmpty)
+            × (rider.me ≡ ride_me r) }
         ensures same { (seat.new.table_id ≡ seat.old.table_id) × (seat.new.id ≡ seat.old.id) }
         ensures boarded { seat.new.me ≡ (board_both seat.old.me.0 rider.me.0, seat.old.me.1) }
     {

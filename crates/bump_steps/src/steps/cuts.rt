@@ -61,7 +61,8 @@ impl Words {
     /// Joins another seat to this one, which has the parts of both from then on. The other one may not have taken a
     /// slot.
     pub fn join(&self, seat: &mut Seat, other: Seat)
-        requires { (seat.old.table_id ≡ words_id self.now) × (other.table_id ≡ words_id self.now) × (other.me.1 ≡ []) × (0 < (words_id self.now).words) }
+        requires { (seat.old.table_id ≡ words_id self.now) × (other.table_id ≡ words_id self.now) × (other.me.1 ≡ [])
+            × (0 < (words_id self.now).words) }
         ensures same { (seat.new.table_id ≡ seat.old.table_id) × (seat.new.id ≡ seat.old.id) }
         ensures joined { seat.new.me ≡ (joined seat.old.me.0 other.me.0, seat.old.me.1) }
     {
@@ -71,8 +72,10 @@ impl Words {
     /// Cuts the lanes' parts off the seat, into a seat of their own.
     pub fn part_lanes(&self, seat: &mut Seat) -> Seat
         requires { (seat.old.table_id ≡ words_id self.now) × (0 < (words_id self.now).words) }
-        ensures same { (seat.new.table_id ≡ seat.old.table_id) × (seat.new.id ≡ seat.old.id) × (result.table_id ≡ seat.old.table_id) }
-        ensures parts { (seat.new.me ≡ (without_lanes seat.old.me.0, seat.old.me.1)) × (result.me ≡ (lanes_only seat.old.me.0, [])) }
+        ensures same { (seat.new.table_id ≡ seat.old.table_id) × (seat.new.id ≡ seat.old.id)
+            × (result.table_id ≡ seat.old.table_id) }
+        ensures parts { (seat.new.me ≡ (without_lanes seat.old.me.0, seat.old.me.1))
+            × (result.me ≡ (lanes_only seat.old.me.0, [])) }
     {
         self.table.shared.split_seat::<LanesOut>(seat)
     }
@@ -80,8 +83,10 @@ impl Words {
     /// Cuts the holds' parts off the seat, into a seat of their own.
     pub fn part_holds(&self, seat: &mut Seat) -> Seat
         requires { (seat.old.table_id ≡ words_id self.now) × (0 < (words_id self.now).words) }
-        ensures same { (seat.new.table_id ≡ seat.old.table_id) × (seat.new.id ≡ seat.old.id) × (result.table_id ≡ seat.old.table_id) }
-        ensures parts { (seat.new.me ≡ (without_holds seat.old.me.0, seat.old.me.1)) × (result.me ≡ (holds_only seat.old.me.0, [])) }
+        ensures same { (seat.new.table_id ≡ seat.old.table_id) × (seat.new.id ≡ seat.old.id)
+            × (result.table_id ≡ seat.old.table_id) }
+        ensures parts { (seat.new.me ≡ (without_holds seat.old.me.0, seat.old.me.1))
+            × (result.me ≡ (holds_only seat.old.me.0, [])) }
     {
         self.table.shared.split_seat::<HoldsOut>(seat)
     }
@@ -89,8 +94,10 @@ impl Words {
     /// Cuts the first class's part off the seat, into a seat of its own.
     pub fn part_class(&self, seat: &mut Seat) -> Seat
         requires { (seat.old.table_id ≡ words_id self.now) × (0 < (words_id self.now).words) }
-        ensures same { (seat.new.table_id ≡ seat.old.table_id) × (seat.new.id ≡ seat.old.id) × (result.table_id ≡ seat.old.table_id) }
-        ensures parts { (seat.new.me ≡ (without_class seat.old.me.0, seat.old.me.1)) × (result.me ≡ (class_only seat.old.me.0, [])) }
+        ensures same { (seat.new.table_id ≡ seat.old.table_id) × (seat.new.id ≡ seat.old.id)
+            × (result.table_id ≡ seat.old.table_id) }
+        ensures parts { (seat.new.me ≡ (without_class seat.old.me.0, seat.old.me.1))
+            × (result.me ≡ (class_only seat.old.me.0, [])) }
     {
         self.table.shared.split_seat::<FirstClass>(seat)
     }
@@ -98,8 +105,10 @@ impl Words {
     /// Cuts the first worker's part off the seat, into a seat of its own.
     pub fn part_worker(&self, seat: &mut Seat) -> Seat
         requires { (seat.old.table_id ≡ words_id self.now) × (0 < (words_id self.now).words) }
-        ensures same { (seat.new.table_id ≡ seat.old.table_id) × (seat.new.id ≡ seat.old.id) × (result.table_id ≡ seat.old.table_id) }
-        ensures parts { (seat.new.me ≡ (without_worker seat.old.me.0, seat.old.me.1)) × (result.me ≡ (worker_only seat.old.me.0, [])) }
+        ensures same { (seat.new.table_id ≡ seat.old.table_id) × (seat.new.id ≡ seat.old.id)
+            × (result.table_id ≡ seat.old.table_id) }
+        ensures parts { (seat.new.me ≡ (without_worker seat.old.me.0, seat.old.me.1))
+            × (result.me ≡ (worker_only seat.old.me.0, [])) }
     {
         self.table.shared.split_seat::<FirstWorker>(seat)
     }
@@ -107,8 +116,10 @@ impl Words {
     /// Cuts the first lane's part off the seat, into a seat of its own.
     pub fn part_lane(&self, seat: &mut Seat) -> Seat
         requires { (seat.old.table_id ≡ words_id self.now) × (0 < (words_id self.now).words) }
-        ensures same { (seat.new.table_id ≡ seat.old.table_id) × (seat.new.id ≡ seat.old.id) × (result.table_id ≡ seat.old.table_id) }
-        ensures parts { (seat.new.me ≡ (without_lane seat.old.me.0, seat.old.me.1)) × (result.me ≡ (lane_only seat.old.me.0, [])) }
+        ensures same { (seat.new.table_id ≡ seat.old.table_id) × (seat.new.id ≡ seat.old.id)
+            × (result.table_id ≡ seat.old.table_id) }
+        ensures parts { (seat.new.me ≡ (without_lane seat.old.me.0, seat.old.me.1))
+            × (result.me ≡ (lane_only seat.old.me.0, [])) }
     {
         self.table.shared.split_seat::<FirstLane>(seat)
     }

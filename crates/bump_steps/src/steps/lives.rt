@@ -112,7 +112,11 @@ impl Words {
         requires seat { (seat.old.table_id ≡ words_id self.now) × HasChunk (words_id self.now) chunk }
         requires may { MayLink chunk generation seat.old.me.0 }
         ensures same { (seat.new.table_id ≡ seat.old.table_id) × (seat.new.id ≡ seat.old.id) }
-        ensures told { seat.new.me ≡ (on_class (class_after_link start chunk generation (word_of (linked_head start generation))) seat.old.me.0, seat.old.me.1) }
+        ensures told { seat.new.me ≡ (
+          on_class (class_after_link start chunk generation
+              (word_of (linked_head start generation))) seat.old.me.0,
+          seat.old.me.1,
+        ) }
     {
         let word = pack(Head::after_link(start, generation));
         self.table

@@ -81,7 +81,10 @@ impl Words {
         requires worker { HasWorker seat.old.me.0 }
         requires held { RefersTo chunk seat.old.me.0 }
         ensures same { (seat.new.table_id ≡ seat.old.table_id) × (seat.new.id ≡ seat.old.id) }
-        ensures told { seat.new.me ≡ (on_worker (worker_after_store_time (life chunk 0) now) seat.old.me.0, seat.old.me.1) }
+        ensures told { seat.new.me ≡ (
+          on_worker (worker_after_store_time (life chunk 0) now) seat.old.me.0,
+          seat.old.me.1,
+        ) }
     {
         self.table
             .shared

@@ -38,7 +38,8 @@ impl Words {
         requires seat { seat.old.table_id ≡ words_id self.now }
         requires some { 0 < (words_id self.now).words }
         requires class { HasClass seat.old.me.0 }
-        ensures same { (seat.new.table_id ≡ seat.old.table_id) × (seat.new.id ≡ seat.old.id) × (seat.new.me ≡ seat.old.me) }
+        ensures same { (seat.new.table_id ≡ seat.old.table_id) × (seat.new.id ≡ seat.old.id)
+            × (seat.new.me ≡ seat.old.me) }
         ensures told { TellsOfMoves seat.old.me.0 }
     {
         let _spare = self.table.shared.load::<LoadToMeetLane>(seat, 0);

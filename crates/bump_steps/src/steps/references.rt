@@ -97,7 +97,9 @@ impl Words {
         requires worker { HasWorker seat.old.me.0 }
         requires limit { limit.now ≡ (config_of self.now).refs_limit }
         ensures same { (seat.new.table_id ≡ seat.old.table_id) × (seat.new.id ≡ seat.old.id) }
-        ensures told { (first : TheHead) × (more : List TheHead) × TakeFound limit.now life first more × (seat.new.me ≡ (view_after_attempt limit.now life first more seat.old.me.0, seat.old.me.1)) × (result ≡ refusal_of limit.now life first more) }
+        ensures told { (first : TheHead) × (more : List TheHead) × TakeFound limit.now life first more
+            × (seat.new.me ≡ (view_after_attempt limit.now life first more seat.old.me.0, seat.old.me.1))
+            × (result ≡ refusal_of limit.now life first more) }
     {
         let mut word = self.look_to_take(seat, life.chunk);
         for failed in 0..8u32 {

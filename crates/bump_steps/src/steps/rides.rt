@@ -156,7 +156,9 @@ impl Words {
         requires limit { limit.now ≡ (config_of self.now).refs_limit }
         requires trying { IsOn (Trying life) life seat.old.me.0 }
         ensures same { (seat.new.table_id ≡ seat.old.table_id) × (seat.new.id ≡ seat.old.id) }
-        ensures told { (first : TheHead) × (more : List TheHead) × RideFound limit.now life first more × (seat.new.me ≡ (on_worker (worker_after_attempt limit.now life first more) seat.old.me.0, seat.old.me.1)) × (option_map dropped_as result ≡ drop_of limit.now first more) }
+        ensures told { (first : TheHead) × (more : List TheHead) × RideFound limit.now life first more
+            × (seat.new.me ≡ (on_worker (worker_after_attempt limit.now life first more) seat.old.me.0, seat.old.me.1))
+            × (option_map dropped_as result ≡ drop_of limit.now first more) }
     {
         let mut word = self.look_to_ride(seat, *limit, life);
         for failed in 0..8u32 {
@@ -199,15 +201,18 @@ impl Words {
     /// The reference in the worker's hand leaves it.
     pub fn part_ride(&self, seat: &mut Seat) -> Seat
         requires { (seat.old.table_id ≡ words_id self.now) × (0 < (words_id self.now).words) }
-        ensures same { (seat.new.table_id ≡ seat.old.table_id) × (seat.new.id ≡ seat.old.id) × (result.table_id ≡ seat.old.table_id) }
-        ensures parts { (seat.new.me ≡ (without_ride seat.old.me.0, seat.old.me.1)) × (result.me ≡ (ride_only seat.old.me.0, [])) }
+        ensures same { (seat.new.table_id ≡ seat.old.table_id) × (seat.new.id ≡ seat.old.id)
+            × (result.table_id ≡ seat.old.table_id) }
+        ensures parts { (seat.new.me ≡ (without_ride seat.old.me.0, seat.old.me.1))
+            × (result.me ≡ (ride_only seat.old.me.0, [])) }
     {
         self.table.shared.split_seat::<RideOut>(seat)
     }
 
     /// A rider's seat joins its worker's, which has no bump under way.
     pub fn rider_back(&self, seat: &mut Seat, rider: Seat)
-        requires seats { (seat.old.table_id ≡ words_id self.now) × (rider.table_id ≡ words_id self.now) × (0 < (words_id self.now).words) }
+        requires seats { (seat.old.table_id ≡ words_id self.now) × (rider.table_id ≡ words_id self.now)
+            × (0 < (words_id self.now).words) }
         requires rider { (r : TheRide) × (rider.me ≡ ride_me r) × IsOn Idle r.life seat.old.me.0 }
         ensures same { (seat.new.table_id ≡ seat.old.table_id) × (seat.new.id ≡ seat.old.id) }
         ensures back { seat.new.me ≡ (return_both seat.old.me.0 rider.me.0, seat.old.me.1) }

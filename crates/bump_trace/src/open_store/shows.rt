@@ -44,7 +44,8 @@ impl<'a> OpenStore<'a> {
     /// What is told of all chunks of a list.
     fn put_entries(&self, out: &mut Vec<u8>, class: u32, place: Place) -> Result<(), AllocError>
         requires { class < length self.now.world.classes }
-        ensures { OnOk result (out.new.items ≡ out.old.items ++ flat_map (list_entry self.now.world place) (list_of self.now.world class place)) }
+        ensures { OnOk result (out.new.items ≡ out.old.items ++ flat_map (list_entry self.now.world place)
+            (list_of self.now.world class place)) }
     {
         for chunk in self.world.list(class, place) {
             out.extend_from_slice(b" ")?;
@@ -87,7 +88,8 @@ impl<'a> OpenStore<'a> {
 
     fn put_classes(&self, out: &mut Vec<u8>) -> Result<(), AllocError>
         requires { IsReady self.now }
-        ensures { OnOk result (out.new.items ≡ out.old.items ++ flat_map (class_lines self.now.world) (ascending 0 self.now.classes)) }
+        ensures { OnOk result (out.new.items ≡ out.old.items ++ flat_map (class_lines self.now.world)
+            (ascending 0 self.now.classes)) }
     {
         for class in 0..self.classes {
             self.put_class(out, class)?;
@@ -107,7 +109,8 @@ impl<'a> OpenStore<'a> {
 
     fn put_workers(&self, out: &mut Vec<u8>) -> Result<(), AllocError>
         requires { IsReady self.now }
-        ensures { OnOk result (out.new.items ≡ out.old.items ++ flat_map (worker_line self.now.world) (ascending 0 self.now.workers)) }
+        ensures { OnOk result (out.new.items ≡ out.old.items ++ flat_map (worker_line self.now.world)
+            (ascending 0 self.now.workers)) }
     {
         for worker in 0..self.workers {
             self.put_accounts(out, worker)?;
@@ -131,7 +134,8 @@ impl<'a> OpenStore<'a> {
     fn put_class_moves(&self, out: &mut Vec<u8>, class: u32) -> Result<(), AllocError>
         requires ready { IsReady self.now }
         requires class { class < length self.now.world.classes }
-        ensures { OnOk result (out.new.items ≡ out.old.items ++ flat_map (moves_line_of self.now.world class) (ascending 0 self.now.workers)) }
+        ensures { OnOk result (out.new.items ≡ out.old.items ++ flat_map (moves_line_of self.now.world class)
+            (ascending 0 self.now.workers)) }
     {
         for worker in 0..self.workers {
             put_moves(out, class, worker, self.world.moves(class, worker))?;
@@ -141,7 +145,8 @@ impl<'a> OpenStore<'a> {
 
     fn put_all_moves(&self, out: &mut Vec<u8>) -> Result<(), AllocError>
         requires { IsReady self.now }
-        ensures { OnOk result (out.new.items ≡ out.old.items ++ flat_map (class_moves self.now.world) (ascending 0 self.now.classes)) }
+        ensures { OnOk result (out.new.items ≡ out.old.items ++ flat_map (class_moves self.now.world)
+            (ascending 0 self.now.classes)) }
     {
         for class in 0..self.classes {
             self.put_class_moves(out, class)?;

@@ -93,7 +93,8 @@ fn carry<N: Name>(
 ) -> Result<(Small<N>, Hold<N>), AllocError>
     requires name { blank.table ≡ N.table }
     requires config { blank.config ≡ config.now }
-    requires small { (config.now.workers ≡ 1) × (config.now.first_generation ≡ 1) × (config.now.classes ≡ record { chunks = 2; hot = 1; warm = 1 } ∷ []) }
+    requires small { (config.now.workers ≡ 1) × (config.now.first_generation ≡ 1)
+        × (config.now.classes ≡ record { chunks = 2; hot = 1; warm = 1 } ∷ []) }
     ensures chunks { IfOk result (λ r. all_chunks (arc_value r.0.heads) ≡ 2) }
     ensures alone { IfOk result (λ r. r.0.class.lane ≡ None) }
     ensures own { IfOk result (λ r. owns 0 r.0.class.part ≡ true) }
@@ -144,7 +145,8 @@ fn move_in<N: Name>(
 ) -> Result<(), AllocError>
     requires name { blank.table ≡ N.table }
     requires config { blank.config ≡ config.now }
-    requires small { (config.now.workers ≡ 1) × (config.now.first_generation ≡ 1) × (config.now.classes ≡ record { chunks = 2; hot = 1; warm = 1 } ∷ []) }
+    requires small { (config.now.workers ≡ 1) × (config.now.first_generation ≡ 1)
+        × (config.now.classes ≡ record { chunks = 2; hot = 1; warm = 1 } ∷ []) }
 {
     let (mut store, hold) = carry::<N>(rt, alloc, blank, config)?;
     let applied = apply_front(&mut store.class, &mut store.lane, 0, 9);

@@ -20,7 +20,16 @@ use std::test::Fail;
 /// The first life of chunk 0 begins, at time 1, and goes to COLD.
 pub fn begin_in_cold<N: Name>(class: &mut ClassSeat<N>) -> ItemId
     requires alone { class.old.lane ≡ None }
-    requires first { class.old.part ≡ record { class = 0; first = 0; count = 2; fresh = 0; history = []; labels = []; applying = None; steps = [] } }
+    requires first { class.old.part ≡ record {
+      class = 0;
+      first = 0;
+      count = 2;
+      fresh = 0;
+      history = [];
+      labels = [];
+      applying = None;
+      steps = [];
+    } }
     ensures alone { class.new.lane ≡ None }
     ensures own { owns 0 class.new.part ≡ true }
     ensures stands { standing class.new.part 0 ≡ (place.Cold, 1) }
@@ -155,7 +164,8 @@ fn drop_in<N: Name>(
 ) -> Result<(), AllocError>
     requires name { blank.table ≡ N.table }
     requires config { blank.config ≡ config.now }
-    requires small { (config.now.workers ≡ 1) × (config.now.first_generation ≡ 1) × (config.now.classes ≡ record { chunks = 2; hot = 1; warm = 1 } ∷ []) }
+    requires small { (config.now.workers ≡ 1) × (config.now.first_generation ≡ 1)
+        × (config.now.classes ≡ record { chunks = 2; hot = 1; warm = 1 } ∷ []) }
 {
     let Small {
         heads,

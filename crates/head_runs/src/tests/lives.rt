@@ -68,7 +68,16 @@ fn live<N: Name>(
 )
     requires chunks { all_chunks heads.now ≡ 2 }
     requires alone { class.old.lane ≡ None }
-    requires first { class.old.part ≡ record { class = 0; first = 0; count = 2; fresh = 0; history = []; labels = []; applying = None; steps = [] } }
+    requires first { class.old.part ≡ record {
+      class = 0;
+      first = 0;
+      count = 2;
+      fresh = 0;
+      history = [];
+      labels = [];
+      applying = None;
+      steps = [];
+    } }
     requires worker { worker.old ≡ worker_seen (worker_part 0) }
 {
     class.put_label(0, 7);
@@ -103,7 +112,8 @@ fn live_in<N: Name>(
 ) -> Result<(), AllocError>
     requires name { blank.table ≡ N.table }
     requires config { blank.config ≡ config.now }
-    requires small { (config.now.workers ≡ 1) × (config.now.first_generation ≡ 1) × (config.now.classes ≡ record { chunks = 2; hot = 1; warm = 1 } ∷ []) }
+    requires small { (config.now.workers ≡ 1) × (config.now.first_generation ≡ 1)
+        × (config.now.classes ≡ record { chunks = 2; hot = 1; warm = 1 } ∷ []) }
 {
     let Small {
         heads,

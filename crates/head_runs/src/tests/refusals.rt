@@ -69,7 +69,16 @@ fn fill<N: Name>(
 )
     requires chunks { all_chunks heads.now ≡ 2 }
     requires free { class.old.lane ≡ None }
-    requires first { class.old.part ≡ record { class = 0; first = 0; count = 2; fresh = 0; history = []; labels = []; applying = None; steps = [] } }
+    requires first { class.old.part ≡ record {
+      class = 0;
+      first = 0;
+      count = 2;
+      fresh = 0;
+      history = [];
+      labels = [];
+      applying = None;
+      steps = [];
+    } }
     requires alone { worker.old.hold ≡ None }
 {
     let first = life_of(0, 1);
@@ -106,7 +115,8 @@ fn refuse_in<N: Name>(
 ) -> Result<(), AllocError>
     requires name { blank.table ≡ N.table }
     requires config { blank.config ≡ config.now }
-    requires small { (config.now.workers ≡ 1) × (config.now.first_generation ≡ 1) × (config.now.classes ≡ record { chunks = 2; hot = 1; warm = 1 } ∷ []) }
+    requires small { (config.now.workers ≡ 1) × (config.now.first_generation ≡ 1)
+        × (config.now.classes ≡ record { chunks = 2; hot = 1; warm = 1 } ∷ []) }
 {
     let Small {
         heads,

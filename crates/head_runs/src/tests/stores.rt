@@ -26,7 +26,8 @@ pub struct Small<N: Name> {
 /// None where memory is refused.
 pub fn config_of(alloc: Global, limit: u32) -> Option<Config>
     ensures limit { IfSome result (λ c. c.refs_limit ≡ limit) }
-    ensures small { IfSome result (λ c. (c.workers ≡ 1) × (c.first_generation ≡ 1) × (c.classes ≡ record { chunks = 2; hot = 1; warm = 1 } ∷ [])) }
+    ensures small { IfSome result (λ c. (c.workers ≡ 1) × (c.first_generation ≡ 1)
+        × (c.classes ≡ record { chunks = 2; hot = 1; warm = 1 } ∷ [])) }
 {
     let class = ClassConfig {
         chunks: 2,
@@ -40,9 +41,19 @@ pub fn config_of(alloc: Global, limit: u32) -> Option<Config>
 pub fn open<N: Name>(alloc: Global, blank: Blank, config: &Config) -> Result<Small<N>, AllocError>
     requires name { blank.table ≡ N.table }
     requires config { blank.config ≡ config.now }
-    requires small { (config.now.workers ≡ 1) × (config.now.first_generation ≡ 1) × (config.now.classes ≡ record { chunks = 2; hot = 1; warm = 1 } ∷ []) }
+    requires small { (config.now.workers ≡ 1) × (config.now.first_generation ≡ 1)
+        × (config.now.classes ≡ record { chunks = 2; hot = 1; warm = 1 } ∷ []) }
     ensures chunks { IfOk result (λ s. all_chunks (arc_value s.heads) ≡ 2) }
-    ensures class { IfOk result (λ s. s.class ≡ class_seen (record { class = 0; first = 0; count = 2; fresh = 0; history = []; labels = []; applying = None; steps = [] })) }
+    ensures class { IfOk result (λ s. s.class ≡ class_seen (record {
+      class = 0;
+      first = 0;
+      count = 2;
+      fresh = 0;
+      history = [];
+      labels = [];
+      applying = None;
+      steps = [];
+    })) }
     ensures worker { IfOk result (λ s. s.worker ≡ worker_seen (worker_part 0)) }
     ensures lane { IfOk result (λ s. s.lane ≡ lane_seen (lane_part 0)) }
 {
