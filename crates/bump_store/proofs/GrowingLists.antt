@@ -2,6 +2,7 @@
 use Rattle.std.proofs.Common.{◌≡◌, zero, suc, List, [], ◌∷◌, ◌++◌, map, All, sym, ap, ◌∙◌, subst, arith}
 use Rattle.std.proofs.lemmas.List.{map-append, append_assoc}
 use Rattle.std.proofs.lemmas.List.Elements.{All-append}
+use mathlib.Core.List.{IsPrefix}
 
 -- what was made, and what is still to be made, are all
 pub pushed : {A B : Type 0} (f : A → B) (made more : List A) (x : A) (y : B) (rest all : List B)
@@ -27,3 +28,10 @@ pub holds_of_all : {A : Type 0} (P : A → Type 0) (made more : List A) (x : A) 
     → All P more
 holds_of_all P made more x grown holds before =
     subst (All P) (sym grown) (All-append P made (x ∷ []) before (only P x holds))
+
+-- what grew and grows again has grown
+pub grown_on : {A : Type 0} (xs ys zs : List A) → IsPrefix xs ys → IsPrefix ys zs → IsPrefix xs zs
+grown_on xs ys zs first then_more = (
+  first.0 ++ then_more.0,
+  sym (append_assoc xs first.0 then_more.0) ∙ ap (λ list. list ++ then_more.0) first.1 ∙ then_more.1,
+)

@@ -1,25 +1,34 @@
 -- Lanes of closed rings: what they applied, and what they saw of the ring's end.
-use Rattle.std.proofs.Common.{◌≡◌, ◌↔◌, ℕ, zero, suc, true, nat_eq, ◌++◌, ◌⊎◌, List, [], ◌∷◌, inl, inr, length, map, Option, None, Some, IfSome, IfNone, refl, sym, ap, ◌∙◌, subst, arith, length-append, ⊎_elim}
+use Rattle.std.proofs.Common.{◌≡◌, ◌↔◌, ℕ, zero, suc, ◌+◌, ◌*◌, ◌<◌, true, false, nat_eq, ◌++◌, List, [], ◌∷◌, inl, inr, length, map, Option, None, Some, IfSome, IfNone, refl, sym, ap, ◌∙◌, subst, arith, length-append}
 use Rattle.std.proofs.lemmas.Bool.{eqb-true, eq-eqb}
-use Rattle.std.proofs.lemmas.List.{append-nil, length-map}
+use Rattle.std.proofs.lemmas.List.{append-nil, append_assoc, length-map}
+use mathlib.Core.List.{IsPrefix}
+use Rattle.bump_rules.specs.declared.bumps.Bump.{Bump}
 use Rattle.bump_rules.specs.declared.bumps.Entry.{Entry}
-use Rattle.bump_rules.specs.Rings.{bump_applied, numbered_from}
+use Rattle.bump_rules.specs.declared.lanes.Lane.{Lane}
+use Rattle.bump_rules.specs.declared.lanes.Lane.TheVariants as lane
+use Rattle.bump_rules.specs.Lanes.{applied_bump, carried, is_half_made}
+use Rattle.bump_rules.specs.Rings.{bump_applied}
+use Rattle.bump_word.specs.Words.{word_of}
+use Rattle.bump_steps.specs.declared.views.Kind.TheVariants as kind
+use Rattle.bump_steps.specs.declared.views.OwnStep.{OwnStep}
 use Rattle.bump_steps.specs.declared.views.Ride.{Ride}
+use Rattle.bump_steps.specs.Plays.{step_of}
+use Rattle.bump_class.specs.Applications.{FoundHeads}
 use Rattle.bump_class.specs.Lanes.{LaneView, IsRawLane, carries, entries, lives}
-use Rattle.bump_store.specs.Lanes.{AppliesNext, told}
-use Rattle.bump_store.specs.Settling.{AppliedAll, MaySeeEnd, AppliesToEnd, Settles}
+use Rattle.bump_store.specs.Lanes.{AppliesNext, NothingAboard, told}
+use Rattle.bump_store.specs.Settling.{AppliedAll, MaySeeEnd, IsLater, IsAppliedBetween, AppliesEach}
+use Rattle.bump_store.proofs.GrowingLists.{grown_on}
 use Rattle.bump_store.proofs.LaneLemmas.{none_aboard, numbered_long}
 
--- where nothing is aboard, and nothing left, what was applied is what was sent
-pub all_in_order : (this_lane : LaneView) (sent : List Ride) → IsRawLane this_lane.part this_lane.received
-    → carries this_lane ≡ None → this_lane.known ≡ [] → sent ≡ this_lane.received ++ this_lane.known
-    → AppliedAll sent this_lane
-all_in_order this_lane sent keeps none known left =
+-- where nothing is aboard, what was applied is what was received
+pub in_order : (this_lane : LaneView) → IsRawLane this_lane.part this_lane.received → NothingAboard this_lane
+    → AppliedAll this_lane.received this_lane
+in_order this_lane keeps none =
     sym (append-nil (map bump_applied (entries this_lane)))
-    ∙ ap (λ bumps. map bump_applied (entries this_lane) ++ bumps) (sym (none_aboard this_lane.part.stage keeps.at_rest none))
+    ∙ ap (λ bumps. map bump_applied (entries this_lane) ++ bumps)
+    (sym (none_aboard this_lane.part.stage keeps.at_rest none))
     ∙ keeps.in_order
-    ∙ ap (λ rides. numbered_from 0 (lives rides))
-    (sym (append-nil this_lane.received) ∙ ap (λ rides. this_lane.received ++ rides) (sym known) ∙ sym left)
 
 -- they are as many then
 pub as_many : (this_lane : LaneView) (sent : List Ride) → AppliedAll sent this_lane
@@ -37,51 +46,193 @@ pub equal_iff : (a b m n : ℕ) → a ≡ m → b ≡ n → (nat_eq a b ≡ true
 equal_iff a b m n is is' =
     (λ equal. sym is ∙ eqb-true a b equal ∙ is', λ same. eq-eqb a b (is ∙ same ∙ sym is'))
 
--- a lane that is as it was saw no end
-pub as_it_was : (sent : List Ride) (this_lane : LaneView) → MaySeeEnd sent this_lane this_lane
-as_it_was sent this_lane = record { lane = refl; left = inl refl }
+-- a lane at rest that carries nothing is empty
+pub is_empty : (stage : Lane) → is_half_made stage ≡ false → carried stage ≡ None → stage ≡ lane.Empty
+is_empty lane.Empty rest none = refl
+is_empty (lane.Carrying bump) rest none = absurd (cc none)
+is_empty (lane.Tried bump) rest none = absurd (cc rest)
+is_empty (lane.Cleared bump found) rest none = absurd (cc rest)
+is_empty (lane.Moved bump) rest none = absurd (cc rest)
 
--- one look at the end after another is a look
-pub seen_again : (sent : List Ride) (before between after : LaneView) → MaySeeEnd sent before between
-    → MaySeeEnd sent between after → MaySeeEnd sent before after
-seen_again sent before between after first second = record {
-  lane = second.lane ∙ ap (λ (x : LaneView). record x { known = after.known }) first.lane;
-  left = ⊎_elim
-      (λ (same : after ≡ between). subst (λ (x : LaneView). (x ≡ before) ⊎ (sent ≡ x.received ++ x.known)) (sym same) first.left)
-      (λ end. inr end)
-      second.left;
+-- a lane is no bump later than it is
+as_it_is : (this_lane : LaneView) → IsLater 0 this_lane this_lane
+as_it_is this_lane = record {
+  took = omega arith;
+  received = ([], append-nil this_lane.received);
+  known = ([], append-nil (this_lane.received ++ this_lane.known));
+  told = omega arith;
+  entries_stay = ([], append-nil (entries this_lane));
+  made = omega arith;
+  steps_stay = ([], append-nil this_lane.part.steps);
+  ring = refl;
+  worker = refl;
 }
 
--- one more bump was applied
-pub applied_next : (now : ℕ) (sent : List Ride) (before between after : LaneView) (entry : Entry)
-    → Settles now sent before between → AppliesNext now between entry after
-    → entries after ≡ entries between ++ told entry ∷ [] → Settles now sent before after
-applied_next now sent before between after entry so_far next grown = record {
-  count = suc so_far.count;
-  grown = omega (arith, so_far.grown, ap length grown, length-append (entries between) (told entry ∷ []));
-  applied = (between, entry, after, so_far.applied, next, as_it_was sent after);
+-- some bumps later, and some more
+later_still : (first more count : ℕ) (before between after : LaneView) → first + more ≡ count
+    → IsLater first before between → IsLater more between after → IsLater count before after
+later_still first more count before between after sum once again = record {
+  took = omega (arith, sum, once.took, again.took);
+  received = grown_on before.received between.received after.received once.received again.received;
+  known = grown_on (before.received ++ before.known) (between.received ++ between.known) (after.received ++ after.known)
+      once.known again.known;
+  told = omega (arith, sum, once.told, again.told);
+  entries_stay = grown_on (entries before) (entries between) (entries after) once.entries_stay again.entries_stay;
+  made = omega (arith, sum, once.made, again.made);
+  steps_stay = grown_on before.part.steps between.part.steps after.part.steps once.steps_stay again.steps_stay;
+  ring = again.ring ∙ once.ring;
+  worker = again.worker ∙ once.worker;
 }
 
-seen_after : (now : ℕ) (sent : List Ride) (before between after : LaneView) (count : ℕ)
-    → AppliesToEnd now sent before count between → MaySeeEnd sent between after
-    → AppliesToEnd now sent before count after
-seen_after now sent before between after zero so_far end = seen_again sent before between after so_far end
-seen_after now sent before between after (suc count) so_far end =
-    (so_far.0, so_far.1, so_far.2, so_far.3, so_far.4, seen_again sent so_far.2 between after so_far.5 end)
+-- the next ride is the first that was known, where some were
+came_first : (received known left : List Ride) (ride : Ride) → (0 < length known → known ≡ ride ∷ left)
+    → IsPrefix (received ++ known) ((received ++ ride ∷ []) ++ left)
+came_first received [] left ride first = (
+  ride ∷ left,
+  ap (λ rides. rides ++ ride ∷ left) (append-nil received) ∙ sym (append_assoc received (ride ∷ []) left),
+)
+came_first received (next ∷ known) left ride first = (
+  [],
+  append-nil (received ++ next ∷ known) ∙ ap (λ rides. received ++ rides) (first (omega arith))
+      ∙ sym (append_assoc received (ride ∷ []) left),
+)
 
--- the end was looked for, and nothing more
-pub looked : (now : ℕ) (sent : List Ride) (before between after : LaneView) → Settles now sent before between
-    → MaySeeEnd sent between after → Settles now sent before after
-looked now sent before between after so_far end = record {
-  count = so_far.count;
-  grown = ap (λ (x : LaneView). length (entries x)) end.lane ∙ so_far.grown;
-  applied = seen_after now sent before between after so_far.count so_far.applied end;
+-- a list that grew by two elements
+two_more : {A : Type 0} (from to : List A) (first last : A) → to ≡ (from ++ first ∷ []) ++ last ∷ []
+    → IsPrefix from to × (length to ≡ length from + 2 * 1)
+two_more from to first last grown = (
+  (first ∷ last ∷ [], sym (append_assoc from (first ∷ []) (last ∷ [])) ∙ sym grown),
+  omega (
+    arith,
+    ap length grown,
+    length-append (from ++ first ∷ []) (last ∷ []),
+    length-append from (first ∷ []),
+  ),
+)
+
+-- behind the application of its next bump a lane is one bump later
+one_later : (now : ℕ) (from : LaneView) (entry : Entry) (to : LaneView) → AppliesNext now from entry to
+    → IsLater 1 from to
+one_later now from entry to next =
+    let ride = next.0 in
+    let fetched = next.1 in
+    let boards = next.4.boards in
+    let front = next.4.applied.front in
+    let bump : Bump = front.0 in
+    let found : FoundHeads = front.2 in
+    let same = front.4.lane_after in
+    let mine : Option (ℕ × ℕ) = Some (fetched.part.worker, bump.number) in
+    let look : OwnStep = step_of kind.Try bump.life.chunk (word_of found.tried) mine in
+    let release : OwnStep = step_of kind.Alight bump.life.chunk (word_of found.last) mine in
+    let received : to.received ≡ from.received ++ ride ∷ [] =
+    ap (λ (x : LaneView). x.received) same ∙ ap (λ (x : LaneView). x.received) boards.lane in
+    let known : to.known ≡ fetched.known = ap (λ (x : LaneView). x.known) same in
+    let told : entries to ≡ entries from ++ applied_bump bump front.1 ∷ [] =
+    ap entries same ∙ ap (λ (x : LaneView). entries x ++ applied_bump bump front.1 ∷ []) boards.lane in
+    let steps : IsPrefix from.part.steps to.part.steps × (length to.part.steps ≡ length from.part.steps + 2 * 1) =
+    two_more from.part.steps to.part.steps look release
+    (ap (λ (x : LaneView). x.part.steps) same
+    ∙ ap (λ (x : LaneView). (x.part.steps ++ look ∷ []) ++ release ∷ []) boards.lane) in
+    record {
+      took = omega (arith, ap length received, length-append from.received (ride ∷ []));
+      received = (ride ∷ [], sym received);
+      known = subst (λ (rides : List Ride). IsPrefix (from.received ++ from.known) rides)
+          (λ i. sym received i ++ sym known i)
+          (came_first from.received from.known fetched.known ride boards.first_known);
+      told = omega (arith, ap length told, length-append (entries from) (applied_bump bump front.1 ∷ []));
+      entries_stay = (applied_bump bump front.1 ∷ [], sym told);
+      made = steps.1;
+      steps_stay = steps.0;
+      ring = ap (λ (x : LaneView). x.ring) same ∙ ap (λ (x : LaneView). x.ring) boards.lane;
+      worker = ap (λ (x : LaneView). x.part.worker) same ∙ ap (λ (x : LaneView). x.part.worker) boards.lane;
+    }
+
+-- where none was known, a look for the end changes what is known, and no bump is passed over by it
+looked : (count : ℕ) (before between after : LaneView) → IsLater count before between → between.known ≡ []
+    → after ≡ record between { known = after.known } → IsLater count before after
+looked count before between after later none lane =
+    let received : between.received ≡ after.received = sym (ap (λ (x : LaneView). x.received) lane) in
+    later_still count 0 count before between after (omega arith) later (record {
+      took = omega (arith, ap length received);
+      received = ([], append-nil between.received ∙ received);
+      known = (
+        after.known,
+        ap (λ rides. (between.received ++ rides) ++ after.known) none
+            ∙ ap (λ rides. rides ++ after.known) (append-nil between.received ∙ received),
+      );
+      told = omega (arith, ap (λ (x : LaneView). length (entries x)) lane);
+      entries_stay = ([], append-nil (entries between) ∙ sym (ap entries lane));
+      made = omega (arith, ap (λ (x : LaneView). length x.part.steps) lane);
+      steps_stay = ([], append-nil between.part.steps ∙ sym (ap (λ (x : LaneView). x.part.steps) lane));
+      ring = ap (λ (x : LaneView). x.ring) lane;
+      worker = ap (λ (x : LaneView). x.part.worker) lane;
+    })
+
+-- no bump was applied yet
+pub none_applied : (now : ℕ) (this_lane : LaneView) → AppliesEach now 0 this_lane this_lane
+none_applied now this_lane = record {
+  later = as_it_is this_lane;
+  each = λ earlier others sum. absurd (omega (arith, sum));
 }
 
--- a lane with which nothing was done
-pub nothing_done : (now : ℕ) (sent : List Ride) (this_lane : LaneView) → Settles now sent this_lane this_lane
-nothing_done now sent this_lane =
-    record { count = 0; grown = omega arith; applied = as_it_was sent this_lane }
+-- one more was applied
+each_of_more : (now count : ℕ) (before between after : LaneView) (entry : Entry)
+    → AppliesEach now count before between → NothingAboard between → AppliesNext now between entry after
+    → entries after ≡ entries between ++ told entry ∷ [] → (earlier others : ℕ) → earlier + suc others ≡ suc count
+    → IsAppliedBetween now earlier others before after
+each_of_more now count before between after entry so_far none next tells earlier zero sum =
+    let all : count ≡ earlier = omega (arith, sum) in record {
+      from = between;
+      entry = entry;
+      to = after;
+      since = subst (λ n. IsLater n before between) all so_far.later;
+      idle = none;
+      next = next;
+      tells = tells;
+      until = as_it_is after;
+    }
+each_of_more now count before between after entry so_far none next tells earlier (suc others) sum =
+    let was = so_far.each earlier others (omega (arith, sum)) in record {
+      from = was.from;
+      entry = was.entry;
+      to = was.to;
+      since = was.since;
+      idle = was.idle;
+      next = was.next;
+      tells = was.tells;
+      until = later_still others 1 (suc others) was.to between after (omega arith) was.until
+          (one_later now between entry after next);
+    }
+
+pub one_more_applied : (now count : ℕ) (before between after : LaneView) (entry : Entry)
+    → AppliesEach now count before between → NothingAboard between → AppliesNext now between entry after
+    → entries after ≡ entries between ++ told entry ∷ [] → AppliesEach now (suc count) before after
+one_more_applied now count before between after entry so_far none next tells = record {
+  later = later_still count 1 (suc count) before between after (omega arith) so_far.later
+      (one_later now between entry after next);
+  each = each_of_more now count before between after entry so_far none next tells;
+}
+
+-- the end was looked for by a lane that is as it was, where none was known
+pub looked_for_end : (now count : ℕ) (before between still after : LaneView) → AppliesEach now count before between
+    → still ≡ between → between.known ≡ [] → after ≡ record still { known = after.known }
+    → AppliesEach now count before after
+looked_for_end now count before between still after so_far same none lane =
+    let seen : after ≡ record between { known = after.known } =
+    lane ∙ ap (λ (x : LaneView). record x { known = after.known }) same in
+    record {
+      later = looked count before between after so_far.later none seen;
+      each = λ earlier others sum. let was = so_far.each earlier others sum in record {
+        from = was.from;
+        entry = was.entry;
+        to = was.to;
+        since = was.since;
+        idle = was.idle;
+        next = was.next;
+        tells = was.tells;
+        until = looked others was.to between after was.until none seen;
+      };
+    }
 
 -- a list without an element
 without_any : {A : Type 0} (xs : List A) → length xs ≡ 0 → xs ≡ []
@@ -104,8 +255,9 @@ pub all_at_end : (sent : List Ride) (before after : LaneView) (left : Option ℕ
     → IfSome left (λ count. count ≡ 0 → AppliedAll sent after)
 all_at_end sent before after None keeps none lane number end = tt
 all_at_end sent before after (Some count) keeps none lane number end =
-    λ zeroed. all_in_order after sent
-    (subst (λ (x : LaneView). IsRawLane x.part x.received) (sym lane) keeps)
-    (ap (λ (x : LaneView). carries x) lane ∙ none)
-    (without_any after.known (sym number ∙ zeroed))
-    end
+    λ zeroed.
+    subst (λ rides. AppliedAll rides after)
+    (sym (append-nil after.received)
+    ∙ ap (λ rides. after.received ++ rides) (sym (without_any after.known (sym number ∙ zeroed))) ∙ sym end)
+    (in_order after (subst (λ (x : LaneView). IsRawLane x.part x.received) (sym lane) keeps)
+    (ap (λ (x : LaneView). carries x) lane ∙ none))

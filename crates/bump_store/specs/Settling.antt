@@ -1,29 +1,63 @@
 -- What lanes do with rings that are closed.
-use Rattle.std.specs.Prelude.{◌≡◌, ℕ, zero, suc, ◌+◌, ◌⊎◌, List, ◌++◌, length, map}
+use Rattle.std.specs.Prelude.{◌≡◌, ℕ, suc, ◌+◌, ◌*◌, ◌⊎◌, List, [], ◌∷◌, ◌++◌, length, map}
+use mathlib.Core.List.{IsPrefix}
 use Rattle.bump_rules.specs.declared.bumps.Entry.{Entry}
+use Rattle.bump_rules.specs.declared.lanes.Lane.TheVariants.{Empty}
 use Rattle.bump_rules.specs.Rings.{bump_applied, numbered_from}
 use Rattle.bump_steps.specs.declared.views.Ride.{Ride}
 use Rattle.bump_class.specs.Lanes.{LaneView, entries, lives}
-use Rattle.bump_store.specs.Lanes.{AppliesNext}
+use Rattle.bump_store.specs.Lanes.{AppliesNext, NothingAboard, told}
 
--- What a lane applied is what its ring accepted, once each and in order, with the numbers 0, 1, 2 and so on. It is
--- what a World promises of each lane, where nothing is aboard and nothing is left in the ring.
+-- What a lane applied is these bumps, once each and in order, with the numbers 0, 1, 2 and so on. Of all that its ring
+-- accepted it is what a World promises of each lane, where nothing is aboard and nothing is left in the ring.
 abbrev pub AppliedAll : List Ride → LaneView → Type 0
-AppliedAll sent this_lane = map bump_applied (entries this_lane) ≡ numbered_from 0 (lives sent)
+AppliedAll bumps this_lane = map bump_applied (entries this_lane) ≡ numbered_from 0 (lives bumps)
 
 -- A lane may have been shown the end of its ring, of which this was sent: then it knows all that is left.
 pub record MaySeeEnd (sent : List Ride) (before after : LaneView) : Type 0 where
   pub lane : after ≡ record before { known = after.known }
   pub left : (after ≡ before) ⊎ (sent ≡ after.received ++ after.known)
 
--- so many next bumps were applied, one after the other, and between them the end may have been seen
-abbrev pub AppliesToEnd : ℕ → List Ride → LaneView → ℕ → LaneView → Type 0
-AppliesToEnd now sent before zero after = MaySeeEnd sent before after
-AppliesToEnd now sent before (suc count) after = (between : LaneView) × (entry : Entry) × (seen : LaneView)
-    × AppliesToEnd now sent before count between × AppliesNext now between entry seen × MaySeeEnd sent seen after
+-- A lane as it is so many bumps later.
+pub record IsLater (count : ℕ) (before after : LaneView) : Type 0 where
+  -- it took so many bumps out of its ring, and first those that it knew: none is left out, and none comes between
+  pub took : length after.received ≡ length before.received + count
+  pub received : IsPrefix before.received after.received
+  pub known : IsPrefix (before.received ++ before.known) (after.received ++ after.known)
+  -- behind the entries that it had it has one of each, and it made two steps for each
+  pub told : length (entries after) ≡ length (entries before) + count
+  pub entries_stay : IsPrefix (entries before) (entries after)
+  pub made : length after.part.steps ≡ length before.part.steps + 2 * count
+  pub steps_stay : IsPrefix before.part.steps after.part.steps
+  -- its ring stays, and its worker
+  pub ring : after.ring ≡ before.ring
+  pub worker : after.part.worker ≡ before.part.worker
 
--- What a lane did with a closed ring: by so many entries it grew, each of a next bump.
-pub record Settles (now : ℕ) (sent : List Ride) (before after : LaneView) : Type 0 where
+-- One of the bumps between two states of a lane was applied: so many of them came before it, and so many behind it.
+pub record IsAppliedBetween (now earlier others : ℕ) (before after : LaneView) : Type 0 where
+  -- there is a state of the lane behind the earlier ones, with none aboard, in which it was the next, and it was
+  -- applied at this time
+  pub from : LaneView
+  pub entry : Entry
+  pub to : LaneView
+  pub since : IsLater earlier before from
+  pub idle : NothingAboard from
+  pub next : AppliesNext now from entry to
+  -- then the lane told it, and the others came behind
+  pub tells : entries to ≡ entries from ++ told entry ∷ []
+  pub until : IsLater others to after
+
+-- A lane is so many bumps later, and each of them was applied at this time.
+pub record AppliesEach (now count : ℕ) (before after : LaneView) : Type 0 where
+  pub later : IsLater count before after
+  pub each : (earlier others : ℕ) → earlier + suc others ≡ count → IsAppliedBetween now earlier others before after
+
+-- What a lane did with a closed ring.
+pub record Settles (now : ℕ) (before after : LaneView) : Type 0 where
   pub count : ℕ
-  pub grown : length (entries after) ≡ length (entries before) + count
-  pub applied : AppliesToEnd now sent before count after
+  pub applied : AppliesEach now count before after
+  -- what it applied is what it took out of its ring, once each and in order, and no bump is half applied
+  pub order : AppliedAll after.received after
+  pub empty : after.part.stage ≡ Empty
+  -- none is known to be left
+  pub known : after.known ≡ []

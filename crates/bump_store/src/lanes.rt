@@ -81,6 +81,7 @@ impl<N: Name> Lane<N> {
         ensures entry { IfSome result (λ entry. entries self.new.lane ≡ entries self.old.lane ++ told entry ∷ []) }
         ensures none { IfNone result (self.old.lane.known ≡ []) }
         ensures unchanged { IfNone result (self.new ≡ self.old) }
+        ensures was_idle { NothingAboard self.old.lane }
         ensures idle { NothingAboard self.new.lane }
     {
         self.raw.promise();

@@ -2,6 +2,7 @@
 ghost use Rattle.std.specs.Prelude.{◌≡◌, ◌+◌, ◌++◌, ◌∷◌, ◌↔◌, [], length, None, Ok, IfOk, IfErr, IfSome, IfNone, false};
 ghost use Rattle.std.specs.Prelude.{true};
 ghost use mathlib.Core.List.{IsPrefix};
+ghost use Rattle.bump_rules.specs.declared.lanes.Lane.TheVariants.{Empty as IsEmpty};
 ghost use Rattle.bump_class.specs.Lanes.{LaneView as TheLaneView, entries};
 ghost use Rattle.bump_store.specs.Lanes.{told, AppliesNext};
 ghost use Rattle.bump_store.specs.Settling.{AppliedAll, MaySeeEnd, Settles};
@@ -44,7 +45,11 @@ impl<N: Name> Lane<N> {
         ensures closed { closed.new ≡ closed.old }
         ensures ring { (self.new.lane.ring ≡ self.old.lane.ring) × (self.new.capacity ≡ self.old.capacity) }
         ensures entries { entries self.new.lane ≡ entries self.old.lane }
+        ensures order { AppliedAll self.new.lane.received self.new.lane }
+        ensures empty { self.new.lane.part.stage ≡ IsEmpty }
         ensures seen { MaySeeEnd closed.old.sender.sent self.old.lane self.new.lane }
+        ensures rest { IfSome result (λ left.
+            closed.old.sender.sent ≡ self.new.lane.received ++ self.new.lane.known) }
         ensures number { IfSome result (λ left. left ≡ length self.new.lane.known) }
         ensures all { IfSome result (λ left. left ≡ 0 → AppliedAll closed.old.sender.sent self.new.lane) }
         ensures none { IfNone result (closed.old.sender.shows_end ≡ false) }
@@ -134,9 +139,10 @@ impl<N: Name> Lane<N> {
     ) -> Result<Settled, Unsettled<N>>
         requires ring { closed.sender.ring ≡ self.old.lane.ring }
         ensures ring { (self.new.lane.ring ≡ self.old.lane.ring) × (self.new.capacity ≡ self.old.capacity) }
-        ensures applies { Settles now closed.sender.sent self.old.lane self.new.lane }
+        ensures applies { Settles now self.old.lane self.new.lane }
         ensures grown { IsPrefix (entries self.old.lane) (entries self.new.lane) }
         ensures all { IfOk result (λ settled. AppliedAll closed.sender.sent self.new.lane) }
+        ensures received { IfOk result (λ settled. self.new.lane.received ≡ closed.sender.sent) }
         ensures counts { IfOk result (λ settled. settled.counts ≡ closed.part.accounts) }
         ensures applied { IfOk result (λ settled. settled.applied ≡ length (entries self.new.lane)) }
         ensures accepted { IfOk result (λ settled. settled.applied ≡ settled.counts.accepted) }

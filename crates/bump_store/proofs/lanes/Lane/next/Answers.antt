@@ -1,7 +1,7 @@
 use Rattle.std.proofs.Common.{rules, ap, ◌∙◌, ◌++◌, ◌∷◌, [], length, subst}
 use Rattle.bump_rules.specs.declared.bumps.Entry.{Entry}
 use Rattle.bump_class.specs.Lanes.{LaneView, Boards, entries}
-use Rattle.bump_store.specs.Lanes.{LaneState, AppliesNext, told}
+use Rattle.bump_store.specs.Lanes.{LaneState, AppliesNext, NothingAboard, told}
 use Rattle.bump_store.proofs.LaneLemmas.{all_applied, entry_kept}
 use Rattle.bump_store.proofs.lanes.Lane.next.Goals as goal
 
@@ -42,3 +42,6 @@ apply_aboard-requires-clause-own g c = search rules
 
 pub invariant_of-self-2 : goal.invariant_of-self-2
 invariant_of-self-2 g c = search rules
+
+pub returns-clause-was_idle : goal.returns-clause-was_idle
+returns-clause-was_idle g c = subst (λ (s : LaneState). NothingAboard s.lane) c.self.view_is c.self.invariant

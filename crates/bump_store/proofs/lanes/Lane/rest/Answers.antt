@@ -1,8 +1,9 @@
-use Rattle.std.proofs.Common.{◌≡◌, IfSome, subst}
+use Rattle.std.proofs.Common.{◌≡◌, ◌++◌, IfSome, sym, ap, ◌∙◌, subst}
+use Rattle.bump_class.specs.Lanes.{LaneView}
 use Rattle.bump_store.specs.Closing.{ClosedState}
 use Rattle.bump_store.specs.Lanes.{LaneState}
 use Rattle.bump_store.specs.Settling.{AppliedAll, MaySeeEnd}
-use Rattle.bump_store.proofs.SettlingLemmas.{looked_once, all_at_end}
+use Rattle.bump_store.proofs.SettlingLemmas.{in_order, is_empty, looked_once, all_at_end}
 use Rattle.bump_store.proofs.lanes.Lane.rest.Goals as goal
 
 pub returns-clause-seen : goal.returns-clause-seen
@@ -24,3 +25,19 @@ returns-clause-all g c =
 
 pub returns-clause-number : goal.returns-clause-number
 returns-clause-number g c = c.rest.ensures.number
+
+pub returns-clause-order : goal.returns-clause-order
+returns-clause-order g c =
+    subst (λ (x : LaneView). AppliedAll x.received x) (sym c.rest.ensures.lane)
+    (in_order c.self.inside.raw c.promise.ensures c.self.invariant)
+
+pub returns-clause-empty : goal.returns-clause-empty
+returns-clause-empty g c =
+    ap (λ (x : LaneView). x.part.stage) c.rest.ensures.lane
+    ∙ is_empty c.self.inside.raw.part.stage c.promise.ensures.at_rest c.self.invariant
+
+pub returns-clause-rest : goal.returns-clause-rest
+returns-clause-rest g c =
+    let after = c.rest.new.self in
+    subst (λ (w : ClosedState). IfSome c.rest.result (λ left. w.sender.sent ≡ after.received ++ after.known))
+    c.closed.view_is c.rest.ensures.rest
