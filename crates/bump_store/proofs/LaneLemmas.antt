@@ -1,8 +1,6 @@
 -- A lane's next bump: its number, and the entry that is kept of it.
-use Rattle.std.proofs.Common.{◌≡◌, ℕ, suc, ◌++◌, List, [], ◌∷◌, length, map, false, None, Some, refl, sym, ap, ◌∙◌, arith, length-append}
-use Rattle.std.proofs.lemmas.List.{length-map, append_assoc}
-use mathlib.Core.List.{IsPrefix}
-use Rattle.bump_rules.specs.declared.bumps.AppliedBump.{AppliedBump}
+use Rattle.std.proofs.Common.{◌≡◌, ℕ, suc, ◌++◌, List, [], ◌∷◌, length, map, false, None, refl, sym, ap, ◌∙◌, arith, length-append}
+use Rattle.std.proofs.lemmas.List.{length-map}
 use Rattle.bump_rules.specs.declared.bumps.Bump.{Bump}
 use Rattle.bump_rules.specs.declared.bumps.Entry.{Entry}
 use Rattle.bump_rules.specs.declared.bumps.Ended.{Ended}
@@ -44,12 +42,6 @@ all_applied this_lane keeps none = omega (
   numbered_long 0 (lives this_lane.received),
   length-map this_lane.received (λ (ride : Ride). ride.life),
 )
-
--- what grew by more entries has the same first ones
-pub first_ones_kept : (before between after more : List AppliedBump) → IsPrefix before between → after ≡ between ++ more
-    → IsPrefix before after
-first_ones_kept before between after more grown next =
-    (grown.0 ++ more, sym (append_assoc before grown.0 more) ∙ ap (λ xs. xs ++ more) grown.1 ∙ sym next)
 
 -- what was answered tells the outcome
 pub told_outcome : (came_out : Outcome) (ended : Ended) → outcome_told (applied_answer came_out ended) ≡ came_out

@@ -1,6 +1,5 @@
 use Rattle.std.proofs.Common.{rules, ap, ◌∙◌, ◌++◌, ◌∷◌, [], length, subst}
-use Rattle.bump_rules.specs.declared.bumps.Entry.{Entry}
-use Rattle.bump_class.specs.Lanes.{LaneView, Boards, entries}
+use Rattle.bump_class.specs.Lanes.{entries}
 use Rattle.bump_store.specs.Lanes.{LaneState, AppliesNext, NothingAboard, told}
 use Rattle.bump_store.proofs.LaneLemmas.{all_applied, entry_kept}
 use Rattle.bump_store.proofs.lanes.Lane.next.Goals as goal
