@@ -1,5 +1,5 @@
 -- Lanes of closed rings: what they applied, and what they saw of the ring's end.
-use Rattle.std.proofs.Common.{◌≡◌, ◌↔◌, ℕ, zero, suc, ◌+◌, ◌*◌, ◌<◌, true, false, nat_eq, ◌++◌, List, [], ◌∷◌, inl, inr, length, map, Option, None, Some, IfSome, IfNone, refl, sym, ap, ◌∙◌, subst, arith, length-append}
+use Rattle.std.proofs.Common.{◌≡◌, ◌↔◌, ℕ, zero, suc, ◌+◌, ◌*◌, ◌<◌, true, false, nat_eq, ◌++◌, List, [], ◌∷◌, inl, inr, length, map, Option, None, Some, IfSome, IfNone, refl, sym, ap, ◌∙◌, subst, arith, length-append, ◌≤◌}
 use Rattle.std.proofs.lemmas.Bool.{eqb-true, eq-eqb}
 use Rattle.std.proofs.lemmas.List.{append-nil, append_assoc, length-map}
 use mathlib.Core.List.{IsPrefix}
@@ -8,7 +8,7 @@ use Rattle.bump_rules.specs.declared.bumps.Entry.{Entry}
 use Rattle.bump_rules.specs.declared.lanes.Lane.{Lane}
 use Rattle.bump_rules.specs.declared.lanes.Lane.TheVariants as lane
 use Rattle.bump_rules.specs.Lanes.{applied_bump, carried, is_half_made}
-use Rattle.bump_rules.specs.Rings.{bump_applied}
+use Rattle.bump_rules.specs.Rings.{aboard, bump_applied, numbered_from}
 use Rattle.bump_word.specs.Words.{word_of}
 use Rattle.bump_steps.specs.declared.views.Kind.TheVariants as kind
 use Rattle.bump_steps.specs.declared.views.OwnStep.{OwnStep}
@@ -261,3 +261,60 @@ all_at_end sent before after (Some count) keeps none lane number end =
     ∙ ap (λ rides. after.received ++ rides) (sym (without_any after.known (sym number ∙ zeroed))) ∙ sym end)
     (in_order after (subst (λ (x : LaneView). IsRawLane x.part x.received) (sym lane) keeps)
     (ap (λ (x : LaneView). carries x) lane ∙ none))
+
+-- what a lane applied, and what is aboard, are as many as it received
+received_long : (this_lane : LaneView) → IsRawLane this_lane.part this_lane.received
+    → length (entries this_lane) + length (aboard this_lane.part.stage) ≡ length this_lane.received
+received_long this_lane keeps = omega (
+  arith,
+  ap length keeps.in_order,
+  length-append (map bump_applied (entries this_lane)) (aboard this_lane.part.stage),
+  length-map (entries this_lane) bump_applied,
+  numbered_long 0 (lives this_lane.received),
+  length-map this_lane.received (λ (ride : Ride). ride.life),
+)
+
+-- it applied no more than was sent
+few_applied : (this_lane : LaneView) (sent : List Ride) → IsRawLane this_lane.part this_lane.received
+    → sent ≡ this_lane.received ++ this_lane.known → length (entries this_lane) ≤ length sent
+few_applied this_lane sent keeps end = omega (
+  arith,
+  received_long this_lane keeps,
+  ap length end,
+  length-append this_lane.received this_lane.known,
+)
+
+-- where it applied as many as were sent, it applied all
+all_if_as_many : (this_lane : LaneView) (sent : List Ride) → IsRawLane this_lane.part this_lane.received
+    → sent ≡ this_lane.received ++ this_lane.known → length (entries this_lane) ≡ length sent
+    → AppliedAll sent this_lane
+all_if_as_many this_lane sent keeps end as_many =
+    let long = received_long this_lane keeps in
+    let sum = length-append this_lane.received this_lane.known in
+    let none_aboard = without_any (aboard this_lane.part.stage) (omega (arith, long, sum, ap length end, as_many)) in
+    let none_known = without_any this_lane.known (omega (arith, long, sum, ap length end, as_many)) in
+    sym (append-nil (map bump_applied (entries this_lane)))
+    ∙ ap (λ bumps. map bump_applied (entries this_lane) ++ bumps) (sym none_aboard)
+    ∙ keeps.in_order
+    ∙ ap (λ rides. numbered_from 0 (lives rides))
+    (sym (append-nil this_lane.received) ∙ ap (λ rides. this_lane.received ++ rides) (sym none_known) ∙ sym end)
+
+-- a lane that knows more of its ring is as lawful as before
+knows_more : (before after : LaneView) → after ≡ record before { known = after.known }
+    → IsRawLane before.part before.received → IsRawLane after.part after.received
+knows_more before after same keeps = subst (λ (x : LaneView). IsRawLane x.part x.received) (sym same) keeps
+
+-- so many are still to be applied, by the counts of the closed ring and of the lane
+pub left_over : (before after : LaneView) (sent : List Ride) (accepted applied : ℕ)
+    → IsRawLane before.part before.received → after ≡ record before { known = after.known }
+    → sent ≡ after.received ++ after.known → accepted ≡ length sent → applied ≡ length (entries after)
+    → applied ≤ accepted
+left_over before after sent accepted applied keeps same end is is' =
+    omega (arith, is, is', few_applied after sent (knows_more before after same keeps) end)
+
+-- where none is, all was applied
+pub all_at_none_left : (before after : LaneView) (sent : List Ride) (left : ℕ) → IsRawLane before.part before.received
+    → after ≡ record before { known = after.known } → sent ≡ after.received ++ after.known
+    → length (entries after) + left ≡ length sent → left ≡ 0 → AppliedAll sent after
+all_at_none_left before after sent left keeps same end number none =
+    all_if_as_many after sent (knows_more before after same keeps) end (omega (arith, number, none))

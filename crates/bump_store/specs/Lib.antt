@@ -12,3 +12,4 @@ pub mod Closing
 pub mod Settling
 pub mod Passes
 pub mod Finishing
+pub mod Parting

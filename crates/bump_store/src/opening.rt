@@ -35,7 +35,7 @@ fn add<N: Name>(
 }
 
 // The workers and lanes of so many new rings.
-fn make_rings<N: Name>(
+pub(crate) fn make_rings<N: Name>(
     alloc: Global,
     seats: Vec<WorkerSeat<N>>,
     lane_seats: Vec<LaneSeat<N>>,
@@ -71,7 +71,7 @@ fn make_rings<N: Name>(
 }
 
 // The Books of all classes, and where the classes' chunks start and the last one's end.
-fn make_books<N: Name>(
+pub(crate) fn make_books<N: Name>(
     alloc: Global,
     seats: Vec<ClassSeat<N>>,
     classes: &[ClassConfig],

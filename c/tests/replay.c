@@ -1,0 +1,471 @@
+/* Runs a trace of bumpsim's language by calls from C, and prints what `bumpsim serial` prints of it.
+ *
+ *   replay FILE        status 0; 2: a line that it doesn't know; 3: a call answered what it shouldn't; 4: a worker hits
+ *                      by another one's hold, which can't be said in C
+ *
+ * The trace has no fault; the lines behind `par` are run one by one. What a bump did isn't told by bump_apply_run: it
+ * is read off the item and the lists, before and behind a run of one bump. Gets are made by turns with four calls and
+ * with bump_hit, which have to come to the same. */
+#define _POSIX_C_SOURCE 200809L
+#include "bump.h"
+#include <inttypes.h>
+#include <stdio.h>
+#include <stdlib.h>
+#include <string.h>
+
+enum { MOST_WORKERS = 64, MOST_CLASSES = 16, HOLDS = 64, NAMES = 4096, WORDS = 8, LINE = 300 };
+
+struct item {
+  uint32_t chunk, generation;
+};
+struct name {
+  char text[40];
+  struct item item;
+};
+struct kept {
+  char text[40];
+  uint32_t worker, hold;
+  bool used;
+};
+struct queue {
+  struct item *items; /* of the worker's accepted bumps, by number */
+  uint64_t count, room, applied;
+};
+
+static bump_config config = { 1, 0, 0, 0, 0, HOLDS };
+static bump_class_config classes[MOST_CLASSES];
+static uint32_t class_count;
+static bool opened;
+static bump_worker worker[MOST_WORKERS];
+static bump_lane lane[MOST_WORKERS];
+static bump_book book[MOST_CLASSES];
+static bool closed[MOST_WORKERS], given_to_lane[MOST_WORKERS];
+static bool hold_used[MOST_WORKERS][HOLDS];
+static struct queue queue[MOST_WORKERS];
+static struct name name[NAMES];
+static size_t names;
+static struct kept kept[NAMES];
+static size_t kepts, asked;
+static uint64_t line_number;
+
+static void wrong(const char *what) {
+  fflush(stdout);
+  fprintf(stderr, "line %" PRIu64 ": %s\n", line_number, what);
+  exit(3);
+}
+
+static void want(bool holds, const char *what) {
+  if (!holds) wrong(what);
+}
+
+static uint32_t class_of(uint32_t chunk) {
+  uint32_t c = 0;
+  while (chunk >= classes[c].chunks) chunk -= classes[c++].chunks;
+  return c;
+}
+
+static void open_store(void) {
+  bump_store store = { 0 };
+  want(bump_open(&store, &config, classes, class_count) == BUMP_OPEN_DONE, "the store isn't opened");
+  for (uint32_t w = config.workers; w-- > 0;) {
+    want(bump_take_worker(&store, &worker[w]), "no worker");
+    want(bump_take_lane(&store, &lane[w]), "no lane");
+  }
+  for (uint32_t c = class_count; c-- > 0;) want(bump_take_book(&store, &book[c]), "no book");
+  bump_worker none = { 0 };
+  want(!bump_take_worker(&store, &none) && none.p == NULL, "a worker too many");
+  bump_close(store);
+  opened = true;
+}
+
+static struct name *find_name(const char *text) {
+  for (size_t i = 0; i < names; i++)
+    if (strcmp(name[i].text, text) == 0) return &name[i];
+  return NULL;
+}
+
+static struct item item_of(const char *text) {
+  struct name *n = find_name(text);
+  if (!n) wrong("no such name");
+  return n->item;
+}
+
+static struct kept *find_kept(const char *text) {
+  for (size_t i = 0; i < kepts; i++)
+    if (kept[i].used && strcmp(kept[i].text, text) == 0) return &kept[i];
+  wrong("no such hold");
+  return NULL;
+}
+
+static void bind(const char *text, struct item item) {
+  struct name *n = find_name(text);
+  if (!n) {
+    want(names < NAMES, "too many names");
+    n = &name[names++];
+    snprintf(n->text, sizeof n->text, "%s", text);
+  }
+  n->item = item;
+}
+
+static void note_queued(uint32_t w, struct item item, uint64_t number) {
+  struct queue *q = &queue[w];
+  want(number == q->count, "another number of a bump");
+  if (q->count == q->room) {
+    q->room = q->room ? 2 * q->room : 64;
+    q->items = realloc(q->items, q->room * sizeof *q->items);
+    want(q->items != NULL, "no memory");
+  }
+  q->items[q->count++] = item;
+}
+
+static void print_touch(uint32_t w, struct item item, bump_touched t) {
+  want(t.answer == BUMP_TOUCH_QUEUED || t.number == 0, "a number that isn't queued");
+  switch (t.answer) {
+    case BUMP_TOUCH_FIRST: printf(" first\n"); break;
+    case BUMP_TOUCH_ALREADY: printf(" already\n"); break;
+    case BUMP_TOUCH_MARKED: printf(" marked\n"); break;
+    case BUMP_TOUCH_QUEUED:
+      note_queued(w, item, t.number);
+      printf(" queued %" PRIu64 "\n", t.number);
+      break;
+    case BUMP_TOUCH_DROPPED_FULL: printf(" dropped full\n"); break;
+    case BUMP_TOUCH_DROPPED_BUSY: printf(" dropped busy\n"); break;
+    case BUMP_TOUCH_DROPPED_REFS_FULL: printf(" dropped refs\n"); break;
+    case BUMP_TOUCH_EXHAUSTED: printf(" exhausted\n"); break;
+    case BUMP_TOUCH_NO_HOLD: wrong("a touch without a hold");
+  }
+}
+
+/* What is printed in place of a hit: NULL where the item is held. */
+static const char *refusal(enum bump_get got) {
+  switch (got) {
+    case BUMP_GET_HELD: return NULL;
+    case BUMP_GET_STALE: return "miss";
+    case BUMP_GET_REFS_FULL: return "refs";
+    case BUMP_GET_BUSY: return "busy";
+    case BUMP_GET_NO_PLACE:
+    case BUMP_GET_NO_SUCH_CHUNK: break;
+  }
+  wrong("a get of a chunk or a hold that there isn't");
+  return NULL;
+}
+
+/* ------------------------------------------------------------------------------------------------ readers' lines */
+
+static void get_by_four(uint32_t w, struct item item, uint64_t now, const char *words) {
+  uint32_t hold = 0;
+  while (hold < HOLDS && hold_used[w][hold]) hold++;
+  enum bump_get got = bump_get(&worker[w], hold, item.chunk, item.generation);
+  const char *refused = refusal(got);
+  if (refused) {
+    printf("%s %s\n", words, refused);
+    want(!bump_release(&worker[w], hold), "a refused get left a hold");
+    return;
+  }
+  want(bump_get(&worker[w], hold, item.chunk, item.generation) == BUMP_GET_NO_PLACE, "a hold is taken twice");
+  bump_touched touched = bump_touch(&worker[w], hold, now);
+  bump_labelled label = bump_label(&worker[w], hold);
+  want(label.answer == BUMP_LABEL_READ, "no label");
+  want(bump_release(&worker[w], hold) && !bump_release(&worker[w], hold), "a hold is given back twice");
+  want(bump_label(&worker[w], hold).answer == BUMP_LABEL_NO_HOLD, "a label of a hold that was given back");
+  printf("%s %" PRIu64, words, label.label);
+  print_touch(w, item, touched);
+}
+
+static void get_by_one(uint32_t w, struct item item, uint64_t now, const char *words) {
+  bump_whole_hit hit = bump_hit(&worker[w], item.chunk, item.generation, now);
+  const char *refused = refusal(hit.got);
+  if (refused) {
+    want(hit.touch == BUMP_TOUCH_NO_HOLD && hit.label == 0, "a refused hit tells more");
+    printf("%s %s\n", words, refused);
+    return;
+  }
+  bump_touched touched = { hit.touch, 0 };
+  if (hit.touch == BUMP_TOUCH_QUEUED) touched.number = bump_worker_counts(&worker[w]).accepted - 1;
+  printf("%s %" PRIu64, words, hit.label);
+  print_touch(w, item, touched);
+}
+
+static void hold_item(uint32_t w, const char *item_name, const char *hold_name) {
+  struct item item = item_of(item_name);
+  uint32_t hold = 0;
+  while (hold < HOLDS && hold_used[w][hold]) hold++;
+  want(kepts < NAMES && hold < HOLDS, "too many holds");
+  const char *refused = closed[w] ? "closed" : refusal(bump_get(&worker[w], hold, item.chunk, item.generation));
+  printf("hold %" PRIu32 " %s %s %s\n", w, item_name, hold_name, refused ? refused : "held");
+  if (refused) return;
+  hold_used[w][hold] = true;
+  struct kept *k = &kept[kepts++];
+  snprintf(k->text, sizeof k->text, "%s", hold_name);
+  k->worker = w;
+  k->hold = hold;
+  k->used = true;
+  /* its item is found again by its name */
+  char bound[80];
+  snprintf(bound, sizeof bound, "/%s", hold_name);
+  bind(bound, item);
+}
+
+static void hit_hold(uint32_t w, const char *hold_name, uint64_t now) {
+  struct kept *k = find_kept(hold_name);
+  char bound[80];
+  snprintf(bound, sizeof bound, "/%s", hold_name);
+  printf("hit %" PRIu32 " %s", w, hold_name);
+  if (closed[w]) {
+    printf(" closed\n");
+    return;
+  }
+  if (k->worker != w) {
+    fprintf(stderr, "a hold of another worker: this trace can't be run from C\n");
+    exit(4);
+  }
+  print_touch(w, item_of(bound), bump_touch(&worker[w], k->hold, now));
+}
+
+/* -------------------------------------------------------------------------------------------------------- drains */
+
+static uint32_t free_chunks(uint32_t c) {
+  return bump_size(&book[c], BUMP_PLACE_UNUSED) + bump_size(&book[c], BUMP_PLACE_RETIRED);
+}
+
+/* Applies a lane's next bump, and prints what it did. False: there is none. */
+static bool apply_one(uint32_t w, uint64_t now) {
+  uint32_t c = bump_lane_class(&lane[w]);
+  struct queue *q = &queue[w];
+  want((c == BUMP_NONE) == (q->applied == q->count), "a lane knows other bumps than were queued");
+  if (c == BUMP_NONE) return false;
+  struct item item = q->items[q->applied];
+  want(c == class_of(item.chunk), "the next bump is of another class");
+  want(bump_lane_class(&lane[w]) == c, "the class of the next bump changes");
+  bump_seen before = bump_see(&book[c], item.chunk);
+  bool linked = before.linked && before.generation == item.generation;
+  uint32_t free_before = free_chunks(c);
+  uint64_t moves_before = bump_moves(&book[c], w);
+  want(bump_apply_run(&book[c], &lane[w], now, 0).applied == 0, "a run of none applied one");
+  for (uint32_t other = 0; other < class_count; other++)
+    if (other != c) want(bump_apply_run(&book[other], &lane[w], now, 1).applied == 0, "a bump of another class");
+  bump_ran ran = bump_apply_run(&book[c], &lane[w], now, 1);
+  want(ran.answer == BUMP_RUN_DONE && ran.applied == 1, "the bump isn't applied");
+  bump_seen after = bump_see(&book[c], item.chunk);
+  uint64_t moved = bump_moves(&book[c], w) - moves_before;
+  const char *did = "time";
+  if (!linked) {
+    did = free_chunks(c) > free_before ? "gone freed" : "gone deferred";
+    want(moved == 0, "a bump of an item that is gone moved one");
+  } else {
+    want(after.time == now && after.refs == before.refs - 1, "the time isn't stored, or the reference not given back");
+    if (moved) did = "warm";
+    want(moved == (before.segment == BUMP_PLACE_COLD && before.active ? 1u : 0u), "another bump moves an item");
+    want(after.segment == (moved ? (uint32_t)BUMP_PLACE_WARM : before.segment), "it is elsewhere");
+  }
+  printf("bump %" PRIu32 " %" PRIu64, w, q->applied++);
+  printf(" %" PRIu32 ".%" PRIu32 " %s\n", item.chunk, item.generation, did);
+  return true;
+}
+
+static void drain_all(uint64_t now) {
+  uint64_t all = 0;
+  for (uint32_t w = 0; w < config.workers; w++)
+    if (!closed[w])
+      for (uint32_t i = 0; i < config.capacity && apply_one(w, now); i++) all++;
+  printf("drain %" PRIu64 "\n", all);
+}
+
+static void print_counts(bump_counts a, uint64_t applied) {
+  printf(" attempted %" PRIu64 " accepted %" PRIu64 " full %" PRIu64, a.attempted, a.accepted, a.full);
+  printf(" busy %" PRIu64 " refs %" PRIu64 " applied %" PRIu64 "\n", a.busy, a.refs, applied);
+}
+
+static bump_counts counts_of(uint32_t w) {
+  if (!given_to_lane[w]) return bump_worker_counts(&worker[w]);
+  bump_rested rest = bump_rest(&lane[w]);
+  want(rest.answer == BUMP_REST_SETTLED && rest.applied == queue[w].applied, "a closed worker isn't settled");
+  return rest.counts;
+}
+
+/* Gives a closed worker to its lane, once it holds nothing. */
+static void give_to_lane(uint32_t w) {
+  bump_worker back = { 0 };
+  want(bump_rest(&lane[w]).answer == BUMP_REST_OPEN, "a lane is closed before its worker");
+  enum bump_close_answer answer = bump_worker_close(&lane[w], worker[w], &back);
+  bool holds = false;
+  for (uint32_t i = 0; i < HOLDS; i++) holds |= hold_used[w][i];
+  want(answer == (holds ? BUMP_CLOSE_HOLDS_OUT : BUMP_CLOSE_DONE), "another answer of a close");
+  want((back.p != NULL) == holds, "a refused worker doesn't come back, or another one does");
+  worker[w] = back;
+  given_to_lane[w] = !holds;
+}
+
+static void close_worker(uint32_t w, uint64_t now) {
+  if (closed[w]) {
+    printf("close %" PRIu32 " closed\n", w);
+    return;
+  }
+  closed[w] = true;
+  give_to_lane(w);
+  uint64_t left = queue[w].count - queue[w].applied;
+  if (given_to_lane[w]) {
+    bump_rested rest = bump_rest(&lane[w]);
+    want(rest.answer == (left ? BUMP_REST_LEFT : BUMP_REST_SETTLED) && rest.left == left, "another rest");
+  }
+  while (apply_one(w, now)) {}
+  printf("close %" PRIu32, w);
+  bump_counts counts = counts_of(w);
+  print_counts(counts, queue[w].applied);
+}
+
+/* --------------------------------------------------------------------------------------------------------- shows */
+
+static void show_list(uint32_t c, uint32_t place, const char *word) {
+  static uint32_t chunks[1000000];
+  uint32_t size = bump_size(&book[c], place);
+  bump_walked walked = bump_walk(&book[c], place, chunks, sizeof chunks / sizeof *chunks);
+  want(walked.answer == BUMP_WALK_DONE && walked.size == size, "a walk of another size");
+  if (place == BUMP_PLACE_TEMP && size == 0) return;
+  printf("class %" PRIu32 " %s %" PRIu32, c, word, size);
+  for (uint32_t i = 0; i < size; i++) {
+    bump_seen s = bump_see(&book[c], chunks[i]);
+    want(s.answer == BUMP_SEE_SEEN && s.linked == (place <= BUMP_PLACE_TEMP), "another chunk");
+    want(!s.linked || s.segment == place, "another segment");
+    if (place >= BUMP_PLACE_UNUSED)
+      printf(" %" PRIu32, chunks[i]);
+    else
+      printf(" %" PRIu32 ".%" PRIu32 ":%" PRIu32 ":%s:%" PRIu64, chunks[i], s.generation, s.refs,
+             s.active ? "fa" : s.fetched ? "f" : "-", s.time);
+  }
+  printf("\n");
+}
+
+static void show(void) {
+  static const char *const WORD[] = { "hot", "warm", "cold", "temp", "dying", "unused", "retired" };
+  for (uint32_t c = 0; c < class_count; c++)
+    for (uint32_t place = 0; place <= BUMP_PLACE_RETIRED; place++) show_list(c, place, WORD[place]);
+  for (uint32_t w = 0; w < config.workers; w++) {
+    printf("worker %" PRIu32, w);
+    print_counts(counts_of(w), queue[w].applied);
+  }
+}
+
+/* ----------------------------------------------------------------------------------------------- a class's lines */
+
+static void set(char **word, bool temp, uint64_t now) {
+  uint32_t c = (uint32_t)strtoul(word[2], NULL, 10);
+  uint64_t label = strtoull(word[3], NULL, 10);
+  bump_linked l = temp ? bump_link_temp(&book[c], label, now) : bump_link(&book[c], label, now);
+  if (l.answer == BUMP_LINK_NO_FREE_CHUNK) {
+    want(l.chunk == 0 && l.generation == 0 && bump_size(&book[c], BUMP_PLACE_UNUSED) == 0, "a refused link tells more");
+    printf("%s %s full\n", word[0], word[1]);
+    return;
+  }
+  bind(word[1], (struct item){ l.chunk, l.generation });
+  printf("%s %s %" PRIu32 ".%" PRIu32 "\n", word[0], word[1], l.chunk, l.generation);
+}
+
+static void del(const char *item_name) {
+  struct item item = item_of(item_name);
+  static const char *const ANSWER[] = { "freed", "deferred", NULL, "gone" };
+  for (uint32_t c = 0; c < class_count; c++)
+    if (c != class_of(item.chunk))
+      want(bump_unlink(&book[c], item.chunk, item.generation) == BUMP_UNLINK_NO_SUCH_CHUNK, "a chunk of another class");
+  enum bump_unlink answer = bump_unlink(&book[class_of(item.chunk)], item.chunk, item.generation);
+  want(answer != BUMP_UNLINK_NO_SUCH_CHUNK, "no such chunk");
+  printf("del %s %s\n", item_name, ANSWER[answer]);
+}
+
+static void pull(uint32_t c, const char *word) {
+  static const char *const TAIL[] = { "hot", "warm", "cold", "evict" };
+  static const char *const ANSWER[] = { "empty", "stay", "warm", "again", "cold", "freed", "deferred" };
+  uint32_t tail = 0;
+  while (tail < 3 && strcmp(TAIL[tail], word) != 0) tail++;
+  bump_pulled p = bump_pull(&book[c], tail);
+  want(p.answer != BUMP_PULL_NO_SUCH_TAIL, "no such tail");
+  printf("pull %" PRIu32 " %s %s", c, word, ANSWER[p.answer]);
+  if (p.answer == BUMP_PULL_EMPTY)
+    printf("\n");
+  else
+    printf(" %" PRIu32 ".%" PRIu32 "\n", p.chunk, p.generation);
+}
+
+static void print_moves(void) {
+  for (uint32_t c = 0; c < class_count; c++)
+    for (uint32_t w = 0; w < config.workers; w++)
+      printf("moves %" PRIu32 " %" PRIu32 " %" PRIu64 "\n", c, w, bump_moves(&book[c], w));
+}
+
+/* --------------------------------------------------------------------------------------------------------- lines */
+
+static void run_line(char *line) {
+  uint64_t now = line_number;
+  char whole[LINE], *word[WORDS] = { line }, *rest = NULL;
+  snprintf(whole, sizeof whole, "%s", line);
+  int count = 0;
+  for (char *w = strtok_r(line, " ", &rest); w && count < WORDS; w = strtok_r(NULL, " ", &rest)) word[count++] = w;
+  uint32_t first = count > 1 ? (uint32_t)strtoul(word[1], NULL, 10) : 0;
+#define IS(text, words) (strcmp(word[0], text) == 0 && count == (words))
+  if (IS("store", 5)) {
+    config.workers = first;
+    config.capacity = (uint32_t)strtoul(word[2], NULL, 10);
+    config.refs_limit = (uint32_t)strtoul(word[3], NULL, 10);
+    config.first_generation = (uint32_t)strtoul(word[4], NULL, 10);
+    return;
+  }
+  if (IS("class", 4)) {
+    want(class_count < MOST_CLASSES, "too many classes");
+    classes[class_count++] = (bump_class_config){ first, (uint32_t)strtoul(word[2], NULL, 10),
+                                                  (uint32_t)strtoul(word[3], NULL, 10) };
+    return;
+  }
+  if (!opened) open_store();
+  if (IS("set", 4) || IS("temp", 4)) set(word, word[0][0] == 't', now);
+  else if (IS("get", 3) && closed[first]) printf("%s closed\n", whole);
+  else if (IS("get", 3) && asked++ % 2 == 0) get_by_four(first, item_of(word[2]), now, whole);
+  else if (IS("get", 3)) get_by_one(first, item_of(word[2]), now, whole);
+  else if (IS("hold", 4)) hold_item(first, word[2], word[3]);
+  else if (IS("hit", 3)) hit_hold(first, word[2], now);
+  else if (IS("read", 2)) {
+    struct kept *k = find_kept(word[1]);
+    printf("read %s %" PRIu64 "\n", word[1], bump_label(&worker[k->worker], k->hold).label);
+  } else if (IS("drop", 2)) {
+    struct kept *k = find_kept(word[1]);
+    want(bump_release(&worker[k->worker], k->hold), "nothing was held");
+    hold_used[k->worker][k->hold] = k->used = false;
+    printf("drop %s\n", word[1]);
+    if (closed[k->worker] && !given_to_lane[k->worker]) give_to_lane(k->worker);
+  } else if (IS("del", 2)) del(word[1]);
+  else if (IS("pull", 3)) pull(first, word[2]);
+  else if (IS("sweep", 2)) printf("sweep %" PRIu32 " %" PRIu32 "\n", first, bump_sweep(&book[first]));
+  else if (IS("drain", 1)) drain_all(now);
+  else if (IS("close", 2)) close_worker(first, now);
+  else if (IS("show", 1)) show();
+  else if (IS("par", 1)) return;
+  else if (IS("moves", 1)) print_moves();
+  else {
+    fflush(stdout);
+    fprintf(stderr, "line %" PRIu64 ": not known: %s\n", line_number, whole);
+    exit(2);
+  }
+}
+
+static void free_all(void) {
+  for (uint32_t w = 0; w < config.workers; w++) {
+    if (!given_to_lane[w]) bump_worker_free(worker[w]);
+    bump_lane_free(lane[w]);
+    free(queue[w].items);
+  }
+  for (uint32_t c = 0; c < class_count; c++) bump_book_free(book[c]);
+}
+
+int main(int count, char **words) {
+  if (count != 2) return fprintf(stderr, "usage: replay FILE\n"), 2;
+  FILE *file = fopen(words[1], "r");
+  if (!file) return fprintf(stderr, "replay: %s can't be read\n", words[1]), 2;
+  char line[LINE];
+  while (fgets(line, sizeof line, file)) {
+    line_number++;
+    line[strcspn(line, "\n")] = '\0';
+    if (line[0] != '\0' && line[0] != '#') run_line(line);
+  }
+  fclose(file);
+  if (opened) free_all();
+  return 0;
+}

@@ -1,0 +1,64 @@
+-- What a worker, a book, a lane and a store own names no thread: so their handles may go to another one.
+use denote.Param.Send.{IsSend, sendable}
+use Rattle.std.proofs.Crossing.{crosses}
+use Rattle.std_heap.specs.contracts.Global as Heap
+use Rattle.std_heap.specs.contracts.GlobalAllocator.TheImpl.{ghosts}
+use Rattle.std_heap.proofs.Global.TheSendSync as handle
+use Rattle.std_heap.proofs.GlobalAllocator.TheSendSync.{the_frees}
+use Rattle.atomic_table.specs.Seated.{TableId}
+use Rattle.bump_readers.specs.declared.names.Name.{Ghosts}
+use Rattle.bump_readers.specs.contracts.riders.Rider as Rider
+use Rattle.bump_readers.specs.contracts.workers.WorkerSeat as Seat
+use Rattle.bump_readers.proofs.riders.Rider.TheSendSync as rider
+use Rattle.bump_readers.proofs.workers.WorkerSeat.TheSendSync as seat
+use Rattle.bump_ring.specs.contracts.numbered.Numbered as Numbered
+use Rattle.bump_ring.specs.contracts.numbered.NumberedProtocolRider.TheImpl as protocol
+use Rattle.bump_ring.specs.contracts.ends.ClosedSender as ClosedSender
+use Rattle.rtrb.specs.contracts.finished.Finished as Finished
+use Rattle.rtrb.proofs.finished.Finished.TheSendSync as finished
+use Rattle.bump_class.specs.contracts.lanes.RawLane as RawLane
+use Rattle.bump_class.proofs.lanes.RawLane.TheSendSync as raw_lane
+use Rattle.bump_store.specs.contracts.closing.ClosedWorker as ClosedWorker
+use Rattle.bump_open.specs.contracts.books.TaggedBook as TaggedBook
+use Rattle.bump_open.specs.contracts.drainers.Drainer as Drainer
+use Rattle.bump_open.specs.contracts.opening.Opened as Opened
+use Rattle.bump_open.specs.contracts.readers.Reader as Reader
+use Rattle.bump_open.proofs.books.TaggedBook.TheSendSync as tagged_book
+use Rattle.bump_open.proofs.readers.Reader.TheSendSync as reader
+use Rattle.bump_c.specs.One.{any, alone}
+
+module _ (z : TableId) where
+  abbrev named : Ghosts (any alone).Denot
+  named = record { table = z }
+
+  -- what is left of a ring's sending end
+  finished_sends : IsSend (Finished.the_row (Rider.the_row (any alone) named) Heap.the_row (Numbered.the_row (any alone)) ghosts (protocol.ghosts (any alone) named protocol.no_dict))
+  finished_sends = finished.the_send (Rider.the_row (any alone) named) Heap.the_row (Numbered.the_row (any alone)) ghosts (protocol.ghosts (any alone) named protocol.no_dict) (rider.the_send (any alone) named) handle.the_send the_frees
+
+  closed_sender : IsSend (ClosedSender.the_row (any alone) named)
+  closed_sender = search (sendable, crosses, finished_sends) depth 20
+
+  seat_sends : IsSend (Seat.the_row (any alone) named)
+  seat_sends = seat.the_send (any alone) named
+
+  closed_worker : IsSend (ClosedWorker.the_row (any alone) named)
+  closed_worker = search (sendable, crosses, seat_sends, closed_sender) depth 20
+
+  raw_lane_sends : IsSend (RawLane.the_row (any alone) named)
+  raw_lane_sends = raw_lane.the_send (any alone) named
+
+  -- a lane
+  pub lane_sends : IsSend (Drainer.the_row (any alone) named)
+  lane_sends = search (sendable, crosses, raw_lane_sends, closed_worker) depth 20
+
+  -- a worker
+  pub worker_sends : IsSend (Reader.the_row (any alone) named)
+  worker_sends = reader.the_send (any alone) named
+
+  -- a book
+  pub book_sends : IsSend (TaggedBook.the_row (any alone) named)
+  book_sends = tagged_book.the_send (any alone) named
+
+  -- what is still to be taken out of a store
+  pub store_sends : IsSend (Opened.the_row (any alone) named)
+  store_sends = search (sendable, crosses, worker_sends, book_sends, lane_sends) depth 20

@@ -1,0 +1,340 @@
+//! A lane's calls.
+ghost use Rattle.std.specs.Prelude.{◌≡◌, ◌≢◌, ◌<◌, IfSome, IfNone, [], ◌∷◌, None};
+ghost use Rattle.bump_open.specs.Applying.{DrainerApplies};
+ghost use Rattle.bump_open.specs.Draining.{why_not_closed};
+ghost use Rattle.bump_c.specs.Numbers.{number_of_close};
+ghost use Rattle.bump_c.specs.One.{IsOne};
+ghost use Rattle.bump_c.specs.Tells.{TellsLaneClass, TellsRest, IsClosedBy};
+
+use crate::answers::{Ran, RestTold, not_closed_number, rest_told};
+use crate::book_handle::BookHandle;
+use crate::lane_handle::LaneHandle;
+use crate::worker_handle::{WorkerHandle, WorkerSlot};
+use box_parts::{Parts, replace_both};
+use bump_open::Drainer;
+use bump_readers::Name;
+use std::marker::Brand;
+
+#[inline(always)]
+fn tell_lane_class<N: Name>(it: &mut Drainer<N>) -> u32
+    ensures { TellsLaneClass it.old it.new result }
+{
+    it.next_class().unwrap_or(u32::MAX)
+}
+
+fn lane_class_named<N: Name>(h: LaneHandle) -> (LaneHandle, u32)
+    requires table { h.table ≡ N.table }
+    requires one { IsOne N }
+    ensures table { result.0.table ≡ h.table }
+    ensures class { TellsLaneClass h.held result.0.held result.1 }
+{
+    let mut it = h.into_parts::<N>().into_box();
+    let said = tell_lane_class(&mut it);
+    (LaneHandle::of_parts(Parts::of(it)), said)
+}
+
+fn lane_class_at(h: LaneHandle) -> (LaneHandle, u32)
+    ensures table { result.0.table ≡ h.table }
+    ensures class { TellsLaneClass h.held result.0.held result.1 }
+{
+    lane_class_named::<Brand>(h)
+}
+
+/// The class of the lane's next bump, or the greatest number where none is known.
+#[unsafe(no_mangle)]
+pub extern "C" fn bump_lane_class(lane: &mut LaneHandle) -> u32
+    ensures table { lane.new.table ≡ lane.old.table }
+    ensures class { TellsLaneClass lane.old.held lane.new.held result }
+{
+    core::mem::replace_with(lane, (), |h: LaneHandle, _x: ()| -> (LaneHandle, u32) {
+        lane_class_at(h)
+    })
+}
+
+#[inline(always)]
+fn tell_rest<N: Name>(it: &mut Drainer<N>) -> RestTold
+    ensures { TellsRest it.old it.new result }
+{
+    rest_told(it.rest())
+}
+
+fn rest_named<N: Name>(h: LaneHandle) -> (LaneHandle, RestTold)
+    requires table { h.table ≡ N.table }
+    requires one { IsOne N }
+    ensures table { result.0.table ≡ h.table }
+    ensures rests { TellsRest h.held result.0.held result.1 }
+{
+    let mut it = h.into_parts::<N>().into_box();
+    let said = tell_rest(&mut it);
+    (LaneHandle::of_parts(Parts::of(it)), said)
+}
+
+fn rest_at(h: LaneHandle) -> (LaneHandle, RestTold)
+    ensures table { result.0.table ≡ h.table }
+    ensures rests { TellsRest h.held result.0.held result.1 }
+{
+    rest_named::<Brand>(h)
+}
+
+/// What is left of the bumps of a worker.
+#[unsafe(no_mangle)]
+pub extern "C" fn bump_rest(lane: &mut LaneHandle) -> RestTold
+    ensures table { lane.new.table ≡ lane.old.table }
+    ensures rests { TellsRest lane.old.held lane.new.held result }
+{
+    core::mem::replace_with(
+        lane,
+        (),
+        |h: LaneHandle, _x: ()| -> (LaneHandle, RestTold) { rest_at(h) },
+    )
+}
+
+fn book_store_named<N: Name>(h: BookHandle) -> (BookHandle, u64)
+    requires table { h.table ≡ N.table }
+    requires one { IsOne N }
+    ensures table { result.0.table ≡ h.table }
+    ensures held { result.0.held ≡ h.held }
+    ensures store { result.1 ≡ h.held.store }
+{
+    let it = h.into_parts::<N>().into_box();
+    let said = it.store();
+    (BookHandle::of_parts(Parts::of(it)), said)
+}
+
+// The number of the store of a book.
+fn book_store_at(h: BookHandle) -> (BookHandle, u64)
+    ensures table { result.0.table ≡ h.table }
+    ensures held { result.0.held ≡ h.held }
+    ensures store { result.1 ≡ h.held.store }
+{
+    book_store_named::<Brand>(h)
+}
+
+fn lane_store_named<N: Name>(h: LaneHandle) -> (LaneHandle, u64)
+    requires table { h.table ≡ N.table }
+    requires one { IsOne N }
+    ensures table { result.0.table ≡ h.table }
+    ensures held { result.0.held ≡ h.held }
+    ensures store { result.1 ≡ h.held.store }
+{
+    let it = h.into_parts::<N>().into_box();
+    let said = it.store();
+    (LaneHandle::of_parts(Parts::of(it)), said)
+}
+
+// The number of the store of a lane.
+fn lane_store_at(h: LaneHandle) -> (LaneHandle, u64)
+    ensures table { result.0.table ≡ h.table }
+    ensures held { result.0.held ≡ h.held }
+    ensures store { result.1 ≡ h.held.store }
+{
+    lane_store_named::<Brand>(h)
+}
+
+fn worker_store_named<N: Name>(h: WorkerHandle) -> (WorkerHandle, u64)
+    requires table { h.table ≡ N.table }
+    requires one { IsOne N }
+    ensures table { result.0.table ≡ h.table }
+    ensures held { result.0.held ≡ h.held }
+    ensures store { result.1 ≡ h.held.store }
+{
+    let it = h.into_parts::<N>().into_box();
+    let said = it.store();
+    (WorkerHandle::of_parts(Parts::of(it)), said)
+}
+
+// The number of the store of a worker.
+fn worker_store_at(h: WorkerHandle) -> (WorkerHandle, u64)
+    ensures table { result.0.table ≡ h.table }
+    ensures held { result.0.held ≡ h.held }
+    ensures store { result.1 ≡ h.held.store }
+{
+    worker_store_named::<Brand>(h)
+}
+
+fn run_named<N: Name>(
+    book: BookHandle,
+    lane: LaneHandle,
+    now: u64,
+    limit: u32,
+) -> (BookHandle, LaneHandle, Ran)
+    requires table { book.table ≡ N.table }
+    requires same { lane.table ≡ N.table }
+    requires one { IsOne N }
+    ensures book { result.0.table ≡ book.table }
+    ensures lane { result.1.table ≡ lane.table }
+    ensures done { result.2.answer ≡ 0 }
+    ensures applies { DrainerApplies now limit book.held lane.held result.0.held result.1.held result.2.applied }
+{
+    let mut tagged = book.into_parts::<N>().into_box();
+    let mut drainer = lane.into_parts::<N>().into_box();
+    let applied = drainer.apply(&mut tagged, now, limit);
+    (
+        BookHandle::of_parts(Parts::of(tagged)),
+        LaneHandle::of_parts(Parts::of(drainer)),
+        Ran { answer: 0, applied },
+    )
+}
+
+fn run_at(book: BookHandle, lane: LaneHandle, now: u64, limit: u32) -> (BookHandle, LaneHandle, Ran)
+    requires same { book.held.store ≡ lane.held.store → lane.table ≡ book.table }
+    ensures book { result.0.table ≡ book.table }
+    ensures lane { result.1.table ≡ lane.table }
+    ensures other { book.held.store ≢ lane.held.store → (result.2 ≡ record { answer = 1; applied = 0 })
+        × (result.0.held ≡ book.held) × (result.1.held ≡ lane.held) }
+    ensures done { book.held.store ≡ lane.held.store → result.2.answer ≡ 0 }
+    ensures applies { book.held.store ≡ lane.held.store
+        → DrainerApplies now limit book.held lane.held result.0.held result.1.held result.2.applied }
+{
+    let (book, of_book) = book_store_at(book);
+    let (lane, of_lane) = lane_store_at(lane);
+    if of_book != of_lane {
+        return (
+            book,
+            lane,
+            Ran {
+                answer: 1,
+                applied: 0,
+            },
+        );
+    }
+    run_named::<Brand>(book, lane, now, limit)
+}
+
+/// Applies the lane's next bumps as long as they are of the book's class, at most `limit`, and tells how many. Where
+/// book and lane are of two stores, it answers so, and nothing is done: stores that are open have numbers of their own.
+#[unsafe(no_mangle)]
+pub extern "C" fn bump_apply_run(
+    book: &mut BookHandle,
+    lane: &mut LaneHandle,
+    now: u64,
+    limit: u32,
+) -> Ran
+    requires same { book.old.held.store ≡ lane.old.held.store → lane.old.table ≡ book.old.table }
+    ensures book { book.new.table ≡ book.old.table }
+    ensures lane { lane.new.table ≡ lane.old.table }
+    ensures other { book.old.held.store ≢ lane.old.held.store → (result ≡ record { answer = 1; applied = 0 })
+        × (book.new.held ≡ book.old.held) × (lane.new.held ≡ lane.old.held) }
+    ensures done { book.old.held.store ≡ lane.old.held.store → result.answer ≡ 0 }
+    ensures applies { book.old.held.store ≡ lane.old.held.store
+        → DrainerApplies now limit book.old.held lane.old.held book.new.held lane.new.held result.applied }
+{
+    replace_both(
+        book,
+        lane,
+        (now, limit),
+        |book: BookHandle, lane: LaneHandle, x: (u64, u32)| -> (BookHandle, LaneHandle, Ran) {
+            run_at(book, lane, x.0, x.1)
+        },
+    )
+}
+
+fn worker_back_named<N: Name>(h: WorkerHandle) -> WorkerSlot
+    requires table { h.table ≡ N.table }
+    requires one { IsOne N }
+    ensures { result.slot ≡ (h.table, h.held) ∷ [] }
+{
+    WorkerSlot::of_parts(h.into_parts::<N>())
+}
+
+// A worker that goes back to C.
+fn worker_back_at(h: WorkerHandle) -> WorkerSlot
+    ensures { result.slot ≡ (h.table, h.held) ∷ [] }
+{
+    worker_back_named::<Brand>(h)
+}
+
+fn close_named<N: Name>(
+    lane: LaneHandle,
+    worker: WorkerHandle,
+) -> (LaneHandle, (u32, Option<WorkerSlot>))
+    requires table { lane.table ≡ N.table }
+    requires same { worker.table ≡ N.table }
+    requires one { IsOne N }
+    requires ring { why_not_closed lane.held worker.held ≡ None
+        → worker.held.worker.sender.ring ≡ lane.held.lane.ring }
+    ensures table { result.0.table ≡ lane.table }
+    ensures why { result.1.0 ≡ number_of_close (why_not_closed lane.held worker.held) }
+    ensures closed { IfNone result.1.1 (IsClosedBy worker.held lane.held result.0.held) }
+    ensures refused { IfSome result.1.1 (λ slot. (slot.slot ≡ (worker.table, worker.held) ∷ [])
+        × (result.0.held ≡ lane.held)) }
+    ensures done { IfNone result.1.1 (result.1.0 ≡ 0) }
+    ensures back { IfSome result.1.1 (λ slot. 0 < result.1.0) }
+{
+    let mut drainer = lane.into_parts::<N>().into_box();
+    let reader = worker.into_parts::<N>().into_box();
+    if let Some(why) = drainer.why_not_closed(&reader) {
+        let left = WorkerSlot::of_parts(Parts::of(reader));
+        return (
+            LaneHandle::of_parts(Parts::of(drainer)),
+            (not_closed_number(why), Some(left)),
+        );
+    }
+    drainer.close(Box::into_inner(reader));
+    (LaneHandle::of_parts(Parts::of(drainer)), (0, None))
+}
+
+fn close_at(lane: LaneHandle, worker: WorkerHandle) -> (LaneHandle, (u32, Option<WorkerSlot>))
+    requires same { worker.held.store ≡ lane.held.store → worker.table ≡ lane.table }
+    requires ring { why_not_closed lane.held worker.held ≡ None
+        → worker.held.worker.sender.ring ≡ lane.held.lane.ring }
+    ensures table { result.0.table ≡ lane.table }
+    ensures why { result.1.0 ≡ number_of_close (why_not_closed lane.held worker.held) }
+    ensures closed { IfNone result.1.1 (IsClosedBy worker.held lane.held result.0.held) }
+    ensures refused { IfSome result.1.1 (λ slot. (slot.slot ≡ (worker.table, worker.held) ∷ [])
+        × (result.0.held ≡ lane.held)) }
+    ensures done { IfNone result.1.1 (result.1.0 ≡ 0) }
+    ensures back { IfSome result.1.1 (λ slot. 0 < result.1.0) }
+{
+    let (lane, of_lane) = lane_store_at(lane);
+    let (worker, of_worker) = worker_store_at(worker);
+    if of_worker != of_lane {
+        return (lane, (1, Some(worker_back_at(worker))));
+    }
+    close_named::<Brand>(lane, worker)
+}
+
+/// Closes a worker's ring, and gives the worker to its lane. Where it can't be closed, it answers why, and fills an
+/// empty slot with the worker again: nothing is done. Worker and lane with the numbers of one store are of that store,
+/// and with the number of one worker too they are of one ring: so `bump_open` makes them.
+#[unsafe(no_mangle)]
+pub extern "C" fn bump_worker_close(
+    lane: &mut LaneHandle,
+    worker: WorkerHandle,
+    back: &mut WorkerSlot,
+) -> u32
+    requires same { worker.held.store ≡ lane.old.held.store → worker.table ≡ lane.old.table }
+    requires ring { why_not_closed lane.old.held worker.held ≡ None
+        → worker.held.worker.sender.ring ≡ lane.old.held.lane.ring }
+    ensures table { lane.new.table ≡ lane.old.table }
+    ensures why { result ≡ number_of_close (why_not_closed lane.old.held worker.held) }
+    ensures closed { result ≡ 0 → IsClosedBy worker.held lane.old.held lane.new.held }
+    ensures refused { 0 < result → (back.new.slot ≡ (worker.table, worker.held) ∷ [])
+        × (lane.new.held ≡ lane.old.held) }
+{
+    let (answer, left) = core::mem::replace_with(
+        lane,
+        worker,
+        |lane: LaneHandle, worker: WorkerHandle| -> (LaneHandle, (u32, Option<WorkerSlot>)) {
+            close_at(lane, worker)
+        },
+    );
+    let Some(slot) = left else {
+        return answer;
+    };
+    *back = slot;
+    answer
+}
+
+fn lane_free_named<N: Name>(h: LaneHandle)
+    requires table { h.table ≡ N.table }
+    requires one { IsOne N }
+{
+    drop(h.into_parts::<N>().into_box());
+}
+
+/// Ends a lane.
+#[unsafe(no_mangle)]
+pub extern "C" fn bump_lane_free(lane: LaneHandle) {
+    lane_free_named::<Brand>(lane);
+}

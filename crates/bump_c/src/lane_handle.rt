@@ -1,0 +1,79 @@
+//! The handle by which C has a lane of any store, and the slot that it lies in.
+ghost use Rattle.std.specs.Prelude.{◌≡◌, List, [], ◌∷◌};
+ghost use Rattle.atomic_table.specs.Seated.{TableId, table_id_coded};
+ghost use Rattle.bump_open.specs.Views.{DrainerView};
+ghost use Rattle.bump_c.specs.One.{IsOne};
+ghost use Rattle.bump_c.specs.SealLane.{lane_owns, lane_coded, lane_slot_owns, lane_slot_coded};
+
+use box_parts::Parts;
+use bump_heads::Name;
+use bump_open::Drainer;
+use std::alloc::Global;
+use std::marker::Model;
+
+/// A lane of the store whose table this is.
+#[repr(C)]
+pub struct LaneHandle {
+    ptr: *mut (),
+    alloc: Global,
+    pub ghost table: { TableId } by { table_id_coded },
+    pub ghost held: { DrainerView } by { lane_coded },
+}
+
+impl Model for LaneHandle {
+    ghost also_owns = { λ h. lane_owns h.alloc h.ptr h.table h.held };
+}
+
+impl LaneHandle {
+    pub(crate) fn of_parts<N: Name>(parts: Parts<Drainer<N>, Global>) -> LaneHandle
+        requires one { IsOne N }
+        ensures table { result.table ≡ N.table }
+        ensures held { result.held ≡ parts.value }
+    {
+        let Parts { ptr, alloc } = parts;
+        LaneHandle {
+            ptr: ptr as *mut (),
+            alloc,
+        }
+    }
+
+    pub(crate) fn into_parts<N: Name>(self) -> Parts<Drainer<N>, Global>
+        requires table { self.table ≡ N.table }
+        requires one { IsOne N }
+        ensures { result.value ≡ self.held }
+    {
+        let LaneHandle { ptr, alloc } = self;
+        Parts {
+            ptr: ptr as *mut Drainer<N>,
+            alloc,
+        }
+    }
+}
+
+/// What C passes to be filled: with nothing, or a lane and its store's table.
+#[repr(C)]
+#[derive(Drop)]
+pub struct LaneSlot {
+    ptr: *mut (),
+    alloc: Global,
+    pub ghost slot: { List (TableId × DrainerView) } by { lane_slot_coded },
+}
+
+impl Model for LaneSlot {
+    ghost also_owns = { λ s. lane_slot_owns s.alloc s.ptr s.slot };
+}
+
+impl LaneSlot {
+    pub(crate) fn of_parts<N: Name>(parts: Parts<Drainer<N>, Global>) -> LaneSlot
+        requires one { IsOne N }
+        ensures { result.slot ≡ (N.table, parts.value) ∷ [] }
+    {
+        let Parts { ptr, alloc } = parts;
+        LaneSlot {
+            ptr: ptr as *mut (),
+            alloc,
+        }
+    }
+}
+
+unsafe impl Send for LaneHandle {}

@@ -1,0 +1,335 @@
+//! A store is opened for C, its parts are taken out, and it is given back.
+ghost use Rattle.std.specs.Prelude.{◌≡◌, ◌<◌, ◌++◌, ◌∷◌, [], IfOk, IfErr, IfSome, IfNone, true, false, map};
+ghost use Rattle.bump_rules.specs.declared.configs.Config.{Config as TheConfig};
+ghost use Rattle.bump_c.specs.One.{IsOne};
+ghost use Rattle.bump_c.specs.Opening.{class_config_of, IsConfigOf, IsWhyNotOpened, HasOpened};
+
+use crate::answers::fault_number;
+use crate::book_handle::BookSlot;
+use crate::lane_handle::LaneSlot;
+use crate::store_handle::{StoreHandle, StoreSlot};
+use crate::worker_handle::WorkerSlot;
+use box_parts::Parts;
+use bump_open::open;
+use bump_readers::Name;
+use bump_rules::{ClassConfig, Config};
+use bump_store::Blank;
+use std::alloc::Global;
+use std::marker::Brand;
+
+const NO_MEMORY: u32 = 7;
+
+/// What a class is made from.
+#[repr(C)]
+#[derive(Clone, Copy)]
+pub struct ClassNumbers {
+    /// How many chunks it has: 1 or more.
+    pub chunks: u32,
+
+    /// A pull takes items from HOT where there are more.
+    pub hot: u32,
+
+    /// A pull takes items from WARM where there are more.
+    pub warm: u32,
+}
+
+/// What a store is made from.
+#[repr(C)]
+#[derive(Clone, Copy)]
+pub struct StoreNumbers {
+    /// The store's number, which no other open store has.
+    pub store: u64,
+
+    /// How many workers there are: 1 to 64.
+    pub workers: u32,
+
+    /// How many bumps a ring has room for: 1 to 65,536.
+    pub capacity: u32,
+
+    /// The greatest reference count: 2 to 1,048,575.
+    pub refs_limit: u32,
+
+    /// The generation of each chunk's first life: 1 or more.
+    pub first_generation: u32,
+
+    /// How many numbered holds each worker has: any number.
+    pub holds: u32,
+}
+
+// The classes of a configuration, or the number of want of memory.
+fn classes_of(alloc: Global, classes: &[ClassNumbers]) -> Result<Vec<ClassConfig>, u32>
+    ensures made { IfOk result (λ made. made.items ≡ map class_config_of classes.now) }
+    ensures refused { IfErr result (λ answer. answer ≡ 7) }
+{
+    let Ok(mut made) = Vec::with_capacity(alloc, classes.len()) else {
+        return Err(NO_MEMORY);
+    };
+    for class in classes {
+        let config = ClassConfig {
+            chunks: class.chunks,
+            hot: class.hot,
+            warm: class.warm,
+        };
+        let Ok(()) = made.push(config) else {
+            return Err(NO_MEMORY);
+        };
+    }
+    Ok(made)
+}
+
+// The configuration, or the number of its first fault or of want of memory.
+fn config_of(alloc: Global, numbers: &StoreNumbers, classes: &[ClassNumbers]) -> Result<Config, u32>
+    ensures made { IfOk result (λ config. IsConfigOf numbers.now classes.now config) }
+    ensures refused { IfErr result (λ answer. IsWhyNotOpened numbers.now classes.now answer) }
+{
+    let made = match classes_of(alloc, classes) {
+        Ok(made) => made,
+        Err(answer) => return Err(answer),
+    };
+    match Config::new(
+        numbers.workers,
+        numbers.capacity,
+        numbers.refs_limit,
+        numbers.first_generation,
+        made,
+    ) {
+        Ok(config) => Ok(config),
+        Err(fault) => Err(fault_number(fault)),
+    }
+}
+
+fn open_named<N: Name>(
+    alloc: Global,
+    blank: Blank,
+    config: &Config,
+    store: u64,
+    holds: u32,
+) -> Option<StoreSlot>
+    requires name { blank.table ≡ N.table }
+    requires one { IsOne N }
+    requires config { blank.config ≡ config.now }
+    ensures { IfSome result (λ slot. HasOpened store config.now holds slot.slot) }
+{
+    let Ok(opened) = open::<N>(alloc, blank, config, store, holds) else {
+        return None;
+    };
+    let Ok(opened) = Box::new(alloc, opened) else {
+        return None;
+    };
+    Some(StoreSlot::of_parts(Parts::of(opened)))
+}
+
+fn open_at(
+    alloc: Global,
+    blank: Blank,
+    config: &Config,
+    store: u64,
+    holds: u32,
+) -> Option<StoreSlot>
+    requires config { blank.config ≡ config.now }
+    ensures { IfSome result (λ slot. HasOpened store config.now holds slot.slot) }
+{
+    open_named::<Brand>(alloc, blank, config, store, holds)
+}
+
+/// Opens a store, and fills an empty slot with it. It answers 0, or the number of the configuration's first fault, or 7
+/// where memory was refused.
+#[unsafe(no_mangle)]
+pub extern "C" fn bump_open(
+    alloc: Global,
+    store: &mut StoreSlot,
+    config: &StoreNumbers,
+    classes: &[ClassNumbers],
+) -> u32
+    ensures opened { result ≡ 0 → (made : TheConfig) × IsConfigOf config.now classes.now made
+        × HasOpened config.now.store made config.now.holds store.new.slot }
+    ensures refused { 0 < result → IsWhyNotOpened config.now classes.now result }
+    ensures unchanged { 0 < result → store.new ≡ store.old }
+{
+    let made = match config_of(alloc, config, classes) {
+        Ok(made) => made,
+        Err(answer) => return answer,
+    };
+    let Ok(blank) = Blank::new(alloc, &made) else {
+        return NO_MEMORY;
+    };
+    match open_at(alloc, blank, &made, config.store, config.holds) {
+        Some(slot) => {
+            *store = slot;
+            0
+        }
+        None => NO_MEMORY,
+    }
+}
+
+fn take_worker_named<N: Name>(h: StoreHandle) -> (StoreHandle, Option<WorkerSlot>)
+    requires table { h.table ≡ N.table }
+    requires one { IsOne N }
+    ensures table { result.0.table ≡ h.table }
+    ensures one { IfSome result.1 (λ slot. map (λ s. s.0) slot.slot ≡ h.table ∷ []) }
+    ensures last { IfSome result.1 (λ slot. h.held.readers
+        ≡ result.0.held.readers ++ map (λ s. s.1) slot.slot) }
+    ensures none { IfNone result.1 (h.held.readers ≡ []) }
+{
+    let mut it = h.into_parts::<N>().into_box();
+    match it.reader() {
+        Some(taken) => (
+            StoreHandle::of_parts(Parts::of(it)),
+            Some(WorkerSlot::of_parts(Parts::of(taken))),
+        ),
+        None => (StoreHandle::of_parts(Parts::of(it)), None),
+    }
+}
+
+fn take_worker_at(h: StoreHandle) -> (StoreHandle, Option<WorkerSlot>)
+    ensures table { result.0.table ≡ h.table }
+    ensures one { IfSome result.1 (λ slot. map (λ s. s.0) slot.slot ≡ h.table ∷ []) }
+    ensures last { IfSome result.1 (λ slot. h.held.readers
+        ≡ result.0.held.readers ++ map (λ s. s.1) slot.slot) }
+    ensures none { IfNone result.1 (h.held.readers ≡ []) }
+{
+    take_worker_named::<Brand>(h)
+}
+
+/// Takes the last worker out that is left in the store, and fills an empty slot with it. `false`: none is left.
+#[unsafe(no_mangle)]
+pub extern "C" fn bump_take_worker(store: &mut StoreHandle, part: &mut WorkerSlot) -> bool
+    ensures table { store.new.table ≡ store.old.table }
+    ensures one { result ≡ true → map (λ s. s.0) part.new.slot ≡ store.old.table ∷ [] }
+    ensures last { result ≡ true → store.old.held.readers
+        ≡ store.new.held.readers ++ map (λ s. s.1) part.new.slot }
+    ensures none { result ≡ false → store.old.held.readers ≡ [] }
+    ensures unchanged { result ≡ false → part.new ≡ part.old }
+{
+    let taken = core::mem::replace_with(
+        store,
+        (),
+        |h: StoreHandle, _x: ()| -> (StoreHandle, Option<WorkerSlot>) { take_worker_at(h) },
+    );
+    match taken {
+        Some(slot) => {
+            *part = slot;
+            true
+        }
+        None => false,
+    }
+}
+
+fn take_book_named<N: Name>(h: StoreHandle) -> (StoreHandle, Option<BookSlot>)
+    requires table { h.table ≡ N.table }
+    requires one { IsOne N }
+    ensures table { result.0.table ≡ h.table }
+    ensures one { IfSome result.1 (λ slot. map (λ s. s.0) slot.slot ≡ h.table ∷ []) }
+    ensures last { IfSome result.1 (λ slot. h.held.books
+        ≡ result.0.held.books ++ map (λ s. s.1) slot.slot) }
+    ensures none { IfNone result.1 (h.held.books ≡ []) }
+{
+    let mut it = h.into_parts::<N>().into_box();
+    match it.book() {
+        Some(taken) => (
+            StoreHandle::of_parts(Parts::of(it)),
+            Some(BookSlot::of_parts(Parts::of(taken))),
+        ),
+        None => (StoreHandle::of_parts(Parts::of(it)), None),
+    }
+}
+
+fn take_book_at(h: StoreHandle) -> (StoreHandle, Option<BookSlot>)
+    ensures table { result.0.table ≡ h.table }
+    ensures one { IfSome result.1 (λ slot. map (λ s. s.0) slot.slot ≡ h.table ∷ []) }
+    ensures last { IfSome result.1 (λ slot. h.held.books
+        ≡ result.0.held.books ++ map (λ s. s.1) slot.slot) }
+    ensures none { IfNone result.1 (h.held.books ≡ []) }
+{
+    take_book_named::<Brand>(h)
+}
+
+/// Takes the last book out that is left in the store, and fills an empty slot with it. `false`: none is left.
+#[unsafe(no_mangle)]
+pub extern "C" fn bump_take_book(store: &mut StoreHandle, part: &mut BookSlot) -> bool
+    ensures table { store.new.table ≡ store.old.table }
+    ensures one { result ≡ true → map (λ s. s.0) part.new.slot ≡ store.old.table ∷ [] }
+    ensures last { result ≡ true → store.old.held.books
+        ≡ store.new.held.books ++ map (λ s. s.1) part.new.slot }
+    ensures none { result ≡ false → store.old.held.books ≡ [] }
+    ensures unchanged { result ≡ false → part.new ≡ part.old }
+{
+    let taken = core::mem::replace_with(
+        store,
+        (),
+        |h: StoreHandle, _x: ()| -> (StoreHandle, Option<BookSlot>) { take_book_at(h) },
+    );
+    match taken {
+        Some(slot) => {
+            *part = slot;
+            true
+        }
+        None => false,
+    }
+}
+
+fn take_lane_named<N: Name>(h: StoreHandle) -> (StoreHandle, Option<LaneSlot>)
+    requires table { h.table ≡ N.table }
+    requires one { IsOne N }
+    ensures table { result.0.table ≡ h.table }
+    ensures one { IfSome result.1 (λ slot. map (λ s. s.0) slot.slot ≡ h.table ∷ []) }
+    ensures last { IfSome result.1 (λ slot. h.held.lanes
+        ≡ result.0.held.lanes ++ map (λ s. s.1) slot.slot) }
+    ensures none { IfNone result.1 (h.held.lanes ≡ []) }
+{
+    let mut it = h.into_parts::<N>().into_box();
+    match it.lane() {
+        Some(taken) => (
+            StoreHandle::of_parts(Parts::of(it)),
+            Some(LaneSlot::of_parts(Parts::of(taken))),
+        ),
+        None => (StoreHandle::of_parts(Parts::of(it)), None),
+    }
+}
+
+fn take_lane_at(h: StoreHandle) -> (StoreHandle, Option<LaneSlot>)
+    ensures table { result.0.table ≡ h.table }
+    ensures one { IfSome result.1 (λ slot. map (λ s. s.0) slot.slot ≡ h.table ∷ []) }
+    ensures last { IfSome result.1 (λ slot. h.held.lanes
+        ≡ result.0.held.lanes ++ map (λ s. s.1) slot.slot) }
+    ensures none { IfNone result.1 (h.held.lanes ≡ []) }
+{
+    take_lane_named::<Brand>(h)
+}
+
+/// Takes the last lane out that is left in the store, and fills an empty slot with it. `false`: none is left.
+#[unsafe(no_mangle)]
+pub extern "C" fn bump_take_lane(store: &mut StoreHandle, part: &mut LaneSlot) -> bool
+    ensures table { store.new.table ≡ store.old.table }
+    ensures one { result ≡ true → map (λ s. s.0) part.new.slot ≡ store.old.table ∷ [] }
+    ensures last { result ≡ true → store.old.held.lanes
+        ≡ store.new.held.lanes ++ map (λ s. s.1) part.new.slot }
+    ensures none { result ≡ false → store.old.held.lanes ≡ [] }
+    ensures unchanged { result ≡ false → part.new ≡ part.old }
+{
+    let taken = core::mem::replace_with(
+        store,
+        (),
+        |h: StoreHandle, _x: ()| -> (StoreHandle, Option<LaneSlot>) { take_lane_at(h) },
+    );
+    match taken {
+        Some(slot) => {
+            *part = slot;
+            true
+        }
+        None => false,
+    }
+}
+
+fn close_named<N: Name>(h: StoreHandle)
+    requires table { h.table ≡ N.table }
+    requires one { IsOne N }
+{
+    drop(h.into_parts::<N>().into_box());
+}
+
+/// Ends what wasn't taken out of a store.
+#[unsafe(no_mangle)]
+pub extern "C" fn bump_close(store: StoreHandle) {
+    close_named::<Brand>(store);
+}

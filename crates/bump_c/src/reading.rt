@@ -1,0 +1,263 @@
+//! A worker's calls, of which none waits.
+ghost use Rattle.std.specs.Prelude.{◌≡◌};
+ghost use Rattle.bump_open.specs.Reading.{ReaderReleases};
+ghost use Rattle.bump_c.specs.Numbers.{counts_of};
+ghost use Rattle.bump_c.specs.One.{IsOne};
+ghost use Rattle.bump_c.specs.Tells.{TellsGet, TellsTouch, TellsLabel, TellsHit};
+
+use crate::answers::{
+    Counts, HitTold, Labelled, Touched, counts_told, hit_told, label_told, taken_number, touch_told,
+};
+use crate::worker_handle::WorkerHandle;
+use box_parts::Parts;
+use bump_open::Reader;
+use bump_readers::Name;
+use bump_rules::ItemId;
+use std::marker::Brand;
+
+#[inline(always)]
+fn tell_get<N: Name>(it: &mut Reader<N>, hold: u32, chunk: u32, generation: u32) -> u32
+    ensures { TellsGet hold chunk generation it.old it.new result }
+{
+    taken_number(it.get(hold, ItemId { chunk, generation }))
+}
+
+fn get_named<N: Name>(
+    h: WorkerHandle,
+    hold: u32,
+    chunk: u32,
+    generation: u32,
+) -> (WorkerHandle, u32)
+    requires table { h.table ≡ N.table }
+    requires one { IsOne N }
+    ensures table { result.0.table ≡ h.table }
+    ensures gets { TellsGet hold chunk generation h.held result.0.held result.1 }
+{
+    let mut it = h.into_parts::<N>().into_box();
+    let said = tell_get(&mut it, hold, chunk, generation);
+    (WorkerHandle::of_parts(Parts::of(it)), said)
+}
+
+fn get_at(h: WorkerHandle, hold: u32, chunk: u32, generation: u32) -> (WorkerHandle, u32)
+    ensures table { result.0.table ≡ h.table }
+    ensures gets { TellsGet hold chunk generation h.held result.0.held result.1 }
+{
+    get_named::<Brand>(h, hold, chunk, generation)
+}
+
+/// Takes a hold of an item, by the worker's hold of that number.
+#[unsafe(no_mangle)]
+pub extern "C" fn bump_get(worker: &mut WorkerHandle, hold: u32, chunk: u32, generation: u32) -> u32
+    ensures table { worker.new.table ≡ worker.old.table }
+    ensures gets { TellsGet hold chunk generation worker.old.held worker.new.held result }
+{
+    core::mem::replace_with(
+        worker,
+        (hold, chunk, generation),
+        |h: WorkerHandle, x: (u32, u32, u32)| -> (WorkerHandle, u32) { get_at(h, x.0, x.1, x.2) },
+    )
+}
+
+#[inline(always)]
+fn tell_touch<N: Name>(it: &mut Reader<N>, hold: u32, now: u64) -> Touched
+    ensures { TellsTouch hold now it.old it.new result }
+{
+    touch_told(it.touch(hold, now))
+}
+
+fn touch_named<N: Name>(h: WorkerHandle, hold: u32, now: u64) -> (WorkerHandle, Touched)
+    requires table { h.table ≡ N.table }
+    requires one { IsOne N }
+    ensures table { result.0.table ≡ h.table }
+    ensures touches { TellsTouch hold now h.held result.0.held result.1 }
+{
+    let mut it = h.into_parts::<N>().into_box();
+    let said = tell_touch(&mut it, hold, now);
+    (WorkerHandle::of_parts(Parts::of(it)), said)
+}
+
+fn touch_at(h: WorkerHandle, hold: u32, now: u64) -> (WorkerHandle, Touched)
+    ensures table { result.0.table ≡ h.table }
+    ensures touches { TellsTouch hold now h.held result.0.held result.1 }
+{
+    touch_named::<Brand>(h, hold, now)
+}
+
+/// A hit of the item that is held.
+#[unsafe(no_mangle)]
+pub extern "C" fn bump_touch(worker: &mut WorkerHandle, hold: u32, now: u64) -> Touched
+    ensures table { worker.new.table ≡ worker.old.table }
+    ensures touches { TellsTouch hold now worker.old.held worker.new.held result }
+{
+    core::mem::replace_with(
+        worker,
+        (hold, now),
+        |h: WorkerHandle, x: (u32, u64)| -> (WorkerHandle, Touched) { touch_at(h, x.0, x.1) },
+    )
+}
+
+#[inline(always)]
+fn tell_label<N: Name>(it: &mut Reader<N>, hold: u32) -> Labelled
+    ensures { TellsLabel hold it.old it.new result }
+{
+    label_told(it.label(hold))
+}
+
+fn label_named<N: Name>(h: WorkerHandle, hold: u32) -> (WorkerHandle, Labelled)
+    requires table { h.table ≡ N.table }
+    requires one { IsOne N }
+    ensures table { result.0.table ≡ h.table }
+    ensures reads { TellsLabel hold h.held result.0.held result.1 }
+{
+    let mut it = h.into_parts::<N>().into_box();
+    let said = tell_label(&mut it, hold);
+    (WorkerHandle::of_parts(Parts::of(it)), said)
+}
+
+fn label_at(h: WorkerHandle, hold: u32) -> (WorkerHandle, Labelled)
+    ensures table { result.0.table ≡ h.table }
+    ensures reads { TellsLabel hold h.held result.0.held result.1 }
+{
+    label_named::<Brand>(h, hold)
+}
+
+/// The label of the item that is held.
+#[unsafe(no_mangle)]
+pub extern "C" fn bump_label(worker: &mut WorkerHandle, hold: u32) -> Labelled
+    ensures table { worker.new.table ≡ worker.old.table }
+    ensures reads { TellsLabel hold worker.old.held worker.new.held result }
+{
+    core::mem::replace_with(
+        worker,
+        (hold,),
+        |h: WorkerHandle, x: (u32,)| -> (WorkerHandle, Labelled) { label_at(h, x.0) },
+    )
+}
+
+fn release_named<N: Name>(h: WorkerHandle, hold: u32) -> (WorkerHandle, bool)
+    requires table { h.table ≡ N.table }
+    requires one { IsOne N }
+    ensures table { result.0.table ≡ h.table }
+    ensures releases { ReaderReleases hold h.held result.0.held result.1 }
+{
+    let mut it = h.into_parts::<N>().into_box();
+    let said = it.release(hold);
+    (WorkerHandle::of_parts(Parts::of(it)), said)
+}
+
+fn release_at(h: WorkerHandle, hold: u32) -> (WorkerHandle, bool)
+    ensures table { result.0.table ≡ h.table }
+    ensures releases { ReaderReleases hold h.held result.0.held result.1 }
+{
+    release_named::<Brand>(h, hold)
+}
+
+/// Gives back what the hold holds, and tells whether there was something.
+#[unsafe(no_mangle)]
+pub extern "C" fn bump_release(worker: &mut WorkerHandle, hold: u32) -> bool
+    ensures table { worker.new.table ≡ worker.old.table }
+    ensures releases { ReaderReleases hold worker.old.held worker.new.held result }
+{
+    core::mem::replace_with(
+        worker,
+        (hold,),
+        |h: WorkerHandle, x: (u32,)| -> (WorkerHandle, bool) { release_at(h, x.0) },
+    )
+}
+
+#[inline(always)]
+fn tell_hit<N: Name>(it: &mut Reader<N>, chunk: u32, generation: u32, now: u64) -> HitTold
+    ensures { TellsHit chunk generation now it.old it.new result }
+{
+    hit_told(it.hit(ItemId { chunk, generation }, now))
+}
+
+fn hit_named<N: Name>(
+    h: WorkerHandle,
+    chunk: u32,
+    generation: u32,
+    now: u64,
+) -> (WorkerHandle, HitTold)
+    requires table { h.table ≡ N.table }
+    requires one { IsOne N }
+    ensures table { result.0.table ≡ h.table }
+    ensures hits { TellsHit chunk generation now h.held result.0.held result.1 }
+{
+    let mut it = h.into_parts::<N>().into_box();
+    let said = tell_hit(&mut it, chunk, generation, now);
+    (WorkerHandle::of_parts(Parts::of(it)), said)
+}
+
+fn hit_at(h: WorkerHandle, chunk: u32, generation: u32, now: u64) -> (WorkerHandle, HitTold)
+    ensures table { result.0.table ≡ h.table }
+    ensures hits { TellsHit chunk generation now h.held result.0.held result.1 }
+{
+    hit_named::<Brand>(h, chunk, generation, now)
+}
+
+/// A whole hit: an item is held, hit, its label read, and given back.
+#[unsafe(no_mangle)]
+pub extern "C" fn bump_hit(
+    worker: &mut WorkerHandle,
+    chunk: u32,
+    generation: u32,
+    now: u64,
+) -> HitTold
+    ensures table { worker.new.table ≡ worker.old.table }
+    ensures hits { TellsHit chunk generation now worker.old.held worker.new.held result }
+{
+    core::mem::replace_with(
+        worker,
+        (chunk, generation, now),
+        |h: WorkerHandle, x: (u32, u32, u64)| -> (WorkerHandle, HitTold) {
+            hit_at(h, x.0, x.1, x.2)
+        },
+    )
+}
+
+fn worker_counts_named<N: Name>(h: WorkerHandle) -> (WorkerHandle, Counts)
+    requires table { h.table ≡ N.table }
+    requires one { IsOne N }
+    ensures table { result.0.table ≡ h.table }
+    ensures held { result.0.held ≡ h.held }
+    ensures counts { result.1 ≡ counts_of h.held.worker.part.accounts }
+{
+    let it = h.into_parts::<N>().into_box();
+    let said = counts_told(it.counts());
+    (WorkerHandle::of_parts(Parts::of(it)), said)
+}
+
+fn worker_counts_at(h: WorkerHandle) -> (WorkerHandle, Counts)
+    ensures table { result.0.table ≡ h.table }
+    ensures held { result.0.held ≡ h.held }
+    ensures counts { result.1 ≡ counts_of h.held.worker.part.accounts }
+{
+    worker_counts_named::<Brand>(h)
+}
+
+/// The worker's counts.
+#[unsafe(no_mangle)]
+pub extern "C" fn bump_worker_counts(worker: &mut WorkerHandle) -> Counts
+    ensures table { worker.new.table ≡ worker.old.table }
+    ensures held { worker.new.held ≡ worker.old.held }
+    ensures counts { result ≡ counts_of worker.old.held.worker.part.accounts }
+{
+    core::mem::replace_with(
+        worker,
+        (),
+        |h: WorkerHandle, _x: ()| -> (WorkerHandle, Counts) { worker_counts_at(h) },
+    )
+}
+
+fn worker_free_named<N: Name>(h: WorkerHandle)
+    requires table { h.table ≡ N.table }
+    requires one { IsOne N }
+{
+    drop(h.into_parts::<N>().into_box());
+}
+
+/// Ends a worker, and gives back what it holds.
+#[unsafe(no_mangle)]
+pub extern "C" fn bump_worker_free(worker: WorkerHandle) {
+    worker_free_named::<Brand>(worker);
+}

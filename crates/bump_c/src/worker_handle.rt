@@ -1,0 +1,79 @@
+//! The handle by which C has a worker of any store, and the slot that it lies in.
+ghost use Rattle.std.specs.Prelude.{◌≡◌, List, [], ◌∷◌};
+ghost use Rattle.atomic_table.specs.Seated.{TableId, table_id_coded};
+ghost use Rattle.bump_open.specs.Views.{ReaderView};
+ghost use Rattle.bump_c.specs.One.{IsOne};
+ghost use Rattle.bump_c.specs.SealWorker.{worker_owns, worker_coded, worker_slot_owns, worker_slot_coded};
+
+use box_parts::Parts;
+use bump_heads::Name;
+use bump_open::Reader;
+use std::alloc::Global;
+use std::marker::Model;
+
+/// A worker of the store whose table this is.
+#[repr(C)]
+pub struct WorkerHandle {
+    ptr: *mut (),
+    alloc: Global,
+    pub ghost table: { TableId } by { table_id_coded },
+    pub ghost held: { ReaderView } by { worker_coded },
+}
+
+impl Model for WorkerHandle {
+    ghost also_owns = { λ h. worker_owns h.alloc h.ptr h.table h.held };
+}
+
+impl WorkerHandle {
+    pub(crate) fn of_parts<N: Name>(parts: Parts<Reader<N>, Global>) -> WorkerHandle
+        requires one { IsOne N }
+        ensures table { result.table ≡ N.table }
+        ensures held { result.held ≡ parts.value }
+    {
+        let Parts { ptr, alloc } = parts;
+        WorkerHandle {
+            ptr: ptr as *mut (),
+            alloc,
+        }
+    }
+
+    pub(crate) fn into_parts<N: Name>(self) -> Parts<Reader<N>, Global>
+        requires table { self.table ≡ N.table }
+        requires one { IsOne N }
+        ensures { result.value ≡ self.held }
+    {
+        let WorkerHandle { ptr, alloc } = self;
+        Parts {
+            ptr: ptr as *mut Reader<N>,
+            alloc,
+        }
+    }
+}
+
+/// What C passes to be filled: with nothing, or a worker and its store's table.
+#[repr(C)]
+#[derive(Drop)]
+pub struct WorkerSlot {
+    ptr: *mut (),
+    alloc: Global,
+    pub ghost slot: { List (TableId × ReaderView) } by { worker_slot_coded },
+}
+
+impl Model for WorkerSlot {
+    ghost also_owns = { λ s. worker_slot_owns s.alloc s.ptr s.slot };
+}
+
+impl WorkerSlot {
+    pub(crate) fn of_parts<N: Name>(parts: Parts<Reader<N>, Global>) -> WorkerSlot
+        requires one { IsOne N }
+        ensures { result.slot ≡ (N.table, parts.value) ∷ [] }
+    {
+        let Parts { ptr, alloc } = parts;
+        WorkerSlot {
+            ptr: ptr as *mut (),
+            alloc,
+        }
+    }
+}
+
+unsafe impl Send for WorkerHandle {}

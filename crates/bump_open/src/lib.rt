@@ -1,0 +1,13 @@
+//! A store for callers whose locks are their own: its workers with numbered holds, the Books of its classes, and its
+//! lanes, each a value that one thread has at a time, with the number of its store. No call waits.
+#![tactic(auto)]
+
+mod books;
+mod drainers;
+mod opening;
+mod readers;
+
+pub use books::TaggedBook;
+pub use drainers::{Drainer, NotClosed, RestState, Rested};
+pub use opening::{Opened, open};
+pub use readers::{Reader, Taken, WholeHit};
