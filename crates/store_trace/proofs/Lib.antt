@@ -1,4 +1,13 @@
+pub mod Beginnings
 pub mod DealtLanes
+pub mod EndedLines
+pub mod Endings
+pub mod LinesSaid
 pub mod ListedChunks
+pub mod NamedHolds
+pub mod NumberedTexts
+pub mod OpenStores
+pub mod RunText
+pub mod SlotCounts
 pub mod ToldText
 pub mod WholeRuns

@@ -5,7 +5,7 @@ use Rattle.bump_trace.specs.Reading.{IsOfReading, IsOfSize}
 use Rattle.bump_trace.specs.Runs.{most_bytes, IsUncalled}
 use Rattle.bump_trace.specs.declared.runs.SimFault.{SimFault}
 use Rattle.bump_trace.specs.declared.runs.SimFault.TheVariants as faults
-use Rattle.store_trace.specs.Runs.{TellsText, TellsTrace, StoppedBy}
+use Rattle.store_trace.specs.Runs.{Behind, TellsText, TellsTrace, StoppedBy}
 
 -- a writer that was not called keeps what it held
 kept : (held : Option (List ℕ)) → Keeps held held
@@ -24,26 +24,18 @@ unread_uncalled reads failed writes faults.Ring p none = tt
 unread_uncalled reads failed writes faults.Gate p none = tt
 
 -- where it could not be read, nothing was written
-pub unread_stopped : (had left held : Option (List ℕ)) (reads failed : ℕ) (e : SimFault) → IsOfReading reads failed e → IsOfSize had left e
-    → StoppedBy had left held held e
-unread_stopped had left held reads failed faults.Trace p long = absurd p
-unread_stopped had left held reads failed faults.Read p long = kept held
-unread_stopped had left held reads failed faults.Size p long = (kept held, long)
-unread_stopped had left held reads failed faults.Write p long = tt
-unread_stopped had left held reads failed faults.Memory p long = tt
-unread_stopped had left held reads failed faults.Threads p long = tt
-unread_stopped had left held reads failed faults.Ring p long = tt
-unread_stopped had left held reads failed faults.Gate p long = tt
+pub unread_stopped : (more : Behind) (had left held : Option (List ℕ)) (reads failed : ℕ) (e : SimFault) → IsOfReading reads failed e → IsOfSize had left e
+    → StoppedBy more had left held held e
+unread_stopped more had left held reads failed faults.Trace p long = absurd p
+unread_stopped more had left held reads failed faults.Read p long = kept held
+unread_stopped more had left held reads failed faults.Size p long = (kept held, long)
+unread_stopped more had left held reads failed faults.Write p long = tt
+unread_stopped more had left held reads failed faults.Memory p long = tt
+unread_stopped more had left held reads failed faults.Threads p long = tt
+unread_stopped more had left held reads failed faults.Ring p long = tt
+unread_stopped more had left held reads failed faults.Gate p long = tt
 
 -- a trace that was read whole, and its text
-pub whole_told : (had left held holds : Option (List ℕ)) (input : List ℕ) (is_fault : Bool) → Consumes had left input → IsAtEnd left
-    → length input ≤ most_bytes → TellsText held holds is_fault → TellsTrace had left held holds is_fault
-whole_told had left held holds input is_fault read end size told = record {
-  input = input;
-  read = read;
-  end = end;
-  size = size;
-  text = told.0;
-  wrote = told.1;
-  ends = told.2;
-}
+pub whole_told : (more : Behind) (had left held holds : Option (List ℕ)) (input : List ℕ) (is_fault : Bool) → Consumes had left input → IsAtEnd left
+    → length input ≤ most_bytes → TellsText more held holds input is_fault → TellsTrace more had left held holds is_fault
+whole_told more had left held holds input is_fault read end size told = record { input = input; read = read; end = end; size = size; told = told }

@@ -1,7 +1,13 @@
-pub mod Runs
 pub mod Slots
 pub mod Dealing
 pub mod Jobs
 pub mod Totals
+pub mod Stops
+pub mod Settled
+pub mod NamedHolds
+pub mod Endings
+pub mod WholeLines
+pub mod OpenStores
 pub mod Reports
+pub mod Runs
 pub mod Gates

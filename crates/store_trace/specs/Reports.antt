@@ -1,9 +1,16 @@
 -- The lines of the report of a run with threads.
-use Rattle.std.specs.Prelude.{ℕ, List, [], ◌++◌, codes, decimal, if◌then◌else◌}
-use Rattle.bump_rules.specs.declared.places.Place.{Place}
+use Rattle.std.specs.Prelude.{◌≡◌, ℕ, ◌+◌, List, [], ◌∷◌, ◌++◌, length, map, All, Option, None, Some, codes, decimal}
+use Rattle.std.specs.Prelude.{if◌then◌else◌}
+use Rattle.bump_class.specs.Lanes.{entries}
+use Rattle.bump_rules.specs.declared.configs.Config.{Config}
 use Rattle.bump_rules.specs.declared.places.Place.TheVariants as place
+use Rattle.bump_store.specs.Finishing.{AreOfClasses, sum_of}
+use Rattle.bump_store.specs.Workers.{WorkerState}
+use Rattle.bump_store.specs.Lanes.{LaneState}
 use Rattle.bump_store.specs.declared.finishing.ClassSizes.{ClassSizes}
-use Rattle.trace_lines.specs.Text.{is_shown}
+use Rattle.bump_store.specs.declared.settling.Settled.{Settled}
+use Rattle.trace_lines.specs.Text.{is_shown, accounts_line, moves_line}
+use Rattle.store_trace.specs.Settled.{IsSettled}
 use Rattle.store_trace.specs.declared.totals.Totals.{Totals}
 
 -- total first A already B marked C
@@ -45,3 +52,40 @@ ended_text sizes =
 -- all in one line, and what is in TEMP
 abbrev pub sizes_line : ℕ → ClassSizes → List ℕ
 sizes_line class sizes = segments_text class sizes ++ ended_text sizes ++ temp_text sizes ++ codes "\n"
+
+-- a text for each of a list, numbered from n on
+abbrev pub numbered_text : {A : Type 0} → (ℕ → A → List ℕ) → ℕ → List A → List ℕ
+numbered_text text n [] = []
+numbered_text text n (x ∷ xs) = text n x ++ numbered_text text (n + 1) xs
+
+-- what is told of a worker
+abbrev pub worker_line : ℕ → Settled → List ℕ
+worker_line worker told = accounts_line worker told.counts told.applied
+
+-- how many moves for bumps a class has, of each worker
+abbrev pub moves_lines : ℕ → List ℕ → List ℕ
+moves_lines class counts = numbered_text (moves_line class) 0 counts
+
+-- what is told of an open worker, or of one that was settled
+abbrev pub told_by : Option WorkerState → LaneState → Settled → Settled
+told_by None lane settled = settled
+told_by (Some worker) lane settled = record { counts = worker.part.accounts; applied = length (entries lane.lane) }
+
+-- for each class, how many moves there were for each worker's bumps
+pub record AreMoves (config : Config) (moves : List (List ℕ)) : Type 0 where
+  pub classes : length moves ≡ length config.classes
+  pub workers : All (λ counts. length counts ≡ config.workers) moves
+
+-- The report of a run on a store of this configuration, behind whose `get` lines stand these totals: a line of each
+-- worker, once it was settled; that of the totals; those of the moves of each class; and one of the sizes of each.
+pub record IsReport (config : Config) (totals : Totals) (text : List ℕ) : Type 0 where
+  pub workers : List Settled
+  pub moves : List (List ℕ)
+  pub sizes : List ClassSizes
+  pub lines : text ≡ numbered_text worker_line 0 workers ++ total_line totals ++ numbered_text moves_lines 0 moves
+      ++ numbered_text sizes_line 0 sizes
+  pub each : length workers ≡ config.workers
+  pub settled : All IsSettled workers
+  pub moved : AreMoves config moves
+  pub of_classes : AreOfClasses config.classes sizes
+  pub sums : map sum_of sizes ≡ map (λ class. class.chunks) config.classes

@@ -1,0 +1,16 @@
+use Rattle.std.proofs.Common.{sym, ap, ◌∙◌}
+use Rattle.std.specs.Prelude.{is_some}
+use Rattle.bump_rules.specs.declared.commands.Answer.TheVariants as answer
+use Rattle.store_trace.specs.OpenStores.{seen}
+use Rattle.store_trace.proofs.EndedLines.{line_behind, read_ends}
+use Rattle.store_trace.proofs.OpenStores.{read_found, read_unbound}
+use Rattle.store_trace.proofs.open_store.OpenStore.read.Goals as goal
+
+pub returns-in_default-clause-fault : goal.returns-in_default-clause-fault
+returns-in_default-clause-fault g c = read_unbound (seen c.args.self.now) c.args.hold_name.now (sym c.label.ensures.found ∙ ap is_some c.in_default.is)
+
+pub returns-clause-fault : goal.returns-clause-fault
+returns-clause-fault g c = read_found (seen c.args.self.now) c.args.hold_name.now (sym c.label.ensures.found ∙ ap is_some c.in-Some.is)
+
+pub returns-clause-lines : goal.returns-clause-lines
+returns-clause-lines g c = λ before. line_behind c.args.out.now.items _ c.put_read.new.out.items (read_ends c.args.hold_name.now (answer.Label c.in-Some.label)) c.in_ok-put_read.ensures

@@ -1,0 +1,64 @@
+use Rattle.std.proofs.Common.{◌≡◌, ℕ, ◌++◌, List, None, length, map, sym, ap, ◌∙◌, subst, append_assoc, refl}
+use Rattle.std.specs.List.{All}
+use Rattle.std.proofs.lemmas.List.{length-map}
+use Rattle.std.proofs.lemmas.List.Elements.{All-map, All-same, All-weaker}
+use Rattle.bump_rules.specs.declared.configs.Config.{Config}
+use Rattle.bump_store.specs.Finishing.{AreOfClasses, sum_of}
+use Rattle.bump_store.specs.declared.finishing.ClassSizes.{ClassSizes}
+use Rattle.store_trace.specs.Reports.{numbered_text, worker_line, total_line, moves_lines, sizes_line, told_by, AreMoves, IsReport}
+use Rattle.store_trace.specs.Settled.{IsSettled}
+use Rattle.store_trace.specs.declared.pairs.Pair.{Pair}
+use Rattle.store_trace.specs.declared.totals.Totals.{Totals}
+use Rattle.store_trace.proofs.reports.put_report.Goals as goal
+
+-- four texts, one behind the other
+behind_each_other : (old w t m s one two three four : List ℕ) → one ≡ old ++ w → two ≡ one ++ t → three ≡ two ++ m → four ≡ three ++ s
+    → four ≡ old ++ (w ++ t ++ m ++ s)
+behind_each_other old w t m s one two three four is_one is_two is_three is_four =
+    is_four ∙ ap (λ (xs : List ℕ). xs ++ s) (is_three ∙ ap (λ (xs : List ℕ). xs ++ m) (is_two ∙ ap (λ (xs : List ℕ). xs ++ t) is_one))
+    ∙ simp append_assoc
+
+module _ {N : Type 0} (pairs : List (Pair N)) (closed : All (λ (pair : Pair N). pair.worker ≡ None) pairs) where
+  -- of workers that were closed it is told what they came to
+  all_settled : All IsSettled (map (λ (pair : Pair N). told_by pair.worker pair.lane pair.settled) pairs)
+  all_settled =
+      All-map IsSettled (λ (pair : Pair N). told_by pair.worker pair.lane pair.settled) pairs
+      (All-weaker (λ (pair : Pair N). pair.worker ≡ None) (λ (pair : Pair N). IsSettled (told_by pair.worker pair.lane pair.settled))
+      (λ pair none. subst (λ worker. IsSettled (told_by worker pair.lane pair.settled)) (sym none) pair.adds_up) pairs closed)
+
+  -- the report, by its parts
+  reported : (config : Config) (totals : Totals) (moves : List (List ℕ)) (sizes : List ClassSizes) → length pairs ≡ config.workers
+      → AreMoves config moves → AreOfClasses config.classes sizes → map sum_of sizes ≡ map (λ class. class.chunks) config.classes
+      → IsReport config totals (numbered_text worker_line 0 (map (λ (pair : Pair N). told_by pair.worker pair.lane pair.settled) pairs)
+      ++ total_line totals ++ numbered_text moves_lines 0 moves ++ numbered_text sizes_line 0 sizes)
+  reported config totals moves sizes each moved of_classes sums = record {
+    workers = map (λ (pair : Pair N). told_by pair.worker pair.lane pair.settled) pairs;
+    moves = moves;
+    sizes = sizes;
+    lines = refl;
+    each = length-map pairs (λ (pair : Pair N). told_by pair.worker pair.lane pair.settled) ∙ each;
+    settled = all_settled;
+    moved = moved;
+    of_classes = of_classes;
+    sums = sums;
+  }
+
+pub returns : goal.returns
+returns g c =
+    let pairs = c.deref.result.now in
+    let (moves, moved, is_three) = c.in_ok-put_all_moves.ensures in
+    let sizes = c.in-Ok.all.items in
+    let closed : All (λ (pair : Pair g.row.N.Denot). pair.worker ≡ None) pairs =
+    All-same (λ (pair : Pair g.row.N.Denot). pair.worker ≡ None) pairs c.settle_all.new.pairs.items c.deref.ensures.value c.in_ok-_applied.ensures.closed in
+    record {
+      report = (
+        _,
+        reported pairs closed c.args.store c.args.totals moves sizes (ap length c.deref.ensures.value ∙ c.settle_all.ensures.count ∙ c.requires.workers)
+            moved c.in-Ok.ensures.books c.in-Ok.ensures.sums,
+        behind_each_other c.args.out.now.items (numbered_text worker_line 0 (map (λ (pair : Pair g.row.N.Denot). told_by pair.worker pair.lane pair.settled) pairs))
+            (total_line c.args.totals) (numbered_text moves_lines 0 moves) (numbered_text sizes_line 0 sizes)
+            c.put_workers.new.out.items c.put_total.new.out.items c.put_all_moves.new.out.items c.put_all_sizes.new.out.items
+            c.in_ok-put_workers.ensures c.in_ok-put_total.ensures is_three
+            (c.in_ok-put_all_sizes.ensures ∙ ap (λ (xs : List ClassSizes). c.put_all_moves.new.out.items ++ numbered_text sizes_line 0 xs) c.deref-2.ensures.value),
+      );
+    }
