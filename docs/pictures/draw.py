@@ -90,23 +90,26 @@ def chunk():
 
 
 def crates():
-    at = {"bump_links": (330, 540), "bump_rules": (330, 480), "bump_state": (60, 400), "bump_core": (60, 320),
-          "bump_word": (620, 420), "bump_steps": (620, 360), "bump_readers": (620, 300), "bump_heads": (520, 240),
-          "bump_ring": (720, 240), "bump_class": (620, 180), "bump_store": (620, 120), "trace_lines": (330, 400),
-          "bump_trace": (200, 240), "store_trace": (330, 120), "bumpsim": (330, 50)}
+    at = {"bump_links": (330, 600), "bump_rules": (330, 540), "bump_state": (60, 460), "bump_core": (60, 380),
+          "bump_word": (620, 480), "bump_steps": (620, 420), "bump_readers": (620, 360), "bump_heads": (520, 300),
+          "bump_ring": (720, 300), "bump_class": (620, 240), "bump_store": (620, 180), "bump_open": (620, 120),
+          "bump_c": (620, 60), "box_parts": (760, 120), "trace_lines": (330, 460), "bump_trace": (200, 300),
+          "store_trace": (330, 180), "bumpsim": (330, 110)}
     down = [("bump_rules", "bump_links"), ("bump_state", "bump_rules"), ("bump_core", "bump_state"),
             ("bump_word", "bump_rules"), ("bump_steps", "bump_word"), ("bump_readers", "bump_steps"),
             ("bump_heads", "bump_readers"), ("bump_ring", "bump_readers"), ("bump_class", "bump_heads"),
-            ("bump_class", "bump_ring"), ("bump_store", "bump_class"), ("trace_lines", "bump_rules"),
+            ("bump_class", "bump_ring"), ("bump_store", "bump_class"), ("bump_open", "bump_store"),
+            ("bump_c", "bump_open"), ("bump_c", "box_parts"), ("trace_lines", "bump_rules"),
             ("bump_trace", "trace_lines"), ("bump_trace", "bump_core"), ("store_trace", "bump_trace"),
             ("bumpsim", "store_trace")]
-    used = {"bump_core", "bump_store", "bumpsim", "bump_links"}
+    used = {"bump_core", "bump_store", "bump_c", "bumpsim", "bump_links"}
     boxes = [(x, y, 130, name, MOVE if name in used else STEP) for name, (x, y) in at.items()]
     arrows = [([(at[a][0] + 65, at[a][1] + 33), (at[b][0] + 65, at[b][1])], "", None) for a, b in down]
-    arrows.append(([(460, 136), (620, 136)], "", None))
-    titles = [(20, 28, "Who stands on whom: an arrow goes to what is below"), (60, 300, "the World"),
-              (620, 100, "the running store"), (500, 60, "the program"), (500, 556, "lists of indices")]
-    draw("crates", 900, 590, titles, boxes, arrows)
+    arrows.append(([(460, 196), (620, 196)], "", None))
+    titles = [(20, 28, "Who stands on whom: an arrow goes to what is below"), (60, 360, "the World"),
+              (765, 201, "the running store"), (765, 81, "from C"), (475, 131, "the program"),
+              (475, 621, "lists of indices")]
+    draw("crates", 930, 650, titles, boxes, arrows)
 
 
 hit()

@@ -73,7 +73,8 @@ TraceEnds input end = EndsAt 1 (parts_of input) Before end
 
 -- Whatever lines come to from a later line on, they come to from the first one on.
 abbrev pub Goes : ℕ → List (List ℕ) → Stage → ℕ → List (List ℕ) → Stage → Type 0
-Goes number lines stage later rest reached = (end : Ending) → EndsAt later rest reached end → EndsAt number lines stage end
+Goes number lines stage later rest reached =
+    (end : Ending) → EndsAt later rest reached end → EndsAt number lines stage end
 
 -- Lines end at one of them, as it was told that it wasn't run. For want of memory nothing is known.
 abbrev pub StopsAs : ℕ → List (List ℕ) → Stage → ℕ → LineError → Type 0
