@@ -25,7 +25,7 @@ use std::time::Instant;
 use words::{ItemId, lives};
 use workers::{Dropped, Store, Touch, Worker};
 
-/// What each touch of a pass comes to.
+/// What each hit of a pass comes to: an answer of its touch, or that it asks first, and finds both marks.
 #[derive(Clone, Copy)]
 enum Answer {
     First,
@@ -33,6 +33,7 @@ enum Answer {
     Marked,
     Queued,
     Full,
+    Asked,
 }
 
 /// One of the answers: the loop that wants it is compiled for it alone, as each caller of a touch has code of its own.
@@ -116,6 +117,32 @@ fn hits<W: Wanted>(store: &Store, worker: &mut Worker, items: &[ItemId], rounds:
     Tally { refused, right, labels }
 }
 
+/// Each hit asks first whether the item has both marks, and touches it only where it hasn't. An item that has them is wanted.
+#[inline(never)]
+fn asked_hits(store: &Store, worker: &mut Worker, items: &[ItemId], rounds: u32) -> Tally {
+    let mut refused: u64 = 0;
+    let mut right: u64 = 0;
+    let mut labels: u64 = 0;
+    for _ in 0..rounds {
+        for &item in items {
+            match worker.get(store, item) {
+                Ok(mut hold) => {
+                    if hold.is_marked(store) {
+                        right = right.wrapping_add(1);
+                    } else {
+                        worker.touch(store, &mut hold, 5);
+                    }
+                    let label = hold.label(store);
+                    hold.release(store);
+                    labels = labels.wrapping_add(label);
+                }
+                Err(_) => refused = one_more(refused),
+            }
+        }
+    }
+    Tally { refused, right, labels }
+}
+
 /// Its name is what callgrind is told to count.
 #[inline(never)]
 fn timed_pass(store: &Store, worker: &mut Worker, items: &[ItemId], rounds: u32, wanted: Option<Answer>) -> Tally {
@@ -125,6 +152,7 @@ fn timed_pass(store: &Store, worker: &mut Worker, items: &[ItemId], rounds: u32,
         Some(Answer::Marked) => hits::<Marked>(store, worker, items, rounds),
         Some(Answer::Queued) => hits::<Queued>(store, worker, items, rounds),
         Some(Answer::Full) => hits::<Full>(store, worker, items, rounds),
+        Some(Answer::Asked) => asked_hits(store, worker, items, rounds),
         None => gets(store, worker, items, rounds),
     }
 }
@@ -143,12 +171,17 @@ fn timed_drain(classes: &Classes, lane: &mut Lane) -> Tally {
     Tally { refused: 0, right, labels }
 }
 
+/// How many chunks that nobody hits are on each side of items that all threads share: so their cache lines have nothing else that is used meanwhile.
+const MARGIN: u32 = 16;
+
 #[derive(Clone, Copy)]
 struct Workload {
     name: &'static str,
     threads: u32,
     items: u32,
     cold: bool,
+    /// Whether all threads have the same items, in place of items of their own.
+    shared: bool,
     capacity: u32,
     touches: u32,
     /// Whether each ring is filled with the bumps of the items and drained before the pass.
@@ -164,6 +197,7 @@ const GET: Workload = Workload {
     threads: 1,
     items: 1_024,
     cold: false,
+    shared: false,
     capacity: 1,
     touches: 0,
     warm: false,
@@ -173,6 +207,14 @@ const GET: Workload = Workload {
 };
 
 const HIT: Workload = Workload { name: "store_hit", touches: 2, wanted: Some(Answer::Already), ..GET };
+
+/// Each of these hits asks first, and leaves out its touch.
+const HIT_ASKED: Workload = Workload { name: "store_hit_asked", wanted: Some(Answer::Asked), ..HIT };
+
+/// One item, which all threads hit.
+const HOT: Workload = Workload { name: "store_hot", items: 1, shared: true, rounds: 65_536, ..HIT };
+
+const HOT_ASKED: Workload = Workload { name: "store_hot_asked", wanted: Some(Answer::Asked), ..HOT };
 
 const FIRST: Workload = Workload { name: "store_first", items: 8_192, wanted: Some(Answer::First), rounds: 1, ..GET };
 
@@ -193,10 +235,22 @@ const FULL: Workload =
 /// The second hit of each item has queued its bump.
 const DRAINED: Workload = Workload { name: "store_drained", touches: 2, warm: false, drained: true, ..QUEUED };
 
+impl Workload {
+    /// How many chunks the store has.
+    fn chunks(self) -> u32 {
+        if self.shared { self.items + 2 * MARGIN } else { self.items * self.threads }
+    }
+
+    /// The items of a thread.
+    fn items_of(self, thread: u32) -> Vec<ItemId> {
+        lives(if self.shared { MARGIN } else { thread * self.items }, self.items)
+    }
+}
+
 /// Each on 1, 2 and 4 threads, bumps that are applied, and hits in stores of two sizes.
 fn workloads() -> Vec<Workload> {
     let mut all = Vec::new();
-    for workload in [GET, HIT, FIRST, MARKED, QUEUED, FULL] {
+    for workload in [GET, HIT, HIT_ASKED, HOT, HOT_ASKED, FIRST, MARKED, QUEUED, FULL] {
         for threads in [1, 2, 4] {
             all.push(Workload { threads, ..workload });
         }
@@ -221,8 +275,7 @@ fn warm_ring(store: &Store, worker: &mut Worker, receiver: &mut Receiver, items:
 }
 
 /// What one worker's thread does. It ends with the worker's ring.
-fn work(store: &Store, mut worker: Worker, mut receiver: Receiver, first: u32, workload: Workload, start: &Start) -> (u64, Tally) {
-    let items = lives(first, workload.items);
+fn work(store: &Store, mut worker: Worker, mut receiver: Receiver, items: Vec<ItemId>, workload: Workload, start: &Start) -> (u64, Tally) {
     if workload.touches > 0 {
         hits::<First>(store, &mut worker, &items, workload.touches);
     }
@@ -255,11 +308,11 @@ fn pass(workload: Workload) -> (u64, Tally) {
     if workload.drained {
         return drained(workload);
     }
-    let Workload { threads, items, cold, capacity, .. } = workload;
-    let (store, workers, receivers) = Store::new(items * threads, cold, threads, capacity);
+    let Workload { threads, cold, capacity, .. } = workload;
+    let (store, workers, receivers) = Store::new(workload.chunks(), cold, threads, capacity);
     let ends = workers.into_iter().zip(receivers).zip(0..threads).collect();
     work_apart(ends, |((worker, receiver), number), start| {
-        work(&store, worker, receiver, number * items, workload, start)
+        work(&store, worker, receiver, workload.items_of(number), workload, start)
     })
 }
 

@@ -187,6 +187,13 @@ impl Worker {
 }
 
 impl Hold {
+    /// Whether the item has both marks, by one load.
+    #[inline]
+    pub fn is_marked(&mut self, store: &Store) -> bool {
+        let word = store.chunk(self.life).head.load(SeqCst);
+        word & (FETCHED | ACTIVE) == FETCHED | ACTIVE
+    }
+
     #[inline]
     pub fn label(&mut self, store: &Store) -> u64 {
         store.chunk(self.life).label.load(SeqCst)

@@ -4,7 +4,7 @@ use bump_readers::{Name, ReaderHeads};
 use bump_rules::{Dropped, ItemId, Touch};
 use bump_store::Worker;
 
-/// What each touch of a pass comes to.
+/// What each hit of a pass comes to: an answer of its touch, or that it asks first, and finds both marks.
 #[derive(Clone, Copy)]
 pub enum Answer {
     First,
@@ -12,6 +12,7 @@ pub enum Answer {
     Marked,
     Queued,
     Full,
+    Asked,
 }
 
 /// One of the answers: the loop that wants it is compiled for it alone, as each caller of a touch has code of its own.
@@ -115,6 +116,42 @@ fn hits<W: Wanted, N: Name>(
     }
 }
 
+// The same, but each hit asks first whether the item has both marks, and touches it only where it hasn't. An item that
+// has them is wanted.
+#[inline(never)]
+fn asked_hits<N: Name>(
+    heads: &ReaderHeads<N>,
+    worker: &mut Worker<N>,
+    items: &[ItemId],
+    rounds: u32,
+) -> Tally {
+    let mut refused: u64 = 0;
+    let mut right: u64 = 0;
+    let mut labels: u64 = 0;
+    for _round in 0..rounds {
+        for item in items {
+            match worker.get(heads, *item) {
+                Ok(mut hold) => {
+                    if hold.is_marked(heads) {
+                        right = right.wrapping_add(1);
+                    } else {
+                        worker.touch(heads, &mut hold, 5);
+                    }
+                    let label = hold.label(heads);
+                    hold.release(heads);
+                    labels = labels.wrapping_add(label);
+                }
+                Err(_) => refused = one_more(refused),
+            }
+        }
+    }
+    Tally {
+        refused,
+        right,
+        labels,
+    }
+}
+
 /// Hits each item so often: the first hit sets FETCHED, and the second one in HOT sets ACTIVE.
 pub fn touch_all<N: Name>(
     heads: &ReaderHeads<N>,
@@ -140,6 +177,7 @@ pub fn timed_pass<N: Name>(
         Some(Answer::Marked) => hits::<Marked, N>(heads, worker, items, rounds),
         Some(Answer::Queued) => hits::<Queued, N>(heads, worker, items, rounds),
         Some(Answer::Full) => hits::<Full, N>(heads, worker, items, rounds),
+        Some(Answer::Asked) => asked_hits(heads, worker, items, rounds),
         None => gets(heads, worker, items, rounds),
     }
 }

@@ -4,16 +4,23 @@ use crate::stores::lives;
 use bump_rules::ItemId;
 use std::alloc::{AllocError, Global};
 
-/// A workload: each thread has a worker, and hits items of its own.
+// How many chunks that nobody hits are on each side of items that all threads share: so their cache lines have nothing
+// else that is used meanwhile.
+const MARGIN: u32 = 16;
+
+/// A workload: each thread has a worker, and hits items of its own, or those that all threads share.
 #[derive(Clone, Copy)]
 pub struct Reads {
     pub name: &'static str,
 
-    /// How many threads there are, and how many items each of them has: 1 to 1,000,000 together, and as many chunks.
-    /// And whether all stand in COLD.
+    /// How many threads there are, and how many items each of them has: 1 to 1,000,000 together. And whether all stand
+    /// in COLD.
     pub threads: u32,
     pub items: u32,
     pub cold: bool,
+
+    /// Whether all threads have the same items, in place of items of their own.
+    pub shared: bool,
 
     /// For how many bumps each worker's ring has room, 1 or more.
     pub capacity: u32,
@@ -40,6 +47,7 @@ const GET: Reads = Reads {
     threads: 1,
     items: 1_024,
     cold: false,
+    shared: false,
     capacity: 1,
     touches: 0,
     warm: false,
@@ -53,6 +61,28 @@ const HIT: Reads = Reads {
     touches: 2,
     wanted: Some(Answer::Already),
     ..GET
+};
+
+// Each of these hits asks first, and leaves out its touch.
+const HIT_ASKED: Reads = Reads {
+    name: "store_hit_asked",
+    wanted: Some(Answer::Asked),
+    ..HIT
+};
+
+// One item, which all threads hit.
+const HOT: Reads = Reads {
+    name: "store_hot",
+    items: 1,
+    shared: true,
+    rounds: 65_536,
+    ..HIT
+};
+
+const HOT_ASKED: Reads = Reads {
+    name: "store_hot_asked",
+    wanted: Some(Answer::Asked),
+    ..HOT
 };
 
 const FIRST: Reads = Reads {
@@ -99,7 +129,9 @@ const DRAINED: Reads = Reads {
 };
 
 /// Those that are measured on each of these numbers of threads.
-pub const APART: [Reads; 6] = [GET, HIT, FIRST, MARKED, QUEUED, FULL];
+pub const APART: [Reads; 9] = [
+    GET, HIT, HIT_ASKED, HOT, HOT_ASKED, FIRST, MARKED, QUEUED, FULL,
+];
 
 pub const THREADS: [u32; 3] = [1, 2, 4];
 
@@ -126,8 +158,22 @@ impl Reads {
         Reads { threads, ..self }
     }
 
+    /// How many chunks the store has: an item is linked in each.
+    pub fn chunks(self) -> u32 {
+        if self.shared {
+            self.items.wrapping_add(2 * MARGIN)
+        } else {
+            self.items.wrapping_mul(self.threads)
+        }
+    }
+
     /// The items of a thread.
     pub fn items_of(self, alloc: Global, thread: u32) -> Result<Vec<ItemId>, AllocError> {
-        lives(alloc, thread.wrapping_mul(self.items), self.items)
+        let first = if self.shared {
+            MARGIN
+        } else {
+            thread.wrapping_mul(self.items)
+        };
+        lives(alloc, first, self.items)
     }
 }

@@ -55,7 +55,7 @@ impl Work {
         match self {
             Work::Reads(reads) => Some(Shape::full(
                 1,
-                reads.items.wrapping_mul(reads.threads),
+                reads.chunks(),
                 reads.threads,
                 reads.capacity,
                 reads.cold,

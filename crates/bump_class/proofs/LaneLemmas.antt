@@ -1,5 +1,5 @@
 -- What a lane keeps when the next bump goes aboard, and when the bump aboard is applied.
-use Rattle.std.proofs.Common.{◌≡◌, ℕ, suc, ◌+◌, ◌<◌, ◌==◌, true, false, List, [], ◌∷◌, ◌++◌, length, map, slice_get, inl, inr, Option, None, Some, IfSome, refl, sym, ap, ◌∙◌, subst, arith, eqb-true}
+use Rattle.std.proofs.Common.{◌≡◌, ℕ, suc, ◌+◌, ◌<◌, ◌==◌, Bool, true, false, List, [], ◌∷◌, ◌++◌, length, map, slice_get, inl, inr, Option, None, Some, IfSome, IsSome, refl, sym, ap, ◌∙◌, subst, arith, eqb-true}
 use Rattle.std.specs.Prelude.{option_map}
 use Rattle.std.proofs.lemmas.Bool.{and_parts}
 use Rattle.std.proofs.lemmas.List.{append-nil, map-append, length-append, length-map}
@@ -21,7 +21,7 @@ use Rattle.bump_steps.specs.Riders.{lane_after_board, bump_of_ride, applied_by}
 use Rattle.bump_steps.specs.Views.{bump_aboard, owns}
 use Rattle.bump_heads.specs.Applying.{carried_by, TellsMoves, is_own}
 use Rattle.bump_heads.specs.Seats.{aboard_lane}
-use Rattle.bump_class.specs.Lanes.{KeepsLane, IsRawLane, part_or, lives}
+use Rattle.bump_class.specs.Lanes.{KeepsLane, IsRawLane, part_or, lives, kept_aboard}
 use Rattle.bump_class.specs.Applications.{FoundHeads, lane_after_update, EachMoveIsTold}
 
 -- a numbered list is as long as its lives
@@ -50,6 +50,18 @@ pub carried_part : (o : Option LanePart) (b : Bump) → carried_by o ≡ Some b 
 carried_part None b is = absurd (cc is)
 carried_part (Some l) b is = is
 
+-- and of the seat itself, which is whole
+pub carried_seat : (o : Option LanePart) (v n : ℕ) (rs : List Ride) (b : Bump) → KeepsLane o v n rs
+    → carried (part_or o).stage ≡ Some b → carried_by o ≡ Some b
+carried_seat None v n rs b keeps is = absurd (cc keeps.whole)
+carried_seat (Some l) v n rs b keeps is = is
+
+-- a lane that keeps a bump aboard says so, and keeps this one
+pub kept_where : (o : Option Bump) (b : Bool) (n : ℕ) (l : ItemId) → o ≡ kept_aboard b n l → IsSome o
+    → (b ≡ true) × (o ≡ Some (record { number = n; life = l }))
+kept_where o true n l is some = (refl, is)
+kept_where o false n l is some = absurd (cc (subst IsSome is some))
+
 -- one more bump than a lane applied has a number
 pub few_aboard : (o : Option LanePart) (v n : ℕ) (rs : List Ride) (b : Bump) → KeepsLane o v n rs
     → carried_by o ≡ Some b → n < most_attempts
@@ -63,6 +75,19 @@ none_aboard (lane.Carrying d) is = absurd (cc is)
 none_aboard (lane.Tried d) is = absurd (cc is)
 none_aboard (lane.Cleared d f) is = absurd (cc is)
 none_aboard (lane.Moved d) is = absurd (cc is)
+
+-- a lane at rest that carries none has none aboard
+pub none_carried : (o : Option LanePart) (v n : ℕ) (rs : List Ride) → KeepsLane o v n rs
+    → carried (part_or o).stage ≡ None → aboard_lane o ≡ None
+none_carried None v n rs keeps none = refl
+none_carried (Some l) v n rs keeps none = by l.stage keeps.lane.at_rest none
+  where
+    by : (s : Lane) → is_half_made s ≡ false → carried s ≡ None → bump_aboard s ≡ None
+    by lane.Empty rests none = refl
+    by (lane.Carrying d) rests none = absurd (cc none)
+    by (lane.Tried d) rests none = absurd (cc rests)
+    by (lane.Cleared d f) rests none = absurd (cc rests)
+    by (lane.Moved d) rests none = absurd (cc rests)
 
 -- then the number of the next bump is that of the bumps applied
 next_is : (l : LanePart) (rs : List Ride) → map bump_applied l.applied ++ aboard l.stage ≡ numbered_from 0 (lives rs)
@@ -81,6 +106,18 @@ pub next_number : (o : Option LanePart) (v n : ℕ) (rs : List Ride) → KeepsLa
     → length (applied_by o) ≡ length rs
 next_number None v n rs keeps is = absurd (cc keeps.whole)
 next_number (Some l) v n rs keeps is = next_is l rs keeps.lane.in_order (none_aboard l.stage is).1
+
+-- so the count of a lane with nothing aboard is the number of the next bump
+pub count_is : (o : Option LanePart) (v n : ℕ) (rs : List Ride) (r : Ride) → KeepsLane o v n rs → aboard_lane o ≡ None
+    → r.number ≡ length rs → n ≡ r.number
+count_is None v n rs r keeps none next = absurd (cc keeps.whole)
+count_is (Some l) v n rs r keeps none next = keeps.counted ∙ next_number (Some l) v n rs keeps none ∙ sym next
+
+-- a part of a seat that is whole changes as the seat does
+pub part_boarded : (o : Option LanePart) (b : Bump) → o ≡ Some (part_or o)
+    → part_or (option_map (lane_after_board b) o) ≡ lane_after_board b (part_or o)
+part_boarded None b whole = absurd (cc whole)
+part_boarded (Some l) b whole = refl
 
 -- the next bump goes aboard
 pub boarded_keeps : (o : Option LanePart) (v n : ℕ) (rs : List Ride) (r : Ride) → KeepsLane o v n rs

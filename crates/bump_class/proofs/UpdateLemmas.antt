@@ -6,9 +6,7 @@ use Rattle.bump_rules.specs.declared.bumps.Bump.{Bump}
 use Rattle.bump_rules.specs.declared.bumps.Outcome.{Outcome}
 use Rattle.bump_rules.specs.declared.bumps.Outcome.TheVariants.{Moved, TimeOnly, Gone}
 use Rattle.bump_rules.specs.declared.items.Head.{Head}
-use Rattle.bump_rules.specs.declared.lanes.Lane.{Lane}
 use Rattle.bump_rules.specs.declared.lanes.Lane.TheVariants as lane
-use Rattle.bump_rules.specs.Lanes.{carried}
 use Rattle.bump_rules.specs.Tables.{is_cold, outcome_of}
 use Rattle.bump_rules.proofs.Counted.{how_many_push}
 use Rattle.bump_word.specs.Words.{word_of}
@@ -19,24 +17,9 @@ use Rattle.bump_steps.specs.Views.{bump_aboard, shows_time_only}
 use Rattle.bump_steps.specs.Plays.{step_of}
 use Rattle.bump_steps.specs.Applications.{for_bump, lane_after_alight, class_at_rest}
 use Rattle.bump_heads.specs.declared.views.ClassView.{ClassView}
-use Rattle.bump_heads.specs.Applying.{carried_by, life_aboard, IsShown, FoundOfBump, NamesNoBumpTwice, TellsMoves}
+use Rattle.bump_heads.specs.Applying.{life_aboard, IsShown, FoundOfBump, NamesNoBumpTwice, TellsMoves}
 use Rattle.bump_class.specs.Lanes.{part_or}
 use Rattle.bump_class.specs.Applications.{FoundHeads, AllFit, Updates, class_after_update, lane_after_update}
-
--- a lane that carries this bump
-pub carrying_it : (o : Option LanePart) (b : Bump) → carried_by o ≡ Some b → (l : LanePart)
-    × (o ≡ Some (record l { stage = lane.Carrying b }))
-carrying_it None b is = absurd (cc is)
-carrying_it (Some l) b is = by l.stage refl is
-  where
-    by : (s : Lane) → l.stage ≡ s → carried s ≡ Some b → (m : LanePart)
-        × (Some l ≡ Some (record m { stage = lane.Carrying b }))
-    by lane.Empty at is = absurd (cc is)
-    by (lane.Carrying d) at is = let e : d ≡ b = cc is in
-        (l, ap (λ (s : Lane). Some (record l { stage = s })) (at ∙ ap (λ (x : Bump). lane.Carrying x) e))
-    by (lane.Tried d) at is = absurd (cc is)
-    by (lane.Cleared d f) at is = absurd (cc is)
-    by (lane.Moved d) at is = absurd (cc is)
 
 -- ---- the update table, by what was found
 
@@ -82,10 +65,10 @@ module _ (v : ClassView) (o : Option LanePart) (l : LanePart) (b : Bump) (now : 
     (is : w ≡ record { part = p; lane = Some m })
     (part : class_at_rest p ≡ class_after_update out l.worker b now f v.part) (aboard : bump_aboard m.stage ≡ Some b)
     (same : lane_after_alight out b.life.chunk (word_of f.last) m ≡ lane_after_update out b f
-    (record l { stage = lane.Carrying b })) (came : Outcome) (came_is : came ≡ out)
+    (record l { stage = lane.Carrying b }))
     (class : a ≡ record { part = class_at_rest w.part; lane = None })
-    (left : x ≡ option_map (lane_after_alight came (life_aboard w.lane).chunk (word_of f.last)) w.lane)
-    (entry : IfSome w.lane (λ y. IfSome (bump_aboard y.stage) (λ d. IsShown a.part y d came)))
+    (left : x ≡ option_map (lane_after_alight out (life_aboard w.lane).chunk (word_of f.last)) w.lane)
+    (entry : IfSome w.lane (λ y. IfSome (bump_aboard y.stage) (λ d. IsShown a.part y d out)))
     (once : NamesNoBumpTwice a.part) (told : IfSome x (TellsMoves a.part)) where
   abbrev lane_left : LanePart
   lane_left = lane_after_update out b f (record l { stage = lane.Carrying b })
@@ -96,26 +79,24 @@ module _ (v : ClassView) (o : Option LanePart) (l : LanePart) (b : Bump) (now : 
 
   left_is : x ≡ Some lane_left
   left_is = left
-      ∙ (λ i. option_map (lane_after_alight (came_is i) (life_is i) (word_of f.last)) ((is i).lane))
+      ∙ (λ i. option_map (lane_after_alight out (life_is i) (word_of f.last)) ((is i).lane))
       ∙ ap (λ (y : LanePart). Some y) same
 
   entry_is : IsShown a.part lane_left b out
   entry_is = subst (λ (y : LanePart). IsShown a.part y b out) same (shown_on a.part m b out b.life.chunk
       (word_of f.last) (subst (λ (d : Option Bump). IfSome d (λ e. IsShown a.part m e out)) aboard
       (subst (λ (y : ClassView). IfSome y.lane (λ z. IfSome (bump_aboard z.stage) (λ d. IsShown a.part z d out))) is
-      (subst (λ (u : Outcome). IfSome w.lane (λ z. IfSome (bump_aboard z.stage) (λ d. IsShown a.part z d u))) came_is
-      entry))))
+      entry)))
 
   told_is : TellsMoves a.part lane_left
   told_is = subst (λ (y : Option LanePart). IfSome y (TellsMoves a.part)) left_is told
 
-  pub updates : (x ≡ Some (part_or x)) × Updates v (part_or o) b now came a (part_or x) f
+  pub updates : (x ≡ Some (part_or x)) × Updates v (part_or o) b now out a (part_or x) f
   updates = (
     left_is ∙ sym (ap (λ (y : Option LanePart). Some (part_or y)) left_is),
-    subst (λ (y : Option LanePart). Updates v (part_or y) b now came a (part_or x) f) (sym carries)
-        (subst (λ (y : Option LanePart). Updates v (record l { stage = lane.Carrying b }) b now came a (part_or y) f)
-        (sym left_is) (subst (λ (u : Outcome). Updates v (record l { stage = lane.Carrying b }) b now u a lane_left f)
-        (sym came_is) (record {
+    subst (λ (y : Option LanePart). Updates v (part_or y) b now out a (part_or x) f) (sym carries)
+        (subst (λ (y : Option LanePart). Updates v (record l { stage = lane.Carrying b }) b now out a (part_or y) f)
+        (sym left_is) (record {
           fit = fit;
           sight = subst (λ (y : Option LanePart). FoundOfBump v.part (life_aboard y) f.tried) carries sight;
           table = table;
@@ -125,5 +106,5 @@ module _ (v : ClassView) (o : Option LanePart) (l : LanePart) (b : Bump) (now : 
           entry = entry_is;
           once = once;
           told = told_is;
-        }))),
+        })),
   )

@@ -1,5 +1,5 @@
 -- What contracts see of a lane: the ring that it drains, and its part. And what every lane keeps.
-use Rattle.std.specs.Prelude.{◌≡◌, ℕ, ◌<◌, ◌++◌, List, [], ◌∷◌, length, map, Option, Some, None, IfSome, false}
+use Rattle.std.specs.Prelude.{◌≡◌, ℕ, ◌<◌, ◌++◌, List, [], ◌∷◌, length, map, Option, Some, None, IfSome, Bool, true, false}
 use Rattle.bump_rules.specs.declared.bumps.AppliedBump.{AppliedBump}
 use Rattle.bump_rules.specs.declared.bumps.Bump.{Bump}
 use Rattle.bump_rules.specs.declared.items.ItemId.{ItemId}
@@ -62,6 +62,12 @@ pub record KeepsLane (seat : Option LanePart) (worker count : ℕ) (received : L
 -- a lane whose bumps wait in this ring, with nothing aboard
 abbrev pub new_lane : Ring → List Ride → LanePart → LaneView
 new_lane ring known part = record { ring = ring; received = []; known = known; part = part }
+
+-- The bump that a lane keeps aboard between two calls, where it says that it keeps one: its number is that of the bumps
+-- that were applied before it.
+abbrev pub kept_aboard : Bool → ℕ → ItemId → Option Bump
+kept_aboard true number life = Some (record { number = number; life = life })
+kept_aboard false number life = None
 
 -- What it means that the next bump goes aboard.
 pub record Boards (before : LaneView) (bump : Bump) (after : LaneView) (ride : Ride) : Type 0 where

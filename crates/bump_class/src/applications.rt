@@ -9,6 +9,7 @@ ghost use Rattle.bump_class.specs.Applications.{FoundHeads as TheFoundHeads, Upd
 ghost use Rattle.bump_class.specs.Lanes.{carries, entries, part_or};
 
 use crate::books::Book;
+use crate::carriers::Carrier;
 use crate::lanes::RawLane;
 use bump_heads::{ClassSeat, LaneSeat, Name};
 use bump_rules::{Applied, Bump, Outcome, Place, Segment};
@@ -30,20 +31,24 @@ fn update<N: Name>(
         (part_or lane.new) found }
 {
     let chunk = bump.life.chunk;
-    let tried = class.try_front(lane);
+    let tried = class.try_front(lane, bump);
     if !tried.linked {
-        return class.alight(lane).0;
+        class.alight(lane, bump, Outcome::Gone);
+        return Outcome::Gone;
     }
     class.put_time(chunk, now);
     if !matches!(tried.segment, Segment::Cold) {
-        return class.alight(lane).0;
+        class.alight(lane, bump, Outcome::TimeOnly);
+        return Outcome::TimeOnly;
     }
     let cleared = class.clear_active(chunk);
     if !cleared.active {
-        return class.alight(lane).0;
+        class.alight(lane, bump, Outcome::TimeOnly);
+        return Outcome::TimeOnly;
     }
     class.change_segment(chunk, Segment::Cold, Segment::Warm);
-    class.alight(lane).0
+    class.alight(lane, bump, Outcome::Moved);
+    Outcome::Moved
 }
 
 // One more move for a bump of the worker.
@@ -81,9 +86,29 @@ impl<N: Name> Book<N> {
         ensures once { NamesNoBumpTwice self.new.part }
         ensures told { EachMoveIsTold self.new.part lane.new.part }
     {
-        let Some(bump) = lane.seat.aboard() else {
-            unreachable!()
+        let bump = Bump {
+            number: lane.carrier.applied(),
+            life: lane.life,
         };
+        lane.is_aboard = false;
+        self.apply_bump(&mut lane.carrier, bump, now)
+    }
+
+    // The same for the bump aboard a carrier, which is this one.
+    #[inline(always)]
+    pub(crate) fn apply_bump(&mut self, lane: &mut Carrier<N>, bump: Bump, now: u64) -> Applied
+        requires carries { carries lane.old ≡ Some bump }
+        requires own { owns bump.life.chunk self.old.part ≡ true }
+        ensures applied { AppliesFront now self.old lane.old result self.new lane.new }
+        ensures ring { lane.new.ring ≡ lane.old.ring }
+        ensures known { lane.new.known ≡ lane.old.known }
+        ensures empty { carries lane.new ≡ None }
+        ensures count { length (entries lane.new) ≡ length (entries lane.old) + 1 }
+        ensures class { (self.new.part.class ≡ self.old.part.class) × (self.new.part.first ≡ self.old.part.first)
+            × (self.new.part.count ≡ self.old.part.count) }
+        ensures once { NamesNoBumpTwice self.new.part }
+        ensures told { EachMoveIsTold self.new.part lane.new.part }
+    {
         let chunk = bump.life.chunk;
         let outcome = update(&mut self.seat, &mut lane.seat, bump, now);
         lane.applied += 1;

@@ -4,35 +4,32 @@ ghost use Rattle.bump_rules.specs.declared.lanes.Lane.TheVariants.{Empty as IsEm
 ghost use Rattle.bump_steps.specs.declared.views.Ride.{Ride as TheRide};
 ghost use Rattle.bump_steps.specs.Riders.{applied_by};
 ghost use Rattle.bump_heads.specs.Applying.{stage_of};
-ghost use Rattle.bump_class.specs.Lanes.{LaneView as TheLaneView, carries, entries, part_or, IsRawLane, KeepsLane};
+ghost use Rattle.bump_class.specs.Lanes.{LaneView as TheLaneView, carries, entries, part_or, IsRawLane, kept_aboard};
 ghost use Rattle.bump_class.specs.Lanes.{new_lane, Boards};
 
+use crate::carriers::Carrier;
 use bump_heads::{LaneSeat, Name};
 use bump_ring::{ClosedSender, Receiver};
-use bump_rules::Bump;
+use bump_rules::{Bump, ItemId};
 use std::marker::Model;
 
 /// The lane of a worker's ring: it takes the ring's bumps in order, and each is applied by the Book of its chunk's
 /// class (memcached's `lru_maintainer_bumps`, of one worker's `lru_bump_buf`).
 #[derive(Drop)]
 pub struct RawLane<N: Name> {
-    receiver: Receiver<N>,
-    pub(crate) seat: LaneSeat<N>,
-    pub(crate) worker: u32,
-    pub(crate) applied: u64,
+    pub(crate) carrier: Carrier<N>,
+    // Whether it keeps a bump aboard between two calls, and the life of that bump, whose number is known by the
+    // carrier's count. Who applies a run has its bump in his hand.
+    pub(crate) is_aboard: bool,
+    pub(crate) life: ItemId,
 }
 
 impl<N: Name> Model for RawLane<N> {
     ghost Value = { TheLaneView };
 
-    ghost view = { λ l. record {
-      ring = l.receiver.ring;
-      received = l.receiver.received;
-      known = l.receiver.known;
-      part = part_or l.seat;
-    } };
+    ghost view = { λ l. l.carrier };
 
-    ghost invariant = { λ l. KeepsLane l.seat l.worker l.applied l.receiver.received };
+    ghost invariant = { λ l. carries l.carrier ≡ kept_aboard l.is_aboard (length (entries l.carrier)) l.life };
 }
 
 impl<N: Name> RawLane<N> {
@@ -45,12 +42,13 @@ impl<N: Name> RawLane<N> {
         requires fresh { applied_by seat ≡ [] }
         ensures { result ≡ new_lane receiver.ring receiver.known (part_or seat) }
     {
-        let worker = seat.worker();
         RawLane {
-            receiver,
-            seat,
-            worker,
-            applied: 0,
+            carrier: Carrier::new(receiver, seat),
+            is_aboard: false,
+            life: ItemId {
+                chunk: 0,
+                generation: 0,
+            },
         }
     }
 
@@ -59,21 +57,21 @@ impl<N: Name> RawLane<N> {
     pub fn promise(&self)
         ensures { IsRawLane self.now.part self.now.received }
     {
-        let _applied = &self.applied;
+        self.carrier.promise();
     }
 
     /// How many bumps it applied.
     pub fn applied(&self) -> u64
         ensures { result ≡ length (entries self.now) }
     {
-        self.applied
+        self.carrier.applied()
     }
 
     /// The number of its worker.
     pub fn worker(&self) -> u32
         ensures { result ≡ self.now.part.worker }
     {
-        self.worker
+        self.carrier.worker()
     }
 
     /// Takes the next bump out of the ring and aboard, where none is aboard, and tells the one aboard. It answers
@@ -89,15 +87,30 @@ impl<N: Name> RawLane<N> {
         ensures none { IfNone result (self.old.known ≡ []) }
         ensures unchanged { IfNone result (self.new ≡ self.old) }
     {
-        if let Some(bump) = self.seat.aboard() {
-            return Some(bump);
+        if self.is_aboard {
+            return Some(Bump {
+                number: self.carrier.applied(),
+                life: self.life,
+            });
         }
-        let rider = self.receiver.take()?;
-        let bump = Bump {
-            number: rider.number(),
-            life: rider.life(),
-        };
-        self.seat.board(rider);
+        self.take()
+    }
+
+    /// The same for a lane with nothing aboard: takes the next bump out of the ring and aboard, and tells it. It
+    /// answers None only where none is known, and nothing is changed then.
+    #[inline(always)]
+    pub fn take(&mut self) -> Option<Bump>
+        requires idle { carries self.old ≡ None }
+        ensures ring { self.new.ring ≡ self.old.ring }
+        ensures entries { entries self.new ≡ entries self.old }
+        ensures aboard { carries self.new ≡ result }
+        ensures next { IfSome result (λ bump. (ride : TheRide) × Boards self.old bump self.new ride) }
+        ensures none { IfNone result (self.old.known ≡ []) }
+        ensures unchanged { IfNone result (self.new ≡ self.old) }
+    {
+        let bump = self.carrier.take()?;
+        self.is_aboard = true;
+        self.life = bump.life;
         Some(bump)
     }
 
@@ -113,6 +126,6 @@ impl<N: Name> RawLane<N> {
         ensures none { IsNone result ↔ (closed.old.shows_end ≡ false) }
         ensures unchanged { IfNone result (self.new ≡ self.old) }
     {
-        self.receiver.rest(closed)
+        self.carrier.rest(closed)
     }
 }

@@ -4,6 +4,7 @@
 
 mod applications;
 mod books;
+mod carriers;
 mod changing;
 mod ending;
 mod lanes;

@@ -8,7 +8,7 @@ use Rattle.bump_word.proofs.Words.{one_head}
 use Rattle.bump_steps.specs.declared.views.ClassPart.{ClassPart}
 use Rattle.bump_heads.specs.declared.joined.Joined.{Joined}
 use Rattle.bump_heads.specs.declared.views.ClassView.{ClassView}
-use Rattle.bump_heads.specs.Applying.{IsJoined}
+use Rattle.bump_heads.specs.Applying.{IsJoined, KeepsJoined}
 use Rattle.bump_steps.specs.declared.views.LanePart.{LanePart}
 use Rattle.bump_steps.specs.Views.{owns, standing}
 use Rattle.bump_steps.specs.Plays.{Sat, Found, Told, OwnsChunk}
@@ -65,16 +65,16 @@ owns_here m v c is own = subst (λ (x : Sat). OwnsChunk c x.0) (sym is)
 -- what the class's seat keeps, it keeps by a step on its part that its part keeps, with what it knows of a lane that is
 -- joined
 pub seat_kept : (m w : Sat) (now : ClassView) (f : ClassPart → ClassPart) (table id : TableId) (class : ℕ)
-    (joined : Joined) → class_in m.0 ≡ now → m ≡ class_me (class_in m.0) → w ≡ (on_class f m.0, m.1)
+    → class_in m.0 ≡ now → m ≡ class_me (class_in m.0) → w ≡ (on_class f m.0, m.1)
     → id ≡ table
     → IsInRange table (aboard_lane (class_in m.0).lane) → class ≡ (class_in m.0).part.class → IsClassPart table.words
-    (class_in m.0).part → IsJoined (class_in m.0).part (class_in m.0).lane joined
+    (class_in m.0).part → KeepsJoined (class_in m.0).part (class_in m.0).lane
     → (f now.part).class ≡ now.part.class → (IsClassPart table.words now.part → IsClassPart table.words (f now.part))
-    → (IsJoined now.part now.lane joined → IsJoined (f now.part) now.lane joined)
+    → ((joined : Joined) → IsJoined now.part now.lane joined → IsJoined (f now.part) now.lane joined)
     → (w ≡ class_me (class_in w.0)) × (id ≡ table) × IsInRange table (aboard_lane (class_in w.0).lane)
     × (class ≡ (class_in w.0).part.class) × IsClassPart table.words (class_in w.0).part
-    × IsJoined (class_in w.0).part (class_in w.0).lane joined
-seat_kept m w now f table id class joined view_is is after same near mine part lane_kept class_same keeps keeps_lane =
+    × KeepsJoined (class_in w.0).part (class_in w.0).lane
+seat_kept m w now f table id class view_is is after same near mine part lane_kept class_same keeps keeps_lane =
     let me : m ≡ class_me now = is ∙ ap class_me view_is in
     let view : class_in w.0 ≡ record now { part = f now.part } = view_after m w now f me after in (
       whole_after m w now f me after,
@@ -86,8 +86,11 @@ seat_kept m w now f table id class joined view_is is after same near mine part l
       subst (λ (k : ClassPart). IsClassPart table.words k) (sym (ap (λ (x : ClassView). x.part) view))
           (keeps (subst (λ (k : ClassPart). IsClassPart table.words k) (ap (λ (x : ClassView). x.part) view_is)
           part)),
-      subst (λ (x : ClassView). IsJoined x.part x.lane joined) (sym view)
-          (keeps_lane (subst (λ (x : ClassView). IsJoined x.part x.lane joined) view_is lane_kept)),
+      (
+        lane_kept.0,
+        subst (λ (x : ClassView). IsJoined x.part x.lane lane_kept.0) (sym view) (keeps_lane lane_kept.0
+            (subst (λ (x : ClassView). IsJoined x.part x.lane lane_kept.0) view_is lane_kept.1)),
+      ),
     )
 
 -- a head that the class's seat finds agrees with the place and the generation of its chunk

@@ -6,7 +6,6 @@ use Rattle.bump_rules.specs.declared.items.Head.{Head}
 use Rattle.bump_rules.specs.declared.places.Segment.{Segment}
 use Rattle.bump_rules.specs.declared.places.Segment.TheVariants.{Hot, Warm, Cold, Temp}
 use Rattle.bump_rules.specs.declared.bumps.Bump.{Bump}
-use Rattle.bump_rules.specs.declared.bumps.Outcome.{Outcome}
 use Rattle.bump_rules.specs.declared.bumps.Outcome.TheVariants.{Moved, TimeOnly, Gone}
 use Rattle.bump_rules.specs.declared.lanes.Lane.{Lane}
 use Rattle.bump_rules.specs.declared.lanes.Lane.TheVariants as lane
@@ -24,28 +23,28 @@ use Rattle.bump_steps.specs.declared.views.LanePart.{LanePart}
 use Rattle.bump_steps.specs.Views.{owns, standing}
 use Rattle.bump_steps.specs.Plays.{step_of}
 use Rattle.bump_steps.specs.Applications.{lane_after_try, noted_class, class_after_move}
-use Rattle.bump_heads.specs.Applying.{carried_by, life_aboard, IsOf, MayClearActive, MayPutTime, MayChangeSegment, TryFound, MayEndAs, seat_after_clear_active, seat_after_put_time, seat_after_move, FoundOfBump}
+use Rattle.bump_heads.specs.Applying.{carried_by, life_aboard, MayClearActive, MayPutTime, MayChangeSegment, TryFound, MayEndAs, seat_after_clear_active, seat_after_put_time, seat_after_move, FoundOfBump}
 use Rattle.bump_steps.specs.Lives.{IsInSegment}
 
--- a lane that carries a bump of the chunk
-pub carrying : (c : ℕ) (o : Option LanePart) → IsOf c (carried_by o) → (l : LanePart) × (b : Bump)
-    × (o ≡ Some (record l { stage = lane.Carrying b })) × (b.life.chunk ≡ c)
-carrying c None is = absurd is
-carrying c (Some l) is = by l.stage refl is
+-- a lane that carries this bump
+pub carrying : (o : Option LanePart) (b : Bump) → carried_by o ≡ Some b → (l : LanePart)
+    × (o ≡ Some (record l { stage = lane.Carrying b }))
+carrying None b is = absurd (cc is)
+carrying (Some l) b is = by l.stage refl is
   where
-    by : (s : Lane) → l.stage ≡ s → IsOf c (carried s) → (m : LanePart) × (b : Bump)
-        × (Some l ≡ Some (record m { stage = lane.Carrying b })) × (b.life.chunk ≡ c)
-    by lane.Empty at is = absurd is
-    by (lane.Carrying b) at is = (l, b, ap (λ (s : Lane). Some (record l { stage = s })) at, is)
-    by (lane.Tried b) at is = absurd is
-    by (lane.Cleared b f) at is = absurd is
-    by (lane.Moved b) at is = absurd is
+    by : (s : Lane) → l.stage ≡ s → carried s ≡ Some b → (m : LanePart)
+        × (Some l ≡ Some (record m { stage = lane.Carrying b }))
+    by lane.Empty at is = absurd (cc is)
+    by (lane.Carrying d) at is = let e : d ≡ b = cc is in
+        (l, ap (λ (s : Lane). Some (record l { stage = s })) (at ∙ ap (λ (x : Bump). lane.Carrying x) e))
+    by (lane.Tried d) at is = absurd (cc is)
+    by (lane.Cleared d f) at is = absurd (cc is)
+    by (lane.Moved d) at is = absurd (cc is)
 
--- whose chunk is the class's, where the chunk is
-pub own_aboard : (c : ℕ) (o : Option LanePart) (k : ClassPart) → IsOf c (carried_by o) → owns c k ≡ true
-    → owns (life_aboard o).chunk k ≡ true
-own_aboard c o k is own = let m = carrying c o is in ap (λ (x : Option LanePart). owns (life_aboard x).chunk k) m.2
-    ∙ ap (λ (d : ℕ). owns d k) m.3 ∙ own
+-- whose chunk is the class's, where the bump's is
+pub own_aboard : (b : Bump) (o : Option LanePart) (k : ClassPart) → carried_by o ≡ Some b
+    → owns b.life.chunk k ≡ true → owns (life_aboard o).chunk k ≡ true
+own_aboard b o k is own = ap (λ (x : Option LanePart). owns (life_aboard x).chunk k) (carrying o b is).1 ∙ own
 
 -- the list of a linked item is that of its segment
 linked_in : (s : Segment) → IsInSegment (place_of s)
@@ -98,8 +97,8 @@ module _ (v v₁ : ClassView) (o : Option LanePart) (l : LanePart) (b : Bump) (c
         (if not on then Some Gone else (if is_cold h.segment then None else Some TimeOnly))) off;
   }
 
-  pub ends_gone : h.linked ≡ false → (x : LanePart) × (y : Bump) × (g : Head) × (z : Outcome) × MayEndAs v₁ x y g z
-  ends_gone off = (lane_tried, b, h, Gone, gone_as off)
+  pub ends_gone : h.linked ≡ false → (x : LanePart) × (g : Head) × MayEndAs v₁ x b g Gone
+  ends_gone off = (lane_tried, h, gone_as off)
 
   -- the time of one that is linked may be stored
   pub may_put_time : h.linked ≡ true → (owns c v₁.part ≡ true) × MayPutTime c (standing v₁.part c).0 v₁.lane
@@ -129,9 +128,9 @@ module _ (v v₁ : ClassView) (o : Option LanePart) (l : LanePart) (b : Bump) (c
           (if not there then Some Gone else (if cold then None else Some TimeOnly))) on (not_cold h.segment other);
     }
 
-    pub ends_elsewhere : h.linked ≡ true → h.segment ≢ Cold → (x : LanePart) × (y : Bump) × (g : Head) × (z : Outcome)
-        × MayEndAs w₁ x y g z
-    ends_elsewhere on other = (lane_tried, b, h, TimeOnly, elsewhere_as on other)
+    pub ends_elsewhere : h.linked ≡ true → h.segment ≢ Cold → (x : LanePart) × (g : Head)
+        × MayEndAs w₁ x b g TimeOnly
+    ends_elsewhere on other = (lane_tried, h, elsewhere_as on other)
 
     -- ACTIVE of one in COLD may be cleared
     pub may_clear_active : h.linked ≡ true → h.segment ≡ Cold → (owns c w₁.part ≡ true)
@@ -163,10 +162,8 @@ module _ (v v₁ : ClassView) (o : Option LanePart) (l : LanePart) (b : Bump) (c
         ending = ap (λ (f : Bool). ending_at (λ d. h) (lane.Cleared b f)) off;
       }
 
-      pub ends_clear : found.active ≡ false → (x : LanePart) × (y : Bump) × (g : Head) × (z : Outcome)
-          × MayEndAs v₂ x y g z
-      ends_clear off =
-          (record lane_tried { stage = lane.Cleared b found.active }, b, h, TimeOnly, clear_as off)
+      pub ends_clear : found.active ≡ false → (x : LanePart) × (g : Head) × MayEndAs v₂ x b g TimeOnly
+      ends_clear off = (record lane_tried { stage = lane.Cleared b found.active }, h, clear_as off)
 
       -- one with ACTIVE may be moved
       pub may_move_on : h.linked ≡ true → h.segment ≡ Cold → found.active ≡ true → (owns c v₂.part ≡ true)
@@ -200,6 +197,6 @@ module _ (v v₁ : ClassView) (o : Option LanePart) (l : LanePart) (b : Bump) (c
       }
 
       pub ends_moved : (last : Head) (v₃ : ClassView) → v₃ ≡ seat_after_move c Cold Warm last v₂ → found.active ≡ true
-          → (x : LanePart) × (y : Bump) × (g : Head) × (z : Outcome) × MayEndAs v₃ x y g z
+          → (x : LanePart) × (g : Head) × MayEndAs v₃ x b g Moved
       ends_moved last v₃ moved some =
-          (record lane_tried { stage = lane.Moved b }, b, h, Moved, moved_as last v₃ moved some)
+          (record lane_tried { stage = lane.Moved b }, h, moved_as last v₃ moved some)

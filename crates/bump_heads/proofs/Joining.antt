@@ -358,17 +358,6 @@ one_try l b d g h x y =
     ∙ last_push 0 y.before (step_of kind.Try d.life.chunk (word_of h) (Some (l.worker, d.number))) in
     one_head (word_of h) g h (sym word, x.fits) (refl, y.fits)
 
--- so the bump aboard ends with one outcome
-pub one_outcome : (v : ClassView) (l m : LanePart) (b d : Bump) (h g : Head) (o p : Outcome) → MayEndAs v l b h o
-    → MayEndAs v m d g p → o ≡ p
-one_outcome v l m b d h g o p x y =
-    let lanes : m ≡ l = let e : Some m ≡ Some l = sym y.joined ∙ x.joined in cc e in
-    let z = subst (λ (n : LanePart). MayEndAs v n d g p) lanes y in
-    let both : Some (applied_bump b o) ≡ Some (applied_bump d p) =
-    sym x.ending ∙ ap (λ (f : Head). ending_at (λ c. f) l.stage) (one_try l b d h g x.found_by_try z.found_by_try)
-    ∙ z.ending in
-    let e : applied_bump b o ≡ applied_bump d p = cc both in ap (λ (a : AppliedBump). a.outcome) e
-
 -- The bump aboard the joined lane, which is of this chunk of the class, ends with the outcome: its item was moved
 -- exactly where that is Moved, and the entry is true.
 pub record Ending (v : ClassView) (c : ℕ) (o : Outcome) (l : LanePart) (b : Bump) : Type 0 where
@@ -390,32 +379,18 @@ module _ (v : ClassView) (l : LanePart) (b : Bump) (h : Head) (o : Outcome) (end
     found_is : h ≡ joins.found
     found_is = one_try l b joins.bump h joins.found ends.found_by_try joins.found_by_try
 
-    -- so it knows what the bump ends with
-    pub outcome_is : o ≡ j.outcome
-    outcome_is = sym (may_end_as h l.stage b o ends.ending).2
-        ∙ ap (λ (y : Head). outcome_by y l.stage) found_is ∙ sym joins.outcome
-
     bump_is : b ≡ joins.bump
     bump_is = let f : Some b ≡ Some joins.bump = sym (may_end_as h l.stage b o ends.ending).0 ∙ joins.aboard in cc f
 
-    chunk_is : b.life.chunk ≡ j.chunk
-    chunk_is = ap (λ (x : Bump). x.life.chunk) bump_is ∙ sym joins.chunk
-
-    -- which it tells
-    pub ends_told : MayEndAs v l b h j.outcome
-    ends_told = subst (λ (x : Outcome). MayEndAs v l b h x) outcome_is ends
-
     -- and which is true
-    pub ending_told : Ending v j.chunk j.outcome l b
-    ending_told = let m = may_end_as h l.stage b o ends.ending in subst (λ (x : Outcome). Ending v j.chunk x l b)
-        outcome_is (record {
-          joined = ends.joined;
-          aboard = m.0;
-          chunk = chunk_is;
-          own =
-              ap (λ (c : ℕ). owns c v.part) joins.chunk ∙ joins.own;
-          past = m.1;
-          named = joins.named;
-          entry = joins.entry b o
-              (subst (λ (y : Head). ending_at (λ c. y) l.stage ≡ Some (applied_bump b o)) found_is ends.ending);
-        })
+    pub ending_told : Ending v b.life.chunk o l b
+    ending_told = let m = may_end_as h l.stage b o ends.ending in record {
+      joined = ends.joined;
+      aboard = m.0;
+      chunk = refl;
+      own = ap (λ (x : Bump). owns x.life.chunk v.part) bump_is ∙ joins.own;
+      past = m.1;
+      named = joins.named;
+      entry = joins.entry b o
+          (subst (λ (y : Head). ending_at (λ c. y) l.stage ≡ Some (applied_bump b o)) found_is ends.ending);
+    }

@@ -1,3 +1,4 @@
+pub mod Badges
 pub mod Joining
 pub mod Seeing
 pub mod ClassParts

@@ -147,6 +147,10 @@ abbrev pub IsJoined : ClassPart → Option LanePart → Joined → Type 0
 IsJoined class None joined = class.applying ≡ None
 IsJoined class (Some this_lane) joined = Joins class this_lane joined
 
+-- There is such a thing that it keeps.
+abbrev pub KeepsJoined : ClassPart → Option LanePart → Type 0
+KeepsJoined class joined_lane = (joined : Joined) × IsJoined class joined_lane joined
+
 -- ---- what a step leaves
 
 -- a step of the class is noted: for the bump aboard, where a lane is joined

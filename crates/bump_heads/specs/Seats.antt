@@ -1,5 +1,5 @@
 -- What contracts see of the seats of classes and lanes.
-use Rattle.std.specs.Prelude.{◌≡◌, ℕ, ◌+◌, ◌*◌, ◌<◌, ◌≤◌, true, false, [], ◌∷◌, Option, Some, None}
+use Rattle.std.specs.Prelude.{◌≡◌, ℕ, ◌+◌, ◌*◌, ◌<◌, ◌≤◌, true, false, List, [], ◌∷◌, Option, Some, None}
 use Rattle.atomic_table.specs.Table.{Me}
 use Rattle.atomic_table.specs.Seated.{TableId}
 use Rattle.atomic_table.specs.declared.shared.Seat.{Seat}
@@ -35,6 +35,20 @@ no_class = record { class = 0; first = 0; count = 0; fresh = 0; history = []; la
 abbrev pub lane_in : Option (Seat Empty View) → Option LanePart
 lane_in None = None
 lane_in (Some seat) = Some (head_or no_lane seat.me.0.lanes)
+
+-- the part of a lane by the views that it keeps: none while it is hollow
+abbrev pub lane_in_views : List View → Option LanePart
+lane_in_views [] = None
+lane_in_views (view ∷ vs) = Some (head_or no_lane view.lanes)
+
+abbrev pub lane_views : Option LanePart → List View
+lane_views None = []
+lane_views (Some this_lane) = record blank { lanes = this_lane ∷ [] } ∷ []
+
+-- no bump of the lane is half applied
+abbrev pub IsAtRest : Option LanePart → Type 0
+IsAtRest None = Unit {0}
+IsAtRest (Some this_lane) = is_half_made this_lane.stage ≡ false
 
 -- a lane's seat, if it isn't hollow, has its part alone, and no bump that is half applied
 abbrev pub IsLane : TableId → Option (Seat Empty View) → Type 0

@@ -1,9 +1,6 @@
 //! The steps under a class's lock that change no list but by a move: those of a link or a pull, and those of an
 //! application, for which a lane's seat joins the class's, which makes the steps, and is split off again.
-ghost use Rattle.std.specs.Prelude.{◌≡◌, None, Some, IsSome, IfSome, option_map, true};
-ghost use Rattle.bump_rules.specs.declared.bumps.Bump.{Bump as TheBump};
-ghost use Rattle.bump_rules.specs.declared.bumps.Outcome.{Outcome as TheOutcome};
-ghost use Rattle.bump_rules.specs.declared.bumps.Outcome.TheVariants.{TimeOnly};
+ghost use Rattle.std.specs.Prelude.{◌≡◌, None, Some, IfSome, option_map, true};
 ghost use Rattle.bump_rules.specs.declared.items.Head.{Head as TheHead};
 ghost use Rattle.bump_rules.specs.History.{place_of};
 ghost use Rattle.bump_rules.specs.Lawful.{Shows};
@@ -12,36 +9,25 @@ ghost use Rattle.bump_steps.specs.declared.views.LanePart.{LanePart as TheLanePa
 ghost use Rattle.bump_steps.specs.Views.{bump_aboard, owns, standing};
 ghost use Rattle.bump_steps.specs.Applications.{lane_after_alight, lane_after_try, class_at_rest};
 ghost use Rattle.bump_heads.specs.Seats.{aboard_lane};
-ghost use Rattle.bump_heads.specs.Applying.{carried_by, life_aboard, joined_after_try, MayClearActive, MayPutTime};
+ghost use Rattle.bump_heads.specs.Applying.{carried_by, life_aboard, MayClearActive, MayPutTime};
 ghost use Rattle.bump_heads.specs.Applying.{MayChangeSegment, IsShown, MayEndAs, seat_after_clear_active};
 ghost use Rattle.bump_heads.specs.Applying.{seat_after_put_time, seat_after_move, FoundOfBump, NamesNoBumpTwice};
 ghost use Rattle.bump_heads.specs.Applying.{TellsMoves};
 
-use crate::joined::Joined;
 use crate::seats::{ClassSeat, LaneSeat};
+use atomic_table::Badge;
 use bump_readers::Name;
-use bump_rules::{Head, Outcome, Segment};
+use bump_rules::{Bump, Head, Outcome, Segment};
 use bump_steps::head_of;
 
-// What is kept once the head of the bump's item was looked at: that the bump may end as TimeOnly was kept before, and
-// it is Gone where the item isn't linked. So for a linked one nothing is stored here.
-fn note_found(joined: &mut Joined, found: Head)
-    requires ready { joined.old.outcome ≡ TimeOnly }
-    ensures { joined.new ≡ joined_after_try joined.old.chunk found }
-{
-    if !found.linked {
-        joined.outcome = Outcome::Gone;
-    }
-}
-
 impl<N: Name> ClassSeat<N> {
-    /// Joins the lane's seat, and looks at the head of the item of the bump that it carries, whose chunk is the
-    /// class's: the first step of memcached's `lru_bump_async` drain for a bump. No other lane may be joined. The
-    /// lane is hollow from then on, until `alight`. Answers the head that was found.
+    /// Joins the lane's seat, and looks at the head of the item of the bump that it carries, which is this one, and
+    /// whose chunk is the class's: the first step of memcached's `lru_bump_async` drain for a bump. No other lane may
+    /// be joined. The lane is hollow from then on, until `alight`. Answers the head that was found.
     #[inline(always)]
-    pub fn try_front(&mut self, lane: &mut LaneSeat<N>) -> Head
+    pub fn try_front(&mut self, lane: &mut LaneSeat<N>, bump: Bump) -> Head
         requires alone { self.old.lane ≡ None }
-        requires carries { IsSome (carried_by lane.old) }
+        requires carries { carried_by lane.old ≡ Some bump }
         requires own { owns (life_aboard lane.old).chunk self.old.part ≡ true }
         ensures hollow { lane.new ≡ None }
         ensures tried { self.new ≡ record self.old {
@@ -56,21 +42,10 @@ impl<N: Name> ClassSeat<N> {
         ensures once { NamesNoBumpTwice self.new.part }
         ensures moves { IfSome self.new.lane (TellsMoves self.new.part) }
     {
-        let Some(bump) = lane.aboard else {
-            unreachable!()
-        };
-        let Some(seat) = lane.seat.take() else {
-            unreachable!()
-        };
-        lane.aboard = None;
-        self.joined.chunk = bump.life.chunk;
-        self.joined.outcome = Outcome::TimeOnly;
+        let seat = std::mem::replace(&mut lane.badge, Badge::blank()).into_seat();
         let words = self.heads.words();
         words.join(&mut self.seat, seat);
-        let word = words.try_front(&mut self.seat, bump.life.chunk);
-        let found = head_of(word);
-        note_found(&mut self.joined, found);
-        found
+        head_of(words.try_front(&mut self.seat, bump.life.chunk))
     }
 
     /// Clears ACTIVE of the chunk, which is the class's, by one and (memcached's `ITEM_ACTIVE` in `lru_pull_tail`).
@@ -121,13 +96,12 @@ impl<N: Name> ClassSeat<N> {
             .heads
             .words()
             .change_segment(&mut self.seat, chunk, from, to);
-        self.joined.outcome = Outcome::Moved;
         head_of(word)
     }
 
-    /// Ends the bump aboard: gives back its reference, writes its entry, and gives the lane, which is hollow, its
-    /// seat back. Answers the outcome, and the head that was found. By the head that the lane's look found the
-    /// outcome is
+    /// Ends the bump aboard, which is this one: gives back its reference, writes its entry, and gives the lane, which
+    /// is hollow, its seat back. Answers the head that was found. By the head that the lane's look found its outcome
+    /// is
     /// 1. Gone, where the item wasn't linked;
     /// 2. TimeOnly, where it was linked, but not in COLD;
     /// 3. TimeOnly, where ACTIVE was cleared and hadn't been set;
@@ -135,31 +109,28 @@ impl<N: Name> ClassSeat<N> {
     ///
     /// It is called in these four cases alone.
     #[inline(always)]
-    pub fn alight(&mut self, lane: &mut LaneSeat<N>) -> (Outcome, Head)
+    pub fn alight(&mut self, lane: &mut LaneSeat<N>, bump: Bump, outcome: Outcome) -> Head
         requires hollow { lane.old ≡ None }
-        requires ends { (l : TheLanePart) × (b : TheBump) × (h : TheHead) × (o : TheOutcome)
-            × MayEndAs self.old l b h o }
-        ensures outcome { (l : TheLanePart) × (b : TheBump) × (h : TheHead) × MayEndAs self.old l b h result.0 }
+        requires ends { (l : TheLanePart) × (h : TheHead) × MayEndAs self.old l bump h outcome }
         ensures class { self.new ≡ record { part = class_at_rest self.old.part; lane = None } }
-        ensures lane { lane.new ≡ option_map (lane_after_alight result.0 (life_aboard self.old.lane).chunk
-            (word_of result.1)) self.old.lane }
-        ensures found { FoundOfBump self.old.part (life_aboard self.old.lane) result.1 }
-        ensures fits { Fits result.1 }
+        ensures lane { lane.new ≡ option_map (lane_after_alight outcome (life_aboard self.old.lane).chunk
+            (word_of result)) self.old.lane }
+        ensures found { FoundOfBump self.old.part (life_aboard self.old.lane) result }
+        ensures fits { Fits result }
 
         // The entry that was written is true.
         ensures entry { IfSome self.old.lane (λ l. IfSome (bump_aboard l.stage)
-            (λ b. IsShown self.new.part l b result.0)) }
+            (λ b. IsShown self.new.part l b outcome)) }
 
         // No bump is named twice by the history of the class, and its moves for bumps of this lane's worker are those
         // that entries of the lane tell of items of the class.
         ensures once { NamesNoBumpTwice self.new.part }
         ensures moves { IfSome lane.new (TellsMoves self.new.part) }
     {
-        let (chunk, outcome) = (self.joined.chunk, self.joined.outcome);
         let words = self.heads.words();
-        let word = words.alight(&mut self.seat, chunk, outcome);
+        let word = words.alight(&mut self.seat, bump.life.chunk, outcome);
         let part = words.part_lanes(&mut self.seat);
-        lane.seat = Some(part);
-        (outcome, head_of(word))
+        lane.badge = part.into_badge();
+        head_of(word)
     }
 }

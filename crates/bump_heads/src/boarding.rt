@@ -5,26 +5,22 @@ ghost use Rattle.bump_steps.specs.Riders.{lane_after_board, bump_of_ride, applie
 ghost use Rattle.bump_heads.specs.Applying.{stage_of};
 
 use crate::seats::LaneSeat;
+use atomic_table::Badge;
 use bump_readers::{Name, Rider};
-use bump_rules::Bump;
 
 impl<N: Name> LaneSeat<N> {
     /// The bump goes aboard the lane, which is whole and has nothing aboard. Its number is that of the bumps that the
     /// lane applied before, and from then on it is a bump of the lane's worker. No word changes.
+    #[inline(always)]
     pub fn board(&mut self, rider: Rider<N>)
         requires whole { IsSome self.old }
         requires empty { stage_of self.old ≡ IsEmpty }
         requires next { rider.number ≡ length (applied_by self.old) }
         ensures boarded { self.new ≡ option_map (lane_after_board (bump_of_ride rider)) self.old }
     {
-        let (part, ride) = rider.into_parts();
-        let Some(seat) = &mut self.seat else {
-            unreachable!()
-        };
-        self.heads.words().board(seat, part);
-        self.aboard = Some(Bump {
-            number: ride.number,
-            life: ride.life,
-        });
+        let (part, _life) = rider.into_parts();
+        let mut seat = std::mem::replace(&mut self.badge, Badge::blank()).into_seat();
+        self.heads.words().board(&mut seat, part);
+        self.badge = seat.into_badge();
     }
 }

@@ -8,10 +8,9 @@ ghost use Rattle.bump_heads.specs.Making.{BlankView as TheBlankView, class_seen,
 ghost use Rattle.bump_heads.specs.Seats.{most_workers};
 
 use crate::heads::Heads;
-use crate::joined::Joined;
 use crate::seats::{ClassSeat, LaneSeat};
 use bump_readers::{Name, ReaderHeads, WorkerSeat};
-use bump_rules::{Config, Outcome};
+use bump_rules::Config;
 use bump_steps::{Seat, Words};
 use std::alloc::{AllocError, Global};
 use std::marker::{Model, PhantomData};
@@ -70,10 +69,6 @@ fn part_classes<N: Name>(
         seats.push(ClassSeat {
             seat: part,
             class,
-            joined: Joined {
-                chunk: 0,
-                outcome: Outcome::Gone,
-            },
             heads: Arc::try_clone(heads)?,
             of: PhantomData,
         })?;
@@ -98,9 +93,8 @@ fn part_lanes<N: Name>(
     for worker in 0..count {
         let part = heads.words().part_lane(seat);
         seats.push(LaneSeat {
-            seat: Some(part),
+            badge: part.into_badge(),
             worker,
-            aboard: None,
             heads: Arc::try_clone(heads)?,
             of: PhantomData,
         })?;

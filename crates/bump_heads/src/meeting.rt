@@ -8,6 +8,7 @@ ghost use Rattle.bump_readers.specs.Seats.{labels_in};
 ghost use Rattle.bump_heads.specs.Applying.{NamesNoBumpTwice, TellsMoves};
 
 use crate::seats::{ClassSeat, LaneSeat};
+use atomic_table::Badge;
 use bump_readers::{Hold, Name};
 
 impl<N: Name> ClassSeat<N> {
@@ -44,12 +45,10 @@ impl<N: Name> ClassSeat<N> {
         ensures once { NamesNoBumpTwice self.old.part }
         ensures moves { IfSome lane.old (TellsMoves self.old.part) }
     {
-        let Some(seat) = lane.seat.take() else {
-            unreachable!()
-        };
+        let seat = std::mem::replace(&mut lane.badge, Badge::blank()).into_seat();
         let words = self.heads.words();
         words.join(&mut self.seat, seat);
         words.meet_lane(&mut self.seat);
-        lane.seat = Some(words.part_lanes(&mut self.seat));
+        lane.badge = words.part_lanes(&mut self.seat).into_badge();
     }
 }

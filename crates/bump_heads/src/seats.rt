@@ -1,28 +1,25 @@
 //! The seats of classes and lanes of a named store. Contracts see plain data.
-ghost use Rattle.std.specs.Prelude.{◌≡◌, ◌<◌, Option as TheOption, is_some, false};
+ghost use Rattle.std.specs.Prelude.{◌≡◌, ◌<◌, Option as TheOption, IsSome, false};
 ghost use Rattle.bump_heads.specs.declared.views.ClassView.{ClassView as TheClassView};
 ghost use Rattle.bump_steps.specs.declared.views.LanePart.{LanePart as TheLanePart};
 ghost use Rattle.bump_rules.specs.Lanes.{is_half_made};
-ghost use Rattle.bump_heads.specs.Applying.{carried_by, stage_of, IsJoined};
-ghost use Rattle.bump_heads.specs.Seats.{IsLane, IsOfWorker, lane_in, class_in, class_me, aboard_lane, most_workers};
-ghost use Rattle.bump_heads.specs.Seats.{IsInRange, IsClassPart};
+ghost use Rattle.bump_heads.specs.Applying.{stage_of, KeepsJoined};
+ghost use Rattle.bump_heads.specs.Seats.{lane_views, lane_in_views, IsAtRest, IsOfWorker, class_in, class_me};
+ghost use Rattle.bump_heads.specs.Seats.{aboard_lane, most_workers, IsInRange, IsClassPart};
 
 use crate::heads::Heads;
-use crate::joined::Joined;
+use atomic_table::Badge;
 use bump_readers::Name;
-use bump_rules::Bump;
-use bump_steps::Seat;
+use bump_steps::{Seat, View};
 use std::alloc::Global;
 use std::marker::{Model, PhantomData};
 use std::sync::Arc;
 
-/// A class's seat: its part, and that of the lane that is joined to it for an application. It knows how far that lane
-/// is, so that `alight` can tell what came out.
+/// A class's seat: its part, and that of the lane that is joined to it for an application.
 #[derive(Drop)]
 pub struct ClassSeat<N: Name> {
     pub(crate) seat: Seat,
     pub(crate) class: u32,
-    pub(crate) joined: Joined,
     pub(crate) heads: Arc<Heads<N>, Global>,
     pub(crate) of: PhantomData<N>,
 }
@@ -35,7 +32,7 @@ impl<N: Name> Model for ClassSeat<N> {
     ghost invariant = { λ s. (s.seat.me ≡ class_me (class_in s.seat.me.0)) × (s.seat.table_id ≡ N.table)
         × IsInRange N.table (aboard_lane (class_in s.seat.me.0).lane) × (s.class ≡ (class_in s.seat.me.0).part.class)
         × IsClassPart N.table.words (class_in s.seat.me.0).part
-        × IsJoined (class_in s.seat.me.0).part (class_in s.seat.me.0).lane s.joined };
+        × KeepsJoined (class_in s.seat.me.0).part (class_in s.seat.me.0).lane };
 }
 
 impl<N: Name> ClassSeat<N> {
@@ -47,13 +44,12 @@ impl<N: Name> ClassSeat<N> {
     }
 }
 
-/// A lane's seat: its part, or None while it is hollow, joined to a class's seat. While it is whole no application is
+/// A lane's seat: its part, or none while it is hollow, joined to a class's seat. While it is whole no application is
 /// in progress: a bump aboard is one at which nobody looked yet.
 #[derive(Drop)]
 pub struct LaneSeat<N: Name> {
-    pub(crate) seat: Option<Seat>,
+    pub(crate) badge: Badge<View>,
     pub(crate) worker: u32,
-    pub(crate) aboard: Option<Bump>,
     pub(crate) heads: Arc<Heads<N>, Global>,
     pub(crate) of: PhantomData<N>,
 }
@@ -61,19 +57,20 @@ pub struct LaneSeat<N: Name> {
 impl<N: Name> Model for LaneSeat<N> {
     ghost Value = { TheOption TheLanePart };
 
-    ghost view = { λ l. lane_in l.seat };
+    ghost view = { λ l. lane_in_views l.badge.views };
 
-    ghost invariant = { λ l. IsLane N.table l.seat × (l.aboard ≡ aboard_lane (lane_in l.seat))
-        × IsInRange N.table l.aboard × IsOfWorker l.worker (lane_in l.seat) × (l.worker < most_workers) };
+    ghost invariant = { λ l. (l.badge.views ≡ lane_views (lane_in_views l.badge.views))
+        × (IsSome (lane_in_views l.badge.views) → l.badge.table_id ≡ N.table) × IsAtRest (lane_in_views l.badge.views)
+        × IsInRange N.table (aboard_lane (lane_in_views l.badge.views))
+        × IsOfWorker l.worker (lane_in_views l.badge.views) × (l.worker < most_workers) };
 }
 
 impl<N: Name> LaneSeat<N> {
-    /// Whether it is whole: not joined to a class's seat.
-    pub fn is_whole(&self) -> bool
-        ensures whole { result ≡ is_some self.now }
+    /// What every lane's seat keeps: no bump is half applied.
+    pub fn promise(&self)
         ensures at_rest { is_half_made (stage_of self.now) ≡ false }
     {
-        self.seat.is_some()
+        let _worker = &self.worker;
     }
 
     /// The number of its worker, from 0 to 63, while it is whole and applied nothing yet: whoever takes the seat asks
@@ -83,13 +80,5 @@ impl<N: Name> LaneSeat<N> {
         ensures few { result < most_workers }
     {
         self.worker
-    }
-
-    /// The bump aboard, if the lane is whole and one is.
-    pub fn aboard(&self) -> Option<Bump>
-        ensures aboard { result ≡ aboard_lane self.now }
-        ensures carried { result ≡ carried_by self.now }
-    {
-        self.aboard
     }
 }

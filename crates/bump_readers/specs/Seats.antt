@@ -3,10 +3,12 @@ use Rattle.std.specs.Prelude.{◌≡◌, ℕ, List, [], ◌∷◌, Option, Some,
 use Rattle.atomic_table.specs.Table.{Me}
 use Rattle.atomic_table.specs.Seated.{TableId}
 use Rattle.bump_rules.specs.declared.items.ItemId.{ItemId}
+use Rattle.bump_rules.specs.Lives.{life}
 use Rattle.bump_rules.specs.Rings.{IsAccounts}
 use Rattle.bump_steps.specs.declared.views.Empty.{Empty}
 use Rattle.bump_steps.specs.declared.views.WorkerPart.{WorkerPart}
 use Rattle.bump_steps.specs.declared.views.HoldPart.{HoldPart}
+use Rattle.bump_steps.specs.declared.views.Ride.{Ride}
 use Rattle.bump_steps.specs.declared.views.View.{View}
 use Rattle.bump_readers.specs.declared.views.WorkerView.{WorkerView}
 use Rattle.bump_steps.specs.Rule.{blank, worker_part}
@@ -54,6 +56,15 @@ IsHoldOf item (Some hold) = hold.life ≡ item
 abbrev pub labels_in : Option HoldPart → List ℕ
 labels_in None = []
 labels_in (Some hold) = hold.labels
+
+-- ---- riders
+
+-- the bump of a seat that has none
+abbrev pub no_ride : Ride
+no_ride = record { worker = 0; number = 0; life = life 0 0 }
+
+abbrev pub ride_in : View → Ride
+ride_in view = head_or no_ride view.riders
 
 -- ---- workers
 

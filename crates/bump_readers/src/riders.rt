@@ -3,61 +3,56 @@ ghost use Rattle.std.specs.Prelude.{◌≡◌, ◌<◌};
 ghost use Rattle.bump_steps.specs.Words.{HasChunk};
 ghost use Rattle.bump_steps.specs.declared.views.Ride.{Ride as TheRide};
 ghost use Rattle.bump_steps.specs.Riders.{ride_me};
+ghost use Rattle.bump_readers.specs.Seats.{ride_in};
 
 use crate::names::Name;
 use bump_rules::ItemId;
-use bump_steps::{Ride, Seat};
+use bump_steps::Seat;
 use std::marker::{Model, PhantomData};
 
-/// A reference that travels as a bump. Where it is dropped its chunk stays held.
+/// A reference that travels as a bump: in a ring it has the bytes of its life alone, since whoever takes it from its
+/// ring knows its worker and its number. Where it is dropped its chunk stays held.
 #[derive(Drop)]
 pub struct Rider<N: Name> {
     pub(crate) seat: Seat,
-    pub(crate) ride: Ride,
+    pub(crate) life: ItemId,
     pub(crate) of: PhantomData<N>,
 }
 
 impl<N: Name> Model for Rider<N> {
     ghost Value = { TheRide };
 
-    ghost view = { λ r. r.ride };
+    ghost view = { λ r. ride_in r.seat.me.0 };
 
-    ghost invariant = { λ r. (r.seat.me ≡ ride_me r.ride) × (r.seat.table_id ≡ N.table)
-        × HasChunk N.table r.ride.life.chunk × (r.ride.number < 4611686018427387903) };
+    ghost invariant = { λ r. (r.seat.me ≡ ride_me (ride_in r.seat.me.0)) × (r.seat.table_id ≡ N.table)
+        × HasChunk N.table (ride_in r.seat.me.0).life.chunk × ((ride_in r.seat.me.0).number < 4611686018427387903)
+        × (r.life ≡ (ride_in r.seat.me.0).life) };
 }
 
 impl<N: Name> Rider<N> {
-    /// The worker whose bump it is, from 0.
-    pub fn worker(&self) -> u32
-        ensures { result ≡ self.now.worker }
+    /// What every rider keeps: its number is below 4,611,686,018,427,387,903.
+    pub fn promise(&self)
+        ensures few { self.now.number < 4611686018427387903 }
     {
-        self.ride.worker
-    }
-
-    /// How many bumps the worker had accepted before it, those that travelled counted: below 4,611,686,018,427,387,903.
-    pub fn number(&self) -> u64
-        ensures number { result ≡ self.now.number }
-        ensures few { result < 4611686018427387903 }
-    {
-        self.ride.number
+        let _life = &self.life;
     }
 
     /// The life that was hit, to which it refers.
     pub fn life(&self) -> ItemId
         ensures { result ≡ self.now.life }
     {
-        self.ride.life
+        self.life
     }
 
-    /// What it is made of, for a lane that it boards: a seat that has its part alone, and whose bump it is.
-    pub fn into_parts(self) -> (Seat, Ride)
-        ensures ride { result.1 ≡ self }
+    /// What it is made of, for a lane that it boards: a seat that has its part alone, and the life.
+    pub fn into_parts(self) -> (Seat, ItemId)
+        ensures life { result.1 ≡ self.life }
         ensures seat { result.0.me ≡ ride_me self }
         ensures table { result.0.table_id ≡ N.table }
         ensures chunk { HasChunk N.table self.life.chunk }
         ensures number { self.number < 4611686018427387903 }
     {
-        let Rider { seat, ride, of: _ } = self;
-        (seat, ride)
+        let Rider { seat, life, of: _ } = self;
+        (seat, life)
     }
 }

@@ -12,13 +12,13 @@ use crate::names::Name;
 use crate::riders::Rider;
 use crate::workers::WorkerSeat;
 use bump_rules::{Head, ItemId};
-use bump_steps::{Ride, RideRefusal, head_of};
+use bump_steps::{RideRefusal, head_of};
 use std::marker::PhantomData;
 
 impl<N: Name> ReaderHeads<N> {
     /// Takes the reference of a bump, and sends it off as a rider, as memcached's `lru_bump_async`, which counts the
     /// item's reference up before it queues the bump. The worker tries to bump the life, and has a whole hold of it
-    /// joined to its seat. The number is that of the bumps of the worker that were accepted before, below
+    /// joined to its seat. The rider's number is that of its bumps that were accepted before, below
     /// 4,611,686,018,427,387,903: those in rings count, and so do riders.
     ///
     /// It makes one load and at most 8 exchanges. Each exchange expects the word that the step before it found, and
@@ -32,18 +32,12 @@ impl<N: Name> ReaderHeads<N> {
     /// one of its kind, and is to clear ACTIVE by `unmark`. With a rider the worker is idle, and counts the bump as
     /// accepted.
     #[inline(always)]
-    pub fn ride(
-        &self,
-        worker: &mut WorkerSeat<N>,
-        life: ItemId,
-        number: u64,
-    ) -> Result<Rider<N>, RideRefusal>
+    pub fn ride(&self, worker: &mut WorkerSeat<N>, life: ItemId) -> Result<Rider<N>, RideRefusal>
         requires held { (h : TheHoldPart) × (worker.old.hold ≡ Some h) × (h.life ≡ life) }
         requires trying { worker.old.part.hand ≡ Trying life }
-        requires next { number ≡ worker.old.part.accounts.accepted }
         ensures rode { (first : TheHead) × (more : List TheHead)
             × Rode self.now.refs_limit life worker.old worker.new result first more }
-        ensures rider { IfOk result (λ r. r ≡ ride_of worker.old number life) }
+        ensures rider { IfOk result (λ r. r ≡ ride_of worker.old worker.old.part.accounts.accepted life) }
         ensures idle { OnOk result (worker.new.part.hand ≡ Idle) }
         ensures dropped { OnErr result (worker.new.part.hand ≡ Clearing life) }
         ensures hold { worker.new.hold ≡ worker.old.hold }
@@ -54,11 +48,7 @@ impl<N: Name> ReaderHeads<N> {
         let part = self.words.part_ride(&mut worker.seat);
         Ok(Rider {
             seat: part,
-            ride: Ride {
-                worker: worker.worker,
-                number,
-                life,
-            },
+            life,
             of: PhantomData,
         })
     }
@@ -75,7 +65,7 @@ impl<N: Name> ReaderHeads<N> {
     {
         let Rider {
             seat: part,
-            ride: _,
+            life: _,
             of: _,
         } = rider;
         self.words.rider_back(&mut worker.seat, part);

@@ -115,6 +115,21 @@ impl<N: Name> ReaderHeads<N> {
         label
     }
 
+    /// Looks at the head of the item that the hold holds, by one load, and answers it: of the hold's life, and with a
+    /// count of at least 1. The hold is whole. Nothing changes.
+    pub fn look_of(&self, hold: &mut Hold<N>) -> Head
+        requires whole { IsSome hold.old.part }
+        ensures unchanged { hold.new ≡ hold.old }
+        ensures generation { result.generation ≡ hold.old.life.generation }
+        ensures counted { 0 < result.refs }
+        ensures fits { Fits result }
+    {
+        let mut seat = hold.seat_out();
+        let head = head_of(self.words.look_of_hold(&mut seat, hold.life.chunk));
+        hold.seat_in(seat);
+        head
+    }
+
     /// The head and the time of a chunk of the store, by two loads, between which other threads may change both. No
     /// seat is needed. Of the time nothing is promised.
     pub fn see(&self, chunk: u32) -> (Head, u64)

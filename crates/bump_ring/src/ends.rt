@@ -97,7 +97,8 @@ impl<N: Name> Sender<N> {
         ensures unchanged { IfErr result (λ back. self.new ≡ self.old) }
         ensures full { IfErr result (λ back. self.old.capacity ≤ length self.old.sent) }
     {
-        let number = rider.number();
+        rider.promise();
+        let number = self.accepted;
         match self.producer.push(rider) {
             Ok(()) => {
                 self.accepted = number + 1;

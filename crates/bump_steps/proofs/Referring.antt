@@ -31,7 +31,7 @@ use Rattle.bump_steps.specs.declared.views.View.{View}
 use Rattle.bump_steps.specs.declared.views.WorkerPart.{WorkerPart}
 use Rattle.bump_steps.specs.Plays.{Sat, on_chunk, behind, on_first, step_of}
 use Rattle.bump_steps.specs.Marks.{noted, on_worker}
-use Rattle.bump_steps.specs.References.{load_to_take_tells, new_hold, view_after_take, take_tells, HasHold, view_after_release, release_of_hold_tells, hold_after_label_load, view_after_label_load, IsLabel, label_load_tells, load_without_seat_tells}
+use Rattle.bump_steps.specs.References.{load_to_take_tells, new_hold, view_after_take, take_tells, HasHold, view_after_release, release_of_hold_tells, look_of_hold_tells, hold_after_label_load, view_after_label_load, IsLabel, label_load_tells, load_without_seat_tells}
 use Rattle.bump_steps.specs.Rule.{Sound, chunks, Kept, blank, HasFittingLimit}
 use Rattle.bump_steps.specs.Views.{Measure, held, named, saw, owners, strays, mislabels, misreads, is_fetch, is_fetch_of, in_hand, misread, differs, weight, tally, claims, evidence, shown_by, moves, settled, in_progress, underway, foreign, workers_of, lanes_of, untidy, IsBacked}
 use Rattle.bump_steps.proofs.LifeLabels.{labelled_push}
@@ -162,6 +162,17 @@ module _ (key : Config) (slots id : ℕ) (m : Sat) (c : ℕ) (near : c < chunks 
   may_load_to_take = at_chunk load_to_take_tells key slots id m c 0 (λ n. n) near
       (λ n x t limits o a. reaches_by_look kind.Load refl n x t (load_to_take_tells c 0 m n) o
       (refl, (o.head, o.spells, tells c key.refs_limit n x m.0 t o a)))
+
+  -- a load by a hold changes no word and no view
+  pub may_look_of_hold : Allows (Kept key) slots id m (3 * c + 9) (λ n. n)
+      (on_chunk look_of_hold_tells (step slots (3 * c + 9) 0 0 none) m)
+  may_look_of_hold = at_chunk look_of_hold_tells key slots id m c 0 (λ n. n) near (λ n x t limits o a. (
+    m.0,
+    (λ u moved. same_sound key.refs_limit n x t u (λ y. let e = moved y in omega arith) o),
+    (λ b ne y. refl),
+    quiet m.0 m.0.workers m.0.holds m.0.returned (λ w. refl),
+    (refl, (o.head, o.spells, tells c key.refs_limit n x m.0 t o a)),
+  ))
 
   -- a reference is taken where the word is the one that the exchange expects
   won : (g old : ℕ) (h : Head) → Spells old h → get_of key.refs_limit g h ≡ IsHeld → (n x : ℕ) (t : Measure → ℕ)

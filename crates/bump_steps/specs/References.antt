@@ -70,6 +70,10 @@ abbrev pub release_of_hold_tells : Tells
 release_of_hold_tells chunk operand before word after = (after ≡ (view_after_release word before.0, before.1))
     × Found word (Told chunk before.0)
 
+-- the hold looked at the chunk's head, which no list notes
+abbrev pub look_of_hold_tells : Tells
+look_of_hold_tells chunk operand before word after = (after ≡ before) × Found word (Told chunk before.0)
+
 -- the hold read a label
 abbrev pub hold_after_label_load : ℕ → HoldPart → HoldPart
 hold_after_label_load label hold = record hold { labels = hold.labels ++ label ∷ [] }

@@ -1,9 +1,10 @@
 //! Holds. Contracts see plain data.
 ghost use Rattle.std.specs.Prelude.{◌≡◌, ◌++◌, ◌∷◌, []};
+ghost use Rattle.bump_rules.specs.declared.items.Head.{Head as TheHead};
 ghost use Rattle.bump_rules.specs.Totals.{total};
 ghost use Rattle.bump_steps.specs.Views.{differs};
 ghost use Rattle.bump_steps.specs.declared.views.HoldPart.{HoldPart as TheHoldPart};
-ghost use Rattle.bump_store.specs.Holds.{part_of, whole};
+ghost use Rattle.bump_store.specs.Holds.{part_of, whole, SeesMarks};
 
 use bump_readers::{Hold as Held, Name, ReaderHeads};
 use bump_rules::ItemId;
@@ -37,6 +38,20 @@ impl<N: Name> Hold<N> {
         ensures same { total (differs result) self.old.labels ≡ 0 }
     {
         heads.label_of(&mut self.held)
+    }
+
+    /// Whether the item has both marks, FETCHED and ACTIVE, by one load of its head word; nothing changes.
+    ///
+    /// It is so for most hits of an item that is hit often. A touch would answer Already then, and change no word, but
+    /// by a locked step: a caller that asks first, and touches where the answer is no, saves it. Where the marks are
+    /// seldom set it is one load more. Another thread may clear ACTIVE just behind the load, as behind a touch.
+    #[inline(always)]
+    pub fn is_marked(&mut self, heads: &ReaderHeads<N>) -> bool
+        ensures unchanged { self.new ≡ self.old }
+        ensures marked { (found : TheHead) × SeesMarks self.old.life result found }
+    {
+        let found = heads.look_of(&mut self.held);
+        found.fetched && found.active
     }
 
     /// Gives the reference back, by one subtraction on the head word, as memcached's `do_item_remove`. Where the item

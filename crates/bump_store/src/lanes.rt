@@ -85,7 +85,7 @@ impl<N: Name> Lane<N> {
         ensures idle { NothingAboard self.new.lane }
     {
         self.raw.promise();
-        let bump = self.raw.fetch()?;
+        let bump = self.raw.take()?;
         let mut guard = store.lock_of_chunk(rt, bump.life.chunk);
         let book = &mut *guard;
         Some(apply_aboard(book, &mut self.raw, bump, now))

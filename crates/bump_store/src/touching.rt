@@ -58,8 +58,7 @@ fn attempt<N: Name>(
     ensures { (found : TheFindings) × Attempted heads.now.refs_limit life seat.old seat.new sender.old sender.new result
         found }
 {
-    let number = sender.accepted();
-    let dropped = match heads.ride(seat, life, number) {
+    let dropped = match heads.ride(seat, life) {
         Ok(rider) => match sender.offer(rider) {
             Ok(number) => return Touch::Queued(number),
             Err(rider) => {

@@ -68,8 +68,11 @@ impl<N: Name> Reader<N> {
         if hold.label(&cache.store) != u64::from(key) {
             self.wrong = self.wrong.saturating_add(1);
         }
-        // The hit. What it answers (First, Marked, Queued ..) is there for statistics.
-        let _touch = self.worker.touch(&cache.store, &mut hold, now);
+        // The hit. Most hits of an item that is hit often find both marks: to ask first saves a locked step then. What
+        // a touch answers (First, Marked, Queued ..) is there for statistics.
+        if !hold.is_marked(&cache.store) {
+            let _touch = self.worker.touch(&cache.store, &mut hold, now);
+        }
         // A hold is given back: a program that lets one go in another way isn't proved.
         hold.release(&cache.store);
     }

@@ -5,6 +5,7 @@ mod calls;
 mod classes;
 mod drains;
 mod expecting;
+mod marks;
 mod moves;
 mod opening;
 mod pairs;

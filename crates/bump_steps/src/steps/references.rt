@@ -1,11 +1,11 @@
 //! The steps of a reader on a reference: a load, the exchange that takes it, and the subtraction that gives it back;
-//! the load of a label; and loads that need no seat of the caller's.
+//! the loads of a label and of a head by a hold; and loads that need no seat of the caller's.
 ghost use Rattle.std.specs.Prelude.{ℕ, ◌≡◌, List};
 ghost use Rattle.bump_rules.specs.declared.items.Head.{Head as TheHead};
 ghost use Rattle.bump_steps.specs.Words.{HasChunk, words_id, config_of};
 ghost use Rattle.bump_steps.specs.Plays.{on_chunk, Found, HasWorker};
 ghost use Rattle.bump_steps.specs.References.{load_to_take_tells, take_tells, MayTake, HasHold, release_of_hold_tells};
-ghost use Rattle.bump_steps.specs.References.{label_load_tells, load_without_seat_tells, IsAnyHead};
+ghost use Rattle.bump_steps.specs.References.{look_of_hold_tells, label_load_tells, load_without_seat_tells, IsAnyHead};
 ghost use Rattle.bump_steps.specs.Tries.{TakeFound, refusal_of, view_after_attempt};
 
 use crate::decoding::head_of;
@@ -34,6 +34,12 @@ pub struct Release;
 
 impl Play<Empty, View> for Release {
     ghost then = { on_chunk release_of_hold_tells };
+}
+
+pub struct LookOfHold;
+
+impl Play<Empty, View> for LookOfHold {
+    ghost then = { on_chunk look_of_hold_tells };
 }
 
 pub struct LoadLabel;
@@ -127,6 +133,18 @@ impl Words {
         self.table
             .shared
             .fetch_sub::<Release>(seat, 3 * chunk as usize + HEAD, ONE_REFERENCE)
+    }
+
+    /// A load of a head word, by a hold: no list notes it.
+    pub fn look_of_hold(&self, seat: &mut Seat, chunk: u32) -> u64
+        requires seat { (seat.old.table_id ≡ words_id self.now) × HasChunk (words_id self.now) chunk }
+        requires hold { HasHold chunk seat.old.me.0 }
+        ensures same { (seat.new.table_id ≡ seat.old.table_id) × (seat.new.id ≡ seat.old.id) }
+        ensures told { look_of_hold_tells chunk 0 seat.old.me result seat.new.me }
+    {
+        self.table
+            .shared
+            .load::<LookOfHold>(seat, 3 * chunk as usize + HEAD)
     }
 
     /// A load of a label word, by a hold.

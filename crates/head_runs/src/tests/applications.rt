@@ -1,9 +1,9 @@
 //! One life in COLD whose bump is applied: its item is moved.
-ghost use Rattle.std.specs.Prelude.{◌≡◌, ◌∷◌, [], IfOk, IsSome, None, true, false};
+ghost use Rattle.std.specs.Prelude.{◌≡◌, ◌∷◌, [], IfOk, IsSome, None, Some, true, false};
 ghost use Rattle.std.specs.Arc.{arc_value};
 ghost use Rattle.bump_rules.specs.declared.places.Place.TheVariants as place;
 ghost use Rattle.bump_rules.specs.Lives.{life as life_of};
-ghost use Rattle.bump_heads.specs.Applying.{IsOf, carried_by};
+ghost use Rattle.bump_heads.specs.Applying.{carried_by};
 ghost use Rattle.bump_heads.specs.Linking.{place_of_chunk};
 ghost use Rattle.bump_steps.specs.Applications.{class_at_rest};
 ghost use Rattle.bump_steps.specs.Rule.{chunks as all_chunks};
@@ -14,7 +14,7 @@ use super::bumps::{begin_in_cold, send_off};
 use super::expecting::{expect, expect_seen};
 use super::stores::{Small, config_of, head, open};
 use super::*;
-use bump_rules::{Config, Head, Outcome, Segment};
+use bump_rules::{Bump, Config, Head, Outcome, Segment};
 use std::alloc::{AllocError, Global};
 use std::marker::Brand;
 use std::process::Abort;
@@ -31,10 +31,9 @@ struct Applied {
 }
 
 // An application that didn't move the item, by what its end answered.
-fn unmoved(tried: Head, cleared: Option<Head>, ended: (Outcome, Head)) -> Applied
+fn unmoved(tried: Head, cleared: Option<Head>, outcome: Outcome, last: Head) -> Applied
     ensures { result.tried ≡ tried }
 {
-    let (outcome, last) = ended;
     Applied {
         tried,
         cleared,
@@ -44,43 +43,45 @@ fn unmoved(tried: Head, cleared: Option<Head>, ended: (Outcome, Head)) -> Applie
     }
 }
 
-// Applies the bump aboard the lane, which is of this chunk of the class, as memcached's `lru_bump_async` drain does.
+// Applies the bump aboard the lane, which is this one, of a chunk of the class, as memcached's `lru_bump_async` drain
+// does.
 fn apply_front<N: Name>(
     class: &mut ClassSeat<N>,
     lane: &mut LaneSeat<N>,
-    chunk: u32,
+    bump: Bump,
     now: u64,
 ) -> Applied
     requires alone { class.old.lane ≡ None }
-    requires own { owns chunk class.old.part ≡ true }
-    requires carries { IsOf chunk (carried_by lane.old) }
+    requires own { owns bump.life.chunk class.old.part ≡ true }
+    requires carries { carried_by lane.old ≡ Some bump }
     ensures alone { class.new.lane ≡ None }
     ensures whole { IsSome lane.new }
     ensures gone { result.tried.linked ≡ false → class.new.part ≡ class_at_rest class.old.part }
 {
-    let tried = class.try_front(lane);
+    let chunk = bump.life.chunk;
+    let tried = class.try_front(lane, bump);
     if !tried.linked {
-        let ended = class.alight(lane);
-        return unmoved(tried, None, ended);
+        let last = class.alight(lane, bump, Outcome::Gone);
+        return unmoved(tried, None, Outcome::Gone, last);
     }
     class.put_time(chunk, now);
     if !matches!(tried.segment, Segment::Cold) {
-        let ended = class.alight(lane);
-        return unmoved(tried, None, ended);
+        let last = class.alight(lane, bump, Outcome::TimeOnly);
+        return unmoved(tried, None, Outcome::TimeOnly, last);
     }
     let cleared = class.clear_active(chunk);
     if !cleared.active {
-        let ended = class.alight(lane);
-        return unmoved(tried, Some(cleared), ended);
+        let last = class.alight(lane, bump, Outcome::TimeOnly);
+        return unmoved(tried, Some(cleared), Outcome::TimeOnly, last);
     }
     let moved = class.change_segment(chunk, Segment::Cold, Segment::Warm);
-    let (outcome, last) = class.alight(lane);
+    let last = class.alight(lane, bump, Outcome::Moved);
     Applied {
         tried,
         cleared: Some(cleared),
         moved: Some(moved),
         last,
-        outcome,
+        outcome: Outcome::Moved,
     }
 }
 
@@ -99,7 +100,7 @@ fn carry<N: Name>(
     ensures alone { IfOk result (λ r. r.0.class.lane ≡ None) }
     ensures own { IfOk result (λ r. owns 0 r.0.class.part ≡ true) }
     ensures stands { IfOk result (λ r. standing r.0.class.part 0 ≡ (place.Cold, 1)) }
-    ensures carries { IfOk result (λ r. IsOf 0 (carried_by r.0.lane)) }
+    ensures carries { IfOk result (λ r. carried_by r.0.lane ≡ Some (record { number = 0; life = life_of 0 1 })) }
     ensures hold { IfOk result (λ r. r.1 ≡ whole_hold (life_of 0 1)) }
 {
     let Small {
@@ -149,7 +150,11 @@ fn move_in<N: Name>(
         × (config.now.classes ≡ record { chunks = 2; hot = 1; warm = 1 } ∷ []) }
 {
     let (mut store, hold) = carry::<N>(rt, alloc, blank, config)?;
-    let applied = apply_front(&mut store.class, &mut store.lane, 0, 9);
+    let bump = Bump {
+        number: 0,
+        life: hold.life(),
+    };
+    let applied = apply_front(&mut store.class, &mut store.lane, bump, 9);
     expect_moved(rt, &applied);
     let wanted = (head(2, "lf", Segment::Warm, 1), 9);
     expect_seen(rt, &store.heads, 0, wanted);

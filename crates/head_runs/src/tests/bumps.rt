@@ -90,9 +90,7 @@ pub fn send_off<N: Name>(
     ensures hold { hold.new ≡ hold.old }
 {
     attempt(rt, heads, worker, hold);
-    let rider = heads
-        .ride(worker, hold.life(), 0)
-        .expect(rt, "there is room");
+    let rider = heads.ride(worker, hold.life()).expect(rt, "there is room");
     let_out(heads, worker, hold);
     rider
 }
@@ -114,7 +112,7 @@ fn drop_full<N: Name>(
 {
     attempt(rt, heads, worker, hold);
     let life = hold.life();
-    let rider = heads.ride(worker, life, 0).expect(rt, "there is room");
+    let rider = heads.ride(worker, life).expect(rt, "there is room");
     let sent = head(3, "lfa", Segment::Cold, 1);
     expect_head_of(rt, heads, life.chunk, sent);
     heads.rider_back(worker, rider);
@@ -144,7 +142,7 @@ fn drop_at_limit<N: Name>(
 {
     attempt(rt, heads, worker, hold);
     let life = hold.life();
-    let Err(refusal) = heads.ride(worker, life, 0) else {
+    let Err(refusal) = heads.ride(worker, life) else {
         panic!(rt; "the item has one more reference than it may have")
     };
     expect(rt, "why", &refusal, &RideRefusal::RefsFull);

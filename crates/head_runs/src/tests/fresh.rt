@@ -53,8 +53,7 @@ fn run_in<N: Name>(
     let class = classes.pop().ok_or(AllocError)?;
     expect(rt, "the class", &class.class(), &0);
     let lane = lanes.pop().ok_or(AllocError)?;
-    let told = (lane.is_whole(), lane.aboard().is_none());
-    expect(rt, "a new lane", &told, &(true, true));
+    expect(rt, "its lane", &lane.worker(), &0);
     Ok(())
 }
 

@@ -129,8 +129,7 @@ fn take_next<N: Name>(receiver: &mut Receiver<N>) -> Option<Rider<N>> {
 fn take_all<N: Name>(rt: &impl Abort, mut receiver: Receiver<N>, bumps: u64) -> Receiver<N> {
     for number in 0..bumps {
         let rider = take_next(&mut receiver).expect(rt, "it comes");
-        let told = (rider.number(), rider.life());
-        expect(rt, "the bump", &told, &(number, item_of(number)));
+        expect(rt, "the bump", &rider.life(), &item_of(number));
     }
     receiver
 }

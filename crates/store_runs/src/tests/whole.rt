@@ -5,6 +5,7 @@ use super::beside_world::run_beside;
 use super::besides::{end_full, keep_times, leave_the_rest, pass_in_order, tell_opened};
 use super::classes::{find_exchanged, tell_classes};
 use super::drains::{drain_again, drain_in_turn};
+use super::marks::mark_by_hits;
 use super::moves::move_in_one_class;
 use super::refused_memory::{Call, end_again};
 use super::settling::{end_new, pass_twice, settle_at_once, settle_one_by_one};
@@ -39,6 +40,7 @@ pub enum Story {
     PassedInOrder,
     TimesKept,
     EndedFull,
+    Marked,
 }
 
 // Two workers. None where memory is refused.
@@ -100,6 +102,7 @@ fn tell_short<N: Name, R: Abort + Wait>(
         Story::Opened => tell_opened(rt, &store),
         Story::EndedFull => end_full(rt, alloc, store, worker, lane),
         Story::RestLeft => leave_the_rest(rt, &store, worker, lane),
+        Story::Marked => mark_by_hits(rt, &store, worker, lane),
         Story::Exchanged => find_exchanged(rt, &store, worker, lane),
         Story::DrainedAgain => drain_again(rt, &store, worker, lane),
         _ => drain_in_turn(rt, &store, worker, lane),

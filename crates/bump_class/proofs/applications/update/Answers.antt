@@ -3,33 +3,30 @@ use mathlib.Core.Bool.{false≢true}
 use Rattle.bump_rules.specs.declared.bumps.Outcome.TheVariants.{Moved, TimeOnly, Gone}
 use Rattle.bump_rules.specs.declared.places.Segment.TheVariants.{Cold}
 use Rattle.bump_rules.specs.Tables.{is_cold}
-use Rattle.bump_heads.specs.Applying.{life_aboard}
 use Rattle.bump_heads.proofs.Endings as on
-use Rattle.bump_heads.proofs.Joining.{one_outcome}
-use Rattle.bump_steps.specs.Views.{owns}
 use Rattle.bump_class.specs.Applications.{FoundHeads, AllFit, with_time, with_clearing, with_move}
-use Rattle.bump_class.proofs.UpdateLemmas.{carrying_it, not_cold, gone_by, elsewhere_by, clear_by, moved_by, rests, updates}
+use Rattle.bump_class.proofs.UpdateLemmas.{not_cold, gone_by, elsewhere_by, clear_by, moved_by, rests, updates}
 use Rattle.bump_class.proofs.applications.update.Goals as goal
 use Rattle.bump_class.proofs.applications.update.Goals.{in-Cold, in_default}
 
 pub try_front-tried-requires-clause-own : goal.try_front-tried-requires-clause-own
 try_front-tried-requires-clause-own g c =
-    let m = carrying_it c.args.lane.now c.args.bump c.requires.carries in
-    ap (λ x. owns (life_aboard x).chunk c.args.class.now.part) m.1 ∙ c.requires.own
+    on.own_aboard c.args.bump c.args.lane.now c.args.class.now.part c.requires.carries c.requires.own
 
 pub alight-requires-clause-ends : goal.alight-requires-clause-ends
 alight-requires-clause-ends g c =
     let t = c.try_front-tried in
     let b = c.args.bump in
-    let m = carrying_it c.args.lane.now b c.requires.carries in
-    on.ends_gone c.args.class.now t.new.self c.args.lane.now m.0 b b.life.chunk t.result m.1 refl t.ensures.tried
-    t.ensures.found t.ensures.fits c.requires.own c.if-not-tried.true
+    let m = on.carrying c.args.lane.now b c.requires.carries in
+    let ends = on.ends_gone c.args.class.now t.new.self c.args.lane.now m.0 b b.life.chunk t.result m.1 refl
+    t.ensures.tried t.ensures.found t.ensures.fits c.requires.own in
+    ends c.if-not-tried.true
 
 pub alight-requires-then-not-matches-clause-ends : goal.alight-requires-then-not-matches-clause-ends
 alight-requires-then-not-matches-clause-ends g c =
     let t = c.try_front-tried in
     let b = c.args.bump in
-    let m = carrying_it c.args.lane.now b c.requires.carries in
+    let m = on.carrying c.args.lane.now b c.requires.carries in
     let ends = on.ends_elsewhere c.args.class.now t.new.self c.args.lane.now m.0 b b.life.chunk t.result m.1 refl
     t.ensures.tried t.ensures.found t.ensures.fits c.requires.own in
     ends c.args.now c.put_time.new.self c.put_time.ensures.timed c.if-not-tried.false
@@ -42,7 +39,7 @@ pub alight-requires-then-not-cleared-clause-ends : goal.alight-requires-then-not
 alight-requires-then-not-cleared-clause-ends g c =
     let t = c.try_front-tried in
     let b = c.args.bump in
-    let m = carrying_it c.args.lane.now b c.requires.carries in
+    let m = on.carrying c.args.lane.now b c.requires.carries in
     let d = c.clear_active-cleared in
     let ends = on.ends_clear c.args.class.now t.new.self c.args.lane.now m.0 b b.life.chunk t.result m.1 refl
     t.ensures.tried t.ensures.found t.ensures.fits c.requires.own in
@@ -53,7 +50,7 @@ pub alight-requires-2-clause-ends : goal.alight-requires-2-clause-ends
 alight-requires-2-clause-ends g c =
     let t = c.try_front-tried in
     let b = c.args.bump in
-    let m = carrying_it c.args.lane.now b c.requires.carries in
+    let m = on.carrying c.args.lane.now b c.requires.carries in
     let d = c.clear_active-cleared in
     let s = c.change_segment in
     let ends = on.ends_moved c.args.class.now t.new.self c.args.lane.now m.0 b b.life.chunk t.result m.1 refl
@@ -65,7 +62,7 @@ pub returns-then-not-tried : goal.returns-then-not-tried
 returns-then-not-tried g c =
     let t = c.try_front-tried in
     let b = c.args.bump in
-    let m = carrying_it c.args.lane.now b c.requires.carries in
+    let m = on.carrying c.args.lane.now b c.requires.carries in
     let a = c.alight in
     let v = c.args.class.now in
     let o = c.args.lane.now in
@@ -73,7 +70,7 @@ returns-then-not-tried g c =
       tried = t.result;
       cleared = t.result;
       moved = t.result;
-      last = a.result.1;
+      last = a.result;
       behind = t.result;
     } in
     let fit : AllFit f = record {
@@ -84,19 +81,16 @@ returns-then-not-tried g c =
     } in
     let is = on.tried_is v t.new.self o m.0 b b.life.chunk t.result m.1 refl t.ensures.tried t.ensures.found
     t.ensures.fits c.requires.own in
-    let came : a.result.0 ≡ Gone = one_outcome t.new.self _ _ _ _ _ _ _ _ a.ensures.outcome.3 (on.gone_as v
-    t.new.self o m.0 b b.life.chunk t.result m.1 refl t.ensures.tried t.ensures.found t.ensures.fits c.requires.own
-    c.if-not-tried.true) in
     let all = updates v o m.0 b c.args.now c.requires.alone m.1 Gone f fit t.ensures.found
     (sym (gone_by t.result t.result c.if-not-tried.true)) t.new.self a.new.self a.new.lane _ _ is
-    (rests v.part c.requires.idle) refl refl a.result.0 came a.ensures.class a.ensures.lane a.ensures.entry a.ensures.once a.ensures.moves in
+    (rests v.part c.requires.idle) refl refl a.ensures.class a.ensures.lane a.ensures.entry a.ensures.once a.ensures.moves in
     record { whole = all.0; updates = (f, all.1) }
 
 pub returns-then-not-matches : goal.returns-then-not-matches
 returns-then-not-matches g c =
     let t = c.try_front-tried in
     let b = c.args.bump in
-    let m = carrying_it c.args.lane.now b c.requires.carries in
+    let m = on.carrying c.args.lane.now b c.requires.carries in
     let a = c.alight-then-not-matches in
     let v = c.args.class.now in
     let o = c.args.lane.now in
@@ -104,7 +98,7 @@ returns-then-not-matches g c =
       tried = t.result;
       cleared = t.result;
       moved = t.result;
-      last = a.result.1;
+      last = a.result;
       behind = t.result;
     } in
     let fit : AllFit f = record {
@@ -121,21 +115,18 @@ returns-then-not-matches g c =
     let p = c.put_time in
     let is = on.put_time_is v t.new.self o m.0 b b.life.chunk t.result m.1 refl t.ensures.tried t.ensures.found
     t.ensures.fits c.requires.own c.args.now p.new.self p.ensures.timed in
-    let came : a.result.0 ≡ TimeOnly = one_outcome p.new.self _ _ _ _ _ _ _ _ a.ensures.outcome.3 (on.elsewhere_as v
-    t.new.self o m.0 b b.life.chunk t.result m.1 refl t.ensures.tried t.ensures.found t.ensures.fits c.requires.own
-    c.args.now p.new.self p.ensures.timed c.if-not-tried.false other) in
     let timed = with_time m.0.worker b c.args.now v.part in
     let part = sym (ap (λ (x : Bool). if x then with_clearing m.0.worker b t.result timed else timed) elsewhere) in
     let all = updates v o m.0 b c.args.now c.requires.alone m.1 TimeOnly f fit t.ensures.found
     (sym (elsewhere_by t.result t.result c.if-not-tried.false elsewhere)) p.new.self a.new.self a.new.lane _ _ is
-    (rests timed c.requires.idle ∙ part) refl refl a.result.0 came a.ensures.class a.ensures.lane a.ensures.entry a.ensures.once a.ensures.moves in
+    (rests timed c.requires.idle ∙ part) refl refl a.ensures.class a.ensures.lane a.ensures.entry a.ensures.once a.ensures.moves in
     record { whole = all.0; updates = (f, all.1) }
 
 pub returns-then-not-cleared : goal.returns-then-not-cleared
 returns-then-not-cleared g c =
     let t = c.try_front-tried in
     let b = c.args.bump in
-    let m = carrying_it c.args.lane.now b c.requires.carries in
+    let m = on.carrying c.args.lane.now b c.requires.carries in
     let d = c.clear_active-cleared in
     let a = c.alight-then-not-cleared in
     let v = c.args.class.now in
@@ -144,7 +135,7 @@ returns-then-not-cleared g c =
       tried = t.result;
       cleared = d.result;
       moved = t.result;
-      last = a.result.1;
+      last = a.result;
       behind = t.result;
     } in
     let fit : AllFit f = record {
@@ -160,14 +151,11 @@ returns-then-not-cleared g c =
     let p = c.put_time in
     let is = on.clear_active_is v t.new.self o m.0 b b.life.chunk t.result m.1 refl t.ensures.tried t.ensures.found
     t.ensures.fits c.requires.own c.args.now p.new.self p.ensures.timed d.result d.new.self d.ensures.cleared in
-    let came : a.result.0 ≡ TimeOnly = one_outcome d.new.self _ _ _ _ _ _ _ _ a.ensures.outcome.3 (on.clear_as v
-    t.new.self o m.0 b b.life.chunk t.result m.1 refl t.ensures.tried t.ensures.found t.ensures.fits c.requires.own
-    c.args.now p.new.self p.ensures.timed d.result d.new.self d.ensures.cleared c.if-not-cleared.true) in
     let timed = with_time m.0.worker b c.args.now v.part in
     let part = sym (ap (λ (x : Bool). if x then with_clearing m.0.worker b d.result timed else timed) cold) in
     let all = updates v o m.0 b c.args.now c.requires.alone m.1 TimeOnly f fit t.ensures.found
     (sym (clear_by t.result d.result c.if-not-tried.false cold c.if-not-cleared.true)) d.new.self a.new.self
-    a.new.lane _ _ is (rests (with_clearing m.0.worker b d.result timed) c.requires.idle ∙ part) refl refl a.result.0 came a.ensures.class a.ensures.lane a.ensures.entry a.ensures.once
+    a.new.lane _ _ is (rests (with_clearing m.0.worker b d.result timed) c.requires.idle ∙ part) refl refl a.ensures.class a.ensures.lane a.ensures.entry a.ensures.once
     a.ensures.moves in
     record { whole = all.0; updates = (f, all.1) }
 
@@ -175,7 +163,7 @@ pub returns : goal.returns
 returns g c =
     let t = c.try_front-tried in
     let b = c.args.bump in
-    let m = carrying_it c.args.lane.now b c.requires.carries in
+    let m = on.carrying c.args.lane.now b c.requires.carries in
     let d = c.clear_active-cleared in
     let s = c.change_segment in
     let a = c.alight-2 in
@@ -185,7 +173,7 @@ returns g c =
       tried = t.result;
       cleared = d.result;
       moved = s.result;
-      last = a.result.1;
+      last = a.result;
       behind = t.result;
     } in
     let fit : AllFit f = record {
@@ -202,13 +190,9 @@ returns g c =
     let is = on.moved_is v t.new.self o m.0 b b.life.chunk t.result m.1 refl t.ensures.tried t.ensures.found
     t.ensures.fits c.requires.own c.args.now p.new.self p.ensures.timed d.result d.new.self d.ensures.cleared s.result
     s.new.self s.ensures.moved in
-    let came : a.result.0 ≡ Moved = one_outcome s.new.self _ _ _ _ _ _ _ _ a.ensures.outcome.3 (on.moved_as v
-    t.new.self o m.0 b b.life.chunk t.result m.1 refl t.ensures.tried t.ensures.found t.ensures.fits c.requires.own
-    c.args.now p.new.self p.ensures.timed d.result d.new.self d.ensures.cleared s.result s.new.self s.ensures.moved
-    c.if-not-cleared.false) in
     let all = updates v o m.0 b c.args.now c.requires.alone m.1 Moved f fit t.ensures.found
     (sym (moved_by t.result d.result c.if-not-tried.false cold c.if-not-cleared.false)) s.new.self a.new.self
     a.new.lane _ _ is (rests (with_move m.0.worker b s.result (with_clearing m.0.worker b d.result
-    (with_time m.0.worker b c.args.now v.part))) c.requires.idle) refl refl a.result.0 came a.ensures.class a.ensures.lane a.ensures.entry a.ensures.once
+    (with_time m.0.worker b c.args.now v.part))) c.requires.idle) refl refl a.ensures.class a.ensures.lane a.ensures.entry a.ensures.once
     a.ensures.moves in
     record { whole = all.0; updates = (f, all.1) }

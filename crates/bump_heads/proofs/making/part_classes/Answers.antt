@@ -1,7 +1,7 @@
 use Rattle.std.proofs.Common.{ap, ◌∙◌, List, ◌++◌, map}
 use Rattle.bump_heads.specs.declared.views.ClassView.{ClassView}
 use Rattle.bump_heads.specs.Making.{class_seen}
-use Rattle.bump_heads.proofs.Makings.{class_turn}
+use Rattle.bump_heads.proofs.Makings.{class_turn, no_bump}
 use Rattle.bump_heads.proofs.making.part_classes.Goals as goal
 
 pub invariant_of-push : goal.invariant_of-push
@@ -10,7 +10,7 @@ invariant_of-push g c = let o = c.loop-class.invariant in
     c.loop-class.seats.items (map class_seen c.args.seat.now.me.0.classes) c.part_class-part.new.seat.me
     c.part_class-part.result.me o.rest o.count c.loop-class-test.true o.numbers o.parts
     c.part_class-part.ensures.parts.0 c.part_class-part.ensures.parts.1 in
-    (t.0, c.part_class-part.ensures.same.2 ∙ o.id, t.1, t.2, t.3, t.4)
+    (t.0, c.part_class-part.ensures.same.2 ∙ o.id, t.1, t.2, t.3, (no_bump, t.4))
 
 pub loop-class-preserved : goal.loop-class-preserved
 loop-class-preserved g c = let o = c.loop-class.invariant in

@@ -1,6 +1,8 @@
-use Rattle.std.proofs.Common.{arith, ap, ◌∙◌, List, Option, ◌++◌, map}
+use Rattle.std.proofs.Common.{arith, ap, sym, subst, ◌∙◌, List, Option, Some, ◌++◌, ◌∷◌, [], map}
 use Rattle.bump_steps.specs.declared.views.LanePart.{LanePart}
 use Rattle.bump_heads.specs.Making.{lane_seen}
+use Rattle.bump_heads.specs.Seats.{IsLane, IsInRange, IsOfWorker, aboard_lane}
+use Rattle.bump_heads.proofs.Badges.{back_lane, back_is, back_rests}
 use Rattle.bump_heads.proofs.Makings.{lane_turn}
 use Rattle.bump_heads.proofs.making.part_lanes.Goals as goal
 
@@ -8,11 +10,17 @@ pub invariant_of-push : goal.invariant_of-push
 invariant_of-push g c = let o = c.loop-worker.invariant in let t = lane_turn c.loop-worker.seat.me
     c.args.seat.now.me.0 c.loop-worker.worker c.args.count c.loop-worker.seats.items
     (map lane_seen c.args.seat.now.me.0.lanes) c.part_lane-part.new.seat.me c.part_lane-part.result.me o.rest o.count
-    c.loop-worker-test.true o.empty o.parts c.part_lane-part.ensures.parts.0 c.part_lane-part.ensures.parts.1 in (
-      (t.0, c.part_lane-part.ensures.same.2 ∙ o.id, t.2),
-      t.1,
-      tt,
-      λ new. t.7,
+    c.loop-worker-test.true o.empty o.parts c.part_lane-part.ensures.parts.0 c.part_lane-part.ensures.parts.1 in
+    let table = g.N.Name.table in
+    let s = c.part_lane-part.result in
+    let b = c.into_badge.result in
+    let whole : IsLane table (Some s) = (t.0, c.part_lane-part.ensures.same.2 ∙ o.id, t.2) in
+    let back = sym (back_lane table b.views s c.into_badge.ensures.2) in (
+      back_is table b.views s c.into_badge.ensures.2 whole,
+      (λ some. c.into_badge.ensures.0 ∙ whole.1),
+      back_rests table b.views s c.into_badge.ensures.2 whole,
+      subst (λ (x : Option LanePart). IsInRange table (aboard_lane x)) back (subst (IsInRange table) t.1 tt),
+      subst (IsOfWorker c.loop-worker.worker) back (λ new. t.7),
       omega (
         arith,
         c.loop-worker-test.true,
@@ -32,5 +40,8 @@ loop-worker-preserved g c = let o = c.loop-worker.invariant in let t = lane_turn
       empty = t.5;
       parts =
           ap (λ (x : List (Option LanePart)). x ++ map lane_seen c.part_lane-part.new.seat.me.0.lanes)
-          c.in_ok-push.ensures.items ∙ t.6;
+          c.in_ok-push.ensures.items
+          ∙ ap (λ (o : Option LanePart). (c.loop-worker.seats.items ++ o ∷ [])
+          ++ map lane_seen c.part_lane-part.new.seat.me.0.lanes)
+          (back_lane g.N.Name.table c.into_badge.result.views c.part_lane-part.result c.into_badge.ensures.2) ∙ t.6;
     }

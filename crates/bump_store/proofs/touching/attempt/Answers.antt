@@ -15,8 +15,8 @@ pub returns-in-Ok-offer : goal.returns-in-Ok-offer
 returns-in-Ok-offer g c =
     let r = c.in-Ok.ensures.rode in
     let o = c.in-Ok-offer.ensures in
-    queued _ _ _ _ _ _ c.accepted-number.result c.in-Ok-offer.number r.0 r.1 c.in-Ok.rider r.2 c.in-Ok.ensures.rider
-    c.accepted-number.ensures o.number o.sent
+    queued _ _ _ _ _ _ c.args.seat.now.part.accounts.accepted c.in-Ok-offer.number r.0 r.1 c.in-Ok.rider r.2 c.in-Ok.ensures.rider
+    c.requires.accepted o.number o.sent
 
 pub returns : goal.returns
 returns g c =

@@ -10,9 +10,9 @@ invariant_of-self g c =
     let t = cleared_whole g.N.Name.table c.self.inside.class c.args.chunk c.clear_active-word.result
     c.self.inside.seat.me c.clear_active-word.new.seat.me (class_in c.self.inside.seat.me.0) c.args.self.now
     c.self.invariant.0 (cc c.self.view_is) c.self.invariant.2 c.self.invariant.3 c.self.invariant.4
-    c.self.inside.joined c.self.invariant.5 c.head_of.result c.head_of.ensures c.requires.may
+    c.self.invariant.5.0 c.self.invariant.5.1 c.head_of.result c.head_of.ensures c.requires.may
     c.clear_active-word.ensures.told.1 in
-    (t.0, c.clear_active-word.ensures.same.0 ∙ c.self.invariant.1, t.1, t.2, t.3, t.4)
+    (t.0, c.clear_active-word.ensures.same.0 ∙ c.self.invariant.1, t.1, t.2, t.3, (c.self.invariant.5.0, t.4))
 
 pub returns-clause-shows : goal.returns-clause-shows
 returns-clause-shows g c =

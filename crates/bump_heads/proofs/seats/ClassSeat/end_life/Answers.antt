@@ -12,12 +12,12 @@ use Rattle.bump_heads.proofs.seats.ClassSeat.end_life.Goals as goal
 pub invariant_of-self : goal.invariant_of-self
 invariant_of-self g c = seat_kept c.self.inside.seat.me c.end_life.new.seat.me c.args.self.now
     (class_after_unlink c.args.chunk c.end_life.result) g.N.Name.table c.end_life.new.seat.table_id
-    c.self.inside.class c.self.inside.joined c.self.view_is c.self.invariant.0 c.end_life.ensures.told.0
+    c.self.inside.class c.self.view_is c.self.invariant.0 c.end_life.ensures.told.0
     (c.end_life.ensures.same.0 ∙ c.self.invariant.1) c.self.invariant.2 c.self.invariant.3 c.self.invariant.4
     c.self.invariant.5 refl (λ o. keeps_unlink g.N.Name.table.words c.args.self.now.part o c.args.chunk
     c.end_life.result c.requires.own c.requires.linked)
-    (λ o. alone_joined c.args.self.now.part (class_after_unlink c.args.chunk c.end_life.result c.args.self.now.part)
-    c.args.self.now.lane c.self.inside.joined c.requires.alone refl o)
+    (λ j o. alone_joined c.args.self.now.part (class_after_unlink c.args.chunk c.end_life.result c.args.self.now.part)
+    c.args.self.now.lane j c.requires.alone refl o)
 
 pub returns-clause-agrees : goal.returns-clause-agrees
 returns-clause-agrees g c =

@@ -55,7 +55,7 @@ invariant_of-self g c =
     let seen : ClassPart = class_after_see_generation c.args.chunk y now.part in
     seat_kept c.self.inside.seat.me c.open_life.new.seat.me now
     (λ k. class_after_link c.args.start c.args.chunk n word (class_after_see_generation c.args.chunk y k))
-    g.N.Name.table c.open_life.new.seat.table_id c.self.inside.class c.self.inside.joined c.self.view_is
+    g.N.Name.table c.open_life.new.seat.table_id c.self.inside.class c.self.view_is
     c.self.invariant.0 (after_two c.self.inside.seat.me c.see_generation.new.seat.me c.open_life.new.seat.me
     (class_after_see_generation c.args.chunk y) (class_after_link c.args.start c.args.chunk n word)
     c.see_generation.ensures.told.0 c.open_life.ensures.told)
@@ -63,8 +63,8 @@ invariant_of-self g c =
     c.self.invariant.3 c.self.invariant.4 c.self.invariant.5 refl
     (λ o. subst (λ (j : ℕ). IsClassPart words (class_after_link c.args.start c.args.chunk (j + 1) word seen)) (sym gen)
     (keeps_link words seen (noted_part words now.part seen.steps o) c.args.start c.args.chunk word c.requires.own))
-    (λ o. alone_joined now.part (class_after_link c.args.start c.args.chunk n word seen)
-    now.lane c.self.inside.joined c.requires.alone refl o)
+    (λ j o. alone_joined now.part (class_after_link c.args.start c.args.chunk n word seen)
+    now.lane j c.requires.alone refl o)
 
 pub returns-clause-next : goal.returns-clause-next
 returns-clause-next g c = ap (λ (j : ℕ). life c.args.chunk (j + 1))

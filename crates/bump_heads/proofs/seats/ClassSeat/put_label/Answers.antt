@@ -8,12 +8,12 @@ use Rattle.bump_heads.proofs.seats.ClassSeat.put_label.Goals as goal
 pub invariant_of-self : goal.invariant_of-self
 invariant_of-self g c = seat_kept c.self.inside.seat.me c.put_label.new.seat.me c.args.self.now
     (class_after_put_label c.args.chunk c.args.label) g.N.Name.table c.put_label.new.seat.table_id c.self.inside.class
-    c.self.inside.joined c.self.view_is c.self.invariant.0 c.put_label.ensures.told
+    c.self.view_is c.self.invariant.0 c.put_label.ensures.told
     (c.put_label.ensures.same.0 ∙ c.self.invariant.1) c.self.invariant.2 c.self.invariant.3 c.self.invariant.4
     c.self.invariant.5 refl (λ o. keeps_put_label g.N.Name.table.words c.args.self.now.part o c.args.chunk
     c.args.label c.requires.unused)
-    (λ o. alone_joined c.args.self.now.part (class_after_put_label c.args.chunk c.args.label c.args.self.now.part)
-    c.args.self.now.lane c.self.inside.joined c.requires.alone refl o)
+    (λ j o. alone_joined c.args.self.now.part (class_after_put_label c.args.chunk c.args.label c.args.self.now.part)
+    c.args.self.now.lane j c.requires.alone refl o)
 
 pub returns : goal.returns
 returns g c = search rules

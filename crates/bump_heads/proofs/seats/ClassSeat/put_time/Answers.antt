@@ -8,9 +8,9 @@ pub invariant_of-self : goal.invariant_of-self
 invariant_of-self g c =
     let t = timed_whole g.N.Name.table c.self.inside.class c.args.chunk 0 c.self.inside.seat.me c.put_time.new.seat.me
     (class_in c.self.inside.seat.me.0) c.args.self.now c.self.invariant.0 (cc c.self.view_is) c.self.invariant.2
-    c.self.invariant.3 c.self.invariant.4 c.self.inside.joined c.self.invariant.5
+    c.self.invariant.3 c.self.invariant.4 c.self.invariant.5.0 c.self.invariant.5.1
     c.args.now c.put_time.ensures.told in
-    (t.0, c.put_time.ensures.same.0 ∙ c.self.invariant.1, t.1, t.2, t.3, t.4)
+    (t.0, c.put_time.ensures.same.0 ∙ c.self.invariant.1, t.1, t.2, t.3, (c.self.invariant.5.0, t.4))
 
 pub returns : goal.returns
 returns g c = search rules

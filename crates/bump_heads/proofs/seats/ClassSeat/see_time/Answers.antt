@@ -12,11 +12,11 @@ invariant_of-self g c =
     let now = c.args.self.now in
     let step = step_of kind.SeeTime c.args.chunk c.see_time.result None in
     seat_kept c.self.inside.seat.me c.see_time.new.seat.me now (class_after_see_time c.args.chunk c.see_time.result)
-    g.N.Name.table c.see_time.new.seat.table_id c.self.inside.class c.self.inside.joined c.self.view_is
+    g.N.Name.table c.see_time.new.seat.table_id c.self.inside.class c.self.view_is
     c.self.invariant.0 c.see_time.ensures.told
     (c.see_time.ensures.same.0 ∙ c.self.invariant.1) c.self.invariant.2 c.self.invariant.3 c.self.invariant.4
     c.self.invariant.5 refl (λ o. noted_part g.N.Name.table.words now.part (now.part.steps ++ step ∷ []) o)
-    (λ o. noted_joined now.part step now.lane c.self.inside.joined o)
+    (λ j o. noted_joined now.part step now.lane j o)
 
 pub returns : goal.returns
 returns g c = search rules

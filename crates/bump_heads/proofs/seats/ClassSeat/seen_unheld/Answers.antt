@@ -13,15 +13,15 @@ use Rattle.bump_heads.proofs.seats.ClassSeat.seen_unheld.Goals as goal
 pub invariant_of-self : goal.invariant_of-self
 invariant_of-self g c = seat_kept c.self.inside.seat.me c.seen_unheld.new.seat.me c.args.self.now
     (class_after_sweep_or_load c.args.chunk (c.seen_unheld.result % 2 ^ refs_width) c.seen_unheld.result)
-    g.N.Name.table c.seen_unheld.new.seat.table_id c.self.inside.class c.self.inside.joined c.self.view_is
+    g.N.Name.table c.seen_unheld.new.seat.table_id c.self.inside.class c.self.view_is
     c.self.invariant.0 c.seen_unheld.ensures.told.0 (c.seen_unheld.ensures.same.0 ∙ c.self.invariant.1)
     c.self.invariant.2 c.self.invariant.3 c.self.invariant.4 c.self.invariant.5
     (number_kept c.args.chunk (c.seen_unheld.result % 2 ^ refs_width) c.seen_unheld.result c.args.self.now.part)
     (λ o. keeps_sweep_or_load g.N.Name.table.words c.args.self.now.part o c.args.chunk
     (c.seen_unheld.result % 2 ^ refs_width) c.seen_unheld.result c.requires.own)
-    (λ o. alone_joined c.args.self.now.part
+    (λ j o. alone_joined c.args.self.now.part
     (class_after_sweep_or_load c.args.chunk (c.seen_unheld.result % 2 ^ refs_width) c.seen_unheld.result
-    c.args.self.now.part) c.args.self.now.lane c.self.inside.joined c.requires.alone (naming_kept c.args.chunk (c.seen_unheld.result % 2 ^ refs_width) c.seen_unheld.result
+    c.args.self.now.part) c.args.self.now.lane j c.requires.alone (naming_kept c.args.chunk (c.seen_unheld.result % 2 ^ refs_width) c.seen_unheld.result
     c.args.self.now.part) o)
 
 pub returns-clause-unlinked : goal.returns-clause-unlinked

@@ -1,68 +1,111 @@
-use Rattle.std.proofs.Common.{rules, Option, sym, ◌∙◌, subst}
-use Rattle.bump_rules.specs.declared.bumps.Bump.{Bump}
-use Rattle.bump_heads.specs.declared.joined.Joined.{Joined}
-use Rattle.bump_heads.specs.Applying.{IsJoined}
+use Rattle.std.proofs.Common.{rules, Option, Some, IsSome, sym, ap, refl, ◌∙◌, subst}
+use Rattle.bump_steps.specs.declared.views.LanePart.{LanePart}
+use Rattle.bump_heads.specs.Applying.{joined_after_try}
+use Rattle.bump_heads.proofs.Badges.{seat_view, some_carries, carries_aboard, carries_some, out_lane, out_is}
 use Rattle.bump_heads.proofs.Seeing.{may_front, tried_seen, tried_told, tried_whole}
-use Rattle.bump_heads.specs.Seats.{class_in, IsInRange}
+use Rattle.bump_heads.specs.Seats.{class_in, aboard_lane, IsInRange}
 use Rattle.bump_heads.proofs.seats.ClassSeat.try_front.Goals as goal
+
+pub into_seat-seat-requires : goal.into_seat-seat-requires
+into_seat-seat-requires g c = seat_view g.N.Name.table c.lane.inside.badge c.replace.result
+    c.replace.ensures.value c.lane.invariant.0
+    (subst (λ (o : Option LanePart). IsSome o) (sym c.lane.view_is)
+    (some_carries c.args.lane.now c.args.bump c.requires.carries))
+
+pub try_front-requires-clause-may : goal.try_front-requires-clause-may
+try_front-requires-clause-may g c =
+    let s = c.into_seat-seat.result in
+    let b = c.lane.inside.badge in
+    let e = c.into_seat-seat.ensures in
+    let same = c.replace.ensures.value in
+    let whole = out_is g.N.Name.table b c.replace.result same s e.2 e.3 c.lane.invariant.0 c.lane.invariant.1
+    c.lane.invariant.2 e.0 in
+    let lane_is = out_lane g.N.Name.table b c.replace.result same s e.2 ∙ c.lane.view_is in
+    let on = ap aboard_lane lane_is ∙ carries_aboard c.args.lane.now c.args.bump c.requires.carries in
+    may_front c.self.inside.seat.me (class_in c.self.inside.seat.me.0)
+    c.args.self.now (Some s) s g.N.Name.table c.args.lane.now c.self.invariant.0
+    (cc c.self.view_is) c.requires.alone whole refl lane_is c.args.bump on c.join.new.seat.me
+    c.join.ensures.joined (carries_some c.args.lane.now c.args.bump c.requires.carries) c.requires.own
 
 pub invariant_of-self : goal.invariant_of-self
 invariant_of-self g c =
-    let t = tried_whole c.self.inside.seat.me (class_in c.self.inside.seat.me.0) c.args.self.now c.lane.inside.seat
-    c.in-Some-take.seat g.N.Name.table c.args.lane.now c.self.invariant.0 (cc c.self.view_is) c.requires.alone
-    c.lane.invariant.0 (cc (c.take.ensures.value, c.in-Some-take.is)) (cc c.lane.view_is) c.in-Some.bump
-    (sym c.lane.invariant.1 ∙ c.in-Some.is) c.try_front-word.result c.head_of-found.result c.head_of-found.ensures
-    c.try_front-word.new.seat.me c.join.new.seat.me c.join.ensures.joined c.try_front-word.ensures.told.0
-    c.self.inside.class c.self.invariant.3 c.self.invariant.4 c.self.inside.joined c.self.invariant.5
-    (subst (λ (x : Option Bump). IsInRange g.N.Name.table x) c.lane.invariant.1 c.lane.invariant.2)
-    c.requires.carries c.requires.own
-    (tried_seen c.self.inside.seat.me (class_in c.self.inside.seat.me.0) c.args.self.now c.lane.inside.seat
-    c.in-Some-take.seat g.N.Name.table c.args.lane.now c.self.invariant.0 (cc c.self.view_is) c.requires.alone
-    c.lane.invariant.0 (cc (c.take.ensures.value, c.in-Some-take.is)) (cc c.lane.view_is) c.in-Some.bump
-    (sym c.lane.invariant.1 ∙ c.in-Some.is) c.try_front-word.result c.head_of-found.result c.head_of-found.ensures
-    c.try_front-word.new.seat.me c.join.new.seat.me c.join.ensures.joined c.try_front-word.ensures.told.0
-    c.try_front-word.ensures.told.1) in (
+    let s = c.into_seat-seat.result in
+    let b = c.lane.inside.badge in
+    let e = c.into_seat-seat.ensures in
+    let same = c.replace.ensures.value in
+    let whole = out_is g.N.Name.table b c.replace.result same s e.2 e.3 c.lane.invariant.0 c.lane.invariant.1
+    c.lane.invariant.2 e.0 in
+    let lane_is = out_lane g.N.Name.table b c.replace.result same s e.2 ∙ c.lane.view_is in
+    let on = ap aboard_lane lane_is ∙ carries_aboard c.args.lane.now c.args.bump c.requires.carries in
+    let seen = tried_seen c.self.inside.seat.me (class_in c.self.inside.seat.me.0)
+    c.args.self.now (Some s) s g.N.Name.table c.args.lane.now c.self.invariant.0
+    (cc c.self.view_is) c.requires.alone whole refl lane_is c.args.bump on
+    c.try_front.result c.head_of.result c.head_of.ensures c.try_front.new.seat.me c.join.new.seat.me
+    c.join.ensures.joined c.try_front.ensures.told.0 c.try_front.ensures.told.1 in
+    let t = tried_whole c.self.inside.seat.me (class_in c.self.inside.seat.me.0)
+    c.args.self.now (Some s) s g.N.Name.table c.args.lane.now c.self.invariant.0
+    (cc c.self.view_is) c.requires.alone whole refl lane_is c.args.bump on
+    c.try_front.result c.head_of.result c.head_of.ensures c.try_front.new.seat.me c.join.new.seat.me
+    c.join.ensures.joined c.try_front.ensures.told.0
+    c.self.inside.class c.self.invariant.3 c.self.invariant.4 c.self.invariant.5.0 c.self.invariant.5.1
+    (subst (λ (x : Option LanePart). IsInRange g.N.Name.table (aboard_lane x))
+    (sym (out_lane g.N.Name.table b c.replace.result same s e.2)) c.lane.invariant.3)
+    (carries_some c.args.lane.now c.args.bump c.requires.carries) c.requires.own seen in (
       t.0,
-      c.try_front-word.ensures.same.0 ∙ c.join.ensures.same.0 ∙ c.self.invariant.1,
+      c.try_front.ensures.same.0 ∙ c.join.ensures.same.0 ∙ c.self.invariant.1,
       t.1,
       t.2,
       t.3,
-      subst (λ (x : Joined). IsJoined (class_in c.try_front-word.new.seat.me.0).part
-          (class_in c.try_front-word.new.seat.me.0).lane x) (sym c.note_found.ensures) t.4,
+      (joined_after_try c.args.bump.life.chunk c.head_of.result, t.4),
     )
-
-pub try_front-word-requires-clause-may : goal.try_front-word-requires-clause-may
-try_front-word-requires-clause-may g c = may_front c.self.inside.seat.me (class_in c.self.inside.seat.me.0)
-    c.args.self.now c.lane.inside.seat c.in-Some-take.seat g.N.Name.table c.args.lane.now c.self.invariant.0
-    (cc c.self.view_is) c.requires.alone c.lane.invariant.0 (cc (c.take.ensures.value, c.in-Some-take.is))
-    (cc c.lane.view_is) c.in-Some.bump (sym c.lane.invariant.1 ∙ c.in-Some.is) c.join.new.seat.me
-    c.join.ensures.joined c.requires.carries c.requires.own
 
 pub returns-clause-once : goal.returns-clause-once
 returns-clause-once g c =
-    (tried_told c.self.inside.seat.me (class_in c.self.inside.seat.me.0) c.args.self.now c.lane.inside.seat
-    c.in-Some-take.seat g.N.Name.table c.args.lane.now c.self.invariant.0 (cc c.self.view_is) c.requires.alone
-    c.lane.invariant.0 (cc (c.take.ensures.value, c.in-Some-take.is)) (cc c.lane.view_is) c.in-Some.bump
-    (sym c.lane.invariant.1 ∙ c.in-Some.is) c.try_front-word.result c.head_of-found.result c.head_of-found.ensures
-    c.try_front-word.new.seat.me c.join.new.seat.me c.join.ensures.joined c.try_front-word.ensures.told.0
-    c.try_front-word.ensures.told.1).0
+    let s = c.into_seat-seat.result in
+    let b = c.lane.inside.badge in
+    let e = c.into_seat-seat.ensures in
+    let same = c.replace.ensures.value in
+    let whole = out_is g.N.Name.table b c.replace.result same s e.2 e.3 c.lane.invariant.0 c.lane.invariant.1
+    c.lane.invariant.2 e.0 in
+    let lane_is = out_lane g.N.Name.table b c.replace.result same s e.2 ∙ c.lane.view_is in
+    let on = ap aboard_lane lane_is ∙ carries_aboard c.args.lane.now c.args.bump c.requires.carries in
+    (tried_told c.self.inside.seat.me (class_in c.self.inside.seat.me.0)
+    c.args.self.now (Some s) s g.N.Name.table c.args.lane.now c.self.invariant.0
+    (cc c.self.view_is) c.requires.alone whole refl lane_is c.args.bump on
+    c.try_front.result c.head_of.result c.head_of.ensures c.try_front.new.seat.me c.join.new.seat.me
+    c.join.ensures.joined c.try_front.ensures.told.0 c.try_front.ensures.told.1).0
 
 pub returns-clause-moves : goal.returns-clause-moves
 returns-clause-moves g c =
-    (tried_told c.self.inside.seat.me (class_in c.self.inside.seat.me.0) c.args.self.now c.lane.inside.seat
-    c.in-Some-take.seat g.N.Name.table c.args.lane.now c.self.invariant.0 (cc c.self.view_is) c.requires.alone
-    c.lane.invariant.0 (cc (c.take.ensures.value, c.in-Some-take.is)) (cc c.lane.view_is) c.in-Some.bump
-    (sym c.lane.invariant.1 ∙ c.in-Some.is) c.try_front-word.result c.head_of-found.result c.head_of-found.ensures
-    c.try_front-word.new.seat.me c.join.new.seat.me c.join.ensures.joined c.try_front-word.ensures.told.0
-    c.try_front-word.ensures.told.1).1
+    let s = c.into_seat-seat.result in
+    let b = c.lane.inside.badge in
+    let e = c.into_seat-seat.ensures in
+    let same = c.replace.ensures.value in
+    let whole = out_is g.N.Name.table b c.replace.result same s e.2 e.3 c.lane.invariant.0 c.lane.invariant.1
+    c.lane.invariant.2 e.0 in
+    let lane_is = out_lane g.N.Name.table b c.replace.result same s e.2 ∙ c.lane.view_is in
+    let on = ap aboard_lane lane_is ∙ carries_aboard c.args.lane.now c.args.bump c.requires.carries in
+    (tried_told c.self.inside.seat.me (class_in c.self.inside.seat.me.0)
+    c.args.self.now (Some s) s g.N.Name.table c.args.lane.now c.self.invariant.0
+    (cc c.self.view_is) c.requires.alone whole refl lane_is c.args.bump on
+    c.try_front.result c.head_of.result c.head_of.ensures c.try_front.new.seat.me c.join.new.seat.me
+    c.join.ensures.joined c.try_front.ensures.told.0 c.try_front.ensures.told.1).1
 
 pub returns-clause-found : goal.returns-clause-found
-returns-clause-found g c = tried_seen c.self.inside.seat.me (class_in c.self.inside.seat.me.0) c.args.self.now
-    c.lane.inside.seat c.in-Some-take.seat g.N.Name.table c.args.lane.now c.self.invariant.0 (cc c.self.view_is)
-    c.requires.alone c.lane.invariant.0 (cc (c.take.ensures.value, c.in-Some-take.is)) (cc c.lane.view_is)
-    c.in-Some.bump (sym c.lane.invariant.1 ∙ c.in-Some.is) c.try_front-word.result c.head_of-found.result
-    c.head_of-found.ensures c.try_front-word.new.seat.me c.join.new.seat.me c.join.ensures.joined
-    c.try_front-word.ensures.told.0 c.try_front-word.ensures.told.1
+returns-clause-found g c =
+    let s = c.into_seat-seat.result in
+    let b = c.lane.inside.badge in
+    let e = c.into_seat-seat.ensures in
+    let same = c.replace.ensures.value in
+    let whole = out_is g.N.Name.table b c.replace.result same s e.2 e.3 c.lane.invariant.0 c.lane.invariant.1
+    c.lane.invariant.2 e.0 in
+    let lane_is = out_lane g.N.Name.table b c.replace.result same s e.2 ∙ c.lane.view_is in
+    let on = ap aboard_lane lane_is ∙ carries_aboard c.args.lane.now c.args.bump c.requires.carries in
+    tried_seen c.self.inside.seat.me (class_in c.self.inside.seat.me.0)
+    c.args.self.now (Some s) s g.N.Name.table c.args.lane.now c.self.invariant.0
+    (cc c.self.view_is) c.requires.alone whole refl lane_is c.args.bump on
+    c.try_front.result c.head_of.result c.head_of.ensures c.try_front.new.seat.me c.join.new.seat.me
+    c.join.ensures.joined c.try_front.ensures.told.0 c.try_front.ensures.told.1
 
 pub returns-clause-hollow : goal.returns-clause-hollow
 returns-clause-hollow g c = search rules

@@ -6,13 +6,13 @@ use Rattle.bump_store.proofs.lanes.Lane.next.Goals as goal
 
 pub returns-clause-next : goal.returns-clause-next
 returns-clause-next g c =
-    let boards = c.in_ok-bump.ensures.next c.self.invariant in
+    let boards = c.in_ok-bump.ensures.next in
     let bump = c.in_ok-bump.bump in
     let entry = c.apply_aboard.result in
     let e = c.apply_aboard.ensures in
     subst (λ (s : LaneState). AppliesNext c.args.now s.lane entry c.apply_aboard.new.raw) c.self.view_is (
       boards.0,
-      c.fetch.new.self,
+      c.take.new.self,
       c.deref_mut-book.result.now,
       c.apply_aboard.new.book,
       record {
@@ -24,14 +24,14 @@ returns-clause-next g c =
 
 pub returns-clause-number : goal.returns-clause-number
 returns-clause-number g c =
-    let boards = c.in_ok-bump.ensures.next c.self.invariant in
+    let boards = c.in_ok-bump.ensures.next in
     c.apply_aboard.ensures.bump.0 ∙ boards.1.number
     ∙ all_applied c.self.inside.raw c.promise.ensures c.self.invariant
     ∙ ap (λ (s : LaneState). length (entries s.lane)) c.self.view_is
 
 pub returns-clause-entry : goal.returns-clause-entry
 returns-clause-entry g c =
-    entry_kept c.args.now c.deref_mut-book.result.now c.apply_aboard.new.book c.fetch.new.self
+    entry_kept c.args.now c.deref_mut-book.result.now c.apply_aboard.new.book c.take.new.self
     c.apply_aboard.new.raw c.apply_aboard.result c.apply_aboard.ensures.applied
     ∙ ap (λ xs. xs ++ told c.apply_aboard.result ∷ [])
     (c.in_ok-bump.ensures.entries ∙ ap (λ (s : LaneState). entries s.lane) c.self.view_is)

@@ -1,6 +1,6 @@
 use Rattle.std.proofs.Common.{sym, ap, ◌∙◌}
 use Rattle.bump_class.specs.Lanes.{LaneView}
-use Rattle.bump_class.proofs.lanes.RawLane.worker.Goals as goal
+use Rattle.bump_class.proofs.carriers.Carrier.worker.Goals as goal
 
 pub returns : goal.returns
 returns g c = sym c.self.invariant.worker_is ∙ ap (λ (l : LaneView). l.part.worker) c.self.view_is

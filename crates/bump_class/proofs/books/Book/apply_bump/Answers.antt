@@ -1,4 +1,4 @@
-use Rattle.std.proofs.Common.{◌≡◌, ◌==◌, ◌<◌, ◌+◌, ℕ, refl, sym, ap, ◌∙◌, subst, arith, slice_index}
+use Rattle.std.proofs.Common.{◌≡◌, ◌==◌, ◌<◌, ◌+◌, ℕ, refl, sym, ap, ◌∙◌, subst, arith, slice_index, true}
 use Rattle.bump_rules.specs.declared.bumps.Applied.TheVariants as applied
 use Rattle.bump_rules.specs.declared.bumps.Outcome.TheVariants.{Moved, TimeOnly, Gone}
 use Rattle.bump_rules.specs.declared.history.Cause.TheVariants as cause
@@ -10,30 +10,31 @@ use Rattle.bump_heads.specs.Linking.{place_of_chunk}
 use Rattle.bump_heads.specs.Seats.{most_workers}
 use Rattle.bump_class.specs.Books.{BookView}
 use Rattle.bump_class.specs.Changes.{book_after_sweep_or_load}
-use Rattle.bump_class.specs.Lanes.{part_or}
+use Rattle.bump_class.specs.Lanes.{part_or, carries}
+use Rattle.bump_steps.specs.Views.{owns}
 use Rattle.bump_rules.specs.Entries.{moves_of}
 use Rattle.bump_rules.specs.Lawful.{bit}
 use Rattle.bump_class.proofs.Keeping.{listed, entered_with}
 use Rattle.bump_class.proofs.MoveLemmas.{counts_bump, few_before}
-use Rattle.bump_class.proofs.LaneLemmas.{few_aboard, applied_keeps, carried_part, each_told}
-use Rattle.bump_class.proofs.ApplicationLemmas.{gone_dies, shown_behind, once_behind, told_behind, fronts, owned, time_only_keeps, IsSameClass, same_class}
-use Rattle.bump_class.proofs.books.Book.apply_front.Goals as goal
-use Rattle.bump_class.proofs.books.Book.apply_front.Goals.{in-Moved, in-TimeOnly, in-Gone}
+use Rattle.bump_class.proofs.LaneLemmas.{few_aboard, applied_keeps, carried_part, carried_seat, each_told}
+use Rattle.bump_class.proofs.ApplicationLemmas.{gone_dies, shown_behind, once_behind, told_behind, fronts, time_only_keeps, IsSameClass, same_class}
+use Rattle.bump_class.proofs.books.Book.apply_bump.Goals as goal
+use Rattle.bump_class.proofs.books.Book.apply_bump.Goals.{in-Moved, in-TimeOnly, in-Gone}
 
 pub overflow_add-lane : goal.overflow_add-lane
 overflow_add-lane g c =
     let y = c.lane.inside in
     omega (
       arith,
-      few_aboard y.seat y.worker y.applied y.receiver.received c.in-Some.bump c.lane.invariant
-          (sym c.aboard.ensures.carried ∙ c.in-Some.is),
+      few_aboard y.seat y.worker y.applied y.receiver.received c.args.bump c.lane.invariant
+          (carried_seat y.seat y.worker y.applied y.receiver.received c.args.bump c.lane.invariant (ap carries c.lane.view_is ∙ c.requires.carries)),
     )
 
 pub to_front-requires : goal.to_front-requires
 to_front-requires g c =
     let i = c.self.inside in
     let y = c.lane.inside in
-    let b = c.in-Some.bump in
+    let b = c.args.bump in
     let k : BookView = record {
       part = i.seat.part;
       lists = i.lists;
@@ -41,15 +42,14 @@ to_front-requires g c =
       warm_limit = i.warm_limit;
       workers = i.workers;
     } in
-    let carried = carried_part y.seat b (sym c.aboard.ensures.carried ∙ c.in-Some.is) in
-    listed k b.life.chunk c.self.invariant.3 (owned k c.args.self.now _ c.args.lane.now b c.self.view_is
-    c.lane.view_is carried c.requires.own)
+    let carried = carried_part y.seat b (carried_seat y.seat y.worker y.applied y.receiver.received c.args.bump c.lane.invariant (ap carries c.lane.view_is ∙ c.requires.carries)) in
+    listed k b.life.chunk c.self.invariant.3 (subst (λ (z : BookView). owns b.life.chunk z.part ≡ true) (sym c.self.view_is) c.requires.own)
 
 pub invariant_of-self : goal.invariant_of-self
 invariant_of-self g c =
     let i = c.self.inside in
     let y = c.lane.inside in
-    let b = c.in-Some.bump in
+    let b = c.args.bump in
     let k : BookView = record {
       part = i.seat.part;
       lists = i.lists;
@@ -57,8 +57,8 @@ invariant_of-self g c =
       warm_limit = i.warm_limit;
       workers = i.workers;
     } in
-    let carried = carried_part y.seat b (sym c.aboard.ensures.carried ∙ c.in-Some.is) in
-    let own = owned k c.args.self.now _ c.args.lane.now b c.self.view_is c.lane.view_is carried c.requires.own in
+    let carried = carried_part y.seat b (carried_seat y.seat y.worker y.applied y.receiver.received c.args.bump c.lane.invariant (ap carries c.lane.view_is ∙ c.requires.carries)) in
+    let own = subst (λ (z : BookView). owns b.life.chunk z.part ≡ true) (sym c.self.view_is) c.requires.own in
     let e = change.Moved b.life Cold Warm (cause.Bump (part_or y.seat).worker b.number) in
     let more = c.count_move.new.moved in
     let one = subst (λ (n : ℕ). (w : ℕ) → w < most_workers
@@ -72,7 +72,7 @@ pub count_move-requires : goal.count_move-requires
 count_move-requires g c =
     let i = c.self.inside in
     let y = c.lane.inside in
-    let b = c.in-Some.bump in
+    let b = c.args.bump in
     let x = c.update-outcome.new.lane in
     let after = c.update-outcome.new.class in
     let u = c.in-Moved.ensures.updates in
@@ -84,7 +84,7 @@ count_move-requires g c =
         ap (λ (w : ℕ). moves_of w i.seat.part.history) c.lane.invariant.worker_is,
         few_before i.seat.part after.part (part_or y.seat) (part_or x) b c.args.now u.0 c.self.invariant.3.causes
             (ap (λ (v : ClassView). v.part) u.1.class) u.1.lane u.1.told,
-        few_aboard y.seat y.worker y.applied y.receiver.received b c.lane.invariant (sym c.aboard.ensures.carried ∙ c.in-Some.is),
+        few_aboard y.seat y.worker y.applied y.receiver.received b c.lane.invariant (carried_seat y.seat y.worker y.applied y.receiver.received c.args.bump c.lane.invariant (ap carries c.lane.view_is ∙ c.requires.carries)),
         c.lane.invariant.counted,
       );
     }
@@ -95,13 +95,13 @@ invariant_of-self-in-TimeOnly g c =
     let y = c.lane.inside in
     let u = c.in-TimeOnly.ensures.updates in
     time_only_keeps i.seat c.update-outcome.new.class i.first i.end i.hot_limit i.warm_limit i.workers i.moved i.lists
-    (part_or y.seat).worker c.in-Some.bump c.args.now u.0 c.self.invariant u.1.class
+    (part_or y.seat).worker c.args.bump c.args.now u.0 c.self.invariant u.1.class
 
 pub seen_unheld-requires-clause-dying : goal.seen_unheld-requires-clause-dying
 seen_unheld-requires-clause-dying g c =
     let i = c.self.inside in
     let y = c.lane.inside in
-    let b = c.in-Some.bump in
+    let b = c.args.bump in
     let u = c.in-Gone.ensures.updates in
     let k : BookView = record {
       part = i.seat.part;
@@ -110,8 +110,8 @@ seen_unheld-requires-clause-dying g c =
       warm_limit = i.warm_limit;
       workers = i.workers;
     } in
-    let carried = carried_part y.seat b (sym c.aboard.ensures.carried ∙ c.in-Some.is) in
-    let own = owned k c.args.self.now _ c.args.lane.now b c.self.view_is c.lane.view_is carried c.requires.own in
+    let carried = carried_part y.seat b (carried_seat y.seat y.worker y.applied y.receiver.received c.args.bump c.lane.invariant (ap carries c.lane.view_is ∙ c.requires.carries)) in
+    let own = subst (λ (z : BookView). owns b.life.chunk z.part ≡ true) (sym c.self.view_is) c.requires.own in
     ap (λ x. place_of_chunk x.part b.life.chunk) u.1.class
     ∙ gone_dies i.seat.part b u.0.tried u.0.cleared u.1.sight own u.1.table
 
@@ -119,15 +119,15 @@ pub invariant_of-lane : goal.invariant_of-lane
 invariant_of-lane g c =
     let y = c.lane.inside in
     let u = c.update-outcome.ensures.updates in
-    applied_keeps y.seat c.update-outcome.new.lane y.worker y.applied y.receiver.received c.in-Some.bump
-    c.update-outcome.result u.0 c.lane.invariant (sym c.aboard.ensures.carried ∙ c.in-Some.is)
+    applied_keeps y.seat c.update-outcome.new.lane y.worker y.applied y.receiver.received c.args.bump
+    c.update-outcome.result u.0 c.lane.invariant (carried_seat y.seat y.worker y.applied y.receiver.received c.args.bump c.lane.invariant (ap carries c.lane.view_is ∙ c.requires.carries))
     c.update-outcome.ensures.whole u.1.lane
 
 pub returns-clause-applied : goal.returns-clause-applied
 returns-clause-applied g c =
     let i = c.self.inside in
     let y = c.lane.inside in
-    let b = c.in-Some.bump in
+    let b = c.args.bump in
     let m = c.match-outcome in
     let x = c.update-outcome.new.lane in
     let after = c.update-outcome.new.class in
@@ -140,8 +140,8 @@ returns-clause-applied g c =
       warm_limit = i.warm_limit;
       workers = i.workers;
     } in
-    let carried = carried_part y.seat b (sym c.aboard.ensures.carried ∙ c.in-Some.is) in
-    let own = owned k old _ from b c.self.view_is c.lane.view_is carried c.requires.own in
+    let carried = carried_part y.seat b (carried_seat y.seat y.worker y.applied y.receiver.received c.args.bump c.lane.invariant (ap carries c.lane.view_is ∙ c.requires.carries)) in
+    let own = subst (λ (z : BookView). owns b.life.chunk z.part ≡ true) (sym c.self.view_is) c.requires.own in
     let made = fronts i.seat i.lists i.hot_limit i.warm_limit i.workers y.receiver.ring y.receiver.received y.receiver.known
     y.seat x b c.args.now in
     elim c.match-outcome.branch [
@@ -193,7 +193,7 @@ returns-clause-once g c =
       | in-TimeOnly w ↦ subst (λ (z : BookView). NamesNoBumpTwice z.part) (sym w.self-is)
           w.in-TimeOnly.ensures.updates.1.once
       | in-Gone w ↦ subst (λ (z : BookView). NamesNoBumpTwice z.part) (sym (w.self-is ∙ w.seen_unheld.ensures.seen))
-          (once_behind after.part c.in-Some.bump.life.chunk w.seen_unheld.result w.in-Gone.ensures.updates.1.once)
+          (once_behind after.part c.args.bump.life.chunk w.seen_unheld.result w.in-Gone.ensures.updates.1.once)
     ]
 
 pub returns-clause-told : goal.returns-clause-told
@@ -202,10 +202,10 @@ returns-clause-told g c =
     let x = c.update-outcome.new.lane in
     let after = c.update-outcome.new.class in
     let m = c.match-outcome in
-    let b = c.in-Some.bump in
+    let b = c.args.bump in
     let u = c.update-outcome.ensures.updates in
     let keeps = applied_keeps y.seat x y.worker y.applied y.receiver.received b c.update-outcome.result u.0 c.lane.invariant
-    (sym c.aboard.ensures.carried ∙ c.in-Some.is) c.update-outcome.ensures.whole u.1.lane in
+    (carried_seat y.seat y.worker y.applied y.receiver.received c.args.bump c.lane.invariant (ap carries c.lane.view_is ∙ c.requires.carries)) c.update-outcome.ensures.whole u.1.lane in
     let tells : TellsMoves m.self.part (part_or x) = elim c.match-outcome.branch [
       | in-Moved w ↦ subst (λ (z : BookView). TellsMoves z.part (part_or x)) (sym w.self-is)
           w.in-Moved.ensures.updates.1.told

@@ -1,6 +1,6 @@
 use Rattle.std.proofs.Common.{ap, ◌∙◌, length}
 use Rattle.bump_class.specs.Lanes.{LaneView, entries}
-use Rattle.bump_class.proofs.lanes.RawLane.applied.Goals as goal
+use Rattle.bump_class.proofs.carriers.Carrier.applied.Goals as goal
 
 pub returns : goal.returns
 returns g c = c.self.invariant.counted ∙ ap (λ (l : LaneView). length (entries l)) c.self.view_is

@@ -1,0 +1,118 @@
+//! A lane but for the bump aboard: who applies bumps has that one in his hand.
+ghost use Rattle.std.specs.Prelude.{◌≡◌, ◌↔◌, [], ◌++◌, length, None, Some, IsSome, IsNone, IfSome, IfNone, false};
+ghost use Rattle.bump_rules.specs.declared.lanes.Lane.TheVariants.{Empty as IsEmpty};
+ghost use Rattle.bump_steps.specs.declared.views.Ride.{Ride as TheRide};
+ghost use Rattle.bump_steps.specs.Riders.{applied_by};
+ghost use Rattle.bump_heads.specs.Applying.{stage_of, NamesNoBumpTwice, TellsMoves};
+ghost use Rattle.bump_class.specs.Lanes.{LaneView as TheLaneView, carries, entries, part_or, IsRawLane, KeepsLane};
+ghost use Rattle.bump_class.specs.Lanes.{new_lane, Boards};
+
+use bump_heads::{ClassSeat, LaneSeat, Name};
+use bump_ring::{ClosedSender, Receiver};
+use bump_rules::Bump;
+use std::marker::Model;
+
+// The receiving end of a worker's ring, and the seat that applies what comes.
+#[derive(Drop)]
+pub struct Carrier<N: Name> {
+    receiver: Receiver<N>,
+    pub(crate) seat: LaneSeat<N>,
+    pub(crate) worker: u32,
+    pub(crate) applied: u64,
+}
+
+impl<N: Name> Model for Carrier<N> {
+    ghost Value = { TheLaneView };
+
+    ghost view = { λ l. record {
+      ring = l.receiver.ring;
+      received = l.receiver.received;
+      known = l.receiver.known;
+      part = part_or l.seat;
+    } };
+
+    ghost invariant = { λ l. KeepsLane l.seat l.worker l.applied l.receiver.received };
+}
+
+impl<N: Name> Carrier<N> {
+    // Nothing was taken from the ring, and nothing boarded the seat.
+    pub fn new(receiver: Receiver<N>, seat: LaneSeat<N>) -> Carrier<N>
+        requires untaken { receiver.received ≡ [] }
+        requires whole { IsSome seat }
+        requires empty { stage_of seat ≡ IsEmpty }
+        requires fresh { applied_by seat ≡ [] }
+        ensures { result ≡ new_lane receiver.ring receiver.known (part_or seat) }
+    {
+        let worker = seat.worker();
+        Carrier {
+            receiver,
+            seat,
+            worker,
+            applied: 0,
+        }
+    }
+
+    pub fn applied(&self) -> u64
+        ensures { result ≡ length (entries self.now) }
+    {
+        self.applied
+    }
+
+    pub fn worker(&self) -> u32
+        ensures { result ≡ self.now.part.worker }
+    {
+        self.worker
+    }
+
+    pub fn promise(&self)
+        ensures { IsRawLane self.now.part self.now.received }
+    {
+        let _applied = &self.applied;
+    }
+
+    // The next bump of the ring goes aboard, where none is. Its number is how many were applied before it.
+    #[inline(always)]
+    pub fn take(&mut self) -> Option<Bump>
+        requires idle { carries self.old ≡ None }
+        ensures ring { self.new.ring ≡ self.old.ring }
+        ensures entries { entries self.new ≡ entries self.old }
+        ensures aboard { carries self.new ≡ result }
+        ensures next { IfSome result (λ bump. (ride : TheRide) × Boards self.old bump self.new ride) }
+        ensures none { IfNone result (self.old.known ≡ []) }
+        ensures number { IfSome result (λ bump. bump.number ≡ length (entries self.old)) }
+        ensures unchanged { IfNone result (self.new ≡ self.old) }
+    {
+        let rider = self.receiver.take()?;
+        rider.promise();
+        let bump = Bump {
+            number: self.applied,
+            life: rider.life(),
+        };
+        self.seat.board(rider);
+        Some(bump)
+    }
+
+    // Shows the class and the lane each other, by one load, and changes nothing.
+    pub fn meet(&mut self, class: &mut ClassSeat<N>)
+        requires alone { class.old.lane ≡ None }
+        ensures class { class.new ≡ class.old }
+        ensures lane { self.new ≡ self.old }
+        ensures kept { IsRawLane self.old.part self.old.received }
+        ensures once { NamesNoBumpTwice class.old.part }
+        ensures moves { TellsMoves class.old.part self.old.part }
+    {
+        class.meet_lane(&mut self.seat);
+    }
+
+    pub fn rest(&mut self, closed: &mut ClosedSender<N>) -> Option<u64>
+        requires ring { closed.old.ring ≡ self.old.ring }
+        ensures closed { closed.new ≡ closed.old }
+        ensures lane { self.new ≡ record self.old { known = self.new.known } }
+        ensures number { IfSome result (λ left. left ≡ length self.new.known) }
+        ensures rest { IfSome result (λ left. closed.old.sent ≡ self.new.received ++ self.new.known) }
+        ensures none { IsNone result ↔ (closed.old.shows_end ≡ false) }
+        ensures unchanged { IfNone result (self.new ≡ self.old) }
+    {
+        self.receiver.rest(closed)
+    }
+}
