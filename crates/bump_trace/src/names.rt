@@ -12,7 +12,7 @@ use std::hash::RandomState;
 /// that they don't know.
 #[derive(Drop)]
 pub struct Names<'a> {
-    ids: HashMap<&'a [u8], ItemId, RandomState>,
+    ids: HashMap<&'a str, ItemId, RandomState>,
 }
 
 impl<'a> Names<'a> {
@@ -28,7 +28,7 @@ impl<'a> Names<'a> {
     }
 
     /// Binds a name, also one that is bound.
-    pub fn bind(&mut self, name: &'a [u8], id: ItemId) -> Result<(), AllocError>
+    pub fn bind(&mut self, name: &'a str, id: ItemId) -> Result<(), AllocError>
         ensures { OnOk result (names_of self.new ≡ bind name.entry.now id (names_of self.old)) }
     {
         self.ids.insert(name, id)?;
@@ -36,14 +36,14 @@ impl<'a> Names<'a> {
     }
 
     /// The name is bound no more.
-    pub fn unbind(&mut self, name: &'a [u8])
+    pub fn unbind(&mut self, name: &'a str)
         ensures { names_of self.new ≡ unbind name.entry.now (names_of self.old) }
     {
         let _ = self.ids.remove(&name);
     }
 
     /// What a name is bound to.
-    pub fn get(&self, name: &'a [u8]) -> Option<ItemId>
+    pub fn get(&self, name: &'a str) -> Option<ItemId>
         ensures { result ≡ names_of self.now name.entry.now }
     {
         self.ids.get(&name).copied()

@@ -126,13 +126,21 @@ impl<'a> OpenStore<'a> {
         }
     }
 
+    /// What `Label` answers of a held item: it is read without a call that may be refused.
+    fn held_label(&self, id: ItemId) -> Answer
+        requires { is_held self.now.world id ≡ true }
+        ensures { result ≡ answer_of self.now.world (command.Label id) }
+    {
+        Answer::Label(self.world.label(id.chunk))
+    }
+
     /// Links an item, and binds the name to it.
     #[tactic(auto, unfolding(crate::specs::OpenStore::set_said))]
     fn set(
         &mut self,
         now: u64,
         start: Start,
-        name: &'a [u8],
+        name: &'a str,
         class: u32,
         label: u64,
         out: &mut Vec<u8>,
@@ -158,7 +166,7 @@ impl<'a> OpenStore<'a> {
         &mut self,
         now: u64,
         worker: u32,
-        name: &[u8],
+        name: &str,
         id: ItemId,
         out: &mut Vec<u8>,
     ) -> Result<(), LineError>
@@ -172,7 +180,7 @@ impl<'a> OpenStore<'a> {
         ensures ready { OnOk result (IsReady self.new) }
         ensures holds { OnOk result (GivesBack id self.old.world self.new.world) }
     {
-        let label = self.command(Command::Label { id })?;
+        let label = self.held_label(id);
         let hit = self.command(Command::Touch { worker, id, now })?;
         self.release(id)?;
         put_get_held(out, worker, name, label, hit)?;
@@ -185,7 +193,7 @@ impl<'a> OpenStore<'a> {
         &mut self,
         now: u64,
         worker: u32,
-        name: &'a [u8],
+        name: &'a str,
         out: &mut Vec<u8>,
     ) -> Result<(), LineError>
         requires { MayRun self.old out.old.items }
@@ -214,8 +222,8 @@ impl<'a> OpenStore<'a> {
     fn hold(
         &mut self,
         worker: u32,
-        name: &'a [u8],
-        hold: &'a [u8],
+        name: &'a str,
+        hold: &'a str,
         out: &mut Vec<u8>,
     ) -> Result<(), LineError>
         requires { MayRun self.old out.old.items }
@@ -252,7 +260,7 @@ impl<'a> OpenStore<'a> {
         &mut self,
         now: u64,
         worker: u32,
-        hold: &'a [u8],
+        hold: &'a str,
         out: &mut Vec<u8>,
     ) -> Result<(), LineError>
         requires { MayRun self.old out.old.items }
@@ -273,7 +281,7 @@ impl<'a> OpenStore<'a> {
 
     /// Reads the label of an item by a hold that is kept.
     #[tactic(auto, unfolding(crate::specs::OpenStore::read_said))]
-    fn read(&mut self, hold: &'a [u8], out: &mut Vec<u8>) -> Result<(), LineError>
+    fn read(&mut self, hold: &'a str, out: &mut Vec<u8>) -> Result<(), LineError>
         requires { MayRun self.old out.old.items }
         ensures said { Does (Open (store_of self.new)) out.new.items result
             (read_said (store_of self.old) hold.entry.now) }
@@ -282,14 +290,14 @@ impl<'a> OpenStore<'a> {
         let Some(id) = self.holds.get(hold) else {
             return Err(LineError::Fault(Fault::Unbound));
         };
-        let label = self.command(Command::Label { id })?;
+        let label = self.held_label(id);
         put_read(out, hold, label)?;
         Ok(())
     }
 
     /// Gives a hold back that is kept: its name is free again.
     #[tactic(auto, unfolding(crate::specs::OpenStore::drop_said))]
-    fn drop_hold(&mut self, hold: &'a [u8], out: &mut Vec<u8>) -> Result<(), LineError>
+    fn drop_hold(&mut self, hold: &'a str, out: &mut Vec<u8>) -> Result<(), LineError>
         requires { MayRun self.old out.old.items }
         ensures said { Does (Open (store_of self.new)) out.new.items result
             (drop_said (store_of self.old) hold.entry.now) }
@@ -306,7 +314,7 @@ impl<'a> OpenStore<'a> {
 
     /// Ends the item that the name is bound to.
     #[tactic(auto, unfolding(crate::specs::OpenStore::del_said))]
-    fn del(&mut self, name: &'a [u8], out: &mut Vec<u8>) -> Result<(), LineError>
+    fn del(&mut self, name: &'a str, out: &mut Vec<u8>) -> Result<(), LineError>
         requires { MayRun self.old out.old.items }
         ensures said { Does (Open (store_of self.new)) out.new.items result
             (del_said (store_of self.old) name.entry.now) }

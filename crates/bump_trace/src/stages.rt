@@ -57,20 +57,29 @@ impl<'a> Session<'a> {
     }
 
     /// Makes the store at the first command.
-    #[tactic(auto, unfolding(crate::specs::Stages::opened))]
     fn open(&mut self, alloc: Global) -> Result<(), LineError>
         requires { IsSettled self.old.stage }
         ensures opened { Opens (seen_stage self.new.stage) result (opened (seen_stage self.old.stage)) }
         ensures settled { OnOk result (IsSettled self.new.stage) }
     {
+        // All other commands find the store open, and are not to pay for what making it needs.
         if let Stage::Open(_) = self.stage {
             return Ok(());
         }
-        let Stage::Opens(opening) = mem::replace(&mut self.stage, Stage::Opens(Opening::Before))
-        else {
-            unreachable!()
+        self.make_store(alloc)
+    }
+
+    /// Makes the store, where there is none.
+    #[tactic(auto, unfolding(crate::specs::Stages::opened))]
+    fn make_store(&mut self, alloc: Global) -> Result<(), LineError>
+        requires { IsSettled self.old.stage }
+        ensures opened { Opens (seen_stage self.new.stage) result (opened (seen_stage self.old.stage)) }
+        ensures settled { OnOk result (IsSettled self.new.stage) }
+    {
+        let Stage::Opens(opening) = &mut self.stage else {
+            return Ok(());
         };
-        match configure(opening) {
+        match configure(mem::replace(opening, Opening::Before)) {
             Ok(config) => {
                 self.stage = Stage::Open(OpenStore::new(alloc, self.keys, &config)?);
                 Ok(())
@@ -122,7 +131,7 @@ impl<'a> Session<'a> {
             (step (seen_stage self.old.stage) number line.entry.now) }
         ensures settled { OnOk result (IsSettled self.new.stage) }
     {
-        match read_line(alloc, line)? {
+        match read_line(line)? {
             Some(line) => self.apply(alloc, number, line, out),
             None => Ok(()),
         }

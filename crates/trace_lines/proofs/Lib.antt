@@ -1,2 +1,3 @@
-pub mod CollectedWords
-pub mod ParsedNumbers
+pub mod CutWords
+pub mod NameBytes
+pub mod ReadDigits

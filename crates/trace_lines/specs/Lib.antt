@@ -4,3 +4,4 @@ pub mod Lines
 pub mod Text
 pub mod Seen
 pub mod Counted
+pub mod Keywords

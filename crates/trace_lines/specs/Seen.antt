@@ -1,13 +1,16 @@
 -- The program's lines as the definitions see them, and what its functions return.
-use Rattle.std.specs.Prelude.{◌≡◌, Option, Some, None, Result, Ok, Err}
+use Rattle.std.specs.Prelude.{◌≡◌, ◌==◌, ℕ, false, List, [], length, Option, Some, None, Result, Ok, Err}
+use denote.Ref.{Bor}
 use Rattle.trace_lines.specs.Lines as lines
 use Rattle.trace_lines.specs.declared.faults.Fault.{Fault}
+use Rattle.trace_lines.specs.declared.faults.Fault.TheVariants as fault
 use Rattle.trace_lines.specs.declared.faults.LineError.{LineError}
 use Rattle.trace_lines.specs.declared.faults.LineError.TheVariants as errors
 use Rattle.trace_lines.specs.declared.lines.Instruction.{Instruction}
 use Rattle.trace_lines.specs.declared.lines.Instruction.TheVariants as instruction
 use Rattle.trace_lines.specs.declared.lines.Line.{Line}
 use Rattle.trace_lines.specs.declared.lines.Line.TheVariants.{Declares, Makes}
+use Rattle.trace_lines.specs.declared.words.Words.{Words}
 
 -- a command with its names as bytes
 abbrev pub seen_instruction : Instruction → lines.Instruction
@@ -46,3 +49,17 @@ abbrev pub Says : Result (Option Line) LineError → Result (Option lines.Line) 
 Says (Ok read) said = said ≡ Ok (seen_said read)
 Says (Err errors.Memory) said = Unit {0}
 Says (Err (errors.Fault fault)) said = said ≡ Err fault
+
+-- the words in what is left of a line, if anything is
+abbrev pub words_in : Option (Bor (List ℕ)) → List (List ℕ)
+words_in None = []
+words_in (Some rest) = lines.split_at_spaces rest.now
+
+-- the words that are still to be read, as bytes
+abbrev pub words_of : Words → List (List ℕ)
+words_of words = words_in words.rest
+
+-- What a function returned are all words, which are so many. Else it is COUNT.
+abbrev pub AreWords : {X : Type 0} → ℕ → (X → List (List ℕ)) → Result X Fault → List (List ℕ) → Type 0
+AreWords count view (Ok words) all = all ≡ view words
+AreWords count view (Err what) all = ((length all == count) ≡ false) × (what ≡ fault.Count)

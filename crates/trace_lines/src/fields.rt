@@ -1,12 +1,19 @@
 //! The fields of a line: numbers, names and segments.
 
-ghost use Rattle.std.specs.Prelude.{◌≡◌, ◌^◌};
+ghost use Rattle.std.specs.Prelude.{◌≡◌, ◌+◌, ◌*◌, ◌<◌, ◌^◌, SomeIff};
 ghost use Rattle.std.specs.List.{list_all};
 ghost use Rattle.trace_lines.specs.Fields.{U32, U64, Name, Segment, number_of, is_name_byte, field};
 ghost use Rattle.trace_lines.specs.Seen.{Gives};
 
 use crate::faults::Fault;
 use bump_rules::Tail;
+
+/// The number with one more digit behind it, below 2^64.
+fn with_digit(number: u64, digit: u8) -> Option<u64>
+    ensures { SomeIff result (number * 10 + digit < 2 ^ 64) (number * 10 + digit) }
+{
+    number.checked_mul(10)?.checked_add(u64::from(digit))
+}
 
 /// The number below 2^64 that these decimal digits spell, without leading zeros. None where they are none, where
 /// another byte stands among them, or where the number is larger.
@@ -16,14 +23,17 @@ pub fn read_number(digits: &[u8]) -> Option<u64>
     if digits.is_empty() {
         return None;
     }
-    let first = digits[0];
-    if first == b'+' || (first == b'0' && digits.len() > 1) {
+    if digits[0] == b'0' && digits.len() > 1 {
         return None;
     }
-    match str::from_utf8(digits) {
-        Ok(text) => text.parse::<u64>().ok(),
-        Err(_) => None,
+    let mut number = 0u64;
+    for byte in digits {
+        if !byte.is_ascii_digit() {
+            return None;
+        }
+        number = with_digit(number, *byte - b'0')?;
     }
+    Some(number)
 }
 
 /// A field that is a number below 2^64.
@@ -62,7 +72,7 @@ fn has_name_bytes(word: &[u8]) -> bool
 
 /// A field that is a name: 1 to 32 bytes of `a` to `z`, `0` to `9` and `_`.
 #[tactic(auto, unfolding(crate::specs::Fields::field))]
-pub fn name_field(word: &[u8]) -> Result<&[u8], Fault>
+pub fn name_field(word: &[u8]) -> Result<&str, Fault>
     ensures { Gives (λ w. w.now) result (field Name word.now) }
 {
     if word.is_empty() {
@@ -72,7 +82,8 @@ pub fn name_field(word: &[u8]) -> Result<&[u8], Fault>
         return Err(Fault::Name);
     }
     if has_name_bytes(word) {
-        Ok(word)
+        // All of them are ASCII, so they are text: it isn't looked at once more.
+        Ok(unsafe { str::from_utf8_unchecked(word) })
     } else {
         Err(Fault::Name)
     }

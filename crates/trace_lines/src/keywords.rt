@@ -2,6 +2,7 @@
 
 ghost use Rattle.std.specs.Prelude.{◌≡◌};
 ghost use Rattle.trace_lines.specs.Lines.{keyword_of};
+ghost use Rattle.trace_lines.specs.Keywords.{keyword_among, other_keywords};
 
 /// The first word of a line.
 #[derive(Clone, Copy)]
@@ -58,62 +59,54 @@ pub enum Keyword {
     Par,
 }
 
-/// All first words, in the order in which they are looked for.
-const KEYWORDS: [Keyword; 17] = [
-    Keyword::Store,
-    Keyword::Class,
-    Keyword::Set,
-    Keyword::Temp,
-    Keyword::Get,
-    Keyword::Hold,
-    Keyword::Hit,
-    Keyword::Read,
-    Keyword::Drop,
-    Keyword::Del,
-    Keyword::Pull,
-    Keyword::Sweep,
-    Keyword::Drain,
-    Keyword::Close,
-    Keyword::Show,
-    Keyword::Moves,
-    Keyword::Par,
-];
-
-impl Keyword {
-    ghost use Rattle.trace_lines.specs.Lines.{keyword_word};
-
-    /// The first word itself.
-    fn word(self) -> &'static str
-        ensures { result.now ≡ keyword_word self }
-    {
-        match self {
-            Keyword::Store => "store",
-            Keyword::Class => "class",
-            Keyword::Set => "set",
-            Keyword::Temp => "temp",
-            Keyword::Get => "get",
-            Keyword::Hold => "hold",
-            Keyword::Hit => "hit",
-            Keyword::Read => "read",
-            Keyword::Drop => "drop",
-            Keyword::Del => "del",
-            Keyword::Pull => "pull",
-            Keyword::Sweep => "sweep",
-            Keyword::Drain => "drain",
-            Keyword::Close => "close",
-            Keyword::Show => "show",
-            Keyword::Moves => "moves",
-            Keyword::Par => "par",
-        }
-    }
-}
-
 /// The first word that these bytes are, if they are one.
 pub fn read_keyword(word: &[u8]) -> Option<Keyword>
     ensures { result ≡ keyword_of word.now }
 {
-    KEYWORDS
-        .iter()
-        .find(|keyword| word == keyword.word().as_bytes())
-        .copied()
+    if word == b"store".as_slice() {
+        Some(Keyword::Store)
+    } else if word == b"class".as_slice() {
+        Some(Keyword::Class)
+    } else if word == b"set".as_slice() {
+        Some(Keyword::Set)
+    } else if word == b"temp".as_slice() {
+        Some(Keyword::Temp)
+    } else if word == b"get".as_slice() {
+        Some(Keyword::Get)
+    } else if word == b"hold".as_slice() {
+        Some(Keyword::Hold)
+    } else if word == b"hit".as_slice() {
+        Some(Keyword::Hit)
+    } else if word == b"read".as_slice() {
+        Some(Keyword::Read)
+    } else if word == b"drop".as_slice() {
+        Some(Keyword::Drop)
+    } else {
+        read_other_keyword(word)
+    }
+}
+
+/// The same of the other first words.
+fn read_other_keyword(word: &[u8]) -> Option<Keyword>
+    ensures { result ≡ keyword_among other_keywords word.now }
+{
+    if word == b"del".as_slice() {
+        Some(Keyword::Del)
+    } else if word == b"pull".as_slice() {
+        Some(Keyword::Pull)
+    } else if word == b"sweep".as_slice() {
+        Some(Keyword::Sweep)
+    } else if word == b"drain".as_slice() {
+        Some(Keyword::Drain)
+    } else if word == b"close".as_slice() {
+        Some(Keyword::Close)
+    } else if word == b"show".as_slice() {
+        Some(Keyword::Show)
+    } else if word == b"moves".as_slice() {
+        Some(Keyword::Moves)
+    } else if word == b"par".as_slice() {
+        Some(Keyword::Par)
+    } else {
+        None
+    }
 }

@@ -9,6 +9,7 @@ mod fields;
 mod keywords;
 mod lines;
 mod text;
+mod words;
 
 pub use calls::{Sink, Source};
 pub use counted::{Counted, is_interruption};

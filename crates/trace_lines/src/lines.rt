@@ -1,17 +1,16 @@
 //! What a line says.
 
-ghost use Rattle.std.specs.Prelude.{◌≡◌, ◌∷◌, [], IfOk, map};
+ghost use Rattle.std.specs.Prelude.{◌≡◌, ◌∷◌, []};
 ghost use Rattle.trace_lines.specs.Fields.{U32, U64, Name, Segment};
 ghost use Rattle.trace_lines.specs.Lines.{split_at_spaces, values_of, by_row, line_of_words, is_long, is_skipped};
 ghost use Rattle.trace_lines.specs.Lines.{line_said, rest_fault};
-ghost use Rattle.trace_lines.specs.Seen.{seen_line, Gives, Says};
+ghost use Rattle.trace_lines.specs.Seen.{seen_line, words_of, Gives, Says};
 
 use crate::faults::{Fault, LineError};
 use crate::fields::{name_field, segment_field, u32_field, u64_field};
 use crate::keywords::{Keyword, read_keyword};
+use crate::words::Words;
 use bump_rules::{ClassConfig, Start, Tail};
-use smallvec::SmallVec;
-use std::alloc::{AllocError, Global};
 
 /// What a `store` line says. The ranges are looked at where the store is opened.
 #[derive(Clone, Copy)]
@@ -48,7 +47,7 @@ pub enum Instruction<'a> {
         start: Start,
 
         /// The name that is bound to the item.
-        name: &'a [u8],
+        name: &'a str,
 
         /// The number of the class that it is stored in.
         class: u32,
@@ -63,7 +62,7 @@ pub enum Instruction<'a> {
         worker: u32,
 
         /// The name that is bound to the item.
-        name: &'a [u8],
+        name: &'a str,
     },
 
     /// `hold`: a hold of the item of a name is taken, and kept under a hold name.
@@ -72,10 +71,10 @@ pub enum Instruction<'a> {
         worker: u32,
 
         /// The name that is bound to the item.
-        name: &'a [u8],
+        name: &'a str,
 
         /// The hold name.
-        hold: &'a [u8],
+        hold: &'a str,
     },
 
     /// `hit`: an item is hit by a hold that is kept.
@@ -84,25 +83,25 @@ pub enum Instruction<'a> {
         worker: u32,
 
         /// The hold name.
-        hold: &'a [u8],
+        hold: &'a str,
     },
 
     /// `read`: the label of an item is read by a hold that is kept.
     Read {
         /// The hold name.
-        hold: &'a [u8],
+        hold: &'a str,
     },
 
     /// `drop`: a hold that is kept is given back, and its name is free again.
     Drop {
         /// The hold name.
-        hold: &'a [u8],
+        hold: &'a str,
     },
 
     /// `del`: the item of a name ends.
     Del {
         /// The name that is bound to the item, and stays so.
-        name: &'a [u8],
+        name: &'a str,
     },
 
     /// `pull`: the last item of a list is looked at.
@@ -176,101 +175,74 @@ pub enum Line<'a> {
     Makes(Instruction<'a>),
 }
 
-/// The most words that a line without a fault has. So many of a line take no memory.
-const MOST_WORDS: usize = 5;
-
-/// The words of a line: what stands between spaces.
-fn words(alloc: Global, line: &[u8]) -> Result<SmallVec<&[u8], MOST_WORDS>, AllocError>
-    ensures { IfOk result (λ words. map (λ w. w.now) words.items ≡ split_at_spaces line.now) }
+fn number(words: Words<'_>) -> Result<u32, Fault>
+    ensures { Gives (λ number. (number, tt)) result (values_of (U32 ∷ []) (words_of words.entry)) }
 {
-    line.split(|b| *b == b' ').collect(alloc)
+    u32_field(words.one()?)
 }
 
-/// The words, where they are as many as a line has fields, each read by its kind, and the first fault from the left.
-macro_rules! fields {
-    ($words:expr => $($field:ident: $kind:ident),*) => {
-        match $words {
-            [$($field),*] => {
-                $(let $field = $kind($field);)*
-                Ok(($($field?),*))
-            }
-            _ => Err(Fault::Count),
-        }
-    };
-}
-
-fn no_field(words: &[&[u8]]) -> Result<(), Fault>
-    ensures { Gives (λ values. tt) result (values_of [] (map (λ w. w.now) words.now)) }
+fn name<'a>(words: Words<'a>) -> Result<&'a str, Fault>
+    ensures { Gives (λ name. (name.now, tt)) result (values_of (Name ∷ []) (words_of words.entry)) }
 {
-    match words {
-        [] => Ok(()),
-        _ => Err(Fault::Count),
-    }
+    name_field(words.one()?)
 }
 
-fn number(words: &[&[u8]]) -> Result<u32, Fault>
-    ensures { Gives (λ number. (number, tt)) result (values_of (U32 ∷ []) (map (λ w. w.now) words.now)) }
-{
-    match words {
-        [number] => u32_field(number),
-        _ => Err(Fault::Count),
-    }
-}
-
-fn name<'a>(words: &[&'a [u8]]) -> Result<&'a [u8], Fault>
-    ensures { Gives (λ name. (name.now, tt)) result (values_of (Name ∷ []) (map (λ w. w.now) words.now)) }
-{
-    match words {
-        [name] => name_field(name),
-        _ => Err(Fault::Count),
-    }
-}
-
-fn number_and_name<'a>(words: &[&'a [u8]]) -> Result<(u32, &'a [u8]), Fault>
+fn number_and_name<'a>(words: Words<'a>) -> Result<(u32, &'a str), Fault>
     ensures { Gives (λ values. (values.0, (values.1.now, tt)))
-        result (values_of (U32 ∷ Name ∷ []) (map (λ w. w.now) words.now)) }
+        result (values_of (U32 ∷ Name ∷ []) (words_of words.entry)) }
 {
-    fields!(words => number: u32_field, name: name_field)
+    let (number, name) = words.two()?;
+    Ok((u32_field(number)?, name_field(name)?))
 }
 
-fn number_and_segment(words: &[&[u8]]) -> Result<(u32, Tail), Fault>
+fn number_and_segment(words: Words<'_>) -> Result<(u32, Tail), Fault>
     ensures { Gives (λ values. (values.0, (values.1, tt)))
-        result (values_of (U32 ∷ Segment ∷ []) (map (λ w. w.now) words.now)) }
+        result (values_of (U32 ∷ Segment ∷ []) (words_of words.entry)) }
 {
-    fields!(words => number: u32_field, tail: segment_field)
+    let (number, tail) = words.two()?;
+    Ok((u32_field(number)?, segment_field(tail)?))
 }
 
-fn number_and_names<'a>(words: &[&'a [u8]]) -> Result<(u32, &'a [u8], &'a [u8]), Fault>
+fn number_and_names<'a>(words: Words<'a>) -> Result<(u32, &'a str, &'a str), Fault>
     ensures { Gives (λ values. (values.0, (values.1.now, (values.2.now, tt))))
-        result (values_of (U32 ∷ Name ∷ Name ∷ []) (map (λ w. w.now) words.now)) }
+        result (values_of (U32 ∷ Name ∷ Name ∷ []) (words_of words.entry)) }
 {
-    fields!(words => number: u32_field, name: name_field, hold: name_field)
+    let (number, name, hold) = words.three()?;
+    Ok((u32_field(number)?, name_field(name)?, name_field(hold)?))
 }
 
-fn name_and_numbers<'a>(words: &[&'a [u8]]) -> Result<(&'a [u8], u32, u64), Fault>
+fn name_and_numbers<'a>(words: Words<'a>) -> Result<(&'a str, u32, u64), Fault>
     ensures { Gives (λ values. (values.0.now, (values.1, (values.2, tt))))
-        result (values_of (Name ∷ U32 ∷ U64 ∷ []) (map (λ w. w.now) words.now)) }
+        result (values_of (Name ∷ U32 ∷ U64 ∷ []) (words_of words.entry)) }
 {
-    fields!(words => name: name_field, number: u32_field, label: u64_field)
+    let (name, number, label) = words.three()?;
+    Ok((name_field(name)?, u32_field(number)?, u64_field(label)?))
 }
 
-fn three_numbers(words: &[&[u8]]) -> Result<(u32, u32, u32), Fault>
+fn three_numbers(words: Words<'_>) -> Result<(u32, u32, u32), Fault>
     ensures { Gives (λ values. (values.0, (values.1, (values.2, tt))))
-        result (values_of (U32 ∷ U32 ∷ U32 ∷ []) (map (λ w. w.now) words.now)) }
+        result (values_of (U32 ∷ U32 ∷ U32 ∷ []) (words_of words.entry)) }
 {
-    fields!(words => first: u32_field, second: u32_field, third: u32_field)
+    let (first, second, third) = words.three()?;
+    Ok((u32_field(first)?, u32_field(second)?, u32_field(third)?))
 }
 
-fn four_numbers(words: &[&[u8]]) -> Result<(u32, u32, u32, u32), Fault>
+fn four_numbers(words: Words<'_>) -> Result<(u32, u32, u32, u32), Fault>
     ensures { Gives (λ values. (values.0, (values.1, (values.2, (values.3, tt)))))
-        result (values_of (U32 ∷ U32 ∷ U32 ∷ U32 ∷ []) (map (λ w. w.now) words.now)) }
+        result (values_of (U32 ∷ U32 ∷ U32 ∷ U32 ∷ []) (words_of words.entry)) }
 {
-    fields!(words => first: u32_field, second: u32_field, third: u32_field, fourth: u32_field)
+    let (first, second, third, fourth) = words.four()?;
+    Ok((
+        u32_field(first)?,
+        u32_field(second)?,
+        u32_field(third)?,
+        u32_field(fourth)?,
+    ))
 }
 
 /// The table of lines: of each first word its fields, and the line that it is with such fields.
-fn by_keyword<'a>(keyword: Keyword, words: &[&'a [u8]]) -> Result<Line<'a>, Fault>
-    ensures { Gives seen_line result (by_row keyword (map (λ w. w.now) words.now)) }
+fn by_keyword<'a>(keyword: Keyword, words: Words<'a>) -> Result<Line<'a>, Fault>
+    ensures { Gives seen_line result (by_row keyword (words_of words.entry)) }
 {
     let instruction = match keyword {
         Keyword::Store => {
@@ -328,22 +300,22 @@ fn by_keyword<'a>(keyword: Keyword, words: &[&'a [u8]]) -> Result<Line<'a>, Faul
             class: number(words)?,
         },
         Keyword::Drain => {
-            no_field(words)?;
+            words.none()?;
             Instruction::Drain
         }
         Keyword::Close => Instruction::Close {
             worker: number(words)?,
         },
         Keyword::Show => {
-            no_field(words)?;
+            words.none()?;
             Instruction::Show
         }
         Keyword::Moves => {
-            no_field(words)?;
+            words.none()?;
             Instruction::Moves
         }
         Keyword::Par => {
-            no_field(words)?;
+            words.none()?;
             Instruction::Par
         }
     };
@@ -352,15 +324,13 @@ fn by_keyword<'a>(keyword: Keyword, words: &[&'a [u8]]) -> Result<Line<'a>, Faul
 
 /// What a line says, by its words.
 #[tactic(auto, unfolding(crate::specs::Lines::line_of_words, crate::specs::Lines::line_of))]
-fn read<'a>(words: &[&'a [u8]]) -> Result<Line<'a>, Fault>
-    ensures { Gives seen_line result (line_of_words (map (λ w. w.now) words.now)) }
+fn read<'a>(line: &'a [u8]) -> Result<Line<'a>, Fault>
+    ensures { Gives seen_line result (line_of_words (split_at_spaces line.entry.now)) }
 {
-    match words {
-        [] => Err(Fault::Command),
-        [word, fields @ ..] => match read_keyword(word) {
-            Some(keyword) => by_keyword(keyword, fields),
-            None => Err(Fault::Command),
-        },
+    let (word, fields) = Words::first(line);
+    match read_keyword(word) {
+        Some(keyword) => by_keyword(keyword, fields),
+        None => Err(Fault::Command),
     }
 }
 
@@ -384,7 +354,7 @@ fn is_skipped(line: &[u8]) -> bool
 /// What a whole line says, or nothing where it is skipped. It is refused by its first fault: LONG, COMMAND, COUNT, and
 /// then field by field from the left NUMBER, NAME and SEGMENT.
 #[tactic(auto, unfolding(crate::specs::Lines::line_said))]
-pub fn read_line<'a>(alloc: Global, line: &'a [u8]) -> Result<Option<Line<'a>>, LineError>
+pub fn read_line<'a>(line: &'a [u8]) -> Result<Option<Line<'a>>, LineError>
     ensures { Says result (line_said line.entry.now) }
 {
     if is_long(line) {
@@ -393,8 +363,7 @@ pub fn read_line<'a>(alloc: Global, line: &'a [u8]) -> Result<Option<Line<'a>>, 
     if is_skipped(line) {
         return Ok(None);
     }
-    let words = words(alloc, line)?;
-    match read(words.as_slice()) {
+    match read(line) {
         Ok(line) => Ok(Some(line)),
         Err(fault) => Err(LineError::Fault(fault)),
     }

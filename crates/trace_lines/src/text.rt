@@ -21,6 +21,11 @@ use std::alloc::AllocError;
 fn put_number(out: &mut Vec<u8>, n: u64) -> Result<(), AllocError>
     ensures { OnOk result (out.new.items ≡ out.old.items ++ decimal n) }
 {
+    // Most numbers of a line have one digit.
+    if n < 10 {
+        out.push(b'0' + n as u8)?;
+        return Ok(());
+    }
     let mut buffer = Buffer::new();
     out.extend_from_slice(buffer.format(n).as_bytes())
 }
@@ -56,7 +61,7 @@ fn put_item(out: &mut Vec<u8>, chunk: u32, head: Head, time: u64) -> Result<(), 
     let generation = head.generation;
     put_id(out, ItemId { chunk, generation })?;
     put_word(out, b":", u64::from(head.refs))?;
-    out.extend_from_slice(b":")?;
+    out.push(b':')?;
     out.extend_from_slice(flags(head).as_bytes())?;
     put_word(out, b":", time)
 }
@@ -111,7 +116,7 @@ pub fn put_list_start(
     ensures { OnOk result (out.new.items ≡ out.old.items ++ list_start class place len) }
 {
     put_word(out, b"class ", u64::from(class))?;
-    out.extend_from_slice(b" ")?;
+    out.push(b' ')?;
     out.extend_from_slice(word_of_place(place).as_bytes())?;
     put_word(out, b" ", u64::from(len))
 }
@@ -137,9 +142,10 @@ pub fn put_worker(
     ensures { OnOk result (out.new.items ≡ out.old.items ++ accounts_line worker accounts applied) }
 {
     put_word(out, b"worker ", u64::from(worker))?;
-    out.extend_from_slice(b" ")?;
+    out.push(b' ')?;
     put_accounts(out, accounts, applied)?;
-    out.extend_from_slice(b"\n")
+    out.push(b'\n')?;
+    Ok(())
 }
 
 fn put_touch(out: &mut Vec<u8>, touch: Touch) -> Result<(), AllocError>
@@ -206,7 +212,7 @@ fn put_entry(out: &mut Vec<u8>, entry: Entry) -> Result<(), AllocError>
 {
     put_number(out, entry.number)?;
     put_with_id(out, b" ", entry.life)?;
-    out.extend_from_slice(b" ")?;
+    out.push(b' ')?;
     out.extend_from_slice(word_of_applied(entry.applied).as_bytes())
 }
 
@@ -254,46 +260,49 @@ fn word_of_link(start: Start) -> &'static str
 pub fn put_set(
     out: &mut Vec<u8>,
     start: Start,
-    name: &[u8],
+    name: &str,
     answer: Answer,
 ) -> Result<(), AllocError>
     ensures { OnOk result (out.new.items ≡ out.old.items ++ set_line start name.now answer) }
 {
     out.extend_from_slice(word_of_link(start).as_bytes())?;
-    out.extend_from_slice(b" ")?;
-    out.extend_from_slice(name)?;
-    out.extend_from_slice(b" ")?;
+    out.push(b' ')?;
+    out.extend_from_slice(name.as_bytes())?;
+    out.push(b' ')?;
     put_answer(out, answer)?;
-    out.extend_from_slice(b"\n")
+    out.push(b'\n')?;
+    Ok(())
 }
 
 /// The first words of a line by a worker: the command, the worker and a name.
-fn put_start(out: &mut Vec<u8>, command: &[u8], worker: u32, name: &[u8]) -> Result<(), AllocError>
+fn put_start(out: &mut Vec<u8>, command: &[u8], worker: u32, name: &str) -> Result<(), AllocError>
     ensures { OnOk result (out.new.items
         ≡ out.old.items ++ command.now ++ decimal worker ++ codes " " ++ name.now ++ codes " ") }
 {
     put_word(out, command, u64::from(worker))?;
-    out.extend_from_slice(b" ")?;
-    out.extend_from_slice(name)?;
-    out.extend_from_slice(b" ")
+    out.push(b' ')?;
+    out.extend_from_slice(name.as_bytes())?;
+    out.push(b' ')?;
+    Ok(())
 }
 
 /// The line of a `get` that took no hold, with the answer that says why.
 pub fn put_get(
     out: &mut Vec<u8>,
     worker: u32,
-    name: &[u8],
+    name: &str,
     answer: Option<Answer>,
 ) -> Result<(), AllocError>
     ensures { OnOk result (out.new.items ≡ out.old.items ++ get_line worker name.now answer) }
 {
     put_start(out, b"get ", worker, name)?;
     put_told(out, answer)?;
-    out.extend_from_slice(b"\n")
+    out.push(b'\n')?;
+    Ok(())
 }
 
 /// The line of a `get` that took no hold since all its tries failed: an answer of a running store alone.
-pub fn put_get_busy(out: &mut Vec<u8>, worker: u32, name: &[u8]) -> Result<(), AllocError>
+pub fn put_get_busy(out: &mut Vec<u8>, worker: u32, name: &str) -> Result<(), AllocError>
     ensures { OnOk result (out.new.items ≡ out.old.items ++ busy_get_line worker name.now) }
 {
     put_start(out, b"get ", worker, name)?;
@@ -304,7 +313,7 @@ pub fn put_get_busy(out: &mut Vec<u8>, worker: u32, name: &[u8]) -> Result<(), A
 pub fn put_get_held(
     out: &mut Vec<u8>,
     worker: u32,
-    name: &[u8],
+    name: &str,
     label: Answer,
     hit: Answer,
 ) -> Result<(), AllocError>
@@ -312,39 +321,41 @@ pub fn put_get_held(
 {
     put_start(out, b"get ", worker, name)?;
     put_answer(out, label)?;
-    out.extend_from_slice(b" ")?;
+    out.push(b' ')?;
     put_answer(out, hit)?;
-    out.extend_from_slice(b"\n")
+    out.push(b'\n')?;
+    Ok(())
 }
 
 /// The line of a `hold`.
 pub fn put_hold(
     out: &mut Vec<u8>,
     worker: u32,
-    name: &[u8],
-    hold: &[u8],
+    name: &str,
+    hold: &str,
     answer: Option<Answer>,
 ) -> Result<(), AllocError>
     ensures { OnOk result (out.new.items ≡ out.old.items ++ hold_line worker name.now hold.now answer) }
 {
     put_start(out, b"hold ", worker, name)?;
-    out.extend_from_slice(hold)?;
-    out.extend_from_slice(b" ")?;
+    out.extend_from_slice(hold.as_bytes())?;
+    out.push(b' ')?;
     put_told(out, answer)?;
-    out.extend_from_slice(b"\n")
+    out.push(b'\n')?;
+    Ok(())
 }
 
 /// The line of a `hold` that took none since all its tries failed: an answer of a running store alone.
 pub fn put_hold_busy(
     out: &mut Vec<u8>,
     worker: u32,
-    name: &[u8],
-    hold: &[u8],
+    name: &str,
+    hold: &str,
 ) -> Result<(), AllocError>
     ensures { OnOk result (out.new.items ≡ out.old.items ++ busy_hold_line worker name.now hold.now) }
 {
     put_start(out, b"hold ", worker, name)?;
-    out.extend_from_slice(hold)?;
+    out.extend_from_slice(hold.as_bytes())?;
     out.extend_from_slice(b" busy\n")
 }
 
@@ -352,45 +363,49 @@ pub fn put_hold_busy(
 pub fn put_hit(
     out: &mut Vec<u8>,
     worker: u32,
-    hold: &[u8],
+    hold: &str,
     answer: Option<Answer>,
 ) -> Result<(), AllocError>
     ensures { OnOk result (out.new.items ≡ out.old.items ++ hit_line worker hold.now answer) }
 {
     put_start(out, b"hit ", worker, hold)?;
     put_told(out, answer)?;
-    out.extend_from_slice(b"\n")
+    out.push(b'\n')?;
+    Ok(())
 }
 
 /// The line of a `read`.
-pub fn put_read(out: &mut Vec<u8>, hold: &[u8], answer: Answer) -> Result<(), AllocError>
+pub fn put_read(out: &mut Vec<u8>, hold: &str, answer: Answer) -> Result<(), AllocError>
     ensures { OnOk result (out.new.items ≡ out.old.items ++ read_line hold.now answer) }
 {
     out.extend_from_slice(b"read ")?;
-    out.extend_from_slice(hold)?;
-    out.extend_from_slice(b" ")?;
+    out.extend_from_slice(hold.as_bytes())?;
+    out.push(b' ')?;
     put_answer(out, answer)?;
-    out.extend_from_slice(b"\n")
+    out.push(b'\n')?;
+    Ok(())
 }
 
 /// The line of a `drop`.
-pub fn put_drop(out: &mut Vec<u8>, hold: &[u8]) -> Result<(), AllocError>
+pub fn put_drop(out: &mut Vec<u8>, hold: &str) -> Result<(), AllocError>
     ensures { OnOk result (out.new.items ≡ out.old.items ++ drop_line hold.now) }
 {
     out.extend_from_slice(b"drop ")?;
-    out.extend_from_slice(hold)?;
-    out.extend_from_slice(b"\n")
+    out.extend_from_slice(hold.as_bytes())?;
+    out.push(b'\n')?;
+    Ok(())
 }
 
 /// The line of a `del`.
-pub fn put_del(out: &mut Vec<u8>, name: &[u8], answer: Answer) -> Result<(), AllocError>
+pub fn put_del(out: &mut Vec<u8>, name: &str, answer: Answer) -> Result<(), AllocError>
     ensures { OnOk result (out.new.items ≡ out.old.items ++ del_line name.now answer) }
 {
     out.extend_from_slice(b"del ")?;
-    out.extend_from_slice(name)?;
-    out.extend_from_slice(b" ")?;
+    out.extend_from_slice(name.as_bytes())?;
+    out.push(b' ')?;
     put_answer(out, answer)?;
-    out.extend_from_slice(b"\n")
+    out.push(b'\n')?;
+    Ok(())
 }
 
 /// The line of a `sweep`.
@@ -398,9 +413,10 @@ pub fn put_sweep(out: &mut Vec<u8>, class: u32, answer: Answer) -> Result<(), Al
     ensures { OnOk result (out.new.items ≡ out.old.items ++ sweep_line class answer) }
 {
     put_word(out, b"sweep ", u64::from(class))?;
-    out.extend_from_slice(b" ")?;
+    out.push(b' ')?;
     put_answer(out, answer)?;
-    out.extend_from_slice(b"\n")
+    out.push(b'\n')?;
+    Ok(())
 }
 
 /// The line of a `pull`.
@@ -408,11 +424,12 @@ pub fn put_pull(out: &mut Vec<u8>, class: u32, tail: Tail, answer: Answer) -> Re
     ensures { OnOk result (out.new.items ≡ out.old.items ++ pull_line class tail answer) }
 {
     put_word(out, b"pull ", u64::from(class))?;
-    out.extend_from_slice(b" ")?;
+    out.push(b' ')?;
     out.extend_from_slice(word_of_tail(tail).as_bytes())?;
-    out.extend_from_slice(b" ")?;
+    out.push(b' ')?;
     put_answer(out, answer)?;
-    out.extend_from_slice(b"\n")
+    out.push(b'\n')?;
+    Ok(())
 }
 
 /// The line of a bump that was applied.
@@ -420,9 +437,10 @@ pub fn put_bump(out: &mut Vec<u8>, worker: u32, entry: Entry) -> Result<(), Allo
     ensures { OnOk result (out.new.items ≡ out.old.items ++ bump_line worker entry) }
 {
     put_word(out, b"bump ", u64::from(worker))?;
-    out.extend_from_slice(b" ")?;
+    out.push(b' ')?;
     put_entry(out, entry)?;
-    out.extend_from_slice(b"\n")
+    out.push(b'\n')?;
+    Ok(())
 }
 
 /// The last line of a `drain`.
@@ -430,7 +448,8 @@ pub fn put_drain(out: &mut Vec<u8>, count: u64) -> Result<(), AllocError>
     ensures { OnOk result (out.new.items ≡ out.old.items ++ drain_line count) }
 {
     put_word(out, b"drain ", count)?;
-    out.extend_from_slice(b"\n")
+    out.push(b'\n')?;
+    Ok(())
 }
 
 /// The line of a class and a worker of `moves`.
@@ -440,7 +459,8 @@ pub fn put_moves(out: &mut Vec<u8>, class: u32, worker: u32, count: u64) -> Resu
     put_word(out, b"moves ", u64::from(class))?;
     put_word(out, b" ", u64::from(worker))?;
     put_word(out, b" ", count)?;
-    out.extend_from_slice(b"\n")
+    out.push(b'\n')?;
+    Ok(())
 }
 
 /// The first words of the line of a `close`.
@@ -448,7 +468,8 @@ fn put_close_start(out: &mut Vec<u8>, worker: u32) -> Result<(), AllocError>
     ensures { OnOk result (out.new.items ≡ out.old.items ++ close_start worker) }
 {
     put_word(out, b"close ", u64::from(worker))?;
-    out.extend_from_slice(b" ")
+    out.push(b' ')?;
+    Ok(())
 }
 
 /// The last line of a `close`, with what the worker and its lane counted.
@@ -463,7 +484,8 @@ pub fn put_close(
 {
     put_close_start(out, worker)?;
     put_accounts(out, accounts, applied)?;
-    out.extend_from_slice(b"\n")
+    out.push(b'\n')?;
+    Ok(())
 }
 
 /// The line of a `close` of a worker that was closed before.
@@ -472,7 +494,8 @@ pub fn put_closed(out: &mut Vec<u8>, worker: u32) -> Result<(), AllocError>
 {
     put_close_start(out, worker)?;
     put_told(out, None)?;
-    out.extend_from_slice(b"\n")
+    out.push(b'\n')?;
+    Ok(())
 }
 
 /// The line of a fault.
@@ -482,5 +505,6 @@ pub fn put_fault(out: &mut Vec<u8>, number: u64, fault: Fault) -> Result<(), All
     put_word(out, b"line ", number)?;
     out.extend_from_slice(b": ")?;
     out.extend_from_slice(fault.word().as_bytes())?;
-    out.extend_from_slice(b"\n")
+    out.push(b'\n')?;
+    Ok(())
 }

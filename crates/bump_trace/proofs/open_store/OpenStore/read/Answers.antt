@@ -4,8 +4,8 @@ use Rattle.bump_trace.proofs.HeldNames.{held_by_name}
 use Rattle.bump_trace.specs.OpenStore.{read_said}
 use Rattle.bump_trace.proofs.open_store.OpenStore.read.Goals as goal
 
-pub command-requires-clause-allowed : goal.command-requires-clause-allowed
-command-requires-clause-allowed c =
+pub held_label-label-requires : goal.held_label-label-requires
+held_label-label-requires c =
     let b = c.args.self.now in
     held_by_name b.world (names_of b.holds) c.args.hold.now c.in-Some.id c.requires.ready.lawful c.in-Some.ensures c.requires.holds
 

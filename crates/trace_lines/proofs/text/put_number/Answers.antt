@@ -1,0 +1,6 @@
+use Rattle.std.proofs.Common.{◌≡◌, ◌+◌, ◌++◌, [], ◌∷◌, rules, sym, ap, arith}
+use Rattle.std.proofs.lemmas.Fmt.{decimal_digit}
+use Rattle.trace_lines.proofs.text.put_number.Goals as goal
+
+pub returns-then-n-lt10 : goal.returns-then-n-lt10
+returns-then-n-lt10 c = rw (decimal_digit c.args.n c.if-n-lt10.true) (search rules)
