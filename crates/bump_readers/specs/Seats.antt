@@ -57,6 +57,11 @@ abbrev pub labels_in : Option HoldPart → List ℕ
 labels_in None = []
 labels_in (Some hold) = hold.labels
 
+-- the head words that its looks found
+abbrev pub looks_in : Option HoldPart → List ℕ
+looks_in None = []
+looks_in (Some hold) = hold.looks
+
 -- ---- riders
 
 -- the bump of a seat that has none

@@ -7,7 +7,7 @@ ghost use Rattle.bump_word.specs.Words.{Fits, word_of};
 ghost use Rattle.bump_readers.specs.Seats.{spent_me, labels_in};
 ghost use Rattle.bump_steps.specs.Rule.{chunks as all_chunks};
 ghost use Rattle.bump_readers.specs.Taking.{Took, whole_hold};
-ghost use Rattle.bump_steps.specs.References.{hold_after_label_load};
+ghost use Rattle.bump_steps.specs.References.{hold_after_label_load, hold_after_look};
 ghost use Rattle.bump_steps.specs.Views.{differs};
 
 use crate::heads::ReaderHeads;
@@ -116,10 +116,12 @@ impl<N: Name> ReaderHeads<N> {
     }
 
     /// Looks at the head of the item that the hold holds, by one load, and answers it: of the hold's life, and with a
-    /// count of at least 1. The hold is whole. Nothing changes.
+    /// count of at least 1. The hold is whole, and its view keeps the word. Nothing else changes.
     pub fn look_of(&self, hold: &mut Hold<N>) -> Head
         requires whole { IsSome hold.old.part }
-        ensures unchanged { hold.new ≡ hold.old }
+        ensures looked { hold.new ≡ record hold.old {
+          part = option_map (hold_after_look (word_of result)) hold.old.part;
+        } }
         ensures generation { result.generation ≡ hold.old.life.generation }
         ensures counted { 0 < result.refs }
         ensures fits { Fits result }

@@ -31,7 +31,7 @@ use Rattle.bump_steps.specs.declared.views.View.{View}
 use Rattle.bump_steps.specs.declared.views.WorkerPart.{WorkerPart}
 use Rattle.bump_steps.specs.Plays.{Sat, on_chunk, behind, on_first, step_of}
 use Rattle.bump_steps.specs.Marks.{noted, on_worker}
-use Rattle.bump_steps.specs.References.{load_to_take_tells, new_hold, view_after_take, take_tells, HasHold, view_after_release, release_of_hold_tells, look_of_hold_tells, hold_after_label_load, view_after_label_load, IsLabel, label_load_tells, load_without_seat_tells}
+use Rattle.bump_steps.specs.References.{load_to_take_tells, new_hold, view_after_take, take_tells, HasHold, view_after_release, release_of_hold_tells, hold_after_look, view_after_look_of_hold, look_of_hold_tells, hold_after_label_load, view_after_label_load, IsLabel, label_load_tells, load_without_seat_tells}
 use Rattle.bump_steps.specs.Rule.{Sound, chunks, Kept, blank, HasFittingLimit}
 use Rattle.bump_steps.specs.Views.{Measure, held, named, saw, owners, strays, mislabels, misreads, is_fetch, is_fetch_of, in_hand, misread, differs, weight, tally, claims, evidence, shown_by, moves, settled, in_progress, underway, foreign, workers_of, lanes_of, untidy, IsBacked}
 use Rattle.bump_steps.proofs.LifeLabels.{labelled_push}
@@ -129,6 +129,18 @@ module _ (step_kind : Kind) (plain : is_fetch step_kind ≡ false) (c n : ℕ) w
   noted_same v hs b (mislabels x) = refl
   noted_same v hs b (misreads g x) = refl
 
+-- a view counts the same where its first hold noted a look
+looked_same : (n : ℕ) (v : View) (b : ℕ) → Same b v (view_after_look_of_hold n v)
+looked_same n v b (held g) =
+    omega (arith, on_first_total (λ p. one_if (life b g) p.life) (hold_after_look n) (λ p. refl) v.holds)
+looked_same n v b (named g) = refl
+looked_same n v b (saw g) = refl
+looked_same n v b owners = refl
+looked_same n v b (strays s) = refl
+looked_same n v b (mislabels x) = refl
+looked_same n v b (misreads g x) =
+    omega (arith, on_first_total (misread b g x) (hold_after_look n) (λ p. refl) v.holds)
+
 -- by the get table, a word by which a get is a hold is linked, of the generation, and has a count under the limit
 pub held_is : (limit g : ℕ) (h : Head) → get_of limit g h ≡ IsHeld → (h.linked ≡ true) × (h.generation ≡ g)
     × (h.refs < limit)
@@ -163,14 +175,15 @@ module _ (key : Config) (slots id : ℕ) (m : Sat) (c : ℕ) (near : c < chunks 
       (λ n x t limits o a. reaches_by_look kind.Load refl n x t (load_to_take_tells c 0 m n) o
       (refl, (o.head, o.spells, tells c key.refs_limit n x m.0 t o a)))
 
-  -- a load by a hold changes no word and no view
+  -- a load by a hold changes no word, and nothing that counts
   pub may_look_of_hold : Allows (Kept key) slots id m (3 * c + 9) (λ n. n)
       (on_chunk look_of_hold_tells (step slots (3 * c + 9) 0 0 none) m)
   may_look_of_hold = at_chunk look_of_hold_tells key slots id m c 0 (λ n. n) near (λ n x t limits o a. (
-    m.0,
-    (λ u moved. same_sound key.refs_limit n x t u (λ y. let e = moved y in omega arith) o),
-    (λ b ne y. refl),
-    quiet m.0 m.0.workers m.0.holds m.0.returned (λ w. refl),
+    view_after_look_of_hold n m.0,
+    (λ u moved. same_sound key.refs_limit n x t u
+        (same_counts c m.0 (view_after_look_of_hold n m.0) t u (looked_same n m.0 c) moved) o),
+    (λ b ne. looked_same n m.0 b),
+    quiet m.0 m.0.workers (on_first (hold_after_look n) m.0.holds) m.0.returned (λ w. refl),
     (refl, (o.head, o.spells, tells c key.refs_limit n x m.0 t o a)),
   ))
 

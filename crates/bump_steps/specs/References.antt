@@ -30,9 +30,9 @@ abbrev pub load_to_take_tells : Tells
 load_to_take_tells chunk operand before word after = (after ≡ (view_after_load chunk word before.0, before.1))
     × Found word (Told chunk before.0)
 
--- a hold of the life, which read no label
+-- a hold of the life, which read no label, and looked at no head
 abbrev pub new_hold : ItemId → HoldPart
-new_hold item = record { life = item; labels = [] }
+new_hold item = record { life = item; labels = []; looks = [] }
 
 -- the worker took a reference where it found n: the life is the one whose generation n has
 abbrev pub view_after_take : ℕ → ℕ → View → View
@@ -70,9 +70,16 @@ abbrev pub release_of_hold_tells : Tells
 release_of_hold_tells chunk operand before word after = (after ≡ (view_after_release word before.0, before.1))
     × Found word (Told chunk before.0)
 
--- the hold looked at the chunk's head, which no list notes
+-- the hold looked at its chunk's head word, and found n
+abbrev pub hold_after_look : ℕ → HoldPart → HoldPart
+hold_after_look word hold = record hold { looks = hold.looks ++ word ∷ [] }
+
+abbrev pub view_after_look_of_hold : ℕ → View → View
+view_after_look_of_hold word view = record view { holds = on_first (hold_after_look word) view.holds }
+
 abbrev pub look_of_hold_tells : Tells
-look_of_hold_tells chunk operand before word after = (after ≡ before) × Found word (Told chunk before.0)
+look_of_hold_tells chunk operand before word after = (after ≡ (view_after_look_of_hold word before.0, before.1))
+    × Found word (Told chunk before.0)
 
 -- the hold read a label
 abbrev pub hold_after_label_load : ℕ → HoldPart → HoldPart

@@ -120,6 +120,9 @@ pub struct HoldPart {
 
     /// The labels that it read, in order.
     pub labels: LinkedList<u64>,
+
+    /// The head words that its looks found, in order.
+    pub looks: LinkedList<u64>,
 }
 
 /// The mark of a hold's reference that was given back.

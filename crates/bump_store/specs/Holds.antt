@@ -1,25 +1,26 @@
 -- What contracts see of holds.
-use Rattle.std.specs.Prelude.{◌≡◌, ◌<◌, ◌&&◌, Bool, Some}
+use Rattle.std.specs.Prelude.{◌≡◌, ◌<◌, ◌&&◌, ◌++◌, ◌∷◌, [], Bool, Some}
 use Rattle.bump_rules.specs.declared.items.Head.{Head}
-use Rattle.bump_rules.specs.declared.items.ItemId.{ItemId}
-use Rattle.bump_word.specs.Words.{Fits}
+use Rattle.bump_word.specs.Words.{Fits, word_of}
 use Rattle.bump_steps.specs.declared.views.HoldPart.{HoldPart}
 use Rattle.bump_readers.specs.declared.views.HoldView.{HoldView}
-use Rattle.bump_readers.specs.Seats.{labels_in}
+use Rattle.bump_readers.specs.Seats.{labels_in, looks_in}
 
--- the life that is held, and the labels that were read
+-- the life that is held, the labels that were read, and the head words that looks found
 abbrev pub part_of : HoldView → HoldPart
-part_of hold = record { life = hold.life; labels = labels_in hold.part }
+part_of hold = record { life = hold.life; labels = labels_in hold.part; looks = looks_in hold.part }
 
 -- a hold with its part, which is joined to no seat
 abbrev pub whole : HoldPart → HoldView
 whole part = record { life = part.life; part = Some part }
 
--- What a look for the marks of the item that is held answers, by the head that it found.
-pub record SeesMarks (item : ItemId) (answer : Bool) (found : Head) : Type 0 where
+-- What a look for the marks of the item that is held answers, and what the hold keeps, by the head that it found.
+pub record SeesMarks (before : HoldPart) (answer : Bool) (after : HoldPart) (found : Head) : Type 0 where
   -- it is one that a word spells, of the item, which has a reference at least
   pub fits : Fits found
-  pub generation : found.generation ≡ item.generation
+  pub generation : found.generation ≡ before.life.generation
   pub counted : 0 < found.refs
+  -- the hold notes this very word, and nothing else is changed
+  pub noted : after ≡ record before { looks = before.looks ++ word_of found ∷ [] }
   -- both marks were set
   pub marked : answer ≡ (found.fetched && found.active)

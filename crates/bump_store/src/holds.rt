@@ -40,15 +40,15 @@ impl<N: Name> Hold<N> {
         heads.label_of(&mut self.held)
     }
 
-    /// Whether the item has both marks, FETCHED and ACTIVE, by one load of its head word; nothing changes.
+    /// Whether the item has both marks, FETCHED and ACTIVE, by one load of its head word, which the hold's view keeps.
+    /// Nothing else changes.
     ///
     /// It is so for most hits of an item that is hit often. A touch would answer Already then, and change no word, but
     /// by a locked step: a caller that asks first, and touches where the answer is no, saves it. Where the marks are
     /// seldom set it is one load more. Another thread may clear ACTIVE just behind the load, as behind a touch.
     #[inline(always)]
     pub fn is_marked(&mut self, heads: &ReaderHeads<N>) -> bool
-        ensures unchanged { self.new ≡ self.old }
-        ensures marked { (found : TheHead) × SeesMarks self.old.life result found }
+        ensures marked { (found : TheHead) × SeesMarks self.old result self.new found }
     {
         let found = heads.look_of(&mut self.held);
         found.fetched && found.active

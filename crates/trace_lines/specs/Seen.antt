@@ -47,7 +47,7 @@ seen_said (Some line) = Some (seen_line line)
 -- What a line was read as is what it says, unless memory ran out.
 abbrev pub Says : Result (Option Line) LineError → Result (Option lines.Line) Fault → Type 0
 Says (Ok read) said = said ≡ Ok (seen_said read)
-Says (Err errors.Memory) said = Unit {0}
+Says (Err errors.Memory) said = ⊥
 Says (Err (errors.Fault fault)) said = said ≡ Err fault
 
 -- the words in what is left of a line, if anything is

@@ -135,7 +135,7 @@ impl Words {
             .fetch_sub::<Release>(seat, 3 * chunk as usize + HEAD, ONE_REFERENCE)
     }
 
-    /// A load of a head word, by a hold: no list notes it.
+    /// A load of a head word, by a hold, whose list of looks notes it.
     pub fn look_of_hold(&self, seat: &mut Seat, chunk: u32) -> u64
         requires seat { (seat.old.table_id ≡ words_id self.now) × HasChunk (words_id self.now) chunk }
         requires hold { HasHold chunk seat.old.me.0 }

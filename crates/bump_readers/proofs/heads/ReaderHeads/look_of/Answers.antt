@@ -5,8 +5,8 @@ use Rattle.bump_steps.specs.Plays.{Found, Told}
 use Rattle.bump_readers.proofs.HeldHeads.{held_found}
 use Rattle.bump_readers.proofs.heads.ReaderHeads.look_of.Goals as goal
 
-pub returns-clause-unchanged : goal.returns-clause-unchanged
-returns-clause-unchanged g c = search rules
+pub returns-clause-looked : goal.returns-clause-looked
+returns-clause-looked g c = search (rules, c.head_of-head.ensures.0)
 
 pub returns-clause-generation : goal.returns-clause-generation
 returns-clause-generation g c = let s = c.seat_out-seat in
