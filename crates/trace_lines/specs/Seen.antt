@@ -44,7 +44,7 @@ abbrev pub seen_said : Option Line → Option lines.Line
 seen_said None = None
 seen_said (Some line) = Some (seen_line line)
 
--- What a line was read as is what it says, unless memory ran out.
+-- What a line was read as is what it says: reading wants no memory.
 abbrev pub Says : Result (Option Line) LineError → Result (Option lines.Line) Fault → Type 0
 Says (Ok read) said = said ≡ Ok (seen_said read)
 Says (Err errors.Memory) said = ⊥

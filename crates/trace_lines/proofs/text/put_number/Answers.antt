@@ -1,4 +1,4 @@
-use Rattle.std.proofs.Common.{◌≡◌, ◌+◌, ◌++◌, [], ◌∷◌, rules, sym, ap, arith}
+use Rattle.std.proofs.Common.{rules}
 use Rattle.std.proofs.lemmas.Fmt.{decimal_digit}
 use Rattle.trace_lines.proofs.text.put_number.Goals as goal
 
