@@ -1,9 +1,9 @@
 -- What keeps names and chunks in agreement.
-use Rattle.std.proofs.Common.{◌≡◌, ◌≢◌, ℕ, zero, suc, pred, ◌⊎◌, Bool, true, false, cond, List, [], ◌∷◌, map, Option, Some, None, option_map, slice_get, get_or, slice_set, replicate, length, ◌<◌, if◌then◌else◌, refl, sym, ap, ap₂, ◌∙◌, subst, eqb, eqb-true, eq-eqb, arith}
+use Rattle.std.proofs.Common.{◌≡◌, ◌≢◌, ℕ, zero, suc, pred, ◌⊎◌, Bool, true, false, cond, List, [], ◌∷◌, Option, Some, None, option_map, slice_get, get_or, slice_set, replicate, length, ◌<◌, if◌then◌else◌, refl, sym, ap, ap₂, ◌∙◌, subst, eqb, eqb-true, eq-eqb, arith}
 use Rattle.std.proofs.lemmas.Option.{slice_get-map, slice_get_within, slice_get_read}
 use Rattle.std.specs.Cmp.{IsEquivalence}
 use mathlib.Core.Logic.{inl, inr}
-use Rattle.cache_index.specs.Tables.{Placed, Table, is_of_key, without_key, without_chunk, with_placed, found_in}
+use Rattle.cache_index.specs.Tables.{Placed, Table, is_of_key, without_key, without_chunk, found_in}
 use Rattle.cache_index.specs.Agreeing.{Agrees}
 
 -- a test says yes or no
@@ -136,9 +136,9 @@ module _ {K V : Type 0} {same : K → K → Bool} (laws : IsEquivalence same) (l
         at d (inl e) =
             let home = agrees.leads_home key chunk led in
             ap (slice_get (slice_set table chunk None)) e ∙ (got_where_set table chunk (Some home.0) None home.1
-                ∙ sym (ap (slice_get (without_key same key table)) e ∙ (slice_get-map _ table chunk
-                ∙ (ap (option_map (λ home. if is_of_key same key home then None else home)) home.1
-                ∙ ap (λ b. Some (if b then None else Some home.0)) home.2))))
+            ∙ sym (ap (slice_get (without_key same key table)) e ∙ (slice_get-map _ table chunk
+            ∙ (ap (option_map (λ home. if is_of_key same key home then None else home)) home.1
+            ∙ ap (λ b. Some (if b then None else Some home.0)) home.2))))
         at d (inr ne) = got_elsewhere table chunk d None ne ∙ (stays d ne (slice_get table d) refl ∙ sym (slice_get-map _ table d))
 
   -- a key that leads nowhere is in no table
@@ -156,7 +156,7 @@ module _ {K V : Type 0} {same : K → K → Bool} (laws : IsEquivalence same) (l
       at d (Some None) e = e ∙ sym (slice_get-map _ table d ∙ ap (option_map (λ home. if is_of_key same key home then None else home)) e)
       at d (Some (Some placed)) e =
           e ∙ (known d placed (same key placed.key) e refl
-              ∙ sym (slice_get-map _ table d ∙ ap (option_map (λ home. if is_of_key same key home then None else home)) e))
+          ∙ sym (slice_get-map _ table d ∙ ap (option_map (λ home. if is_of_key same key home then None else home)) e))
 
   -- a chunk gets a key that led nowhere, and the key leads to it
   pub sets : (chunk : ℕ) (placed : Placed K V) (key : K) → slice_get table chunk ≡ Some None → leads placed.key ≡ None
@@ -172,9 +172,11 @@ module _ {K V : Type 0} {same : K → K → Bool} (laws : IsEquivalence same) (l
 
       home : (q : K) (d : ℕ) → next q ≡ Some d → (b : Bool) → same key q ≡ b → Home q d
       home q d is true e =
-          let one : d ≡ chunk = cc (nexts q, is, e) in
-          (placed, ap (slice_get (slice_set table chunk (Some placed))) one ∙ got_where_set table chunk None (Some placed) free,
-              laws.symm q placed.key ∙ same_both laws placed.key q key (laws.symm placed.key key ∙ alike) (laws.symm q key ∙ e))
+          let one : d ≡ chunk = cc (nexts q, is, e) in (
+            placed,
+            ap (slice_get (slice_set table chunk (Some placed))) one ∙ got_where_set table chunk None (Some placed) free,
+            laws.symm q placed.key ∙ same_both laws placed.key q key (laws.symm placed.key key ∙ alike) (laws.symm q key ∙ e),
+          )
       home q d is false e =
           let was : leads q ≡ Some d = cc (nexts q, is, e) in
           let there = agrees.leads_home q d was in
@@ -185,7 +187,7 @@ module _ {K V : Type 0} {same : K → K → Bool} (laws : IsEquivalence same) (l
           → same q there.key ≡ true → (d ≡ chunk) ⊎ (d ≢ chunk) → next q ≡ Some d
       led_to d there q at its (inl one) =
           let same_place : Some (Some placed) ≡ Some (Some there) =
-              sym (got_where_set table chunk None (Some placed) free) ∙ (ap (slice_get (slice_set table chunk (Some placed))) (sym one) ∙ at) in
+          sym (got_where_set table chunk None (Some placed) free) ∙ (ap (slice_get (slice_set table chunk (Some placed))) (sym one) ∙ at) in
           let it : there ≡ placed = cc same_place in
           let q_its : same q placed.key ≡ true = ap (λ (p : Placed K V). same q p.key) (sym it) ∙ its in
           nexts q ∙ (ap (λ b. cond b (Some chunk) (leads q)) (same_both laws key q placed.key alike q_its) ∙ ap Some (sym one))
@@ -207,7 +209,7 @@ found_at same key [] chunk placed at its one = absurd (cc at)
 found_at same key (home ∷ rest) zero placed at its one =
     let it : home ≡ Some placed = cc at in
     ap (λ h. if is_of_key same key h then h else found_in same key rest) it
-        ∙ ap (λ b. if b then Some placed else found_in same key rest) its
+    ∙ ap (λ b. if b then Some placed else found_in same key rest) its
 found_at {K} {V} same key (home ∷ rest) (suc chunk) placed at its one =
     by (found_at same key rest chunk placed at its (λ d p there is. ap pred (one (suc d) p there is))) home refl
   where
@@ -229,7 +231,7 @@ not_found same key [] none = refl
 not_found same key (None ∷ rest) none = not_found same key rest (λ d p at. none (suc d) p at)
 not_found same key (Some p ∷ rest) none =
     ap (λ b. if b then Some p else found_in same key rest) (none zero p refl)
-        ∙ not_found same key rest (λ d q at. none (suc d) q at)
+    ∙ not_found same key rest (λ d q at. none (suc d) q at)
 
 module _ {K V : Type 0} {same : K → K → Bool} (leads : K → Option ℕ) (table : Table K V)
     (agrees : Agrees same leads table) (key : K) where
@@ -239,7 +241,7 @@ module _ {K V : Type 0} {same : K → K → Bool} (leads : K → Option ℕ) (ta
   found_where_led chunk home led at =
       let there = agrees.leads_home key chunk led in
       found_at same key table chunk there.0 there.1 there.2
-          (λ d p is its. cc (sym (agrees.is_led_to d p key is its) ∙ led)) ∙ cc (sym there.1 ∙ at)
+      (λ d p is its. cc (sym (agrees.is_led_to d p key is its) ∙ led)) ∙ cc (sym there.1 ∙ at)
 
   -- nothing is found under a key that leads nowhere
   pub not_found_where_unknown : leads key ≡ None → found_in same key table ≡ None
@@ -287,11 +289,11 @@ pub empties : {K V : Type 0} {same : K → K → Bool} (laws : IsEquivalence sam
     → Agrees same next (slice_set table chunk left)
 empties {same = same} laws leads next table agrees chunk home left placed key within read is none its nexts =
     let at : slice_get table chunk ≡ Some (Some placed) =
-        slice_get_read table _ chunk home refl within read ∙ ap Some is in
+    slice_get_read table _ chunk home refl within read ∙ ap Some is in
     let led : leads key ≡ Some chunk = agrees.is_led_to chunk placed key at
-        (ap (λ k. same k placed.key) its ∙ laws.refl placed.key) in
+    (ap (λ k. same k placed.key) its ∙ laws.refl placed.key) in
     subst (λ home. Agrees same next (slice_set table chunk home)) (sym none)
-        (forgets laws leads next table agrees key chunk led nexts)
+    (forgets laws leads next table agrees key chunk led nexts)
 
 -- what is found under a key that leads to a chunk, by a read of its place
 pub found_by_read : {K V : Type 0} {same : K → K → Bool} (leads : K → Option ℕ) (table : Table K V)
@@ -299,7 +301,7 @@ pub found_by_read : {K V : Type 0} {same : K → K → Bool} (leads : K → Opti
     → home ≡ get_or table chunk home → home ≡ found_in same key table
 found_by_read leads table agrees key chunk home led read =
     sym (found_where_led leads table agrees key chunk home led
-        (slice_get_read table _ chunk home refl (in_table leads table agrees key chunk led) read))
+    (slice_get_read table _ chunk home refl (in_table leads table agrees key chunk led) read))
 
 -- what is left once a key was taken out has another key
 pub left_apart : {K V : Type 0} (same : K → K → Bool) (key : K) (table : Table K V) (d : ℕ) (p : Placed K V)
@@ -351,7 +353,7 @@ pub sets_anew : {K V : Type 0} {same : K → K → Bool} (laws : IsEquivalence s
     → Agrees same next (slice_set emptied chunk (Some placed))
 sets_anew {K} {V} {same} laws leads next table emptied chunk placed key other agrees is its within alike nexts =
     sets laws leads next emptied agrees chunk placed key (free (slice_get (without_key same other table) chunk) refl)
-        (ap leads (sym its) ∙ forgotten_leads_nowhere same leads table emptied chunk other agrees is) alike nexts
+    (ap leads (sym its) ∙ forgotten_leads_nowhere same leads table emptied chunk other agrees is) alike nexts
   where
     free : (found : Option (Option (Placed K V))) → slice_get (without_key same other table) chunk ≡ found
         → slice_get emptied chunk ≡ Some None
@@ -365,3 +367,18 @@ pub set_twice : {X : Type 0} (xs : List X) (i : ℕ) (x y : X) → slice_set (sl
 set_twice [] i x y = refl
 set_twice (z ∷ xs) zero x y = refl
 set_twice (z ∷ xs) (suc i) x y = ap (λ ys. z ∷ ys) (set_twice xs i x y)
+
+-- a table that has no such key stays without it
+pub without_unknown : {K V : Type 0} (same : K → K → Bool) (key : K) (table : Table K V)
+    → found_in same key table ≡ None → without_key same key table ≡ table
+without_unknown same key [] none = refl
+without_unknown same key (None ∷ rest) none = ap (λ t. None ∷ t) (without_unknown same key rest none)
+without_unknown {K} {V} same key (Some p ∷ rest) none =
+    by (λ e. without_unknown same key rest e) (same key p.key) refl none
+  where
+    by : (found_in same key rest ≡ None → without_key same key rest ≡ rest) → (b : Bool) → same key p.key ≡ b
+        → (if same key p.key then Some p else found_in same key rest) ≡ None
+        → (if same key p.key then None else Some p) ∷ without_key same key rest ≡ Some p ∷ rest
+    by more true e is = absurd (cc (sym (ap (λ b. if b then Some p else found_in same key rest) e) ∙ is))
+    by more false e is = ap₂ (λ h t. h ∷ t) (ap (λ b. if b then None else Some p) e)
+        (more (sym (ap (λ b. if b then Some p else found_in same key rest) e) ∙ is))

@@ -1,5 +1,5 @@
 -- Names and chunks agree one to one.
-use Rattle.std.specs.Prelude.{◌≡◌, ℕ, Bool, true, Option, Some, None, slice_get}
+use Rattle.std.specs.Prelude.{◌≡◌, ℕ, Bool, true, Option, Some, slice_get}
 use Rattle.cache_index.specs.Tables.{Placed, Table}
 
 -- the chunk has the key

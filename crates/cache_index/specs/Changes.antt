@@ -1,5 +1,5 @@
 -- What a change of an index does.
-use Rattle.std.specs.Prelude.{ℕ, Bool, List, fold, Option, Some, None, [], ◌∷◌}
+use Rattle.std.specs.Prelude.{Bool}
 use Rattle.cache_index.specs.declared.slots.Change.{Change}
 use Rattle.cache_index.specs.declared.slots.Change.TheVariants as change
 use Rattle.cache_index.specs.Tables.{Table, with_placed, without_chunk}

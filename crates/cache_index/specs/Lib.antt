@@ -1,3 +1,4 @@
 pub mod Tables
 pub mod Agreeing
 pub mod Changes
+pub mod Writing

@@ -1,5 +1,5 @@
 -- What an index has, by chunk, and what a change of it does.
-use Rattle.std.specs.Prelude.{◌≡◌, ℕ, Bool, true, false, List, [], ◌∷◌, map, slice_set, if◌then◌else◌}
+use Rattle.std.specs.Prelude.{ℕ, Bool, false, List, [], ◌∷◌, map, slice_set, slice_index_or, if◌then◌else◌}
 use Rattle.std.specs.Prelude.{Option, Some, None}
 
 -- a key and its value, in the life of a chunk that has this generation
@@ -13,6 +13,10 @@ abbrev pub Table : Type 0 → Type 0 → Type 0
 Table K V = List (Option (Placed K V))
 
 module _ {K V : Type 0} where
+  -- what a chunk has, if anything: nothing where there is no such chunk
+  abbrev pub at_chunk : ℕ → Table K V → Option (Placed K V)
+  at_chunk chunk table = slice_index_or table chunk None
+
   -- nothing at the chunk any more
   abbrev pub without_chunk : ℕ → Table K V → Table K V
   without_chunk chunk table = slice_set table chunk None

@@ -9,7 +9,8 @@ use left_right::Absorb;
 use std::alloc::AllocError;
 use std::hash::Hash;
 
-impl<K: Eq + Hash + Clone + Drop, V: Drop, L: Law<K, V>> Absorb<Change<K, V, L>> for Index<K, V, L> {
+impl<K: Eq + Hash + Clone + Drop, V: Drop, L: Law<K, V>> Absorb<Change<K, V, L>>
+    for Index<K, V, L> {
     // what each chunk has: no value of it is made
     type State = [Option<Slot<K, V, L>>; 0];
 

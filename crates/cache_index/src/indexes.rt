@@ -1,8 +1,8 @@
 //! An index: which chunk has a key, and what it has.
-ghost use Rattle.std.specs.Prelude.{◌≡◌, ◌≤◌, List, Option, IfOk, OnErr, IfSome, IfNone, None, replicate, option_copied};
+ghost use Rattle.std.specs.Prelude.{◌≡◌, ◌≤◌, List, Option, IfOk, OnErr, IfSome, IfNone, Some, None, true, replicate, option_copied, slice_get};
 ghost use Rattle.std.specs.HashMap.{get as leads_to, spare};
 ghost use Rattle.cache_index.specs.Tables.{Placed, without_chunk, without_key, with_placed, found_in};
-ghost use Rattle.cache_index.specs.Agreeing.{Agrees, IsAt};
+ghost use Rattle.cache_index.specs.Agreeing.{Agrees};
 
 use crate::entries::Law;
 use crate::slots::Slot;
@@ -16,6 +16,16 @@ use std::marker::Model;
 pub struct Index<K: Eq + Hash, V, L: Law<K, V>> {
     places: HashMap<K, u32>,
     slots: Vec<Option<Slot<K, V, L>>>,
+}
+
+/// Where a key is, and what is there.
+#[derive(Drop)]
+pub struct Home<'a, K, V, L: Law<K, V>> {
+    /// The chunk that has the key.
+    pub chunk: u32,
+
+    /// What the chunk has.
+    pub slot: &'a Slot<K, V, L>,
 }
 
 impl<K: Eq + Hash, V, L: Law<K, V>> Model for Index<K, V, L> {
@@ -86,23 +96,30 @@ impl<K: Eq + Hash, V, L: Law<K, V>> Index<K, V, L> {
         })
     }
 
+    /// The chunk that has the key, and what it has; or None where no chunk has it.
+    pub fn home_of(&self, key: &K) -> Option<Home<'_, K, V, L>>
+        ensures at { IfSome result (λ home. slice_get self.now home.chunk ≡ Some (Some home.slot.now)) }
+        ensures key { IfSome result (λ home. K.eq key.now home.slot.now.key ≡ true) }
+        ensures none { IfNone result (found_in K.eq key.now self.now ≡ None) }
+    {
+        match self.places.get(key) {
+            Some(chunk) => match &self.slots[*chunk as usize] {
+                Some(slot) => Some(Home {
+                    chunk: *chunk,
+                    slot,
+                }),
+                None => None,
+            },
+            None => None,
+        }
+    }
+
     /// What the chunk that has the key has, or None where no chunk has it.
     pub fn find(&self, key: &K) -> Option<&Slot<K, V, L>>
         ensures found { option_copied result ≡ found_in K.eq key.now self.now }
     {
         match self.places.get(key) {
             Some(chunk) => self.slots[*chunk as usize].as_ref(),
-            None => None,
-        }
-    }
-
-    /// The chunk that has the key, or None where none has it.
-    pub fn chunk_of(&self, key: &K) -> Option<u32>
-        ensures has { IfSome result (λ chunk. IsAt K.eq key.now chunk self.now) }
-        ensures none { IfNone result (found_in K.eq key.now self.now ≡ None) }
-    {
-        match self.places.get(key) {
-            Some(chunk) => Some(*chunk),
             None => None,
         }
     }

@@ -5,8 +5,14 @@
 mod absorbing;
 mod entries;
 mod indexes;
+mod names;
+mod readers;
 mod slots;
+mod writers;
 
 pub use entries::{AnyPair, Entry, Law};
-pub use indexes::Index;
+pub use indexes::{Home, Index};
+pub use names::Names;
+pub use readers::{Found, IndexReader};
 pub use slots::{Change, Slot};
+pub use writers::IndexWriter;

@@ -1,5 +1,4 @@
-use Rattle.std.proofs.Common.{◌≡◌, refl, sym, ap, ◌∙◌, subst, arith}
-use Rattle.std.specs.HashMap.{get as leads_to}
+use Rattle.std.proofs.Common.{sym, ap, ◌∙◌, arith}
 use Rattle.cache_index.proofs.Agreements.{empties}
 use Rattle.cache_index.proofs.indexes.empty.Goals as goal
 

@@ -1,4 +1,4 @@
-use Rattle.std.proofs.Common.{◌≡◌, refl, sym, ap, ◌∙◌}
+use Rattle.std.proofs.Common.{sym, ap}
 use Rattle.std.specs.HashMap.{get as leads_to}
 use Rattle.std.specs.Map.{lookup}
 use Rattle.cache_index.proofs.Agreements.{forgets, forgotten, unknown_stays, agrees_alike}

@@ -1,5 +1,4 @@
-use Rattle.std.proofs.Common.{◌≡◌, refl, sym, ap, ◌∙◌}
-use Rattle.std.specs.HashMap.{get as leads_to}
+use Rattle.std.proofs.Common.{ap}
 use Rattle.std.specs.Map.{lookup}
 use Rattle.cache_index.proofs.Agreements.{nothing_agrees}
 use Rattle.cache_index.proofs.indexes.Index.new.Goals as goal
