@@ -1,0 +1,6 @@
+use Rattle.std.proofs.Common.{◌≡◌, refl, sym, ap, ap₂, ◌∙◌, subst, arith}
+use Rattle.cache_shelf.proofs.Standings.{begins_at}
+use Rattle.cache_shelf.proofs.items.begin.Goals as goal
+
+pub returns-in-Ok-clause-begins : goal.returns-in-Ok-clause-begins
+returns-in-Ok-clause-begins g c = begins_at c.args.book.now c.link.new.self c.in-Ok.id 0 c.args.now c.promise.ensures.stands (sym c.in-Ok.ensures.item) c.in-Ok.ensures.linked

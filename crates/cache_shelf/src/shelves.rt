@@ -1,0 +1,67 @@
+//! A Shelf: the Book of a class, and which key each of its items has.
+ghost use Rattle.std.specs.Prelude.{◌≡◌, ◌<◌, ◌^◌, true, false, IfSome, IfNone, None, Some, length, slice_get};
+ghost use Rattle.cache_index.specs.Tables.{found_in};
+ghost use Rattle.cache_shelf.specs.Shelves.{ShelfView as TheShelfView, IsShelf};
+
+use bump_class::Book;
+use bump_heads::Name;
+use cache_index::{Home, IndexWriter, Law, Names};
+use std::hash::Hash;
+use std::marker::Model;
+use std::sync::Wait;
+
+/// The items of a class, and the key and the value that each stands for. Each linked item has one, and each key has one
+/// item.
+#[derive(Drop)]
+pub struct Shelf<
+    N: Name,
+    K: Eq + Hash + Drop,
+    V: Drop,
+    L: Law<K, V>,
+    I: Names<K, V, L> + Drop,
+    R: Wait + Drop,
+> {
+    pub(crate) book: Book<N>,
+    pub(crate) index: IndexWriter<K, V, L, I, R>,
+}
+
+impl<N: Name, K: Eq + Hash + Drop, V: Drop, L: Law<K, V>, I: Names<K, V, L> + Drop, R: Wait + Drop> Model
+    for Shelf<N, K, V, L, I, R>
+{
+    ghost Value = { TheShelfView K V };
+
+    ghost view = { λ s. record { book = s.book; index = s.index } };
+
+    ghost invariant = { λ s. IsShelf K.eq s.book s.index.table };
+}
+
+impl<N: Name, K: Eq + Hash + Drop, V: Drop, L: Law<K, V>, I: Names<K, V, L> + Drop, R: Wait + Drop>
+    Shelf<N, K, V, L, I, R>
+{
+    /// What each Shelf keeps: its table agrees with its Book, one to one.
+    pub fn promise(&self)
+        ensures { IsShelf K.eq self.now.book self.now.index.table }
+    {
+        let _book = &self.book;
+    }
+
+    /// What the key has, as it was shown last.
+    pub fn home(&self, key: &K) -> Option<Home<'_, K, V, L>>
+        ensures at { IfSome result (λ home. slice_get self.now.index.shown home.chunk ≡ Some (Some home.slot.now)) }
+        ensures key { IfSome result (λ home. K.eq key.now home.slot.now.key ≡ true) }
+        ensures none { IfNone result (found_in K.eq key.now self.now.index.shown ≡ None) }
+    {
+        self.index.home(key)
+    }
+
+    /// Shows readers what each item stands for, and tells whether it did. It doesn't only for want of memory.
+    pub fn show(&mut self) -> bool
+        ensures book { self.new.book ≡ self.old.book }
+        ensures table { self.new.index.table ≡ self.old.index.table }
+        ensures shown { result ≡ true → self.new.index ≡ record { table = self.old.index.table;
+            shown = self.old.index.table; owes = false } }
+        ensures unchanged { result ≡ false → self.new.index.shown ≡ self.old.index.shown }
+    {
+        self.index.show()
+    }
+}
