@@ -261,7 +261,7 @@ agrees_alike leads next table agrees e = record {
 }
 
 -- a list of nothing has nothing anywhere
-nothing_at : {X : Type 0} (n i : ℕ) (x : X) → slice_get {X = Option X} (replicate n None) i ≢ Some (Some x)
+pub nothing_at : {X : Type 0} (n i : ℕ) (x : X) → slice_get {X = Option X} (replicate n None) i ≢ Some (Some x)
 nothing_at zero i x e = absurd (cc e)
 nothing_at (suc n) zero x e = absurd (cc e)
 nothing_at (suc n) (suc i) x e = nothing_at n i x e
@@ -382,3 +382,53 @@ without_unknown {K} {V} same key (Some p ∷ rest) none =
     by more true e is = absurd (cc (sym (ap (λ b. if b then Some p else found_in same key rest) e) ∙ is))
     by more false e is = ap₂ (λ h t. h ∷ t) (ap (λ b. if b then None else Some p) e)
         (more (sym (ap (λ b. if b then Some p else found_in same key rest) e) ∙ is))
+
+-- a key that isn't found is nobody's
+pub found_none : {K V : Type 0} (same : K → K → Bool) (key : K) (table : Table K V) → found_in same key table ≡ None
+    → (d : ℕ) (p : Placed K V) → slice_get table d ≡ Some (Some p) → same key p.key ≡ false
+found_none same key [] none d p at = absurd (cc at)
+found_none same key (None ∷ rest) none zero p at = absurd (cc at)
+found_none same key (None ∷ rest) none (suc d) p at = found_none same key rest none d p at
+found_none {K} {V} same key (Some q ∷ rest) none zero p at = by (same key q.key) refl none
+  where
+    by : (b : Bool) → same key q.key ≡ b → (if same key q.key then Some q else found_in same key rest) ≡ None
+        → same key p.key ≡ false
+    by true e is = absurd (cc (sym (ap (λ b. if b then Some q else found_in same key rest) e) ∙ is))
+    by false e is =
+        let one : Some (Some q) ≡ Some (Some p) = at in
+        let it : q ≡ p = cc one in
+        ap (λ (r : Placed K V). same key r.key) (sym it) ∙ e
+found_none {K} {V} same key (Some q ∷ rest) none (suc d) p at =
+    by (λ e. found_none same key rest e d p at) (same key q.key) refl none
+  where
+    by : (found_in same key rest ≡ None → same key p.key ≡ false) → (b : Bool) → same key q.key ≡ b
+        → (if same key q.key then Some q else found_in same key rest) ≡ None → same key p.key ≡ false
+    by more true e is = absurd (cc (sym (ap (λ b. if b then Some q else found_in same key rest) e) ∙ is))
+    by more false e is = more (sym (ap (λ b. if b then Some q else found_in same key rest) e) ∙ is)
+
+-- where one chunk alone has a key, the table without that chunk's is the one without the key
+pub without_its_chunk : {K V : Type 0} (same : K → K → Bool) (key : K) (table : Table K V) (chunk : ℕ) (placed : Placed K V)
+    → slice_get table chunk ≡ Some (Some placed) → same key placed.key ≡ true
+    → ((d : ℕ) (p : Placed K V) → slice_get table d ≡ Some (Some p) → same key p.key ≡ true → d ≡ chunk)
+    → without_chunk chunk table ≡ without_key same key table
+without_its_chunk {K} {V} same key table chunk placed at its only = alike_lists _ _ (λ d. by d (one_or_two d chunk))
+  where
+    drop_key : Option (Placed K V) → Option (Placed K V)
+    drop_key home = if is_of_key same key home then None else home
+
+    stays : (d : ℕ) → d ≢ chunk → (found : Option (Option (Placed K V))) → slice_get table d ≡ found
+        → found ≡ option_map (λ home. if is_of_key same key home then None else home) found
+    stays d ne None e = refl
+    stays d ne (Some None) e = refl
+    stays d ne (Some (Some p)) e = decide (same key p.key) refl
+      where
+        decide : (b : Bool) → same key p.key ≡ b → Some (Some p) ≡ Some (if same key p.key then None else Some p)
+        decide true b = absurd (ne (only d p e b))
+        decide false b = ap (λ x. Some (if x then None else Some p)) (sym b)
+
+    by : (d : ℕ) → (d ≡ chunk) ⊎ (d ≢ chunk) → slice_get (without_chunk chunk table) d ≡ slice_get (without_key same key table) d
+    by d (inl e) = ap (slice_get (without_chunk chunk table)) e ∙ (got_where_set table chunk (Some placed) None at
+        ∙ sym (ap (slice_get (without_key same key table)) e ∙ (slice_get-map _ table chunk
+        ∙ (ap (option_map (λ home. if is_of_key same key home then None else home)) at
+        ∙ ap (λ b. Some (if b then None else Some placed)) its))))
+    by d (inr ne) = got_elsewhere table chunk d None ne ∙ (stays d ne (slice_get table d) refl ∙ sym (slice_get-map _ table d))

@@ -1,5 +1,5 @@
 -- Where changes of a Book leave its items.
-use Rattle.std.proofs.Common.{◌≡◌, ◌≢◌, ◌⊎◌, ℕ, ◌<◌, Bool, true, false, cond, ◌==◌, ◌&&◌, not, nat_lt, length, option_map, IfSome, IfNone, ◌+◌, List, [], ◌∷◌, ◌++◌, map, Option, Some, None, if◌then◌else◌, refl, sym, ap, ap₂, ◌∙◌, subst, eqb, eqb-true, eq-eqb, arith, append-nil, append_assoc, Ok, Err}
+use Rattle.std.proofs.Common.{◌≡◌, ◌≢◌, ◌⊎◌, ℕ, ◌<◌, Bool, true, false, cond, ◌==◌, ◌&&◌, not, nat_lt, length, option_map, IfSome, IfNone, ◌+◌, List, [], ◌∷◌, ◌++◌, Option, Some, None, if◌then◌else◌, refl, sym, ap, ap₂, ◌∙◌, subst, eqb, eqb-true, eq-eqb, arith, append-nil, append_assoc, Ok, Err}
 use Rattle.std.proofs.lemmas.Bool.{and_parts}
 use Rattle.bump_links.specs.Lists.{times, last_of, first_of}
 use Rattle.bump_rules.specs.declared.history.Change.{Change}
@@ -13,13 +13,13 @@ use Rattle.bump_rules.specs.declared.commands.Pulled.{Pulled}
 use Rattle.bump_rules.specs.declared.commands.Pulled.TheVariants as pulled
 use Rattle.bump_rules.specs.declared.places.Limits.{Limits}
 use Rattle.bump_rules.specs.declared.places.Place.{Place}
-use Rattle.bump_rules.specs.declared.places.Place.TheVariants.{Hot, Warm, Cold, Temp, Dying, Unused, Retired}
+use Rattle.bump_rules.specs.declared.places.Place.TheVariants.{Hot, Warm, Cold, Dying, Unused}
 use Rattle.bump_rules.specs.declared.places.Segment.{Segment}
 use Rattle.bump_rules.specs.declared.places.Segment.TheVariants as segment
 use Rattle.bump_rules.specs.declared.places.Start.TheVariants as start
 use Rattle.bump_rules.specs.declared.places.Tail.{Tail}
 use Rattle.bump_rules.specs.declared.places.Tail.TheVariants as tail
-use Rattle.bump_rules.specs.History.{subject, target, Standing, standing_after, standing_from, standing_in, is_place, place_of, freed_change, is_between}
+use Rattle.bump_rules.specs.History.{subject, target, standing_in, is_place, place_of, freed_change, is_between}
 use Rattle.bump_rules.specs.Lawful.{bit}
 use Rattle.bump_rules.specs.Lists.{Lists, list_at}
 use Rattle.bump_rules.specs.Lives.{life}
@@ -38,7 +38,7 @@ use Rattle.bump_steps.specs.declared.views.ClassPart.{ClassPart}
 use Rattle.bump_steps.specs.Applications.{life_in}
 use Rattle.bump_steps.specs.Views.{standing, owns}
 use Rattle.bump_class.specs.Books.{BookView}
-use Rattle.bump_class.specs.Pulls.{Pulls, PullsAt, PullsItem, MovesItem, book_after_pull_to, limits_of_book}
+use Rattle.bump_class.specs.Pulls.{PullsAt, PullsItem, MovesItem, book_after_pull_to, limits_of_book}
 use Rattle.bump_class.specs.Changes.{book_after_clear_active, book_after_unlink, book_with_item}
 use Rattle.bump_class.specs.Links.{linked_item, item_of, next_life}
 use Rattle.bump_class.specs.Sweeps.{Sweeps}
@@ -52,7 +52,7 @@ use Rattle.cache_shelf.specs.Items.{item_told, IsSameClass, KeepsItems, EndsAt, 
 pub linked_push : (fresh : ℕ) (history : List Change) (e : Change) (c : ℕ)
     → linked_standing (standing_in fresh (history ++ e ∷ []) c)
     ≡ (if (subject e).chunk == c then linked_standing (target e, (subject e).generation)
-       else linked_standing (standing_in fresh history c))
+    else linked_standing (standing_in fresh history c))
 linked_push fresh history e c = ap linked_standing (standing_push c (Unused, fresh) history e) ∙ by ((subject e).chunk == c)
   where
     by : (b : Bool) → linked_standing (cond b (target e, (subject e).generation) (standing_in fresh history c))
@@ -84,8 +84,10 @@ pub freed_nowhere : (item : ItemId) → (linked_standing (target (freed_change i
     × (subject (freed_change item) ≡ item)
 freed_nowhere item = by (item.generation == 4294967295)
   where
-    by : (b : Bool) → (linked_standing (target (if b then change.Retired item else change.Swept item),
-        (subject (if b then change.Retired item else change.Swept item)).generation) ≡ None)
+    by : (b : Bool) → (linked_standing (
+      target (if b then change.Retired item else change.Swept item),
+      (subject (if b then change.Retired item else change.Swept item)).generation,
+    ) ≡ None)
         × (subject (if b then change.Retired item else change.Swept item) ≡ item)
     by true = (refl, refl)
     by false = (refl, refl)
@@ -112,7 +114,7 @@ pub stands_elsewhere : (class : ClassPart) (chunk : ℕ) (q : Place) → (standi
     → linked_at class chunk ≡ None
 stands_elsewhere class chunk q is no_segment =
     ap (λ p. if is_segment_place p then Some (standing class chunk).1 else None) is
-        ∙ ap (λ b. if b then Some (standing class chunk).1 else None) no_segment
+    ∙ ap (λ b. if b then Some (standing class chunk).1 else None) no_segment
 
 -- a pull that moves an item keeps the items
 pub moves_keep : (book left : BookView) (from : Tail) (chunk : ℕ) (answer : Pulled) (cleared moved : Head)
@@ -143,8 +145,9 @@ pulls_keep book left tail.Evict answer stands ne (Some chunk) is pulls = absurd 
 
 -- the end of a life
 pub ends_at : (book left : BookView) (chunk : ℕ) (ended : Ended) (last behind : Head)
-    → EndsItem book chunk ended left last behind → owns chunk book.part ≡ true → EndsAt chunk book left
-ends_at book left chunk ended last behind ends own = subst (EndsAt chunk book) (sym ends.after) (by (behind.refs == 0))
+    → EndsItem book chunk ended left last behind → owns chunk book.part ≡ true
+    → (generation : ℕ) × (linked_at book.part chunk ≡ Some generation) → EndsAt chunk book left
+ends_at book left chunk ended last behind ends own was = subst (EndsAt chunk book) (sym ends.after) (by (behind.refs == 0))
   where
     unlinked : List Change
     unlinked = book.part.history ++ change.Unlinked (life chunk (standing book.part chunk).1) ∷ []
@@ -170,17 +173,19 @@ ends_at book left chunk ended last behind ends own = subst (EndsAt chunk book) (
         ≡ linked_standing (standing_in book.part.fresh unlinked c)
     freed = linked_same book.part.fresh unlinked (freed_change (life chunk generation))
         ((freed_nowhere (life chunk generation)).0
-            ∙ sym (ap (λ (l : ItemId). linked_standing (standing_in book.part.fresh unlinked l.chunk)) (freed_nowhere (life chunk generation)).1 ∙ nowhere))
+        ∙ sym (ap (λ (l : ItemId). linked_standing (standing_in book.part.fresh unlinked l.chunk)) (freed_nowhere (life chunk generation)).1 ∙ nowhere))
 
     by : (b : Bool) → EndsAt chunk book (Left b)
-    by true = record { class = record { first = refl; count = refl }; own = own; linked = λ c. freed c ∙ after_unlink c }
-    by false = record { class = record { first = refl; count = refl }; own = own; linked = after_unlink }
+    by true = record { class = record { first = refl; count = refl }; own = own; was = was; linked = λ c. freed c ∙ after_unlink c }
+    by false = record { class = record { first = refl; count = refl }; own = own; was = was; linked = after_unlink }
 
 -- the item of this chunk ends by an evict
 pub evicts_at : (book left : BookView) (answer : Pulled) (chunk : ℕ) → Stands book → last_of book.lists.cold ≡ Some chunk
     → PullsItem book tail.Evict chunk answer left → EndsAt chunk book left
 evicts_at book left answer chunk stands is pulls =
-    ends_at book left chunk pulls.0 pulls.1 pulls.2 pulls.3.ends (listed_there book stands chunk Cold (last_there chunk book.lists.cold is)).0
+    let there = listed_there book stands chunk Cold (last_there chunk book.lists.cold is) in
+    ends_at book left chunk pulls.0 pulls.1 pulls.2 pulls.3.ends there.0
+    ((standing book.part chunk).1, stands_linked book.part chunk segment.Cold there.1)
 
 -- a sweep keeps the items
 swept_keep : (fresh : ℕ) (heads : ℕ → Head) (history : List Change) (cs : List ℕ)
@@ -199,16 +204,16 @@ swept_keep fresh heads history (d ∷ cs) none c =
     one : (e : ℕ) → linked_standing (standing_in fresh (history ++ freed_change item ∷ []) e) ≡ linked_standing (standing_in fresh history e)
     one = linked_same fresh history (freed_change item)
         ((freed_nowhere item).0 ∙ sym (ap (λ (l : ItemId). linked_standing (standing_in fresh history l.chunk)) (freed_nowhere item).1
-            ∙ none d (omega (arith, times_same d d cs refl))))
+        ∙ none d (omega (arith, times_same d d cs refl))))
 
     by : (b : Bool)
         → ((h : List Change) → ((e : ℕ) → 0 < times e cs → linked_standing (standing_in fresh h e) ≡ None)
-            → linked_standing (standing_in fresh (h ++ swept_of heads cs) c) ≡ linked_standing (standing_in fresh h c))
+        → linked_standing (standing_in fresh (h ++ swept_of heads cs) c) ≡ linked_standing (standing_in fresh h c))
         → linked_standing (standing_in fresh (history ++ swept_changes heads (if b then d ∷ unheld heads cs else unheld heads cs)) c)
-            ≡ linked_standing (standing_in fresh history c)
+        ≡ linked_standing (standing_in fresh history c)
     by true more =
         ap (λ es. linked_standing (standing_in fresh es c)) (sym (append_assoc history (freed_change item ∷ []) (swept_of heads cs)))
-            ∙ (more (history ++ freed_change item ∷ []) (λ e some. one e ∙ rest_none e some) ∙ one c)
+        ∙ (more (history ++ freed_change item ∷ []) (λ e some. one e ∙ rest_none e some) ∙ one c)
     by false more = more history rest_none
 
 pub sweeps_keep : (book left : BookView) (freed_chunks : ℕ) (heads : ℕ → Head) → Stands book
@@ -304,26 +309,28 @@ unlink_err book item refusal stands own is linked = by (is_segment_place (standi
     by : (b : Bool) → is_segment_place (standing book.part item.chunk).0 ≡ b → ⊥
     by true is_b =
         let one : Some (standing book.part item.chunk).1 ≡ Some item.generation =
-            sym (ap (λ x. if x then Some (standing book.part item.chunk).1 else None) is_b) ∙ linked in
+        sym (ap (λ x. if x then Some (standing book.part item.chunk).1 else None) is_b) ∙ linked in
         let same : (standing book.part item.chunk).1 ≡ item.generation = cc one in
         absurd (cc (told true is_b ∙ ap (λ x. if not x then Some NotLinked else None) (eq-eqb _ _ same)))
     by false is_b =
         let none : None ≡ Some item.generation =
-            sym (ap (λ x. if x then Some (standing book.part item.chunk).1 else None) is_b) ∙ linked in
+        sym (ap (λ x. if x then Some (standing book.part item.chunk).1 else None) is_b) ∙ linked in
         absurd (cc none)
 
 -- what an unlink leaves, where it isn't refused
 pub unlinks_at : (book left : BookView) (item : ItemId) (ended : Ended) → owns item.chunk book.part ≡ true
-    → Unlinks book item (Ok ended) left → EndsAt item.chunk book left
-unlinks_at book left item ended own (looked, found, last, behind, looks, ends) =
+    → linked_at book.part item.chunk ≡ Some item.generation → Unlinks book item (Ok ended) left → EndsAt item.chunk book left
+unlinks_at book left item ended own was (looked, found, last, behind, looks, ends) =
     let own_looked : owns item.chunk looked.part ≡ true = ap (λ (b : BookView). owns item.chunk b.part) looks.after ∙ own in
-    let at = ends_at looked left item.chunk ended last behind ends own_looked in
+    let at = ends_at looked left item.chunk ended last behind ends own_looked
+    (item.generation, ap (λ (b : BookView). linked_at b.part item.chunk) looks.after ∙ was) in
     record {
       class = record {
         first = at.class.first ∙ ap (λ (b : BookView). b.part.first) looks.after;
         count = at.class.count ∙ ap (λ (b : BookView). b.part.count) looks.after;
       };
       own = own;
+      was = (item.generation, was);
       linked = λ c. at.linked c ∙ ap (λ (b : BookView). if item.chunk == c then None else linked_at b.part c) looks.after;
     }
 
@@ -365,17 +372,20 @@ pub pull_tells : (book left : BookView) (from : Tail) (answer : Pulled) → Stan
     × IfSome at (λ chunk. (owns chunk book.part ≡ true) × (linked_at book.part chunk ≡ Some (standing book.part chunk).1))
 pull_tells book left from answer stands ne None is pulls = (ap item_told pulls.0, tt)
 pull_tells book left tail.Hot answer stands ne (Some chunk) is pulls =
-    let there = listed_there book stands chunk Hot (last_there chunk book.lists.hot (sym is)) in
-    (ap item_told (pulls.2.pulled ended.Freed) ∙ tells_item tail.Hot pulls.0 book.lists (limits_of_book book) ended.Freed (life_in book.part chunk),
-        (there.0, stands_linked book.part chunk segment.Hot there.1))
+    let there = listed_there book stands chunk Hot (last_there chunk book.lists.hot (sym is)) in (
+      ap item_told (pulls.2.pulled ended.Freed) ∙ tells_item tail.Hot pulls.0 book.lists (limits_of_book book) ended.Freed (life_in book.part chunk),
+      (there.0, stands_linked book.part chunk segment.Hot there.1),
+    )
 pull_tells book left tail.Warm answer stands ne (Some chunk) is pulls =
-    let there = listed_there book stands chunk Warm (last_there chunk book.lists.warm (sym is)) in
-    (ap item_told (pulls.2.pulled ended.Freed) ∙ tells_item tail.Warm pulls.0 book.lists (limits_of_book book) ended.Freed (life_in book.part chunk),
-        (there.0, stands_linked book.part chunk segment.Warm there.1))
+    let there = listed_there book stands chunk Warm (last_there chunk book.lists.warm (sym is)) in (
+      ap item_told (pulls.2.pulled ended.Freed) ∙ tells_item tail.Warm pulls.0 book.lists (limits_of_book book) ended.Freed (life_in book.part chunk),
+      (there.0, stands_linked book.part chunk segment.Warm there.1),
+    )
 pull_tells book left tail.Cold answer stands ne (Some chunk) is pulls =
-    let there = listed_there book stands chunk Cold (last_there chunk book.lists.cold (sym is)) in
-    (ap item_told (pulls.2.pulled ended.Freed) ∙ tells_item tail.Cold pulls.0 book.lists (limits_of_book book) ended.Freed (life_in book.part chunk),
-        (there.0, stands_linked book.part chunk segment.Cold there.1))
+    let there = listed_there book stands chunk Cold (last_there chunk book.lists.cold (sym is)) in (
+      ap item_told (pulls.2.pulled ended.Freed) ∙ tells_item tail.Cold pulls.0 book.lists (limits_of_book book) ended.Freed (life_in book.part chunk),
+      (there.0, stands_linked book.part chunk segment.Cold there.1),
+    )
 pull_tells book left tail.Evict answer stands ne (Some chunk) is pulls = absurd (ne refl)
 
 -- nothing happens where the list is empty

@@ -1,5 +1,5 @@
 -- What a change of a Book leaves of its linked items.
-use Rattle.std.specs.Prelude.{◌≡◌, ℕ, Bool, true, ◌==◌, Option, Some, None, if◌then◌else◌}
+use Rattle.std.specs.Prelude.{◌≡◌, ℕ, true, ◌==◌, Option, Some, None, if◌then◌else◌}
 use Rattle.bump_rules.specs.declared.items.ItemId.{ItemId}
 use Rattle.bump_links.specs.Lists.{last_of}
 use Rattle.bump_rules.specs.Lists.{Lists}
@@ -42,6 +42,7 @@ pub record KeepsItems (before after : BookView) : Type 0 where
 pub record EndsAt (chunk : ℕ) (before after : BookView) : Type 0 where
   pub class : IsSameClass before after
   pub own : owns chunk before.part ≡ true
+  pub was : (generation : ℕ) × (linked_at before.part chunk ≡ Some generation)
   pub linked : (c : ℕ) → linked_at after.part c ≡ (if chunk == c then None else linked_at before.part c)
 
 -- this item is linked, at a chunk at which none was

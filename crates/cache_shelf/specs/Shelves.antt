@@ -1,5 +1,5 @@
 -- What contracts see of a Shelf, and what every Shelf keeps.
-use Rattle.std.specs.Prelude.{◌≡◌, ℕ, ◌<◌, Bool, true, List, length, Option, Some, None, slice_get, option_map, if◌then◌else◌}
+use Rattle.std.specs.Prelude.{◌≡◌, ℕ, ◌<◌, Bool, true, length, Option, Some, None, slice_get, option_map, if◌then◌else◌}
 use Rattle.bump_steps.specs.declared.views.ClassPart.{ClassPart}
 use Rattle.bump_steps.specs.Views.{standing}
 use Rattle.bump_rules.specs.History.{Standing}

@@ -1,10 +1,12 @@
 //! A Shelf: the Book of a class, and which key each of its items has.
-ghost use Rattle.std.specs.Prelude.{◌≡◌, ◌<◌, ◌^◌, true, false, IfSome, IfNone, None, Some, length, slice_get};
+ghost use Rattle.std.specs.Prelude.{◌≡◌, ◌<◌, ◌^◌, true, false, IfSome, IfNone, None, Some, [], replicate, length, slice_get};
+ghost use Rattle.bump_rules.specs.Lists.{list_at};
 ghost use Rattle.cache_index.specs.Tables.{found_in};
 ghost use Rattle.cache_shelf.specs.Shelves.{ShelfView as TheShelfView, IsShelf};
 
 use bump_class::Book;
 use bump_heads::Name;
+use bump_rules::Place;
 use cache_index::{Home, IndexWriter, Law, Names};
 use std::hash::Hash;
 use std::marker::Model;
@@ -25,9 +27,14 @@ pub struct Shelf<
     pub(crate) index: IndexWriter<K, V, L, I, R>,
 }
 
-impl<N: Name, K: Eq + Hash + Drop, V: Drop, L: Law<K, V>, I: Names<K, V, L> + Drop, R: Wait + Drop> Model
-    for Shelf<N, K, V, L, I, R>
-{
+impl<
+    N: Name,
+    K: Eq + Hash + Drop,
+    V: Drop,
+    L: Law<K, V>,
+    I: Names<K, V, L> + Drop,
+    R: Wait + Drop,
+> Model for Shelf<N, K, V, L, I, R> {
     ghost Value = { TheShelfView K V };
 
     ghost view = { λ s. record { book = s.book; index = s.index } };
@@ -35,9 +42,32 @@ impl<N: Name, K: Eq + Hash + Drop, V: Drop, L: Law<K, V>, I: Names<K, V, L> + Dr
     ghost invariant = { λ s. IsShelf K.eq s.book s.index.table };
 }
 
-impl<N: Name, K: Eq + Hash + Drop, V: Drop, L: Law<K, V>, I: Names<K, V, L> + Drop, R: Wait + Drop>
-    Shelf<N, K, V, L, I, R>
-{
+impl<
+    N: Name,
+    K: Eq + Hash + Drop,
+    V: Drop,
+    L: Law<K, V>,
+    I: Names<K, V, L> + Drop,
+    R: Wait + Drop,
+> Shelf<N, K, V, L, I, R> {
+    /// A Shelf of a class that has all chunks from 0 on, no item was linked yet, and an index of as many chunks, each of
+    /// which has nothing.
+    pub fn new(book: Book<N>, index: IndexWriter<K, V, L, I, R>) -> Shelf<N, K, V, L, I, R>
+        requires first { book.part.first ≡ 0 }
+        requires history { book.part.history ≡ [] }
+        requires table { index.table ≡ replicate book.part.count None }
+        ensures { result ≡ record { book = book; index = index } }
+    {
+        Shelf { book, index }
+    }
+
+    /// How many chunks stand in a list of the Book.
+    pub fn size(&self, place: Place) -> u32
+        ensures { result ≡ length (list_at self.now.book.lists place) }
+    {
+        self.book.size(place)
+    }
+
     /// What each Shelf keeps: its table agrees with its Book, one to one.
     pub fn promise(&self)
         ensures { IsShelf K.eq self.now.book self.now.index.table }
@@ -58,8 +88,11 @@ impl<N: Name, K: Eq + Hash + Drop, V: Drop, L: Law<K, V>, I: Names<K, V, L> + Dr
     pub fn show(&mut self) -> bool
         ensures book { self.new.book ≡ self.old.book }
         ensures table { self.new.index.table ≡ self.old.index.table }
-        ensures shown { result ≡ true → self.new.index ≡ record { table = self.old.index.table;
-            shown = self.old.index.table; owes = false } }
+        ensures shown { result ≡ true → self.new.index ≡ record {
+          table = self.old.index.table;
+          shown = self.old.index.table;
+          owes = false;
+        } }
         ensures unchanged { result ≡ false → self.new.index.shown ≡ self.old.index.shown }
     {
         self.index.show()

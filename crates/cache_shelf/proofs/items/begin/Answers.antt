@@ -1,4 +1,4 @@
-use Rattle.std.proofs.Common.{◌≡◌, refl, sym, ap, ap₂, ◌∙◌, subst, arith}
+use Rattle.std.proofs.Common.{sym}
 use Rattle.cache_shelf.proofs.Standings.{begins_at}
 use Rattle.cache_shelf.proofs.items.begin.Goals as goal
 

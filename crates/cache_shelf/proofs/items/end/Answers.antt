@@ -1,9 +1,9 @@
-use Rattle.std.proofs.Common.{◌≡◌, refl, sym, ap, ap₂, ◌∙◌, subst, arith}
 use Rattle.cache_shelf.proofs.Standings.{unlinks_at, unlink_ok, unlink_err, unlinks_nothing}
 use Rattle.cache_shelf.proofs.items.end.Goals as goal
 
 pub returns-in-Ok-clause-ends : goal.returns-in-Ok-clause-ends
-returns-in-Ok-clause-ends g c = λ yes. unlinks_at c.args.book.now c.unlink.new.self c.args.id _ c.requires.own c.in-Ok.ensures.unlinked
+returns-in-Ok-clause-ends g c = λ yes. unlinks_at c.args.book.now c.unlink.new.self c.args.id _ c.requires.own
+    (unlink_ok c.args.book.now c.args.id c.promise.ensures.stands c.requires.own c.in-Ok.ensures.refused) c.in-Ok.ensures.unlinked
 
 pub returns-in-Ok-clause-linked : goal.returns-in-Ok-clause-linked
 returns-in-Ok-clause-linked g c = λ yes. unlink_ok c.args.book.now c.args.id c.promise.ensures.stands c.requires.own c.in-Ok.ensures.refused

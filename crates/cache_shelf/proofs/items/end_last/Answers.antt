@@ -1,4 +1,4 @@
-use Rattle.std.proofs.Common.{◌≡◌, refl, sym, ap, ap₂, ◌∙◌, subst, arith}
+use Rattle.std.proofs.Common.{refl}
 use Rattle.cache_shelf.proofs.Standings.{evict_told}
 use Rattle.cache_shelf.proofs.items.end_last.Goals as goal
 

@@ -1,4 +1,4 @@
-use Rattle.std.proofs.Common.{◌≡◌, refl, sym, ap, ap₂, ◌∙◌, subst, arith, option_map}
+use Rattle.std.proofs.Common.{refl, ap, ◌∙◌, option_map}
 use Rattle.bump_rules.specs.Tables.{last_pulled}
 use Rattle.cache_shelf.proofs.Standings.{pulls_keep, pull_tells, told_chunk, told_linked, told_own, told_none}
 use Rattle.cache_shelf.proofs.items.look_at.Goals as goal
@@ -15,16 +15,16 @@ pub returns-clause-linked : goal.returns-clause-linked
 returns-clause-linked g c =
     let tells = pull_tells c.args.book.now c.pull.new.self c.args.from c.pull.result c.promise.ensures.stands c.requires _ refl c.pull.ensures in
     told_linked c.args.book.now c.pull.new.self (last_pulled c.args.from c.args.book.now.lists) c.item_told.result (c.item_told.ensures ∙ tells.0) tells.1
-        (pulls_keep c.args.book.now c.pull.new.self c.args.from c.pull.result c.promise.ensures.stands c.requires _ refl c.pull.ensures)
+    (pulls_keep c.args.book.now c.pull.new.self c.args.from c.pull.result c.promise.ensures.stands c.requires _ refl c.pull.ensures)
 
 pub returns-clause-own : goal.returns-clause-own
 returns-clause-own g c =
     let tells = pull_tells c.args.book.now c.pull.new.self c.args.from c.pull.result c.promise.ensures.stands c.requires _ refl c.pull.ensures in
     told_own c.args.book.now c.pull.new.self (last_pulled c.args.from c.args.book.now.lists) c.item_told.result (c.item_told.ensures ∙ tells.0) tells.1
-        (pulls_keep c.args.book.now c.pull.new.self c.args.from c.pull.result c.promise.ensures.stands c.requires _ refl c.pull.ensures)
+    (pulls_keep c.args.book.now c.pull.new.self c.args.from c.pull.result c.promise.ensures.stands c.requires _ refl c.pull.ensures)
 
 pub returns-clause-none : goal.returns-clause-none
 returns-clause-none g c =
     let tells = pull_tells c.args.book.now c.pull.new.self c.args.from c.pull.result c.promise.ensures.stands c.requires _ refl c.pull.ensures in
     told_none c.args.book.now c.pull.new.self c.args.from c.pull.result (last_pulled c.args.from c.args.book.now.lists) c.item_told.result
-        (c.item_told.ensures ∙ tells.0) c.pull.ensures
+    (c.item_told.ensures ∙ tells.0) c.pull.ensures

@@ -1,4 +1,3 @@
-use Rattle.std.proofs.Common.{◌≡◌, refl, sym, ap, ap₂, ◌∙◌, subst, arith}
 use Rattle.cache_shelf.proofs.Standings.{sweeps_keep}
 use Rattle.cache_shelf.proofs.items.sweep.Goals as goal
 

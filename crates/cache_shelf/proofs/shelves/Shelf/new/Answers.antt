@@ -1,0 +1,5 @@
+use Rattle.cache_shelf.proofs.Shelving.{shelf_new}
+use Rattle.cache_shelf.proofs.shelves.Shelf.new.Goals as goal
+
+pub invariant_of-result : goal.invariant_of-result
+invariant_of-result g c = shelf_new g.K.PartialEq.eq c.args.book c.args.index.table c.requires.first c.requires.history c.requires.table

@@ -1,0 +1,33 @@
+-- What the beginning of a Shelf's item comes to.
+use Rattle.std.specs.Prelude.{◌≡◌, ℕ, Bool, Some, None, List, [], ◌∷◌, slice_set}
+use Rattle.bump_rules.specs.declared.items.ItemId.{ItemId}
+use Rattle.cache_index.specs.Tables.{Placed, Table, at_chunk, without_chunk}
+use Rattle.cache_shelf.specs.Shelves.{ShelfView}
+use Rattle.cache_shelf.specs.Items.{BeginsAt}
+
+-- a key and its value, in a life of this generation
+abbrev pub entry_of : {K V : Type 0} → ℕ → K × V → Placed K V
+entry_of generation entry = record { generation = generation; key = entry.0; value = entry.1 }
+
+-- An item is linked, at a chunk at which none was, and the entry is what it stands for.
+pub record Begins {K V : Type 0} (same : K → K → Bool) (entry : K × V) (before after : ShelfView K V) : Type 0 where
+  pub item : ItemId
+  pub begins : BeginsAt item before.book after.book
+  pub free : at_chunk item.chunk before.index.table ≡ None
+  pub table : after.index.table
+      ≡ slice_set before.index.table item.chunk (Some (entry_of item.generation entry))
+
+-- These are what chunks had, one after the other, and each of these chunks has nothing then.
+abbrev pub EvictsAll : {K V : Type 0} → List (Placed K V) → Table K V → Table K V → Type 0
+EvictsAll [] before after = after ≡ before
+EvictsAll (one ∷ rest) before after =
+    (chunk : ℕ) × (at_chunk chunk before ≡ Some one) × EvictsAll rest (without_chunk chunk before) after
+
+-- What a put comes to where it isn't refused: these are evicted, and then a chunk that has nothing has the entry.
+pub record Puts {K V : Type 0} (entry : K × V) (evicted : List (Placed K V)) (before after : Table K V) : Type 0 where
+  pub between : Table K V
+  pub chunk : ℕ
+  pub generation : ℕ
+  pub evicts : EvictsAll evicted before between
+  pub free : at_chunk chunk between ≡ None
+  pub table : after ≡ slice_set between chunk (Some (entry_of generation entry))
