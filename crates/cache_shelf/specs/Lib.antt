@@ -1,3 +1,4 @@
 pub mod Shelves
 pub mod Items
 pub mod Links
+pub mod Tries

@@ -1,7 +1,7 @@
 -- What the beginning of a Shelf's item comes to.
-use Rattle.std.specs.Prelude.{◌≡◌, ℕ, Bool, Some, None, List, [], ◌∷◌, slice_set}
+use Rattle.std.specs.Prelude.{◌≡◌, ℕ, Bool, Option, Some, None, List, [], ◌∷◌, ◌++◌, ◌⊎◌, slice_set}
 use Rattle.bump_rules.specs.declared.items.ItemId.{ItemId}
-use Rattle.cache_index.specs.Tables.{Placed, Table, at_chunk, without_chunk}
+use Rattle.cache_index.specs.Tables.{Placed, Table, at_chunk, without_chunk, without_key, found_in}
 use Rattle.cache_shelf.specs.Shelves.{ShelfView}
 use Rattle.cache_shelf.specs.Items.{BeginsAt}
 
@@ -23,6 +23,12 @@ EvictsAll [] before after = after ≡ before
 EvictsAll (one ∷ rest) before after =
     (chunk : ℕ) × (at_chunk chunk before ≡ Some one) × EvictsAll rest (without_chunk chunk before) after
 
+-- Nothing is evicted, or one that a chunk had, which is told last.
+abbrev pub MayEvict : {K V : Type 0} → List (Placed K V) → Table K V → List (Placed K V) → Table K V → Type 0
+MayEvict {K} {V} told before more after = ((more ≡ told) × (after ≡ before))
+    ⊎ ((one : Placed K V) × (chunk : ℕ) × (at_chunk chunk before ≡ Some one) × (more ≡ told ++ one ∷ [])
+    × (after ≡ without_chunk chunk before))
+
 -- What a put comes to where it isn't refused: these are evicted, and then a chunk that has nothing has the entry.
 pub record Puts {K V : Type 0} (entry : K × V) (evicted : List (Placed K V)) (before after : Table K V) : Type 0 where
   pub between : Table K V
@@ -31,3 +37,9 @@ pub record Puts {K V : Type 0} (entry : K × V) (evicted : List (Placed K V)) (b
   pub evicts : EvictsAll evicted before between
   pub free : at_chunk chunk between ≡ None
   pub table : after ≡ slice_set between chunk (Some (entry_of generation entry))
+
+-- What a put leaves where it is refused: nothing changed, or the key's old item ended, and then these were evicted.
+abbrev pub Refuses : {K V : Type 0} → (K → K → Bool) → K → Option (Placed K V) → List (Placed K V) → Table K V
+    → Table K V → Type 0
+Refuses same key old evicted before after = ((old ≡ None) × (evicted ≡ []) × (after ≡ before))
+    ⊎ ((old ≡ found_in same key before) × EvictsAll evicted (without_key same key before) after)

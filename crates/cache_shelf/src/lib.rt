@@ -3,7 +3,9 @@
 
 mod changing;
 mod items;
+mod putting;
 mod shelves;
 
 pub use changing::{NotPlaced, WhyNot};
+pub use putting::{Put, Removed};
 pub use shelves::Shelf;

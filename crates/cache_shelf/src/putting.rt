@@ -1,0 +1,230 @@
+//! An entry is put, and makes room where there is none.
+ghost use Rattle.std.specs.Prelude.{◌≡◌, ◌⊎◌, false, true, IfSome, IfNone, IfOk, OnErr, Err, None, []};
+ghost use Rattle.std.specs.Arc.{arc_value};
+ghost use Rattle.cache_index.specs.Tables.{found_in, without_key};
+ghost use Rattle.cache_shelf.specs.Links.{MayEvict, EvictsAll, Puts, Refuses};
+ghost use Rattle.cache_shelf.specs.Tries.{Tries};
+ghost use Rattle.cache_shelf.specs.Items.{victim};
+ghost use Rattle.cache_shelf.specs.declared.changing.WhyNot.TheVariants as why;
+
+use crate::changing::{NotPlaced, WhyNot};
+use crate::shelves::Shelf;
+use bump_heads::Name;
+use cache_index::{Entry, Law, Names, Slot};
+use std::alloc::{AllocError, Global};
+use std::hash::Hash;
+use std::sync::{Arc, Wait};
+
+/// What a put came to.
+#[derive(Drop)]
+pub struct Put<K, V, L: Law<K, V>> {
+    /// What the key had before, if anything: it has that no more.
+    pub old: Option<Slot<K, V, L>>,
+
+    /// What was evicted to make room, in order.
+    pub evicted: Vec<Slot<K, V, L>>,
+
+    /// The entry, and why it isn't placed; None where it is.
+    pub refused: Option<NotPlaced<K, V, L>>,
+
+    /// Whether readers see it. They don't only for want of memory; then they do once a later call shows it.
+    pub shown: bool,
+}
+
+/// What a removal came to.
+#[derive(Drop)]
+pub struct Removed<K, V, L: Law<K, V>> {
+    /// What the key had, if anything.
+    pub old: Option<Slot<K, V, L>>,
+
+    /// Whether readers see it. They don't only for want of memory; then they do once a later call shows it.
+    pub shown: bool,
+}
+
+// What one try to place an entry comes to.
+#[derive(Drop)]
+enum Tried<K, V, L: Law<K, V>> {
+    // It is placed.
+    Placed,
+
+    // There may be room now.
+    Again(Arc<Entry<K, V, L>, Global>),
+
+    // It is refused.
+    Refused(NotPlaced<K, V, L>),
+}
+
+impl<
+    N: Name,
+    K: Eq + Hash + Drop,
+    V: Drop,
+    L: Law<K, V>,
+    I: Names<K, V, L> + Drop,
+    R: Wait + Drop,
+> Shelf<N, K, V, L, I, R> {
+    // Makes room for one more item: the chunks of ended items that nobody holds any more are free, and where there are
+    // none an item is evicted. It is refused as NoRoom exactly where none is left, and as Memory where the list of those
+    // evicted couldn't grow.
+    fn make_room(&mut self, evicted: &mut Vec<Slot<K, V, L>>) -> Result<(), WhyNot>
+        requires ready { self.old.index.owes ≡ false }
+        ensures made { IfOk result (λ done. MayEvict evicted.old.items self.old.index.table evicted.new.items
+            self.new.index.table) }
+        ensures kept { OnErr result (evicted.new.items ≡ evicted.old.items) }
+        ensures table { OnErr result (self.new.index.table ≡ self.old.index.table) }
+        ensures full { result ≡ Err why.NoRoom → victim self.new.book.lists ≡ None }
+        ensures shown { self.new.index.shown ≡ self.old.index.shown }
+    {
+        if evicted.reserve(1).is_err() {
+            return Err(WhyNot::Memory);
+        }
+        if self.sweep() > 0 {
+            return Ok(());
+        }
+        match self.evict() {
+            Some(slot) => {
+                let Ok(()) = evicted.push(slot) else {
+                    unreachable!()
+                };
+                Ok(())
+            }
+            None => Err(WhyNot::NoRoom),
+        }
+    }
+
+    // One try to place an entry, whose key has no item. Where no chunk is free it makes room for the next try.
+    fn try_to_place(
+        &mut self,
+        entry: Arc<Entry<K, V, L>, Global>,
+        now: u64,
+        evicted: &mut Vec<Slot<K, V, L>>,
+    ) -> Tried<K, V, L>
+        requires anew { found_in K.eq (arc_value entry).0 self.old.index.table ≡ None }
+        ensures tried { Tries (arc_value entry) evicted.old.items self.old.index.table result evicted.new.items
+            self.new.index.table self.new.book.lists }
+        ensures shown { self.new.index.shown ≡ self.old.index.shown }
+    {
+        if !self.is_ready() {
+            return Tried::Refused(NotPlaced {
+                why: WhyNot::Memory,
+                entry,
+            });
+        }
+        match self.place(entry, now) {
+            Ok(()) => Tried::Placed,
+            Err(
+                NotPlaced {
+                    why: WhyNot::Memory,
+                    entry,
+                },
+            ) => Tried::Refused(NotPlaced {
+                why: WhyNot::Memory,
+                entry,
+            }),
+            Err(
+                NotPlaced {
+                    why: WhyNot::NoRoom,
+                    entry,
+                },
+            ) => match self.make_room(evicted) {
+                Ok(()) => Tried::Again(entry),
+                Err(why) => Tried::Refused(NotPlaced { why, entry }),
+            },
+        }
+    }
+
+    // Places an entry, whose key has no item. Where no chunk is free items are evicted, one after the other.
+    fn place_with_room<W: Wait>(
+        &mut self,
+        rt: &W,
+        entry: Arc<Entry<K, V, L>, Global>,
+        now: u64,
+        evicted: &mut Vec<Slot<K, V, L>>,
+    ) -> Option<NotPlaced<K, V, L>>
+        requires anew { found_in K.eq (arc_value entry).0 self.old.index.table ≡ None }
+        requires none { evicted.old.items ≡ [] }
+        ensures placed { IfNone result (Puts (arc_value entry) evicted.new.items self.old.index.table
+            self.new.index.table) }
+        ensures refused { IfSome result (λ it. EvictsAll evicted.new.items self.old.index.table
+            self.new.index.table) }
+        ensures back { IfSome result (λ it. arc_value it.entry ≡ arc_value entry) }
+        ensures full { IfSome result (λ it. it.why ≡ why.NoRoom → victim self.new.book.lists ≡ None) }
+        ensures shown { self.new.index.shown ≡ self.old.index.shown }
+    {
+        let mut entry = entry;
+        for _ in rt.forever() {
+            match self.try_to_place(entry, now, evicted) {
+                Tried::Placed => return None,
+                Tried::Refused(refused) => return Some(refused),
+                Tried::Again(back) => entry = back,
+            }
+        }
+        unreachable!()
+    }
+
+    /// Puts an entry: its key's old item ends, if it has one, and a new item is linked for it. Where no chunk is free,
+    /// the chunks of ended items that nobody holds any more make room, and else items are evicted, one after the other.
+    /// Readers see all of it at once. `now` is the new item's time, in the caller's ticks; `alloc` is for the list of
+    /// those evicted; `rt` stands for the leave to go on as long as others end what was made room.
+    ///
+    /// It is refused as NoRoom only where no item is linked any more: each chunk is held by somebody. It is refused as
+    /// Memory where memory was refused. The entry comes back then, and what ended meanwhile is told.
+    pub fn put<W: Wait>(
+        &mut self,
+        alloc: Global,
+        rt: &W,
+        entry: Arc<Entry<K, V, L>, Global>,
+        now: u64,
+    ) -> Put<K, V, L>
+        ensures placed { IfNone result.refused (Puts (arc_value entry) result.evicted.items
+            (without_key K.eq (arc_value entry).0 self.old.index.table) self.new.index.table) }
+        ensures old { IfNone result.refused (result.old ≡ found_in K.eq (arc_value entry).0 self.old.index.table) }
+        ensures refused { IfSome result.refused (λ it. Refuses K.eq (arc_value entry).0 result.old result.evicted.items
+            self.old.index.table self.new.index.table) }
+        ensures back { IfSome result.refused (λ it. arc_value it.entry ≡ arc_value entry) }
+        ensures full { IfSome result.refused (λ it. it.why ≡ why.NoRoom → victim self.new.book.lists ≡ None) }
+        ensures shown { result.shown ≡ true → self.new.index.shown ≡ self.new.index.table }
+        ensures hidden { result.shown ≡ false → (self.new.index.shown ≡ self.old.index.shown)
+            ⊎ (self.new.index.shown ≡ self.old.index.table) }
+    {
+        if !self.show() {
+            return Put {
+                old: None,
+                evicted: Vec::new(alloc),
+                refused: Some(NotPlaced {
+                    why: WhyNot::Memory,
+                    entry,
+                }),
+                shown: false,
+            };
+        }
+        let old = self.take_out(entry.key());
+        let mut evicted = Vec::new(alloc);
+        let refused = self.place_with_room(rt, entry, now, &mut evicted);
+        let shown = self.show();
+        Put {
+            old,
+            evicted,
+            refused,
+            shown,
+        }
+    }
+
+    /// Ends the item of the key, if it has one, as readers see from then on. It is refused only for want of memory,
+    /// and changes nothing then.
+    pub fn remove(&mut self, key: &K) -> Result<Removed<K, V, L>, AllocError>
+        ensures old { IfOk result (λ it. it.old ≡ found_in K.eq key.now self.old.index.table) }
+        ensures table { IfOk result (λ it. self.new.index.table ≡ without_key K.eq key.now self.old.index.table) }
+        ensures shown { IfOk result (λ it. it.shown ≡ true → self.new.index.shown ≡ self.new.index.table) }
+        ensures hidden { IfOk result (λ it. it.shown ≡ false → self.new.index.shown ≡ self.old.index.table) }
+        ensures unchanged { OnErr result (self.new.index.table ≡ self.old.index.table) }
+        ensures book { OnErr result (self.new.book ≡ self.old.book) }
+        ensures still { OnErr result (self.new.index.shown ≡ self.old.index.shown) }
+    {
+        if !self.show() {
+            return Err(AllocError);
+        }
+        let old = self.take_out(key);
+        let shown = self.show();
+        Ok(Removed { old, shown })
+    }
+}
