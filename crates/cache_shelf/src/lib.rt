@@ -2,6 +2,7 @@
 #![tactic(auto)]
 
 mod changing;
+mod draining;
 mod items;
 mod putting;
 mod shelves;
