@@ -1,0 +1,73 @@
+//! What a cache is made from.
+ghost use Rattle.std.specs.Prelude.{◌≡◌, ◌<◌, ◌≤◌, IfOk};
+
+use bump_rules::{ClassConfig, Config, ConfigFault};
+use std::alloc::{AllocError, Global};
+use thiserror::Error;
+
+/// Why a cache can't be made from these numbers.
+#[derive(Clone, Copy, Debug, PartialEq, Eq, Error)]
+pub enum CacheFault {
+    /// The number of items isn't 1 to 1,000,000.
+    #[error("the number of items isn't 1 to 1,000,000")]
+    Items,
+
+    /// The shares of HOT and WARM are more than 100 percent together.
+    #[error("the shares of HOT and WARM are more than 100 percent together")]
+    Shares,
+
+    /// The number of readers isn't 1 to 64.
+    #[error("the number of readers isn't 1 to 64")]
+    Readers,
+
+    /// The room of a reader's ring isn't 1 to 65,536 bumps.
+    #[error("the room of a ring isn't 1 to 65,536 bumps")]
+    Ring,
+}
+
+/// What a cache is made from.
+#[derive(Clone, Copy, Debug, PartialEq, Eq)]
+pub struct CacheConfig {
+    /// At most so many items are in it, 1 to 1,000,000.
+    pub items: u32,
+
+    /// At most so many percent of them are in HOT. memcached has 20.
+    pub hot: u32,
+
+    /// At most so many percent of them are in WARM. memcached has 40.
+    pub warm: u32,
+
+    /// So many readers there are, 1 to 64: a thread that gets has one.
+    pub readers: u32,
+
+    /// Each reader's ring has room for so many bumps, 1 to 65,536.
+    pub ring: u32,
+}
+
+// So many percent of the items.
+fn share(items: u32, percent: u32) -> u32
+    requires items { items ≤ 1000000 }
+    requires few { percent ≤ 100 }
+    ensures { result ≤ items }
+{
+    (u64::from(items) * u64::from(percent) / 100) as u32
+}
+
+impl CacheConfig {
+    /// The first fault of these numbers, if they have one.
+    pub fn fault(&self) -> Option<CacheFault> {
+        if self.items < 1 || self.items > 1_000_000 {
+            return Some(CacheFault::Items);
+        }
+        if self.hot > 100 || self.warm > 100 || self.hot + self.warm > 100 {
+            return Some(CacheFault::Shares);
+        }
+        if self.readers < 1 || self.readers > 64 {
+            return Some(CacheFault::Readers);
+        }
+        if self.ring < 1 || self.ring > 65_536 {
+            return Some(CacheFault::Ring);
+        }
+        None
+    }
+}
