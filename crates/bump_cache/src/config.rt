@@ -1,7 +1,7 @@
 //! What a cache is made from.
-ghost use Rattle.std.specs.Prelude.{◌≡◌, ◌<◌, ◌≤◌, IfOk};
+ghost use Rattle.std.specs.Prelude.{◌≡◌, ◌≤◌, ◌∷◌, [], IfOk};
 
-use bump_rules::{ClassConfig, Config, ConfigFault};
+use bump_rules::{ClassConfig, Config};
 use std::alloc::{AllocError, Global};
 use thiserror::Error;
 
@@ -44,13 +44,14 @@ pub struct CacheConfig {
     pub ring: u32,
 }
 
+// At most so many references to an item there are at once.
+const MOST_HOLDS: u32 = 1023;
+
 // So many percent of the items.
 fn share(items: u32, percent: u32) -> u32
-    requires items { items ≤ 1000000 }
-    requires few { percent ≤ 100 }
     ensures { result ≤ items }
 {
-    (u64::from(items) * u64::from(percent) / 100) as u32
+    (u64::from(items) * u64::from(percent.min(100)) / 100) as u32
 }
 
 impl CacheConfig {
@@ -69,5 +70,32 @@ impl CacheConfig {
             return Some(CacheFault::Ring);
         }
         None
+    }
+
+    /// At most so many items are in HOT.
+    pub fn hot_items(&self) -> u32 {
+        share(self.items, self.hot)
+    }
+
+    /// At most so many items are in WARM.
+    pub fn warm_items(&self) -> u32 {
+        share(self.items, self.warm)
+    }
+
+    // The configuration of its store: one class, whose lists have no limits of their own, since the cache looks at
+    // their sizes itself.
+    pub(crate) fn store(&self, alloc: Global) -> Result<Config, AllocError>
+        ensures classes { IfOk result (λ c. c.classes ≡ record { chunks = self.now.items; hot = 0; warm = 0 } ∷ []) }
+    {
+        let class = ClassConfig {
+            chunks: self.items,
+            hot: 0,
+            warm: 0,
+        };
+        let classes = vec![in alloc; class]?;
+        match Config::new(self.readers, self.ring, MOST_HOLDS, 1, classes) {
+            Ok(config) => Ok(config),
+            Err(_) => Err(AllocError),
+        }
     }
 }

@@ -14,7 +14,13 @@ use std::sync::Arc;
 
 /// A reader of a cache, which one thread has at a time.
 #[derive(Drop)]
-pub struct CacheReader<N: Name, K: Eq + Hash + Drop, V: Drop, L: Law<K, V>, I: Names<K, V, L> + Drop> {
+pub struct CacheReader<
+    N: Name,
+    K: Eq + Hash + Drop,
+    V: Drop,
+    L: Law<K, V>,
+    I: Names<K, V, L> + Drop,
+> {
     worker: Worker<N>,
     heads: Arc<Heads<N>, Global>,
     index: IndexReader<K, V, L, I>,
@@ -23,8 +29,7 @@ pub struct CacheReader<N: Name, K: Eq + Hash + Drop, V: Drop, L: Law<K, V>, I: N
 }
 
 impl<N: Name, K: Eq + Hash + Drop, V: Drop, L: Law<K, V>, I: Names<K, V, L> + Drop> Model
-    for CacheReader<N, K, V, L, I>
-{
+    for CacheReader<N, K, V, L, I> {
     ghost Value = { TheReaderView };
 
     ghost view = { λ r. record { hits = r.hits; misses = r.misses } };
@@ -43,7 +48,13 @@ fn hit<N: Name>(worker: &mut Worker<N>, heads: &Heads<N>, id: ItemId, now: u64) 
     hold.release(heads);
 }
 
-impl<N: Name, K: Eq + Hash + Drop, V: Drop, L: Law<K, V>, I: Names<K, V, L> + Drop> CacheReader<N, K, V, L, I> {
+impl<N: Name, K: Eq + Hash + Drop, V: Drop, L: Law<K, V>, I: Names<K, V, L> + Drop> CacheReader<
+    N,
+    K,
+    V,
+    L,
+    I,
+> {
     /// A reader that got nothing yet.
     pub fn new(
         worker: Worker<N>,
@@ -71,12 +82,19 @@ impl<N: Name, K: Eq + Hash + Drop, V: Drop, L: Law<K, V>, I: Names<K, V, L> + Dr
         ensures missed { IfNone result (self.new ≡ record self.old { misses = one_more self.old.misses }) }
     {
         match self.index.find(key) {
-            Some(Found {
-                chunk,
-                generation,
-                entry,
-            }) => {
-                hit(&mut self.worker, &self.heads, ItemId { chunk, generation }, now);
+            Some(
+                Found {
+                    chunk,
+                    generation,
+                    entry,
+                },
+            ) => {
+                hit(
+                    &mut self.worker,
+                    &self.heads,
+                    ItemId { chunk, generation },
+                    now,
+                );
                 self.hits = self.hits.saturating_add(1);
                 Some(entry)
             }

@@ -14,7 +14,6 @@ use std::sync::Wait;
 
 /// The items of a class, and the key and the value that each stands for. Each linked item has one, and each key has one
 /// item.
-#[derive(Drop)]
 pub struct Shelf<
     N: Name,
     K: Eq + Hash + Drop,
@@ -23,8 +22,27 @@ pub struct Shelf<
     I: Names<K, V, L> + Drop,
     R: Wait + Drop,
 > {
-    pub(crate) book: Book<N>,
-    pub(crate) index: IndexWriter<K, V, L, I, R>,
+    /// The Book.
+    pub book: Book<N>,
+
+    /// The index, whose table agrees with it.
+    pub index: IndexWriter<K, V, L, I, R>,
+}
+
+impl<N, K, V, L, I, R> Drop for Shelf<N, K, V, L, I, R>
+where
+    N: Name,
+    K: Eq + Hash + Drop,
+    V: Drop,
+    L: Law<K, V>,
+    I: Names<K, V, L> + Drop,
+    R: Wait + Drop,
+{
+    fn drop(self) {
+        let Shelf { book, index } = self;
+        drop(book);
+        drop(index);
+    }
 }
 
 impl<

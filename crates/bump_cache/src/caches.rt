@@ -1,0 +1,151 @@
+//! A cache that threads share.
+ghost use Rattle.std.specs.Prelude.{◌≡◌, IfOk, IfErr, IfSome, true};
+ghost use Rattle.std.specs.Arc.{arc_value};
+
+use bump_class::RawLane;
+use bump_heads::Name;
+use bump_rules::Place;
+use cache_index::{Entry, Law, Names};
+use cache_shelf::{Put, Removed, Shelf};
+use std::alloc::{AllocError, Global};
+use std::hash::Hash;
+use std::sync::atomic::{AtomicBool, AtomicU64, Ordering};
+use std::sync::{Arc, Mutex, Wait};
+
+/// So often an upkeep looks at the last items of HOT and WARM.
+const LOOKS: u32 = 100;
+
+/// A cache, which all threads share: whoever changes it waits for its lock, and whoever gets doesn't.
+#[derive(Drop)]
+pub struct Cache<
+    N: Name,
+    K: Eq + Hash + Drop,
+    V: Drop,
+    L: Law<K, V>,
+    I: Names<K, V, L> + Drop,
+    R: Wait + Drop,
+> {
+    pub(crate) shelf: Mutex<Shelf<N, K, V, L, I, R>>,
+    // at most so many items are in HOT, and in WARM
+    pub(crate) hot: u32,
+    pub(crate) warm: u32,
+}
+
+/// What the upkeep of a cache works through, which one thread has at a time: the bumps that the readers queued.
+#[derive(Drop)]
+pub struct Upkeep<N: Name> {
+    lanes: Vec<RawLane<N>>,
+    // a lane applies at most so many bumps in one turn
+    ring: u32,
+}
+
+impl<N: Name> Upkeep<N> {
+    /// The upkeep by these lanes, whose rings have room for so many bumps.
+    pub fn new(lanes: Vec<RawLane<N>>, ring: u32) -> Upkeep<N> {
+        Upkeep { lanes, ring }
+    }
+}
+
+// Applies the bumps that wait in these lanes, at most `most` of each.
+fn drain<N, K, V, L, I, R>(
+    shelf: &mut Shelf<N, K, V, L, I, R>,
+    lanes: &mut Vec<RawLane<N>>,
+    most: u32,
+    now: u64,
+)
+where
+    N: Name,
+    K: Eq + Hash + Drop,
+    V: Drop,
+    L: Law<K, V>,
+    I: Names<K, V, L> + Drop,
+    R: Wait + Drop,
+{
+    for lane in lanes.iter_mut() {
+        for _ in 0..most {
+            if !shelf.apply_next(lane, now) {
+                break;
+            }
+        }
+    }
+}
+
+impl<
+    N: Name,
+    K: Eq + Hash + Drop,
+    V: Drop,
+    L: Law<K, V>,
+    I: Names<K, V, L> + Drop,
+    R: Wait + Drop,
+> Cache<N, K, V, L, I, R> {
+    /// Puts a value under a key, as memcached's `set`: it waits until no other thread changes the cache. What the key
+    /// had before ends. Where no chunk is free items are evicted, those first that were in use least. `now` is the
+    /// item's time, in the caller's ticks. It answers what `Shelf::put` tells; or the key and the value, where memory
+    /// was refused for them, and nothing is changed then.
+    pub fn put<W: Wait>(
+        &self,
+        alloc: Global,
+        rt: &W,
+        key: K,
+        value: V,
+        now: u64,
+    ) -> Result<Put<K, V, L>, Entry<K, V, L>>
+        requires law { L.holds key value }
+        ensures back { IfErr result (λ entry. entry ≡ (key, value)) }
+        ensures refused { IfOk result (λ put. IfSome put.refused (λ it. arc_value it.entry ≡ (key, value))) }
+    {
+        let entry = match Arc::new(alloc, Entry::new(key, value)) {
+            Ok(entry) => entry,
+            Err(failed) => return Err(failed.value),
+        };
+        let mut guard = self.shelf.lock(rt);
+        let shelf = &mut *guard;
+        let put = shelf.put(alloc, rt, entry, now);
+        shelf.balance(self.hot, self.warm);
+        Ok(put)
+    }
+
+    /// Ends the item of the key, if it has one, as memcached's `delete`: it waits until no other thread changes the
+    /// cache. It is refused only for want of memory, and changes nothing then.
+    pub fn remove<W: Wait>(&self, rt: &W, key: &K) -> Result<Removed<K, V, L>, AllocError> {
+        let mut guard = self.shelf.lock(rt);
+        let shelf = &mut *guard;
+        shelf.remove(key)
+    }
+
+    /// What memcached's maintainer does: it applies the bumps that the readers queued, frees the chunks of ended items
+    /// that nobody holds any more, and moves the last items of HOT and WARM on where there are too many. It waits until
+    /// no other thread changes the cache. `now` is the time of the bumped items, in the caller's ticks.
+    pub fn tend<W: Wait>(&self, rt: &W, upkeep: &mut Upkeep<N>, now: u64) {
+        let mut guard = self.shelf.lock(rt);
+        let shelf = &mut *guard;
+        drain(shelf, &mut upkeep.lanes, upkeep.ring, now);
+        shelf.sweep();
+        for _ in 0..LOOKS {
+            shelf.balance(self.hot, self.warm);
+        }
+    }
+
+    /// Tends the cache until `stop` is set, at the times that `clock` has: the loop of a thread of its own.
+    pub fn tend_until<W: Wait>(
+        &self,
+        rt: &W,
+        upkeep: &mut Upkeep<N>,
+        clock: &AtomicU64,
+        stop: &AtomicBool,
+    ) {
+        for _ in rt.forever() {
+            if stop.load(Ordering::SeqCst) {
+                return;
+            }
+            self.tend(rt, upkeep, clock.load(Ordering::SeqCst));
+        }
+    }
+
+    /// How many chunks stand in a list (memcached's `number_hot`, `number_warm`, `number_cold`): it waits until no
+    /// other thread changes the cache.
+    pub fn size<W: Wait>(&self, rt: &W, place: Place) -> u32 {
+        let guard = self.shelf.lock(rt);
+        guard.size(place)
+    }
+}
