@@ -82,9 +82,9 @@ impl CacheConfig {
         share(self.items, self.warm)
     }
 
-    // The configuration of its store: one class, whose lists have no limits of their own, since the cache looks at
-    // their sizes itself.
-    pub(crate) fn store(&self, alloc: Global) -> Result<Config, AllocError>
+    /// The configuration of its store: one class, whose lists have no limits of their own, since the cache looks at
+    /// their sizes itself. It is refused where it has a fault, or for want of memory.
+    pub fn store(&self, alloc: Global) -> Result<Config, AllocError>
         ensures classes { IfOk result (λ c. c.classes ≡ record { chunks = self.now.items; hot = 0; warm = 0 } ∷ []) }
     {
         let class = ClassConfig {

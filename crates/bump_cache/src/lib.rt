@@ -8,5 +8,5 @@ mod readers;
 
 pub use caches::{Cache, Upkeep};
 pub use config::{CacheConfig, CacheFault};
-pub use opening::{Job, Opened, with_cache};
+pub use opening::{Job, Opened, open_named, with_cache};
 pub use readers::CacheReader;

@@ -97,8 +97,10 @@ where
     Ok(job.run(opened))
 }
 
-// Opens a cache over a blank, under the name that its table has.
-fn open_named<N, K, V, L, I, R>(
+/// Opens a cache over a blank, under the name that its table has, for callers that have a name of their own: `with_cache`
+/// does it for a job. `store` is what `CacheConfig::store` answers. It is refused only for want of memory, and the blank
+/// is gone then.
+pub fn open_named<N, K, V, L, I, R>(
     alloc: Global,
     rt: &R,
     blank: Blank,
