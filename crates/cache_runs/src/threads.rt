@@ -1,0 +1,138 @@
+//! Readers on threads, while a writer ends keys and puts them again.
+ghost use Rattle.std.specs.Prelude.{◌≡◌, ◌∷◌, []};
+
+use bump_cache::{Cache, CacheConfig, CacheReader, Opened, Upkeep, open_named};
+use bump_heads::{Blank, Name};
+use bump_rules::Config;
+use cache_index::{AnyPair, Index, Names};
+use std::alloc::{AllocError, Global};
+use std::marker::Brand;
+use std::sync::Wait;
+use std::sync::atomic::{AtomicBool, Ordering};
+use std::test::Fail;
+use std::thread;
+use std::thread::Threads;
+
+const KEYS: u64 = 64;
+
+const GETS: u64 = 20_000;
+
+// Readers that get, beside a writer.
+#[derive(Clone, Copy)]
+struct Beside<R> {
+    rt: R,
+    alloc: Global,
+}
+
+// How many of a reader's gets answered a value that was put under another key.
+fn read<N: Name, I: Names<u64, u64, AnyPair> + Drop>(
+    mut reader: CacheReader<N, u64, u64, AnyPair, I>,
+) -> u64 {
+    let mut wrong = 0u64;
+    for now in 0..GETS {
+        let key = now % KEYS;
+        if let Some(entry) = reader.get(&key, now) {
+            if *entry.value() % KEYS != key {
+                wrong = wrong.saturating_add(1);
+            }
+        }
+    }
+    wrong
+}
+
+// Puts and ends keys, and tends the cache, until the readers are done. It answers whether all was shown.
+fn write<N: Name, I: Names<u64, u64, AnyPair> + Drop, R: Wait + Copy>(
+    rt: &R,
+    alloc: Global,
+    cache: &Cache<N, u64, u64, AnyPair, I, R>,
+    mut upkeep: Upkeep<N>,
+    done: &AtomicBool,
+) -> bool {
+    let mut now = 0u64;
+    let mut shown = true;
+    for _ in rt.forever() {
+        if done.load(Ordering::SeqCst) {
+            return shown;
+        }
+        let key = now % KEYS;
+        if let Ok(put) = cache.put(alloc, rt, key, now, now) {
+            shown = shown && put.shown;
+        }
+        if now % 3 == 0 {
+            shown = cache.remove(rt, &(now % 7)).is_ok() && shown;
+        }
+        cache.tend(rt, &mut upkeep, now);
+        now = now.saturating_add(1);
+    }
+    unreachable!()
+}
+
+// Each reader in a thread of its own, and the writer in one more, until all readers are done.
+fn work<
+    N: Name + Send + Sync,
+    I: Names<u64, u64, AnyPair> + Drop + Send + Sync,
+    R: Threads + Wait + Copy + Send + Sync,
+>(
+    rt: &R,
+    alloc: Global,
+    cache: &Cache<N, u64, u64, AnyPair, I, R>,
+    readers: Vec<CacheReader<N, u64, u64, AnyPair, I>>,
+    upkeep: Upkeep<N>,
+    done: &AtomicBool,
+) -> (Result<Vec<u64>, AllocError>, bool) {
+    thread::join(
+        rt,
+        || {
+            let wrong = thread::map_vec(rt, readers, &|reader| read(reader));
+            done.store(true, Ordering::SeqCst);
+            wrong
+        },
+        || write(rt, alloc, cache, upkeep, done),
+    )
+}
+
+impl<R: Threads + Wait + Copy + Send + Sync> Beside<R> {
+    // All of it under the name that the blank's table has: how many gets were wrong, and whether all was shown.
+    fn run<N: Name + Send + Sync, I: Names<u64, u64, AnyPair> + Drop + Send + Sync>(
+        &self,
+        blank: Blank,
+        store: &Config,
+        config: &CacheConfig,
+    ) -> Result<(u64, bool), AllocError>
+        requires name { blank.table ≡ N.table }
+        requires config { blank.config ≡ store.now }
+        requires classes { store.now.classes ≡ record { chunks = config.now.items; hot = 0; warm = 0 } ∷ [] }
+    {
+        let Opened {
+            cache,
+            readers,
+            upkeep,
+        } = open_named::<N, u64, u64, AnyPair, I, R>(self.alloc, &self.rt, blank, store, config)?;
+        let done = AtomicBool::new(false);
+        let (wrong, shown) = work(&self.rt, self.alloc, &cache, readers, upkeep, &done);
+        let mut all = 0u64;
+        for one in &wrong? {
+            all = all.saturating_add(*one);
+        }
+        Ok((all, shown))
+    }
+}
+
+#[test]
+fn no_reader_gets_another_keys_value(rt: HostRuntime) -> Result<(), Fail> {
+    let config = CacheConfig {
+        items: 48,
+        hot: 20,
+        warm: 40,
+        readers: 8,
+        ring: 16,
+    };
+    let alloc = rt.alloc();
+    let job = Beside { rt: &rt, alloc };
+    let store = config.store(alloc)?;
+    let blank = Blank::new(alloc, &store)?;
+    let (wrong, shown) = job.run::<Brand, Index<u64, u64, AnyPair>>(blank, &store, &config)?;
+    assert_eq!(rt; wrong, 0);
+    assert!(rt; shown);
+    Ok(())
+}
