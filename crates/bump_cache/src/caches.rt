@@ -1,6 +1,6 @@
 //! A cache that threads share.
-ghost use Rattle.std.specs.Prelude.{◌≡◌, IfOk, IfErr, IfSome, true};
-ghost use Rattle.std.specs.Arc.{arc_value};
+ghost use Rattle.std.specs.Prelude.{◌≡◌, IfSome};
+ghost use Rattle.cache_shelf.specs.Refusals.{left_of};
 
 use bump_class::RawLane;
 use bump_heads::Name;
@@ -10,7 +10,7 @@ use cache_shelf::{Put, Removed, Shelf};
 use std::alloc::{AllocError, Global};
 use std::hash::Hash;
 use std::sync::atomic::{AtomicBool, AtomicU64, Ordering};
-use std::sync::{Arc, Mutex, Wait};
+use std::sync::{Mutex, Wait};
 
 /// So often an upkeep looks at the last items of HOT and WARM.
 const LOOKS: u32 = 100;
@@ -80,8 +80,8 @@ impl<
 > Cache<N, K, V, L, I, R> {
     /// Puts a value under a key, as memcached's `set`: it waits until no other thread changes the cache. What the key
     /// had before ends. Where no chunk is free items are evicted, those first that were in use least. `now` is the
-    /// item's time, in the caller's ticks. It answers what `Shelf::put` tells; or the key and the value, where memory
-    /// was refused for them, and nothing is changed then.
+    /// item's time, in the caller's ticks. It answers what `Shelf::put` tells: where memory is refused, or each chunk is
+    /// held by somebody, the key and the value come back.
     pub fn put<W: Wait>(
         &self,
         alloc: Global,
@@ -89,20 +89,15 @@ impl<
         key: K,
         value: V,
         now: u64,
-    ) -> Result<Put<K, V, L>, Entry<K, V, L>>
+    ) -> Put<K, V, L>
         requires law { L.holds key value }
-        ensures back { IfErr result (λ entry. entry ≡ (key, value)) }
-        ensures refused { IfOk result (λ put. IfSome put.refused (λ it. arc_value it.entry ≡ (key, value))) }
+        ensures refused { IfSome result.refused (λ it. left_of it ≡ (key, value)) }
     {
-        let entry = match Arc::new(alloc, Entry::new(key, value)) {
-            Ok(entry) => entry,
-            Err(failed) => return Err(failed.value),
-        };
         let mut guard = self.shelf.lock(rt);
         let shelf = &mut *guard;
-        let put = shelf.put(alloc, rt, entry, now);
+        let put = shelf.put(alloc, rt, Entry::new(key, value), now);
         shelf.balance(self.hot, self.warm);
-        Ok(put)
+        put
     }
 
     /// Ends the item of the key, if it has one, as memcached's `delete`: it waits until no other thread changes the

@@ -6,7 +6,7 @@ ghost use Rattle.bump_cache.specs.Readers.{ReaderView as TheReaderView, one_more
 use bump_heads::{Heads, Name};
 use bump_rules::ItemId;
 use bump_store::Worker;
-use cache_index::{Entry, Found, IndexReader, Law, Names};
+use cache_index::{IndexReader, Item, Law, Names};
 use std::alloc::Global;
 use std::hash::Hash;
 use std::marker::Model;
@@ -76,27 +76,20 @@ impl<N: Name, K: Eq + Hash + Drop, V: Drop, L: Law<K, V>, I: Names<K, V, L> + Dr
     /// item. `now` is the time that a touch stores, in the caller's ticks. It takes no lock and no memory, and waits
     /// for nobody. It answers None where the cache has nothing under the key, by what was shown last.
     #[inline(always)]
-    pub fn get(&mut self, key: &K, now: u64) -> Option<Arc<Entry<K, V, L>, Global>>
-        ensures key { IfSome result (λ entry. K.eq key.now (arc_value entry).0 ≡ true) }
-        ensures hit { IfSome result (λ entry. self.new ≡ record self.old { hits = one_more self.old.hits }) }
+    pub fn get(&mut self, key: &K, now: u64) -> Option<Arc<Item<K, V, L>, Global>>
+        ensures key { IfSome result (λ item. K.eq key.now (arc_value item).key ≡ true) }
+        ensures hit { IfSome result (λ item. self.new ≡ record self.old { hits = one_more self.old.hits }) }
         ensures missed { IfNone result (self.new ≡ record self.old { misses = one_more self.old.misses }) }
     {
         match self.index.find(key) {
-            Some(
-                Found {
-                    chunk,
-                    generation,
-                    entry,
-                },
-            ) => {
-                hit(
-                    &mut self.worker,
-                    &self.heads,
-                    ItemId { chunk, generation },
-                    now,
-                );
+            Some(item) => {
+                let id = ItemId {
+                    chunk: item.chunk(),
+                    generation: item.generation(),
+                };
+                hit(&mut self.worker, &self.heads, id, now);
                 self.hits = self.hits.saturating_add(1);
-                Some(entry)
+                Some(item)
             }
             None => {
                 self.misses = self.misses.saturating_add(1);

@@ -74,7 +74,7 @@ where
         return;
     }
     if let Some(slot) = slots[chunk as usize].take() {
-        places.remove(slot.entry.key());
+        places.remove(slot.item.key());
     }
 }
 
@@ -114,16 +114,6 @@ impl<K: Eq + Hash, V, L: Law<K, V>> Index<K, V, L> {
         }
     }
 
-    /// What the chunk that has the key has, or None where no chunk has it.
-    pub fn find(&self, key: &K) -> Option<&Slot<K, V, L>>
-        ensures found { option_copied result ≡ found_in K.eq key.now self.now }
-    {
-        match self.places.get(key) {
-            Some(chunk) => self.slots[*chunk as usize].as_ref(),
-            None => None,
-        }
-    }
-
     /// The chunk has nothing any more, or nothing is changed where there is no such chunk.
     pub fn clear(&mut self, chunk: u32)
     where
@@ -143,13 +133,13 @@ impl<K: Eq + Hash, V, L: Law<K, V>> Index<K, V, L> {
         ensures set { IfOk result (λ done. self.new ≡ with_placed K.eq chunk slot.now self.old) }
         ensures unchanged { OnErr result (self.new ≡ self.old) }
     {
-        let key = slot.entry.key().clone()?;
-        if key != *slot.entry.key() {
+        let key = slot.item.key().clone()?;
+        if key != *slot.item.key() {
             return Err(AllocError);
         }
         let kept = slot.try_clone()?;
         self.places.reserve(1)?;
-        forget(&mut self.places, &mut self.slots, slot.entry.key());
+        forget(&mut self.places, &mut self.slots, slot.item.key());
         empty(&mut self.places, &mut self.slots, chunk);
         if (chunk as usize) < self.slots.len() {
             self.slots[chunk as usize] = Some(kept);

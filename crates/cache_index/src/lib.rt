@@ -5,6 +5,7 @@
 mod absorbing;
 mod entries;
 mod indexes;
+mod items;
 mod names;
 mod readers;
 mod slots;
@@ -12,7 +13,8 @@ mod writers;
 
 pub use entries::{AnyPair, Entry, Law};
 pub use indexes::{Home, Index};
+pub use items::Item;
 pub use names::Names;
-pub use readers::{Found, IndexReader};
+pub use readers::IndexReader;
 pub use slots::{Change, Slot};
 pub use writers::IndexWriter;

@@ -3,29 +3,23 @@ ghost use Rattle.std.specs.Prelude.{◌≡◌, IfOk};
 ghost use Rattle.std.specs.Arc.{arc_value};
 ghost use Rattle.cache_index.specs.Tables.{Placed};
 
-use crate::entries::{Entry, Law};
+use crate::entries::Law;
+use crate::items::Item;
 use std::alloc::{AllocError, Global};
 use std::marker::Model;
 use std::sync::Arc;
 
-/// What an index has at a chunk: a key and its value, and the generation of the chunk's life.
+/// What an index has at a chunk: an item, which readers may have too.
 #[derive(Drop)]
 pub struct Slot<K, V, L: Law<K, V>> {
-    /// The generation.
-    pub generation: u32,
-
-    /// The key, and the value that was put under it.
-    pub entry: Arc<Entry<K, V, L>, Global>,
+    /// The item.
+    pub item: Arc<Item<K, V, L>, Global>,
 }
 
 impl<K, V, L: Law<K, V>> Model for Slot<K, V, L> {
     ghost Value = { Placed K V };
 
-    ghost view = { λ s. record {
-      generation = s.generation;
-      key = (arc_value s.entry).0;
-      value = (arc_value s.entry).1;
-    } };
+    ghost view = { λ s. arc_value s.item };
 }
 
 /// A change of an index.
@@ -39,13 +33,12 @@ pub enum Change<K, V, L: Law<K, V>> {
 }
 
 impl<K, V, L: Law<K, V>> Slot<K, V, L> {
-    /// One more of the same. It is refused where an entry has 2^63 - 1 owners.
+    /// One more of the same. It is refused where an item has 2^63 - 1 owners.
     pub fn try_clone(&self) -> Result<Slot<K, V, L>, AllocError>
         ensures { IfOk result (λ s. s ≡ self.now) }
     {
         Ok(Slot {
-            generation: self.generation,
-            entry: Arc::try_clone(&self.entry)?,
+            item: Arc::try_clone(&self.item)?,
         })
     }
 }

@@ -90,22 +90,6 @@ impl<
         self.writer.published().home(key)
     }
 
-    // Notes what is owed, and tells whether nothing is owed any more.
-    fn note_owed(&mut self) -> bool
-        ensures kept { self.new ≡ record self.old { owes = self.new.owes } }
-        ensures noted { result ≡ true → self.new.owes ≡ false }
-        ensures unchanged { result ≡ false → self.new ≡ self.old }
-    {
-        let Some(chunk) = self.owed else {
-            return true;
-        };
-        let noted = self.writer.append(Change::Clear { chunk }).is_ok();
-        if noted {
-            self.owed = None;
-        }
-        noted
-    }
-
     /// Shows readers what each chunk has, and tells whether it did: it waits for readers that are still in the index
     /// as it was before it was shown last. It doesn't only for want of memory, and changes nothing then.
     pub fn show(&mut self) -> bool
@@ -117,7 +101,7 @@ impl<
         } }
         ensures unchanged { result ≡ false → self.new.shown ≡ self.old.shown }
     {
-        self.note_owed() && self.writer.flush().is_ok()
+        self.is_ready() && self.writer.flush().is_ok()
     }
 
     /// Notes what is owed, and tells whether nothing is owed any more: it doesn't only for want of memory, and changes
@@ -127,17 +111,14 @@ impl<
         ensures ready { result ≡ true → self.new.owes ≡ false }
         ensures unchanged { result ≡ false → self.new ≡ self.old }
     {
-        self.note_owed()
-    }
-
-    /// What the chunk has, if anything: whether it was shown or not.
-    pub fn at(&self, chunk: u32) -> Option<&Slot<K, V, L>>
-        ensures { option_copied result ≡ at_chunk chunk self.now.table }
-    {
-        match self.slots.get(chunk as usize) {
-            Some(home) => home.as_ref(),
-            None => None,
+        let Some(chunk) = self.owed else {
+            return true;
+        };
+        let noted = self.writer.append(Change::Clear { chunk }).is_ok();
+        if noted {
+            self.owed = None;
         }
+        noted
     }
 
     /// The chunk has nothing any more, as readers see once it is shown. It answers what the chunk had, if anything.

@@ -38,13 +38,11 @@ impl<R: Wait + Copy> Calls<R> {
         value: u64,
         now: u64,
     ) -> Result<bool, AllocError> {
-        let Ok(put) = cache.put(self.alloc, &self.rt, key, value, now) else {
-            return Err(AllocError);
-        };
+        let put = cache.put(self.alloc, &self.rt, key, value, now);
         let had = map.remove(&key);
-        let told = put.old.as_ref().map(|slot| *slot.entry.value());
+        let told = put.old.as_ref().map(|slot| *slot.item.value());
         for slot in &put.evicted {
-            map.remove(slot.entry.key());
+            map.remove(slot.item.key());
         }
         if put.refused.is_none() {
             map.insert(key, value).ok();
@@ -60,7 +58,7 @@ impl<R: Wait + Copy> Calls<R> {
         key: u64,
         now: u64,
     ) -> bool {
-        let got = reader.get(&key, now).map(|entry| *entry.value());
+        let got = reader.get(&key, now).map(|item| *item.value());
         got == map.get(&key).copied()
     }
 }
@@ -88,7 +86,7 @@ impl<R: Wait + Copy> Calls<R> {
                 0 | 1 => self.put(&cache, &mut map, key, now, now)?,
                 2 => {
                     let removed = cache.remove(&self.rt, &key)?;
-                    removed.old.map(|slot| *slot.entry.value()) == map.remove(&key)
+                    removed.old.map(|slot| *slot.item.value()) == map.remove(&key)
                 }
                 3 => {
                     cache.tend(&self.rt, &mut upkeep, now);

@@ -31,8 +31,8 @@ fn read<N: Name, I: Names<u64, u64, AnyPair> + Drop>(
     let mut wrong = 0u64;
     for now in 0..GETS {
         let key = now % KEYS;
-        if let Some(entry) = reader.get(&key, now) {
-            if *entry.value() % KEYS != key {
+        if let Some(item) = reader.get(&key, now) {
+            if *item.value() % KEYS != key {
                 wrong = wrong.saturating_add(1);
             }
         }
@@ -55,9 +55,8 @@ fn write<N: Name, I: Names<u64, u64, AnyPair> + Drop, R: Wait + Copy>(
             return shown;
         }
         let key = now % KEYS;
-        if let Ok(put) = cache.put(alloc, rt, key, now, now) {
-            shown = shown && put.shown;
-        }
+        let put = cache.put(alloc, rt, key, now, now);
+        shown = shown && put.shown;
         if now % 3 == 0 {
             shown = cache.remove(rt, &(now % 7)).is_ok() && shown;
         }

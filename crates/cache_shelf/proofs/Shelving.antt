@@ -60,16 +60,16 @@ module _ {K V : Type 0} {same : K → K → Bool} (book left : BookView) (table 
 
   -- it stays one where an item begins, and its chunk has an entry whose key nothing has
   pub shelf_begun : (item : ItemId) (entry : K × V) → BeginsAt item book left → found_in same entry.0 table ≡ None
-      → IsEquivalence same → IsShelf same left (slice_set table item.chunk (Some (entry_of item.generation entry)))
+      → IsEquivalence same → IsShelf same left (slice_set table item.chunk (Some (entry_of item entry)))
   shelf_begun item entry begins anew laws = record {
     first = begins.class.first ∙ is.first;
-    count = begins.class.count ∙ (is.count ∙ sym (length-set table item.chunk (Some (entry_of item.generation entry))));
-    linked = λ c lt. at c (omega (arith, lt, length-set table item.chunk (Some (entry_of item.generation entry)))) (one_or_two c item.chunk);
+    count = begins.class.count ∙ (is.count ∙ sym (length-set table item.chunk (Some (entry_of item entry))));
+    linked = λ c lt. at c (omega (arith, lt, length-set table item.chunk (Some (entry_of item entry)))) (one_or_two c item.chunk);
     once = λ c d p q at_c at_d alike. one c d p q at_c at_d alike (one_or_two c item.chunk) (one_or_two d item.chunk);
   }
     where
       placed : Placed K V
-      placed = entry_of item.generation entry
+      placed = entry_of item entry
 
       after : Table K V
       after = slice_set table item.chunk (Some placed)

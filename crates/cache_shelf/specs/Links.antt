@@ -5,9 +5,10 @@ use Rattle.cache_index.specs.Tables.{Placed, Table, at_chunk, without_chunk, wit
 use Rattle.cache_shelf.specs.Shelves.{ShelfView}
 use Rattle.cache_shelf.specs.Items.{BeginsAt}
 
--- a key and its value, in a life of this generation
-abbrev pub entry_of : {K V : Type 0} → ℕ → K × V → Placed K V
-entry_of generation entry = record { generation = generation; key = entry.0; value = entry.1 }
+-- a key and its value, for which this life stands
+abbrev pub entry_of : {K V : Type 0} → ItemId → K × V → Placed K V
+entry_of item entry =
+    record { chunk = item.chunk; generation = item.generation; key = entry.0; value = entry.1 }
 
 -- An item is linked, at a chunk at which none was, and the entry is what it stands for.
 pub record Begins {K V : Type 0} (same : K → K → Bool) (entry : K × V) (before after : ShelfView K V) : Type 0 where
@@ -15,7 +16,7 @@ pub record Begins {K V : Type 0} (same : K → K → Bool) (entry : K × V) (bef
   pub begins : BeginsAt item before.book after.book
   pub free : at_chunk item.chunk before.index.table ≡ None
   pub table : after.index.table
-      ≡ slice_set before.index.table item.chunk (Some (entry_of item.generation entry))
+      ≡ slice_set before.index.table item.chunk (Some (entry_of item entry))
 
 -- These are what chunks had, one after the other, and each of these chunks has nothing then.
 abbrev pub EvictsAll : {K V : Type 0} → List (Placed K V) → Table K V → Table K V → Type 0
@@ -29,14 +30,14 @@ MayEvict {K} {V} told before more after = ((more ≡ told) × (after ≡ before)
     ⊎ ((one : Placed K V) × (chunk : ℕ) × (at_chunk chunk before ≡ Some one) × (more ≡ told ++ one ∷ [])
     × (after ≡ without_chunk chunk before))
 
--- What a put comes to where it isn't refused: these are evicted, and then a chunk that has nothing has the entry.
+-- What a put comes to where it isn't refused: these are evicted, and then a life of a chunk that has nothing stands for
+-- the entry.
 pub record Puts {K V : Type 0} (entry : K × V) (evicted : List (Placed K V)) (before after : Table K V) : Type 0 where
   pub between : Table K V
-  pub chunk : ℕ
-  pub generation : ℕ
+  pub item : ItemId
   pub evicts : EvictsAll evicted before between
-  pub free : at_chunk chunk between ≡ None
-  pub table : after ≡ slice_set between chunk (Some (entry_of generation entry))
+  pub free : at_chunk item.chunk between ≡ None
+  pub table : after ≡ slice_set between item.chunk (Some (entry_of item entry))
 
 -- What a put leaves where it is refused: nothing changed, or the key's old item ended, and then these were evicted.
 abbrev pub Refuses : {K V : Type 0} → (K → K → Bool) → K → Option (Placed K V) → List (Placed K V) → Table K V

@@ -1,38 +1,34 @@
 //! Items of a Shelf end and begin.
 ghost use Rattle.std.specs.Prelude.{◌≡◌, false, IfSome, IfNone, IfOk, IfErr, IsSome, OnErr, None, true};
-ghost use Rattle.std.specs.Arc.{arc_value};
 ghost use Rattle.bump_links.specs.Lists.{first_of};
 ghost use Rattle.cache_index.specs.Tables.{at_chunk, without_chunk, without_key, found_in, with_placed};
 ghost use Rattle.cache_shelf.specs.Items.{victim, EndsAt, KeepsItems};
 ghost use Rattle.cache_shelf.specs.Links.{Begins, entry_of};
+ghost use Rattle.cache_shelf.specs.Refusals.{left_of, is_no_room};
 
 use crate::items::{begin, end, end_next, look_at, sweep};
+use crate::refusals::NotPlaced;
 use crate::shelves::Shelf;
 use bump_heads::Name;
 use bump_rules::{ItemId, Place, Tail};
-use cache_index::{Entry, Home, Law, Names, Slot};
+use cache_index::{Entry, Home, Item, Law, Names, Slot};
 use std::alloc::Global;
 use std::hash::Hash;
 use std::sync::{Arc, Wait};
 
-/// Why an entry isn't placed.
-#[derive(Clone, Copy, Debug, PartialEq, Eq)]
-pub enum WhyNot {
-    /// No chunk is free.
-    NoRoom,
-
-    /// Memory was refused.
-    Memory,
-}
-
-/// An entry that isn't placed, and why.
-#[derive(Drop)]
-pub struct NotPlaced<K, V, L: Law<K, V>> {
-    /// Why.
-    pub why: WhyNot,
-
-    /// The entry.
-    pub entry: Arc<Entry<K, V, L>, Global>,
+// An item for an entry. Where memory is refused the entry comes back.
+fn slot_of<K, V, L: Law<K, V>>(
+    alloc: Global,
+    id: ItemId,
+    entry: Entry<K, V, L>,
+) -> Result<Slot<K, V, L>, Entry<K, V, L>>
+    ensures slot { IfOk result (λ slot. slot ≡ entry_of id entry) }
+    ensures back { IfErr result (λ it. it ≡ entry) }
+{
+    match Arc::new(alloc, Item::new(id.chunk, id.generation, entry)) {
+        Ok(item) => Ok(Slot { item }),
+        Err(failed) => Err(failed.value.into_entry()),
+    }
 }
 
 impl<
@@ -75,7 +71,7 @@ impl<
     {
         match self.index.home(key) {
             Some(Home { chunk, slot }) => {
-                let generation = slot.generation;
+                let generation = slot.item.generation();
                 end(&mut self.book, ItemId { chunk, generation });
                 self.index.clear(chunk)
             }
@@ -83,44 +79,39 @@ impl<
         }
     }
 
-    /// Links an item for an entry, whose key has none. It is refused as NoRoom exactly where no chunk is free, and as
-    /// Memory where memory was refused; the entry comes back then, and no key has another item. Readers see it once it
-    /// is shown.
+    /// Links an item for an entry, whose key has none. It is refused as NoRoom exactly where no chunk is free, and
+    /// changes nothing then; and else only for want of memory. The entry comes back then, and each key has the item that
+    /// it had. Readers see it once it is shown. `now` is the item's time, in the caller's ticks.
     pub fn place(
         &mut self,
-        entry: Arc<Entry<K, V, L>, Global>,
+        alloc: Global,
+        entry: Entry<K, V, L>,
         now: u64,
     ) -> Result<(), NotPlaced<K, V, L>>
         requires ready { self.old.index.owes ≡ false }
-        requires anew { found_in K.eq (arc_value entry).0 self.old.index.table ≡ None }
-        ensures placed { IfOk result (λ done. Begins K.eq (arc_value entry) self.old self.new) }
-        ensures back { IfErr result (λ it. arc_value it.entry ≡ arc_value entry) }
+        requires anew { found_in K.eq entry.0 self.old.index.table ≡ None }
+        ensures placed { IfOk result (λ done. Begins K.eq entry self.old self.new) }
+        ensures back { IfErr result (λ it. left_of it ≡ entry) }
+        ensures no_room { IfErr result (λ it. is_no_room it ≡ true → (first_of self.old.book.lists.unused ≡ None)
+            × (self.new ≡ self.old)) }
         ensures table { OnErr result (self.new.index.table ≡ self.old.index.table) }
         ensures shown { self.new.index.shown ≡ self.old.index.shown }
         ensures owes { self.new.index.owes ≡ false }
     {
         let Some(id) = begin(&mut self.book, now) else {
-            return Err(NotPlaced {
-                why: WhyNot::NoRoom,
-                entry,
-            });
+            return Err(NotPlaced::NoRoom(entry));
         };
-        let slot = Slot {
-            generation: id.generation,
-            entry,
-        };
-        match self.index.set(id.chunk, slot) {
-            Ok(()) => Ok(()),
-            Err(slot) => {
+        match slot_of(alloc, id, entry) {
+            Ok(slot) => match self.index.set(id.chunk, slot) {
+                Ok(()) => Ok(()),
+                Err(slot) => {
+                    end(&mut self.book, id);
+                    Err(NotPlaced::NoMemoryInIndex(slot.item))
+                }
+            },
+            Err(entry) => {
                 end(&mut self.book, id);
-                let Slot {
-                    generation: _,
-                    entry,
-                } = slot;
-                Err(NotPlaced {
-                    why: WhyNot::Memory,
-                    entry,
-                })
+                Err(NotPlaced::NoMemory(entry))
             }
         }
     }

@@ -5,8 +5,9 @@ mod changing;
 mod draining;
 mod items;
 mod putting;
+mod refusals;
 mod shelves;
 
-pub use changing::{NotPlaced, WhyNot};
 pub use putting::{Put, Removed};
+pub use refusals::NotPlaced;
 pub use shelves::Shelf;

@@ -1,13 +1,12 @@
 //! An entry is put, and makes room where there is none.
-ghost use Rattle.std.specs.Prelude.{◌≡◌, ◌⊎◌, false, true, IfSome, IfNone, IfOk, OnErr, Err, None, []};
-ghost use Rattle.std.specs.Arc.{arc_value};
+ghost use Rattle.std.specs.Prelude.{◌≡◌, ◌⊎◌, false, true, IfSome, IfNone, IfOk, IfErr, OnErr, Err, None, []};
 ghost use Rattle.cache_index.specs.Tables.{found_in, without_key};
 ghost use Rattle.cache_shelf.specs.Links.{MayEvict, EvictsAll, Puts, Refuses};
 ghost use Rattle.cache_shelf.specs.Tries.{Tries};
 ghost use Rattle.cache_shelf.specs.Items.{victim};
-ghost use Rattle.cache_shelf.specs.declared.changing.WhyNot.TheVariants as why;
+ghost use Rattle.cache_shelf.specs.Refusals.{left_of, is_no_room};
 
-use crate::changing::{NotPlaced, WhyNot};
+use crate::refusals::NotPlaced;
 use crate::shelves::Shelf;
 use bump_heads::Name;
 use cache_index::{Entry, Law, Names, Slot};
@@ -24,7 +23,7 @@ pub struct Put<K, V, L: Law<K, V>> {
     /// What was evicted to make room, in order.
     pub evicted: Vec<Slot<K, V, L>>,
 
-    /// The entry, and why it isn't placed; None where it is.
+    /// The entry, where it isn't placed, and why; None where it is.
     pub refused: Option<NotPlaced<K, V, L>>,
 
     /// Whether readers see it. They don't only for want of memory; then they do once a later call shows it.
@@ -48,7 +47,7 @@ enum Tried<K, V, L: Law<K, V>> {
     Placed,
 
     // There may be room now.
-    Again(Arc<Entry<K, V, L>, Global>),
+    Again(Entry<K, V, L>),
 
     // It is refused.
     Refused(NotPlaced<K, V, L>),
@@ -62,97 +61,89 @@ impl<
     I: Names<K, V, L> + Drop,
     R: Wait + Drop,
 > Shelf<N, K, V, L, I, R> {
-    // Makes room for one more item: the chunks of ended items that nobody holds any more are free, and where there are
-    // none an item is evicted. It is refused as NoRoom exactly where none is left, and as Memory where the list of those
+    // Makes room for the item of an entry: the chunks of ended items that nobody holds any more are free, and where there
+    // are none an item is evicted. It is refused as NoRoom only where none is left, and else where the list of those
     // evicted couldn't grow.
-    fn make_room(&mut self, evicted: &mut Vec<Slot<K, V, L>>) -> Result<(), WhyNot>
+    fn make_room(
+        &mut self,
+        entry: Entry<K, V, L>,
+        evicted: &mut Vec<Slot<K, V, L>>,
+    ) -> Result<Entry<K, V, L>, NotPlaced<K, V, L>>
         requires ready { self.old.index.owes ≡ false }
-        ensures made { IfOk result (λ done. MayEvict evicted.old.items self.old.index.table evicted.new.items
+        ensures same { IfOk result (λ it. it ≡ entry) }
+        ensures made { IfOk result (λ it. MayEvict evicted.old.items self.old.index.table evicted.new.items
             self.new.index.table) }
+        ensures back { IfErr result (λ it. left_of it ≡ entry) }
         ensures kept { OnErr result (evicted.new.items ≡ evicted.old.items) }
         ensures table { OnErr result (self.new.index.table ≡ self.old.index.table) }
-        ensures full { result ≡ Err why.NoRoom → victim self.new.book.lists ≡ None }
+        ensures full { IfErr result (λ it. is_no_room it ≡ true → victim self.new.book.lists ≡ None) }
         ensures shown { self.new.index.shown ≡ self.old.index.shown }
     {
         if evicted.reserve(1).is_err() {
-            return Err(WhyNot::Memory);
+            return Err(NotPlaced::NoMemory(entry));
         }
         if self.sweep() > 0 {
-            return Ok(());
+            return Ok(entry);
         }
         match self.evict() {
             Some(slot) => {
                 let Ok(()) = evicted.push(slot) else {
                     unreachable!()
                 };
-                Ok(())
+                Ok(entry)
             }
-            None => Err(WhyNot::NoRoom),
+            None => Err(NotPlaced::NoRoom(entry)),
         }
     }
 
     // One try to place an entry, whose key has no item. Where no chunk is free it makes room for the next try.
     fn try_to_place(
         &mut self,
-        entry: Arc<Entry<K, V, L>, Global>,
+        alloc: Global,
+        entry: Entry<K, V, L>,
         now: u64,
         evicted: &mut Vec<Slot<K, V, L>>,
     ) -> Tried<K, V, L>
-        requires anew { found_in K.eq (arc_value entry).0 self.old.index.table ≡ None }
-        ensures tried { Tries (arc_value entry) evicted.old.items self.old.index.table result evicted.new.items
+        requires anew { found_in K.eq entry.0 self.old.index.table ≡ None }
+        ensures tried { Tries entry evicted.old.items self.old.index.table result evicted.new.items
             self.new.index.table self.new.book.lists }
         ensures shown { self.new.index.shown ≡ self.old.index.shown }
     {
         if !self.is_ready() {
-            return Tried::Refused(NotPlaced {
-                why: WhyNot::Memory,
-                entry,
-            });
+            return Tried::Refused(NotPlaced::NoMemory(entry));
         }
-        match self.place(entry, now) {
+        match self.place(alloc, entry, now) {
             Ok(()) => Tried::Placed,
-            Err(
-                NotPlaced {
-                    why: WhyNot::Memory,
-                    entry,
-                },
-            ) => Tried::Refused(NotPlaced {
-                why: WhyNot::Memory,
-                entry,
-            }),
-            Err(
-                NotPlaced {
-                    why: WhyNot::NoRoom,
-                    entry,
-                },
-            ) => match self.make_room(evicted) {
-                Ok(()) => Tried::Again(entry),
-                Err(why) => Tried::Refused(NotPlaced { why, entry }),
+            Err(NotPlaced::NoRoom(entry)) => match self.make_room(entry, evicted) {
+                Ok(entry) => Tried::Again(entry),
+                Err(refused) => Tried::Refused(refused),
             },
+            Err(refused) => Tried::Refused(refused),
         }
     }
 
     // Places an entry, whose key has no item. Where no chunk is free items are evicted, one after the other.
     fn place_with_room<W: Wait>(
         &mut self,
+        alloc: Global,
         rt: &W,
-        entry: Arc<Entry<K, V, L>, Global>,
+        entry: Entry<K, V, L>,
         now: u64,
         evicted: &mut Vec<Slot<K, V, L>>,
     ) -> Option<NotPlaced<K, V, L>>
-        requires anew { found_in K.eq (arc_value entry).0 self.old.index.table ≡ None }
+        requires anew { found_in K.eq entry.0 self.old.index.table ≡ None }
         requires none { evicted.old.items ≡ [] }
-        ensures placed { IfNone result (Puts (arc_value entry) evicted.new.items self.old.index.table
+        ensures placed { IfNone result (Puts entry evicted.new.items self.old.index.table
             self.new.index.table) }
         ensures refused { IfSome result (λ it. EvictsAll evicted.new.items self.old.index.table
             self.new.index.table) }
-        ensures back { IfSome result (λ it. arc_value it.entry ≡ arc_value entry) }
-        ensures full { IfSome result (λ it. it.why ≡ why.NoRoom → victim self.new.book.lists ≡ None) }
+        ensures back { IfSome result (λ it. left_of it ≡ entry) }
+        ensures full { IfSome result (λ it. is_no_room it ≡ true → victim self.new.book.lists ≡ None) }
         ensures shown { self.new.index.shown ≡ self.old.index.shown }
     {
         let mut entry = entry;
         for _ in rt.forever() {
-            match self.try_to_place(entry, now, evicted) {
+            match self.try_to_place(alloc, entry, now, evicted) {
                 Tried::Placed => return None,
                 Tried::Refused(refused) => return Some(refused),
                 Tried::Again(back) => entry = back,
@@ -163,25 +154,25 @@ impl<
 
     /// Puts an entry: its key's old item ends, if it has one, and a new item is linked for it. Where no chunk is free,
     /// the chunks of ended items that nobody holds any more make room, and else items are evicted, one after the other.
-    /// Readers see all of it at once. `now` is the new item's time, in the caller's ticks; `alloc` is for the list of
-    /// those evicted; `rt` stands for the leave to go on as long as others end what was made room.
+    /// Readers see all of it at once. `now` is the new item's time, in the caller's ticks. `rt` is asked for since there
+    /// is no telling how many items a put evicts: a chunk whose item others hold isn't free, and the next one is evicted.
     ///
-    /// It is refused as NoRoom only where no item is linked any more: each chunk is held by somebody. It is refused as
-    /// Memory where memory was refused. The entry comes back then, and what ended meanwhile is told.
+    /// It is refused as NoRoom only where no item is linked any more: each chunk is held by somebody. Else it is refused
+    /// only for want of memory. The entry comes back then, and what ended meanwhile is told.
     pub fn put<W: Wait>(
         &mut self,
         alloc: Global,
         rt: &W,
-        entry: Arc<Entry<K, V, L>, Global>,
+        entry: Entry<K, V, L>,
         now: u64,
     ) -> Put<K, V, L>
-        ensures placed { IfNone result.refused (Puts (arc_value entry) result.evicted.items
-            (without_key K.eq (arc_value entry).0 self.old.index.table) self.new.index.table) }
-        ensures old { IfNone result.refused (result.old ≡ found_in K.eq (arc_value entry).0 self.old.index.table) }
-        ensures refused { IfSome result.refused (λ it. Refuses K.eq (arc_value entry).0 result.old result.evicted.items
+        ensures placed { IfNone result.refused (Puts entry result.evicted.items
+            (without_key K.eq entry.0 self.old.index.table) self.new.index.table) }
+        ensures old { IfNone result.refused (result.old ≡ found_in K.eq entry.0 self.old.index.table) }
+        ensures refused { IfSome result.refused (λ it. Refuses K.eq entry.0 result.old result.evicted.items
             self.old.index.table self.new.index.table) }
-        ensures back { IfSome result.refused (λ it. arc_value it.entry ≡ arc_value entry) }
-        ensures full { IfSome result.refused (λ it. it.why ≡ why.NoRoom → victim self.new.book.lists ≡ None) }
+        ensures back { IfSome result.refused (λ it. left_of it ≡ entry) }
+        ensures full { IfSome result.refused (λ it. is_no_room it ≡ true → victim self.new.book.lists ≡ None) }
         ensures shown { result.shown ≡ true → self.new.index.shown ≡ self.new.index.table }
         ensures hidden { result.shown ≡ false → (self.new.index.shown ≡ self.old.index.shown)
             ⊎ (self.new.index.shown ≡ self.old.index.table) }
@@ -190,16 +181,13 @@ impl<
             return Put {
                 old: None,
                 evicted: Vec::new(alloc),
-                refused: Some(NotPlaced {
-                    why: WhyNot::Memory,
-                    entry,
-                }),
+                refused: Some(NotPlaced::NoMemory(entry)),
                 shown: false,
             };
         }
         let old = self.take_out(entry.key());
         let mut evicted = Vec::new(alloc);
-        let refused = self.place_with_room(rt, entry, now, &mut evicted);
+        let refused = self.place_with_room(alloc, rt, entry, now, &mut evicted);
         let shown = self.show();
         Put {
             old,

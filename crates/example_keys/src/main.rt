@@ -25,11 +25,9 @@ fn run<N: Name, I: Names<u64, u64, AnyPair> + Drop, R: Wait + Copy>(
     requires classes { store.now.classes ≡ record { chunks = config.now.items; hot = 0; warm = 0 } ∷ [] }
 {
     let mut opened = open_named::<N, u64, u64, AnyPair, I, R>(alloc, rt, blank, store, config)?;
-    if opened.cache.put(alloc, rt, 7, 49, 0).is_err() {
-        return Err(AllocError);
-    }
+    opened.cache.put(alloc, rt, 7, 49, 0);
     match opened.readers.pop() {
-        Some(mut reader) => Ok(reader.get(&7, 1).map(|entry| *entry.value())),
+        Some(mut reader) => Ok(reader.get(&7, 1).map(|item| *item.value())),
         None => Ok(None),
     }
 }

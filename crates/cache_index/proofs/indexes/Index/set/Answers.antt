@@ -13,8 +13,8 @@ forget-requires g c = record { agrees = agrees_alike _ _ _ c.self.invariant c.in
 pub invariant_of-self-in-Ok : goal.invariant_of-self-in-Ok
 invariant_of-self-in-Ok g c =
     let entry_key = ap (λ s. s.key) c.slot.view_is ∙ sym (ap (λ s. s.key) c.in_ok-kept.ensures) in
-    let its = c.key-3.ensures ∙ (ap (λ e. e.0) c.deref-3.ensures ∙ entry_key) in
-    let its_2 = c.key-2.ensures ∙ (ap (λ e. e.0) c.deref-2.ensures ∙ entry_key) in
+    let its = c.key-3.ensures ∙ (ap (λ e. e.key) c.deref-3.ensures ∙ entry_key) in
+    let its_2 = c.key-2.ensures ∙ (ap (λ e. e.key) c.deref-2.ensures ∙ entry_key) in
     sets_anew g.met.K.Eq.laws _ _ c.self.inside.slots.items c.empty.new.slots.items c.args.chunk c.in_ok-kept.kept
     c.in_ok-key.key c.key-3.result.now c.empty.ensures.agrees
     (c.empty.ensures.table ∙ ap (without_chunk c.args.chunk) c.forget.ensures.table) its
@@ -23,7 +23,7 @@ invariant_of-self-in-Ok g c =
 
 pub returns-in-Ok-clause-set : goal.returns-in-Ok-clause-set
 returns-in-Ok-clause-set g c =
-    let its = c.key-3.ensures ∙ (ap (λ e. e.0) c.deref-3.ensures ∙ ap (λ s. s.key) c.slot.view_is) in
+    let its = c.key-3.ensures ∙ (ap (λ e. e.key) c.deref-3.ensures ∙ ap (λ s. s.key) c.slot.view_is) in
     ap (λ t. slice_set t c.args.chunk (Some c.in_ok-kept.kept)) (c.empty.ensures.table ∙ ap (without_chunk c.args.chunk) c.forget.ensures.table)
     ∙ (set_twice (without_key g.K.PartialEq.eq c.key-3.result.now c.self.inside.slots.items) c.args.chunk None (Some c.in_ok-kept.kept)
     ∙ (ap (λ s. slice_set (without_key g.K.PartialEq.eq c.key-3.result.now c.self.inside.slots.items) c.args.chunk (Some s)) c.in_ok-kept.ensures

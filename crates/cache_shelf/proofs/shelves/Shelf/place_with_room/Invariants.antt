@@ -1,6 +1,5 @@
 use Rattle.std.proofs.Common.{◌≡◌}
 use Rattle.std.proofs.Common.{None}
-use Rattle.std.specs.Arc.{arc_value}
 use Rattle.cache_index.specs.Tables.{found_in}
 use Rattle.cache_shelf.specs.Links.{EvictsAll}
 use Rattle.cache_shelf.proofs.shelves.Shelf.place_with_room.Given as goal
@@ -8,7 +7,7 @@ use Rattle.cache_shelf.proofs.shelves.Shelf.place_with_room.Given as goal
 abbrev pub invariant-loop : goal.invariant-loop
 invariant-loop g l = record {
   evicts : EvictsAll l.evicted.items l.fn.self.index.table l.self.index.table;
-  anew : found_in g.K.PartialEq.eq (arc_value l.entry).0 l.self.index.table ≡ None;
-  entry : arc_value l.entry ≡ arc_value l.fn.entry;
+  anew : found_in g.K.PartialEq.eq l.entry.0 l.self.index.table ≡ None;
+  entry : l.entry ≡ l.fn.entry;
   shown : l.self.index.shown ≡ l.fn.self.index.shown;
 }

@@ -32,7 +32,7 @@ invariant_of-self g c =
     let shown = ap (λ s. s.index.shown) c.self.view_is ∙ (c.requires.shown ∙ sym (ap (λ s. s.index.table) c.self.view_is)) in
     let at = ap (λ t. slice_get t c.in-Some.field-0.chunk) (sym shown) ∙ c.in-Some.ensures.at in
     let home = home_linked c.self.inside.book c.self.inside.book c.self.inside.index.table c.self.invariant c.in-Some.field-0.chunk c.in-Some.field-0.slot.now at in
-    let ended = not_false c.end.result (λ e. c.end.ensures.not_linked e (home.1 ∙ ap (λ s. Some s.generation) (sym c.slot.view_is))) in
+    let ended = not_false c.end.result (λ e. c.end.ensures.not_linked e (home.1 ∙ ap Some (sym (c.generation-generation.ensures ∙ (ap (λ i. i.generation) c.deref.ensures ∙ ap (λ s. s.generation) c.slot.view_is))))) in
     subst (λ t. IsShelf g.K.PartialEq.eq c.end.new.book t) (sym c.clear.ensures.table)
     (shelf_ended c.self.inside.book c.end.new.book c.self.inside.index.table c.self.invariant c.in-Some.field-0.chunk (c.end.ensures.ends ended))
 
