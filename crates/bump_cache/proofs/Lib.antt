@@ -1,1 +1,2 @@
-pub mod Openings
+mod Openings
+mod HitLemmas

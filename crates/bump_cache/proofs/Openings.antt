@@ -1,9 +1,15 @@
 -- What a cache is opened with.
-use Rattle.std.proofs.Common.{◌≡◌, ℕ, Bool, List, [], ◌∷◌, Some, None, replicate, slice_get, refl, sym, ap, ◌∙◌, subst}
+use Rattle.std.proofs.Common.{◌≡◌, ℕ, Bool, List, [], ◌∷◌, Some, None, All, replicate, slice_get, refl, sym, ap, ◌∙◌, subst}
 use Rattle.bump_rules.specs.declared.configs.ClassConfig.{ClassConfig}
+use Rattle.bump_rules.specs.declared.configs.Config.{Config}
 use Rattle.bump_class.specs.Books.{BookView, new_book}
-use Rattle.bump_steps.specs.Rule.{class_parts}
+use Rattle.bump_steps.specs.Rule.{class_parts, worker_parts}
+use Rattle.bump_store.specs.Lanes.{worker_parts_of}
 use Rattle.bump_store.specs.Stores.{new_books}
+use Rattle.bump_store.specs.Workers.{WorkerState}
+use Rattle.bump_cache.specs.Configs.{IsStoreOf}
+use Rattle.bump_cache.specs.Opening.{CacheBlankView, AreNewReaders}
+use Rattle.bump_cache.specs.Readers.{ReaderView, new_readers}
 use Rattle.cache_index.specs.Tables.{Table}
 use Rattle.cache_shelf.specs.Shelves.{IsShelf}
 use Rattle.cache_shelf.proofs.Shelving.{shelf_new}
@@ -19,3 +25,18 @@ opened_shelf {K} {V} same books classes one fresh workers book table is made at 
     sym first ∙ (ap (λ bs. slice_get bs 0) (sym made) ∙ at) in
     let it : new_book (record { class = 0; first = 0; count = one.chunks; fresh = fresh; history = []; labels = []; applying = None; steps = [] }) one workers ≡ book = cc two in
     subst (λ b. IsShelf same b table) it (shelf_new same _ table refl refl empty)
+
+-- readers of a new store's workers are new readers of its cache
+pub opened_readers : (view blank : CacheBlankView) (store heads : Config) (workers : List WorkerState)
+    (readers : List ReaderView) → view ≡ blank → IsStoreOf view.config store → heads ≡ store
+    → readers ≡ new_readers heads workers → worker_parts_of workers ≡ worker_parts 0 store.workers
+    → All (λ worker. worker.sender.capacity ≡ store.capacity) workers → AreNewReaders blank.config readers
+opened_readers view blank store heads workers readers same store_of words made new_workers capacity =
+    subst (λ (b : CacheBlankView). AreNewReaders b.config readers) same (record {
+      store = store;
+      workers = workers;
+      store_of = store_of;
+      made = made ∙ ap (λ (config : Config). new_readers config workers) words;
+      new_workers = new_workers ∙ ap (λ (count : ℕ). worker_parts 0 count) store_of.workers;
+      capacity = subst (λ (most : ℕ). All (λ (worker : WorkerState). worker.sender.capacity ≡ most) workers) store_of.capacity capacity;
+    })

@@ -1,1 +1,4 @@
+pub mod Configs
+pub mod Hits
 pub mod Readers
+pub mod Opening

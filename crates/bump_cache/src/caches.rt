@@ -1,12 +1,13 @@
 //! A cache that threads share.
 ghost use Rattle.std.specs.Prelude.{◌≡◌, IfSome};
+ghost use Rattle.bump_steps.specs.declared.views.ClassPart.{ClassPart as TheClassPart};
+ghost use Rattle.cache_shelf.specs.Counts.{IsFlow, SegmentsAddUp};
 ghost use Rattle.cache_shelf.specs.Refusals.{left_of};
 
 use bump_class::RawLane;
 use bump_heads::Name;
-use bump_rules::Place;
-use cache_index::{Entry, Law, Names};
-use cache_shelf::{Put, Removed, Shelf};
+use cache_index::{Entry, Law, Indexed};
+use cache_shelf::{Put, Removed, Shelf, Stats};
 use std::alloc::{AllocError, Global};
 use std::hash::Hash;
 use std::sync::atomic::{AtomicBool, AtomicU64, Ordering};
@@ -22,7 +23,7 @@ pub struct Cache<
     K: Eq + Hash + Drop,
     V: Drop,
     L: Law<K, V>,
-    I: Names<K, V, L> + Drop,
+    I: Indexed<K, V, L> + Drop,
     R: Wait + Drop,
 > {
     pub(crate) shelf: Mutex<Shelf<N, K, V, L, I, R>>,
@@ -58,12 +59,12 @@ where
     K: Eq + Hash + Drop,
     V: Drop,
     L: Law<K, V>,
-    I: Names<K, V, L> + Drop,
+    I: Indexed<K, V, L> + Drop,
     R: Wait + Drop,
 {
     for lane in lanes.iter_mut() {
         for _ in 0..most {
-            if !shelf.apply_next(lane, now) {
+            if shelf.apply_next(lane, now).is_none() {
                 break;
             }
         }
@@ -75,7 +76,7 @@ impl<
     K: Eq + Hash + Drop,
     V: Drop,
     L: Law<K, V>,
-    I: Names<K, V, L> + Drop,
+    I: Indexed<K, V, L> + Drop,
     R: Wait + Drop,
 > Cache<N, K, V, L, I, R> {
     /// Puts a value under a key, as memcached's `set`: it waits until no other thread changes the cache. What the key
@@ -137,10 +138,15 @@ impl<
         }
     }
 
-    /// How many chunks stand in a list (memcached's `number_hot`, `number_warm`, `number_cold`): it waits until no
-    /// other thread changes the cache.
-    pub fn size<W: Wait>(&self, rt: &W, place: Place) -> u32 {
+    /// The statistics, by memcached's names; `CacheReader::hits`, `misses` and `bumps_dropped` tell the rest. It waits
+    /// until no other thread changes the cache. Each count is exact, as far as it goes, and what came into HOT, WARM or
+    /// COLD is there still or went out: both by the history of the cache's class.
+    pub fn stats<W: Wait>(&self, rt: &W) -> Stats
+        ensures { (class : TheClassPart) × IsFlow result.flow class
+            × SegmentsAddUp result.number_hot result.number_warm result.number_cold class }
+    {
         let guard = self.shelf.lock(rt);
-        guard.size(place)
+        guard.promise();
+        guard.stats()
     }
 }

@@ -1,8 +1,7 @@
 //! What a cache is made from.
-ghost use Rattle.std.specs.Prelude.{◌≡◌, ◌≤◌, ◌∷◌, [], IfOk};
+ghost use Rattle.std.specs.Prelude.{◌≡◌, ◌≤◌};
+ghost use Rattle.bump_cache.specs.Configs.{first_cache_fault, share_of};
 
-use bump_rules::{ClassConfig, Config};
-use std::alloc::{AllocError, Global};
 use thiserror::Error;
 
 /// Why a cache can't be made from these numbers.
@@ -25,6 +24,18 @@ pub enum CacheFault {
     Ring,
 }
 
+/// Why there is nothing that a cache can be opened from.
+#[derive(Clone, Copy, Debug, PartialEq, Eq, Error)]
+pub enum CacheRefusal {
+    /// The configuration has this fault.
+    #[error("no cache is made from this: {0}")]
+    Fault(CacheFault),
+
+    /// Memory was refused.
+    #[error("memory was refused")]
+    Memory,
+}
+
 /// What a cache is made from.
 #[derive(Clone, Copy, Debug, PartialEq, Eq)]
 pub struct CacheConfig {
@@ -44,19 +55,19 @@ pub struct CacheConfig {
     pub ring: u32,
 }
 
-// At most so many references to an item there are at once.
-const MOST_HOLDS: u32 = 1023;
-
-// So many percent of the items.
+// So many percent of the items, and all of them where it is more than 100.
 fn share(items: u32, percent: u32) -> u32
-    ensures { result ≤ items }
+    ensures share { result ≡ share_of items percent }
+    ensures most { result ≤ items }
 {
     (u64::from(items) * u64::from(percent.min(100)) / 100) as u32
 }
 
 impl CacheConfig {
-    /// The first fault of these numbers, if they have one.
-    pub fn fault(&self) -> Option<CacheFault> {
+    /// The first fault of these numbers, in the order of `CacheFault`, if they have one.
+    pub fn fault(&self) -> Option<CacheFault>
+        ensures { result ≡ first_cache_fault self.now }
+    {
         if self.items < 1 || self.items > 1_000_000 {
             return Some(CacheFault::Items);
         }
@@ -72,30 +83,17 @@ impl CacheConfig {
         None
     }
 
-    /// At most so many items are in HOT.
-    pub fn hot_items(&self) -> u32 {
+    /// At most so many items are in HOT: the share of the items that `hot` says, rounded down.
+    pub fn hot_items(&self) -> u32
+        ensures { result ≡ share_of self.now.items self.now.hot }
+    {
         share(self.items, self.hot)
     }
 
-    /// At most so many items are in WARM.
-    pub fn warm_items(&self) -> u32 {
-        share(self.items, self.warm)
-    }
-
-    /// The configuration of its store: one class, whose lists have no limits of their own, since the cache looks at
-    /// their sizes itself. It is refused where it has a fault, or for want of memory.
-    pub fn store(&self, alloc: Global) -> Result<Config, AllocError>
-        ensures classes { IfOk result (λ c. c.classes ≡ record { chunks = self.now.items; hot = 0; warm = 0 } ∷ []) }
+    /// At most so many items are in WARM: the share of the items that `warm` says, rounded down.
+    pub fn warm_items(&self) -> u32
+        ensures { result ≡ share_of self.now.items self.now.warm }
     {
-        let class = ClassConfig {
-            chunks: self.items,
-            hot: 0,
-            warm: 0,
-        };
-        let classes = vec![in alloc; class]?;
-        match Config::new(self.readers, self.ring, MOST_HOLDS, 1, classes) {
-            Ok(config) => Ok(config),
-            Err(_) => Err(AllocError),
-        }
+        share(self.items, self.warm)
     }
 }

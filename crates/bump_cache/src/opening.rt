@@ -1,18 +1,19 @@
-//! A cache is opened for a job.
-ghost use Rattle.std.specs.Prelude.{◌≡◌, ◌∷◌, [], Some, length, slice_get};
+//! A cache is opened.
+ghost use Rattle.std.specs.Prelude.{◌≡◌, IfOk, Some, length, slice_get};
+ghost use Rattle.std.specs.Arc.{arc_value};
+ghost use Rattle.bump_cache.specs.Opening.{AreNewReaders};
+ghost use Rattle.bump_cache.specs.Readers.{new_readers};
 
+use crate::blanks::CacheBlank;
 use crate::caches::{Cache, Upkeep};
-use crate::config::CacheConfig;
 use crate::readers::CacheReader;
 use bump_class::Book;
-use bump_heads::{Blank, Heads, Name};
-use bump_rules::Config;
+use bump_heads::{Heads, Name};
 use bump_store::{StoreParts, Worker};
-use cache_index::{IndexWriter, Law, Names};
-use cache_shelf::Shelf;
+use cache_index::{IndexWriter, Law, Indexed};
+use cache_shelf::{CountedBook, Shelf};
 use std::alloc::{AllocError, Global};
 use std::hash::Hash;
-use std::marker::Brand;
 use std::sync::{Arc, Mutex, Wait};
 
 /// A cache that was opened.
@@ -22,7 +23,7 @@ pub struct Opened<
     K: Eq + Hash + Drop,
     V: Drop,
     L: Law<K, V>,
-    I: Names<K, V, L> + Drop,
+    I: Indexed<K, V, L> + Drop,
     R: Wait + Drop,
 > {
     /// The cache, which all threads share.
@@ -35,100 +36,41 @@ pub struct Opened<
     pub upkeep: Upkeep<N>,
 }
 
-/// What is done with a cache while it is open.
-pub trait Job<
-    K: Eq + Hash + Drop,
-    V: Drop,
-    L: Law<K, V>,
-    I: Names<K, V, L> + Drop,
-    R: Wait + Copy,
-> {
-    /// What it comes to.
-    type Answer;
-
-    /// Does it. `N` is the name of the cache's store, of which there is one at a time.
-    fn run<N: Name + Send + Sync>(&self, opened: Opened<N, K, V, L, I, R>) -> Self::Answer;
-}
-
-/// Opens a cache for a job, does it, and answers what it came to. It keeps `rt`, since it waits for readers when it
-/// shows what was put. It is refused for want of memory, or where the configuration has a fault, and the job isn't done
-/// then.
-pub fn with_cache<K, V, L, I, R, J>(
+/// Opens a cache over a blank, under the name that the blank's table has. It keeps `rt`, since it waits for readers when
+/// it shows what was put. It is refused only for want of memory, and the blank is gone then.
+pub fn open<N, K, V, L, I, R>(
     alloc: Global,
     rt: &R,
-    config: &CacheConfig,
-    job: &J,
-) -> Result<J::Answer, AllocError>
-where
-    K: Eq + Hash + Drop,
-    V: Drop,
-    L: Law<K, V>,
-    I: Names<K, V, L> + Drop,
-    R: Wait + Copy,
-    J: Job<K, V, L, I, R>,
-{
-    let store = config.store(alloc)?;
-    let blank = Blank::new(alloc, &store)?;
-    run_named::<Brand, K, V, L, I, R, J>(alloc, rt, blank, &store, config, job)
-}
-
-// Opens a cache under the name that the blank's table has, and does the job.
-fn run_named<N, K, V, L, I, R, J>(
-    alloc: Global,
-    rt: &R,
-    blank: Blank,
-    store: &Config,
-    config: &CacheConfig,
-    job: &J,
-) -> Result<J::Answer, AllocError>
-where
-    N: Name + Send + Sync,
-    K: Eq + Hash + Drop,
-    V: Drop,
-    L: Law<K, V>,
-    I: Names<K, V, L> + Drop,
-    R: Wait + Copy,
-    J: Job<K, V, L, I, R>,
-    requires name { blank.table ≡ N.table }
-    requires config { blank.config ≡ store.now }
-    requires classes { store.now.classes ≡ record { chunks = config.now.items; hot = 0; warm = 0 } ∷ [] }
-{
-    let opened = open_named::<N, K, V, L, I, R>(alloc, rt, blank, store, config)?;
-    Ok(job.run(opened))
-}
-
-/// Opens a cache over a blank, under the name that its table has, for callers that have a name of their own: `with_cache`
-/// does it for a job. `store` is what `CacheConfig::store` answers. It is refused only for want of memory, and the blank
-/// is gone then.
-pub fn open_named<N, K, V, L, I, R>(
-    alloc: Global,
-    rt: &R,
-    blank: Blank,
-    store: &Config,
-    config: &CacheConfig,
+    blank: CacheBlank,
 ) -> Result<Opened<N, K, V, L, I, R>, AllocError>
 where
     N: Name,
     K: Eq + Hash + Drop,
     V: Drop,
     L: Law<K, V>,
-    I: Names<K, V, L> + Drop,
+    I: Indexed<K, V, L> + Drop,
     R: Wait + Copy,
     requires name { blank.table ≡ N.table }
-    requires config { blank.config ≡ store.now }
-    requires classes { store.now.classes ≡ record { chunks = config.now.items; hot = 0; warm = 0 } ∷ [] }
+    ensures count { IfOk result (λ opened. length opened.readers.items ≡ blank.config.readers) }
+    ensures readers { IfOk result (λ opened. AreNewReaders blank.config opened.readers.items) }
 {
+    let CacheBlank {
+        words,
+        store,
+        config,
+    } = blank;
     let StoreParts {
         heads,
         books,
         starts: _,
         workers,
         lanes,
-    } = StoreParts::<N>::open(alloc, blank, store)?;
-    let index = IndexWriter::new(alloc, *rt, config.items, 64)?;
+    } = StoreParts::<N>::open(alloc, words, &store)?;
+    let index = IndexWriter::new(alloc, *rt, config.items, config.readers as usize)?;
     let readers = make_readers(alloc, &heads, workers, &index)?;
     let book = only_book(books);
-    let shelf = Shelf { book, index };
+    let class = CountedBook::new(book);
+    let shelf = Shelf { class, index };
     Ok(Opened {
         cache: Cache {
             shelf: Mutex::new(shelf),
@@ -164,8 +106,9 @@ where
     K: Eq + Hash + Drop,
     V: Drop,
     L: Law<K, V>,
-    I: Names<K, V, L> + Drop,
+    I: Indexed<K, V, L> + Drop,
     R: Wait + Drop,
+    ensures { IfOk result (λ readers. readers.items ≡ new_readers (arc_value heads.now) workers.items) }
 {
     let mut readers = Vec::with_capacity(alloc, workers.len())?;
     for worker in workers {

@@ -1,4 +1,4 @@
--- Names and chunks agree one to one.
+-- Keys and chunks agree one to one.
 use Rattle.std.specs.Prelude.{◌≡◌, ℕ, Bool, true, Option, Some, slice_get}
 use Rattle.cache_index.specs.Tables.{Placed, Table}
 

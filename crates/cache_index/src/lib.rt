@@ -4,17 +4,17 @@
 
 mod absorbing;
 mod entries;
+mod indexed;
 mod indexes;
 mod items;
-mod names;
 mod readers;
 mod slots;
 mod writers;
 
 pub use entries::{AnyPair, Entry, Law};
+pub use indexed::Indexed;
 pub use indexes::{Home, Index};
 pub use items::Item;
-pub use names::Names;
 pub use readers::IndexReader;
 pub use slots::{Change, Slot};
 pub use writers::IndexWriter;

@@ -5,7 +5,7 @@ ghost use Rattle.std.specs.Arc.{arc_value};
 use crate::entries::Law;
 use crate::indexes::Home;
 use crate::items::Item;
-use crate::names::Names;
+use crate::indexed::Indexed;
 use left_right::ReadHandle;
 use std::alloc::Global;
 use std::hash::Hash;
@@ -14,12 +14,12 @@ use std::sync::Arc;
 
 /// A reader of an index, which one thread has at a time.
 #[derive(Drop)]
-pub struct IndexReader<K: Eq + Hash + Drop, V: Drop, L: Law<K, V>, I: Names<K, V, L> + Drop> {
+pub struct IndexReader<K: Eq + Hash + Drop, V: Drop, L: Law<K, V>, I: Indexed<K, V, L> + Drop> {
     handle: ReadHandle<I>,
     marker: PhantomData<Item<K, V, L>>,
 }
 
-impl<K: Eq + Hash + Drop, V: Drop, L: Law<K, V>, I: Names<K, V, L> + Drop> IndexReader<K, V, L, I> {
+impl<K: Eq + Hash + Drop, V: Drop, L: Law<K, V>, I: Indexed<K, V, L> + Drop> IndexReader<K, V, L, I> {
     /// A reader by this handle.
     pub fn new(handle: ReadHandle<I>) -> IndexReader<K, V, L, I> {
         IndexReader {

@@ -6,7 +6,7 @@ ghost use Rattle.cache_index.specs.Writing.{Written as TheWritten, owed_changes,
 
 use crate::entries::Law;
 use crate::indexes::Home;
-use crate::names::Names;
+use crate::indexed::Indexed;
 use crate::readers::IndexReader;
 use crate::slots::{Change, Slot};
 use left_right::WriteHandle;
@@ -21,7 +21,7 @@ pub struct IndexWriter<
     K: Eq + Hash + Drop,
     V: Drop,
     L: Law<K, V>,
-    I: Names<K, V, L> + Drop,
+    I: Indexed<K, V, L> + Drop,
     R: Wait + Drop,
 > {
     writer: WriteHandle<I, Change<K, V, L>, R>,
@@ -30,7 +30,7 @@ pub struct IndexWriter<
     owed: Option<u32>,
 }
 
-impl<K: Eq + Hash + Drop, V: Drop, L: Law<K, V>, I: Names<K, V, L> + Drop, R: Wait + Drop> Model
+impl<K: Eq + Hash + Drop, V: Drop, L: Law<K, V>, I: Indexed<K, V, L> + Drop, R: Wait + Drop> Model
     for IndexWriter<K, V, L, I, R> {
     ghost Value = { TheWritten K V };
 
@@ -44,7 +44,7 @@ impl<
     K: Eq + Hash + Drop,
     V: Drop,
     L: Law<K, V>,
-    I: Names<K, V, L> + Drop,
+    I: Indexed<K, V, L> + Drop,
     R: Wait + Drop,
 > IndexWriter<K, V, L, I, R> {
     /// The writer of an index of so many chunks, each of which has nothing, with room for so many readers. It keeps

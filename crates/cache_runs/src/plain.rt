@@ -1,10 +1,9 @@
 //! Random calls beside a plain map.
-ghost use Rattle.std.specs.Prelude.{◌≡◌, ◌∷◌, []};
+ghost use Rattle.std.specs.Prelude.{◌≡◌};
 
-use bump_cache::{Cache, CacheConfig, CacheReader, Opened, open_named};
-use bump_heads::{Blank, Name};
-use bump_rules::Config;
-use cache_index::{AnyPair, Index, Names};
+use bump_cache::{Cache, CacheBlank, CacheConfig, CacheReader, Opened, open};
+use bump_heads::Name;
+use cache_index::{AnyPair, Index, Indexed};
 use std::alloc::{AllocError, Global};
 use std::collections::HashMap;
 use std::marker::Brand;
@@ -30,7 +29,7 @@ fn next(number: &mut u64) -> u64 {
 
 impl<R: Wait + Copy> Calls<R> {
     // Puts a value under a key, and tells whether the answer is the plain map's.
-    fn put<N: Name, I: Names<u64, u64, AnyPair> + Drop>(
+    fn put<N: Name, I: Indexed<u64, u64, AnyPair> + Drop>(
         &self,
         cache: &Cache<N, u64, u64, AnyPair, I, R>,
         map: &mut HashMap<u64, u64>,
@@ -51,7 +50,7 @@ impl<R: Wait + Copy> Calls<R> {
     }
 
     // Whether a get answers what the plain map has.
-    fn get<N: Name, I: Names<u64, u64, AnyPair> + Drop>(
+    fn get<N: Name, I: Indexed<u64, u64, AnyPair> + Drop>(
         &self,
         reader: &mut CacheReader<N, u64, u64, AnyPair, I>,
         map: &HashMap<u64, u64>,
@@ -65,7 +64,7 @@ impl<R: Wait + Copy> Calls<R> {
 
 impl<R: Wait + Copy> Calls<R> {
     // Makes the calls, and tells how many came to something else.
-    fn run<N: Name, I: Names<u64, u64, AnyPair> + Drop>(
+    fn run<N: Name, I: Indexed<u64, u64, AnyPair> + Drop>(
         &self,
         opened: Opened<N, u64, u64, AnyPair, I, R>,
     ) -> Result<u64, AllocError> {
@@ -102,20 +101,13 @@ impl<R: Wait + Copy> Calls<R> {
     }
 
     // Opens a cache under the name that the blank's table has, and makes the calls.
-    fn open<N: Name, I: Names<u64, u64, AnyPair> + Drop>(
+    fn open<N: Name, I: Indexed<u64, u64, AnyPair> + Drop>(
         &self,
-        blank: Blank,
-        store: &Config,
-        config: &CacheConfig,
+        blank: CacheBlank,
     ) -> Result<u64, AllocError>
         requires name { blank.table ≡ N.table }
-        requires config { blank.config ≡ store.now }
-        requires classes { store.now.classes ≡ record { chunks = config.now.items; hot = 0; warm = 0 } ∷ [] }
     {
-        let opened = open_named::<N, u64, u64, AnyPair, I, R>(
-            self.alloc, &self.rt, blank, store, config,
-        )?;
-        self.run(opened)
+        self.run(open::<N, u64, u64, AnyPair, I, R>(self.alloc, &self.rt, blank)?)
     }
 }
 
@@ -126,7 +118,7 @@ fn wrong_calls<R: Wait + Copy>(
     items: u32,
     keys: u64,
     calls: u64,
-) -> Result<u64, AllocError> {
+) -> Result<u64, Fail> {
     let config = CacheConfig {
         items,
         hot: 20,
@@ -140,9 +132,8 @@ fn wrong_calls<R: Wait + Copy>(
         keys,
         calls,
     };
-    let store = config.store(alloc)?;
-    let blank = Blank::new(alloc, &store)?;
-    job.open::<Brand, Index<u64, u64, AnyPair>>(blank, &store, &config)
+    let blank = CacheBlank::new(alloc, &config)?;
+    Ok(job.open::<Brand, Index<u64, u64, AnyPair>>(blank)?)
 }
 
 #[test]

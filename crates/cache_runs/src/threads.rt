@@ -1,10 +1,9 @@
 //! Readers on threads, while a writer ends keys and puts them again.
-ghost use Rattle.std.specs.Prelude.{◌≡◌, ◌∷◌, []};
+ghost use Rattle.std.specs.Prelude.{◌≡◌};
 
-use bump_cache::{Cache, CacheConfig, CacheReader, Opened, Upkeep, open_named};
-use bump_heads::{Blank, Name};
-use bump_rules::Config;
-use cache_index::{AnyPair, Index, Names};
+use bump_cache::{Cache, CacheBlank, CacheConfig, CacheReader, Opened, Upkeep, open};
+use bump_heads::Name;
+use cache_index::{AnyPair, Index, Indexed};
 use std::alloc::{AllocError, Global};
 use std::marker::Brand;
 use std::sync::Wait;
@@ -25,7 +24,7 @@ struct Beside<R> {
 }
 
 // How many of a reader's gets answered a value that was put under another key.
-fn read<N: Name, I: Names<u64, u64, AnyPair> + Drop>(
+fn read<N: Name, I: Indexed<u64, u64, AnyPair> + Drop>(
     mut reader: CacheReader<N, u64, u64, AnyPair, I>,
 ) -> u64 {
     let mut wrong = 0u64;
@@ -41,7 +40,7 @@ fn read<N: Name, I: Names<u64, u64, AnyPair> + Drop>(
 }
 
 // Puts and ends keys, and tends the cache, until the readers are done. It answers whether all was shown.
-fn write<N: Name, I: Names<u64, u64, AnyPair> + Drop, R: Wait + Copy>(
+fn write<N: Name, I: Indexed<u64, u64, AnyPair> + Drop, R: Wait + Copy>(
     rt: &R,
     alloc: Global,
     cache: &Cache<N, u64, u64, AnyPair, I, R>,
@@ -69,7 +68,7 @@ fn write<N: Name, I: Names<u64, u64, AnyPair> + Drop, R: Wait + Copy>(
 // Each reader in a thread of its own, and the writer in one more, until all readers are done.
 fn work<
     N: Name + Send + Sync,
-    I: Names<u64, u64, AnyPair> + Drop + Send + Sync,
+    I: Indexed<u64, u64, AnyPair> + Drop + Send + Sync,
     R: Threads + Wait + Copy + Send + Sync,
 >(
     rt: &R,
@@ -92,21 +91,17 @@ fn work<
 
 impl<R: Threads + Wait + Copy + Send + Sync> Beside<R> {
     // All of it under the name that the blank's table has: how many gets were wrong, and whether all was shown.
-    fn run<N: Name + Send + Sync, I: Names<u64, u64, AnyPair> + Drop + Send + Sync>(
+    fn run<N: Name + Send + Sync, I: Indexed<u64, u64, AnyPair> + Drop + Send + Sync>(
         &self,
-        blank: Blank,
-        store: &Config,
-        config: &CacheConfig,
+        blank: CacheBlank,
     ) -> Result<(u64, bool), AllocError>
         requires name { blank.table ≡ N.table }
-        requires config { blank.config ≡ store.now }
-        requires classes { store.now.classes ≡ record { chunks = config.now.items; hot = 0; warm = 0 } ∷ [] }
     {
         let Opened {
             cache,
             readers,
             upkeep,
-        } = open_named::<N, u64, u64, AnyPair, I, R>(self.alloc, &self.rt, blank, store, config)?;
+        } = open::<N, u64, u64, AnyPair, I, R>(self.alloc, &self.rt, blank)?;
         let done = AtomicBool::new(false);
         let (wrong, shown) = work(&self.rt, self.alloc, &cache, readers, upkeep, &done);
         let mut all = 0u64;
@@ -128,9 +123,8 @@ fn no_reader_gets_another_keys_value(rt: HostRuntime) -> Result<(), Fail> {
     };
     let alloc = rt.alloc();
     let job = Beside { rt: &rt, alloc };
-    let store = config.store(alloc)?;
-    let blank = Blank::new(alloc, &store)?;
-    let (wrong, shown) = job.run::<Brand, Index<u64, u64, AnyPair>>(blank, &store, &config)?;
+    let blank = CacheBlank::new(alloc, &config)?;
+    let (wrong, shown) = job.run::<Brand, Index<u64, u64, AnyPair>>(blank)?;
     assert_eq!(rt; wrong, 0);
     assert!(rt; shown);
     Ok(())

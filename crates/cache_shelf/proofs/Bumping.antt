@@ -29,7 +29,7 @@ use Rattle.cache_shelf.specs.Items.{KeepsItems}
 use Rattle.cache_shelf.proofs.Standings.{linked_same, freed_nowhere, segment_linked, stands_elsewhere, stands_linked}
 
 -- a head that is linked in COLD shows that its chunk stands there
-shows_cold : (head : Head) (place : Place) → Shows head place → head.linked ≡ true → is_cold head.segment ≡ true → place ≡ Cold
+pub shows_cold : (head : Head) (place : Place) → Shows head place → head.linked ≡ true → is_cold head.segment ≡ true → place ≡ Cold
 shows_cold head Hot shows linked cold = absurd (cc (sym cold ∙ ap is_cold shows.1))
 shows_cold head Warm shows linked cold = absurd (cc (sym cold ∙ ap is_cold shows.1))
 shows_cold head Cold shows linked cold = refl
@@ -39,7 +39,7 @@ shows_cold head Unused shows linked cold = absurd (cc (sym linked ∙ shows.0))
 shows_cold head Retired shows linked cold = absurd (cc (sym linked ∙ shows.0))
 
 -- one that isn't linked shows that its chunk stands in no segment
-shows_elsewhere : (head : Head) (place : Place) → Shows head place → head.linked ≡ false → is_segment_place place ≡ false
+pub shows_elsewhere : (head : Head) (place : Place) → Shows head place → head.linked ≡ false → is_segment_place place ≡ false
 shows_elsewhere head Hot shows apart = absurd (cc (sym apart ∙ shows.0))
 shows_elsewhere head Warm shows apart = absurd (cc (sym apart ∙ shows.0))
 shows_elsewhere head Cold shows apart = absurd (cc (sym apart ∙ shows.0))
@@ -49,7 +49,7 @@ shows_elsewhere head Unused shows apart = refl
 shows_elsewhere head Retired shows apart = refl
 
 -- by the update table a move finds a linked item in COLD, and what is gone isn't linked
-moved_found : (tried cleared : Head) → outcome.Moved ≡ outcome_of tried cleared → (tried.linked ≡ true) × (is_cold tried.segment ≡ true)
+pub moved_found : (tried cleared : Head) → outcome.Moved ≡ outcome_of tried cleared → (tried.linked ≡ true) × (is_cold tried.segment ≡ true)
 moved_found tried cleared is = by tried.linked (is_cold tried.segment) cleared.active refl refl is
   where
     by : (l k a : Bool) → tried.linked ≡ l → is_cold tried.segment ≡ k
@@ -59,7 +59,7 @@ moved_found tried cleared is = by tried.linked (is_cold tried.segment) cleared.a
     by true false a l k e = absurd (cc e)
     by false k a l c e = absurd (cc e)
 
-gone_found : (tried cleared : Head) → outcome.Gone ≡ outcome_of tried cleared → tried.linked ≡ false
+pub gone_found : (tried cleared : Head) → outcome.Gone ≡ outcome_of tried cleared → tried.linked ≡ false
 gone_found tried cleared is = by tried.linked (is_cold tried.segment && cleared.active) refl is
   where
     by : (l b : Bool) → tried.linked ≡ l

@@ -1,3 +1,6 @@
 pub mod Standings
 pub mod Shelving
 pub mod Bumping
+pub mod Counting
+pub mod Flowing
+pub mod Ways

@@ -166,10 +166,10 @@ unbegun book between left item begins ends = record {
         ∙ (sym begins.free ∙ ap (linked_at book.part) (eqb-true item.chunk c e))
     at c false e = ap (λ b. if b then None else (if b then Some item.generation else linked_at book.part c)) e
 
--- what can't be false is true
-pub not_false : (b : Bool) → b ≢ false → b ≡ true
-not_false true ne = refl
-not_false false ne = absurd (ne refl)
+-- what answers nothing only where a fact doesn't hold answers something where it does
+pub where_linked : {X : Type 0} (P E : Type 0) (it : Option X) → P → IfNone it (P → ⊥) → IfSome it (λ x. E) → E
+where_linked P E None holds none some = absurd (none holds)
+where_linked P E (Some x) holds none some = some
 
 -- an item that began is linked
 pub begun_linked : (book left : BookView) (item : ItemId) → BeginsAt item book left → linked_at left.part item.chunk ≡ Some item.generation

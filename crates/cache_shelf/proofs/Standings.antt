@@ -1,5 +1,5 @@
 -- Where changes of a Book leave its items.
-use Rattle.std.proofs.Common.{◌≡◌, ◌≢◌, ◌⊎◌, ℕ, ◌<◌, Bool, true, false, cond, ◌==◌, ◌&&◌, not, nat_lt, length, option_map, IfSome, IfNone, ◌+◌, List, [], ◌∷◌, ◌++◌, Option, Some, None, if◌then◌else◌, refl, sym, ap, ap₂, ◌∙◌, subst, eqb, eqb-true, eq-eqb, arith, append-nil, append_assoc, Ok, Err}
+use Rattle.std.proofs.Common.{◌≡◌, ◌≢◌, ℕ, ◌<◌, Bool, true, false, cond, ◌==◌, ◌&&◌, not, nat_lt, length, option_map, IfSome, IfNone, ◌+◌, List, [], ◌∷◌, ◌++◌, Option, Some, None, if◌then◌else◌, refl, sym, ap, ap₂, ◌∙◌, subst, eqb, eqb-true, eq-eqb, arith, append-nil, append_assoc, Ok, Err}
 use Rattle.std.proofs.lemmas.Bool.{and_parts}
 use Rattle.bump_links.specs.Lists.{times, last_of, first_of}
 use Rattle.bump_rules.specs.declared.history.Change.{Change}
@@ -13,19 +13,18 @@ use Rattle.bump_rules.specs.declared.commands.Pulled.{Pulled}
 use Rattle.bump_rules.specs.declared.commands.Pulled.TheVariants as pulled
 use Rattle.bump_rules.specs.declared.places.Limits.{Limits}
 use Rattle.bump_rules.specs.declared.places.Place.{Place}
-use Rattle.bump_rules.specs.declared.places.Place.TheVariants.{Hot, Warm, Cold, Dying, Unused}
+use Rattle.bump_rules.specs.declared.places.Place.TheVariants.{Hot, Warm, Cold, Temp, Dying, Unused, Retired}
 use Rattle.bump_rules.specs.declared.places.Segment.{Segment}
 use Rattle.bump_rules.specs.declared.places.Segment.TheVariants as segment
 use Rattle.bump_rules.specs.declared.places.Start.TheVariants as start
 use Rattle.bump_rules.specs.declared.places.Tail.{Tail}
 use Rattle.bump_rules.specs.declared.places.Tail.TheVariants as tail
 use Rattle.bump_rules.specs.History.{subject, target, standing_in, is_place, place_of, freed_change, is_between}
-use Rattle.bump_rules.specs.Lawful.{bit}
+use Rattle.bump_rules.specs.Lawful.{bit, Shows}
 use Rattle.bump_rules.specs.Lists.{Lists, list_at}
 use Rattle.bump_rules.specs.Lives.{life}
 use Rattle.bump_rules.specs.Places.{is_segment_place, segment_places}
 use Rattle.std.specs.List.{list_any}
-use mathlib.Core.Logic.{inl, inr}
 use Rattle.bump_class.specs.declared.ending.UnlinkRefusal.{UnlinkRefusal}
 use Rattle.bump_class.specs.declared.ending.UnlinkRefusal.TheVariants.{NoSuchChunk, NotLinked}
 use Rattle.bump_rules.specs.Sweeps.{unheld, swept_changes, swept_of}
@@ -39,7 +38,7 @@ use Rattle.bump_steps.specs.Applications.{life_in}
 use Rattle.bump_steps.specs.Views.{standing, owns}
 use Rattle.bump_class.specs.Books.{BookView}
 use Rattle.bump_class.specs.Pulls.{PullsAt, PullsItem, MovesItem, book_after_pull_to, limits_of_book}
-use Rattle.bump_class.specs.Changes.{book_after_clear_active, book_after_unlink, book_with_item}
+use Rattle.bump_class.specs.Changes.{book_after_clear_active, book_after_unlink, book_after_see, book_with_item}
 use Rattle.bump_class.specs.Links.{linked_item, item_of, next_life}
 use Rattle.bump_class.specs.Sweeps.{Sweeps}
 use Rattle.bump_steps.specs.Lives.{class_after_sweep, class_after_load}
@@ -245,26 +244,76 @@ begins_at book left item label now stands is after = subst (BeginsAt item book) 
 
 -- an evict that tells this item ended it, which was the last of COLD
 pub evict_told : (book left : BookView) (answer : Pulled) (item : ItemId) → Stands book → (at : Option ℕ)
-    → last_of book.lists.cold ≡ at → PullsAt book tail.Evict at answer left
-    → (answer ≡ pulled.Freed item) ⊎ (answer ≡ pulled.Deferred item)
+    → last_of book.lists.cold ≡ at → PullsAt book tail.Evict at answer left → item_told answer ≡ Some item
     → (last_of book.lists.cold ≡ Some item.chunk) × EndsAt item.chunk book left
-evict_told book left answer item stands None is pulls told = absurd (no told)
-  where
-    no : (answer ≡ pulled.Freed item) ⊎ (answer ≡ pulled.Deferred item) → ⊥
-    no (inl e) = absurd (cc (sym pulls.0 ∙ e))
-    no (inr e) = absurd (cc (sym pulls.0 ∙ e))
+evict_told book left answer item stands None is pulls told = absurd (cc (sym told ∙ ap item_told pulls.0))
 evict_told book left answer item stands (Some chunk) is pulls told =
     (is ∙ ap Some same, subst (λ c. EndsAt c book left) same (evicts_at book left answer chunk stands is pulls))
   where
-    by : (ended : Ended) → answer ≡ evicted_as ended (life_in book.part chunk)
-        → (answer ≡ pulled.Freed item) ⊎ (answer ≡ pulled.Deferred item) → life_in book.part chunk ≡ item
-    by ended.Freed e (inl f) = cc (sym e ∙ f)
-    by ended.Freed e (inr f) = absurd (cc (sym e ∙ f))
-    by ended.Deferred e (inl f) = absurd (cc (sym e ∙ f))
-    by ended.Deferred e (inr f) = cc (sym e ∙ f)
+    by : (e : Ended) → item_told (evicted_as e (life_in book.part chunk)) ≡ Some (life_in book.part chunk)
+    by ended.Freed = refl
+    by ended.Deferred = refl
 
     same : chunk ≡ item.chunk
-    same = ap (λ (l : ItemId). l.chunk) (by pulls.0 pulls.3.pulled told)
+    same =
+        let one : Some (life_in book.part chunk) ≡ Some item =
+        sym (by pulls.0) ∙ (sym (ap item_told pulls.3.pulled) ∙ told) in
+        let it : life_in book.part chunk ≡ item = cc one in
+        ap (λ (l : ItemId). l.chunk) it
+
+-- a class of the same chunks owns the same
+pub owns_same : (book left : BookView) → IsSameClass book left → (c : ℕ) → owns c left.part ≡ owns c book.part
+owns_same book left class c = ap₂ (λ f n. is_between f (f + n) c) class.first class.count
+
+-- what keeps the items may come before the end of one
+pub kept_ends : (book kept left : BookView) (chunk : ℕ) → KeepsItems book kept → EndsAt chunk kept left
+    → EndsAt chunk book left
+kept_ends book kept left chunk keeps ends = record {
+  class = record {
+    first = ends.class.first ∙ keeps.class.first;
+    count = ends.class.count ∙ keeps.class.count;
+  };
+  own = sym (owns_same book kept keeps.class chunk) ∙ ends.own;
+  was = (ends.was.0, sym (keeps.linked chunk) ∙ ends.was.1);
+  linked = λ c. ends.linked c ∙ ap (λ (o : Option ℕ). if chunk == c then None else o) (keeps.linked c);
+}
+
+-- or behind it
+pub ends_kept : (book ended left : BookView) (chunk : ℕ) → EndsAt chunk book ended → KeepsItems ended left
+    → EndsAt chunk book left
+ends_kept book ended left chunk ends keeps = record {
+  class = record {
+    first = keeps.class.first ∙ ends.class.first;
+    count = keeps.class.count ∙ ends.class.count;
+  };
+  own = ends.own;
+  was = ends.was;
+  linked = λ c. keeps.linked c ∙ ends.linked c;
+}
+
+-- a look at a chunk keeps the items
+pub see_keeps : (book seen : BookView) (chunk time : ℕ) (head : Head) → seen ≡ book_after_see chunk head time book
+    → KeepsItems book seen
+see_keeps book seen chunk time head is = subst (KeepsItems book) (sym is) (record {
+  class = record { first = refl; count = refl };
+  linked = λ c. refl;
+})
+
+-- a head of a chunk whose item ended isn't linked
+pub ended_shown : (book ended : BookView) (chunk : ℕ) (head : Head) → EndsAt chunk book ended
+    → Shows head (standing ended.part chunk).0 → head.linked ≡ false
+ended_shown book ended chunk head ends shows =
+    by (standing ended.part chunk).0 (ends.linked chunk
+    ∙ ap (λ b. if b then None else linked_at book.part chunk) (eq-eqb chunk chunk refl)) shows
+  where
+    by : (p : Place) → linked_standing (p, (standing ended.part chunk).1) ≡ None → Shows head p → head.linked ≡ false
+    by Hot none shown = absurd (cc none)
+    by Warm none shown = absurd (cc none)
+    by Cold none shown = absurd (cc none)
+    by Temp none shown = absurd (cc none)
+    by Dying none shown = shown
+    by Unused none shown = shown.0
+    by Retired none shown = shown.0
 
 -- a chunk of the class stands in a segment's list where its place is a segment's
 pub segments_listed : (book : BookView) → Stands book → (c : ℕ) → owns c book.part ≡ true
@@ -399,10 +448,6 @@ pub told_chunk : (class : ClassPart) (at : Option ℕ)
     → option_map (λ (item : ItemId). item.chunk) (option_map (life_in class) at) ≡ at
 told_chunk class None = refl
 told_chunk class (Some chunk) = refl
-
--- a class of the same chunks owns the same
-pub owns_same : (book left : BookView) → IsSameClass book left → (c : ℕ) → owns c left.part ≡ owns c book.part
-owns_same book left class c = ap₂ (λ f n. is_between f (f + n) c) class.first class.count
 
 -- the item that a pull tells is linked behind it
 pub told_linked : (book left : BookView) (at : Option ℕ) (told : Option ItemId) → told ≡ option_map (life_in book.part) at

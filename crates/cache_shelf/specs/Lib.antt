@@ -1,5 +1,11 @@
+pub mod Linked
 pub mod Shelves
 pub mod Items
 pub mod Links
 pub mod Refusals
 pub mod Tries
+pub mod Flows
+pub mod Ours
+pub mod Counts
+pub mod Stats
+pub mod Looking

@@ -1,6 +1,8 @@
 -- What the beginning of a Shelf's item comes to.
 use Rattle.std.specs.Prelude.{◌≡◌, ℕ, Bool, Option, Some, None, List, [], ◌∷◌, ◌++◌, ◌⊎◌, slice_set}
 use Rattle.bump_rules.specs.declared.items.ItemId.{ItemId}
+use Rattle.bump_rules.specs.declared.places.Start.TheVariants as start
+use Rattle.bump_class.specs.Changes.{book_with_item}
 use Rattle.cache_index.specs.Tables.{Placed, Table, at_chunk, without_chunk, without_key, found_in}
 use Rattle.cache_shelf.specs.Shelves.{ShelfView}
 use Rattle.cache_shelf.specs.Items.{BeginsAt}
@@ -10,9 +12,10 @@ abbrev pub entry_of : {K V : Type 0} → ItemId → K × V → Placed K V
 entry_of item entry =
     record { chunk = item.chunk; generation = item.generation; key = entry.0; value = entry.1 }
 
--- An item is linked, at a chunk at which none was, and the entry is what it stands for.
-pub record Begins {K V : Type 0} (same : K → K → Bool) (entry : K × V) (before after : ShelfView K V) : Type 0 where
+-- An item is linked in HOT with this time, at a chunk at which none was, and the entry is what it stands for.
+pub record Begins {K V : Type 0} (entry : K × V) (now : ℕ) (before after : ShelfView K V) : Type 0 where
   pub item : ItemId
+  pub linked : after.book ≡ book_with_item start.Hot item 0 now before.book
   pub begins : BeginsAt item before.book after.book
   pub free : at_chunk item.chunk before.index.table ≡ None
   pub table : after.index.table

@@ -1,25 +1,23 @@
 -- What contracts see of a Shelf, and what every Shelf keeps.
-use Rattle.std.specs.Prelude.{◌≡◌, ℕ, ◌<◌, Bool, true, length, Option, Some, None, slice_get, option_map, if◌then◌else◌}
-use Rattle.bump_steps.specs.declared.views.ClassPart.{ClassPart}
-use Rattle.bump_steps.specs.Views.{standing}
-use Rattle.bump_rules.specs.History.{Standing}
-use Rattle.bump_rules.specs.Places.{is_segment_place}
+use Rattle.std.specs.Prelude.{◌≡◌, ℕ, ◌<◌, Bool, true, length, Option, Some, None, slice_get, option_map}
 use Rattle.bump_class.specs.Books.{BookView}
 use Rattle.cache_index.specs.Tables.{Placed, Table, at_chunk}
 use Rattle.cache_index.specs.Writing.{Written}
+pub use Rattle.cache_shelf.specs.Linked.{linked_standing, linked_at}
+use Rattle.cache_shelf.specs.Counts.{CountedView}
+use Rattle.cache_shelf.specs.declared.flow.Flow.{Flow}
+use Rattle.cache_shelf.specs.declared.evictions.Evictions.{Evictions}
 
--- the Book, and the index of its items
+-- the Book, the index of its items, how they went from list to list, and what was evicted
 pub record ShelfView (K V : Type 0) : Type 0 where
   pub book : BookView
   pub index : Written K V
+  pub flow : Flow
+  pub evictions : Evictions
 
--- the generation of a life that stands so, if it is linked
-abbrev pub linked_standing : Standing → Option ℕ
-linked_standing at = if is_segment_place at.0 then Some at.1 else None
-
--- the generation of the item that is linked at the chunk, if there is one
-abbrev pub linked_at : ClassPart → ℕ → Option ℕ
-linked_at class chunk = linked_standing (standing class chunk)
+-- its Book, and what that counts
+abbrev pub counted : {K V : Type 0} → ShelfView K V → CountedView
+counted shelf = record { book = shelf.book; flow = shelf.flow; evictions = shelf.evictions }
 
 module _ {K V : Type 0} where
   -- the generation of what a chunk has in the table, if it has something

@@ -1,17 +1,21 @@
 //! Items of a Shelf end and begin.
-ghost use Rattle.std.specs.Prelude.{◌≡◌, false, IfSome, IfNone, IfOk, IfErr, IsSome, OnErr, None, true};
+ghost use Rattle.std.specs.Prelude.{◌≡◌, ℕ, false, IfSome, IfNone, IfOk, IfErr, IsSome, OnErr, None, true};
 ghost use Rattle.bump_links.specs.Lists.{first_of};
 ghost use Rattle.cache_index.specs.Tables.{at_chunk, without_chunk, without_key, found_in, with_placed};
+ghost use Rattle.bump_class.specs.Sweeps.{Sweeps};
+ghost use Rattle.bump_rules.specs.declared.items.Head.{Head as TheHead};
+ghost use Rattle.cache_shelf.specs.Counts.{CountsEviction};
+ghost use Rattle.cache_shelf.specs.Looking.{Balances};
 ghost use Rattle.cache_shelf.specs.Items.{victim, EndsAt, KeepsItems};
+ghost use Rattle.cache_shelf.specs.Shelves.{counted};
 ghost use Rattle.cache_shelf.specs.Links.{Begins, entry_of};
 ghost use Rattle.cache_shelf.specs.Refusals.{left_of, is_no_room};
 
-use crate::items::{begin, end, end_next, look_at, sweep};
 use crate::refusals::NotPlaced;
 use crate::shelves::Shelf;
 use bump_heads::Name;
-use bump_rules::{ItemId, Place, Tail};
-use cache_index::{Entry, Home, Item, Law, Names, Slot};
+use bump_rules::{ItemId, Tail};
+use cache_index::{Entry, Home, Item, Law, Indexed, Slot};
 use std::alloc::Global;
 use std::hash::Hash;
 use std::sync::{Arc, Wait};
@@ -36,12 +40,13 @@ impl<
     K: Eq + Hash + Drop,
     V: Drop,
     L: Law<K, V>,
-    I: Names<K, V, L> + Drop,
+    I: Indexed<K, V, L> + Drop,
     R: Wait + Drop,
 > Shelf<N, K, V, L, I, R> {
     /// Ends the item whose turn it is: the last of COLD; where COLD is empty, of WARM; and where that is too, of HOT.
     /// It answers what that item stood for, or None exactly where no item is linked in these, and changes nothing
-    /// then. Readers see it once it is shown.
+    /// then. Readers see it once it is shown. It counts one eviction, by the marks that a look just behind the item's
+    /// end found.
     pub fn evict(&mut self) -> Option<Slot<K, V, L>>
         requires ready { self.old.index.owes ≡ false }
         ensures taken { IfSome (victim self.old.book.lists) (λ chunk. result ≡ at_chunk chunk self.old.index.table) }
@@ -49,11 +54,13 @@ impl<
         ensures table { IfSome (victim self.old.book.lists) (λ chunk. self.new.index.table
             ≡ without_chunk chunk self.old.index.table) }
         ensures ends { IfSome (victim self.old.book.lists) (λ chunk. EndsAt chunk self.old.book self.new.book) }
+        ensures counted { IfSome (victim self.old.book.lists) (λ chunk. CountsEviction chunk (counted self.old)
+            (counted self.new)) }
         ensures none { IfNone (victim self.old.book.lists) (result ≡ None) }
         ensures unchanged { IfNone (victim self.old.book.lists) (self.new ≡ self.old) }
         ensures shown { self.new.index.shown ≡ self.old.index.shown }
     {
-        match end_next(&mut self.book) {
+        match self.class.end_next() {
             Some(chunk) => self.index.clear(chunk),
             None => None,
         }
@@ -68,11 +75,12 @@ impl<
         ensures table { self.new.index.table ≡ without_key K.eq key.now self.old.index.table }
         ensures unchanged { IfNone result (self.new ≡ self.old) }
         ensures shown { self.new.index.shown ≡ self.old.index.shown }
+        ensures evictions { self.new.evictions ≡ self.old.evictions }
     {
         match self.index.home(key) {
             Some(Home { chunk, slot }) => {
                 let generation = slot.item.generation();
-                end(&mut self.book, ItemId { chunk, generation });
+                self.class.end(ItemId { chunk, generation });
                 self.index.clear(chunk)
             }
             None => None,
@@ -90,27 +98,28 @@ impl<
     ) -> Result<(), NotPlaced<K, V, L>>
         requires ready { self.old.index.owes ≡ false }
         requires anew { found_in K.eq entry.0 self.old.index.table ≡ None }
-        ensures placed { IfOk result (λ done. Begins K.eq entry self.old self.new) }
+        ensures placed { IfOk result (λ done. Begins entry now self.old self.new) }
         ensures back { IfErr result (λ it. left_of it ≡ entry) }
         ensures no_room { IfErr result (λ it. is_no_room it ≡ true → (first_of self.old.book.lists.unused ≡ None)
             × (self.new ≡ self.old)) }
         ensures table { OnErr result (self.new.index.table ≡ self.old.index.table) }
         ensures shown { self.new.index.shown ≡ self.old.index.shown }
         ensures owes { self.new.index.owes ≡ false }
+        ensures evictions { self.new.evictions ≡ self.old.evictions }
     {
-        let Some(id) = begin(&mut self.book, now) else {
+        let Some(id) = self.class.begin(now) else {
             return Err(NotPlaced::NoRoom(entry));
         };
         match slot_of(alloc, id, entry) {
             Ok(slot) => match self.index.set(id.chunk, slot) {
                 Ok(()) => Ok(()),
                 Err(slot) => {
-                    end(&mut self.book, id);
+                    self.class.end(id);
                     Err(NotPlaced::NoMemoryInIndex(slot.item))
                 }
             },
             Err(entry) => {
-                end(&mut self.book, id);
+                self.class.end(id);
                 Err(NotPlaced::NoMemory(entry))
             }
         }
@@ -119,23 +128,24 @@ impl<
     /// Keeps HOT and WARM at so many items: where one has more, its last item is looked at, and moved by the tail
     /// table. What the items stand for stays.
     pub fn balance(&mut self, hot: u32, warm: u32)
+        ensures looked { Balances hot warm self.old.book self.new.book }
         ensures items { KeepsItems self.old.book self.new.book }
         ensures index { self.new.index ≡ self.old.index }
+        ensures evictions { self.new.evictions ≡ self.old.evictions }
     {
-        if self.book.size(Place::Hot) > hot {
-            look_at(&mut self.book, Tail::Hot);
-        }
-        if self.book.size(Place::Warm) > warm {
-            look_at(&mut self.book, Tail::Warm);
-        }
+        self.class.look_over(Tail::Hot, hot);
+        self.class.look_over(Tail::Warm, warm);
     }
 
-    /// Frees the chunks of ended items that nobody holds any more, and tells how many.
+    /// Looks at each chunk of an ended item once, frees those that nobody holds any more, and tells how many, as
+    /// `Book::sweep` does.
     pub fn sweep(&mut self) -> u32
+        ensures swept { (heads : ℕ → TheHead) × Sweeps self.old.book result self.new.book heads }
         ensures items { KeepsItems self.old.book self.new.book }
         ensures index { self.new.index ≡ self.old.index }
+        ensures counts { (self.new.flow ≡ self.old.flow) × (self.new.evictions ≡ self.old.evictions) }
     {
-        sweep(&mut self.book)
+        self.class.sweep()
     }
 
     /// Notes what is owed, and tells whether nothing is owed any more: it doesn't only for want of memory.

@@ -1,16 +1,31 @@
 //! What is done with a Book's items.
-ghost use Rattle.std.specs.Prelude.{◌≡◌, ◌≢◌, true, false, IfSome, IfNone, option_map, None, Some};
+ghost use Rattle.std.specs.Prelude.{◌≡◌, ◌≢◌, ℕ, ◌+◌, true, length, IfSome, IfNone, option_map, None, Some};
 ghost use Rattle.bump_links.specs.Lists.{last_of, first_of};
+ghost use Rattle.bump_rules.specs.Lists.{list_at};
+ghost use Rattle.bump_rules.specs.Places.{place_of};
+ghost use Rattle.bump_rules.specs.declared.places.Place.TheVariants.{Hot, Dying, Unused};
 ghost use Rattle.bump_rules.specs.declared.places.Tail.TheVariants as tail;
 ghost use Rattle.bump_steps.specs.Views.{owns};
 ghost use Rattle.cache_shelf.specs.Shelves.{linked_at};
-ghost use Rattle.cache_shelf.specs.Items.{item_told, victim, KeepsItems, EndsAt, BeginsAt};
+ghost use Rattle.cache_shelf.specs.Items.{item_told, may_tell, chunk_told, victim, KeepsItems, EndsAt, BeginsAt};
+ghost use Rattle.cache_shelf.specs.Items.{ShowsMarks, HasNoBumpFor};
+ghost use Rattle.bump_class.specs.Applications.{AppliesFront};
+ghost use Rattle.bump_class.specs.Books.{BookView as TheBookView};
+ghost use Rattle.bump_class.specs.Changes.{book_with_item};
+ghost use Rattle.bump_class.specs.Lanes.{entries, LaneView as TheLaneView};
+ghost use Rattle.bump_class.specs.Pulls.{Pulls};
+ghost use Rattle.bump_class.specs.Sweeps.{Sweeps};
+ghost use Rattle.bump_rules.specs.declared.items.Head.{Head as TheHead};
+ghost use Rattle.bump_rules.specs.declared.places.Start.TheVariants as start;
+ghost use Rattle.cache_shelf.specs.Ours.{are_ours};
+ghost use Rattle.cache_shelf.specs.Flows.{Flows, FlowsTwice, way_of_pull, way_to, way_of_applied};
 ghost use Rattle.bump_rules.specs.declared.items.ItemId.{ItemId as TheItemId};
 ghost use Rattle.bump_rules.specs.Tables.{last_pulled};
 
-use bump_class::Book;
+use crate::victims::Victim;
+use bump_class::{Book, RawLane};
 use bump_heads::Name;
-use bump_rules::{ItemId, Pulled, Tail};
+use bump_rules::{Applied, ItemId, Pulled, Segment, Tail};
 
 // The item that a pull tells.
 fn item_told(pulled: Pulled) -> Option<ItemId>
@@ -27,82 +42,121 @@ fn item_told(pulled: Pulled) -> Option<ItemId>
     }
 }
 
-// The last item of HOT, WARM or COLD is looked at, and moved by the tail table. It answers None where there is none.
-pub(crate) fn look_at<N: Name>(book: &mut Book<N>, from: Tail) -> Option<ItemId>
+// The last item of HOT, WARM or COLD is looked at, and moved by the tail table.
+pub(crate) fn look_at<N: Name>(book: &mut Book<N>, from: Tail) -> Pulled
     requires { from ≢ tail.Evict }
     ensures kept { KeepsItems book.old book.new }
-    ensures item { option_map (λ (id : TheItemId). id.chunk) result ≡ last_pulled from book.old.lists }
-    ensures linked { IfSome result (λ id. linked_at book.new.part id.chunk ≡ Some id.generation) }
-    ensures own { IfSome result (λ id. owns id.chunk book.new.part ≡ true) }
-    ensures none { IfNone result (book.new ≡ book.old) }
+    ensures pulls { Pulls book.old from result book.new }
+    ensures told { may_tell from result ≡ true }
+    ensures item { option_map (λ (id : TheItemId). id.chunk) (item_told result) ≡ last_pulled from book.old.lists }
+    ensures linked { IfSome (item_told result) (λ id. linked_at book.new.part id.chunk ≡ Some id.generation) }
+    ensures own { IfSome (item_told result) (λ id. owns id.chunk book.new.part ≡ true) }
+    ensures none { IfNone (item_told result) (book.new ≡ book.old) }
+    ensures flows { Flows (way_of_pull from result) book.old book.new }
 {
     book.promise();
-    item_told(book.pull(from))
+    book.pull(from)
 }
 
-// The last item of HOT or WARM ends. It answers its chunk, or None where there is no such item, and changes nothing
-// then.
-fn end_last_of<N: Name>(book: &mut Book<N>, from: Tail) -> Option<u32>
+// The last item of HOT or WARM ends. It answers None where there is no such item, and changes nothing then.
+fn end_last_of<N: Name>(book: &mut Book<N>, from: Tail) -> Option<Victim>
     requires { from ≢ tail.Evict }
-    ensures last { last_pulled from book.old.lists ≡ result }
-    ensures ends { IfSome result (λ chunk. EndsAt chunk book.old book.new) }
+    ensures last { last_pulled from book.old.lists ≡ chunk_told result }
+    ensures ends { IfSome result (λ it. EndsAt it.chunk book.old book.new) }
     ensures none { IfNone result (book.new ≡ book.old) }
+    ensures list { IfSome result (λ it. last_of (list_at book.old.lists (place_of it.last_of)) ≡ Some it.chunk) }
+    ensures flows { IfSome result (λ it. FlowsTwice (way_to it.last_of it.moved) (Some (place_of it.from, Dying))
+        book.old book.new) }
+    ensures ways { IfSome result (λ it. are_ours (way_to it.last_of it.moved)) }
+    ensures marks { IfSome result (λ it. ShowsMarks it.chunk it.fetched it.active book.new) }
 {
-    match look_at(book, from) {
-        Some(id) => {
-            end(book, id);
-            Some(id.chunk)
-        }
-        None => None,
-    }
+    let pulled = look_at(book, from);
+    let Some(id) = item_told(pulled) else {
+        return None;
+    };
+    let Some(segment) = end(book, id) else {
+        unreachable!()
+    };
+    let (head, _) = book.see(id.chunk);
+    Some(Victim {
+        chunk: id.chunk,
+        last_of: from.segment(),
+        moved: pulled.to(),
+        from: segment,
+        fetched: head.fetched,
+        active: head.active,
+    })
 }
 
 // The item whose turn it is ends: the last of COLD; where COLD is empty, of WARM; and where that is too, of HOT.
-pub(crate) fn end_next<N: Name>(book: &mut Book<N>) -> Option<u32>
-    ensures next { victim book.old.lists ≡ result }
-    ensures ends { IfSome result (λ chunk. EndsAt chunk book.old book.new) }
+pub(crate) fn end_next<N: Name>(book: &mut Book<N>) -> Option<Victim>
+    ensures next { victim book.old.lists ≡ chunk_told result }
+    ensures ends { IfSome result (λ it. EndsAt it.chunk book.old book.new) }
     ensures none { IfNone result (book.new ≡ book.old) }
+    ensures list { IfSome result (λ it. last_of (list_at book.old.lists (place_of it.last_of)) ≡ Some it.chunk) }
+    ensures flows { IfSome result (λ it. FlowsTwice (way_to it.last_of it.moved) (Some (place_of it.from, Dying))
+        book.old book.new) }
+    ensures ways { IfSome result (λ it. are_ours (way_to it.last_of it.moved)) }
+    ensures marks { IfSome result (λ it. ShowsMarks it.chunk it.fetched it.active book.new) }
 {
-    if let Some(chunk) = end_last(book) {
-        return Some(chunk);
+    if let Some(ended) = end_last(book) {
+        return Some(ended);
     }
-    if let Some(chunk) = end_last_of(book, Tail::Warm) {
-        return Some(chunk);
+    if let Some(ended) = end_last_of(book, Tail::Warm) {
+        return Some(ended);
     }
     end_last_of(book, Tail::Hot)
 }
 
-// The last item of COLD ends. It answers its chunk, or None where there is no such item, and changes nothing then.
-fn end_last<N: Name>(book: &mut Book<N>) -> Option<u32>
-    ensures last { last_of book.old.lists.cold ≡ result }
-    ensures ends { IfSome result (λ chunk. EndsAt chunk book.old book.new) }
+// The last item of COLD ends. It answers None where there is no such item, and changes nothing then.
+fn end_last<N: Name>(book: &mut Book<N>) -> Option<Victim>
+    ensures last { last_of book.old.lists.cold ≡ chunk_told result }
+    ensures ends { IfSome result (λ it. EndsAt it.chunk book.old book.new) }
     ensures none { IfNone result (book.new ≡ book.old) }
+    ensures list { IfSome result (λ it. last_of (list_at book.old.lists (place_of it.last_of)) ≡ Some it.chunk) }
+    ensures flows { IfSome result (λ it. FlowsTwice (way_to it.last_of it.moved) (Some (place_of it.from, Dying))
+        book.old book.new) }
+    ensures ways { IfSome result (λ it. are_ours (way_to it.last_of it.moved)) }
+    ensures marks { IfSome result (λ it. ShowsMarks it.chunk it.fetched it.active book.new) }
 {
     book.promise();
-    match book.pull(Tail::Evict) {
-        Pulled::Freed(id) | Pulled::Deferred(id) => Some(id.chunk),
-        _ => None,
-    }
+    let Some(id) = item_told(book.pull(Tail::Evict)) else {
+        return None;
+    };
+    let (head, _) = book.see(id.chunk);
+    Some(Victim {
+        chunk: id.chunk,
+        last_of: Segment::Cold,
+        moved: None,
+        from: Segment::Cold,
+        fetched: head.fetched,
+        active: head.active,
+    })
 }
 
-// An item ends, where it is linked; and tells whether it is.
-pub(crate) fn end<N: Name>(book: &mut Book<N>, id: ItemId) -> bool
+// An item ends, where it is linked; and tells the list in which it was, or None where it isn't.
+pub(crate) fn end<N: Name>(book: &mut Book<N>, id: ItemId) -> Option<Segment>
     requires own { owns id.chunk book.old.part ≡ true }
-    ensures ends { result ≡ true → EndsAt id.chunk book.old book.new }
-    ensures linked { result ≡ true → linked_at book.old.part id.chunk ≡ Some id.generation }
-    ensures not_linked { result ≡ false → linked_at book.old.part id.chunk ≢ Some id.generation }
-    ensures kept { result ≡ false → KeepsItems book.old book.new }
+    ensures ends { IfSome result (λ from. EndsAt id.chunk book.old book.new) }
+    ensures linked { IfSome result (λ from. linked_at book.old.part id.chunk ≡ Some id.generation) }
+    ensures not_linked { IfNone result (linked_at book.old.part id.chunk ≢ Some id.generation) }
+    ensures kept { IfNone result (KeepsItems book.old book.new) }
+    ensures flows { IfSome result (λ from. Flows (Some (place_of from, Dying)) book.old book.new) }
+    ensures stays { IfNone result (Flows None book.old book.new) }
 {
+    let (head, _) = book.see(id.chunk);
     book.promise();
     match book.unlink(id) {
-        Ok(_) => true,
-        Err(_) => false,
+        Ok(_) => Some(head.segment),
+        Err(_) => None,
     }
 }
 
 // What was unlinked and is held by nobody any more is free.
 pub(crate) fn sweep<N: Name>(book: &mut Book<N>) -> u32
-    ensures { KeepsItems book.old book.new }
+    ensures swept { (heads : ℕ → TheHead) × Sweeps book.old result book.new heads }
+    ensures kept { KeepsItems book.old book.new }
+    ensures flows { Flows None book.old book.new }
 {
     book.promise();
     book.sweep()
@@ -112,11 +166,40 @@ pub(crate) fn sweep<N: Name>(book: &mut Book<N>) -> u32
 pub(crate) fn begin<N: Name>(book: &mut Book<N>, now: u64) -> Option<ItemId>
     ensures free { IfNone result (first_of book.old.lists.unused ≡ None) }
     ensures none { IfNone result (book.new ≡ book.old) }
+    ensures linked { IfSome result (λ id. book.new ≡ book_with_item start.Hot id 0 now book.old) }
     ensures begins { IfSome result (λ id. BeginsAt id book.old book.new) }
+    ensures flows { IfSome result (λ id. Flows (Some (Unused, Hot)) book.old book.new) }
 {
     book.promise();
     match book.link(0, now) {
         Ok(id) => Some(id),
         Err(_) => None,
     }
+}
+
+// Applies the next bump of a lane to a Book, where its chunk is one of the Book's and has the life of which it is. It
+// tells what that came to, or None where there is no such bump.
+pub(crate) fn apply_next<N: Name>(book: &mut Book<N>, lane: &mut RawLane<N>, now: u64) -> Option<Applied>
+    ensures items { KeepsItems book.old book.new }
+    ensures front { IfSome result (λ it. (seen : TheBookView) × (from : TheLaneView)
+        × AppliesFront now seen from it book.new lane.new) }
+    ensures applied { IfSome result (λ it. length (entries lane.new) ≡ length (entries lane.old) + 1) }
+    ensures kept { IfNone result (entries lane.new ≡ entries lane.old) }
+    ensures none { IfNone result (HasNoBumpFor book.old lane.new) }
+    ensures ring { lane.new.ring ≡ lane.old.ring }
+    ensures flows { Flows (way_of_applied result) book.old book.new }
+{
+    let Some(bump) = lane.fetch() else {
+        return None;
+    };
+    if !book.has_chunk(bump.life.chunk) {
+        return None;
+    }
+    // A bump holds a reference, so its chunk has this life still. What an application promises doesn't say so, and one
+    // look more shows it.
+    let (head, _) = book.see(bump.life.chunk);
+    if head.generation != bump.life.generation {
+        return None;
+    }
+    Some(book.apply_front(lane, now))
 }

@@ -9,7 +9,7 @@ ghost use Rattle.cache_shelf.specs.Refusals.{left_of, is_no_room};
 use crate::refusals::NotPlaced;
 use crate::shelves::Shelf;
 use bump_heads::Name;
-use cache_index::{Entry, Law, Names, Slot};
+use cache_index::{Entry, Law, Indexed, Slot};
 use std::alloc::{AllocError, Global};
 use std::hash::Hash;
 use std::sync::{Arc, Wait};
@@ -58,7 +58,7 @@ impl<
     K: Eq + Hash + Drop,
     V: Drop,
     L: Law<K, V>,
-    I: Names<K, V, L> + Drop,
+    I: Indexed<K, V, L> + Drop,
     R: Wait + Drop,
 > Shelf<N, K, V, L, I, R> {
     // Makes room for the item of an entry: the chunks of ended items that nobody holds any more are free, and where there

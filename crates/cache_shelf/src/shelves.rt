@@ -2,12 +2,14 @@
 ghost use Rattle.std.specs.Prelude.{◌≡◌, ◌<◌, ◌^◌, true, false, IfSome, IfNone, None, Some, [], replicate, length, slice_get};
 ghost use Rattle.bump_rules.specs.Lists.{list_at};
 ghost use Rattle.cache_index.specs.Tables.{found_in};
+ghost use Rattle.cache_shelf.specs.Counts.{IsFlow, SegmentsAddUp, no_flow, no_evictions};
 ghost use Rattle.cache_shelf.specs.Shelves.{ShelfView as TheShelfView, IsShelf};
 
+use crate::counted::CountedBook;
 use bump_class::Book;
 use bump_heads::Name;
 use bump_rules::Place;
-use cache_index::{Home, IndexWriter, Law, Names};
+use cache_index::{Home, IndexWriter, Law, Indexed};
 use std::hash::Hash;
 use std::marker::Model;
 use std::sync::Wait;
@@ -19,11 +21,11 @@ pub struct Shelf<
     K: Eq + Hash + Drop,
     V: Drop,
     L: Law<K, V>,
-    I: Names<K, V, L> + Drop,
+    I: Indexed<K, V, L> + Drop,
     R: Wait + Drop,
 > {
-    /// The Book.
-    pub book: Book<N>,
+    /// The Book, which counts how its items go.
+    pub class: CountedBook<N>,
 
     /// The index, whose table agrees with it.
     pub index: IndexWriter<K, V, L, I, R>,
@@ -35,12 +37,12 @@ where
     K: Eq + Hash + Drop,
     V: Drop,
     L: Law<K, V>,
-    I: Names<K, V, L> + Drop,
+    I: Indexed<K, V, L> + Drop,
     R: Wait + Drop,
 {
     fn drop(self) {
-        let Shelf { book, index } = self;
-        drop(book);
+        let Shelf { class, index } = self;
+        drop(class);
         drop(index);
     }
 }
@@ -50,14 +52,19 @@ impl<
     K: Eq + Hash + Drop,
     V: Drop,
     L: Law<K, V>,
-    I: Names<K, V, L> + Drop,
+    I: Indexed<K, V, L> + Drop,
     R: Wait + Drop,
 > Model for Shelf<N, K, V, L, I, R> {
     ghost Value = { TheShelfView K V };
 
-    ghost view = { λ s. record { book = s.book; index = s.index } };
+    ghost view = { λ s. record {
+      book = s.class.book;
+      index = s.index;
+      flow = s.class.flow;
+      evictions = s.class.evictions;
+    } };
 
-    ghost invariant = { λ s. IsShelf K.eq s.book s.index.table };
+    ghost invariant = { λ s. IsShelf K.eq s.class.book s.index.table };
 }
 
 impl<
@@ -65,7 +72,7 @@ impl<
     K: Eq + Hash + Drop,
     V: Drop,
     L: Law<K, V>,
-    I: Names<K, V, L> + Drop,
+    I: Indexed<K, V, L> + Drop,
     R: Wait + Drop,
 > Shelf<N, K, V, L, I, R> {
     /// A Shelf of a class that has all chunks from 0 on, no item was linked yet, and an index of as many chunks, each of
@@ -74,23 +81,28 @@ impl<
         requires first { book.part.first ≡ 0 }
         requires history { book.part.history ≡ [] }
         requires table { index.table ≡ replicate book.part.count None }
-        ensures { result ≡ record { book = book; index = index } }
+        ensures { result ≡ record { book = book; index = index; flow = no_flow; evictions = no_evictions } }
     {
-        Shelf { book, index }
+        let class = CountedBook::new(book);
+        Shelf { class, index }
     }
 
     /// How many chunks stand in a list of the Book.
     pub fn size(&self, place: Place) -> u32
         ensures { result ≡ length (list_at self.now.book.lists place) }
     {
-        self.book.size(place)
+        self.class.size(place)
     }
 
-    /// What each Shelf keeps: its table agrees with its Book, one to one.
+    /// What each Shelf keeps: its table agrees with its Book, one to one; each count of its flow is how often the class's
+    /// history has that way; and what came into HOT, WARM or COLD is there still or went out.
     pub fn promise(&self)
-        ensures { IsShelf K.eq self.now.book self.now.index.table }
+        ensures items { IsShelf K.eq self.now.book self.now.index.table }
+        ensures flow { IsFlow self.now.flow self.now.book.part }
+        ensures sums { SegmentsAddUp (length self.now.book.lists.hot) (length self.now.book.lists.warm)
+            (length self.now.book.lists.cold) self.now.book.part }
     {
-        let _book = &self.book;
+        self.class.promise();
     }
 
     /// What the key has, as it was shown last.
@@ -104,7 +116,7 @@ impl<
 
     /// Shows readers what each item stands for, and tells whether it did. It doesn't only for want of memory.
     pub fn show(&mut self) -> bool
-        ensures book { self.new.book ≡ self.old.book }
+        ensures kept { self.new ≡ record self.old { index = self.new.index } }
         ensures table { self.new.index.table ≡ self.old.index.table }
         ensures shown { result ≡ true → self.new.index ≡ record {
           table = self.old.index.table;

@@ -1,9 +1,38 @@
-use Rattle.std.proofs.Common.{refl}
-use Rattle.cache_shelf.proofs.Standings.{evict_told}
+use Rattle.std.proofs.Common.{refl, sym, ◌∙◌}
+use Rattle.cache_shelf.proofs.Standings.{evict_told, owns_same, see_keeps, ends_kept, ended_shown}
+use Rattle.cache_shelf.proofs.Ways.{still, before_none, seen_flows, evicts_flow}
 use Rattle.cache_shelf.proofs.items.end_last.Goals as goal
 
-pub returns-in-Freed-clause-ends : goal.returns-in-Freed-clause-ends
-returns-in-Freed-clause-ends g c = (evict_told c.args.book.now c.pull.new.self c.pull.result c.in-Freed.id c.promise.ensures.stands _ refl c.pull.ensures c.in-Freed.is).1
+pub see-requires : goal.see-requires
+see-requires g c =
+    let ends = (evict_told c.args.book.now c.pull.new.self c.pull.result c.in-Some.id c.promise.ensures.stands _ refl c.pull.ensures (sym c.item_told.ensures ∙ c.in-Some.is)).1 in
+    record { own = owns_same c.args.book.now c.pull.new.self ends.class c.in-Some.id.chunk ∙ ends.own }
 
-pub returns-in-Freed-2-clause-ends : goal.returns-in-Freed-2-clause-ends
-returns-in-Freed-2-clause-ends g c = (evict_told c.args.book.now c.pull.new.self c.pull.result c.in-Freed.id c.promise.ensures.stands _ refl c.pull.ensures c.in-Freed.is).1
+pub returns-clause-ends : goal.returns-clause-ends
+returns-clause-ends g c =
+    ends_kept c.args.book.now c.pull.new.self c.see.new.self c.in-Some.id.chunk
+    (evict_told c.args.book.now c.pull.new.self c.pull.result c.in-Some.id c.promise.ensures.stands _ refl c.pull.ensures (sym c.item_told.ensures ∙ c.in-Some.is)).1
+    (see_keeps c.pull.new.self c.see.new.self c.in-Some.id.chunk c.see.result.1 c.see.result.0 c.see.ensures.seen)
+
+pub returns-clause-flows : goal.returns-clause-flows
+returns-clause-flows g c = record {
+  between = c.args.book.now;
+  one = still c.args.book.now c.args.book.now refl refl;
+  other = before_none c.args.book.now c.pull.new.self c.see.new.self _
+      (evicts_flow c.args.book.now c.pull.new.self c.pull.result c.in-Some.id c.promise.ensures.stands c.pull.ensures (sym c.item_told.ensures ∙ c.in-Some.is))
+      (seen_flows c.pull.new.self c.see.new.self c.in-Some.id.chunk c.see.result.1 c.see.result.0 c.see.ensures.seen);
+}
+
+pub returns-clause-marks : goal.returns-clause-marks
+returns-clause-marks g c =
+    let ends = (evict_told c.args.book.now c.pull.new.self c.pull.result c.in-Some.id c.promise.ensures.stands _ refl c.pull.ensures (sym c.item_told.ensures ∙ c.in-Some.is)).1 in
+    record {
+      head = c.see.result.0;
+      time = c.see.result.1;
+      between = c.pull.new.self;
+      look = c.see.ensures.seen;
+      fits = c.see.ensures.fits;
+      unlinked = ended_shown c.args.book.now c.pull.new.self c.in-Some.id.chunk c.see.result.0 ends c.see.ensures.agrees;
+      is_fetched = refl;
+      is_active = refl;
+    }

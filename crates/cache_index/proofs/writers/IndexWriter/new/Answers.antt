@@ -6,5 +6,5 @@ use Rattle.cache_index.proofs.writers.IndexWriter.new.Goals as goal
 
 pub invariant_of-result : goal.invariant_of-result
 invariant_of-result g c =
-    ap (λ cs. fold (changed g.K.PartialEq.eq) (g.I.Names.table (published c.in_ok-new.field-0)) (cs ++ [])) c.in_ok-new.ensures.1
-    ∙ (ap g.I.Names.table c.in_ok-new.ensures.0 ∙ (c.in_ok-first.ensures ∙ (grind (arith, c.loop.invariant, c.loop-test.false, c.loop.auto.counter-end))))
+    ap (λ cs. fold (changed g.K.PartialEq.eq) (g.I.Indexed.table (published c.in_ok-new.field-0)) (cs ++ [])) c.in_ok-new.ensures.1
+    ∙ (ap g.I.Indexed.table c.in_ok-new.ensures.0 ∙ (c.in_ok-first.ensures ∙ (grind (arith, c.loop.invariant, c.loop-test.false, c.loop.auto.counter-end))))

@@ -13,8 +13,8 @@ invariant_of-self g c =
     let none = nothing_owed c.self.inside.owed owed_changes refl (ap (λ w. w.owes) c.self.view_is ∙ c.requires.ready) in
     let anew = without_unknown g.K.PartialEq.eq c.args.slot.key c.self.inside.slots.items
     (subst (λ t. found_in g.K.PartialEq.eq c.args.slot.key t ≡ None) (sym (ap (λ w. w.table) c.self.view_is)) c.requires.anew) in
-    ap (λ i. fold (changed g.K.PartialEq.eq) (g.I.Names.table i) (pending c.append.new.self ++ owed_changes c.self.inside.owed)) c.in-Ok-append.ensures.published
-    ∙ (noted_more (changed g.K.PartialEq.eq) (g.I.Names.table (published c.self.inside.writer)) (pending c.self.inside.writer) (pending c.append.new.self)
+    ap (λ i. fold (changed g.K.PartialEq.eq) (g.I.Indexed.table i) (pending c.append.new.self ++ owed_changes c.self.inside.owed)) c.in-Ok-append.ensures.published
+    ∙ (noted_more (changed g.K.PartialEq.eq) (g.I.Indexed.table (published c.self.inside.writer)) (pending c.self.inside.writer) (pending c.append.new.self)
     (owed_changes c.self.inside.owed) c.self.inside.slots.items (change.Set c.args.chunk c.in-Ok.noted) c.self.invariant none c.in-Ok-append.ensures.pending
     ∙ (ap (λ s. with_placed g.K.PartialEq.eq c.args.chunk s c.self.inside.slots.items) c.in-Ok.ensures
     ∙ ap (λ t. slice_set t c.args.chunk (Some c.args.slot)) anew))

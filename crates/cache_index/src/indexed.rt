@@ -13,7 +13,7 @@ use std::hash::Hash;
 
 /// An index, as its writer and its readers use it: `Index` is the one that there is. A type that has an index of any
 /// keys takes it as a parameter.
-pub trait Names<K: Eq + Hash + Drop, V: Drop, L: Law<K, V>>: Absorb<
+pub trait Indexed<K: Eq + Hash + Drop, V: Drop, L: Law<K, V>>: Absorb<
     Change<K, V, L>,
     State = [Option<Slot<K, V, L>>; 0],
 > {
@@ -36,7 +36,7 @@ pub trait Names<K: Eq + Hash + Drop, V: Drop, L: Law<K, V>>: Absorb<
         ≡ changed K.eq before change };
 }
 
-impl<K: Eq + Hash + Clone + Drop, V: Drop, L: Law<K, V>> Names<K, V, L> for Index<K, V, L> {
+impl<K: Eq + Hash + Clone + Drop, V: Drop, L: Law<K, V>> Indexed<K, V, L> for Index<K, V, L> {
     ghost table = { λ index. index };
 
     fn empty(alloc: Global, chunks: u32) -> Result<Index<K, V, L>, AllocError> {
