@@ -21,10 +21,11 @@ fn run<N: Name, I: Indexed<u64, u64, AnyPair> + Drop, R: Wait + Copy>(
 {
     let mut opened = open::<N, u64, u64, AnyPair, I, R>(alloc, rt, blank)?;
     opened.cache.put(alloc, rt, 7, 49, 0);
-    match opened.readers.first_mut() {
-        Some(reader) => Ok(reader.get(&7, 1).map(|item| *item.value())),
-        None => Ok(None),
-    }
+    let found = opened
+        .readers
+        .first_mut()
+        .and_then(|reader| reader.get(&7, 1));
+    Ok(found.map(|item| *item.value()))
 }
 
 fn main(rt: HostRuntime) -> Result<()> {
