@@ -21,10 +21,8 @@ fn run<N: Name, I: Indexed<u64, u64, AnyPair> + Drop, R: Wait + Copy>(
 {
     let mut opened = open::<N, u64, u64, AnyPair, I, R>(alloc, rt, blank)?;
     opened.cache.put(alloc, rt, 7, 49, 0);
-    let found = opened
-        .readers
-        .first_mut()
-        .and_then(|reader| reader.get(&7, 1));
+    let reader = opened.readers.first_mut();
+    let found = reader.and_then(|reader| reader.get(&7, 1));
     Ok(found.map(|item| *item.value()))
 }
 
