@@ -157,7 +157,10 @@ fn main(rt: HostRuntime) -> Result<()> {
         "{READERS} readers got {} values of another key",
         gets.wrong
     )?;
-    println!(rt; "each get was a hit or a miss: {}", gets.counted == 400_000)?;
+    println!(rt;
+        "each get was a hit or a miss: {}",
+        gets.counted == u64::from(READERS) * GETS
+    )?;
     println!(rt;
         "what came into HOT, WARM and COLD is there still or went out: {}",
         add_up(&stats)
