@@ -50,7 +50,8 @@ fn read<N: Name>(worker: &mut Worker<N>, store: &Store<N>, id: ItemId, now: u64)
     Some(label)
 }
 
-// Stores labels, and reads the first one again and again: how often it was there, and how many bumps were applied.
+// Stores labels, and reads the first one now and then: how often it was there, and how many bumps were applied. Its
+// second hit finds it in COLD, so a bump brings it to WARM, and what is stored meanwhile is evicted before it.
 fn run<N: Name, R: Wait>(
     rt: &R,
     alloc: Global,
@@ -71,7 +72,7 @@ fn run<N: Name, R: Wait>(
     let mut found = 0u32;
     for now in 1..100 {
         put(rt, &store, now, now);
-        if read(&mut worker, &store, first, now) == Some(7) {
+        if now % 4 == 0 && read(&mut worker, &store, first, now) == Some(7) {
             found = found.saturating_add(1);
         }
         // No lock may be held here: each bump takes the lock of its class.
@@ -91,6 +92,6 @@ fn main(rt: HostRuntime) -> Result<()> {
     let config = Config::new(1, 16, 64, 1, vec![in alloc; class]?)?;
     let blank = Blank::new(alloc, &config)?;
     let (found, applied) = run::<Brand, _>(&rt, alloc, blank, &config)?;
-    println!(rt; "the first item was found {found} times of 99, by {applied} bumps")?;
+    println!(rt; "the first item was found {found} times, and {applied} bump was applied")?;
     Ok(())
 }
