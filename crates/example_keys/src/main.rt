@@ -6,24 +6,25 @@ ghost use Rattle.std.specs.Prelude.{◌≡◌};
 use anyhow::Result;
 use bump_cache::{CacheBlank, CacheConfig, open};
 use bump_heads::Name;
-use cache_index::{AnyPair, Index, Indexed};
+use cache_index::{AnyPair, Index};
 use std::alloc::{AllocError, Global};
 use std::marker::Brand;
 use std::sync::Wait;
 
 // Puts a number, and gets it: the cache is opened under the name that the blank's table has.
-fn run<N: Name, I: Indexed<u64, u64, AnyPair> + Drop, R: Wait + Copy>(
+fn run<N: Name, R: Wait + Copy>(
     rt: &R,
     alloc: Global,
     blank: CacheBlank,
 ) -> Result<Option<u64>, AllocError>
     requires name { blank.table ≡ N.table }
 {
-    let mut opened = open::<N, u64, u64, AnyPair, I, R>(alloc, rt, blank)?;
+    let mut opened = open::<N, u64, u64, AnyPair, Index<u64, u64, AnyPair>, R>(alloc, rt, blank)?;
     opened.cache.put(alloc, rt, 7, 49, 0);
-    let reader = opened.readers.first_mut();
-    let found = reader.and_then(|reader| reader.get(&7, 1));
-    Ok(found.map(|item| *item.value()))
+    match opened.readers.first_mut() {
+        Some(reader) => Ok(reader.get(&7, 1).map(|item| *item.value())),
+        None => Ok(None),
+    }
 }
 
 fn main(rt: HostRuntime) -> Result<()> {
@@ -36,7 +37,7 @@ fn main(rt: HostRuntime) -> Result<()> {
         ring: 16,
     };
     let blank = CacheBlank::new(alloc, &config)?;
-    let found = run::<Brand, Index<u64, u64, AnyPair>, _>(&&rt, alloc, blank)?;
+    let found = run::<Brand, _>(&&rt, alloc, blank)?;
     println!(rt; "{found:?}")?;
     Ok(())
 }
