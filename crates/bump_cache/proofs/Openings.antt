@@ -4,11 +4,11 @@ use Rattle.bump_rules.specs.declared.configs.ClassConfig.{ClassConfig}
 use Rattle.bump_rules.specs.declared.configs.Config.{Config}
 use Rattle.bump_class.specs.Books.{BookView, new_book}
 use Rattle.bump_steps.specs.Rule.{class_parts, worker_parts}
-use Rattle.bump_store.specs.Lanes.{worker_parts_of}
+use Rattle.bump_store.specs.Lanes.{worker_parts_of, worker_rings}
 use Rattle.bump_store.specs.Stores.{new_books}
 use Rattle.bump_store.specs.Workers.{WorkerState}
 use Rattle.bump_cache.specs.Configs.{IsStoreOf}
-use Rattle.bump_cache.specs.Opening.{CacheBlankView, AreNewReaders}
+use Rattle.bump_cache.specs.Opening.{CacheBlankView, AreNewReaders, reader_rings}
 use Rattle.bump_cache.specs.Readers.{ReaderView, new_readers}
 use Rattle.cache_index.specs.Tables.{Table}
 use Rattle.cache_shelf.specs.Shelves.{IsShelf}
@@ -40,3 +40,8 @@ opened_readers view blank store heads workers readers same store_of words made n
       new_workers = new_workers ∙ ap (λ (count : ℕ). worker_parts 0 count) store_of.workers;
       capacity = subst (λ (most : ℕ). All (λ (worker : WorkerState). worker.sender.capacity ≡ most) workers) store_of.capacity capacity;
     })
+
+-- the readers of workers send into the workers' rings
+pub rings_of_readers : (config : Config) (workers : List WorkerState) → reader_rings (new_readers config workers) ≡ worker_rings workers
+rings_of_readers config [] = refl
+rings_of_readers config (worker ∷ rest) = ap (λ rings. worker.sender.ring ∷ rings) (rings_of_readers config rest)

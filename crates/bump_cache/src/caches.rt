@@ -1,15 +1,17 @@
 //! A cache that threads share.
 ghost use Rattle.std.specs.Prelude.{◌≡◌, IfSome};
 ghost use Rattle.bump_steps.specs.declared.views.ClassPart.{ClassPart as TheClassPart};
+ghost use Rattle.bump_cache.specs.Opening.{Limits as TheLimits};
 ghost use Rattle.cache_shelf.specs.Counts.{IsFlow, SegmentsAddUp};
 ghost use Rattle.cache_shelf.specs.Refusals.{left_of};
 
-use bump_class::RawLane;
+use crate::upkeep::{Upkeep, drain};
 use bump_heads::Name;
 use cache_index::{Entry, Law, Indexed};
 use cache_shelf::{Put, Removed, Shelf, Stats};
 use std::alloc::{AllocError, Global};
 use std::hash::Hash;
+use std::marker::Model;
 use std::sync::atomic::{AtomicBool, AtomicU64, Ordering};
 use std::sync::{Mutex, Wait};
 
@@ -32,43 +34,17 @@ pub struct Cache<
     pub(crate) warm: u32,
 }
 
-/// What the upkeep of a cache works through, which one thread has at a time: the bumps that the readers queued.
-#[derive(Drop)]
-pub struct Upkeep<N: Name> {
-    lanes: Vec<RawLane<N>>,
-    // a lane applies at most so many bumps in one turn
-    ring: u32,
-}
-
-impl<N: Name> Upkeep<N> {
-    /// The upkeep by these lanes, whose rings have room for so many bumps.
-    pub fn new(lanes: Vec<RawLane<N>>, ring: u32) -> Upkeep<N> {
-        Upkeep { lanes, ring }
-    }
-}
-
-// Applies the bumps that wait in these lanes, at most `most` of each.
-fn drain<N, K, V, L, I, R>(
-    shelf: &mut Shelf<N, K, V, L, I, R>,
-    lanes: &mut Vec<RawLane<N>>,
-    most: u32,
-    now: u64,
-)
-where
+impl<
     N: Name,
     K: Eq + Hash + Drop,
     V: Drop,
     L: Law<K, V>,
     I: Indexed<K, V, L> + Drop,
     R: Wait + Drop,
-{
-    for lane in lanes.iter_mut() {
-        for _ in 0..most {
-            if shelf.apply_next(lane, now).is_none() {
-                break;
-            }
-        }
-    }
+> Model for Cache<N, K, V, L, I, R> {
+    ghost Value = { TheLimits };
+
+    ghost view = { λ c. record { hot = c.hot; warm = c.warm } };
 }
 
 impl<
@@ -112,10 +88,12 @@ impl<
     /// What memcached's maintainer does: it applies the bumps that the readers queued, frees the chunks of ended items
     /// that nobody holds any more, and moves the last items of HOT and WARM on where there are too many. It waits until
     /// no other thread changes the cache. `now` is the time of the bumped items, in the caller's ticks.
-    pub fn tend<W: Wait>(&self, rt: &W, upkeep: &mut Upkeep<N>, now: u64) {
+    pub fn tend<W: Wait>(&self, rt: &W, upkeep: &mut Upkeep<N>, now: u64)
+        ensures { upkeep.new.most ≡ upkeep.old.most }
+    {
         let mut guard = self.shelf.lock(rt);
         let shelf = &mut *guard;
-        drain(shelf, &mut upkeep.lanes, upkeep.ring, now);
+        drain(shelf, upkeep, now);
         shelf.sweep();
         for _ in 0..LOOKS {
             shelf.balance(self.hot, self.warm);

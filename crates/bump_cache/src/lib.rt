@@ -6,9 +6,11 @@ mod caches;
 mod config;
 mod opening;
 mod readers;
+mod upkeep;
 
 pub use blanks::CacheBlank;
-pub use caches::{Cache, Upkeep};
+pub use caches::Cache;
 pub use config::{CacheConfig, CacheFault, CacheRefusal};
 pub use opening::{Opened, open};
 pub use readers::CacheReader;
+pub use upkeep::Upkeep;

@@ -1,12 +1,14 @@
 //! A cache is opened.
 ghost use Rattle.std.specs.Prelude.{◌≡◌, IfOk, Some, length, slice_get};
 ghost use Rattle.std.specs.Arc.{arc_value};
-ghost use Rattle.bump_cache.specs.Opening.{AreNewReaders};
+ghost use Rattle.bump_cache.specs.Opening.{AreNewReaders, limits_of, reader_rings};
 ghost use Rattle.bump_cache.specs.Readers.{new_readers};
+ghost use Rattle.bump_store.specs.Parting.{raw_rings};
 
 use crate::blanks::CacheBlank;
-use crate::caches::{Cache, Upkeep};
+use crate::caches::Cache;
 use crate::readers::CacheReader;
+use crate::upkeep::Upkeep;
 use bump_class::Book;
 use bump_heads::{Heads, Name};
 use bump_store::{StoreParts, Worker};
@@ -53,6 +55,9 @@ where
     requires name { blank.table ≡ N.table }
     ensures count { IfOk result (λ opened. length opened.readers.items ≡ blank.config.readers) }
     ensures readers { IfOk result (λ opened. AreNewReaders blank.config opened.readers.items) }
+    ensures limits { IfOk result (λ opened. opened.cache ≡ limits_of blank.config) }
+    ensures rings { IfOk result (λ opened. reader_rings opened.readers.items ≡ raw_rings opened.upkeep.lanes) }
+    ensures most { IfOk result (λ opened. opened.upkeep.most ≡ blank.config.ring) }
 {
     let CacheBlank {
         words,

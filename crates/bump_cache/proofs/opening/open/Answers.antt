@@ -1,6 +1,8 @@
-use Rattle.std.proofs.Common.{sym, ap, subst}
+use Rattle.std.proofs.Common.{sym, ap, ◌∙◌, subst}
 use Rattle.cache_shelf.specs.Shelves.{IsShelf}
-use Rattle.bump_cache.proofs.Openings.{opened_shelf, opened_readers}
+use Rattle.bump_cache.proofs.Openings.{opened_shelf, opened_readers, rings_of_readers}
+use Rattle.bump_cache.specs.Opening.{reader_rings}
+use Rattle.bump_store.specs.Parting.{raw_rings}
 use Rattle.bump_cache.proofs.opening.open.Goals as goal
 
 pub invariant_of-shelf : goal.invariant_of-shelf
@@ -13,3 +15,8 @@ returns-clause-readers g c =
     let e = c.in_ok-heads.ensures in
     opened_readers _ _ c.blank.inside.store _ c.in_ok-heads.field-0.workers.items _ c.blank.view_is c.blank.invariant.store_of
     e.heads c.in_ok-readers.ensures e.workers e.capacity
+
+pub returns-clause-rings : goal.returns-clause-rings
+returns-clause-rings g c =
+    let e = c.in_ok-heads.ensures in
+    ap reader_rings c.in_ok-readers.ensures ∙ (rings_of_readers _ _ ∙ (e.rings ∙ ap (λ u. raw_rings u.lanes) (sym c.new-3.ensures)))
