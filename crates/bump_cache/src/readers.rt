@@ -81,7 +81,7 @@ impl<N: Name, K: Eq + Hash + Drop, V: Drop, L: Law<K, V>, I: Indexed<K, V, L> + 
     I,
 > {
     /// A reader that got nothing yet.
-    pub fn new(
+    pub(crate) fn new(
         worker: Worker<N>,
         heads: Arc<Heads<N>, Global>,
         index: IndexReader<K, V, L, I>,

@@ -26,7 +26,7 @@ impl<N: Name> Model for Upkeep<N> {
 
 impl<N: Name> Upkeep<N> {
     /// The upkeep by these lanes, each of which applies at most so many bumps in one turn.
-    pub fn new(lanes: Vec<RawLane<N>>, most: u32) -> Upkeep<N>
+    pub(crate) fn new(lanes: Vec<RawLane<N>>, most: u32) -> Upkeep<N>
         ensures { result ≡ record { lanes = lanes.items; most = most } }
     {
         Upkeep { lanes, most }
