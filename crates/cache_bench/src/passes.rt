@@ -1,0 +1,105 @@
+//! Passes of calls by threads side by side, and what they took.
+use std::alloc::{AllocError, Global};
+use std::hint::spin_loop;
+use std::rt::Clock;
+use std::sync::Wait;
+use std::sync::atomic::AtomicU64;
+use std::sync::atomic::Ordering::SeqCst;
+use std::thread::{self, Threads};
+use std::time::Instant;
+
+/// So many calls a thread makes in a pass.
+pub const CALLS: u64 = 100_000;
+
+/// Calls by so many threads, of what is full with so many items: gets or puts, of keys that are present, or of fresh
+/// ones, which were never there.
+#[derive(Clone, Copy)]
+pub struct Calls<R> {
+    pub rt: R,
+    pub alloc: Global,
+    pub threads: u32,
+    pub items: u32,
+    pub are_puts: bool,
+    pub are_fresh: bool,
+}
+
+/// Who calls.
+pub trait Caller {
+    /// Calls once, and tells whether it came to what was wanted.
+    fn call(&mut self, key: u64) -> bool;
+}
+
+/// What each pass took in nanoseconds, as the mean of the threads, the fastest first; and how many calls came to what
+/// was wanted.
+pub type Times = (Vec<u64>, u64);
+
+// Waits until so many have come, but not for ever: a thread that the clock is refused doesn't come.
+fn meet(arrived: &AtomicU64, all: u64) {
+    arrived.fetch_add(1, SeqCst);
+    for _look in 0..100_000_000 {
+        if arrived.load(SeqCst) >= all {
+            return;
+        }
+        spin_loop();
+    }
+}
+
+impl<R: Threads + Clock + Wait + Copy + Send + Sync> Calls<R> {
+    // The pass that is timed. Keys that are present come in an order that jumps, and so do fresh ones, which are far
+    // above them. Its name is what callgrind is told to count.
+    #[inline(never)]
+    fn timed_pass<C: Caller>(&self, caller: &mut C, state: &mut u64) -> u64 {
+        let mut right = 0u64;
+        for _call in 0..CALLS {
+            *state = state
+                .wrapping_mul(6_364_136_223_846_793_005)
+                .wrapping_add(1_442_695_040_888_963_407);
+            let mut key = *state;
+            if !self.are_fresh {
+                key = (key >> 33).wrapping_mul(u64::from(self.items)) >> 31;
+            }
+            right = right.wrapping_add(u64::from(caller.call(key)));
+        }
+        right
+    }
+
+    // Makes the passes of one thread, each of which begins once all have come, and adds what each took to its sum. None
+    // where the clock is refused.
+    fn time<C: Caller>(&self, caller: &mut C, came: &AtomicU64, sums: &[AtomicU64]) -> Option<u64> {
+        let mut all = u64::from(self.threads);
+        let mut state = came.fetch_add(1, SeqCst).wrapping_add(1) << 32;
+        let mut right = self.timed_pass(caller, &mut state);
+        for sum in sums {
+            all = all.wrapping_add(u64::from(self.threads));
+            meet(came, all);
+            let start = Instant::now(&self.rt).ok()?;
+            right = right.wrapping_add(self.timed_pass(caller, &mut state));
+            let spent = start.elapsed(&self.rt).ok()?;
+            sum.fetch_add(u64::try_from(spent.as_nanos()).unwrap_or(u64::MAX), SeqCst);
+        }
+        Some(right)
+    }
+
+    /// Lets each caller make 15 passes in a thread of its own, after one that isn't timed. None where memory or the clock
+    /// is refused.
+    pub fn time_all<C: Caller + Drop + Send>(&self, callers: Vec<C>) -> Option<Times> {
+        let threads = u64::from(self.threads.max(1));
+        let mut sums = Vec::new(self.alloc);
+        for _pass in 0..15 {
+            sums.push(AtomicU64::new(0)).ok()?;
+        }
+        let came = AtomicU64::new(0);
+        let call = |mut caller: C| self.time(&mut caller, &came, &sums);
+        let all = thread::map_vec(&self.rt, callers, &call);
+        let mut right = 0u64;
+        for one in &all.ok()? {
+            right = right.wrapping_add((*one)?);
+        }
+        let mut nanos = Vec::new(self.alloc);
+        for sum in &sums {
+            nanos.push(sum.load(SeqCst) / threads).ok()?;
+        }
+        nanos.sort().ok()?;
+        Some((nanos, right))
+    }
+}
