@@ -64,6 +64,21 @@ fn share(items: u32, percent: u32) -> u32
 }
 
 impl CacheConfig {
+    /// That of a cache of so many items, 1 to 1,000,000, and so many readers, 1 to 64, as memcached has it: at most 20
+    /// percent of the items are in HOT and 40 in WARM, and a reader's ring has room for 8,192 bumps
+    /// (`LRU_BUMP_BUF_SIZE`).
+    pub fn new(items: u32, readers: u32) -> CacheConfig
+        ensures { result ≡ record { items = items; hot = 20; warm = 40; readers = readers; ring = 8192 } }
+    {
+        CacheConfig {
+            items,
+            hot: 20,
+            warm: 40,
+            readers,
+            ring: 8_192,
+        }
+    }
+
     /// The first fault of these numbers, in the order of `CacheFault`, if they have one.
     pub fn fault(&self) -> Option<CacheFault>
         ensures { result ≡ first_cache_fault self.now }

@@ -29,14 +29,7 @@ fn run<N: Name, R: Wait + Copy>(
 
 fn main(rt: HostRuntime) -> Result<()> {
     let alloc = rt.alloc();
-    let config = CacheConfig {
-        items: 100,
-        hot: 20,
-        warm: 40,
-        readers: 1,
-        ring: 16,
-    };
-    let blank = CacheBlank::new(alloc, &config)?;
+    let blank = CacheBlank::new(alloc, &CacheConfig::new(100, 1))?;
     let found = run::<Brand, _>(&&rt, alloc, blank)?;
     println!(rt; "{found:?}")?;
     Ok(())
