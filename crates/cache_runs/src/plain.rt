@@ -1,11 +1,12 @@
-//! Random calls beside a plain map.
+//! Random calls beside a plain map, and the statistics of what they came to.
 ghost use Rattle.std.specs.Prelude.{◌≡◌};
 
+use crate::beside::Plain;
+use crate::keys::{Alike, Key};
 use bump_cache::{Cache, CacheBlank, CacheConfig, CacheReader, Opened, open};
 use bump_heads::Name;
 use cache_index::{AnyPair, Index, Indexed};
 use std::alloc::{AllocError, Global};
-use std::collections::HashMap;
 use std::marker::Brand;
 use std::sync::Wait;
 use std::test::Fail;
@@ -19,54 +20,64 @@ struct Calls<R> {
     calls: u64,
 }
 
-// The next number of a row that a number begins.
-fn next(number: &mut u64) -> u64 {
+/// The next number of a row that a number begins.
+pub fn next(number: &mut u64) -> u64 {
     *number = number
         .wrapping_mul(6_364_136_223_846_793_005)
         .wrapping_add(1_442_695_040_888_963_407);
     *number >> 33
 }
 
+// Each of these tells whether the cache's answer is the plain map's.
 impl<R: Wait + Copy> Calls<R> {
-    // Puts a value under a key, and tells whether the answer is the plain map's.
-    fn put<N: Name, I: Indexed<u64, u64, AnyPair> + Drop>(
+    fn put<N: Name, K: Key, I: Indexed<K, u64, AnyPair> + Drop>(
         &self,
-        cache: &Cache<N, u64, u64, AnyPair, I, R>,
-        map: &mut HashMap<u64, u64>,
-        key: u64,
-        value: u64,
-        now: u64,
-    ) -> Result<bool, AllocError> {
-        let put = cache.put(self.alloc, &self.rt, key, value, now);
-        let had = map.remove(&key);
-        let told = put.old.as_ref().map(|slot| *slot.item.value());
-        for slot in &put.evicted {
-            map.remove(slot.item.key());
-        }
-        if put.refused.is_none() {
-            map.insert(key, value).ok();
-        }
-        Ok(told == had && put.shown)
-    }
-
-    // Whether a get answers what the plain map has.
-    fn get<N: Name, I: Indexed<u64, u64, AnyPair> + Drop>(
-        &self,
-        reader: &mut CacheReader<N, u64, u64, AnyPair, I>,
-        map: &HashMap<u64, u64>,
+        cache: &Cache<N, K, u64, AnyPair, I, R>,
+        plain: &mut Plain,
         key: u64,
         now: u64,
     ) -> bool {
-        let got = reader.get(&key, now).map(|item| *item.value());
-        got == map.get(&key).copied()
+        let put = cache.put(self.alloc, &self.rt, K::of(key), now, now);
+        let told = put.old.as_ref().map(|slot| *slot.item.value());
+        let mut right = told == plain.take(key) && put.shown;
+        for slot in &put.evicted {
+            let had = plain.evict(slot.item.key().number(), *slot.item.value());
+            right = right && had;
+        }
+        if put.refused.is_none() {
+            plain.put(key, now);
+        }
+        right
+    }
+
+    fn remove<N: Name, K: Key, I: Indexed<K, u64, AnyPair> + Drop>(
+        &self,
+        cache: &Cache<N, K, u64, AnyPair, I, R>,
+        plain: &mut Plain,
+        key: u64,
+    ) -> Result<bool, AllocError> {
+        let removed = cache.remove(&self.rt, &K::of(key))?;
+        let told = removed.old.map(|slot| *slot.item.value());
+        Ok(told == plain.take(key) && removed.shown)
+    }
+
+    fn get<N: Name, K: Key, I: Indexed<K, u64, AnyPair> + Drop>(
+        &self,
+        reader: &mut CacheReader<N, K, u64, AnyPair, I>,
+        plain: &mut Plain,
+        key: u64,
+        now: u64,
+    ) -> bool {
+        let got = reader.get(&K::of(key), now).map(|item| *item.value());
+        plain.get(key, got)
     }
 }
 
 impl<R: Wait + Copy> Calls<R> {
-    // Makes the calls, and tells how many came to something else.
-    fn run<N: Name, I: Indexed<u64, u64, AnyPair> + Drop>(
+    // Makes the calls, and tells how many came to something else, or left statistics that don't tell of it.
+    fn run<N: Name, K: Key, I: Indexed<K, u64, AnyPair> + Drop>(
         &self,
-        opened: Opened<N, u64, u64, AnyPair, I, R>,
+        opened: Opened<N, K, u64, AnyPair, I, R>,
     ) -> Result<u64, AllocError> {
         let Opened {
             cache,
@@ -76,24 +87,22 @@ impl<R: Wait + Copy> Calls<R> {
         let Some(mut reader) = readers.pop() else {
             return Err(AllocError);
         };
-        let mut map = HashMap::new(self.alloc);
+        let mut plain = Plain::new(self.alloc);
         let mut seed = 1u64;
         let mut wrong = 0u64;
         for now in 0..self.calls {
             let key = next(&mut seed) % self.keys.max(1);
             let right = match next(&mut seed) % 8 {
-                0 | 1 => self.put(&cache, &mut map, key, now, now)?,
-                2 => {
-                    let removed = cache.remove(&self.rt, &key)?;
-                    removed.old.map(|slot| *slot.item.value()) == map.remove(&key)
-                }
+                0 | 1 => self.put(&cache, &mut plain, key, now),
+                2 => self.remove(&cache, &mut plain, key)?,
                 3 => {
                     cache.tend(&self.rt, &mut upkeep, now);
                     true
                 }
-                _ => self.get(&mut reader, &map, key, now),
+                _ => self.get(&mut reader, &mut plain, key, now),
             };
-            if !right {
+            let told = plain.agrees(&cache.stats(&self.rt));
+            if !right || !told || !plain.has_got(reader.hits(), reader.misses()) {
                 wrong = wrong.saturating_add(1);
             }
         }
@@ -101,49 +110,80 @@ impl<R: Wait + Copy> Calls<R> {
     }
 
     // Opens a cache under the name that the blank's table has, and makes the calls.
-    fn open<N: Name, I: Indexed<u64, u64, AnyPair> + Drop>(
+    fn open<N: Name, K: Key, I: Indexed<K, u64, AnyPair> + Drop>(
         &self,
         blank: CacheBlank,
     ) -> Result<u64, AllocError>
         requires name { blank.table ≡ N.table }
     {
-        self.run(open::<N, u64, u64, AnyPair, I, R>(self.alloc, &self.rt, blank)?)
+        self.run(open::<N, K, u64, AnyPair, I, R>(self.alloc, &self.rt, blank)?)
     }
 }
 
-// How many of these calls on a cache of so many items came to something else than on a plain map.
-fn wrong_calls<R: Wait + Copy>(
-    rt: R,
-    alloc: Global,
-    items: u32,
-    keys: u64,
-    calls: u64,
-) -> Result<u64, Fail> {
-    let config = CacheConfig {
+/// A cache of so many items and one reader, at most so many percent of them in HOT and in WARM.
+pub fn config_of(items: u32, hot: u32, warm: u32) -> CacheConfig {
+    CacheConfig {
         items,
-        hot: 20,
-        warm: 40,
+        hot,
+        warm,
         readers: 1,
         ring: 8,
-    };
-    let job = Calls {
-        rt,
-        alloc,
-        keys,
-        calls,
-    };
-    let blank = CacheBlank::new(alloc, &config)?;
-    Ok(job.open::<Brand, Index<u64, u64, AnyPair>>(blank)?)
+    }
+}
+
+// How many of these calls on such a cache came to something else than on a plain map.
+fn wrong_calls<R: Wait + Copy>(calls: Calls<R>, config: &CacheConfig) -> Result<u64, Fail> {
+    let blank = CacheBlank::new(calls.alloc, config)?;
+    Ok(calls.open::<Brand, u64, Index<u64, u64, AnyPair>>(blank)?)
+}
+
+// The same, where each key has the hash of each other one.
+fn wrong_alike_calls<R: Wait + Copy>(calls: Calls<R>, config: &CacheConfig) -> Result<u64, Fail> {
+    let blank = CacheBlank::new(calls.alloc, config)?;
+    Ok(calls.open::<Brand, Alike, Index<Alike, u64, AnyPair>>(blank)?)
 }
 
 #[test]
 fn each_call_comes_to_what_a_plain_map_has(rt: HostRuntime) -> Result<(), Fail> {
-    assert_eq!(rt; wrong_calls(&rt, rt.alloc(), 16, 40, 100_000)?, 0);
+    let alloc = rt.alloc();
+    for (items, hot, warm, keys, calls) in [
+        (16, 20, 40, 40, 100_000),
+        (16, 0, 100, 24, 10_000),
+        (16, 100, 0, 24, 10_000),
+        (1, 20, 40, 3, 2_000),
+    ] {
+        let job = Calls {
+            rt: &rt,
+            alloc,
+            keys,
+            calls,
+        };
+        let wrong = wrong_calls(job, &config_of(items, hot, warm))?;
+        assert_eq!(rt; wrong, 0, "of {items} items");
+    }
     Ok(())
 }
 
 #[test]
-fn a_cache_of_one_item(rt: HostRuntime) -> Result<(), Fail> {
-    assert_eq!(rt; wrong_calls(&rt, rt.alloc(), 1, 3, 2_000)?, 0);
+fn a_cache_of_a_million_items(rt: HostRuntime) -> Result<(), Fail> {
+    let job = Calls {
+        rt: &rt,
+        alloc: rt.alloc(),
+        keys: 3_000,
+        calls: 20_000,
+    };
+    assert_eq!(rt; wrong_calls(job, &config_of(1_000_000, 0, 1))?, 0);
+    Ok(())
+}
+
+#[test]
+fn keys_of_one_hash(rt: HostRuntime) -> Result<(), Fail> {
+    let job = Calls {
+        rt: &rt,
+        alloc: rt.alloc(),
+        keys: 100,
+        calls: 1_000,
+    };
+    assert_eq!(rt; wrong_alike_calls(job, &config_of(40, 20, 40))?, 0);
     Ok(())
 }
