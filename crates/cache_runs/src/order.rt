@@ -47,10 +47,12 @@ impl Row {
         }
         self.keys.push(key)?;
         let told = put.evicted.first().map(|slot| *slot.item.key());
-        Ok(put.refused.is_none()
-            && put.old.is_some() == was_there
-            && told == first
-            && put.evicted.len() <= 1)
+        Ok(
+            put.refused.is_none()
+                && put.old.is_some() == was_there
+                && told == first
+                && put.evicted.len() <= 1,
+        )
     }
 }
 
@@ -158,7 +160,11 @@ impl<R: Wait + Copy> Stage<R> {
         self.fill(&cache, first, first.saturating_add(20), &mut evicted)?;
         right = right && reader.get(&0, 0).is_some() == hit.kept && !evicted.is_empty();
         let disorder = out_of_order(evicted.as_slice(), u64::from(hit.kept));
-        Ok(if right { disorder } else { disorder.saturating_add(1) })
+        Ok(if right {
+            disorder
+        } else {
+            disorder.saturating_add(1)
+        })
     }
 }
 
@@ -244,7 +250,11 @@ fn an_item_that_was_hit_twice_is_kept(rt: HostRuntime) -> Result<(), Fail> {
                 kept,
             }),
         };
-        assert_eq!(rt; wrong_in(stage, 20, 40)?, 0, "{gets} gets behind {before} puts, {tended}");
+        assert_eq!(rt;
+            wrong_in(stage, 20, 40)?,
+            0,
+            "{gets} gets behind {before} puts, {tended}"
+        );
     }
     Ok(())
 }

@@ -185,6 +185,9 @@ fn work<N: Name, I: Indexed<Box<u64>, u64, AnyPair> + Drop, R: Wait + Copy>(
             wrong = wrong.saturating_add(1);
         }
     }
+    if plain.seen != plain.had {
+        wrong = wrong.saturating_add(1);
+    }
     Ok((wrong, plain.refused))
 }
 
