@@ -7,7 +7,7 @@ ghost use Rattle.cache_shelf.specs.Refusals.{left_of};
 
 use crate::upkeep::{Upkeep, drain};
 use bump_heads::Name;
-use cache_index::{Entry, Law, Indexed};
+use cache_index::{Entry, Indexed, Law};
 use cache_shelf::{Put, Removed, Shelf, Stats};
 use std::alloc::{AllocError, Global};
 use std::hash::Hash;
@@ -58,15 +58,11 @@ impl<
     /// Puts a value under a key, as memcached's `set`: it waits until no other thread changes the cache. What the key
     /// had before ends. Where no chunk is free items are evicted, those first that were in use least. `now` is the
     /// item's time, in the caller's ticks. It answers what `Shelf::put` tells: where memory is refused, or each chunk is
-    /// held by somebody, the key and the value come back.
-    pub fn put<W: Wait>(
-        &self,
-        alloc: Global,
-        rt: &W,
-        key: K,
-        value: V,
-        now: u64,
-    ) -> Put<K, V, L>
+    /// held by somebody, the key and the value come back, and what the key had before may have ended.
+    ///
+    /// A bump that waits holds its item's chunk, so where such an item is evicted the put evicts a further one. Tend the
+    /// cache often.
+    pub fn put<W: Wait>(&self, alloc: Global, rt: &W, key: K, value: V, now: u64) -> Put<K, V, L>
         requires law { L.holds key value }
         ensures refused { IfSome result.refused (λ it. left_of it ≡ (key, value)) }
     {

@@ -12,7 +12,7 @@ use crate::upkeep::Upkeep;
 use bump_class::Book;
 use bump_heads::{Heads, Name};
 use bump_store::{StoreParts, Worker};
-use cache_index::{IndexWriter, Law, Indexed};
+use cache_index::{IndexWriter, Indexed, Law};
 use cache_shelf::{CountedBook, Shelf};
 use std::alloc::{AllocError, Global};
 use std::hash::Hash;

@@ -8,7 +8,7 @@ ghost use Rattle.bump_cache.specs.Readers.{ReaderView as TheReaderView, one_more
 use bump_heads::{Heads, Name, ReaderHeads};
 use bump_rules::ItemId;
 use bump_store::{Hold, Worker};
-use cache_index::{IndexReader, Item, Law, Indexed};
+use cache_index::{IndexReader, Indexed, Item, Law};
 use std::alloc::Global;
 use std::hash::Hash;
 use std::marker::Model;

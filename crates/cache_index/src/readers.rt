@@ -3,9 +3,9 @@ ghost use Rattle.std.specs.Prelude.{◌≡◌, IfSome, true};
 ghost use Rattle.std.specs.Arc.{arc_value};
 
 use crate::entries::Law;
+use crate::indexed::Indexed;
 use crate::indexes::Home;
 use crate::items::Item;
-use crate::indexed::Indexed;
 use left_right::ReadHandle;
 use std::alloc::Global;
 use std::hash::Hash;
@@ -19,7 +19,12 @@ pub struct IndexReader<K: Eq + Hash + Drop, V: Drop, L: Law<K, V>, I: Indexed<K,
     marker: PhantomData<Item<K, V, L>>,
 }
 
-impl<K: Eq + Hash + Drop, V: Drop, L: Law<K, V>, I: Indexed<K, V, L> + Drop> IndexReader<K, V, L, I> {
+impl<K: Eq + Hash + Drop, V: Drop, L: Law<K, V>, I: Indexed<K, V, L> + Drop> IndexReader<
+    K,
+    V,
+    L,
+    I,
+> {
     /// A reader by this handle.
     pub fn new(handle: ReadHandle<I>) -> IndexReader<K, V, L, I> {
         IndexReader {

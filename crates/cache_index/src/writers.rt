@@ -5,8 +5,8 @@ ghost use Rattle.cache_index.specs.Tables.{without_chunk, found_in, at_chunk};
 ghost use Rattle.cache_index.specs.Writing.{Written as TheWritten, owed_changes, all_changed};
 
 use crate::entries::Law;
-use crate::indexes::Home;
 use crate::indexed::Indexed;
+use crate::indexes::Home;
 use crate::readers::IndexReader;
 use crate::slots::{Change, Slot};
 use left_right::WriteHandle;

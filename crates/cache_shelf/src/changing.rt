@@ -15,7 +15,7 @@ use crate::refusals::NotPlaced;
 use crate::shelves::Shelf;
 use bump_heads::Name;
 use bump_rules::{ItemId, Tail};
-use cache_index::{Entry, Home, Item, Law, Indexed, Slot};
+use cache_index::{Entry, Home, Indexed, Item, Law, Slot};
 use std::alloc::Global;
 use std::hash::Hash;
 use std::sync::{Arc, Wait};

@@ -9,7 +9,7 @@ use crate::shelves::Shelf;
 use bump_class::RawLane;
 use bump_heads::Name;
 use bump_rules::Applied;
-use cache_index::{Law, Indexed};
+use cache_index::{Indexed, Law};
 use std::hash::Hash;
 use std::sync::Wait;
 

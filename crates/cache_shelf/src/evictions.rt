@@ -11,7 +11,8 @@ pub struct Evictions {
     /// Those that were never hit: a look just behind the item's end found FETCHED clear.
     pub unfetched: u64,
 
-    /// Those that were hit more than once of late: the look found ACTIVE set.
+    /// Those that were hit more than once of late: the look found ACTIVE set. An item of WARM or HOT lost it by the look
+    /// before its end, so it isn't one of these.
     pub active: u64,
 }
 

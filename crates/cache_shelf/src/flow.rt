@@ -10,7 +10,7 @@ use bump_rules::{Applied, Segment};
 /// How often items went from list to list since the Shelf was made. Each count stops at 2^64 - 1.
 #[derive(Clone, Copy, Debug, PartialEq, Eq)]
 pub struct Flow {
-    /// Items that were put: they begin in HOT.
+    /// Items that were linked, in HOT: those that were put, and those for which memory was refused then.
     pub linked: u64,
 
     /// From HOT to WARM, rescued by ACTIVE.

@@ -179,7 +179,11 @@ pub(crate) fn begin<N: Name>(book: &mut Book<N>, now: u64) -> Option<ItemId>
 
 // Applies the next bump of a lane to a Book, where its chunk is one of the Book's and has the life of which it is. It
 // tells what that came to, or None where there is no such bump.
-pub(crate) fn apply_next<N: Name>(book: &mut Book<N>, lane: &mut RawLane<N>, now: u64) -> Option<Applied>
+pub(crate) fn apply_next<N: Name>(
+    book: &mut Book<N>,
+    lane: &mut RawLane<N>,
+    now: u64,
+) -> Option<Applied>
     ensures items { KeepsItems book.old book.new }
     ensures front { IfSome result (λ it. (seen : TheBookView) × (from : TheLaneView)
         × AppliesFront now seen from it book.new lane.new) }

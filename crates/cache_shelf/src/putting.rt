@@ -9,7 +9,7 @@ ghost use Rattle.cache_shelf.specs.Refusals.{left_of, is_no_room};
 use crate::refusals::NotPlaced;
 use crate::shelves::Shelf;
 use bump_heads::Name;
-use cache_index::{Entry, Law, Indexed, Slot};
+use cache_index::{Entry, Indexed, Law, Slot};
 use std::alloc::{AllocError, Global};
 use std::hash::Hash;
 use std::sync::{Arc, Wait};

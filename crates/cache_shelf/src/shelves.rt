@@ -9,7 +9,7 @@ use crate::counted::CountedBook;
 use bump_class::Book;
 use bump_heads::Name;
 use bump_rules::Place;
-use cache_index::{Home, IndexWriter, Law, Indexed};
+use cache_index::{Home, IndexWriter, Indexed, Law};
 use std::hash::Hash;
 use std::marker::Model;
 use std::sync::Wait;

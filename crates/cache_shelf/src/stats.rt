@@ -6,7 +6,7 @@ use crate::flow::Flow;
 use crate::shelves::Shelf;
 use bump_heads::Name;
 use bump_rules::Place;
-use cache_index::{Law, Indexed};
+use cache_index::{Indexed, Law};
 use std::hash::Hash;
 use std::sync::Wait;
 
@@ -38,7 +38,7 @@ pub struct Stats {
     /// Those of them that were never hit.
     pub evicted_unfetched: u64,
 
-    /// Those of them that were ACTIVE.
+    /// Those of them that were ACTIVE when they ended, in COLD.
     pub evicted_active: u64,
 
     /// Items that a put's own thread evicted. These are all of them: nobody else evicts.
