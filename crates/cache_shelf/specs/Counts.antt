@@ -1,8 +1,7 @@
 -- What the counts of a Book say.
-use Rattle.std.specs.Prelude.{◌≡◌, ℕ, ◌+◌, min, Bool, true, false, not, ◌||◌, List, [], ◌∷◌, Option, Some}
-use Rattle.std.specs.List.{list_any}
+use Rattle.std.specs.Prelude.{◌≡◌, ℕ, ◌+◌, min, Bool, true, false, not, ◌||◌, Option}
 use Rattle.bump_rules.specs.declared.places.Place.{Place}
-use Rattle.bump_rules.specs.declared.places.Place.TheVariants.{Hot, Warm, Cold, Temp, Dying, Unused}
+use Rattle.bump_rules.specs.declared.places.Place.TheVariants.{Hot, Warm, Cold, Dying, Unused}
 use Rattle.bump_rules.specs.Places.{is_segment_place}
 use Rattle.bump_steps.specs.declared.views.ClassPart.{ClassPart}
 use Rattle.cache_shelf.specs.declared.flow.Flow.{Flow}

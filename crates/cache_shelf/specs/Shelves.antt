@@ -1,5 +1,5 @@
 -- What contracts see of a Shelf, and what every Shelf keeps.
-use Rattle.std.specs.Prelude.{◌≡◌, ℕ, ◌<◌, Bool, true, length, Option, Some, None, slice_get, option_map}
+use Rattle.std.specs.Prelude.{◌≡◌, ℕ, ◌<◌, Bool, true, length, Option, Some, slice_get, option_map}
 use Rattle.bump_class.specs.Books.{BookView}
 use Rattle.cache_index.specs.Tables.{Placed, Table, at_chunk}
 use Rattle.cache_index.specs.Writing.{Written}

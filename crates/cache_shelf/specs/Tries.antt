@@ -1,5 +1,5 @@
 -- What one try to place an entry comes to.
-use Rattle.std.specs.Prelude.{◌≡◌, ℕ, List, None, Some, true, slice_set}
+use Rattle.std.specs.Prelude.{◌≡◌, List, None, Some, true, slice_set}
 use Rattle.bump_rules.specs.declared.items.ItemId.{ItemId}
 use Rattle.bump_rules.specs.Lists.{Lists}
 use Rattle.cache_index.specs.Tables.{Placed, Table, at_chunk}
