@@ -2,6 +2,7 @@
 use Rattle.std.specs.Prelude.{◌≡◌, ℕ, Bool, Option, Some, None, List, [], ◌∷◌, ◌++◌, ◌⊎◌, slice_set}
 use Rattle.bump_rules.specs.declared.items.ItemId.{ItemId}
 use Rattle.bump_rules.specs.declared.places.Start.TheVariants as start
+use Rattle.bump_class.specs.Books.{BookView}
 use Rattle.bump_class.specs.Changes.{book_with_item}
 use Rattle.cache_index.specs.Tables.{Placed, Table, at_chunk, without_chunk, without_key, found_in}
 use Rattle.cache_shelf.specs.Shelves.{ShelfView}
@@ -35,12 +36,16 @@ MayEvict {K} {V} told before more after = ((more ≡ told) × (after ≡ before)
 
 -- What a put comes to where it isn't refused: these are evicted, and then a life of a chunk that has nothing stands for
 -- the entry.
-pub record Puts {K V : Type 0} (entry : K × V) (evicted : List (Placed K V)) (before after : Table K V) : Type 0 where
+pub record Puts {K V : Type 0} (entry : K × V) (now : ℕ) (evicted : List (Placed K V)) (before after : Table K V)
+    (book : BookView) : Type 0 where
   pub between : Table K V
   pub item : ItemId
   pub evicts : EvictsAll evicted before between
   pub free : at_chunk item.chunk between ≡ None
   pub table : after ≡ slice_set between item.chunk (Some (entry_of item entry))
+  -- it is the last thing done: the item is linked in HOT, with this time
+  pub from : BookView
+  pub linked : book ≡ book_with_item start.Hot item 0 now from
 
 -- What a put leaves where it is refused: nothing changed, or the key's old item ended, and then these were evicted.
 abbrev pub Refuses : {K V : Type 0} → (K → K → Bool) → K → Option (Placed K V) → List (Placed K V) → Table K V

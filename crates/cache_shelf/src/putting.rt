@@ -105,8 +105,8 @@ impl<
         evicted: &mut Vec<Slot<K, V, L>>,
     ) -> Tried<K, V, L>
         requires anew { found_in K.eq entry.0 self.old.index.table ≡ None }
-        ensures tried { Tries entry evicted.old.items self.old.index.table result evicted.new.items
-            self.new.index.table self.new.book.lists }
+        ensures tried { Tries entry now evicted.old.items self.old.index.table result evicted.new.items
+            self.new.index.table self.new.book }
         ensures shown { self.new.index.shown ≡ self.old.index.shown }
     {
         if !self.is_ready() {
@@ -133,8 +133,8 @@ impl<
     ) -> Option<NotPlaced<K, V, L>>
         requires anew { found_in K.eq entry.0 self.old.index.table ≡ None }
         requires none { evicted.old.items ≡ [] }
-        ensures placed { IfNone result (Puts entry evicted.new.items self.old.index.table
-            self.new.index.table) }
+        ensures placed { IfNone result (Puts entry now evicted.new.items self.old.index.table
+            self.new.index.table self.new.book) }
         ensures refused { IfSome result (λ it. EvictsAll evicted.new.items self.old.index.table
             self.new.index.table) }
         ensures back { IfSome result (λ it. left_of it ≡ entry) }
@@ -166,8 +166,8 @@ impl<
         entry: Entry<K, V, L>,
         now: u64,
     ) -> Put<K, V, L>
-        ensures placed { IfNone result.refused (Puts entry result.evicted.items
-            (without_key K.eq entry.0 self.old.index.table) self.new.index.table) }
+        ensures placed { IfNone result.refused (Puts entry now result.evicted.items
+            (without_key K.eq entry.0 self.old.index.table) self.new.index.table self.new.book) }
         ensures old { IfNone result.refused (result.old ≡ found_in K.eq entry.0 self.old.index.table) }
         ensures refused { IfSome result.refused (λ it. Refuses K.eq entry.0 result.old result.evicted.items
             self.old.index.table self.new.index.table) }
