@@ -4,3 +4,4 @@ pub mod Bumping
 pub mod Counting
 pub mod Flowing
 pub mod Ways
+pub mod Turning

@@ -1,5 +1,5 @@
 -- What a Shelf keeps.
-use Rattle.std.proofs.Common.{◌≡◌, ◌≢◌, ◌⊎◌, ℕ, zero, suc, replicate, ◌++◌, ◌+◌, ◌<◌, Bool, true, false, ◌==◌, ◌&&◌, nat_le, nat_lt, List, [], ◌∷◌, length, Option, Some, None, option_map, slice_get, slice_set, get_or, if◌then◌else◌, refl, sym, ap, ap₂, ◌∙◌, subst, eqb-true, eq-eqb, ne_eqb, le-leb, lt-ltb, arith, IsSome, IfNone, IfSome}
+use Rattle.std.proofs.Common.{◌≡◌, ◌≢◌, ◌⊎◌, ℕ, zero, suc, replicate, ◌+◌, ◌<◌, Bool, true, false, ◌==◌, ◌&&◌, nat_le, nat_lt, [], length, Option, Some, None, option_map, slice_get, slice_set, get_or, if◌then◌else◌, refl, sym, ap, ap₂, ◌∙◌, subst, eqb-true, eq-eqb, ne_eqb, le-leb, lt-ltb, arith, IsSome, IfNone, IfSome}
 use mathlib.Core.Logic.{inl, inr}
 use Rattle.std.proofs.lemmas.Bool.{and_parts}
 use Rattle.std.proofs.lemmas.List.{get_or-set_same, get_or-set_other, length-set, length-replicate}
@@ -12,7 +12,7 @@ use Rattle.cache_index.specs.Tables.{Placed, Table, at_chunk, without_chunk, wit
 use Rattle.cache_index.proofs.Agreements.{one_or_two, set_past, slice_get_at, same_both, got_where_set, got_elsewhere, found_at, found_none, without_its_chunk, not_found, left_apart, nothing_at}
 use Rattle.cache_shelf.specs.Shelves.{linked_standing, linked_at, generation_at, IsShelf}
 use Rattle.cache_shelf.specs.Items.{KeepsItems, EndsAt, BeginsAt}
-use Rattle.cache_shelf.specs.Links.{entry_of, MayEvict, EvictsAll}
+use Rattle.cache_shelf.specs.Links.{entry_of}
 use Rattle.bump_rules.specs.History.{standing_in}
 
 module _ {K V : Type 0} {same : K → K → Bool} (book left : BookView) (table : Table K V) (is : IsShelf same book table) where
@@ -181,14 +181,6 @@ pub not_none : {X : Type 0} (P : Type 0) (it : Option X) (x : X) → it ≡ Some
 not_none P None x e = absurd (cc e)
 not_none P (Some y) x e = tt
 
--- one more is evicted
-pub evicts_push : {K V : Type 0} (evicted : List (Placed K V)) (before after : Table K V) (chunk : ℕ) (one : Placed K V)
-    → EvictsAll evicted before after → at_chunk chunk after ≡ Some one
-    → EvictsAll (evicted ++ one ∷ []) before (without_chunk chunk after)
-evicts_push [] before after chunk one is at =
-    (chunk, ap (at_chunk chunk) (sym is) ∙ at, ap (without_chunk chunk) is)
-evicts_push (first ∷ rest) before after chunk one (c, was, more) at = (c, was, evicts_push rest (without_chunk c before) after chunk one more at)
-
 -- a key that isn't found isn't found where a chunk has nothing any more
 pub still_unknown : {K V : Type 0} (same : K → K → Bool) (key : K) (table : Table K V) (chunk : ℕ)
     → found_in same key table ≡ None → found_in same key (without_chunk chunk table) ≡ None
@@ -226,31 +218,3 @@ shelf_new {K} {V} same book table first none is = record {
     nothing_read zero c = refl
     nothing_read (suc n) zero = refl
     nothing_read (suc n) (suc c) = nothing_read n c
-
--- what an evict answers is told
-pub evicted_one : {K V : Type 0} (at : Option ℕ) (one : Placed K V) (answer : Option (Placed K V)) (before between after : Table K V)
-    (told noted more : List (Placed K V)) → answer ≡ Some one → IfNone at (answer ≡ None) → IfSome at (λ chunk. answer ≡ at_chunk chunk between)
-    → IfSome at (λ chunk. after ≡ without_chunk chunk between) → between ≡ before → noted ≡ told → more ≡ noted ++ one ∷ []
-    → MayEvict told before more after
-evicted_one None one answer before between after told noted more is none taken left same kept push = absurd (cc (sym none ∙ is))
-evicted_one (Some chunk) one answer before between after told noted more is none taken left same kept push = inr (
-  one,
-  chunk,
-  ap (at_chunk chunk) (sym same) ∙ (sym taken ∙ is),
-  push ∙ ap (λ es. es ++ one ∷ []) kept,
-  left ∙ ap (without_chunk chunk) same,
-)
-
--- by what a try tells, one behind the other
-pub may_evict_push : {K V : Type 0} (told more : List (Placed K V)) (first before after : Table K V)
-    → EvictsAll told first before → MayEvict told before more after → EvictsAll more first after
-may_evict_push told more first before after all (inl none) = subst (λ es. EvictsAll es first after) (sym none.0) (subst (EvictsAll told first) (sym none.1) all)
-may_evict_push told more first before after all (inr (one, chunk, at, es_is, t_is)) =
-    subst (λ es. EvictsAll es first after) (sym es_is) (subst (EvictsAll (told ++ one ∷ []) first) (sym t_is) (evicts_push told first before chunk one all at))
-
--- and a key that isn't found stays so
-pub may_evict_unknown : {K V : Type 0} (same : K → K → Bool) (key : K) (told more : List (Placed K V)) (before after : Table K V)
-    → found_in same key before ≡ None → MayEvict told before more after → found_in same key after ≡ None
-may_evict_unknown same key told more before after none (inl it) = ap (found_in same key) it.1 ∙ none
-may_evict_unknown same key told more before after none (inr (one, chunk, at, es_is, t_is)) =
-    ap (found_in same key) t_is ∙ still_unknown same key before chunk none

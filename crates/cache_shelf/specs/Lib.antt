@@ -1,6 +1,7 @@
 pub mod Linked
 pub mod Shelves
 pub mod Items
+pub mod Turns
 pub mod Links
 pub mod Refusals
 pub mod Tries

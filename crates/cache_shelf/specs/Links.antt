@@ -1,12 +1,14 @@
 -- What the beginning of a Shelf's item comes to.
-use Rattle.std.specs.Prelude.{◌≡◌, ℕ, Bool, Option, Some, None, List, [], ◌∷◌, ◌++◌, ◌⊎◌, slice_set}
+use Rattle.std.specs.Prelude.{◌≡◌, ℕ, Bool, Option, Some, None, List, [], ◌⊎◌, slice_set}
 use Rattle.bump_rules.specs.declared.items.ItemId.{ItemId}
 use Rattle.bump_rules.specs.declared.places.Start.TheVariants as start
 use Rattle.bump_class.specs.Books.{BookView}
 use Rattle.bump_class.specs.Changes.{book_with_item}
-use Rattle.cache_index.specs.Tables.{Placed, Table, at_chunk, without_chunk, without_key, found_in}
+use Rattle.cache_index.specs.Tables.{Placed, Table, at_chunk, without_key, found_in}
 use Rattle.cache_shelf.specs.Shelves.{ShelfView}
+use Rattle.bump_rules.specs.Lists.{Lists}
 use Rattle.cache_shelf.specs.Items.{BeginsAt}
+use Rattle.cache_shelf.specs.Turns.{SameSegments, EvictsInTurn, ListsWithout}
 
 -- a key and its value, for which this life stands
 abbrev pub entry_of : {K V : Type 0} → ItemId → K × V → Placed K V
@@ -22,33 +24,24 @@ pub record Begins {K V : Type 0} (entry : K × V) (now : ℕ) (before after : Sh
   pub table : after.index.table
       ≡ slice_set before.index.table item.chunk (Some (entry_of item entry))
 
--- These are what chunks had, one after the other, and each of these chunks has nothing then.
-abbrev pub EvictsAll : {K V : Type 0} → List (Placed K V) → Table K V → Table K V → Type 0
-EvictsAll [] before after = after ≡ before
-EvictsAll (one ∷ rest) before after =
-    (chunk : ℕ) × (at_chunk chunk before ≡ Some one) × EvictsAll rest (without_chunk chunk before) after
-
--- Nothing is evicted, or one that a chunk had, which is told last.
-abbrev pub MayEvict : {K V : Type 0} → List (Placed K V) → Table K V → List (Placed K V) → Table K V → Type 0
-MayEvict {K} {V} told before more after = ((more ≡ told) × (after ≡ before))
-    ⊎ ((one : Placed K V) × (chunk : ℕ) × (at_chunk chunk before ≡ Some one) × (more ≡ told ++ one ∷ [])
-    × (after ≡ without_chunk chunk before))
-
--- What a put comes to where it isn't refused: these are evicted, and then a life of a chunk that has nothing stands for
--- the entry.
-pub record Puts {K V : Type 0} (entry : K × V) (now : ℕ) (evicted : List (Placed K V)) (before after : Table K V)
-    (book : BookView) : Type 0 where
+-- What a put comes to where it isn't refused: these are evicted in turn, and then a life of a chunk that has nothing
+-- stands for the entry.
+pub record Puts {K V : Type 0} (entry : K × V) (now : ℕ) (evicted : List (Placed K V)) (lists : Lists)
+    (before after : Table K V) (book : BookView) : Type 0 where
   pub between : Table K V
   pub item : ItemId
-  pub evicts : EvictsAll evicted before between
+  pub from : BookView
+  pub evicts : EvictsInTurn evicted lists before from.lists between
   pub free : at_chunk item.chunk between ≡ None
   pub table : after ≡ slice_set between item.chunk (Some (entry_of item entry))
   -- it is the last thing done: the item is linked in HOT, with this time
-  pub from : BookView
   pub linked : book ≡ book_with_item start.Hot item 0 now from
 
--- What a put leaves where it is refused: nothing changed, or the key's old item ended, and then these were evicted.
-abbrev pub Refuses : {K V : Type 0} → (K → K → Bool) → K → Option (Placed K V) → List (Placed K V) → Table K V
-    → Table K V → Type 0
-Refuses same key old evicted before after = ((old ≡ None) × (evicted ≡ []) × (after ≡ before))
-    ⊎ ((old ≡ found_in same key before) × EvictsAll evicted (without_key same key before) after)
+-- What a put leaves where it is refused: nothing changed, or the key's old item ended, and then these were evicted in
+-- turn.
+abbrev pub Refuses : {K V : Type 0} → (K → K → Bool) → K → Option (Placed K V) → List (Placed K V) → Lists
+    → Table K V → Lists → Table K V → Type 0
+Refuses same key old evicted lists before left after =
+    ((old ≡ None) × (evicted ≡ []) × SameSegments lists left × (after ≡ before))
+    ⊎ ((between : Lists) × (old ≡ found_in same key before) × ListsWithout old lists before between
+    × EvictsInTurn evicted between (without_key same key before) left after)

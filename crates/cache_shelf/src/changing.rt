@@ -1,6 +1,7 @@
 //! Items of a Shelf end and begin.
 ghost use Rattle.std.specs.Prelude.{◌≡◌, ℕ, false, IfSome, IfNone, IfOk, IfErr, IsSome, OnErr, None, true};
 ghost use Rattle.bump_links.specs.Lists.{first_of};
+ghost use Rattle.bump_rules.specs.Lists.{all_without};
 ghost use Rattle.cache_index.specs.Tables.{at_chunk, without_chunk, without_key, found_in, with_placed};
 ghost use Rattle.bump_class.specs.Sweeps.{Sweeps};
 ghost use Rattle.bump_rules.specs.declared.items.Head.{Head as TheHead};
@@ -10,6 +11,7 @@ ghost use Rattle.cache_shelf.specs.Items.{victim, EndsAt, KeepsItems};
 ghost use Rattle.cache_shelf.specs.Shelves.{counted};
 ghost use Rattle.cache_shelf.specs.Links.{Begins, entry_of};
 ghost use Rattle.cache_shelf.specs.Refusals.{left_of, is_no_room};
+ghost use Rattle.cache_shelf.specs.Turns.{SameSegments, ListsWithout};
 
 use crate::refusals::NotPlaced;
 use crate::shelves::Shelf;
@@ -54,6 +56,8 @@ impl<
         ensures table { IfSome (victim self.old.book.lists) (λ chunk. self.new.index.table
             ≡ without_chunk chunk self.old.index.table) }
         ensures ends { IfSome (victim self.old.book.lists) (λ chunk. EndsAt chunk self.old.book self.new.book) }
+        ensures others { IfSome (victim self.old.book.lists) (λ chunk. SameSegments
+            (all_without chunk self.old.book.lists) self.new.book.lists) }
         ensures counted { IfSome (victim self.old.book.lists) (λ chunk. CountsEviction chunk (counted self.old)
             (counted self.new)) }
         ensures none { IfNone (victim self.old.book.lists) (result ≡ None) }
@@ -73,6 +77,7 @@ impl<
         requires shown { self.old.index.shown ≡ self.old.index.table }
         ensures had { result ≡ found_in K.eq key.now self.old.index.table }
         ensures table { self.new.index.table ≡ without_key K.eq key.now self.old.index.table }
+        ensures lists { ListsWithout result self.old.book.lists self.old.index.table self.new.book.lists }
         ensures unchanged { IfNone result (self.new ≡ self.old) }
         ensures shown { self.new.index.shown ≡ self.old.index.shown }
         ensures evictions { self.new.evictions ≡ self.old.evictions }
@@ -103,6 +108,7 @@ impl<
         ensures no_room { IfErr result (λ it. is_no_room it ≡ true → (first_of self.old.book.lists.unused ≡ None)
             × (self.new ≡ self.old)) }
         ensures table { OnErr result (self.new.index.table ≡ self.old.index.table) }
+        ensures segments { OnErr result (SameSegments self.old.book.lists self.new.book.lists) }
         ensures shown { self.new.index.shown ≡ self.old.index.shown }
         ensures owes { self.new.index.owes ≡ false }
         ensures evictions { self.new.evictions ≡ self.old.evictions }
@@ -142,6 +148,7 @@ impl<
     pub fn sweep(&mut self) -> u32
         ensures swept { (heads : ℕ → TheHead) × Sweeps self.old.book result self.new.book heads }
         ensures items { KeepsItems self.old.book self.new.book }
+        ensures segments { SameSegments self.old.book.lists self.new.book.lists }
         ensures index { self.new.index ≡ self.old.index }
         ensures counts { (self.new.flow ≡ self.old.flow) × (self.new.evictions ≡ self.old.evictions) }
     {

@@ -10,13 +10,14 @@ ghost use Rattle.bump_rules.specs.declared.items.Head.{Head as TheHead};
 ghost use Rattle.bump_rules.specs.declared.places.Start.TheVariants as start;
 ghost use Rattle.cache_shelf.specs.Looking.{LooksOver};
 ghost use Rattle.bump_links.specs.Lists.{first_of};
-ghost use Rattle.bump_rules.specs.Lists.{list_at};
+ghost use Rattle.bump_rules.specs.Lists.{list_at, all_without};
 ghost use Rattle.bump_rules.specs.declared.places.Tail.TheVariants as tail;
 ghost use Rattle.bump_steps.specs.Views.{owns};
 ghost use Rattle.cache_shelf.specs.Counts.{CountedView as TheCountedView, IsFlow, SegmentsAddUp, CountsEviction};
 ghost use Rattle.cache_shelf.specs.Counts.{no_flow, no_evictions};
 ghost use Rattle.cache_shelf.specs.Items.{item_told, victim, KeepsItems, EndsAt, BeginsAt, HasNoBumpFor};
 ghost use Rattle.cache_shelf.specs.Shelves.{linked_at};
+ghost use Rattle.cache_shelf.specs.Turns.{SameSegments};
 
 use crate::evictions::Evictions;
 use crate::flow::Flow;
@@ -93,6 +94,8 @@ impl<N: Name> CountedBook<N> {
         ensures none { IfNone result (self.new ≡ self.old) }
         ensures linked { IfSome result (λ id. self.new.book ≡ book_with_item start.Hot id 0 now self.old.book) }
         ensures begins { IfSome result (λ id. BeginsAt id self.old.book self.new.book) }
+        ensures apart { IfSome result (λ id. SameSegments (all_without id.chunk self.old.book.lists)
+            self.old.book.lists) }
         ensures evictions { self.new.evictions ≡ self.old.evictions }
     {
         match items::begin(&mut self.book, now) {
@@ -111,6 +114,8 @@ impl<N: Name> CountedBook<N> {
         ensures linked { IfSome result (λ from. linked_at self.old.book.part id.chunk ≡ Some id.generation) }
         ensures not_linked { IfNone result (linked_at self.old.book.part id.chunk ≢ Some id.generation) }
         ensures kept { IfNone result (KeepsItems self.old.book self.new.book) }
+        ensures others { IfSome result (λ from. SameSegments (all_without id.chunk self.old.book.lists)
+            self.new.book.lists) }
         ensures evictions { self.new.evictions ≡ self.old.evictions }
     {
         match items::end(&mut self.book, id) {
@@ -128,6 +133,8 @@ impl<N: Name> CountedBook<N> {
         ensures next { victim self.old.book.lists ≡ result }
         ensures ends { IfSome result (λ chunk. EndsAt chunk self.old.book self.new.book) }
         ensures counted { IfSome result (λ chunk. CountsEviction chunk self.old self.new) }
+        ensures others { IfSome result (λ chunk. SameSegments (all_without chunk self.old.book.lists)
+            self.new.book.lists) }
         ensures none { IfNone result (self.new ≡ self.old) }
     {
         match items::end_next(&mut self.book) {
@@ -170,6 +177,7 @@ impl<N: Name> CountedBook<N> {
     pub(crate) fn sweep(&mut self) -> u32
         ensures swept { (heads : ℕ → TheHead) × Sweeps self.old.book result self.new.book heads }
         ensures kept { KeepsItems self.old.book self.new.book }
+        ensures segments { SameSegments self.old.book.lists self.new.book.lists }
         ensures counts { (self.new.flow ≡ self.old.flow) × (self.new.evictions ≡ self.old.evictions) }
     {
         items::sweep(&mut self.book)

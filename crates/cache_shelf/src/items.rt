@@ -1,7 +1,7 @@
 //! What is done with a Book's items.
 ghost use Rattle.std.specs.Prelude.{◌≡◌, ◌≢◌, ℕ, ◌+◌, true, length, IfSome, IfNone, option_map, None, Some};
 ghost use Rattle.bump_links.specs.Lists.{last_of, first_of};
-ghost use Rattle.bump_rules.specs.Lists.{list_at};
+ghost use Rattle.bump_rules.specs.Lists.{list_at, all_without};
 ghost use Rattle.bump_rules.specs.Places.{place_of};
 ghost use Rattle.bump_rules.specs.declared.places.Place.TheVariants.{Hot, Dying, Unused};
 ghost use Rattle.bump_rules.specs.declared.places.Tail.TheVariants as tail;
@@ -18,6 +18,7 @@ ghost use Rattle.bump_class.specs.Sweeps.{Sweeps};
 ghost use Rattle.bump_rules.specs.declared.items.Head.{Head as TheHead};
 ghost use Rattle.bump_rules.specs.declared.places.Start.TheVariants as start;
 ghost use Rattle.cache_shelf.specs.Ours.{are_ours};
+ghost use Rattle.cache_shelf.specs.Turns.{SameSegments};
 ghost use Rattle.cache_shelf.specs.Flows.{Flows, FlowsTwice, way_of_pull, way_to, way_of_applied};
 ghost use Rattle.bump_rules.specs.declared.items.ItemId.{ItemId as TheItemId};
 ghost use Rattle.bump_rules.specs.Tables.{last_pulled};
@@ -53,6 +54,8 @@ pub(crate) fn look_at<N: Name>(book: &mut Book<N>, from: Tail) -> Pulled
     ensures own { IfSome (item_told result) (λ id. owns id.chunk book.new.part ≡ true) }
     ensures none { IfNone (item_told result) (book.new ≡ book.old) }
     ensures flows { Flows (way_of_pull from result) book.old book.new }
+    ensures others { IfSome (item_told result) (λ id. SameSegments (all_without id.chunk book.old.lists)
+        (all_without id.chunk book.new.lists)) }
 {
     book.promise();
     book.pull(from)
@@ -69,6 +72,7 @@ fn end_last_of<N: Name>(book: &mut Book<N>, from: Tail) -> Option<Victim>
         book.old book.new) }
     ensures ways { IfSome result (λ it. are_ours (way_to it.last_of it.moved)) }
     ensures marks { IfSome result (λ it. ShowsMarks it.chunk it.fetched it.active book.new) }
+    ensures others { IfSome result (λ it. SameSegments (all_without it.chunk book.old.lists) book.new.lists) }
 {
     let pulled = look_at(book, from);
     let Some(id) = item_told(pulled) else {
@@ -98,6 +102,7 @@ pub(crate) fn end_next<N: Name>(book: &mut Book<N>) -> Option<Victim>
         book.old book.new) }
     ensures ways { IfSome result (λ it. are_ours (way_to it.last_of it.moved)) }
     ensures marks { IfSome result (λ it. ShowsMarks it.chunk it.fetched it.active book.new) }
+    ensures others { IfSome result (λ it. SameSegments (all_without it.chunk book.old.lists) book.new.lists) }
 {
     if let Some(ended) = end_last(book) {
         return Some(ended);
@@ -118,6 +123,7 @@ fn end_last<N: Name>(book: &mut Book<N>) -> Option<Victim>
         book.old book.new) }
     ensures ways { IfSome result (λ it. are_ours (way_to it.last_of it.moved)) }
     ensures marks { IfSome result (λ it. ShowsMarks it.chunk it.fetched it.active book.new) }
+    ensures others { IfSome result (λ it. SameSegments (all_without it.chunk book.old.lists) book.new.lists) }
 {
     book.promise();
     let Some(id) = item_told(book.pull(Tail::Evict)) else {
@@ -143,6 +149,7 @@ pub(crate) fn end<N: Name>(book: &mut Book<N>, id: ItemId) -> Option<Segment>
     ensures kept { IfNone result (KeepsItems book.old book.new) }
     ensures flows { IfSome result (λ from. Flows (Some (place_of from, Dying)) book.old book.new) }
     ensures stays { IfNone result (Flows None book.old book.new) }
+    ensures others { IfSome result (λ from. SameSegments (all_without id.chunk book.old.lists) book.new.lists) }
 {
     let (head, _) = book.see(id.chunk);
     book.promise();
@@ -157,6 +164,7 @@ pub(crate) fn sweep<N: Name>(book: &mut Book<N>) -> u32
     ensures swept { (heads : ℕ → TheHead) × Sweeps book.old result book.new heads }
     ensures kept { KeepsItems book.old book.new }
     ensures flows { Flows None book.old book.new }
+    ensures segments { SameSegments book.old.lists book.new.lists }
 {
     book.promise();
     book.sweep()
@@ -169,6 +177,7 @@ pub(crate) fn begin<N: Name>(book: &mut Book<N>, now: u64) -> Option<ItemId>
     ensures linked { IfSome result (λ id. book.new ≡ book_with_item start.Hot id 0 now book.old) }
     ensures begins { IfSome result (λ id. BeginsAt id book.old book.new) }
     ensures flows { IfSome result (λ id. Flows (Some (Unused, Hot)) book.old book.new) }
+    ensures apart { IfSome result (λ id. SameSegments (all_without id.chunk book.old.lists) book.old.lists) }
 {
     book.promise();
     match book.link(0, now) {

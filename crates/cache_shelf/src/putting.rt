@@ -1,7 +1,10 @@
 //! An entry is put, and makes room where there is none.
-ghost use Rattle.std.specs.Prelude.{◌≡◌, ◌⊎◌, false, true, IfSome, IfNone, IfOk, IfErr, OnErr, Err, None, []};
+ghost use Rattle.std.specs.Prelude.{◌≡◌, ◌⊎◌, ℕ, false, true, IfSome, IfNone, IfOk, IfErr, OnErr, Err, None, []};
 ghost use Rattle.cache_index.specs.Tables.{found_in, without_key};
-ghost use Rattle.cache_shelf.specs.Links.{MayEvict, EvictsAll, Puts, Refuses};
+ghost use Rattle.bump_rules.specs.Lists.{Lists};
+ghost use Rattle.cache_shelf.specs.Links.{Puts, Refuses};
+ghost use Rattle.cache_shelf.specs.Turns.{SameSegments, EvictsInTurn, MayEvict, ListsWithout};
+ghost use Rattle.cache_shelf.specs.Turns.{counted_each, CountsTold};
 ghost use Rattle.cache_shelf.specs.Tries.{Tries};
 ghost use Rattle.cache_shelf.specs.Items.{victim};
 ghost use Rattle.cache_shelf.specs.Refusals.{left_of, is_no_room};
@@ -71,12 +74,16 @@ impl<
     ) -> Result<Entry<K, V, L>, NotPlaced<K, V, L>>
         requires ready { self.old.index.owes ≡ false }
         ensures same { IfOk result (λ it. it ≡ entry) }
-        ensures made { IfOk result (λ it. MayEvict evicted.old.items self.old.index.table evicted.new.items
-            self.new.index.table) }
+        ensures made { IfOk result (λ it. MayEvict evicted.old.items self.old.book.lists self.old.index.table
+            evicted.new.items self.new.book.lists self.new.index.table) }
         ensures back { IfErr result (λ it. left_of it ≡ entry) }
         ensures kept { OnErr result (evicted.new.items ≡ evicted.old.items) }
         ensures table { OnErr result (self.new.index.table ≡ self.old.index.table) }
+        ensures segments { OnErr result (SameSegments self.old.book.lists self.new.book.lists) }
         ensures full { IfErr result (λ it. is_no_room it ≡ true → victim self.new.book.lists ≡ None) }
+        ensures counted { IfOk result (λ it. CountsTold evicted.old.items evicted.new.items
+            self.old.evictions.evicted self.new.evictions.evicted) }
+        ensures evictions { OnErr result (self.new.evictions ≡ self.old.evictions) }
         ensures shown { self.new.index.shown ≡ self.old.index.shown }
     {
         if evicted.reserve(1).is_err() {
@@ -105,8 +112,10 @@ impl<
         evicted: &mut Vec<Slot<K, V, L>>,
     ) -> Tried<K, V, L>
         requires anew { found_in K.eq entry.0 self.old.index.table ≡ None }
-        ensures tried { Tries entry now evicted.old.items self.old.index.table result evicted.new.items
-            self.new.index.table self.new.book }
+        ensures tried { Tries entry now evicted.old.items self.old.book.lists self.old.index.table result
+            evicted.new.items self.new.index.table self.new.book }
+        ensures counted { CountsTold evicted.old.items evicted.new.items self.old.evictions.evicted
+            self.new.evictions.evicted }
         ensures shown { self.new.index.shown ≡ self.old.index.shown }
     {
         if !self.is_ready() {
@@ -133,10 +142,11 @@ impl<
     ) -> Option<NotPlaced<K, V, L>>
         requires anew { found_in K.eq entry.0 self.old.index.table ≡ None }
         requires none { evicted.old.items ≡ [] }
-        ensures placed { IfNone result (Puts entry now evicted.new.items self.old.index.table
+        ensures placed { IfNone result (Puts entry now evicted.new.items self.old.book.lists self.old.index.table
             self.new.index.table self.new.book) }
-        ensures refused { IfSome result (λ it. EvictsAll evicted.new.items self.old.index.table
-            self.new.index.table) }
+        ensures refused { IfSome result (λ it. EvictsInTurn evicted.new.items self.old.book.lists
+            self.old.index.table self.new.book.lists self.new.index.table) }
+        ensures counted { self.new.evictions.evicted ≡ counted_each evicted.new.items self.old.evictions.evicted }
         ensures back { IfSome result (λ it. left_of it ≡ entry) }
         ensures full { IfSome result (λ it. is_no_room it ≡ true → victim self.new.book.lists ≡ None) }
         ensures shown { self.new.index.shown ≡ self.old.index.shown }
@@ -166,11 +176,15 @@ impl<
         entry: Entry<K, V, L>,
         now: u64,
     ) -> Put<K, V, L>
-        ensures placed { IfNone result.refused (Puts entry now result.evicted.items
-            (without_key K.eq entry.0 self.old.index.table) self.new.index.table self.new.book) }
+        ensures placed { IfNone result.refused ((lists : Lists)
+            × ListsWithout result.old self.old.book.lists self.old.index.table lists
+            × Puts entry now result.evicted.items lists (without_key K.eq entry.0 self.old.index.table)
+            self.new.index.table self.new.book) }
         ensures old { IfNone result.refused (result.old ≡ found_in K.eq entry.0 self.old.index.table) }
         ensures refused { IfSome result.refused (λ it. Refuses K.eq entry.0 result.old result.evicted.items
-            self.old.index.table self.new.index.table) }
+            self.old.book.lists self.old.index.table self.new.book.lists self.new.index.table) }
+        ensures counted { self.new.evictions.evicted
+            ≡ counted_each result.evicted.items self.old.evictions.evicted }
         ensures back { IfSome result.refused (λ it. left_of it ≡ entry) }
         ensures full { IfSome result.refused (λ it. is_no_room it ≡ true → victim self.new.book.lists ≡ None) }
         ensures shown { result.shown ≡ true → self.new.index.shown ≡ self.new.index.table }
@@ -202,8 +216,11 @@ impl<
     pub fn remove(&mut self, key: &K) -> Result<Removed<K, V, L>, AllocError>
         ensures old { IfOk result (λ it. it.old ≡ found_in K.eq key.now self.old.index.table) }
         ensures table { IfOk result (λ it. self.new.index.table ≡ without_key K.eq key.now self.old.index.table) }
+        ensures lists { IfOk result (λ it. ListsWithout it.old self.old.book.lists self.old.index.table
+            self.new.book.lists) }
         ensures shown { IfOk result (λ it. it.shown ≡ true → self.new.index.shown ≡ self.new.index.table) }
         ensures hidden { IfOk result (λ it. it.shown ≡ false → self.new.index.shown ≡ self.old.index.table) }
+        ensures evictions { self.new.evictions ≡ self.old.evictions }
         ensures unchanged { OnErr result (self.new.index.table ≡ self.old.index.table) }
         ensures book { OnErr result (self.new.book ≡ self.old.book) }
         ensures still { OnErr result (self.new.index.shown ≡ self.old.index.shown) }

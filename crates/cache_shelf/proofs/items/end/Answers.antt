@@ -6,6 +6,9 @@ use Rattle.cache_shelf.proofs.Bumping.{seen_keeps}
 use Rattle.cache_shelf.proofs.Standings.{unlinks_at, unlink_ok, unlink_err, unlinks_nothing, see_keeps, kept_ends}
 use Rattle.cache_shelf.proofs.Ways.{behind_none, seen_flows, unlinks_flow, refused_flow, found_segment}
 use Rattle.cache_shelf.proofs.items.end.Goals as goal
+use Rattle.cache_shelf.proofs.Turning.{unlinks_others}
+use Rattle.cache_shelf.specs.Turns.{SameSegments}
+use Rattle.bump_rules.specs.Lists.{all_without}
 
 pub returns-in-Ok-clause-ends : goal.returns-in-Ok-clause-ends
 returns-in-Ok-clause-ends g c =
@@ -45,3 +48,7 @@ pub returns-in-Err-clause-stays : goal.returns-in-Err-clause-stays
 returns-in-Err-clause-stays g c = behind_none c.args.book.now c.see.new.self c.unlink.new.self _
     (seen_flows c.args.book.now c.see.new.self c.args.id.chunk c.see.result.1 c.see.result.0 c.see.ensures.seen)
     (refused_flow c.see.new.self c.unlink.new.self c.args.id _ c.in-Err.ensures.unlinked)
+
+pub returns-in-Ok-clause-others : goal.returns-in-Ok-clause-others
+returns-in-Ok-clause-others g c = subst (λ b. SameSegments (all_without c.args.id.chunk b.lists) c.unlink.new.self.lists) c.see.ensures.seen
+    (unlinks_others c.see.new.self c.unlink.new.self c.args.id _ c.in-Ok.ensures.unlinked)

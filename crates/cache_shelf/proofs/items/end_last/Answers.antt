@@ -2,6 +2,8 @@ use Rattle.std.proofs.Common.{refl, sym, ◌∙◌}
 use Rattle.cache_shelf.proofs.Standings.{evict_told, owns_same, see_keeps, ends_kept, ended_shown}
 use Rattle.cache_shelf.proofs.Ways.{still, before_none, seen_flows, evicts_flow}
 use Rattle.cache_shelf.proofs.items.end_last.Goals as goal
+use Rattle.bump_rules.specs.Lists.{all_without}
+use Rattle.cache_shelf.proofs.Turning.{evict_others, seen_others}
 
 pub see-requires : goal.see-requires
 see-requires g c =
@@ -36,3 +38,9 @@ returns-clause-marks g c =
       is_fetched = refl;
       is_active = refl;
     }
+
+pub returns-clause-others : goal.returns-clause-others
+returns-clause-others g c =
+    let told = evict_told c.args.book.now c.pull.new.self c.pull.result c.in-Some.id c.promise.ensures.stands _ refl c.pull.ensures (sym c.item_told.ensures ∙ c.in-Some.is) in
+    seen_others (all_without c.in-Some.id.chunk c.args.book.now.lists) c.pull.new.self c.see.new.self c.in-Some.id.chunk c.see.result.1 c.see.result.0
+    c.see.ensures.seen (evict_others c.args.book.now c.pull.new.self c.pull.result c.in-Some.id _ c.pull.ensures told.0)

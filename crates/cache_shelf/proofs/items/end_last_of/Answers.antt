@@ -1,10 +1,13 @@
-use Rattle.std.proofs.Common.{refl, sym, ap₂, ◌∙◌, subst}
+use Rattle.std.proofs.Common.{refl, sym, ap₂, ◌∙◌, subst, IfSome}
 use Rattle.cache_shelf.specs.Flows.{Flows, way_to}
 use Rattle.cache_shelf.proofs.Standings.{ended_shown}
 use Rattle.cache_shelf.proofs.Ways.{before_none, seen_flows, told_way}
 use Rattle.cache_shelf.specs.Ours.{are_ours}
 use Rattle.cache_shelf.proofs.Counting.{told_ours}
 use Rattle.cache_shelf.proofs.items.end_last_of.Goals as goal
+use Rattle.bump_rules.specs.Lists.{all_without}
+use Rattle.cache_shelf.specs.Turns.{SameSegments}
+use Rattle.cache_shelf.proofs.Turning.{seen_others, same_then}
 
 pub returns-clause-flows : goal.returns-clause-flows
 returns-clause-flows g c = record {
@@ -32,3 +35,13 @@ returns-clause-marks g c = record {
 pub returns-clause-ways : goal.returns-clause-ways
 returns-clause-ways g c = subst are_ours (ap₂ way_to (sym c.segment.ensures) (sym c.to.ensures))
     (told_ours c.args.from c.look_at-pulled.result c.requires c.look_at-pulled.ensures.told)
+
+pub returns-clause-others : goal.returns-clause-others
+returns-clause-others g c =
+    let book = c.args.book.now in
+    let looked = c.look_at-pulled.new.book in
+    let chunk = c.in-Some.id.chunk in
+    seen_others (all_without chunk book.lists) c.end.new.book c.see.new.self chunk c.see.result.1 c.see.result.0 c.see.ensures.seen
+    (same_then (all_without chunk book.lists) (all_without chunk looked.lists) c.end.new.book.lists
+    (subst (λ t. IfSome t (λ id. SameSegments (all_without id.chunk book.lists) (all_without id.chunk looked.lists)))
+    (sym c.item_told.ensures ∙ c.in-Some.is) c.look_at-pulled.ensures.others) c.in-Some-end.ensures.others)

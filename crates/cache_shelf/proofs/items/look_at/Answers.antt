@@ -4,6 +4,7 @@ use Rattle.cache_shelf.specs.Items.{item_told}
 use Rattle.cache_shelf.proofs.Standings.{pulls_keep, pull_tells, told_chunk, told_linked, told_own, told_none}
 use Rattle.cache_shelf.proofs.Ways.{pulls_told, pulls_flow}
 use Rattle.cache_shelf.proofs.items.look_at.Goals as goal
+use Rattle.cache_shelf.proofs.Turning.{pulls_others, told_others}
 
 pub returns-clause-kept : goal.returns-clause-kept
 returns-clause-kept g c = pulls_keep c.args.book.now c.pull.new.self c.args.from c.pull.result c.promise.ensures.stands c.requires _ refl c.pull.ensures
@@ -36,3 +37,9 @@ returns-clause-none g c =
 
 pub returns-clause-flows : goal.returns-clause-flows
 returns-clause-flows g c = pulls_flow c.args.book.now c.pull.new.self c.args.from c.pull.result c.promise.ensures.stands _ refl c.pull.ensures
+
+pub returns-clause-others : goal.returns-clause-others
+returns-clause-others g c =
+    let tells = pull_tells c.args.book.now c.pull.new.self c.args.from c.pull.result c.promise.ensures.stands c.requires _ refl c.pull.ensures in
+    told_others c.args.book.now c.pull.new.self (last_pulled c.args.from c.args.book.now.lists) (item_told c.pull.result) tells.0
+    (pulls_others c.args.book.now c.pull.new.self c.args.from c.pull.result c.requires _ c.pull.ensures)

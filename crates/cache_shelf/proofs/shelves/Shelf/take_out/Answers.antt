@@ -6,6 +6,8 @@ use Rattle.cache_index.proofs.Agreements.{without_unknown}
 use Rattle.cache_shelf.specs.Shelves.{IsShelf}
 use Rattle.cache_shelf.proofs.Shelving.{shelf_ended, home_linked, within_owned, found_there, left_without, where_linked, not_none}
 use Rattle.cache_shelf.proofs.shelves.Shelf.take_out.Goals as goal
+use Rattle.cache_shelf.specs.Turns.{ListsWithout}
+use Rattle.cache_shelf.proofs.Turning.{lists_taken}
 
 pub end-requires : goal.end-requires
 end-requires g c =
@@ -60,3 +62,14 @@ returns-in-Some-clause-unchanged g c =
     let at = ap (λ t. slice_get t c.in-Some.field-0.chunk) (sym shown) ∙ c.in-Some.ensures.at in
     let home = home_linked c.self.inside.class.book c.self.inside.class.book c.self.inside.index.table c.self.invariant c.in-Some.field-0.chunk c.in-Some.field-0.slot.now at in
     not_none _ c.clear.result c.in-Some.field-0.slot.now (c.clear.ensures.had ∙ get_or_from_slice_get c.self.inside.index.table c.in-Some.field-0.chunk (Some c.in-Some.field-0.slot.now) None at)
+
+pub returns-in-Some-clause-lists : goal.returns-in-Some-clause-lists
+returns-in-Some-clause-lists g c =
+    let shown = ap (λ s. s.index.shown) c.self.view_is ∙ (c.requires.shown ∙ sym (ap (λ s. s.index.table) c.self.view_is)) in
+    let at = ap (λ t. slice_get t c.in-Some.field-0.chunk) (sym shown) ∙ c.in-Some.ensures.at in
+    let home = home_linked c.self.inside.class.book c.self.inside.class.book c.self.inside.index.table c.self.invariant c.in-Some.field-0.chunk c.in-Some.field-0.slot.now at in
+    let had = get_or_from_slice_get c.self.inside.index.table c.in-Some.field-0.chunk (Some c.in-Some.field-0.slot.now) None at in
+    let gone = where_linked _ _ c.end.result (home.1 ∙ ap Some (sym (c.generation-generation.ensures ∙ (ap (λ i. i.generation) c.deref.ensures ∙ ap (λ s. s.generation) c.slot.view_is)))) c.end.ensures.not_linked c.end.ensures.others in
+    subst (λ s. ListsWithout c.clear.result s.book.lists s.index.table c.end.new.self.book.lists) c.self.view_is
+    (lists_taken c.clear.result c.in-Some.field-0.slot.now c.in-Some.field-0.chunk c.self.inside.class.book.lists c.self.inside.index.table
+    c.end.new.self.book.lists (c.clear.ensures.had ∙ had) had gone)
