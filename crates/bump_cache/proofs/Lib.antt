@@ -1,2 +1,3 @@
 mod Openings
 mod HitLemmas
+mod Keys

@@ -1,5 +1,5 @@
 //! A cache that threads share.
-ghost use Rattle.std.specs.Prelude.{◌≡◌, IfSome};
+ghost use Rattle.std.specs.Prelude.{◌≡◌, IfSome, IfOk, true};
 ghost use Rattle.bump_steps.specs.declared.views.ClassPart.{ClassPart as TheClassPart};
 ghost use Rattle.bump_cache.specs.Opening.{Limits as TheLimits};
 ghost use Rattle.cache_shelf.specs.Counts.{IsFlow, SegmentsAddUp};
@@ -65,6 +65,7 @@ impl<
     pub fn put<W: Wait>(&self, alloc: Global, rt: &W, key: K, value: V, now: u64) -> Put<K, V, L>
         requires law { L.holds key value }
         ensures refused { IfSome result.refused (λ it. left_of it ≡ (key, value)) }
+        ensures old { IfSome result.old (λ had. K.eq key had.key ≡ true) }
     {
         let mut guard = self.shelf.lock(rt);
         let shelf = &mut *guard;
@@ -75,7 +76,9 @@ impl<
 
     /// Ends the item of the key, if it has one, as memcached's `delete`: it waits until no other thread changes the
     /// cache. It is refused only for want of memory, and changes nothing then.
-    pub fn remove<W: Wait>(&self, rt: &W, key: &K) -> Result<Removed<K, V, L>, AllocError> {
+    pub fn remove<W: Wait>(&self, rt: &W, key: &K) -> Result<Removed<K, V, L>, AllocError>
+        ensures old { IfOk result (λ it. IfSome it.old (λ had. K.eq key.now had.key ≡ true)) }
+    {
         let mut guard = self.shelf.lock(rt);
         let shelf = &mut *guard;
         shelf.remove(key)

@@ -1,12 +1,14 @@
 //! A reader of a cache.
-ghost use Rattle.std.specs.Prelude.{◌≡◌, ◌+◌, min, true, IfSome, IfNone};
+ghost use Rattle.std.specs.Prelude.{◌≡◌, ◌+◌, min, true, length, IfSome, IfNone};
 ghost use Rattle.std.specs.Arc.{arc_value};
+ghost use Rattle.bump_rules.specs.declared.hands.Hand.TheVariants as hand;
+ghost use Rattle.bump_rules.specs.Rings.{IsAccounts};
 ghost use Rattle.bump_store.specs.StepCounts.{MakesAtMost};
 ghost use Rattle.bump_cache.specs.Hits.{CacheHits, HitsHeld};
 ghost use Rattle.bump_cache.specs.Readers.{ReaderView as TheReaderView, one_more, new_reader, life_of, dropped_of};
 
 use bump_heads::{Heads, Name, ReaderHeads};
-use bump_rules::ItemId;
+use bump_rules::{Accounts, ItemId};
 use bump_store::{Hold, Worker};
 use cache_index::{IndexReader, Indexed, Item, Law};
 use std::alloc::Global;
@@ -147,6 +149,14 @@ impl<N: Name, K: Eq + Hash + Drop, V: Drop, L: Law<K, V>, I: Indexed<K, V, L> + 
         ensures { result ≡ self.now.misses }
     {
         self.misses
+    }
+
+    /// Its counts of bumps, as `Worker::counts` tells them: accepted and dropped ones add up to those attempted.
+    pub fn bumps(&self) -> Accounts
+        ensures counts { result ≡ self.now.worker.part.accounts }
+        ensures add_up { IsAccounts result (length self.now.worker.sender.sent) hand.Idle }
+    {
+        self.worker.counts()
     }
 
     /// How many bumps of this reader's hits were dropped, since its ring had no room, other threads were faster, or the
