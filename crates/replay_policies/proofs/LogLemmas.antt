@@ -1,5 +1,5 @@
 -- A step of a run through an access log.
-use Rattle.std.proofs.Common.{◌≡◌, ℕ, ◌+◌, ◌<◌, Bool, true, false, cond, refl, arith}
+use Rattle.std.proofs.Common.{◌≡◌, ℕ, ◌+◌, ◌<◌, Bool, true, false, cond, arith}
 use Rattle.std.proofs.lemmas.Grind.{common_steps}
 use Rattle.replay_policies.specs.declared.tallies.Tally.{Tally}
 use Rattle.replay_policies.specs.Tallies.{counted}

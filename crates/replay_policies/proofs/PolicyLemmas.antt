@@ -1,13 +1,12 @@
 -- The keys of an `LruCache`, as the policies have them.
-use Rattle.std.proofs.Common.{◌≡◌, ℕ, zero, suc, ◌<◌, ◌-◌, Bool, true, false, List, [], ◌∷◌, take, Option, Some, None, is_some, nat_eq, refl, sym, ap, ◌∙◌, arith}
+use Rattle.std.proofs.Common.{◌≡◌, ℕ, zero, suc, ◌<◌, ◌-◌, true, false, List, [], ◌∷◌, take, Option, Some, None, is_some, nat_eq, refl, sym, ap, ◌∙◌, arith}
 use Rattle.std.specs.Option.{option_map_or}
 use Rattle.std.specs.Map.{keys_of, lookup, lookup_entry, remove_entry}
 use Rattle.std.proofs.lemmas.Grind.{common_steps}
 use Rattle.std.proofs.lemmas.List.{take-map}
 use Rattle.lru.specs.LruCache.{LruCache, put_entries}
 use Rattle.lru.proofs.CallerLemmas.{Contains-lookup_entry}
-use Rattle.replay_policies.specs.declared.policies.Policy.{Policy}
-use Rattle.replay_policies.specs.declared.policies.Policy.TheVariants.{Lru, Fifo}
+use Rattle.replay_policies.specs.declared.policies.Policy.TheVariants.{Lru}
 use Rattle.replay_policies.specs.Policies.{is_hit, without, after_miss, after_access}
 
 module _ {V : Type 0} (key : ℕ) where

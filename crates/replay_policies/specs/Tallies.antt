@@ -1,5 +1,5 @@
 -- What a tally counts.
-use Rattle.std.specs.Prelude.{ℕ, ◌+◌, ◌==◌, Bool, true, false, if◌then◌else◌}
+use Rattle.std.specs.Prelude.{◌+◌, ◌==◌, Bool, true, false, if◌then◌else◌}
 use Rattle.replay_policies.specs.declared.tallies.Tally.{Tally}
 
 -- there was no access

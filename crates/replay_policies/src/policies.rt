@@ -20,11 +20,7 @@ impl Policy {
     // Whether the key was in the cache. It is afterwards; memory is refused only where it wasn't, and then nothing is
     // changed.
     #[inline(always)]
-    pub(crate) fn access(
-        self,
-        cache: &mut LruCache<u32, ()>,
-        key: u32,
-    ) -> Result<bool, AllocError>
+    pub(crate) fn access(self, cache: &mut LruCache<u32, ()>, key: u32) -> Result<bool, AllocError>
         requires room { 0 < cache.old.cap }
         ensures hit { IfOk result (λ hit. hit ≡ is_hit key (keys_of cache.old.entries)) }
         ensures keys { OnOk result (keys_of cache.new.entries

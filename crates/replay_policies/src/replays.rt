@@ -29,10 +29,10 @@ impl Model for Replay {
     ghost Value = { TheReplayView };
 
     ghost view = { λ r. record {
-        policy = r.policy;
-        items = r.cache.cap;
-        keys = keys_of r.cache.entries;
-        tally = r.tally
+      policy = r.policy;
+      items = r.cache.cap;
+      keys = keys_of r.cache.entries;
+      tally = r.tally;
     } };
 
     ghost invariant = { λ r. IsReplay r.cache.cap r.tally };
@@ -43,10 +43,10 @@ impl Replay {
     /// isn't so, and else only for want of memory.
     pub fn new(alloc: Global, policy: Policy, items: u32) -> Result<Replay, ReplayFault>
         ensures empty { IfOk result (λ r. r ≡ record {
-            policy = policy;
-            items = items;
-            keys = [];
-            tally = no_accesses
+          policy = policy;
+          items = items;
+          keys = [];
+          tally = no_accesses;
         }) }
         ensures allowed { OnOk result (is_allowed items ≡ true) }
         ensures fault { IfErr result (λ fault. fault ≡ fault_of items) }

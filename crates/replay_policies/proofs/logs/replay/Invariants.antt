@@ -9,5 +9,5 @@ invariant-loop-key l = record {
   items : l.replay.items ≡ l.fn.items;
   accesses : l.replay.tally.accesses ≡ l.key-index;
   hits : l.replay.tally.hits + hits_from l.fn.policy l.fn.items l.replay.keys (drop l.key-index l.accesses) ≡ hits_of l.fn.policy l.fn.items l.accesses;
-  misses : l.replay.tally.misses + misses_from l.fn.policy l.fn.items l.replay.keys (drop l.key-index l.accesses) ≡ misses_of l.fn.policy l.fn.items l.accesses
+  misses : l.replay.tally.misses + misses_from l.fn.policy l.fn.items l.replay.keys (drop l.key-index l.accesses) ≡ misses_of l.fn.policy l.fn.items l.accesses;
 }
