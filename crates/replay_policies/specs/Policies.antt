@@ -9,7 +9,7 @@ use Rattle.replay_policies.specs.declared.policies.Policy.TheVariants.{Lru, Fifo
 abbrev pub is_hit : ℕ → List ℕ → Bool
 is_hit key keys = list_any (nat_eq key) keys
 
--- the keys without this one
+-- the keys without this one, which a cache has once at most
 abbrev pub without : ℕ → List ℕ → List ℕ
 without key [] = []
 without key (first ∷ keys) = if nat_eq key first then keys else first ∷ without key keys

@@ -1,5 +1,6 @@
 //! A cache through which an access log is run.
-ghost use Rattle.std.specs.Prelude.{◌≡◌, ◌+◌, [], true, false, IfOk, OnOk, IfErr, OnErr};
+ghost use Rattle.std.specs.Prelude.{◌≡◌, ◌+◌, ◌≤◌, [], true, false, nat_eq, length, IfOk, OnOk, IfErr, OnErr};
+ghost use Rattle.std.specs.List.{IsDistinct};
 ghost use Rattle.replay_policies.specs.Policies.{is_hit, after_access};
 ghost use Rattle.replay_policies.specs.Replays.{ReplayView as TheReplayView, is_allowed, fault_of, IsReplay};
 ghost use Rattle.replay_policies.specs.Tallies.{no_accesses, counted};
@@ -81,6 +82,15 @@ impl Replay {
         let hit = self.policy.access(&mut self.cache, key)?;
         self.tally.count(hit);
         Ok(hit)
+    }
+
+    /// How many keys are in the cache: never more than it has room for, and none of them twice.
+    pub fn key_count(&self) -> usize
+        ensures count { result ≡ length self.now.keys }
+        ensures room { result ≤ self.now.items }
+        ensures distinct { IsDistinct nat_eq self.now.keys }
+    {
+        self.cache.len()
     }
 
     /// What the accesses came to so far.

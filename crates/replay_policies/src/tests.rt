@@ -90,6 +90,7 @@ fn lru_keeps_what_was_asked_for(rt: HostRuntime) -> Result<(), Fail> {
     assert!(rt; run.access(1)?);
     assert!(rt; !run.access(2)?);
     assert_eq!(rt; run.tally(), tally(2, 5));
+    assert_eq!(rt; run.key_count(), 3);
     Ok(())
 }
 
