@@ -1,0 +1,58 @@
+-- A run through an access log, for callers that make the accesses themselves.
+use Rattle.std.proofs.Common.{◌≡◌, ℕ, ◌+◌, ◌<◌, Bool, true, false, List, [], ◌∷◌, length, cond, refl, ◌∙◌, arith}
+use Rattle.std.proofs.lemmas.Grind.{common_steps}
+use Rattle.replay_policies.specs.declared.policies.Policy.{Policy}
+use Rattle.replay_policies.specs.declared.tallies.Tally.{Tally}
+use Rattle.replay_policies.specs.Policies.{is_hit, after_access, hits_from, hits_of, misses_from, misses_of}
+use Rattle.replay_policies.specs.Replays.{ReplayView}
+use Rattle.replay_policies.specs.Tallies.{counted, no_accesses}
+
+module _ (tally : Tally) (fits : tally.accesses < 18446744073709551615) where
+  -- an access that is counted is one more
+  accesses-counted : (hit : Bool) → (counted hit tally).accesses ≡ tally.accesses + 1
+  accesses-counted true = grind (arith, common_steps)
+  accesses-counted false = grind (arith, common_steps)
+
+  -- a hit that is counted is one that needn't be counted any more
+  hits-counted : (hit : Bool) (later : ℕ) → (counted hit tally).hits + later ≡ tally.hits + (cond hit 1 0 + later)
+  hits-counted true later = grind (arith, common_steps)
+  hits-counted false later = grind (arith, common_steps)
+
+  -- a miss that is counted is one that needn't be counted any more
+  misses-counted : (hit : Bool) (later : ℕ) → (counted hit tally).misses + later ≡ tally.misses + (cond hit 0 1 + later)
+  misses-counted true later = grind (arith, common_steps)
+  misses-counted false later = grind (arith, common_steps)
+
+module _ (policy : Policy) (items : ℕ) (all : List ℕ) where
+  -- A replay runs through this log, and so much of it is left: what it counted so far, with what the definitions say of
+  -- the rest, is what they say of the whole.
+  pub record IsRun (replay : ReplayView) (left : List ℕ) : Type 0 where
+    pub same_policy : replay.policy ≡ policy
+    pub same_items : replay.items ≡ items
+    pub accesses : replay.tally.accesses + length left ≡ length all
+    pub hits : replay.tally.hits + hits_from policy items replay.keys left ≡ hits_of policy items all
+    pub misses : replay.tally.misses + misses_from policy items replay.keys left ≡ misses_of policy items all
+
+  -- at first all of it is left
+  pub IsRun-start : IsRun (record { policy = policy; items = items; keys = []; tally = no_accesses }) all
+  IsRun-start = record { same_policy = refl; same_items = refl; accesses = omega arith; hits = omega arith; misses = omega arith }
+
+  -- after an access, by its clauses, the rest is left
+  pub IsRun-access : (old new : ReplayView) (key : ℕ) (left : List ℕ) → length all < 18446744073709551616
+      → new.policy ≡ old.policy → new.items ≡ old.items
+      → new.keys ≡ after_access old.policy old.items key old.keys
+      → new.tally ≡ counted (is_hit key old.keys) old.tally
+      → IsRun old (key ∷ left) → IsRun new left
+  IsRun-access old new key left short kept_policy kept_items keys tally run =
+      let fits : old.tally.accesses < 18446744073709551615 = omega (arith, run.accesses) in
+      let hit = is_hit key old.keys in
+      let one_more = accesses-counted old.tally fits hit in
+      record {
+        same_policy = kept_policy ∙ run.same_policy;
+        same_items = kept_items ∙ run.same_items;
+        accesses = rw (tally, one_more) (omega (arith, run.accesses));
+        hits = rw (tally, keys, run.same_policy, run.same_items)
+            (hits-counted old.tally fits hit (hits_from policy items (after_access policy items key old.keys) left) ∙ run.hits);
+        misses = rw (tally, keys, run.same_policy, run.same_items)
+            (misses-counted old.tally fits hit (misses_from policy items (after_access policy items key old.keys) left) ∙ run.misses);
+      }

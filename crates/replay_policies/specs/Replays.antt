@@ -1,0 +1,26 @@
+-- What a contract sees of a replay.
+use Rattle.std.specs.Prelude.{◌≡◌, ℕ, ◌+◌, ◌<◌, Bool, List, nat_le, ◌&&◌, if◌then◌else◌}
+use Rattle.replay_policies.specs.declared.policies.Policy.{Policy}
+use Rattle.replay_policies.specs.declared.tallies.Tally.{Tally}
+use Rattle.replay_policies.specs.declared.faults.ReplayFault.{ReplayFault}
+use Rattle.replay_policies.specs.declared.faults.ReplayFault.TheVariants.{Items, Memory}
+
+-- its policy, how many items it has room for, the keys that are in the cache, as `Policies` has them, and its tally
+pub record ReplayView : Type 0 where
+  pub policy : Policy
+  pub items : ℕ
+  pub keys : List ℕ
+  pub tally : Tally
+
+-- what every replay keeps: it has room, and its hits and misses are its accesses
+pub record IsReplay (items : ℕ) (tally : Tally) : Type 0 where
+  pub room : 0 < items
+  pub sum : tally.hits + tally.misses ≡ tally.accesses
+
+-- a cache may have room for so many items
+abbrev pub is_allowed : ℕ → Bool
+is_allowed items = nat_le 1 items && nat_le items 1000000
+
+-- why a replay is refused, where it is
+abbrev pub fault_of : ℕ → ReplayFault
+fault_of items = if is_allowed items then Memory else Items

@@ -1,0 +1,32 @@
+//! Access logs that are run as a whole.
+ghost use Rattle.std.specs.Prelude.{◌≡◌, ◌+◌, true, length, IfOk, OnOk, IfErr};
+ghost use Rattle.replay_policies.specs.Policies.{hits_of, misses_of};
+ghost use Rattle.replay_policies.specs.Replays.{is_allowed, fault_of};
+
+use crate::faults::ReplayFault;
+use crate::policies::Policy;
+use crate::replays::Replay;
+use crate::tallies::Tally;
+use std::alloc::{AllocError, Global};
+
+/// An access log, the key numbers in their order, run through a cache that has no keys at first, and room for so many
+/// items: 1 to 1,000,000. It is refused as `Items` exactly where that isn't so, and else only for want of memory.
+pub fn replay(
+    alloc: Global,
+    policy: Policy,
+    items: u32,
+    accesses: &[u32],
+) -> Result<Tally, ReplayFault>
+    ensures accesses { IfOk result (λ tally. tally.accesses ≡ length accesses.now) }
+    ensures hits { IfOk result (λ tally. tally.hits ≡ hits_of policy items accesses.now) }
+    ensures misses { IfOk result (λ tally. tally.misses ≡ misses_of policy items accesses.now) }
+    ensures sum { IfOk result (λ tally. tally.hits + tally.misses ≡ tally.accesses) }
+    ensures allowed { OnOk result (is_allowed items ≡ true) }
+    ensures fault { IfErr result (λ fault. fault ≡ fault_of items) }
+{
+    let mut replay = Replay::new(alloc, policy, items)?;
+    for key in accesses {
+        replay.access(*key)?;
+    }
+    Ok(replay.tally())
+}
