@@ -20,6 +20,6 @@ def hits_of(size, keys):
     return hits
 
 
-keys = [int(line) for line in sys.stdin if line.strip()]
+keys = [line.rstrip("\r\n") for line in sys.stdin if line.strip()]
 for size in map(int, sys.argv[1:]):
     print(size, len(keys), hits_of(size, keys))

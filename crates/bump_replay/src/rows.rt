@@ -1,0 +1,35 @@
+//! What the runs through caches of one size came to.
+use replay_cache::Outcome;
+use replay_policies::Tally;
+
+/// The runs through caches of one size.
+#[derive(Clone, Copy)]
+pub struct Row {
+    /// How many items a cache has.
+    pub items: u32,
+
+    /// What the cache came to.
+    pub bump: Outcome,
+
+    /// What an LRU came to, where it is compared.
+    pub lru: Option<Tally>,
+
+    /// What a FIFO came to, where it is compared.
+    pub fifo: Option<Tally>,
+}
+
+/// The hits and misses of the cache alone.
+pub fn tally_of(outcome: &Outcome) -> Tally {
+    Tally {
+        accesses: outcome.accesses,
+        hits: outcome.hits,
+        misses: outcome.misses,
+    }
+}
+
+/// How many of 10,000 accesses missed, rounded down; 0 of none.
+pub fn missed(tally: &Tally) -> u64 {
+    let of = u128::from(tally.accesses.max(1));
+    let missed = u128::from(tally.misses) * 10_000 / of;
+    u64::try_from(missed).unwrap_or(10_000)
+}
