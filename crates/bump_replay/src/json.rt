@@ -7,8 +7,7 @@ use std::io;
 fn put_tally<R: Print>(rt: &R, policy: &str, tally: &Tally) -> io::Result<()> {
     print!(rt;
         ",\"{policy}\":{{\"hits\":{},\"misses\":{}}}",
-        tally.hits,
-        tally.misses
+        tally.hits, tally.misses
     )
 }
 
@@ -17,15 +16,11 @@ fn put_flow<R: Print>(rt: &R, row: &Row) -> io::Result<()> {
     let flow = row.bump.stats.flow;
     print!(rt;
         ",\"flow\":{{\"linked\":{},\"hot_to_warm\":{},\"hot_to_cold\":{},\"warm_to_warm\":{}",
-        flow.linked,
-        flow.hot_to_warm,
-        flow.hot_to_cold,
-        flow.warm_to_warm
+        flow.linked, flow.hot_to_warm, flow.hot_to_cold, flow.warm_to_warm
     )?;
     print!(rt;
         ",\"warm_to_cold\":{},\"cold_to_warm\":{}}}",
-        flow.warm_to_cold,
-        flow.cold_to_warm
+        flow.warm_to_cold, flow.cold_to_warm
     )
 }
 
@@ -33,10 +28,7 @@ fn put_evictions<R: Print>(rt: &R, row: &Row) -> io::Result<()> {
     let stats = row.bump.stats;
     print!(rt;
         ",\"evicted\":{},\"evicted_unfetched\":{},\"evicted_active\":{},\"unplaced\":{}",
-        stats.evicted,
-        stats.evicted_unfetched,
-        stats.evicted_active,
-        row.bump.unplaced
+        stats.evicted, stats.evicted_unfetched, stats.evicted_active, row.bump.unplaced
     )
 }
 
@@ -44,11 +36,7 @@ fn put_bumps<R: Print>(rt: &R, row: &Row) -> io::Result<()> {
     let bumps = row.bump.bumps;
     print!(rt;
         ",\"bumps\":{{\"attempted\":{},\"accepted\":{},\"full\":{},\"refs\":{},\"busy\":{}}}",
-        bumps.attempted,
-        bumps.accepted,
-        bumps.full,
-        bumps.refs,
-        bumps.busy
+        bumps.attempted, bumps.accepted, bumps.full, bumps.refs, bumps.busy
     )
 }
 

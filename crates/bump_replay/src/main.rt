@@ -15,11 +15,13 @@ use rows::Row;
 use std::alloc::Global;
 use std::env;
 use std::fs::{self, File};
-use std::io;
+use std::io::{self, Read};
 use std::process::ExitCode;
+use std::rt::Files;
 use std::sync::Wait;
 
 /// Why there is nothing to print.
+#[derive(Drop)]
 enum Failure {
     /// The log isn't read.
     Log(LogFault),
@@ -32,10 +34,14 @@ enum Failure {
 }
 
 // Reads the log of the file, or of standard input.
-fn log_of(rt: &HostRuntime, options: &Options<'_>) -> Result<Log, LogFault> {
+fn log_of<R: Files + AllocGlobal, S: Read + Drop>(
+    rt: &R,
+    input: S,
+    options: &Options<'_>,
+) -> Result<Log, LogFault> {
     let alloc = rt.alloc();
     if options.file == "-" {
-        return read_log(alloc, rt.stdin(), options.format, options.is_strict);
+        return read_log(alloc, input, options.format, options.is_strict);
     }
     match File::open(rt, options.file) {
         Ok(file) => read_log(alloc, file, options.format, options.is_strict),
@@ -96,7 +102,7 @@ fn rows_of<R: Wait + Copy>(
 }
 
 // Says how many lines couldn't be read, if any.
-fn tell_unreadable(rt: &HostRuntime, log: &Log) {
+fn tell_unreadable<R: Eprint>(rt: &R, log: &Log) {
     if let Some(first) = log.first_unreadable {
         let _ = eprintln!(rt;
             "{} lines can't be read, the first of them line {first}",
@@ -106,7 +112,7 @@ fn tell_unreadable(rt: &HostRuntime, log: &Log) {
 }
 
 // Writes a picture, where one is asked for.
-fn draw(rt: &HostRuntime, options: &Options<'_>, rows: &[Row]) -> io::Result<()> {
+fn draw<R: Files + AllocGlobal>(rt: &R, options: &Options<'_>, rows: &[Row]) -> io::Result<()> {
     let Some(file) = options.svg else {
         return Ok(());
     };
@@ -115,8 +121,12 @@ fn draw(rt: &HostRuntime, options: &Options<'_>, rows: &[Row]) -> io::Result<()>
 }
 
 // Runs what the words ask for, and prints it.
-fn run(rt: &HostRuntime, options: &Options<'_>) -> Result<(), Failure> {
-    let log = match log_of(rt, options) {
+fn run<R: Print + Eprint + Files + AllocGlobal + Wait, S: Read + Drop>(
+    rt: &R,
+    input: S,
+    options: &Options<'_>,
+) -> Result<(), Failure> {
+    let log = match log_of(rt, input, options) {
         Ok(log) => log,
         Err(fault) => return Err(Failure::Log(fault)),
     };
@@ -137,7 +147,7 @@ fn run(rt: &HostRuntime, options: &Options<'_>) -> Result<(), Failure> {
 }
 
 // Says why there is nothing to print.
-fn tell(rt: &HostRuntime, failure: &Failure) {
+fn tell<R: Eprint>(rt: &R, failure: &Failure) {
     let _ = match failure {
         Failure::Log(fault) => eprintln!(rt; "{fault}"),
         Failure::Replay(fault) => eprintln!(rt; "{fault}"),
@@ -154,7 +164,7 @@ fn main(rt: HostRuntime) -> ExitCode {
         return ExitCode::from(1);
     };
     match options::choose(alloc, &words) {
-        Ok(options) => match run(&rt, &options) {
+        Ok(options) => match run(&rt, rt.stdin(), &options) {
             Ok(()) => ExitCode::from(0),
             Err(failure) => {
                 tell(&rt, &failure);

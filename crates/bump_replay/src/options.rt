@@ -69,7 +69,13 @@ fn with_reading<'a>(alloc: Global, command: Command<'a>) -> Result<Command<'a>, 
         .value_parser(["lines", "csv"].as_slice())
         .default_value("lines")
         .help("A key in each line, or CSV");
-    let key = number_arg(alloc, "key", "COLUMN", "1", "The column of the key, from 1, in CSV");
+    let key = number_arg(
+        alloc,
+        "key",
+        "COLUMN",
+        "1",
+        "The column of the key, from 1, in CSV",
+    );
     let header = flag_arg(alloc, "header", "Skips the first record of CSV");
     let strict = flag_arg(alloc, "strict", "Ends at the first line that can't be read");
     command
@@ -93,8 +99,20 @@ fn with_keeping<'a>(alloc: Global, command: Command<'a>) -> Result<Command<'a>, 
         .arg(items)?
         .arg(number_arg(alloc, "hot", "PERCENT", "20", "The share of HOT"))?
         .arg(number_arg(alloc, "warm", "PERCENT", "40", "The share of WARM"))?
-        .arg(number_arg(alloc, "workers", "WORKERS", "1", "Readers that get in turn, 1 to 64"))?
-        .arg(number_arg(alloc, "ring", "BUMPS", "64", "The room of a reader's ring, 1 to 65536"))?
+        .arg(number_arg(
+            alloc,
+            "workers",
+            "WORKERS",
+            "1",
+            "Readers that get in turn, 1 to 64",
+        ))?
+        .arg(number_arg(
+            alloc,
+            "ring",
+            "BUMPS",
+            "64",
+            "The room of a reader's ring, 1 to 65536",
+        ))?
         .arg(number_arg(
             alloc,
             "drain-every",
@@ -117,10 +135,11 @@ fn with_telling<'a>(alloc: Global, command: Command<'a>) -> Result<Command<'a>, 
         .long("svg")
         .value_name("FILE")
         .help("Writes a picture to this file");
-    command
-        .arg(compare)?
-        .arg(svg)?
-        .arg(flag_arg(alloc, "json", "Writes one JSON object in place of a table"))
+    command.arg(compare)?.arg(svg)?.arg(flag_arg(
+        alloc,
+        "json",
+        "Writes one JSON object in place of a table",
+    ))
 }
 
 fn command<'a>(alloc: Global) -> Result<Command<'a>, AllocError> {

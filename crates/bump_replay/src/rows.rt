@@ -1,4 +1,6 @@
 //! What the runs through caches of one size came to.
+ghost use Rattle.std.specs.Prelude.{◌≡◌};
+
 use replay_cache::Outcome;
 use replay_policies::Tally;
 
@@ -19,7 +21,11 @@ pub struct Row {
 }
 
 /// The hits and misses of the cache alone.
-pub fn tally_of(outcome: &Outcome) -> Tally {
+pub fn tally_of(outcome: &Outcome) -> Tally
+    ensures accesses { result.accesses ≡ outcome.now.accesses }
+    ensures hits { result.hits ≡ outcome.now.hits }
+    ensures misses { result.misses ≡ outcome.now.misses }
+{
     Tally {
         accesses: outcome.accesses,
         hits: outcome.hits,

@@ -62,9 +62,7 @@ fn put_bumps<R: Print>(rt: &R, row: &Row) -> io::Result<()> {
 /// Prints the rows: first how often keys were there, by size and policy, and then, by size, how items of the cache went
 /// from list to list.
 pub fn put_rows<R: Print>(rt: &R, rows: &[Row]) -> io::Result<()> {
-    println!(rt;
-        "   items  policy    accesses        hits      misses  missed, %"
-    )?;
+    println!(rt; "   items  policy    accesses        hits      misses  missed, %")?;
     for row in rows {
         put_row(rt, row)?;
     }
