@@ -1,1 +1,3 @@
+pub mod DraftLemmas
+pub mod EntryLemmas
 pub mod KeyLemmas

@@ -1,2 +1,4 @@
+pub mod Drafts
+pub mod Entries
 pub mod Keys
 pub mod Numbering

@@ -1,7 +1,8 @@
 //! Access logs as numbers: each distinct key of a log gets a number, in the order in which keys first come.
 #![tactic(auto)]
 
+mod drafts;
 mod log;
 mod numbering;
 
-pub use log::LogFault;
+pub use log::{Format, Log, LogFault};

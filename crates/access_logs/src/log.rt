@@ -21,3 +21,36 @@ pub enum LogFault {
     #[error("the log has more than 4,294,967,295 keys")]
     TooManyKeys,
 }
+
+/// An access log that was read.
+#[derive(Drop, Debug)]
+pub struct Log {
+    /// The key of each access, in turn, by its number: 0, 1, 2.. in the order in which keys first come.
+    pub accesses: Vec<u32>,
+
+    /// How many keys there are.
+    pub keys: u32,
+
+    /// How many lines or records couldn't be read.
+    pub unreadable: u64,
+
+    /// The number, from 1, of the first of these.
+    pub first_unreadable: Option<u64>,
+}
+
+/// What an access log looks like.
+#[derive(Clone, Copy, Debug, PartialEq, Eq)]
+pub enum Format {
+    /// A key in each line: bytes, up to a line feed or the end. The line feed isn't of the key, and neither is a carriage
+    /// return just before it. An empty line and one of more than 65,536 bytes can't be read.
+    Lines,
+
+    /// CSV, with a key in one field of each record. A record without that field, or with an empty one, can't be read.
+    Csv {
+        /// The field, counted from 0.
+        column: u32,
+
+        /// Whether the first record is a header. It is record 1 then, and has no key.
+        header: bool,
+    },
+}
