@@ -1,3 +1,4 @@
 pub mod DraftLemmas
 pub mod EntryLemmas
 pub mod KeyLemmas
+pub mod LineLemmas

@@ -1,4 +1,5 @@
 pub mod Drafts
 pub mod Entries
 pub mod Keys
+pub mod Lines
 pub mod Numbering

@@ -2,6 +2,7 @@
 #![tactic(auto)]
 
 mod drafts;
+mod lines;
 mod log;
 mod numbering;
 
