@@ -1,4 +1,6 @@
 pub mod DraftLemmas
 pub mod EntryLemmas
 pub mod KeyLemmas
+pub mod KnownBytes
+pub mod LineKeys
 pub mod LineLemmas

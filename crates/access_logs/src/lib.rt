@@ -5,5 +5,6 @@ mod drafts;
 mod lines;
 mod log;
 mod numbering;
+mod reading;
 
 pub use log::{Format, Log, LogFault};

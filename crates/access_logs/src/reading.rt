@@ -1,0 +1,34 @@
+//! A log from a reader.
+
+ghost use Rattle.std.specs.Prelude.{◌≡◌, List, Option, ℕ, true, None, IfOk, IfErr, IfSome};
+ghost use Rattle.access_logs.specs.Drafts.{IsLogOf};
+ghost use Rattle.access_logs.specs.Entries.{RefusesLog};
+ghost use Rattle.access_logs.specs.Lines.{entries_of_lines};
+
+use crate::drafts::Draft;
+use crate::lines::{key_of_line, read_line};
+use crate::log::{Log, LogFault};
+use std::alloc::Global;
+use std::io::{BufReader, Read};
+
+/// The log of a reader's lines.
+pub fn read_lines<R: Read + Drop>(alloc: Global, source: R, strict: bool) -> Result<Log, LogFault>
+    ensures any { IfOk result (λ log. (entries : List (Option (List ℕ))) × IsLogOf strict 1 entries log) }
+    ensures lines { IfSome (R.remaining source) (λ bytes. IfOk result (IsLogOf strict 1 (entries_of_lines bytes))) }
+    ensures refusal { IfSome (R.remaining source) (λ bytes. IfErr result (RefusesLog strict 1 (entries_of_lines bytes))) }
+{
+    let mut lines = match BufReader::new(alloc, source) {
+        Ok(lines) => lines,
+        Err(_) => return Err(LogFault::Memory),
+    };
+    let mut line = Vec::new(alloc);
+    let mut draft = Draft::new(alloc, strict);
+    for number in 1..u64::MAX {
+        read_line(&mut lines, &mut line)?;
+        if line.is_empty() {
+            return Ok(draft.finish());
+        }
+        draft.take(key_of_line(&line), number)?;
+    }
+    Err(LogFault::Read)
+}
