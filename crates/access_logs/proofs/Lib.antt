@@ -4,3 +4,4 @@ pub mod KeyLemmas
 pub mod KnownBytes
 pub mod LineKeys
 pub mod LineLemmas
+pub mod RecordLemmas

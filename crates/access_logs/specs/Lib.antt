@@ -3,3 +3,4 @@ pub mod Entries
 pub mod Keys
 pub mod Lines
 pub mod Numbering
+pub mod Records

@@ -6,5 +6,6 @@ mod lines;
 mod log;
 mod numbering;
 mod reading;
+mod records;
 
 pub use log::{Format, Log, LogFault};

@@ -1,11 +1,14 @@
 //! A log from a reader.
 
-ghost use Rattle.std.specs.Prelude.{◌≡◌, List, Option, ℕ, true, None, IfOk, IfErr, IfSome};
+ghost use Rattle.std.specs.Prelude.{◌≡◌, Bool, List, Option, ℕ, true, None, IfOk, IfErr, IfSome};
 ghost use Rattle.access_logs.specs.Drafts.{IsLogOf};
 ghost use Rattle.access_logs.specs.Entries.{RefusesLog};
 ghost use Rattle.access_logs.specs.Lines.{entries_of_lines};
+ghost use Rattle.access_logs.specs.Records.{entries_of_records, first_record};
 
 use crate::drafts::Draft;
+use crate::records::{first_record, read_row, take_record};
+use csv::{ByteRecord, ReaderBuilder};
 use crate::lines::{key_of_line, read_line};
 use crate::log::{Log, LogFault};
 use std::alloc::Global;
@@ -29,6 +32,36 @@ pub fn read_lines<R: Read + Drop>(alloc: Global, source: R, strict: bool) -> Res
             return Ok(draft.finish());
         }
         draft.take(key_of_line(&line), number)?;
+    }
+    Err(LogFault::Read)
+}
+
+/// The log of a reader's CSV records, with a key in a column of each, counted from 0. With a header the first has none.
+pub fn read_records<R: Read + Drop>(
+    alloc: Global,
+    source: R,
+    column: u32,
+    header: bool,
+    strict: bool,
+) -> Result<Log, LogFault>
+    ensures any { IfOk result (λ log. (entries : List (Option (List ℕ))) × IsLogOf strict (first_record header) entries log) }
+    ensures records { IfSome (R.remaining source) (λ bytes.
+        IfOk result (IsLogOf strict (first_record header) (entries_of_records column header bytes))) }
+    ensures refusal { IfSome (R.remaining source) (λ bytes.
+        IfErr result (RefusesLog strict (first_record header) (entries_of_records column header bytes))) }
+{
+    let first = first_record(header);
+    let mut rows = ReaderBuilder::new()
+        .has_headers(false)
+        .flexible(true)
+        .from_reader(alloc, source);
+    let mut row = ByteRecord::new(alloc);
+    let mut draft = Draft::new(alloc, strict);
+    for number in 1..u64::MAX {
+        if !read_row(&mut rows, &mut row)? {
+            return Ok(draft.finish());
+        }
+        take_record(&mut draft, &row, column, number, first)?;
     }
     Err(LogFault::Read)
 }
