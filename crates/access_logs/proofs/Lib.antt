@@ -4,4 +4,5 @@ pub mod KeyLemmas
 pub mod KnownBytes
 pub mod LineKeys
 pub mod LineLemmas
+pub mod LogLemmas
 pub mod RecordLemmas

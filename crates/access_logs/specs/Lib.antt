@@ -1,5 +1,6 @@
 pub mod Drafts
 pub mod Entries
+pub mod Formats
 pub mod Keys
 pub mod Lines
 pub mod Numbering

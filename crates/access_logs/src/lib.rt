@@ -9,3 +9,4 @@ mod reading;
 mod records;
 
 pub use log::{Format, Log, LogFault};
+pub use reading::read_log;

@@ -1,8 +1,10 @@
 //! A log from a reader.
 
-ghost use Rattle.std.specs.Prelude.{◌≡◌, Bool, List, Option, ℕ, true, None, IfOk, IfErr, IfSome};
+ghost use Rattle.std.specs.Prelude.{◌≡◌, ◌<◌, List, Option, ℕ, true, None, All, length, IfOk, IfErr, IfSome};
 ghost use Rattle.access_logs.specs.Drafts.{IsLogOf};
-ghost use Rattle.access_logs.specs.Entries.{RefusesLog};
+ghost use Rattle.access_logs.specs.Entries.{keys_in, unreadable_in, first_unreadable_in, RefusesLog};
+ghost use Rattle.access_logs.specs.Formats.{entries_of, first_of};
+ghost use Rattle.access_logs.specs.Keys.{distinct, numbers_of};
 ghost use Rattle.access_logs.specs.Lines.{entries_of_lines};
 ghost use Rattle.access_logs.specs.Records.{entries_of_records, first_record};
 
@@ -10,7 +12,7 @@ use crate::drafts::Draft;
 use crate::records::{first_record, read_row, take_record};
 use csv::{ByteRecord, ReaderBuilder};
 use crate::lines::{key_of_line, read_line};
-use crate::log::{Log, LogFault};
+use crate::log::{Format, Log, LogFault};
 use std::alloc::Global;
 use std::io::{BufReader, Read};
 
@@ -64,4 +66,37 @@ pub fn read_records<R: Read + Drop>(
         take_record(&mut draft, &row, column, number, first)?;
     }
     Err(LogFault::Read)
+}
+
+/// The log that a reader gives. Where it is strict, each line or record has to be readable; else those that aren't are
+/// counted and passed over. `Read` where the reader fails, `Memory`, `Unreadable` with the first line or record that can't
+/// be read, only where it is strict, and `TooManyKeys` with more than 4,294,967,295 keys.
+pub fn read_log<R: Read + Drop>(
+    alloc: Global,
+    source: R,
+    format: Format,
+    strict: bool,
+) -> Result<Log, LogFault>
+    // Where the reader's bytes are known.
+    ensures accesses { IfSome (R.remaining source) (λ bytes.
+        IfOk result (λ log. log.accesses.items ≡ numbers_of (keys_in (entries_of format bytes)))) }
+    ensures keys { IfSome (R.remaining source) (λ bytes.
+        IfOk result (λ log. log.keys ≡ length (distinct (keys_in (entries_of format bytes))))) }
+    ensures unreadable { IfSome (R.remaining source) (λ bytes.
+        IfOk result (λ log. log.unreadable ≡ unreadable_in (entries_of format bytes))) }
+    ensures first_unreadable { IfSome (R.remaining source) (λ bytes.
+        IfOk result (λ log. log.first_unreadable ≡ first_unreadable_in (first_of format) (entries_of format bytes))) }
+    ensures refusal { IfSome (R.remaining source) (λ bytes.
+        IfErr result (RefusesLog strict (first_of format) (entries_of format bytes))) }
+
+    // At any reader.
+    ensures numbered { IfOk result (λ log. (keys : List (List ℕ)) × (log.accesses.items ≡ numbers_of keys)
+        × (log.keys ≡ length (distinct keys))) }
+    ensures below { IfOk result (λ log. All (λ number. number < log.keys) log.accesses.items) }
+    ensures strict { strict ≡ true → IfOk result (λ log. (log.unreadable ≡ 0) × (log.first_unreadable ≡ None)) }
+{
+    match format {
+        Format::Lines => read_lines(alloc, source, strict),
+        Format::Csv { column, header } => read_records(alloc, source, column, header, strict),
+    }
 }
