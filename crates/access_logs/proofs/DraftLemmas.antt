@@ -1,9 +1,9 @@
 -- Lemmas on a draft when one more line or record was read.
-use Rattle.std.proofs.Common.{◌≡◌, ℕ, ◌+◌, ◌<◌, Bool, true, false, cond, List, [], ◌∷◌, ◌++◌, length, refl, sym, ap, subst, ◌∙◌, arith, length-append, true≢false}
+use Rattle.std.proofs.Common.{◌≡◌, ℕ, ◌+◌, Bool, true, false, cond, List, [], ◌∷◌, ◌++◌, length, refl, sym, ap, ◌∙◌, arith, length-append, true≢false}
 use Rattle.std.specs.Prelude.{Option, Some, None, unwrap_or, is_none}
 use Rattle.access_logs.specs.Drafts.{IsDraftOf}
-use Rattle.access_logs.specs.Entries.{keys_in, unreadable_in, first_unreadable_in, RefusesLog}
-use Rattle.access_logs.specs.Keys.{distinct, is_among, with_key, number_among, numbers_of}
+use Rattle.access_logs.specs.Entries.{keys_in, first_unreadable_in, RefusesLog}
+use Rattle.access_logs.specs.Keys.{distinct, with_key, number_among, numbers_of}
 use Rattle.access_logs.specs.Numbering.{keys_of, RefusesKey}
 use Rattle.access_logs.specs.declared.drafts.Draft.{Draft}
 use Rattle.access_logs.specs.declared.log.LogFault.{LogFault}

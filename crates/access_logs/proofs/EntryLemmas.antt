@@ -1,6 +1,6 @@
 -- Lemmas on what is in a log when one more line or record was read.
-use Rattle.std.proofs.Common.{◌≡◌, ℕ, ◌+◌, ◌<◌, ◌≤◌, Bool, true, false, List, [], ◌∷◌, ◌++◌, length, refl, sym, ap, subst, ◌∙◌, arith, true≢false, append-nil, append_assoc}
-use Rattle.std.specs.Prelude.{Option, Some, None, is_none, filter_map, count_by, cond}
+use Rattle.std.proofs.Common.{◌≡◌, ℕ, ◌+◌, ◌≤◌, Bool, List, [], ◌∷◌, ◌++◌, length, refl, sym, ap, subst, ◌∙◌, arith, true≢false, append-nil}
+use Rattle.std.specs.Prelude.{Option, Some, None, is_none, cond}
 use Rattle.std.proofs.lemmas.List.Elements.{filter_map-append}
 use Rattle.std.proofs.lemmas.List.Sums.{sum_by-append, sum_by-cons, count_by-le-length}
 use Rattle.access_logs.specs.Keys.{distinct}

@@ -1,6 +1,6 @@
 -- Lemmas on keys and their numbers.
-use Rattle.std.proofs.Common.{◌≡◌, ℕ, ◌+◌, ◌<◌, ◌≤◌, Bool, true, false, not, cond, ◌||◌, ◌&&◌, List, [], ◌∷◌, ◌++◌, map, length, refl, sym, ap, subst, ◌∙◌, arith, true≢false, length-append, eqb, ne_eqb, eq-eqb, le_refl, if◌then◌else◌}
-use Rattle.std.specs.Prelude.{fold, bytes_eq, position, nat_lt, Option, Some, None, unwrap_or, is_some, Result, Ok, Err, IfOk, OnOk, is_err}
+use Rattle.std.proofs.Common.{◌≡◌, ℕ, ◌+◌, ◌<◌, ◌≤◌, Bool, true, false, not, cond, ◌||◌, ◌&&◌, List, [], ◌∷◌, ◌++◌, map, length, refl, sym, ap, subst, ◌∙◌, arith, true≢false, length-append, eqb, ne_eqb, eq-eqb, le_refl}
+use Rattle.std.specs.Prelude.{fold, bytes_eq, position, nat_lt, Some, None, unwrap_or, is_some, Result, Ok, Err, IfOk, OnOk, is_err}
 use Rattle.std.specs.List.{list_any, list_all, position_or_len}
 use Rattle.std.proofs.lemmas.List.{map-append}
 use Rattle.std.proofs.lemmas.List.Folds.{list_any-append, position_or_len_push}
@@ -74,7 +74,7 @@ module _ {V : Type 0} (bytes_of : V → List ℕ) where
       → map bytes_of (cond (list_any (λ k. bytes_eq (bytes_of key) (bytes_of k)) keys) keys (keys ++ key ∷ [])) ≡ map bytes_of keys ++ bytes ∷ []
   inserted keys key bytes same none =
       let absent : list_any (λ k. bytes_eq (bytes_of key) (bytes_of k)) keys ≡ false =
-          sym (list_any-map bytes_of (bytes_eq (bytes_of key)) keys) ∙ ap (is_among (map bytes_of keys)) same ∙ none in
+      sym (list_any-map bytes_of (bytes_eq (bytes_of key)) keys) ∙ ap (is_among (map bytes_of keys)) same ∙ none in
       ap (λ b. map bytes_of (cond b keys (keys ++ key ∷ []))) absent ∙ map-append bytes_of keys (key ∷ []) ∙ ap (λ k. map bytes_of keys ++ k ∷ []) same
 
   -- a place that was found is the key's number

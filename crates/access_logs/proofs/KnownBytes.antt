@@ -1,8 +1,8 @@
 -- Lemmas on a reader whose bytes are known.
-use Rattle.std.proofs.Common.{◌≡◌, ℕ, List, [], ap, ◌∙◌}
+use Rattle.std.proofs.Common.{◌≡◌, ℕ, List, [], sym, ap, ◌∙◌}
 use Rattle.std.specs.Prelude.{Option, None, Some, IfSome, ◌==◌, if◌then◌else◌}
 use Rattle.std.specs.Io.Buffered.{reader_remaining, reader_buffer, reader_capacity, reader_inner}
-use Rattle.std.specs.Io.KnownBytes.{prepend_known}
+use Rattle.std.specs.Io.KnownBytes.{prepend_known, Keeps, Consumes}
 use Rattle.std.specs.declared.io.buffered.BufReader.{BufReader}
 use Rattle.std.proofs.KnownBytes.{prepend_known-nil}
 
@@ -17,3 +17,10 @@ pub fresh : {T A : Type 0} (remaining : T → Option (List ℕ)) (reader : BufRe
 fresh remaining reader source inner empty capacity =
     ap (λ n. if n == 0 then None else prepend_known (reader_buffer reader) (remaining (reader_inner reader))) capacity
     ∙ ap (λ bytes. prepend_known bytes (remaining (reader_inner reader))) empty ∙ prepend_known-nil (remaining (reader_inner reader)) ∙ ap remaining inner
+
+-- a read behind one that took nothing
+pub Consumes-behind : (a b c : Option (List ℕ)) (bytes : List ℕ) → Keeps a b → Consumes b c bytes → Consumes a c bytes
+Consumes-behind None b c bytes p q = tt
+Consumes-behind (Some x) None c bytes p q = absurd p
+Consumes-behind (Some x) (Some y) None bytes p q = absurd q
+Consumes-behind (Some x) (Some y) (Some z) bytes p q = sym p ∙ q

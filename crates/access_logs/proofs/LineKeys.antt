@@ -1,6 +1,6 @@
 -- Lemmas on the lines of a text, one after the other, and on the key of a line of which only the front is kept.
-use Rattle.std.proofs.Common.{◌≡◌, ◌≢◌, ℕ, zero, suc, ◌+◌, ◌-◌, ◌<◌, ◌≤◌, min, Bool, true, false, cond, not, ◌||◌, List, [], ◌∷◌, ◌++◌, map, length, take, refl, sym, ap, subst, ◌∙◌, arith, take_all, zero-le, append-nil, append_assoc, length-take, eqb, nat_eq, true≢false}
-use Rattle.std.specs.Prelude.{Option, None, Some, IfSome, ⊤, nat_lt, nat_le, ◌==◌, if◌then◌else◌}
+use Rattle.std.proofs.Common.{◌≡◌, ℕ, ◌+◌, ◌-◌, ◌<◌, ◌≤◌, Bool, true, false, cond, ◌||◌, List, [], ◌∷◌, ◌++◌, map, length, take, refl, sym, ap, subst, ◌∙◌, arith, take_all, append-nil, append_assoc, length-take, true≢false}
+use Rattle.std.specs.Prelude.{Option, None, Some, IfSome, ⊤, nat_lt, ◌==◌, if◌then◌else◌}
 use Rattle.std.specs.Io.BufRead.{ends_with_byte, strip_last, take_through, drop_through, DropsThrough}
 use Rattle.std.proofs.BufReadLemmas.{take_through-nil}
 use Rattle.std.proofs.lemmas.Bool.{lt-ltb, ltb-false, ltb-true}
@@ -18,7 +18,7 @@ lines_of-through byte (next ∷ bytes) = by (byte == 10) (lines_of-through next 
   where
     by : (b : Bool) → lines_of (next ∷ bytes) ≡ take_through 10 (next ∷ bytes) ∷ lines_of (drop_through 10 (next ∷ bytes))
         → cond b ((byte ∷ []) ∷ lines_of (next ∷ bytes)) (with_byte byte (lines_of (next ∷ bytes)))
-            ≡ cond b (byte ∷ []) (byte ∷ take_through 10 (next ∷ bytes)) ∷ lines_of (cond b (next ∷ bytes) (drop_through 10 (next ∷ bytes)))
+        ≡ cond b (byte ∷ []) (byte ∷ take_through 10 (next ∷ bytes)) ∷ lines_of (cond b (next ∷ bytes) (drop_through 10 (next ∷ bytes)))
     by true rest = refl
     by false rest = ap (with_byte byte) rest
 
@@ -85,8 +85,8 @@ line-read (Some bytes) (Some (byte ∷ left)) next entries kept before is rest s
     let key = ap key_of_line is ∙ key_of_line-kept (take_through 10 (byte ∷ left)) in
     subst (λ o. IsReadSoFar (Some bytes) o (entries ++ key_of_line kept ∷ [])) (sym rest)
     (before ∙ ap (λ l. entries ++ map key_of_line l) (lines_of-through byte left)
-      ∙ ap (λ k. entries ++ k ∷ entries_of_lines (drop_through 10 (byte ∷ left))) (sym key)
-      ∙ sym (append_assoc entries (key_of_line kept ∷ []) (entries_of_lines (drop_through 10 (byte ∷ left)))))
+    ∙ ap (λ k. entries ++ k ∷ entries_of_lines (drop_through 10 (byte ∷ left))) (sym key)
+    ∙ sym (append_assoc entries (key_of_line kept ∷ []) (entries_of_lines (drop_through 10 (byte ∷ left)))))
 
 -- no line more
 pub all-read : (known left : Option (List ℕ)) (entries : List (Option (List ℕ))) (kept : List ℕ) → IsReadSoFar known left entries

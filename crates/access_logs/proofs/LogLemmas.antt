@@ -1,10 +1,10 @@
 -- Lemmas on a log that was read.
-use Rattle.std.proofs.Common.{◌≡◌, refl, ℕ, ◌<◌, Bool, true, false, ◌&&◌, List, [], ◌∷◌, map, All, length, sym, ap, subst, ◌∙◌, arith, true≢false}
-use Rattle.std.specs.Prelude.{Option, None, Some, Result, Ok, Err, IfOk, bytes_eq}
+use Rattle.std.proofs.Common.{◌≡◌, refl, ℕ, ◌<◌, Bool, true, false, ◌&&◌, List, [], ◌∷◌, map, All, length, sym, subst, ◌∙◌, true≢false}
+use Rattle.std.specs.Prelude.{Option, None, Result, Ok, Err, IfOk, bytes_eq}
 use Rattle.std.specs.List.{list_all, AllByRecursion}
 use Rattle.std.proofs.lemmas.List.Elements.{All-from_recursion}
 use Rattle.access_logs.specs.Drafts.{IsLogOf}
-use Rattle.access_logs.specs.Entries.{keys_in, unreadable_in, first_unreadable_in}
+use Rattle.access_logs.specs.Entries.{keys_in}
 use Rattle.access_logs.specs.Keys.{is_among, distinct, number_among, numbers_of}
 use Rattle.access_logs.specs.declared.log.Log.{Log}
 use Rattle.access_logs.specs.declared.log.LogFault.{LogFault}
@@ -28,7 +28,7 @@ below strict first entries log is =
     let keys = keys_in entries in
     subst (λ numbers. All (λ number. number < log.keys) numbers) (sym is.accesses)
     (subst (λ count. All (λ number. number < count) (numbers_of keys)) (sym is.keys)
-      (All-from_recursion (λ number. number < length (distinct keys)) (numbers_of keys) (numbers-below (distinct keys) keys (all_among [] keys))))
+    (All-from_recursion (λ number. number < length (distinct keys)) (numbers_of keys) (numbers-below (distinct keys) keys (all_among [] keys))))
 
 -- strictly, each line or record was read
 pub strictly : (strict : Bool) (first : ℕ) (entries : List (Option (List ℕ))) (log : Log) → IsLogOf strict first entries log → strict ≡ true → (log.unreadable ≡ 0) × (log.first_unreadable ≡ None)

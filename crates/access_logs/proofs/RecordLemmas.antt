@@ -5,7 +5,7 @@ use Rattle.std.proofs.lemmas.List.{map-append, length-map}
 use Rattle.std.proofs.Math.Seq.{drop-append-le}
 use Rattle.std.proofs.lemmas.Bool.{leb-true, leb-false}
 use Rattle.csv.specs.Machine.{Read, next_record, step, is_end, ends_at_end, fields_after, field_after}
-use Rattle.csv.specs.Reading.{Reached, ReadRecord, default_config, records_from, records_next, records, source_of, strip_bom, reader_config, reader_state}
+use Rattle.csv.specs.Reading.{Reached, ReadRecord, default_config, records_from, records_next, source_of, strip_bom, reader_config, reader_state}
 use Rattle.csv.specs.declared.parser.Config.{Config}
 use Rattle.csv.specs.declared.parser.State.{State}
 use Rattle.csv.specs.declared.parser.State.TheVariants as st
@@ -30,7 +30,7 @@ next-rest cfg s fields field (byte ∷ bytes) p is =
     (next-rest cfg (step cfg s byte).0 (fields_after (step cfg s byte).1 fields field) (field_after (step cfg s byte).1 byte field) bytes p)
   where
     by : (b : Bool) → cond b (Some (fields_after (step cfg s byte).1 fields field, (step cfg s byte).0, bytes))
-          (next_record cfg (step cfg s byte).0 (fields_after (step cfg s byte).1 fields field) (field_after (step cfg s byte).1 byte field) bytes) ≡ Some p
+        (next_record cfg (step cfg s byte).0 (fields_after (step cfg s byte).1 fields field) (field_after (step cfg s byte).1 byte field) bytes) ≡ Some p
         → (next_record cfg (step cfg s byte).0 (fields_after (step cfg s byte).1 fields field) (field_after (step cfg s byte).1 byte field) bytes ≡ Some p → length p.2 ≤ length bytes)
         → length p.2 ≤ length (byte ∷ bytes)
     by true h rest = let end = ap (λ x. length x.2) (some-is (fields_after (step cfg s byte).1 fields field, (step cfg s byte).0, bytes) p h) in omega (arith, end)
@@ -45,7 +45,7 @@ next-shorter cfg s fields field byte bytes p is =
     (next-rest cfg (step cfg s byte).0 (fields_after (step cfg s byte).1 fields field) (field_after (step cfg s byte).1 byte field) bytes p)
   where
     by : (b : Bool) → cond b (Some (fields_after (step cfg s byte).1 fields field, (step cfg s byte).0, bytes))
-          (next_record cfg (step cfg s byte).0 (fields_after (step cfg s byte).1 fields field) (field_after (step cfg s byte).1 byte field) bytes) ≡ Some p
+        (next_record cfg (step cfg s byte).0 (fields_after (step cfg s byte).1 fields field) (field_after (step cfg s byte).1 byte field) bytes) ≡ Some p
         → (next_record cfg (step cfg s byte).0 (fields_after (step cfg s byte).1 fields field) (field_after (step cfg s byte).1 byte field) bytes ≡ Some p → length p.2 ≤ length bytes)
         → length p.2 ≤ length bytes
     by true h rest = let end = ap (λ x. length x.2) (some-is (fields_after (step cfg s byte).1 fields field, (step cfg s byte).0, bytes) p h) in omega (arith, end)
@@ -86,8 +86,7 @@ reached-records cfg (row ∷ rows) (suc n) s (x ∷ xs) s2 ys fuel reached =
     let rest = reached-records cfg rows n p.1 p.2 s2 ys (omega (arith, shorter, fuel)) reached.3 in
     (rest.0, ap (records_next (records_from cfg n)) reached.1 ∙ ap (λ l. p.0 ∷ l) rest.1 ∙ ap (λ r. r ∷ rows ++ rest.0) (sym reached.2), rest.2)
 reached-records cfg (row ∷ []) (suc n) s [] s2 ys fuel reached =
-    let p = reached.0 in
-    (
+    let p = reached.0 in (
       records_from cfg n p.1 p.2,
       ap (records_next (records_from cfg n)) reached.1 ∙ ap (λ r. r ∷ records_from cfg n p.1 p.2) (sym reached.2),
       λ none. ended cfg n p.1 p.2 (ap (λ t. next_record cfg t [] [] p.2) reached.3.0 ∙ ap (λ l. next_record cfg s2 [] [] l) reached.3.1 ∙ none),

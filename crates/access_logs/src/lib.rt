@@ -5,6 +5,7 @@ mod drafts;
 mod lines;
 mod log;
 mod numbering;
+mod patient;
 mod reading;
 mod records;
 

@@ -9,10 +9,11 @@ ghost use Rattle.access_logs.specs.Lines.{entries_of_lines};
 ghost use Rattle.access_logs.specs.Records.{entries_of_records, first_record};
 
 use crate::drafts::Draft;
-use crate::records::{first_record, read_row, take_record};
-use csv::{ByteRecord, ReaderBuilder};
 use crate::lines::{key_of_line, read_line};
 use crate::log::{Format, Log, LogFault};
+use crate::patient::Patient;
+use crate::records::{first_record, read_row, take_record};
+use csv::{ByteRecord, ReaderBuilder};
 use std::alloc::Global;
 use std::io::{BufReader, Read};
 
@@ -56,7 +57,7 @@ pub fn read_records<R: Read + Drop>(
     let mut rows = ReaderBuilder::new()
         .has_headers(false)
         .flexible(true)
-        .from_reader(alloc, source);
+        .from_reader(alloc, Patient::new(source));
     let mut row = ByteRecord::new(alloc);
     let mut draft = Draft::new(alloc, strict);
     for number in 1..u64::MAX {

@@ -26,13 +26,7 @@ fn key_of_record(row: &ByteRecord, column: u32) -> Option<&[u8]>
     ensures { option_map (λ key. key.now) result ≡ key_of_record column (fields_of row.now) }
 {
     match row.get(column as usize) {
-        Some(field) => {
-            if field.is_empty() {
-                None
-            } else {
-                Some(field)
-            }
-        }
+        Some(field) => { if field.is_empty() { None } else { Some(field) } }
         None => None,
     }
 }
@@ -56,7 +50,13 @@ pub fn read_row<R: Read>(rows: &mut Reader<R>, row: &mut ByteRecord) -> Result<b
 }
 
 /// One more record, with its number. One before the first that has a key is passed over.
-pub fn take_record(draft: &mut Draft, row: &ByteRecord, column: u32, number: u64, first: u64) -> Result<(), LogFault>
+pub fn take_record(
+    draft: &mut Draft,
+    row: &ByteRecord,
+    column: u32,
+    number: u64,
+    first: u64,
+) -> Result<(), LogFault>
     requires few { draft.old.unreadable < 2 ^ 64 - 1 }
     requires first { 0 < first }
     ensures taken { (strict : Bool) (seen : List (List (List ℕ))) → IsDraftOf strict first (keys_from first column seen) draft.old

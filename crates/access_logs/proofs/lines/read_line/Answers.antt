@@ -1,4 +1,4 @@
-use Rattle.std.proofs.Common.{◌≡◌, ◌≢◌, ◌≤◌, ◌++◌, [], take, length, length-take, refl, sym, ap, ◌∙◌, rules, arith, vec_items}
+use Rattle.std.proofs.Common.{◌≢◌, ◌≤◌, ◌++◌, [], take, length, length-take, ap, ◌∙◌, rules, arith, vec_items}
 use Rattle.std.proofs.lemmas.List.Elements.{All-nil, All-append}
 use Rattle.std.proofs.KnownBytes.{Consumes-nil, Consumes-trans}
 use Rattle.std.proofs.BufReadLemmas.{Consumes_through}

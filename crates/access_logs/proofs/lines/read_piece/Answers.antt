@@ -1,6 +1,5 @@
-use Rattle.std.proofs.Common.{◌≡◌, ◌≢◌, ◌-◌, ◌≤◌, min, ◌++◌, ℕ, All, take, length, refl, sym, ap, subst, ◌∙◌, rules, arith, eq-eqb, eqb-true, get_or, get_or-take, length-take-le, take_all, append-nil, true, []}
-use Rattle.std.specs.Prelude.{is_ok, OnOk, vec_items}
-use Rattle.std.specs.Io.KnownBytes.{Consumes}
+use Rattle.std.proofs.Common.{◌≡◌, ◌≢◌, ◌-◌, ◌≤◌, min, ◌++◌, All, take, length, sym, ap, subst, ◌∙◌, rules, arith, eq-eqb, eqb-true, get_or, get_or-take, length-take-le, take_all, append-nil, true, []}
+use Rattle.std.specs.Prelude.{is_ok}
 use Rattle.std.specs.Io.BufRead.{FillKeeps, DropsConsumable}
 use Rattle.std.proofs.lemmas.List.Elements.{All-more, All-nil}
 use Rattle.std.proofs.KnownBytes.{Consumes-nil, Consumes-kept}

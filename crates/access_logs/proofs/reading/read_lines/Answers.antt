@@ -1,5 +1,5 @@
 use Rattle.std.proofs.Common.{◌≡◌, ℕ, List, [], ◌∷◌, ◌++◌, length, refl, sym, ap, subst, ◌∙◌, rules, arith, length-append, vec_items}
-use Rattle.std.specs.Prelude.{Option, IfSome, option_map}
+use Rattle.std.specs.Prelude.{Option, option_map}
 use Rattle.access_logs.specs.Drafts.{IsDraftOf, IsLogOf}
 use Rattle.access_logs.specs.Entries.{RefusesLog}
 use Rattle.access_logs.specs.Lines.{entries_of_lines, key_of_line}
@@ -37,8 +37,8 @@ returns-in_err-take-clause-refusal g c =
     let due = subst (λ entry. RefusesLog c.args.strict 1 (inv.0 ++ entry ∷ []) c.in_err-take.field-0.0) is (c.in_err-take.ensures.refusal c.args.strict 1 inv.0 inv.1 inv.2) in
     if_known known (λ bytes. (rest : List (Option (List ℕ))) × (entries_of_lines bytes ≡ (inv.0 ++ key_of_line kept ∷ []) ++ rest)) _
     (λ bytes front.
-      let all = subst (λ entries. RefusesLog c.args.strict 1 entries c.in_err-take.field-0.0) (sym front.1) (refused-more c.args.strict 1 (inv.0 ++ key_of_line kept ∷ []) front.0 c.in_err-take.field-0.0 due) in
-      search (rules, all))
+    let all = subst (λ entries. RefusesLog c.args.strict 1 entries c.in_err-take.field-0.0) (sym front.1) (refused-more c.args.strict 1 (inv.0 ++ key_of_line kept ∷ []) front.0 c.in_err-take.field-0.0 due) in
+    search (rules, all))
     (front-read known _ (inv.0 ++ key_of_line kept ∷ []) more)
 
 pub loop-number-preserved : goal.loop-number-preserved

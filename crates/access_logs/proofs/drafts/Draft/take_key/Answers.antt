@@ -1,4 +1,4 @@
-use Rattle.std.proofs.Common.{refl, rules, sym, ap, ◌∙◌, ◌≡◌}
+use Rattle.std.proofs.Common.{refl, rules, ◌≡◌}
 use Rattle.std.specs.Prelude.{is_ok, true}
 use Rattle.access_logs.proofs.DraftLemmas.{draft-key, refused-key}
 use Rattle.access_logs.proofs.drafts.Draft.take_key.Goals as goal

@@ -1,4 +1,4 @@
-use Rattle.std.proofs.Common.{sym, ap, ◌≡◌, ◌∙◌, ◌++◌, rules, map}
+use Rattle.std.proofs.Common.{sym, ap, ◌≡◌, ◌∙◌, rules, map}
 use Rattle.std.specs.Prelude.{vec_items, is_ok, true}
 use Rattle.access_logs.proofs.KeyLemmas.{succeeded, inserted}
 use Rattle.access_logs.proofs.numbering.Numbering.add.Goals as goal
