@@ -1,5 +1,6 @@
 -- What is in a log: for each line or record its key, or nothing where it can't be read.
-use Rattle.std.specs.Prelude.{ℕ, ◌+◌, ◌<◌, ◌≡◌, Bool, true, List, [], ◌∷◌, Option, Some, None, is_none, filter_map, count_by, length, ⊤}
+use Rattle.std.specs.Prelude.{ℕ, ◌+◌, ◌<◌, ◌≡◌, Bool, true, List, [], ◌∷◌, Option, Some, None, is_none}
+use Rattle.std.specs.Prelude.{filter_map, count_by, length, ⊤}
 use Rattle.access_logs.specs.Keys.{distinct}
 use Rattle.access_logs.specs.declared.log.LogFault.{LogFault}
 use Rattle.access_logs.specs.declared.log.LogFault.TheVariants as fault
@@ -22,5 +23,6 @@ first_unreadable_in number (Some key ∷ entries) = first_unreadable_in (number 
 abbrev pub RefusesLog : Bool → ℕ → List (Option (List ℕ)) → LogFault → Type 0
 RefusesLog strict first entries fault.Read = ⊤
 RefusesLog strict first entries fault.Memory = ⊤
-RefusesLog strict first entries (fault.Unreadable number) = (strict ≡ true) × (first_unreadable_in first entries ≡ Some number)
+RefusesLog strict first entries (fault.Unreadable number) = (strict ≡ true)
+    × (first_unreadable_in first entries ≡ Some number)
 RefusesLog strict first entries fault.TooManyKeys = 4294967295 < length (distinct (keys_in entries))

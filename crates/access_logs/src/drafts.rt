@@ -1,6 +1,7 @@
 //! A log while it is read.
 
-ghost use Rattle.std.specs.Prelude.{◌≡◌, ◌+◌, ◌-◌, ◌<◌, ◌^◌, ℕ, Bool, List, [], ◌∷◌, ◌++◌, Option, Some, None, IfErr, OnOk, length, option_map};
+ghost use Rattle.std.specs.Prelude.{◌≡◌, ◌+◌, ◌-◌, ◌<◌, ◌^◌, ℕ, Bool, List, [], ◌∷◌, ◌++◌, Option, Some};
+ghost use Rattle.std.specs.Prelude.{None, IfErr, OnOk, length, option_map};
 ghost use Rattle.access_logs.specs.Drafts.{IsDraftOf, IsLogOf};
 ghost use Rattle.access_logs.specs.Entries.{RefusesLog};
 
@@ -34,9 +35,11 @@ impl Draft {
 
     /// One more access. `TooManyKeys`, `Memory`.
     pub fn take_key(&mut self, key: &[u8]) -> Result<(), LogFault>
-        ensures taken { (strict : Bool) (first : ℕ) (entries : List (Option (List ℕ))) → IsDraftOf strict first entries self.old
+        ensures taken { (strict : Bool) (first : ℕ) (entries : List (Option (List ℕ)))
+            → IsDraftOf strict first entries self.old
             → OnOk result (IsDraftOf strict first (entries ++ Some key.now ∷ []) self.new) }
-        ensures refusal { (strict : Bool) (first : ℕ) (entries : List (Option (List ℕ))) → IsDraftOf strict first entries self.old
+        ensures refusal { (strict : Bool) (first : ℕ) (entries : List (Option (List ℕ)))
+            → IsDraftOf strict first entries self.old
             → IfErr result (RefusesLog strict first (entries ++ Some key.now ∷ [])) }
     {
         let number = self.numbering.number_of(key)?;
@@ -49,9 +52,11 @@ impl Draft {
     /// One more line or record that can't be read, with its number. `Unreadable` where the draft is strict.
     pub fn take_unreadable(&mut self, number: u64) -> Result<(), LogFault>
         requires { self.old.unreadable < 2 ^ 64 - 1 }
-        ensures taken { (strict : Bool) (first : ℕ) (entries : List (Option (List ℕ))) → IsDraftOf strict first entries self.old
+        ensures taken { (strict : Bool) (first : ℕ) (entries : List (Option (List ℕ)))
+            → IsDraftOf strict first entries self.old
             → number ≡ first + length entries → OnOk result (IsDraftOf strict first (entries ++ None ∷ []) self.new) }
-        ensures refusal { (strict : Bool) (first : ℕ) (entries : List (Option (List ℕ))) → IsDraftOf strict first entries self.old
+        ensures refusal { (strict : Bool) (first : ℕ) (entries : List (Option (List ℕ)))
+            → IsDraftOf strict first entries self.old
             → number ≡ first + length entries → IfErr result (RefusesLog strict first (entries ++ None ∷ [])) }
     {
         if self.strict {
@@ -67,10 +72,14 @@ impl Draft {
     /// One more line or record, with its number: its key, or nothing where it can't be read.
     pub fn take(&mut self, key: Option<&[u8]>, number: u64) -> Result<(), LogFault>
         requires { self.old.unreadable < 2 ^ 64 - 1 }
-        ensures taken { (strict : Bool) (first : ℕ) (entries : List (Option (List ℕ))) → IsDraftOf strict first entries self.old
-            → number ≡ first + length entries → OnOk result (IsDraftOf strict first (entries ++ option_map (λ key. key.now) key.entry ∷ []) self.new) }
-        ensures refusal { (strict : Bool) (first : ℕ) (entries : List (Option (List ℕ))) → IsDraftOf strict first entries self.old
-            → number ≡ first + length entries → IfErr result (RefusesLog strict first (entries ++ option_map (λ key. key.now) key.entry ∷ [])) }
+        ensures taken { (strict : Bool) (first : ℕ) (entries : List (Option (List ℕ)))
+            → IsDraftOf strict first entries self.old
+            → number ≡ first + length entries
+            → OnOk result (IsDraftOf strict first (entries ++ option_map (λ key. key.now) key.entry ∷ []) self.new) }
+        ensures refusal { (strict : Bool) (first : ℕ) (entries : List (Option (List ℕ)))
+            → IsDraftOf strict first entries self.old
+            → number ≡ first + length entries
+            → IfErr result (RefusesLog strict first (entries ++ option_map (λ key. key.now) key.entry ∷ [])) }
     {
         match key {
             Some(key) => self.take_key(key),
@@ -80,7 +89,8 @@ impl Draft {
 
     /// The log that was read.
     pub fn finish(self) -> Log
-        ensures accesses { (strict : Bool) (first : ℕ) (entries : List (Option (List ℕ))) → IsDraftOf strict first entries self
+        ensures log { (strict : Bool) (first : ℕ) (entries : List (Option (List ℕ)))
+            → IsDraftOf strict first entries self
             → IsLogOf strict first entries result }
     {
         let keys = self.numbering.count();

@@ -1,6 +1,7 @@
 //! The lines of a reader.
 
-ghost use Rattle.std.specs.Prelude.{◌≡◌, ◌≢◌, ◌-◌, ◌<◌, ◌≤◌, ◌++◌, ℕ, List, true, All, take, length, option_map, vec_len, IfOk, IfErr, IfSome, OnOk, OnSome};
+ghost use Rattle.std.specs.Prelude.{◌≡◌, ◌≢◌, ◌-◌, ◌<◌, ◌≤◌, ◌++◌, ℕ, List, true, All, take, length};
+ghost use Rattle.std.specs.Prelude.{option_map, vec_len, IfOk, IfErr, IfSome, OnOk, OnSome};
 ghost use Rattle.std.specs.Io.{StopsAt, IsEmptyOrEndsWith};
 ghost use Rattle.std.specs.Io.BufRead.{ends_with_byte, take_through, DropsThrough};
 ghost use Rattle.std.specs.Io.KnownBytes.{Consumes, IsAtEnd};
@@ -98,7 +99,8 @@ fn read_piece<B: BufRead>(source: &mut B, line: &mut Vec<u8>) -> Result<bool, Lo
 
 /// Reads the next line with its end, of which it keeps the first 65,539 bytes. At the end of the input it is empty.
 pub fn read_line<B: BufRead>(source: &mut B, line: &mut Vec<u8>) -> Result<(), LogFault>
-    ensures line { OnOk result (IfSome (B.remaining source.old) (λ bytes. line.new.items ≡ take 65539 (take_through 10 bytes))) }
+    ensures line { OnOk result (IfSome (B.remaining source.old) (λ bytes.
+        line.new.items ≡ take 65539 (take_through 10 bytes))) }
     ensures rest { OnOk result (DropsThrough (B.remaining source.old) (B.remaining source.new) 10) }
     ensures refusal { IfErr result IsReadOrMemory }
 {

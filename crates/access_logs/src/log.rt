@@ -5,7 +5,7 @@ use thiserror::Error;
 /// Why a log isn't read.
 #[derive(Clone, Copy, Debug, PartialEq, Eq, Error)]
 pub enum LogFault {
-    /// The reader failed, or gave more lines or records than can be counted.
+    /// The reader failed, or gave more lines or records than a `u64` counts. An interrupted read is made again.
     #[error("the log can't be read")]
     Read,
 
@@ -13,7 +13,8 @@ pub enum LogFault {
     #[error("out of memory")]
     Memory,
 
-    /// Strict only: the number, from 1, of the first line or record that can't be read.
+    /// Strict only: the number of the first line or record that can't be read. They are counted from 1, and a header is
+    /// record 1.
     #[error("line or record {0} can't be read")]
     Unreadable(u64),
 
@@ -34,18 +35,21 @@ pub struct Log {
     /// How many lines or records couldn't be read.
     pub unreadable: u64,
 
-    /// The number, from 1, of the first of these.
+    /// The number of the first of these: lines and records are counted from 1, and a header is record 1.
     pub first_unreadable: Option<u64>,
 }
 
 /// What an access log looks like.
 #[derive(Clone, Copy, Debug, PartialEq, Eq)]
 pub enum Format {
-    /// A key in each line: bytes, up to a line feed or the end. The line feed isn't of the key, and neither is a carriage
+    /// A key in each line: bytes, up to a line feed or the end. The line feed isn't of the key, and neither is a
+    /// carriage
     /// return just before it. An empty line and one of more than 65,536 bytes can't be read.
     Lines,
 
-    /// CSV, with a key in one field of each record. A record without that field, or with an empty one, can't be read.
+    /// CSV, with a key in one field of each record: fields are parted by commas, and may stand in quotes. Records may have
+    /// any number of fields, an empty line is none, and a quote that is never closed takes the rest of the text. A record
+    /// without the field, or with an empty one, can't be read. A byte order mark at the start is passed over.
     Csv {
         /// The field, counted from 0.
         column: u32,

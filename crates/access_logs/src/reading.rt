@@ -21,7 +21,8 @@ use std::io::{BufReader, Read};
 pub fn read_lines<R: Read + Drop>(alloc: Global, source: R, strict: bool) -> Result<Log, LogFault>
     ensures any { IfOk result (λ log. (entries : List (Option (List ℕ))) × IsLogOf strict 1 entries log) }
     ensures lines { IfSome (R.remaining source) (λ bytes. IfOk result (IsLogOf strict 1 (entries_of_lines bytes))) }
-    ensures refusal { IfSome (R.remaining source) (λ bytes. IfErr result (RefusesLog strict 1 (entries_of_lines bytes))) }
+    ensures refusal { IfSome (R.remaining source) (λ bytes.
+        IfErr result (RefusesLog strict 1 (entries_of_lines bytes))) }
 {
     let mut lines = match BufReader::new(alloc, source) {
         Ok(lines) => lines,
@@ -47,7 +48,8 @@ pub fn read_records<R: Read + Drop>(
     header: bool,
     strict: bool,
 ) -> Result<Log, LogFault>
-    ensures any { IfOk result (λ log. (entries : List (Option (List ℕ))) × IsLogOf strict (first_record header) entries log) }
+    ensures any { IfOk result (λ log. (entries : List (Option (List ℕ)))
+        × IsLogOf strict (first_record header) entries log) }
     ensures records { IfSome (R.remaining source) (λ bytes.
         IfOk result (IsLogOf strict (first_record header) (entries_of_records column header bytes))) }
     ensures refusal { IfSome (R.remaining source) (λ bytes.
@@ -70,7 +72,8 @@ pub fn read_records<R: Read + Drop>(
 }
 
 /// The log that a reader gives. Where it is strict, each line or record has to be readable; else those that aren't are
-/// counted and passed over. `Read` where the reader fails, `Memory`, `Unreadable` with the first line or record that can't
+/// counted and passed over. `Read` where the reader fails, `Memory`, `Unreadable` with the first line or record
+/// that can't
 /// be read, only where it is strict, and `TooManyKeys` with more than 4,294,967,295 keys.
 pub fn read_log<R: Read + Drop>(
     alloc: Global,

@@ -1,7 +1,9 @@
 //! The records of a CSV text.
 
-ghost use Rattle.std.specs.Prelude.{◌≡◌, ◌+◌, ◌-◌, ◌<◌, ◌^◌, ◌++◌, ◌∷◌, [], Bool, ℕ, List, true, length, option_map, IfOk, IfErr, OnOk};
-ghost use Rattle.csv.specs.Reading.{Ready, ReadRecord, reader_trim, reader_config, is_flexible, default_config, source_of, strip_bom};
+ghost use Rattle.std.specs.Prelude.{◌≡◌, ◌+◌, ◌-◌, ◌<◌, ◌^◌, ◌++◌, ◌∷◌, [], Bool, ℕ, List, true, length};
+ghost use Rattle.std.specs.Prelude.{option_map, IfOk, IfErr, OnOk};
+ghost use Rattle.csv.specs.Reading.{Ready, ReadRecord, reader_trim, reader_config, is_flexible};
+ghost use Rattle.csv.specs.Reading.{default_config, source_of, strip_bom};
 ghost use Rattle.csv.specs.declared.reader.Trim.TheVariants as trim;
 ghost use Rattle.csv.specs.Records.{fields_of};
 ghost use Rattle.access_logs.specs.Drafts.{IsDraftOf};
@@ -31,7 +33,8 @@ fn key_of_record(row: &ByteRecord, column: u32) -> Option<&[u8]>
     }
 }
 
-/// Reads the next record. Whether there was one. The reader takes records of any length, and a header as any other.
+/// Reads the next record. Whether there was one. The reader has to give a header as any other record; where it takes
+/// records of any length, only itself and memory can fail.
 pub fn read_row<R: Read>(rows: &mut Reader<R>, row: &mut ByteRecord) -> Result<bool, LogFault>
     requires trim { reader_trim rows.old ≡ trim.None }
     requires ready { Ready rows.old }
@@ -59,9 +62,11 @@ pub fn take_record(
 ) -> Result<(), LogFault>
     requires few { draft.old.unreadable < 2 ^ 64 - 1 }
     requires first { 0 < first }
-    ensures taken { (strict : Bool) (seen : List (List (List ℕ))) → IsDraftOf strict first (keys_from first column seen) draft.old
+    ensures taken { (strict : Bool) (seen : List (List (List ℕ)))
+        → IsDraftOf strict first (keys_from first column seen) draft.old
         → number ≡ 1 + length seen → OnOk result (IsDraftOf strict first (keys_from first column (seen ++ fields_of row.now ∷ [])) draft.new) }
-    ensures refusal { (strict : Bool) (seen : List (List (List ℕ))) → IsDraftOf strict first (keys_from first column seen) draft.old
+    ensures refusal { (strict : Bool) (seen : List (List (List ℕ)))
+        → IsDraftOf strict first (keys_from first column seen) draft.old
         → number ≡ 1 + length seen → IfErr result (RefusesLog strict first (keys_from first column (seen ++ fields_of row.now ∷ []))) }
 {
     if number < first {

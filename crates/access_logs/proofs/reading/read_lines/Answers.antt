@@ -16,7 +16,7 @@ loop-number-init g c =
 pub returns-then-is_empty-clause-any : goal.returns-then-is_empty-clause-any
 returns-then-is_empty-clause-any g c =
     let inv = c.loop-number.invariant in
-    (inv.0, c.finish.ensures.accesses c.args.strict 1 inv.0 inv.1)
+    (inv.0, c.finish.ensures.log c.args.strict 1 inv.0 inv.1)
 
 pub returns-then-is_empty-clause-lines : goal.returns-then-is_empty-clause-lines
 returns-then-is_empty-clause-lines g c =
@@ -24,7 +24,7 @@ returns-then-is_empty-clause-lines g c =
     let none : length (vec_items c.read_line.new.line) ≡ 0 = search rules in
     let all = all-read (g.R.Read.remaining c.args.source) _ inv.0 (vec_items c.read_line.new.line) inv.3 c.in_ok-read_line.ensures.line none in
     if_known (g.R.Read.remaining c.args.source) (λ bytes. inv.0 ≡ entries_of_lines bytes) _
-    (λ bytes is. subst (λ entries. IsLogOf c.args.strict 1 entries c.finish.result) is (c.finish.ensures.accesses c.args.strict 1 inv.0 inv.1)) all
+    (λ bytes is. subst (λ entries. IsLogOf c.args.strict 1 entries c.finish.result) is (c.finish.ensures.log c.args.strict 1 inv.0 inv.1)) all
 
 pub returns-in_err-take-clause-refusal : goal.returns-in_err-take-clause-refusal
 returns-in_err-take-clause-refusal g c =

@@ -27,7 +27,7 @@ pub returns-then-not-branch-clause-any : goal.returns-then-not-branch-clause-any
 returns-then-not-branch-clause-any g c =
     let inv = c.loop-number.invariant in
     let entries = keys_from c.first_record-first.result c.args.column inv.0 in
-    (entries, subst (λ first. IsLogOf c.args.strict first entries c.finish.result) c.first_record-first.ensures (c.finish.ensures.accesses c.args.strict c.first_record-first.result entries inv.1))
+    (entries, subst (λ first. IsLogOf c.args.strict first entries c.finish.result) c.first_record-first.ensures (c.finish.ensures.log c.args.strict c.first_record-first.result entries inv.1))
 
 pub returns-then-not-branch-clause-records : goal.returns-then-not-branch-clause-records
 returns-then-not-branch-clause-records g c =
@@ -36,7 +36,7 @@ returns-then-not-branch-clause-records g c =
     let found : c.in_ok-read_row.field-0 ≡ false = search rules in
     let read = subst (λ b. ReadRecord (λ reader. g.R.Read.remaining reader.inner) c.loop-number.rows c.read_row.new.rows b (fields_of c.read_row.new.row)) found c.in_ok-read_row.ensures.reads in
     let all = all-read (λ reader. g.R.Read.remaining reader.inner) c.loop-number.rows c.read_row.new.rows (fields_of c.read_row.new.row) known inv.0 inv.6 inv.3 read in
-    let log = c.finish.ensures.accesses c.args.strict c.first_record-first.result (keys_from c.first_record-first.result c.args.column inv.0) inv.1 in
+    let log = c.finish.ensures.log c.args.strict c.first_record-first.result (keys_from c.first_record-first.result c.args.column inv.0) inv.1 in
     if_known known (λ bytes. records_of bytes ≡ inv.0) _
     (λ bytes is. subst (λ first. IsLogOf c.args.strict first (keys_from first c.args.column (records_of bytes)) c.finish.result) c.first_record-first.ensures
     (subst (λ rows. IsLogOf c.args.strict c.first_record-first.result (keys_from c.first_record-first.result c.args.column rows) c.finish.result) (sym is) log)) all
