@@ -1,0 +1,16 @@
+-- What is in a log of a format.
+use Rattle.std.specs.Prelude.{ℕ, List, Option}
+use Rattle.access_logs.specs.Lines.{entries_of_lines}
+use Rattle.access_logs.specs.Records.{entries_of_records, first_record}
+use Rattle.access_logs.specs.declared.log.Format.{Format}
+use Rattle.access_logs.specs.declared.log.Format.TheVariants as format
+
+-- of each line or record of a text its key, where it can be read
+abbrev pub entries_of : Format → List ℕ → List (Option (List ℕ))
+entries_of format.Lines bytes = entries_of_lines bytes
+entries_of (format.Csv column header) bytes = entries_of_records column header bytes
+
+-- the number of the first line or record that has a key
+abbrev pub first_of : Format → ℕ
+first_of format.Lines = 1
+first_of (format.Csv column header) = first_record header

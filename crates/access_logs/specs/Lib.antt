@@ -1,0 +1,7 @@
+pub mod Drafts
+pub mod Entries
+pub mod Formats
+pub mod Keys
+pub mod Lines
+pub mod Numbering
+pub mod Records

@@ -1,0 +1,38 @@
+-- The lines of a text, and the key of each.
+use Rattle.std.specs.Prelude.{ℕ, ◌==◌, ◌||◌, nat_lt, List, [], ◌∷◌, length, map, Option, Some, None, ⊤, if◌then◌else◌}
+use Rattle.std.specs.Io.BufRead.{ends_with_byte, strip_last}
+use Rattle.access_logs.specs.declared.log.LogFault.{LogFault}
+use Rattle.access_logs.specs.declared.log.LogFault.TheVariants as fault
+
+-- lines with one more byte at the front of the first
+abbrev pub with_byte : ℕ → List (List ℕ) → List (List ℕ)
+with_byte byte [] = (byte ∷ []) ∷ []
+with_byte byte (line ∷ lines) = (byte ∷ line) ∷ lines
+
+-- a text, cut behind each line feed: its lines, each with its end
+unfoldable pub lines_of : List ℕ → List (List ℕ)
+lines_of [] = []
+lines_of (byte ∷ bytes) = if byte == 10 then (byte ∷ []) ∷ lines_of bytes else with_byte byte (lines_of bytes)
+
+-- a line without its end: the line feed, and a carriage return just before it
+abbrev pub content_of : List ℕ → List ℕ
+content_of line = if ends_with_byte 10 line then strip_last 13 (strip_last 10 line) else line
+
+-- bytes as a key: none, and more than 65,536, are no key
+abbrev pub key_of_content : List ℕ → Option (List ℕ)
+key_of_content content = if length content == 0 || nat_lt 65536 (length content) then None else Some content
+
+-- the key of a line, where it can be read
+unfoldable pub key_of_line : List ℕ → Option (List ℕ)
+key_of_line line = key_of_content (content_of line)
+
+-- of each line its key
+abbrev pub entries_of_lines : List ℕ → List (Option (List ℕ))
+entries_of_lines bytes = map key_of_line (lines_of bytes)
+
+-- the reader or memory failed
+abbrev pub IsReadOrMemory : LogFault → Type 0
+IsReadOrMemory fault.Read = ⊤
+IsReadOrMemory fault.Memory = ⊤
+IsReadOrMemory (fault.Unreadable number) = ⊥
+IsReadOrMemory fault.TooManyKeys = ⊥

@@ -1,0 +1,13 @@
+//! Access logs as numbers: each distinct key of a log gets a number, in the order in which keys first come.
+#![tactic(auto)]
+
+mod drafts;
+mod lines;
+mod log;
+mod numbering;
+mod patient;
+mod reading;
+mod records;
+
+pub use log::{Format, Log, LogFault};
+pub use reading::read_log;

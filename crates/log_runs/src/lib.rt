@@ -1,0 +1,11 @@
+//! Logs that are read, as tests: lines, CSV, and readers that give little at a time, are interrupted or fail.
+#![tactic(auto)]
+
+#[cfg(test)]
+mod lines;
+#[cfg(test)]
+mod pieces;
+#[cfg(test)]
+mod records;
+#[cfg(test)]
+mod reports;

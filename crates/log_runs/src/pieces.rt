@@ -1,0 +1,83 @@
+//! Readers that give little at a time, are interrupted, or fail.
+
+use crate::reports::{Report, whole};
+use access_logs::{Format, LogFault, read_log};
+use std::io::{self, ErrorKind, Read};
+
+// Gives a text in pieces of so many bytes, with an interruption before each; and fails behind it, if it is to.
+#[derive(Drop)]
+struct Pieces<'a> {
+    text: &'a [u8],
+    size: usize,
+    interrupted: bool,
+    fails: bool,
+}
+
+impl<'a> Read for Pieces<'a> {
+    fn read(&mut self, buf: &mut [u8]) -> io::Result<usize> {
+        self.interrupted = !self.interrupted;
+        if self.interrupted {
+            return Err(io::Error::from(ErrorKind::Interrupted));
+        }
+        if self.text.is_empty() && self.fails {
+            return Err(io::Error::from(ErrorKind::NotFound));
+        }
+        let count = self.size.min(buf.len()).min(self.text.len());
+        let (piece, rest) = self.text.split_at(count);
+        buf[..count].copy_from_slice(piece);
+        self.text = rest;
+        Ok(count)
+    }
+}
+
+fn give<'a>(text: &'a [u8], size: usize, fails: bool) -> Pieces<'a> {
+    Pieces {
+        text,
+        size,
+        interrupted: false,
+        fails,
+    }
+}
+
+const CSV: Format = Format::Csv {
+    column: 1,
+    header: false,
+};
+
+#[test]
+fn pieces_make_no_difference(rt: HostRuntime) {
+    let report = Report {
+        accesses: &[0, 1, 0],
+        keys: 2,
+        unreadable: 1,
+        first: Some(3),
+    };
+    for size in 1..8 {
+        let lines = give(b"key\r\nother\n\r\nkey", size, false);
+        assert!(rt; report.is(&read_log(rt.alloc(), lines, Format::Lines, false)));
+        let records = give(b"1,key\r\n2,other\r\n3\r\n4,\"key\"", size, false);
+        assert!(rt; report.is(&read_log(rt.alloc(), records, CSV, false)));
+    }
+}
+
+#[test]
+fn reader_that_fails_gives_no_log(rt: HostRuntime) {
+    let lines = give(b"a\nb\n", 3, true);
+    assert_eq!(rt;
+        read_log(rt.alloc(), lines, Format::Lines, false).err(),
+        Some(LogFault::Read)
+    );
+    let records = give(b"1,a\n2,b\n", 3, true);
+    assert_eq!(rt;
+        read_log(rt.alloc(), records, CSV, false).err(),
+        Some(LogFault::Read)
+    );
+}
+
+#[test]
+fn what_is_read_of_a_borrowed_reader_is_gone(rt: HostRuntime) {
+    let mut lines: &[u8] = b"a\nb\na\n";
+    let log = read_log(rt.alloc(), &mut lines, Format::Lines, false);
+    assert!(rt; whole(&[0, 1, 0], 2).is(&log));
+    assert!(rt; lines.is_empty());
+}
