@@ -43,8 +43,7 @@ pub struct Log {
 #[derive(Clone, Copy, Debug, PartialEq, Eq)]
 pub enum Format {
     /// A key in each line: bytes, up to a line feed or the end. The line feed isn't of the key, and neither is a
-    /// carriage
-    /// return just before it. An empty line and one of more than 65,536 bytes can't be read.
+    /// carriage return just before it. An empty line and one of more than 65,536 bytes can't be read.
     Lines,
 
     /// CSV, with a key in one field of each record: fields are parted by commas, and may stand in quotes. Records may have
