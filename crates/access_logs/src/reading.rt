@@ -72,9 +72,8 @@ pub fn read_records<R: Read + Drop>(
 }
 
 /// The log that a reader gives. Where it is strict, each line or record has to be readable; else those that aren't are
-/// counted and passed over. `Read` where the reader fails, `Memory`, `Unreadable` with the first line or record
-/// that can't
-/// be read, only where it is strict, and `TooManyKeys` with more than 4,294,967,295 keys.
+/// counted and passed over. `Read` where the reader fails, `Memory`, `Unreadable` with the first line or record that
+/// can't be read, only where it is strict, and `TooManyKeys` with more than 4,294,967,295 keys.
 pub fn read_log<R: Read + Drop>(
     alloc: Global,
     source: R,
