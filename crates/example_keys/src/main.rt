@@ -28,9 +28,8 @@ fn run<N: Name, R: Wait + Copy>(
 }
 
 fn main(rt: HostRuntime) -> Result<()> {
-    let alloc = rt.alloc();
-    let blank = CacheBlank::new(alloc, &CacheConfig::new(100, 1))?;
-    let found = run::<Brand, _>(&&rt, alloc, blank)?;
+    let blank = CacheBlank::new(rt.alloc(), &CacheConfig::new(100, 1))?;
+    let found = run::<Brand, _>(&&rt, rt.alloc(), blank)?;
     println!(rt; "{found:?}")?;
     Ok(())
 }
