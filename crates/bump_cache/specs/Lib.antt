@@ -2,3 +2,4 @@ pub mod Configs
 pub mod Hits
 pub mod Readers
 pub mod Opening
+pub mod Putting

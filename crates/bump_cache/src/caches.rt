@@ -2,6 +2,7 @@
 ghost use Rattle.std.specs.Prelude.{◌≡◌, IfSome, IfOk, true};
 ghost use Rattle.bump_steps.specs.declared.views.ClassPart.{ClassPart as TheClassPart};
 ghost use Rattle.bump_cache.specs.Opening.{Limits as TheLimits};
+ghost use Rattle.bump_cache.specs.Putting.{PutsOnce, RemovesOnce};
 ghost use Rattle.cache_shelf.specs.Counts.{IsFlow, SegmentsAddUp};
 ghost use Rattle.cache_shelf.specs.Refusals.{left_of};
 
@@ -66,9 +67,11 @@ impl<
         requires law { L.holds key value }
         ensures refused { IfSome result.refused (λ it. left_of it ≡ (key, value)) }
         ensures old { IfSome result.old (λ had. K.eq key had.key ≡ true) }
+        ensures once { PutsOnce K.eq (key, value) now result }
     {
         let mut guard = self.shelf.lock(rt);
         let shelf = &mut *guard;
+        shelf.promise();
         let put = shelf.put(alloc, rt, Entry::new(key, value), now);
         shelf.balance(self.hot, self.warm);
         put
@@ -78,9 +81,11 @@ impl<
     /// cache. It is refused only for want of memory, and changes nothing then.
     pub fn remove<W: Wait>(&self, rt: &W, key: &K) -> Result<Removed<K, V, L>, AllocError>
         ensures old { IfOk result (λ it. IfSome it.old (λ had. K.eq key.now had.key ≡ true)) }
+        ensures once { IfOk result (λ it. RemovesOnce K.eq key.now it) }
     {
         let mut guard = self.shelf.lock(rt);
         let shelf = &mut *guard;
+        shelf.promise();
         shelf.remove(key)
     }
 
