@@ -1,3 +1,0 @@
-mod Draining
-mod Ending
-mod Holding
