@@ -6,3 +6,5 @@ pub mod LineKeys
 pub mod LineLemmas
 pub mod LogLemmas
 pub mod RecordLemmas
+pub mod SizeLemmas
+pub mod SizedLogs

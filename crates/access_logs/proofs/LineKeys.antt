@@ -1,10 +1,11 @@
--- Lemmas on the lines of a text, one after the other, and on the key of a line of which only the front is kept.
+-- Lemmas on the lines of a text, one after the other, and on the entry of a line of which only the front is kept.
 use Rattle.std.proofs.Common.{◌≡◌, ℕ, ◌+◌, ◌-◌, ◌<◌, ◌≤◌, Bool, true, false, cond, ◌||◌, List, [], ◌∷◌, ◌++◌, map, length, take, refl, sym, ap, subst, ◌∙◌, arith, take_all, append-nil, append_assoc, length-take, true≢false}
-use Rattle.std.specs.Prelude.{Option, None, Some, IfSome, ⊤, nat_lt, ◌==◌, if◌then◌else◌}
+use Rattle.std.specs.Prelude.{Option, None, Some, IfSome, ⊤, nat_lt, ◌==◌, option_map, if◌then◌else◌}
 use Rattle.std.specs.Io.BufRead.{ends_with_byte, strip_last, take_through, drop_through, DropsThrough}
 use Rattle.std.proofs.BufReadLemmas.{take_through-nil}
 use Rattle.std.proofs.lemmas.Bool.{lt-ltb, ltb-false, ltb-true}
-use Rattle.access_logs.specs.Lines.{with_byte, lines_of, content_of, key_of_content, key_of_line, entries_of_lines}
+use Rattle.access_logs.specs.Entries.{Access, without_size}
+use Rattle.access_logs.specs.Lines.{with_byte, lines_of, content_of, key_of_content, entry_of_line, entries_of_lines}
 
 -- the first line of a text, and the lines behind it
 pub lines_of-through : (byte : ℕ) (bytes : List ℕ) → lines_of (byte ∷ bytes) ≡ take_through 10 (byte ∷ bytes) ∷ lines_of (drop_through 10 (byte ∷ bytes))
@@ -49,23 +50,23 @@ key-long content long = by (length content == 0) (nat_lt 65536 (length content))
     by false true is = refl
     by false false is = absurd (true≢false (sym is))
 
-pub key_of_line-long : (line : List ℕ) → 65538 < length line → key_of_line line ≡ None
-unfolding key_of_line
-key_of_line-long line long = let left = length-content_of line in key-long (content_of line) (omega (arith, left, long))
+pub entry_of_line-long : (line : List ℕ) → 65538 < length line → entry_of_line line ≡ None
+unfolding entry_of_line
+entry_of_line-long line long = let left = length-content_of line in ap (option_map without_size) (key-long (content_of line) (omega (arith, left, long)))
 
--- the front of a line tells its key
-pub key_of_line-kept : (line : List ℕ) → key_of_line (take 65539 line) ≡ key_of_line line
-key_of_line-kept line = by (nat_lt (length line) 65539) refl
+-- the front of a line tells its entry
+pub entry_of_line-kept : (line : List ℕ) → entry_of_line (take 65539 line) ≡ entry_of_line line
+entry_of_line-kept line = by (nat_lt (length line) 65539) refl
   where
-    by : (b : Bool) → nat_lt (length line) 65539 ≡ b → key_of_line (take 65539 line) ≡ key_of_line line
-    by true short = ap key_of_line (take_all 65539 line (let below = ltb-true (length line) 65539 short in omega (arith, below)))
+    by : (b : Bool) → nat_lt (length line) 65539 ≡ b → entry_of_line (take 65539 line) ≡ entry_of_line line
+    by true short = ap entry_of_line (take_all 65539 line (let below = ltb-true (length line) 65539 short in omega (arith, below)))
     by false long =
         let above = ltb-false (length line) 65539 long in
         let front = length-take 65539 line in
-        key_of_line-long (take 65539 line) (omega (arith, above, front)) ∙ sym (key_of_line-long line (omega (arith, above)))
+        entry_of_line-long (take 65539 line) (omega (arith, above, front)) ∙ sym (entry_of_line-long line (omega (arith, above)))
 
 -- the entries of the known bytes are those read so far, and then those of the bytes that are left
-abbrev pub IsReadSoFar : Option (List ℕ) → Option (List ℕ) → List (Option (List ℕ)) → Type 0
+abbrev pub IsReadSoFar : Option (List ℕ) → Option (List ℕ) → List (Option Access) → Type 0
 IsReadSoFar None left entries = ⊤
 IsReadSoFar (Some bytes) None entries = ⊥
 IsReadSoFar (Some bytes) (Some left) entries = entries_of_lines bytes ≡ entries ++ entries_of_lines left
@@ -75,21 +76,21 @@ none-read None = tt
 none-read (Some bytes) = refl
 
 -- a line more
-pub line-read : (known left next : Option (List ℕ)) (entries : List (Option (List ℕ))) (kept : List ℕ) → IsReadSoFar known left entries
+pub line-read : (known left next : Option (List ℕ)) (entries : List (Option Access)) (kept : List ℕ) → IsReadSoFar known left entries
     → IfSome left (λ bytes. kept ≡ take 65539 (take_through 10 bytes)) → DropsThrough left next 10 → (length kept ≡ 0 → ⊥)
-    → IsReadSoFar known next (entries ++ key_of_line kept ∷ [])
+    → IsReadSoFar known next (entries ++ entry_of_line kept ∷ [])
 line-read None left next entries kept before is rest some = tt
 line-read (Some bytes) None next entries kept before is rest some = absurd before
 line-read (Some bytes) (Some []) next entries kept before is rest some = absurd (some (ap length is))
 line-read (Some bytes) (Some (byte ∷ left)) next entries kept before is rest some =
-    let key = ap key_of_line is ∙ key_of_line-kept (take_through 10 (byte ∷ left)) in
-    subst (λ o. IsReadSoFar (Some bytes) o (entries ++ key_of_line kept ∷ [])) (sym rest)
-    (before ∙ ap (λ l. entries ++ map key_of_line l) (lines_of-through byte left)
-    ∙ ap (λ k. entries ++ k ∷ entries_of_lines (drop_through 10 (byte ∷ left))) (sym key)
-    ∙ sym (append_assoc entries (key_of_line kept ∷ []) (entries_of_lines (drop_through 10 (byte ∷ left)))))
+    let entry = ap entry_of_line is ∙ entry_of_line-kept (take_through 10 (byte ∷ left)) in
+    subst (λ o. IsReadSoFar (Some bytes) o (entries ++ entry_of_line kept ∷ [])) (sym rest)
+    (before ∙ ap (λ l. entries ++ map entry_of_line l) (lines_of-through byte left)
+    ∙ ap (λ k. entries ++ k ∷ entries_of_lines (drop_through 10 (byte ∷ left))) (sym entry)
+    ∙ sym (append_assoc entries (entry_of_line kept ∷ []) (entries_of_lines (drop_through 10 (byte ∷ left)))))
 
 -- no line more
-pub all-read : (known left : Option (List ℕ)) (entries : List (Option (List ℕ))) (kept : List ℕ) → IsReadSoFar known left entries
+pub all-read : (known left : Option (List ℕ)) (entries : List (Option Access)) (kept : List ℕ) → IsReadSoFar known left entries
     → IfSome left (λ bytes. kept ≡ take 65539 (take_through 10 bytes)) → length kept ≡ 0 → IfSome known (λ bytes. entries ≡ entries_of_lines bytes)
 unfolding lines_of
 all-read None left entries kept before is none = tt
@@ -101,8 +102,8 @@ all-read (Some bytes) (Some left) entries kept before is none =
     sym (before ∙ ap (λ l. entries ++ entries_of_lines l) end ∙ append-nil entries)
 
 -- what was read so far is the front of all
-pub front-read : (known left : Option (List ℕ)) (entries : List (Option (List ℕ))) → IsReadSoFar known left entries
-    → IfSome known (λ bytes. (more : List (Option (List ℕ))) × (entries_of_lines bytes ≡ entries ++ more))
+pub front-read : (known left : Option (List ℕ)) (entries : List (Option Access)) → IsReadSoFar known left entries
+    → IfSome known (λ bytes. (more : List (Option Access)) × (entries_of_lines bytes ≡ entries ++ more))
 front-read None left entries before = tt
 front-read (Some bytes) None entries before = absurd before
 front-read (Some bytes) (Some left) entries before = (entries_of_lines left, before)

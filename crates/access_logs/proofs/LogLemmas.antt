@@ -4,7 +4,7 @@ use Rattle.std.specs.Prelude.{Option, None, Result, Ok, Err, IfOk, bytes_eq}
 use Rattle.std.specs.List.{list_all, AllByRecursion}
 use Rattle.std.proofs.lemmas.List.Elements.{All-from_recursion}
 use Rattle.access_logs.specs.Drafts.{IsLogOf}
-use Rattle.access_logs.specs.Entries.{keys_in}
+use Rattle.access_logs.specs.Entries.{Access, keys_in}
 use Rattle.access_logs.specs.Keys.{is_among, distinct, number_among, numbers_of}
 use Rattle.access_logs.specs.declared.log.Log.{Log}
 use Rattle.access_logs.specs.declared.log.LogFault.{LogFault}
@@ -23,7 +23,7 @@ numbers-below seen (key ∷ keys) all = by (is_among seen key) refl all (numbers
     by true is some rest = (position_or_len-present (bytes_eq key) seen is, rest some)
 
 -- the same of a log
-pub below : (strict : Bool) (first : ℕ) (entries : List (Option (List ℕ))) (log : Log) → IsLogOf strict first entries log → All (λ number. number < log.keys) log.accesses.items
+pub below : (strict : Bool) (first : ℕ) (entries : List (Option Access)) (log : Log) → IsLogOf strict first entries log → All (λ number. number < log.keys) log.accesses.items
 below strict first entries log is =
     let keys = keys_in entries in
     subst (λ numbers. All (λ number. number < log.keys) numbers) (sym is.accesses)
@@ -31,7 +31,7 @@ below strict first entries log is =
     (All-from_recursion (λ number. number < length (distinct keys)) (numbers_of keys) (numbers-below (distinct keys) keys (all_among [] keys))))
 
 -- strictly, each line or record was read
-pub strictly : (strict : Bool) (first : ℕ) (entries : List (Option (List ℕ))) (log : Log) → IsLogOf strict first entries log → strict ≡ true → (log.unreadable ≡ 0) × (log.first_unreadable ≡ None)
+pub strictly : (strict : Bool) (first : ℕ) (entries : List (Option Access)) (log : Log) → IsLogOf strict first entries log → strict ≡ true → (log.unreadable ≡ 0) × (log.first_unreadable ≡ None)
 strictly strict first entries log is on =
     let none = is.strictly on in
     (is.unreadable ∙ unreadable_in-zero first entries (sym is.first_unreadable ∙ none), none)

@@ -11,7 +11,9 @@ use Rattle.csv.specs.declared.parser.State.{State}
 use Rattle.csv.specs.declared.parser.State.TheVariants as st
 use Rattle.csv.specs.declared.reader.Reader.{Reader}
 use Rattle.csv.proofs.ReadFacts.{rows-more, rows-end}
-use Rattle.access_logs.specs.Records.{key_of_record, records_of, keys_from}
+use Rattle.access_logs.specs.Entries.{Access}
+use Rattle.access_logs.specs.Records.{entry_of_record, records_of, entries_from}
+use Rattle.access_logs.specs.declared.records.Columns.{Columns}
 
 -- what an option holds
 some-is : (x p : Read) → Some x ≡ Some p → x ≡ p
@@ -96,26 +98,26 @@ reached-records cfg (row ∷ other ∷ rows) (suc n) s [] s2 ys fuel reached =
     let end = next-end cfg s p reached.1 in
     absurd (none-behind cfg p reached.3.0 end.0 end.1 reached.3.1)
 
--- ---- the keys of records
+-- ---- the accesses of records
 
-pub keys_from-nil : (first column : ℕ) → keys_from first column [] ≡ []
-keys_from-nil first column = ap (map (key_of_record column)) (drop_of_length-le [] {i = first - 1} zero-le)
+pub entries_from-nil : (first : ℕ) (columns : Columns) → entries_from first columns [] ≡ []
+entries_from-nil first columns = ap (map (entry_of_record columns)) (drop_of_length-le [] {i = first - 1} zero-le)
 
 -- one more record that has a key
-pub keys_from-more : (first column : ℕ) (seen : List (List (List ℕ))) (row : List (List ℕ)) → first - 1 ≤ length seen
-    → keys_from first column (seen ++ row ∷ []) ≡ keys_from first column seen ++ key_of_record column row ∷ []
-keys_from-more first column seen row far =
-    ap (map (key_of_record column)) (drop-append-le (first - 1) seen (row ∷ []) far) ∙ map-append (key_of_record column) (drop (first - 1) seen) (row ∷ [])
+pub entries_from-more : (first : ℕ) (columns : Columns) (seen : List (List (List ℕ))) (row : List (List ℕ)) → first - 1 ≤ length seen
+    → entries_from first columns (seen ++ row ∷ []) ≡ entries_from first columns seen ++ entry_of_record columns row ∷ []
+entries_from-more first columns seen row far =
+    ap (map (entry_of_record columns)) (drop-append-le (first - 1) seen (row ∷ []) far) ∙ map-append (entry_of_record columns) (drop (first - 1) seen) (row ∷ [])
 
-pub length-keys_from : (first column : ℕ) (seen : List (List (List ℕ))) → length (keys_from first column seen) ≡ length seen - (first - 1)
-length-keys_from first column seen = length-map (drop (first - 1) seen) (key_of_record column) ∙ length-drop (first - 1) seen
+pub length-entries_from : (first : ℕ) (columns : Columns) (seen : List (List (List ℕ))) → length (entries_from first columns seen) ≡ length seen - (first - 1)
+length-entries_from first columns seen = length-map (drop (first - 1) seen) (entry_of_record columns) ∙ length-drop (first - 1) seen
 
 -- one more record before the first that has a key
-pub keys_from-before : (first column : ℕ) (seen : List (List (List ℕ))) (row : List (List ℕ)) → length seen < first - 1
-    → keys_from first column (seen ++ row ∷ []) ≡ keys_from first column seen
-keys_from-before first column seen row near =
+pub entries_from-before : (first : ℕ) (columns : Columns) (seen : List (List (List ℕ))) (row : List (List ℕ)) → length seen < first - 1
+    → entries_from first columns (seen ++ row ∷ []) ≡ entries_from first columns seen
+entries_from-before first columns seen row near =
     let longer = length-append seen (row ∷ []) in
-    ap (map (key_of_record column)) (drop_of_length-le (seen ++ row ∷ []) {i = first - 1} (omega (arith, longer, near)) ∙ sym (drop_of_length-le seen {i = first - 1} (omega (arith, near))))
+    ap (map (entry_of_record columns)) (drop_of_length-le (seen ++ row ∷ []) {i = first - 1} (omega (arith, longer, near)) ∙ sym (drop_of_length-le seen {i = first - 1} (omega (arith, near))))
 
 -- ---- a reader's records
 
@@ -167,17 +169,17 @@ front-read (Some bytes) (Some left) s seen before =
     let rest = reached-records default_config seen (length (strip_bom bytes) + 1) st.StartRecord (strip_bom bytes) s left (omega arith) before in
     (rest.0, rest.1)
 
--- and its keys are the first of all
-pub keys_from-front : (first column : ℕ) (seen more : List (List (List ℕ)))
-    → (rest : List (Option (List ℕ))) × (keys_from first column (seen ++ more) ≡ keys_from first column seen ++ rest)
-keys_from-front first column seen more = by (nat_le (first - 1) (length seen)) refl
+-- and its accesses are the first of all
+pub entries_from-front : (first : ℕ) (columns : Columns) (seen more : List (List (List ℕ)))
+    → (rest : List (Option Access)) × (entries_from first columns (seen ++ more) ≡ entries_from first columns seen ++ rest)
+entries_from-front first columns seen more = by (nat_le (first - 1) (length seen)) refl
   where
-    by : (b : Bool) → nat_le (first - 1) (length seen) ≡ b → (rest : List (Option (List ℕ))) × (keys_from first column (seen ++ more) ≡ keys_from first column seen ++ rest)
+    by : (b : Bool) → nat_le (first - 1) (length seen) ≡ b → (rest : List (Option Access)) × (entries_from first columns (seen ++ more) ≡ entries_from first columns seen ++ rest)
     by true far = (
-      map (key_of_record column) more,
-      ap (map (key_of_record column)) (drop-append-le (first - 1) seen more (leb-true (first - 1) (length seen) far)) ∙ map-append (key_of_record column) (drop (first - 1) seen) more,
+      map (entry_of_record columns) more,
+      ap (map (entry_of_record columns)) (drop-append-le (first - 1) seen more (leb-true (first - 1) (length seen) far)) ∙ map-append (entry_of_record columns) (drop (first - 1) seen) more,
     )
     by false near =
         let above = leb-false (first - 1) (length seen) near in
-        let none : keys_from first column seen ≡ [] = ap (map (key_of_record column)) (drop_of_length-le seen {i = first - 1} (omega (arith, above))) in
-        (keys_from first column (seen ++ more), ap (λ l. l ++ keys_from first column (seen ++ more)) (sym none))
+        let none : entries_from first columns seen ≡ [] = ap (map (entry_of_record columns)) (drop_of_length-le seen {i = first - 1} (omega (arith, above))) in
+        (entries_from first columns (seen ++ more), ap (λ l. l ++ entries_from first columns (seen ++ more)) (sym none))

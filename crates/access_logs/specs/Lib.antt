@@ -5,3 +5,4 @@ pub mod Keys
 pub mod Lines
 pub mod Numbering
 pub mod Records
+pub mod Sizes

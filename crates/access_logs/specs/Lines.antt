@@ -1,6 +1,7 @@
--- The lines of a text, and the key of each.
-use Rattle.std.specs.Prelude.{ℕ, ◌==◌, ◌||◌, nat_lt, List, [], ◌∷◌, length, map, Option, Some, None, ⊤, if◌then◌else◌}
+-- The lines of a text, and the access of each.
+use Rattle.std.specs.Prelude.{ℕ, ◌==◌, ◌||◌, nat_lt, List, [], ◌∷◌, length, map, Option, Some, None, ⊤, option_map, if◌then◌else◌}
 use Rattle.std.specs.Io.BufRead.{ends_with_byte, strip_last}
+use Rattle.access_logs.specs.Entries.{Access, without_size}
 use Rattle.access_logs.specs.declared.log.LogFault.{LogFault}
 use Rattle.access_logs.specs.declared.log.LogFault.TheVariants as fault
 
@@ -22,13 +23,13 @@ content_of line = if ends_with_byte 10 line then strip_last 13 (strip_last 10 li
 abbrev pub key_of_content : List ℕ → Option (List ℕ)
 key_of_content content = if length content == 0 || nat_lt 65536 (length content) then None else Some content
 
--- the key of a line, where it can be read
-unfoldable pub key_of_line : List ℕ → Option (List ℕ)
-key_of_line line = key_of_content (content_of line)
+-- the access of a line, where it can be read: no line tells a size
+unfoldable pub entry_of_line : List ℕ → Option Access
+entry_of_line line = option_map without_size (key_of_content (content_of line))
 
--- of each line its key
-abbrev pub entries_of_lines : List ℕ → List (Option (List ℕ))
-entries_of_lines bytes = map key_of_line (lines_of bytes)
+-- of each line its access
+abbrev pub entries_of_lines : List ℕ → List (Option Access)
+entries_of_lines bytes = map entry_of_line (lines_of bytes)
 
 -- the reader or memory failed
 abbrev pub IsReadOrMemory : LogFault → Type 0

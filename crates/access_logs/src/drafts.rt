@@ -3,8 +3,9 @@
 ghost use Rattle.std.specs.Prelude.{◌≡◌, ◌+◌, ◌-◌, ◌<◌, ◌^◌, ℕ, Bool, List, [], ◌∷◌, ◌++◌, Option, Some};
 ghost use Rattle.std.specs.Prelude.{None, IfErr, OnOk, length, option_map};
 ghost use Rattle.access_logs.specs.Drafts.{IsDraftOf, IsLogOf};
-ghost use Rattle.access_logs.specs.Entries.{RefusesLog};
+ghost use Rattle.access_logs.specs.Entries.{Access, RefusesLog, access_of};
 
+use crate::entries::Entry;
 use crate::log::{Log, LogFault};
 use crate::numbering::Numbering;
 use std::alloc::Global;
@@ -14,6 +15,7 @@ use std::alloc::Global;
 pub struct Draft {
     numbering: Numbering,
     accesses: Vec<u32>,
+    sizes: Vec<u32>,
     unreadable: u64,
     first_unreadable: Option<u64>,
     strict: bool,
@@ -27,6 +29,7 @@ impl Draft {
         Draft {
             numbering: Numbering::new(alloc),
             accesses: Vec::new(alloc),
+            sizes: Vec::new(alloc),
             unreadable: 0,
             first_unreadable: None,
             strict,
@@ -34,17 +37,22 @@ impl Draft {
     }
 
     /// One more access. `TooManyKeys`, `Memory`.
-    pub fn take_key(&mut self, key: &[u8]) -> Result<(), LogFault>
-        ensures taken { (strict : Bool) (first : ℕ) (entries : List (Option (List ℕ)))
+    pub fn take_entry(&mut self, entry: Entry<'_>) -> Result<(), LogFault>
+        ensures taken { (strict : Bool) (first : ℕ) (entries : List (Option Access))
             → IsDraftOf strict first entries self.old
-            → OnOk result (IsDraftOf strict first (entries ++ Some key.now ∷ []) self.new) }
-        ensures refusal { (strict : Bool) (first : ℕ) (entries : List (Option (List ℕ)))
+            → OnOk result (IsDraftOf strict first (entries ++ Some (access_of entry.entry) ∷ []) self.new) }
+        ensures refusal { (strict : Bool) (first : ℕ) (entries : List (Option Access))
             → IsDraftOf strict first entries self.old
-            → IfErr result (RefusesLog strict first (entries ++ Some key.now ∷ [])) }
+            → IfErr result (RefusesLog strict first (entries ++ Some (access_of entry.entry) ∷ [])) }
     {
-        let number = self.numbering.number_of(key)?;
+        let number = self.numbering.number_of(entry.key)?;
         if self.accesses.push(number).is_err() {
             return Err(LogFault::Memory);
+        }
+        if let Some(size) = entry.size {
+            if self.sizes.push(size).is_err() {
+                return Err(LogFault::Memory);
+            }
         }
         Ok(())
     }
@@ -52,10 +60,10 @@ impl Draft {
     /// One more line or record that can't be read, with its number. `Unreadable` where the draft is strict.
     pub fn take_unreadable(&mut self, number: u64) -> Result<(), LogFault>
         requires { self.old.unreadable < 2 ^ 64 - 1 }
-        ensures taken { (strict : Bool) (first : ℕ) (entries : List (Option (List ℕ)))
+        ensures taken { (strict : Bool) (first : ℕ) (entries : List (Option Access))
             → IsDraftOf strict first entries self.old
             → number ≡ first + length entries → OnOk result (IsDraftOf strict first (entries ++ None ∷ []) self.new) }
-        ensures refusal { (strict : Bool) (first : ℕ) (entries : List (Option (List ℕ)))
+        ensures refusal { (strict : Bool) (first : ℕ) (entries : List (Option Access))
             → IsDraftOf strict first entries self.old
             → number ≡ first + length entries → IfErr result (RefusesLog strict first (entries ++ None ∷ [])) }
     {
@@ -69,39 +77,41 @@ impl Draft {
         Ok(())
     }
 
-    /// One more line or record, with its number: its key, or nothing where it can't be read.
-    pub fn take(&mut self, key: Option<&[u8]>, number: u64) -> Result<(), LogFault>
+    /// One more line or record, with its number: what it says, or nothing where it can't be read.
+    pub fn take(&mut self, entry: Option<Entry<'_>>, number: u64) -> Result<(), LogFault>
         requires { self.old.unreadable < 2 ^ 64 - 1 }
-        ensures taken { (strict : Bool) (first : ℕ) (entries : List (Option (List ℕ)))
+        ensures taken { (strict : Bool) (first : ℕ) (entries : List (Option Access))
             → IsDraftOf strict first entries self.old
             → number ≡ first + length entries
-            → OnOk result (IsDraftOf strict first (entries ++ option_map (λ key. key.now) key.entry ∷ []) self.new) }
-        ensures refusal { (strict : Bool) (first : ℕ) (entries : List (Option (List ℕ)))
+            → OnOk result (IsDraftOf strict first (entries ++ option_map access_of entry.entry ∷ []) self.new) }
+        ensures refusal { (strict : Bool) (first : ℕ) (entries : List (Option Access))
             → IsDraftOf strict first entries self.old
             → number ≡ first + length entries
-            → IfErr result (RefusesLog strict first (entries ++ option_map (λ key. key.now) key.entry ∷ [])) }
+            → IfErr result (RefusesLog strict first (entries ++ option_map access_of entry.entry ∷ [])) }
     {
-        match key {
-            Some(key) => self.take_key(key),
+        match entry {
+            Some(entry) => self.take_entry(entry),
             None => self.take_unreadable(number),
         }
     }
 
     /// The log that was read.
     pub fn finish(self) -> Log
-        ensures log { (strict : Bool) (first : ℕ) (entries : List (Option (List ℕ)))
+        ensures log { (strict : Bool) (first : ℕ) (entries : List (Option Access))
             → IsDraftOf strict first entries self
             → IsLogOf strict first entries result }
     {
         let keys = self.numbering.count();
         let Draft {
             accesses,
+            sizes,
             unreadable,
             first_unreadable,
             ..
         } = self;
         Log {
             accesses,
+            sizes,
             keys,
             unreadable,
             first_unreadable,

@@ -2,12 +2,14 @@
 #![tactic(auto)]
 
 mod drafts;
+mod entries;
 mod lines;
 mod log;
 mod numbering;
 mod patient;
 mod reading;
 mod records;
+mod sizes;
 
 pub use log::{Format, Log, LogFault};
 pub use reading::read_log;

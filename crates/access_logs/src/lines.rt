@@ -5,8 +5,10 @@ ghost use Rattle.std.specs.Prelude.{option_map, vec_len, IfOk, IfErr, IfSome, On
 ghost use Rattle.std.specs.Io.{StopsAt, IsEmptyOrEndsWith};
 ghost use Rattle.std.specs.Io.BufRead.{ends_with_byte, take_through, DropsThrough};
 ghost use Rattle.std.specs.Io.KnownBytes.{Consumes, IsAtEnd};
-ghost use Rattle.access_logs.specs.Lines.{content_of, key_of_line, IsReadOrMemory};
+ghost use Rattle.access_logs.specs.Entries.{access_of};
+ghost use Rattle.access_logs.specs.Lines.{content_of, entry_of_line, IsReadOrMemory};
 
+use crate::entries::Entry;
 use crate::log::LogFault;
 use memchr::memchr;
 use std::io::{BufRead, ErrorKind};
@@ -42,16 +44,19 @@ fn content_of(line: &[u8]) -> &[u8]
     }
 }
 
-/// The key of a line with its end, or nothing where it can't be read.
-#[tactic(auto, unfolding(crate::specs::Lines::key_of_line))]
-pub fn key_of_line(line: &[u8]) -> Option<&[u8]>
-    ensures { option_map (λ key. key.now) result ≡ key_of_line line.now }
+/// What a line with its end says, or nothing where it can't be read.
+#[tactic(auto, unfolding(crate::specs::Lines::entry_of_line))]
+pub fn entry_of_line(line: &[u8]) -> Option<Entry<'_>>
+    ensures { option_map access_of result ≡ entry_of_line line.now }
 {
     let content = content_of(line);
     if content.is_empty() || content.len() > LONGEST_KEY {
         None
     } else {
-        Some(content)
+        Some(Entry {
+            key: content,
+            size: None,
+        })
     }
 }
 

@@ -29,6 +29,9 @@ pub struct Log {
     /// The key of each access, in turn, by its number: 0, 1, 2.. in the order in which keys first come.
     pub accesses: Vec<u32>,
 
+    /// The size of each access, in turn, in bytes, where the log's format has a column for it; else none.
+    pub sizes: Vec<u32>,
+
     /// How many keys there are.
     pub keys: u32,
 
@@ -55,5 +58,10 @@ pub enum Format {
 
         /// Whether the first record is a header. It is record 1 then, and has no key.
         header: bool,
+
+        /// The field of the item's size in bytes, counted from 0, where the sizes are asked for. It has decimal digits,
+        /// with leading zeros or a leading plus or not: 0 to 4,294,967,295. A record of which it is missing or anything
+        /// else can't be read, and its key counts for nothing.
+        size: Option<u32>,
     },
 }

@@ -1,25 +1,26 @@
 //! A log from a reader.
 
-ghost use Rattle.std.specs.Prelude.{◌≡◌, ◌<◌, List, Option, ℕ, true, None, All, length, IfOk, IfErr, IfSome};
+ghost use Rattle.std.specs.Prelude.{◌≡◌, ◌<◌, List, [], Option, ℕ, true, false, None, All, length, IfOk, IfErr, IfSome};
 ghost use Rattle.access_logs.specs.Drafts.{IsLogOf};
-ghost use Rattle.access_logs.specs.Entries.{keys_in, unreadable_in, first_unreadable_in, RefusesLog};
-ghost use Rattle.access_logs.specs.Formats.{entries_of, first_of};
+ghost use Rattle.access_logs.specs.Entries.{Access, keys_in, sizes_in, unreadable_in, first_unreadable_in, RefusesLog};
+ghost use Rattle.access_logs.specs.Formats.{entries_of, first_of, has_sizes};
 ghost use Rattle.access_logs.specs.Keys.{distinct, numbers_of};
 ghost use Rattle.access_logs.specs.Lines.{entries_of_lines};
-ghost use Rattle.access_logs.specs.Records.{entries_of_records, first_record};
+ghost use Rattle.access_logs.specs.Records.{entries_of_records, entries_from, first_record};
 
 use crate::drafts::Draft;
-use crate::lines::{key_of_line, read_line};
+use crate::lines::{entry_of_line, read_line};
 use crate::log::{Format, Log, LogFault};
 use crate::patient::Patient;
-use crate::records::{first_record, read_row, take_record};
+use crate::records::{Columns, first_record, read_row, take_record};
 use csv::{ByteRecord, ReaderBuilder};
 use std::alloc::Global;
 use std::io::{BufReader, Read};
 
 /// The log of a reader's lines.
 pub fn read_lines<R: Read + Drop>(alloc: Global, source: R, strict: bool) -> Result<Log, LogFault>
-    ensures any { IfOk result (λ log. (entries : List (Option (List ℕ))) × IsLogOf strict 1 entries log) }
+    ensures any { IfOk result (λ log. (entries : List (Option Access)) × IsLogOf strict 1 entries log
+        × (sizes_in entries ≡ [])) }
     ensures lines { IfSome (R.remaining source) (λ bytes. IfOk result (IsLogOf strict 1 (entries_of_lines bytes))) }
     ensures refusal { IfSome (R.remaining source) (λ bytes.
         IfErr result (RefusesLog strict 1 (entries_of_lines bytes))) }
@@ -35,25 +36,25 @@ pub fn read_lines<R: Read + Drop>(alloc: Global, source: R, strict: bool) -> Res
         if line.is_empty() {
             return Ok(draft.finish());
         }
-        draft.take(key_of_line(&line), number)?;
+        draft.take(entry_of_line(&line), number)?;
     }
     Err(LogFault::Read)
 }
 
-/// The log of a reader's CSV records, with a key in a column of each, counted from 0. With a header the first has none.
+/// The log of a reader's CSV records, with the columns of each. With a header the first has none.
 pub fn read_records<R: Read + Drop>(
     alloc: Global,
     source: R,
-    column: u32,
+    columns: Columns,
     header: bool,
     strict: bool,
 ) -> Result<Log, LogFault>
-    ensures any { IfOk result (λ log. (entries : List (Option (List ℕ)))
-        × IsLogOf strict (first_record header) entries log) }
+    ensures any { IfOk result (λ log. (rows : List (List (List ℕ)))
+        × IsLogOf strict (first_record header) (entries_from (first_record header) columns rows) log) }
     ensures records { IfSome (R.remaining source) (λ bytes.
-        IfOk result (IsLogOf strict (first_record header) (entries_of_records column header bytes))) }
+        IfOk result (IsLogOf strict (first_record header) (entries_of_records columns header bytes))) }
     ensures refusal { IfSome (R.remaining source) (λ bytes.
-        IfErr result (RefusesLog strict (first_record header) (entries_of_records column header bytes))) }
+        IfErr result (RefusesLog strict (first_record header) (entries_of_records columns header bytes))) }
 {
     let first = first_record(header);
     let mut rows = ReaderBuilder::new()
@@ -66,7 +67,7 @@ pub fn read_records<R: Read + Drop>(
         if !read_row(&mut rows, &mut row)? {
             return Ok(draft.finish());
         }
-        take_record(&mut draft, &row, column, number, first)?;
+        take_record(&mut draft, &row, columns, number, first)?;
     }
     Err(LogFault::Read)
 }
@@ -83,6 +84,8 @@ pub fn read_log<R: Read + Drop>(
     // Where the reader's bytes are known.
     ensures accesses { IfSome (R.remaining source) (λ bytes.
         IfOk result (λ log. log.accesses.items ≡ numbers_of (keys_in (entries_of format bytes)))) }
+    ensures sizes { IfSome (R.remaining source) (λ bytes.
+        IfOk result (λ log. log.sizes.items ≡ sizes_in (entries_of format bytes))) }
     ensures keys { IfSome (R.remaining source) (λ bytes.
         IfOk result (λ log. log.keys ≡ length (distinct (keys_in (entries_of format bytes))))) }
     ensures unreadable { IfSome (R.remaining source) (λ bytes.
@@ -95,11 +98,20 @@ pub fn read_log<R: Read + Drop>(
     // At any reader.
     ensures numbered { IfOk result (λ log. (keys : List (List ℕ)) × (log.accesses.items ≡ numbers_of keys)
         × (log.keys ≡ length (distinct keys))) }
+    ensures sized { has_sizes format ≡ true → IfOk result (λ log. length log.sizes.items ≡ length log.accesses.items) }
+    ensures no_sizes { has_sizes format ≡ false → IfOk result (λ log. log.sizes.items ≡ []) }
     ensures below { IfOk result (λ log. All (λ number. number < log.keys) log.accesses.items) }
     ensures strict { strict ≡ true → IfOk result (λ log. (log.unreadable ≡ 0) × (log.first_unreadable ≡ None)) }
 {
     match format {
         Format::Lines => read_lines(alloc, source, strict),
-        Format::Csv { column, header } => read_records(alloc, source, column, header, strict),
+        Format::Csv {
+            column,
+            header,
+            size,
+        } => {
+            let columns = Columns { key: column, size };
+            read_records(alloc, source, columns, header, strict)
+        }
     }
 }

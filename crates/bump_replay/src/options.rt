@@ -158,6 +158,7 @@ fn format_of(matches: &ArgMatches<'_>) -> Format {
         Some("csv") => Format::Csv {
             column: number_of(matches, "key").saturating_sub(1),
             header: matches.get_flag("header"),
+            size: None,
         },
         _ => Format::Lines,
     }

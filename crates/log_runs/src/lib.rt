@@ -9,3 +9,5 @@ mod pieces;
 mod records;
 #[cfg(test)]
 mod reports;
+#[cfg(test)]
+mod sizes;

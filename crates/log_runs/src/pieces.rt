@@ -42,6 +42,7 @@ fn give<'a>(text: &'a [u8], size: usize, fails: bool) -> Pieces<'a> {
 const CSV: Format = Format::Csv {
     column: 1,
     header: false,
+    size: None,
 };
 
 #[test]

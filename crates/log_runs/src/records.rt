@@ -7,6 +7,7 @@ fn column(column: u32) -> Format {
     Format::Csv {
         column,
         header: false,
+        size: None,
     }
 }
 
@@ -14,6 +15,7 @@ fn under_header(column: u32) -> Format {
     Format::Csv {
         column,
         header: true,
+        size: None,
     }
 }
 

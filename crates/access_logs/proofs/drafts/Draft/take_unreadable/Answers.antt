@@ -11,8 +11,8 @@ returns-then-self-clause-refusal c strict first entries draft at =
 
 pub returns-then-is_none-clause-taken : goal.returns-then-is_none-clause-taken
 returns-then-is_none-clause-taken c strict first entries draft at =
-    draft-none strict first entries c.args.self.now _ c.args.number draft at c.if-self.false refl refl refl (default-none c.args.self.now.first_unreadable c.args.number (search rules)) refl
+    draft-none strict first entries c.args.self.now _ c.args.number draft at c.if-self.false refl refl refl refl (default-none c.args.self.now.first_unreadable c.args.number (search rules)) refl
 
 pub returns-else-is_none-clause-taken : goal.returns-else-is_none-clause-taken
 returns-else-is_none-clause-taken c strict first entries draft at =
-    draft-none strict first entries c.args.self.now _ c.args.number draft at c.if-self.false refl refl refl (default-some c.args.self.now.first_unreadable c.args.number (search rules)) refl
+    draft-none strict first entries c.args.self.now _ c.args.number draft at c.if-self.false refl refl refl refl (default-some c.args.self.now.first_unreadable c.args.number (search rules)) refl
