@@ -1,7 +1,7 @@
-use Rattle.std.proofs.Common.{◌≡◌, ℕ, List, [], ◌∷◌, ◌++◌, length, refl, sym, ap, subst, ◌∙◌, rules, arith, length-append, vec_items}
+use Rattle.std.proofs.Common.{◌≡◌, List, [], ◌∷◌, ◌++◌, length, refl, sym, ap, subst, ◌∙◌, rules, arith, length-append, vec_items}
 use Rattle.std.specs.Prelude.{Option, option_map}
 use Rattle.access_logs.specs.Drafts.{IsDraftOf, IsLogOf}
-use Rattle.access_logs.specs.Entries.{Access, RefusesLog, access_of, sizes_in}
+use Rattle.access_logs.specs.Entries.{Access, RefusesLog, access_of}
 use Rattle.access_logs.specs.Lines.{entries_of_lines, entry_of_line}
 use Rattle.access_logs.proofs.EntryLemmas.{refused-more}
 use Rattle.access_logs.proofs.KnownBytes.{fresh, if_known}

@@ -1,5 +1,5 @@
 -- The draft is that of the lines that were read so far.
-use Rattle.std.proofs.Common.{◌≡◌, ◌+◌, ℕ, List, [], length}
+use Rattle.std.proofs.Common.{◌≡◌, ◌+◌, List, [], length}
 use Rattle.std.specs.Prelude.{Option}
 use Rattle.std.specs.Io.Buffered.{reader_remaining}
 use Rattle.access_logs.specs.Drafts.{IsDraftOf}
