@@ -14,6 +14,7 @@ use Rattle.access_logs.proofs.KeyLemmas.{length-distinct}
 pub keys_in-some : (entries : List (Option Access)) (access : Access) → keys_in (entries ++ Some access ∷ []) ≡ keys_in entries ++ access.key ∷ []
 keys_in-some entries access = filter_map-append (option_map key_of) entries (Some access ∷ [])
 
+-- its size, where it has one
 pub sizes_in-some : (entries : List (Option Access)) (access : Access) → sizes_in (entries ++ Some access ∷ []) ≡ sizes_in entries ++ cons_option access.size []
 sizes_in-some entries access = filter_map-append (option_and_then size_of) entries (Some access ∷ [])
 
@@ -21,6 +22,7 @@ sizes_in-some entries access = filter_map-append (option_and_then size_of) entri
 pub keys_in-none : (entries : List (Option Access)) → keys_in (entries ++ None ∷ []) ≡ keys_in entries
 keys_in-none entries = filter_map-append (option_map key_of) entries (None ∷ []) ∙ append-nil (keys_in entries)
 
+-- nor a size
 pub sizes_in-none : (entries : List (Option Access)) → sizes_in (entries ++ None ∷ []) ≡ sizes_in entries
 sizes_in-none entries = filter_map-append (option_and_then size_of) entries (None ∷ []) ∙ append-nil (sizes_in entries)
 

@@ -34,6 +34,7 @@ no_sizes-rows columns (row ∷ rows) none = by columns.size (key_of_record colum
     by None (Some key) is = refl
     by (Some column) key is = absurd (true≢false is)
 
+-- the same from a record on
 pub no_sizes-from : (first : ℕ) (columns : Columns) (rows : List (List (List ℕ))) → is_some columns.size ≡ false → sizes_in (entries_from first columns rows) ≡ []
 no_sizes-from first columns rows none = no_sizes-rows columns (drop (first - 1) rows) none
 
@@ -62,11 +63,12 @@ sized-rows columns (row ∷ rows) some = by columns.size (key_of_record columns.
     by (Some column) None is same = same
     by (Some column) (Some key) is same = told key (size_of_record column row) same
 
+-- the same from a record on
 pub sized-from : (first : ℕ) (columns : Columns) (rows : List (List (List ℕ))) → is_some columns.size ≡ true
     → length (sizes_in (entries_from first columns rows)) ≡ length (keys_in (entries_from first columns rows))
 sized-from first columns rows some = sized-rows columns (drop (first - 1) rows) some
 
--- and so there are as many as accesses
+-- so a log has as many as accesses
 pub sized-log : (strict : Bool) (first : ℕ) (entries : List (Option Access)) (log : Log) → IsLogOf strict first entries log
     → length (sizes_in entries) ≡ length (keys_in entries) → length log.sizes.items ≡ length log.accesses.items
 sized-log strict first entries log is same =
