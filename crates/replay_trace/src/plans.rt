@@ -1,0 +1,78 @@
+//! How an access log's run is traced, and why it isn't.
+ghost use Rattle.std.specs.Prelude.{◌≡◌};
+ghost use Rattle.replay_trace.specs.declared.plans.TraceFault.TheVariants as fault;
+
+use bump_core::ConfigFault;
+use bump_trace::SimFault;
+use std::alloc::{AllocError, AllocFailed};
+use thiserror::Error;
+
+/// How an access log's run is traced: the numbers that the cache has.
+#[derive(Clone, Copy, Debug, PartialEq, Eq)]
+pub struct TracePlan {
+    /// At most so many items are in the cache, 1 to 1,000,000.
+    pub items: u32,
+
+    /// At most so many of them are in HOT.
+    pub hot: u32,
+
+    /// At most so many of them are in WARM.
+    pub warm: u32,
+
+    /// How many readers get in turn, 1 to 64.
+    pub workers: u32,
+
+    /// Each reader's ring has room for so many bumps, 1 to 65,536.
+    pub ring: u32,
+
+    /// The cache is tended behind the first access, and then behind each so many; 0 is taken as 1.
+    pub tend_every: u32,
+}
+
+/// Why a run isn't traced.
+#[derive(Clone, Copy, Debug, PartialEq, Eq, Error)]
+pub enum TraceFault {
+    /// No store is made from the plan's numbers.
+    #[error("{0}")]
+    Plan(ConfigFault),
+
+    /// The trace would have more than 16,777,216 bytes.
+    #[error("the trace would have more than 16777216 bytes")]
+    Long,
+
+    /// Memory was refused.
+    #[error("memory was refused")]
+    Memory,
+
+    /// The World refused a call that was written. No log is known that does this.
+    #[error("a call that was written can't be made")]
+    Refused,
+
+    /// The trace that was written doesn't run to its end. No log is known that does this.
+    #[error("the trace that was written can't be run: {0}")]
+    Run(SimFault),
+}
+
+impl From<AllocError> for TraceFault {
+    ghost from_gives = { λ _ f. f ≡ fault.Memory };
+
+    fn from(_error: AllocError) -> Self {
+        TraceFault::Memory
+    }
+}
+
+impl<T: Drop> From<AllocFailed<T>> for TraceFault {
+    ghost from_gives = { λ _ f. f ≡ fault.Memory };
+
+    fn from(_error: AllocFailed<T>) -> Self {
+        TraceFault::Memory
+    }
+}
+
+impl From<ConfigFault> for TraceFault {
+    ghost from_gives = { λ e f. f ≡ fault.Plan e };
+
+    fn from(error: ConfigFault) -> Self {
+        TraceFault::Plan(error)
+    }
+}

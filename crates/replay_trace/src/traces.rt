@@ -1,0 +1,84 @@
+//! The trace of an access log's run.
+ghost use Rattle.std.specs.Prelude.{◌≡◌, ◌+◌, ◌≤◌, false, length, IfOk, OnOk};
+ghost use Rattle.bump_trace.specs.Meaning.{verdict_of};
+ghost use Rattle.bump_trace.specs.Runs.{most_bytes};
+ghost use Rattle.replay_trace.specs.Counting.{hits_told};
+
+use crate::accesses::write_trace;
+use crate::counting::{HitCounts, count_hits};
+use crate::plans::{TraceFault, TracePlan};
+use bump_trace::{Counted, SimFault, run_model};
+use std::alloc::Global;
+use std::hash::RandomState;
+
+/// The trace of an access log's run through a cache, and what the run came to.
+#[derive(Drop)]
+pub struct ReplayTrace {
+    /// The trace, in the language of docs/TRACE.md: at most 16,777,216 bytes.
+    pub text: Vec<u8>,
+
+    /// The hits that its text tells, by kind.
+    pub hits: HitCounts,
+
+    /// So many accesses found their key in the cache: each is a line `get`. Where an item's count is at its limit such a
+    /// line tells no hit.
+    pub gets: u64,
+
+    /// So many accesses didn't.
+    pub misses: u64,
+
+    /// So many of the misses could not be put, since each chunk was held: by bumps that wait.
+    pub unplaced: u64,
+}
+
+// The fault of a run, as one of a trace that is written.
+fn fault_of(fault: SimFault) -> TraceFault {
+    match fault {
+        SimFault::Memory => TraceFault::Memory,
+        SimFault::Size => TraceFault::Long,
+        other => TraceFault::Run(other),
+    }
+}
+
+// What a trace tells, by its run on a World. It is refused where it has a fault.
+fn told_by_model(alloc: Global, keys: RandomState, trace: &[u8]) -> Result<Vec<u8>, TraceFault>
+    ensures text { IfOk result (λ told. told.items ≡ (verdict_of trace.now).text) }
+    ensures no_fault { OnOk result ((verdict_of trace.now).is_fault ≡ false) }
+    ensures size { OnOk result (length trace.now ≤ most_bytes) }
+{
+    let mut reader = Counted::new(trace);
+    let mut writer = Counted::new(Vec::new(alloc));
+    match run_model(alloc, keys, &mut reader, &mut writer) {
+        Ok(()) => Ok(writer.into_inner()),
+        Err(fault) => Err(fault_of(fault)),
+    }
+}
+
+/// Writes the trace of an access log's run, the numbers of keys, through a cache that is empty at first: the calls that
+/// bump_cache makes where one thread has it. An access is got by the reader whose turn it is, where its key has an item,
+/// and else put. A key's item has the name `k` and the key's number, and the label 0.
+///
+/// The trace is run on a World before it is given to anybody, so it has no fault. `keys` hash the keys and the names. It
+/// is refused as `Plan` where no store is made from the plan's numbers, as `Long` as soon as the trace has more than
+/// 16,777,216 bytes, and as `Memory` for want of memory.
+pub fn trace_of(
+    alloc: Global,
+    keys: RandomState,
+    plan: &TracePlan,
+    accesses: &[u32],
+) -> Result<ReplayTrace, TraceFault>
+    ensures no_fault { IfOk result (λ it. (verdict_of it.text.items).is_fault ≡ false) }
+    ensures size { IfOk result (λ it. length it.text.items ≤ most_bytes) }
+    ensures hits { IfOk result (λ it. it.hits ≡ hits_told (verdict_of it.text.items).text) }
+    ensures sum { IfOk result (λ it. it.gets + it.misses ≡ length accesses.now) }
+{
+    let written = write_trace(alloc, keys, plan, accesses)?;
+    let told = told_by_model(alloc, keys, &written.text)?;
+    Ok(ReplayTrace {
+        hits: count_hits(&told),
+        text: written.text,
+        gets: written.gets,
+        misses: written.misses,
+        unplaced: written.unplaced,
+    })
+}
