@@ -3,7 +3,7 @@ ghost use Rattle.std.specs.Prelude.{◌≡◌, ◌+◌, ◌<◌, IfOk, length};
 
 use crate::plans::{TraceFault, TracePlan};
 use crate::scribes::Scribe;
-use bump_core::Tail;
+use bump_core::{Config, Tail};
 use std::alloc::Global;
 use std::hash::RandomState;
 
@@ -87,7 +87,11 @@ fn get_or_put(
     }
     let placed = place(scribe, plan, key)?;
     balance(scribe, plan)?;
-    Ok(if placed { Access::Miss } else { Access::Unplaced })
+    Ok(if placed {
+        Access::Miss
+    } else {
+        Access::Unplaced
+    })
 }
 
 // Whose turn an access is.
@@ -98,22 +102,29 @@ fn worker_at(place: usize, workers: u32) -> u32
     (place % workers as usize) as u32
 }
 
-/// Writes the trace of a plan's run through a log: it isn't run yet.
+/// Writes the trace of a log's run by a plan, whose store is of this configuration. It isn't run yet.
 pub(crate) fn write_trace(
     alloc: Global,
     keys: RandomState,
     plan: &TracePlan,
+    config: &Config,
     accesses: &[u32],
 ) -> Result<Written, TraceFault>
+    requires some { 0 < length config.now.classes }
     ensures sum { IfOk result (λ it. it.gets + it.misses ≡ length accesses.now) }
 {
-    let mut scribe = Scribe::new(alloc, keys, plan)?;
+    let mut scribe = Scribe::new(alloc, keys, plan, config)?;
     let workers = plan.workers.max(1);
     let tend_every = plan.tend_every.max(1) as usize;
     let mut gets = 0u64;
     let mut unplaced = 0u64;
     for place in 0..accesses.len() {
-        match get_or_put(&mut scribe, plan, worker_at(place, workers), accesses[place])? {
+        match get_or_put(
+            &mut scribe,
+            plan,
+            worker_at(place, workers),
+            accesses[place],
+        )? {
             Access::Get => gets += 1,
             Access::Miss => {}
             Access::Unplaced => unplaced = unplaced.saturating_add(1),

@@ -1,11 +1,14 @@
 //! How an access log's run is traced, and why it isn't.
-ghost use Rattle.std.specs.Prelude.{◌≡◌};
+ghost use Rattle.std.specs.Prelude.{◌≡◌, ◌<◌, None, IfOk, OnOk, IfErr, length};
 ghost use Rattle.replay_trace.specs.declared.plans.TraceFault.TheVariants as fault;
 
-use bump_core::ConfigFault;
+use bump_core::{ClassConfig, Config, ConfigFault};
 use bump_trace::SimFault;
-use std::alloc::{AllocError, AllocFailed};
+use std::alloc::{AllocError, AllocFailed, Global};
 use thiserror::Error;
+
+/// At most so many references to an item there are at once, as in a cache.
+pub(crate) const MOST_HOLDS: u32 = 1023;
 
 /// How an access log's run is traced: the numbers that the cache has.
 #[derive(Clone, Copy, Debug, PartialEq, Eq)]
@@ -69,10 +72,27 @@ impl<T: Drop> From<AllocFailed<T>> for TraceFault {
     }
 }
 
-impl From<ConfigFault> for TraceFault {
-    ghost from_gives = { λ e f. f ≡ fault.Plan e };
+impl TracePlan {
+    ghost use Rattle.replay_trace.specs.Plans.{plan_fault, Refuses};
 
-    fn from(error: ConfigFault) -> Self {
-        TraceFault::Plan(error)
+    // The store of a cache of these numbers: one class, whose lists have no limits of their own.
+    pub(crate) fn config(&self, alloc: Global) -> Result<Config, TraceFault>
+        ensures some { IfOk result (λ config. 0 < length config.classes) }
+        ensures allowed { OnOk result (plan_fault self.now ≡ None) }
+        ensures refused { IfErr result (λ it. Refuses (plan_fault self.now) it) }
+    {
+        let class = ClassConfig {
+            chunks: self.items,
+            hot: 0,
+            warm: 0,
+        };
+        let classes = match vec![in alloc; class] {
+            Ok(classes) => classes,
+            Err(_) => return Err(TraceFault::Memory),
+        };
+        match Config::new(self.workers, self.ring, MOST_HOLDS, 1, classes) {
+            Ok(config) => Ok(config),
+            Err(fault) => Err(TraceFault::Plan(fault)),
+        }
     }
 }

@@ -1,8 +1,8 @@
 //! A trace that is written line by line, each of which is made on a World at once.
-ghost use Rattle.std.specs.Prelude.{◌≡◌, ◌<◌, ◌∷◌, [], IfOk, length};
+ghost use Rattle.std.specs.Prelude.{◌<◌, length};
 
-use crate::plans::{TraceFault, TracePlan};
-use bump_core::{Answer, ClassConfig, Command, Config, ItemId, Pulled, Refused, Tail, World};
+use crate::plans::{MOST_HOLDS, TraceFault, TracePlan};
+use bump_core::{Answer, Command, Config, ItemId, Pulled, Refused, Tail, World};
 use std::alloc::Global;
 use std::collections::HashMap;
 use std::hash::RandomState;
@@ -10,9 +10,6 @@ use trace_lines::put_word;
 
 /// So many bytes a trace has at most.
 const MOST_BYTES: usize = 16_777_216;
-
-/// At most so many references to an item there are at once, as in a cache.
-const MOST_HOLDS: u32 = 1023;
 
 /// A trace that is written: each line is made on a World, whose answer tells what to write next.
 #[derive(Drop)]
@@ -27,19 +24,6 @@ pub(crate) struct Scribe {
     items: HashMap<u32, ItemId, RandomState>,
     ring: u32,
     ghost class: { 0 < length world.classes },
-}
-
-// The store of a cache of these numbers.
-fn config_of(alloc: Global, plan: &TracePlan) -> Result<Config, TraceFault>
-    ensures { IfOk result (λ config. 0 < length config.classes) }
-{
-    let class = ClassConfig {
-        chunks: plan.items,
-        hot: 0,
-        warm: 0,
-    };
-    let classes = vec![in alloc; class]?;
-    Ok(Config::new(plan.workers, plan.ring, MOST_HOLDS, 1, classes)?)
 }
 
 // The first lines of a trace: what the store is.
@@ -77,18 +61,20 @@ fn item_of(pulled: Pulled) -> Option<ItemId> {
 }
 
 impl Scribe {
-    /// The first lines of a plan's trace, and its store, in which no key has an item. The keys that have one are hashed
-    /// with `keys`.
+    /// The first lines of a plan's trace, and its store, which is of this configuration, and in which no key has an item.
+    /// The keys that have one are hashed with `keys`.
     pub(crate) fn new(
         alloc: Global,
         keys: RandomState,
         plan: &TracePlan,
-    ) -> Result<Scribe, TraceFault> {
-        let config = config_of(alloc, plan)?;
+        config: &Config,
+    ) -> Result<Scribe, TraceFault>
+        requires some { 0 < length config.now.classes }
+    {
         let mut chunks = Vec::new(alloc);
         chunks.resize(plan.items as usize, 0)?;
         Ok(Scribe {
-            world: World::new(alloc, &config)?,
+            world: World::new(alloc, config)?,
             text: header_of(alloc, plan)?,
             lines: 2,
             keys: chunks,

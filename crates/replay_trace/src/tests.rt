@@ -23,11 +23,14 @@ fn expect(rt: &impl Abort, trace: &ReplayTrace, counts: (u64, u64), text: &str) 
     assert!(rt; trace.text.as_slice() == text.as_bytes(), "the text");
 }
 
-const ONE_KEY: &str = "store 2 4 1023 1\nclass 1 0 0\nset k5 0 0\npull 0 hot\ndrain\nsweep 0\nget 1 k5\nget 0 k5\nshow\n";
+const ONE_KEY: &str =
+    "store 2 4 1023 1\nclass 1 0 0\nset k5 0 0\npull 0 hot\ndrain\nsweep 0\nget 1 k5\nget 0 k5\nshow\n";
 
-const THREE_KEYS: &str = "store 1 4 1023 1\nclass 2 0 0\nset k1 0 0\ndrain\nsweep 0\nset k2 0 0\npull 0 hot\nget 0 k1\nset k3 0 0\nsweep 0\npull 0 evict\nset k3 0 0\npull 0 hot\ndrain\nsweep 0\nset k1 0 0\nsweep 0\npull 0 evict\nset k1 0 0\npull 0 hot\nset k2 0 0\nsweep 0\npull 0 evict\nset k2 0 0\npull 0 hot\nshow\n";
+const THREE_KEYS: &str =
+    "store 1 4 1023 1\nclass 2 0 0\nset k1 0 0\ndrain\nsweep 0\nset k2 0 0\npull 0 hot\nget 0 k1\nset k3 0 0\nsweep 0\npull 0 evict\nset k3 0 0\npull 0 hot\ndrain\nsweep 0\nset k1 0 0\nsweep 0\npull 0 evict\nset k1 0 0\npull 0 hot\nset k2 0 0\nsweep 0\npull 0 evict\nset k2 0 0\npull 0 hot\nshow\n";
 
-const WITHOUT_COLD: &str = "store 1 4 1023 1\nclass 1 0 0\nset k1 0 0\ndrain\nsweep 0\nset k2 0 0\nsweep 0\npull 0 evict\npull 0 warm\npull 0 hot\ndel k1\nset k2 0 0\nshow\n";
+const WITHOUT_COLD: &str =
+    "store 1 4 1023 1\nclass 1 0 0\nset k1 0 0\ndrain\nsweep 0\nset k2 0 0\nsweep 0\npull 0 evict\npull 0 warm\npull 0 hot\ndel k1\nset k2 0 0\nshow\n";
 
 #[test]
 fn one_key(rt: HostRuntime) -> Result<(), Fail> {

@@ -1,12 +1,14 @@
 //! The trace of an access log's run.
-ghost use Rattle.std.specs.Prelude.{◌≡◌, ◌+◌, ◌≤◌, false, length, IfOk, OnOk};
+ghost use Rattle.std.specs.Prelude.{◌≡◌, ◌+◌, ◌<◌, ◌≤◌, false, length, None, IfOk, OnOk, IfErr};
 ghost use Rattle.bump_trace.specs.Meaning.{verdict_of};
 ghost use Rattle.bump_trace.specs.Runs.{most_bytes};
 ghost use Rattle.replay_trace.specs.Counting.{hits_told};
+ghost use Rattle.replay_trace.specs.Plans.{plan_fault, Refuses};
 
 use crate::accesses::write_trace;
 use crate::counting::{HitCounts, count_hits};
 use crate::plans::{TraceFault, TracePlan};
+use bump_core::Config;
 use bump_trace::{Counted, SimFault, run_model};
 use std::alloc::Global;
 use std::hash::RandomState;
@@ -54,6 +56,31 @@ fn told_by_model(alloc: Global, keys: RandomState, trace: &[u8]) -> Result<Vec<u
     }
 }
 
+// Writes the trace of a log's run by a plan, whose store is of this configuration, and runs it.
+fn write_and_run(
+    alloc: Global,
+    keys: RandomState,
+    plan: &TracePlan,
+    config: &Config,
+    accesses: &[u32],
+) -> Result<ReplayTrace, TraceFault>
+    requires some { 0 < length config.now.classes }
+    ensures no_fault { IfOk result (λ it. (verdict_of it.text.items).is_fault ≡ false) }
+    ensures size { IfOk result (λ it. length it.text.items ≤ most_bytes) }
+    ensures hits { IfOk result (λ it. it.hits ≡ hits_told (verdict_of it.text.items).text) }
+    ensures sum { IfOk result (λ it. it.gets + it.misses ≡ length accesses.now) }
+{
+    let written = write_trace(alloc, keys, plan, config, accesses)?;
+    let told = told_by_model(alloc, keys, &written.text)?;
+    Ok(ReplayTrace {
+        hits: count_hits(&told),
+        text: written.text,
+        gets: written.gets,
+        misses: written.misses,
+        unplaced: written.unplaced,
+    })
+}
+
 /// Writes the trace of an access log's run, the numbers of keys, through a cache that is empty at first: the calls that
 /// bump_cache makes where one thread has it. An access is got by the reader whose turn it is, where its key has an item,
 /// and else put. A key's item has the name `k` and the key's number, and the label 0.
@@ -71,14 +98,15 @@ pub fn trace_of(
     ensures size { IfOk result (λ it. length it.text.items ≤ most_bytes) }
     ensures hits { IfOk result (λ it. it.hits ≡ hits_told (verdict_of it.text.items).text) }
     ensures sum { IfOk result (λ it. it.gets + it.misses ≡ length accesses.now) }
+    ensures allowed { OnOk result (plan_fault plan.now ≡ None) }
+    ensures refused { IfErr result (λ it. Refuses (plan_fault plan.now) it) }
 {
-    let written = write_trace(alloc, keys, plan, accesses)?;
-    let told = told_by_model(alloc, keys, &written.text)?;
-    Ok(ReplayTrace {
-        hits: count_hits(&told),
-        text: written.text,
-        gets: written.gets,
-        misses: written.misses,
-        unplaced: written.unplaced,
-    })
+    let config = match plan.config(alloc) {
+        Ok(config) => config,
+        Err(fault) => return Err(fault),
+    };
+    match write_and_run(alloc, keys, plan, &config, accesses) {
+        Ok(trace) => Ok(trace),
+        Err(fault) => Err(fault),
+    }
 }
