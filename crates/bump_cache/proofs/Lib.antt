@@ -1,3 +1,4 @@
 mod Openings
 mod HitLemmas
 mod Keys
+mod Tending

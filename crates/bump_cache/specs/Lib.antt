@@ -3,3 +3,4 @@ pub mod Hits
 pub mod Readers
 pub mod Opening
 pub mod Putting
+pub mod Tending

@@ -3,10 +3,12 @@ ghost use Rattle.std.specs.Prelude.{◌≡◌, IfSome, IfOk, true};
 ghost use Rattle.bump_steps.specs.declared.views.ClassPart.{ClassPart as TheClassPart};
 ghost use Rattle.bump_cache.specs.Opening.{Limits as TheLimits};
 ghost use Rattle.bump_cache.specs.Putting.{PutsOnce, RemovesOnce};
+ghost use Rattle.bump_cache.specs.Tending.{TendsOnce};
+ghost use Rattle.bump_store.specs.Parting.{raw_rings};
 ghost use Rattle.cache_shelf.specs.Counts.{IsFlow, SegmentsAddUp};
 ghost use Rattle.cache_shelf.specs.Refusals.{left_of};
 
-use crate::upkeep::{Upkeep, drain};
+use crate::upkeep::{Upkeep, balance_often, drain};
 use bump_heads::Name;
 use cache_index::{Entry, Indexed, Law};
 use cache_shelf::{Put, Removed, Shelf, Stats};
@@ -15,9 +17,6 @@ use std::hash::Hash;
 use std::marker::Model;
 use std::sync::atomic::{AtomicBool, AtomicU64, Ordering};
 use std::sync::{Mutex, Wait};
-
-/// So often an upkeep looks at the last items of HOT and WARM.
-const LOOKS: u32 = 100;
 
 /// A cache, which all threads share: whoever changes it waits for its lock, and whoever gets doesn't.
 #[derive(Drop)]
@@ -93,25 +92,31 @@ impl<
     /// that nobody holds any more, and moves the last items of HOT and WARM on where there are too many. It waits until
     /// no other thread changes the cache. `now` is the time of the bumped items, in the caller's ticks.
     pub fn tend<W: Wait>(&self, rt: &W, upkeep: &mut Upkeep<N>, now: u64)
-        ensures { upkeep.new.most ≡ upkeep.old.most }
+        ensures once { TendsOnce V K.eq self.now.hot self.now.warm now upkeep.old upkeep.new }
+        ensures most { upkeep.new.most ≡ upkeep.old.most }
+        ensures rings { raw_rings upkeep.new.lanes ≡ raw_rings upkeep.old.lanes }
     {
         let mut guard = self.shelf.lock(rt);
         let shelf = &mut *guard;
+        shelf.promise();
         drain(shelf, upkeep, now);
         shelf.sweep();
-        for _ in 0..LOOKS {
-            shelf.balance(self.hot, self.warm);
-        }
+        balance_often(shelf, self.hot, self.warm);
+        shelf.promise();
     }
 
-    /// Tends the cache until `stop` is set, at the times that `clock` has: the loop of a thread of its own.
+    /// Tends the cache as `tend` does, again and again until `stop` is set, each time at what `clock` has then: the loop
+    /// of a thread of its own.
     pub fn tend_until<W: Wait>(
         &self,
         rt: &W,
         upkeep: &mut Upkeep<N>,
         clock: &AtomicU64,
         stop: &AtomicBool,
-    ) {
+    )
+        ensures most { upkeep.new.most ≡ upkeep.old.most }
+        ensures rings { raw_rings upkeep.new.lanes ≡ raw_rings upkeep.old.lanes }
+    {
         for _ in rt.forever() {
             if stop.load(Ordering::SeqCst) {
                 return;

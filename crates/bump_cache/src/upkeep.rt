@@ -1,6 +1,7 @@
 //! What the upkeep of a cache works through.
 ghost use Rattle.std.specs.Prelude.{◌≡◌};
 ghost use Rattle.bump_cache.specs.Opening.{UpkeepView as TheUpkeepView};
+ghost use Rattle.bump_cache.specs.Tending.{looks, BalancesTimes, DrainsEach, DrainsLane};
 
 use bump_class::RawLane;
 use bump_heads::Name;
@@ -9,6 +10,9 @@ use cache_shelf::Shelf;
 use std::hash::Hash;
 use std::marker::Model;
 use std::sync::Wait;
+
+/// So often an upkeep looks at the last items of HOT and WARM.
+const LOOKS: u32 = 100;
 
 /// What the upkeep of a cache works through, which one thread has at a time: the bumps that the readers queued.
 #[derive(Drop)]
@@ -47,12 +51,14 @@ where
     L: Law<K, V>,
     I: Indexed<K, V, L> + Drop,
     R: Wait + Drop,
-    ensures ring { lane.new.ring ≡ lane.old.ring }
+    ensures drains { DrainsLane most now shelf.old.book lane.old shelf.new.book lane.new }
+    ensures index { shelf.new.index ≡ shelf.old.index }
+    ensures evictions { shelf.new.evictions ≡ shelf.old.evictions }
 {
-    for _ in 0..most {
-        if shelf.apply_next(lane, now).is_none() {
+    for _applied in 0..most {
+        let Some(_) = shelf.apply_next(lane, now) else {
             return;
-        }
+        };
     }
 }
 
@@ -69,9 +75,34 @@ where
     L: Law<K, V>,
     I: Indexed<K, V, L> + Drop,
     R: Wait + Drop,
-    ensures { upkeep.new.most ≡ upkeep.old.most }
+    ensures drains { DrainsEach upkeep.old.most now shelf.old.book upkeep.old.lanes shelf.new.book upkeep.new.lanes }
+    ensures most { upkeep.new.most ≡ upkeep.old.most }
+    ensures index { shelf.new.index ≡ shelf.old.index }
+    ensures evictions { shelf.new.evictions ≡ shelf.old.evictions }
 {
     for lane in upkeep.lanes.iter_mut() {
         drain_lane(shelf, lane, upkeep.most, now);
+    }
+}
+
+// Looks at the last items of HOT and WARM again and again, where these have more than so many.
+pub(crate) fn balance_often<N, K, V, L, I, R>(
+    shelf: &mut Shelf<N, K, V, L, I, R>,
+    hot: u32,
+    warm: u32,
+)
+where
+    N: Name,
+    K: Eq + Hash + Drop,
+    V: Drop,
+    L: Law<K, V>,
+    I: Indexed<K, V, L> + Drop,
+    R: Wait + Drop,
+    ensures balances { BalancesTimes looks hot warm shelf.old.book shelf.new.book }
+    ensures index { shelf.new.index ≡ shelf.old.index }
+    ensures evictions { shelf.new.evictions ≡ shelf.old.evictions }
+{
+    for _look in 0..LOOKS {
+        shelf.balance(hot, warm);
     }
 }

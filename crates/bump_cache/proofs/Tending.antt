@@ -1,0 +1,77 @@
+-- The lanes of an upkeep have their turns one after the other.
+use Rattle.std.proofs.Common.{◌≡◌, ℕ, zero, suc, ◌+◌, ◌<◌, List, [], ◌∷◌, length, slice_index_or, slice_set, take, ◌++◌, refl, sym, ap, ap₂, ◌∙◌, subst, arith}
+use Rattle.std.proofs.Math.Seq.{take-append_seam}
+use Rattle.bump_class.specs.Books.{BookView}
+use Rattle.bump_class.specs.Lanes.{LaneView}
+use Rattle.bump_store.specs.Parting.{raw_rings}
+use Rattle.bump_cache.specs.Tending.{AppliesOnce, AppliesEach, DrainsLane, DrainsEach}
+
+-- one bump more was applied
+pub applies_more : (count now : ℕ) (book between left : BookView) (from half to : LaneView)
+    → AppliesEach count now book from between half → AppliesOnce now between half left to
+    → AppliesEach (count + 1) now book from left to
+applies_more count now book between left from half to each once =
+    let one_more : suc count ≡ count + 1 = omega arith in
+    subst (λ n. AppliesEach n now book from left to) one_more (between, half, each, once)
+
+-- the first so many lanes had their turns, and the others are as they were
+abbrev pub DrainsFirst : ℕ → ℕ → ℕ → BookView → List LaneView → BookView → List LaneView → Type 0
+DrainsFirst most now zero book from left to = (left ≡ book) × (to ≡ from)
+DrainsFirst most now (suc count) book (from ∷ more) left (to ∷ rest) = (between : BookView)
+    × DrainsLane most now book from between to × DrainsFirst most now count between more left rest
+DrainsFirst most now (suc count) book from left to = ⊥
+
+-- the next lane has its turn
+drains_more : (most now count : ℕ) (book half left : BookView) (from so_far : List LaneView) (none to : LaneView)
+    → count < length so_far → DrainsFirst most now count book from half so_far
+    → DrainsLane most now half (slice_index_or so_far count none) left to
+    → DrainsFirst most now (suc count) book from left (slice_set so_far count to)
+drains_more most now zero book half left from [] none to within first drains =
+    absurd (let past : ⊥ = omega (arith, within) in past)
+drains_more most now zero book half left from (this ∷ rest) none to within first drains =
+    subst (λ f. DrainsFirst most now 1 book f left (to ∷ rest)) first.1
+    (left, subst (λ b. DrainsLane most now b this left to) first.0 drains, (refl, refl))
+drains_more most now (suc count) book half left [] so_far none to within first drains = absurd first
+drains_more most now (suc count) book half left (from ∷ more) [] none to within first drains = absurd first
+drains_more most now (suc count) book half left (from ∷ more) (this ∷ rest) none to within first drains = (
+  first.0,
+  first.1,
+  drains_more most now count first.0 half left more rest none to (omega (arith, within)) first.2 drains,
+)
+
+-- the next lane has its turn, as a loop counts
+pub drains_next : (own most now count : ℕ) (book half left : BookView) (from so_far : List LaneView) (none to : LaneView)
+    → own ≡ most → count < length so_far → DrainsFirst most now count book from half so_far
+    → DrainsLane own now half (slice_index_or so_far count none) left to
+    → DrainsFirst most now (count + 1) book from left (slice_set so_far count to)
+drains_next own most now count book half left from so_far none to is within first drains =
+    let one_more : suc count ≡ count + 1 = omega arith in
+    subst (λ n. DrainsFirst most now n book from left (slice_set so_far count to)) one_more
+    (drains_more most now count book half left from so_far none to within first
+    (subst (λ m. DrainsLane m now half (slice_index_or so_far count none) left to) is drains))
+
+-- where all had their turns, each had its own
+drains_all : (most now : ℕ) (book left : BookView) (from to : List LaneView)
+    → DrainsFirst most now (length from) book from left to → DrainsEach most now book from left to
+drains_all most now book left [] to first = subst (λ t. DrainsEach most now book [] left t) (sym first.1) first.0
+drains_all most now book left (from ∷ more) [] first = absurd first
+drains_all most now book left (from ∷ more) (to ∷ rest) first =
+    (first.0, first.1, drains_all most now first.0 left more rest first.2)
+
+-- and so at the end of a loop over the lanes, which leaves the words behind them
+pub drains_whole : (most now count len : ℕ) (book left : BookView) (from to behind : List LaneView)
+    → count ≡ length from → len ≡ length to → DrainsFirst most now count book from left to
+    → DrainsEach most now book from left (take len (to ++ behind))
+drains_whole most now count len book left from to behind all long first =
+    let still : take len (to ++ behind) ≡ to = ap (λ n. take n (to ++ behind)) long ∙ take-append_seam to behind in
+    subst (λ t. DrainsEach most now book from left t) (sym still)
+    (drains_all most now book left from to (subst (λ n. DrainsFirst most now n book from left to) all first))
+
+-- the lanes stay those of their rings
+pub drained_rings : (most now : ℕ) (book left : BookView) (from to : List LaneView)
+    → DrainsEach most now book from left to → raw_rings to ≡ raw_rings from
+drained_rings most now book left [] [] drains = refl
+drained_rings most now book left [] (to ∷ rest) drains = absurd drains
+drained_rings most now book left (from ∷ more) [] drains = absurd drains
+drained_rings most now book left (from ∷ more) (to ∷ rest) drains =
+    ap₂ (λ ring rings. ring ∷ rings) drains.1.ring (drained_rings most now drains.0 left more rest drains.2)

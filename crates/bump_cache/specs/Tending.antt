@@ -1,0 +1,77 @@
+-- What a tend does to some state of the cache, the one in which it found it, and to the lanes of its upkeep.
+use Rattle.std.specs.Prelude.{◌≡◌, ℕ, zero, suc, ◌+◌, ◌≤◌, ◌⊎◌, Bool, List, [], ◌∷◌, length}
+use Rattle.bump_rules.specs.declared.bumps.Applied.{Applied}
+use Rattle.bump_rules.specs.declared.items.Head.{Head}
+use Rattle.bump_class.specs.Applications.{AppliesFront}
+use Rattle.bump_class.specs.Books.{BookView}
+use Rattle.bump_class.specs.Lanes.{LaneView, entries}
+use Rattle.bump_class.specs.Sweeps.{Sweeps}
+use Rattle.bump_cache.specs.Opening.{UpkeepView}
+use Rattle.cache_shelf.specs.Items.{KeepsItems, HasNoBumpFor}
+use Rattle.cache_shelf.specs.Looking.{Balances}
+use Rattle.cache_shelf.specs.Shelves.{ShelfView, IsShelf}
+
+-- so often a tend looks at the last items of HOT and WARM
+abbrev pub looks : ℕ
+looks = 100
+
+-- One bump of a lane was applied at this time: the lane has one entry more, and what the items stand for stays.
+pub record AppliesOnce (now : ℕ) (book : BookView) (from : LaneView) (left : BookView) (to : LaneView) : Type 0 where
+  -- what the Book and the lane were when the bump was aboard
+  pub seen : BookView
+  pub carrying : LaneView
+  pub answer : Applied
+  pub front : AppliesFront now seen carrying answer left to
+  pub grown : length (entries to) ≡ length (entries from) + 1
+  pub items : KeepsItems book left
+
+-- so many bumps of a lane were applied, one after the other
+abbrev pub AppliesEach : ℕ → ℕ → BookView → LaneView → BookView → LaneView → Type 0
+AppliesEach zero now book from left to = (left ≡ book) × (to ≡ from)
+AppliesEach (suc count) now book from left to = (between : BookView) × (half : LaneView)
+    × AppliesEach count now book from between half × AppliesOnce now between half left to
+
+-- A lane was asked for one more bump and had none that the Book can apply: none was applied.
+pub record HasNoMore (book : BookView) (from : LaneView) (left : BookView) (to : LaneView) : Type 0 where
+  pub none : HasNoBumpFor book to
+  pub kept : entries to ≡ entries from
+  pub items : KeepsItems book left
+
+-- The turn of a lane: bumps were applied one after the other, as many as it may or until it had no more.
+pub record DrainsLane (most now : ℕ) (book : BookView) (from : LaneView) (left : BookView) (to : LaneView) : Type 0 where
+  pub count : ℕ
+  pub few : count ≤ most
+  pub between : BookView
+  pub half : LaneView
+  pub applies : AppliesEach count now book from between half
+  pub ends : ((count ≡ most) × (left ≡ between) × (to ≡ half)) ⊎ HasNoMore between half left to
+  pub grown : length (entries to) ≡ length (entries from) + count
+  pub ring : to.ring ≡ from.ring
+
+-- each lane has its turn, with the Book that the one before left; they stay as many
+abbrev pub DrainsEach : ℕ → ℕ → BookView → List LaneView → BookView → List LaneView → Type 0
+DrainsEach most now book [] left [] = left ≡ book
+DrainsEach most now book (from ∷ more) left (to ∷ rest) = (between : BookView)
+    × DrainsLane most now book from between to × DrainsEach most now between more left rest
+DrainsEach most now book from left to = ⊥
+
+-- HOT and WARM are looked at so many times
+abbrev pub BalancesTimes : ℕ → ℕ → ℕ → BookView → BookView → Type 0
+BalancesTimes zero hot warm before after = after ≡ before
+BalancesTimes (suc count) hot warm before after =
+    (between : BookView) × BalancesTimes count hot warm before between × Balances hot warm between after
+
+-- From some lawful state to the next the lanes had their turns, ended items were swept, and then HOT and WARM were
+-- looked at.
+pub record TendsOnce {K : Type 0} (V : Type 0) (same : K → K → Bool) (hot warm now : ℕ) (from to : UpkeepView) : Type 0 where
+  pub before : ShelfView K V
+  pub after : ShelfView K V
+  pub lawful : IsShelf same before.book before.index.table
+  pub still_lawful : IsShelf same after.book after.index.table
+  pub drained : BookView
+  pub drains : DrainsEach from.most now before.book from.lanes drained to.lanes
+  pub swept : BookView
+  pub sweeps : (freed : ℕ) × (heads : ℕ → Head) × Sweeps drained freed swept heads
+  pub balances : BalancesTimes looks hot warm swept after.book
+  pub index : after.index ≡ before.index
+  pub evictions : after.evictions ≡ before.evictions
