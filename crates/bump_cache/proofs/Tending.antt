@@ -1,10 +1,11 @@
--- The lanes of an upkeep have their turns one after the other.
+-- Bumps are applied, lanes have their turns and HOT and WARM are looked at, one after the other.
 use Rattle.std.proofs.Common.{◌≡◌, ℕ, zero, suc, ◌+◌, ◌<◌, List, [], ◌∷◌, length, slice_index_or, slice_set, take, ◌++◌, refl, sym, ap, ap₂, ◌∙◌, subst, arith}
 use Rattle.std.proofs.Math.Seq.{take-append_seam}
 use Rattle.bump_class.specs.Books.{BookView}
 use Rattle.bump_class.specs.Lanes.{LaneView}
 use Rattle.bump_store.specs.Parting.{raw_rings}
-use Rattle.bump_cache.specs.Tending.{AppliesOnce, AppliesEach, DrainsLane, DrainsEach}
+use Rattle.bump_cache.specs.Tending.{AppliesOnce, AppliesEach, DrainsLane, DrainsEach, BalancesTimes}
+use Rattle.cache_shelf.specs.Looking.{Balances}
 
 -- one bump more was applied
 pub applies_more : (count now : ℕ) (book between left : BookView) (from half to : LaneView)
@@ -13,6 +14,13 @@ pub applies_more : (count now : ℕ) (book between left : BookView) (from half t
 applies_more count now book between left from half to each once =
     let one_more : suc count ≡ count + 1 = omega arith in
     subst (λ n. AppliesEach n now book from left to) one_more (between, half, each, once)
+
+-- HOT and WARM were looked at once more
+pub balances_more : (count hot warm : ℕ) (before between after : BookView) → BalancesTimes count hot warm before between
+    → Balances hot warm between after → BalancesTimes (count + 1) hot warm before after
+balances_more count hot warm before between after balances once =
+    let one_more : suc count ≡ count + 1 = omega arith in
+    subst (λ n. BalancesTimes n hot warm before after) one_more (between, balances, once)
 
 -- the first so many lanes had their turns, and the others are as they were
 abbrev pub DrainsFirst : ℕ → ℕ → ℕ → BookView → List LaneView → BookView → List LaneView → Type 0

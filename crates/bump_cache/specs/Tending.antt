@@ -61,6 +61,12 @@ BalancesTimes zero hot warm before after = after ≡ before
 BalancesTimes (suc count) hot warm before after =
     (between : BookView) × BalancesTimes count hot warm before between × Balances hot warm between after
 
+-- HOT and WARM are looked at as often as a tend does.
+pub record BalancesOften (hot warm : ℕ) (before after : BookView) : Type 0 where
+  pub count : ℕ
+  pub often : count ≡ looks
+  pub balances : BalancesTimes count hot warm before after
+
 -- From some lawful state to the next the lanes had their turns, ended items were swept, and then HOT and WARM were
 -- looked at.
 pub record TendsOnce {K : Type 0} (V : Type 0) (same : K → K → Bool) (hot warm now : ℕ) (from to : UpkeepView) : Type 0 where
@@ -72,6 +78,6 @@ pub record TendsOnce {K : Type 0} (V : Type 0) (same : K → K → Bool) (hot wa
   pub drains : DrainsEach from.most now before.book from.lanes drained to.lanes
   pub swept : BookView
   pub sweeps : (freed : ℕ) × (heads : ℕ → Head) × Sweeps drained freed swept heads
-  pub balances : BalancesTimes looks hot warm swept after.book
+  pub balances : BalancesOften hot warm swept after.book
   pub index : after.index ≡ before.index
   pub evictions : after.evictions ≡ before.evictions

@@ -1,7 +1,7 @@
 //! What the upkeep of a cache works through.
 ghost use Rattle.std.specs.Prelude.{◌≡◌};
 ghost use Rattle.bump_cache.specs.Opening.{UpkeepView as TheUpkeepView};
-ghost use Rattle.bump_cache.specs.Tending.{looks, BalancesTimes, DrainsEach, DrainsLane};
+ghost use Rattle.bump_cache.specs.Tending.{BalancesOften, DrainsEach, DrainsLane};
 
 use bump_class::RawLane;
 use bump_heads::Name;
@@ -98,7 +98,7 @@ where
     L: Law<K, V>,
     I: Indexed<K, V, L> + Drop,
     R: Wait + Drop,
-    ensures balances { BalancesTimes looks hot warm shelf.old.book shelf.new.book }
+    ensures balances { BalancesOften hot warm shelf.old.book shelf.new.book }
     ensures index { shelf.new.index ≡ shelf.old.index }
     ensures evictions { shelf.new.evictions ≡ shelf.old.evictions }
 {

@@ -1,4 +1,4 @@
-use Rattle.std.proofs.Common.{arith, ◌∙◌}
+use Rattle.std.proofs.Common.{length, refl, ap, ◌∙◌, arith, inl, inr}
 use Rattle.bump_cache.proofs.Tending.{applies_more}
 use Rattle.bump_cache.proofs.upkeep.drain_lane.Goals as goal
 
@@ -17,4 +17,29 @@ loop-applied-preserved g c =
       ring = did.ring ∙ so_far.ring;
       index = did.index ∙ so_far.index;
       evictions = did.evictions ∙ so_far.evictions;
+    }
+
+pub returns-clause-drains : goal.returns-clause-drains
+returns-clause-drains g c = let did = c.loop-applied.invariant in record {
+  count = c.loop-applied._applied;
+  few = c.loop-applied.auto._applied-end;
+  between = c.loop-applied.shelf.book;
+  half = c.loop-applied.lane;
+  applies = did.applies;
+  ends = inl (omega (arith, c.loop-applied-test.false, c.loop-applied.auto._applied-end), refl, refl);
+  grown = did.grown;
+  ring = did.ring;
+}
+
+pub returns-in_default-clause-drains : goal.returns-in_default-clause-drains
+returns-in_default-clause-drains g c =
+    let did = c.loop-applied.invariant in let none = c.in_default.ensures in record {
+      count = c.loop-applied._applied;
+      few = c.loop-applied.auto._applied-end;
+      between = c.loop-applied.shelf.book;
+      half = c.loop-applied.lane;
+      applies = did.applies;
+      ends = inr (record { none = none.none; kept = none.kept; items = none.items });
+      grown = ap length none.kept ∙ did.grown;
+      ring = none.ring ∙ did.ring;
     }

@@ -1,6 +1,6 @@
 use Rattle.std.proofs.Common.{◌∙◌, subst}
 use Rattle.bump_cache.specs.Opening.{Limits}
-use Rattle.bump_cache.specs.Tending.{looks, BalancesTimes}
+use Rattle.bump_cache.specs.Tending.{BalancesOften}
 use Rattle.bump_cache.proofs.Tending.{drained_rings}
 use Rattle.bump_cache.proofs.caches.Cache.tend.Goals as goal
 
@@ -14,7 +14,7 @@ returns-clause-once g c = record {
   drains = c.drain.ensures.drains;
   swept = c.sweep.new.self.book;
   sweeps = (c.sweep.result, c.sweep.ensures.swept.0, c.sweep.ensures.swept.1);
-  balances = subst (λ (limits : Limits). BalancesTimes looks limits.hot limits.warm c.sweep.new.self.book c.balance_often.new.shelf.book)
+  balances = subst (λ (limits : Limits). BalancesOften limits.hot limits.warm c.sweep.new.self.book c.balance_often.new.shelf.book)
       c.self.view_is c.balance_often.ensures.balances;
   index = c.balance_often.ensures.index ∙ (c.sweep.ensures.index ∙ c.drain.ensures.index);
   evictions = c.balance_often.ensures.evictions ∙ (c.sweep.ensures.counts.1 ∙ c.drain.ensures.evictions);
