@@ -81,3 +81,9 @@ pub record TendsOnce {K : Type 0} (V : Type 0) (same : K → K → Bool) (hot wa
   pub balances : BalancesOften hot warm swept after.book
   pub index : after.index ≡ before.index
   pub evictions : after.evictions ≡ before.evictions
+
+-- so many times it was tended, each time from some lawful state, at some time
+abbrev pub TendsTimes : {K : Type 0} → ℕ → (V : Type 0) → (K → K → Bool) → ℕ → ℕ → UpkeepView → UpkeepView → Type 0
+TendsTimes zero V same hot warm from to = to ≡ from
+TendsTimes (suc count) V same hot warm from to = (between : UpkeepView) × (now : ℕ)
+    × TendsTimes count V same hot warm from between × TendsOnce V same hot warm now between to

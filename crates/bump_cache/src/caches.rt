@@ -1,9 +1,9 @@
 //! A cache that threads share.
-ghost use Rattle.std.specs.Prelude.{◌≡◌, IfSome, IfOk, true};
+ghost use Rattle.std.specs.Prelude.{◌≡◌, ℕ, IfSome, IfOk, true};
 ghost use Rattle.bump_steps.specs.declared.views.ClassPart.{ClassPart as TheClassPart};
 ghost use Rattle.bump_cache.specs.Opening.{Limits as TheLimits};
 ghost use Rattle.bump_cache.specs.Putting.{PutsOnce, RemovesOnce};
-ghost use Rattle.bump_cache.specs.Tending.{TendsOnce};
+ghost use Rattle.bump_cache.specs.Tending.{TendsOnce, TendsTimes};
 ghost use Rattle.bump_store.specs.Parting.{raw_rings};
 ghost use Rattle.cache_shelf.specs.Counts.{IsFlow, SegmentsAddUp};
 ghost use Rattle.cache_shelf.specs.Refusals.{left_of};
@@ -114,6 +114,7 @@ impl<
         clock: &AtomicU64,
         stop: &AtomicBool,
     )
+        ensures tends { (count : ℕ) × TendsTimes count V K.eq self.now.hot self.now.warm upkeep.old upkeep.new }
         ensures most { upkeep.new.most ≡ upkeep.old.most }
         ensures rings { raw_rings upkeep.new.lanes ≡ raw_rings upkeep.old.lanes }
     {

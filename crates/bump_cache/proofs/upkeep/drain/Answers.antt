@@ -1,4 +1,4 @@
-use Rattle.std.proofs.Common.{◌≡◌, ◌<◌, length, arith, sym, ap, ◌∙◌}
+use Rattle.std.proofs.Common.{◌≡◌, ◌<◌, drop, length, arith, sym, ap, ◌∙◌}
 use Rattle.bump_cache.proofs.Tending.{drains_next, drains_whole}
 use Rattle.bump_cache.proofs.upkeep.drain.Goals as goal
 
@@ -22,4 +22,4 @@ returns-clause-drains g c =
       ap length lent.value,
       ap (λ u. length u.lanes) c.upkeep.view_is,
     ) in
-    drains_whole _ _ _ _ _ _ _ _ _ all (sym (loop.auto.lane-items ∙ lent.len)) loop.invariant.drains
+    drains_whole _ _ _ _ _ _ _ _ (drop (length loop.lane-items) c.upkeep.inside.lanes.items) all (sym (loop.auto.lane-items ∙ lent.len)) loop.invariant.drains

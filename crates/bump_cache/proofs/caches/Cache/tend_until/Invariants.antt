@@ -1,12 +1,12 @@
-use Rattle.std.proofs.Common.{◌≡◌}
+use Rattle.std.proofs.Common.{◌≡◌, ℕ}
 use Rattle.bump_store.specs.Parting.{raw_rings}
+use Rattle.bump_cache.specs.Tending.{TendsTimes}
 use Rattle.bump_cache.proofs.caches.Cache.tend_until.Given as goal
 
--- the lanes stay those of their rings, and apply as many in a turn
+-- it was tended so many times; the lanes stay those of their rings, and apply as many in a turn
 abbrev pub invariant-loop : goal.invariant-loop
 invariant-loop g l = record {
-  can_next : (goal.iterator-loop g).can_next l.iterator';
-  is_finite : (goal.iterator-loop g).is_finite l.iterator';
+  tends : (count : ℕ) × TendsTimes count g.row.V.Denot g.K.PartialEq.eq l.self.hot l.self.warm l.fn.upkeep l.upkeep;
   most : l.upkeep.most ≡ l.fn.upkeep.most;
   rings : raw_rings l.upkeep.lanes ≡ raw_rings l.fn.upkeep.lanes;
 }
