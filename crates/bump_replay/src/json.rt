@@ -42,6 +42,9 @@ fn put_bumps<R: Print>(rt: &R, row: &Row) -> io::Result<()> {
 
 fn put_row<R: Print>(rt: &R, row: &Row) -> io::Result<()> {
     print!(rt; "{{\"items\":{}", row.items)?;
+    if let Some(class) = row.class {
+        print!(rt; ",\"class\":{class}")?;
+    }
     put_tally(rt, "bump", &tally_of(&row.bump))?;
     if let Some(tally) = row.lru {
         put_tally(rt, "lru", &tally)?;

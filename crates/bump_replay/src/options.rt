@@ -1,6 +1,7 @@
 //! What the words of the command line ask for.
 use access_logs::Format;
 use bump_cache::CacheConfig;
+use clap::error::ErrorKind;
 use clap::{Arg, ArgAction, ArgMatches, Command, Error, value_parser};
 use replay_cache::Plan;
 use std::alloc::{AllocError, Global};
@@ -8,8 +9,8 @@ use std::alloc::{AllocError, Global};
 /// What the words ask for.
 #[derive(Drop)]
 pub struct Options<'a> {
-    /// The log's file, or `-` for standard input.
-    pub file: &'a str,
+    /// The logs' files, one after the other; `-` is standard input.
+    pub files: Vec<&'a str>,
 
     /// Of how many items the caches are, one after the other.
     pub sizes: Vec<u32>,
@@ -19,6 +20,9 @@ pub struct Options<'a> {
 
     /// Whether a line that can't be read ends the run.
     pub is_strict: bool,
+
+    /// The largest size of each class in bytes, ascending. There are none where all items are of one class.
+    pub classes: Vec<u32>,
 
     /// How a cache is run, but for how many items it has.
     pub plan: Plan,
@@ -34,6 +38,9 @@ pub struct Options<'a> {
 
     /// The file to which a picture is written, if one is asked for.
     pub svg: Option<&'a str>,
+
+    /// The file to which a trace is written, if one is asked for.
+    pub trace: Option<&'a str>,
 }
 
 fn number_arg<'a>(
@@ -58,11 +65,19 @@ fn flag_arg<'a>(alloc: Global, name: &'a str, help: &'a str) -> Arg<'a> {
         .help(help)
 }
 
+fn file_arg<'a>(alloc: Global, name: &'a str, help: &'a str) -> Arg<'a> {
+    Arg::new(alloc, name)
+        .long(name)
+        .value_name("FILE")
+        .help(help)
+}
+
 // What says how a log is read.
 fn with_reading<'a>(alloc: Global, command: Command<'a>) -> Result<Command<'a>, AllocError> {
     let file = Arg::new(alloc, "FILE")
         .required(true)
-        .help("The access log, or - for standard input");
+        .num_args(1..)
+        .help("Access logs, or - for standard input");
     let format = Arg::new(alloc, "format")
         .long("format")
         .value_name("FORMAT")
@@ -76,12 +91,18 @@ fn with_reading<'a>(alloc: Global, command: Command<'a>) -> Result<Command<'a>, 
         "1",
         "The column of the key, from 1, in CSV",
     );
+    let sizes = Arg::new(alloc, "sizes")
+        .long("sizes")
+        .value_name("COLUMN")
+        .value_parser(value_parser!(u32))
+        .help("The column of an item's size in bytes, from 1, in CSV");
     let header = flag_arg(alloc, "header", "Skips the first record of CSV");
     let strict = flag_arg(alloc, "strict", "Ends at the first line that can't be read");
     command
         .arg(file)?
         .arg(format)?
         .arg(key)?
+        .arg(sizes)?
         .arg(header)?
         .arg(strict)
 }
@@ -95,8 +116,16 @@ fn with_keeping<'a>(alloc: Global, command: Command<'a>) -> Result<Command<'a>, 
         .value_parser(value_parser!(u32))
         .value_delimiter(',')
         .help("How many items a cache has, 1 to 1000000; several with commas");
+    let classes = Arg::new(alloc, "classes")
+        .long("classes")
+        .value_name("BYTES")
+        .value_parser(value_parser!(u32))
+        .value_delimiter(',')
+        .requires_arg("sizes")?
+        .help("The largest item of each class, ascending; a class is a cache of its own");
     command
         .arg(items)?
+        .arg(classes)?
         .arg(number_arg(alloc, "hot", "PERCENT", "20", "The share of HOT"))?
         .arg(number_arg(alloc, "warm", "PERCENT", "40", "The share of WARM"))?
         .arg(number_arg(
@@ -131,14 +160,18 @@ fn with_telling<'a>(alloc: Global, command: Command<'a>) -> Result<Command<'a>, 
         .value_delimiter(',')
         .action(ArgAction::Append)
         .help("Plain policies to compare with");
-    let svg = Arg::new(alloc, "svg")
-        .long("svg")
-        .value_name("FILE")
-        .help("Writes a picture to this file");
-    command.arg(compare)?.arg(svg)?.arg(flag_arg(
+    let svg = file_arg(alloc, "svg", "Writes a picture of one log to this file")
+        .conflicts_with("classes")?;
+    let trace = file_arg(
+        alloc,
+        "trace",
+        "Writes the run of one log through one size as a trace for bumpsim",
+    )
+    .conflicts_with("classes")?;
+    command.arg(compare)?.arg(svg)?.arg(trace)?.arg(flag_arg(
         alloc,
         "json",
-        "Writes one JSON object in place of a table",
+        "Writes one JSON object a log in place of tables",
     ))
 }
 
@@ -153,12 +186,20 @@ fn number_of(matches: &ArgMatches<'_>, name: &str) -> u32 {
     matches.get_one::<u32>(name).unwrap_or(0)
 }
 
+// The column of sizes, counted from 0, where there is one.
+fn size_column(matches: &ArgMatches<'_>) -> Option<u32> {
+    match matches.get_one::<u32>("sizes") {
+        Some(column) => Some(column.saturating_sub(1)),
+        None => None,
+    }
+}
+
 fn format_of(matches: &ArgMatches<'_>) -> Format {
     match matches.get_str("format") {
         Some("csv") => Format::Csv {
             column: number_of(matches, "key").saturating_sub(1),
             header: matches.get_flag("header"),
-            size: None,
+            size: size_column(matches),
         },
         _ => Format::Lines,
     }
@@ -184,24 +225,67 @@ fn compares(matches: &ArgMatches<'_>, policy: &str) -> bool {
     }
 }
 
+// The numbers of an argument that has several.
+fn numbers_of(
+    alloc: Global,
+    matches: &ArgMatches<'_>,
+    name: &str,
+) -> Result<Vec<u32>, AllocError> {
+    let mut all = Vec::new(alloc);
+    if let Some(numbers) = matches.get_many::<u32>(name) {
+        for number in numbers {
+            all.push(number.unwrap_or(0))?;
+        }
+    }
+    Ok(all)
+}
+
+fn files_of<'a>(alloc: Global, matches: &ArgMatches<'a>) -> Result<Vec<&'a str>, AllocError> {
+    let mut files = Vec::new(alloc);
+    if let Some(words) = matches.get_strs("FILE") {
+        for word in words {
+            files.push(*word)?;
+        }
+    }
+    Ok(files)
+}
+
+// Why the words don't fit one another, if they don't.
+fn discord(options: &Options<'_>) -> Option<&'static str> {
+    if options.svg.is_some() && options.files.len() > 1 {
+        return Some("a picture is of one log");
+    }
+    if options.trace.is_some() && (options.files.len() > 1 || options.sizes.len() > 1) {
+        return Some("a trace is of one log, and of one size");
+    }
+    if !options.classes.is_sorted() {
+        return Some("the classes aren't in ascending order");
+    }
+    None
+}
+
+fn options_of<'a>(alloc: Global, matches: &ArgMatches<'a>) -> Result<Options<'a>, AllocError> {
+    Ok(Options {
+        files: files_of(alloc, matches)?,
+        sizes: numbers_of(alloc, matches, "items")?,
+        format: format_of(matches),
+        is_strict: matches.get_flag("strict"),
+        classes: numbers_of(alloc, matches, "classes")?,
+        plan: plan_of(matches),
+        has_lru: compares(matches, "lru"),
+        has_fifo: compares(matches, "fifo"),
+        is_json: matches.get_flag("json"),
+        svg: matches.get_str("svg"),
+        trace: matches.get_str("trace"),
+    })
+}
+
 /// What the words ask for, of which the program's own name is the first. A call for help is refused, too.
 pub fn choose<'a>(alloc: Global, words: &'a [String]) -> Result<Options<'a>, Error> {
     let matches = command(alloc)?.try_get_matches_from(words)?;
-    let mut sizes = Vec::new(alloc);
-    if let Some(numbers) = matches.get_many::<u32>("items") {
-        for number in numbers {
-            sizes.push(number.unwrap_or(0))?;
-        }
+    let options = options_of(alloc, &matches)?;
+    match discord(&options) {
+        None => Ok(options),
+        Some(why) => Err(command(alloc)?.error(ErrorKind::ArgumentConflict, why)?),
     }
-    Ok(Options {
-        file: matches.get_str("FILE").unwrap_or("-"),
-        sizes,
-        format: format_of(&matches),
-        is_strict: matches.get_flag("strict"),
-        plan: plan_of(&matches),
-        has_lru: compares(&matches, "lru"),
-        has_fifo: compares(&matches, "fifo"),
-        is_json: matches.get_flag("json"),
-        svg: matches.get_str("svg"),
-    })
 }

@@ -7,6 +7,9 @@ use replay_policies::Tally;
 /// The runs through caches of one size.
 #[derive(Clone, Copy)]
 pub struct Row {
+    /// The largest size of the class whose accesses these are, in bytes; None where all are of one class.
+    pub class: Option<u32>,
+
     /// How many items a cache has.
     pub items: u32,
 

@@ -1,12 +1,17 @@
 //! What runs came to, as tables.
 use crate::rows::{Row, missed, tally_of};
 use replay_policies::Tally;
+use replay_trace::HitCounts;
 use std::io;
 
-fn put_tally<R: Print>(rt: &R, items: u32, policy: &str, tally: &Tally) -> io::Result<()> {
+fn put_tally<R: Print>(rt: &R, row: &Row, policy: &str, tally: &Tally) -> io::Result<()> {
     let share = missed(tally);
+    if let Some(class) = row.class {
+        print!(rt; "{class:>10}")?;
+    }
     println!(rt;
-        "{items:>8}  {policy:<6}  {:>10}  {:>10}  {:>10}  {:>7}.{:02}",
+        "{:>8}  {policy:<6}  {:>10}  {:>10}  {:>10}  {:>7}.{:02}",
+        row.items,
         tally.accesses,
         tally.hits,
         tally.misses,
@@ -16,12 +21,12 @@ fn put_tally<R: Print>(rt: &R, items: u32, policy: &str, tally: &Tally) -> io::R
 }
 
 fn put_row<R: Print>(rt: &R, row: &Row) -> io::Result<()> {
-    put_tally(rt, row.items, "bump", &tally_of(&row.bump))?;
+    put_tally(rt, row, "bump", &tally_of(&row.bump))?;
     if let Some(tally) = row.lru {
-        put_tally(rt, row.items, "lru", &tally)?;
+        put_tally(rt, row, "lru", &tally)?;
     }
     if let Some(tally) = row.fifo {
-        put_tally(rt, row.items, "fifo", &tally)?;
+        put_tally(rt, row, "fifo", &tally)?;
     }
     Ok(())
 }
@@ -61,19 +66,47 @@ fn put_bumps<R: Print>(rt: &R, row: &Row) -> io::Result<()> {
     put_count(rt, "  dropped: busy", bumps.busy)
 }
 
+// What the columns of the first table are.
+fn put_head<R: Print>(rt: &R, rows: &[Row]) -> io::Result<()> {
+    if rows.iter().any(|row| row.class.is_some()) {
+        print!(rt; " of, bytes")?;
+    }
+    println!(rt; "   items  policy    accesses        hits      misses  missed, %")
+}
+
+// What became of the items of one cache.
+fn put_run<R: Print>(rt: &R, row: &Row) -> io::Result<()> {
+    println!(rt; "")?;
+    match row.class {
+        Some(class) => println!(rt; "of {} items of at most {class} bytes:", row.items)?,
+        None => println!(rt; "of {} items:", row.items)?,
+    }
+    put_flow(rt, row)?;
+    put_evictions(rt, row)?;
+    put_bumps(rt, row)
+}
+
 /// Prints the rows: first how often keys were there, by size and policy, and then, by size, how items of the cache went
 /// from list to list.
 pub fn put_rows<R: Print>(rt: &R, rows: &[Row]) -> io::Result<()> {
-    println!(rt; "   items  policy    accesses        hits      misses  missed, %")?;
+    put_head(rt, rows)?;
     for row in rows {
         put_row(rt, row)?;
     }
     for row in rows {
-        println!(rt; "")?;
-        println!(rt; "of {} items:", row.items)?;
-        put_flow(rt, row)?;
-        put_evictions(rt, row)?;
-        put_bumps(rt, row)?;
+        put_run(rt, row)?;
     }
     Ok(())
+}
+
+/// Prints what the hits of a trace came to.
+pub fn put_trace<R: Print>(rt: &R, hits: &HitCounts) -> io::Result<()> {
+    println!(rt; "")?;
+    println!(rt; "hits, as the trace has them:")?;
+    put_count(rt, "first", hits.first)?;
+    put_count(rt, "marked", hits.marked)?;
+    put_count(rt, "already", hits.already)?;
+    put_count(rt, "queued", hits.queued)?;
+    put_count(rt, "dropped full", hits.full)?;
+    put_count(rt, "dropped refs", hits.refs)
 }

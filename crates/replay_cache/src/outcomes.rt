@@ -10,7 +10,7 @@ pub struct Plan {
     /// What the cache is made from. Its readers get in turn.
     pub config: CacheConfig,
 
-    /// The cache is tended behind each so many accesses; 0 is taken as 1.
+    /// The cache is tended behind the first access, and then behind each so many; 0 is taken as 1.
     pub tend_every: u32,
 }
 

@@ -51,7 +51,7 @@ fn get_or_put<N: Name, I: Indexed<u32, (), AnyPair> + Drop, R: Wait + Copy>(
     }
 }
 
-// All accesses in turn; behind each so many of them the cache is tended.
+// All accesses in turn; behind the first, and then each so many of them, the cache is tended.
 fn run_all<N: Name, I: Indexed<u32, (), AnyPair> + Drop, R: Wait + Copy>(
     rt: &R,
     alloc: Global,
