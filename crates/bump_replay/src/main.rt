@@ -89,7 +89,10 @@ fn draw<R: Files + AllocGlobal>(rt: &R, options: &Options<'_>, rows: &[Row]) -> 
 // Says how many accesses were to keys too large for each class, if any.
 fn tell_too_large<R: Eprint>(rt: &R, runs: &Runs) {
     if runs.too_large > 0 {
-        let _ = eprintln!(rt; "{} accesses are to keys too large for each class", runs.too_large);
+        let _ = eprintln!(rt;
+            "{} accesses are to keys too large for each class",
+            runs.too_large
+        );
     }
 }
 

@@ -160,8 +160,9 @@ fn with_telling<'a>(alloc: Global, command: Command<'a>) -> Result<Command<'a>, 
         .value_delimiter(',')
         .action(ArgAction::Append)
         .help("Plain policies to compare with");
-    let svg = file_arg(alloc, "svg", "Writes a picture of one log to this file")
-        .conflicts_with("classes")?;
+    let svg = file_arg(alloc, "svg", "Writes a picture of one log to this file").conflicts_with(
+        "classes",
+    )?;
     let trace = file_arg(
         alloc,
         "trace",
@@ -226,11 +227,7 @@ fn compares(matches: &ArgMatches<'_>, policy: &str) -> bool {
 }
 
 // The numbers of an argument that has several.
-fn numbers_of(
-    alloc: Global,
-    matches: &ArgMatches<'_>,
-    name: &str,
-) -> Result<Vec<u32>, AllocError> {
+fn numbers_of(alloc: Global, matches: &ArgMatches<'_>, name: &str) -> Result<Vec<u32>, AllocError> {
     let mut all = Vec::new(alloc);
     if let Some(numbers) = matches.get_many::<u32>(name) {
         for number in numbers {

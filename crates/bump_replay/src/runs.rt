@@ -81,7 +81,10 @@ fn put_rows_of<R: Files + Eprint + AllocGlobal + Wait>(
         return push(rows, row_of(rt, options, None, items, &log.accesses)?);
     }
     for part in parts {
-        push(rows, row_of(rt, options, Some(part.class), items, &part.accesses)?)?;
+        push(
+            rows,
+            row_of(rt, options, Some(part.class), items, &part.accesses)?,
+        )?;
     }
     Ok(())
 }
