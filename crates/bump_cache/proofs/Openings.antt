@@ -21,9 +21,9 @@ pub opened_shelf : {K V : Type 0} (same : K → K → Bool) (books : List BookVi
     → table ≡ replicate one.chunks None → IsShelf same book table
 opened_shelf {K} {V} same books classes one fresh workers book table is made at empty =
     let first = ap (λ cs. slice_get (new_books (class_parts fresh 0 0 cs) cs workers) 0) is in
-    let two : Some (new_book (record { class = 0; first = 0; count = one.chunks; fresh = fresh; history = []; labels = []; applying = None; steps = [] }) one workers) ≡ Some book =
+    let two : Some (new_book (record { class = 0; first = 0; count = one.chunks; fresh = fresh; history = []; labels = []; words = []; applying = None; steps = [] }) one workers) ≡ Some book =
     sym first ∙ (ap (λ bs. slice_get bs 0) (sym made) ∙ at) in
-    let it : new_book (record { class = 0; first = 0; count = one.chunks; fresh = fresh; history = []; labels = []; applying = None; steps = [] }) one workers ≡ book = cc two in
+    let it : new_book (record { class = 0; first = 0; count = one.chunks; fresh = fresh; history = []; labels = []; words = []; applying = None; steps = [] }) one workers ≡ book = cc two in
     subst (λ b. IsShelf same b table) it (shelf_new same _ table refl refl empty)
 
 -- readers of a new store's workers are new readers of its cache

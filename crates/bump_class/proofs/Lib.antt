@@ -8,3 +8,4 @@ pub mod ApplicationLemmas
 pub mod RunLemmas
 pub mod Walks
 pub mod MoveLemmas
+pub mod Widening

@@ -1,12 +1,14 @@
 -- What a class's part keeps, it keeps by each step that begins or ends a life.
-use Rattle.std.proofs.Common.{◌≡◌, ℕ, ◌+◌, ◌==◌, eqb, Bool, true, false, [], ◌∷◌, ◌++◌, Some, if◌then◌else◌, refl, sym, ap, subst, arith, eq-eqb}
+use Rattle.std.proofs.Common.{◌≡◌, ℕ, ◌+◌, ◌==◌, ◌∙◌, eqb, Bool, true, false, List, [], ◌∷◌, ◌++◌, Some, if◌then◌else◌, refl, sym, ap, subst, arith, eq-eqb}
 use Rattle.std.proofs.lemmas.Bool.{and_from}
 use Rattle.bump_rules.specs.declared.items.ItemId.{ItemId}
 use Rattle.bump_rules.specs.declared.places.Place.TheVariants.{Unused}
 use Rattle.bump_rules.specs.declared.places.Start.{Start}
 use Rattle.bump_rules.specs.declared.history.Change.{Change}
 use Rattle.bump_rules.specs.declared.history.Change.TheVariants as change
+use Rattle.bump_rules.specs.declared.labels.LabelStep.{LabelStep}
 use Rattle.bump_rules.specs.declared.labels.LabelStep.TheVariants.{Linked}
+use Rattle.bump_steps.specs.declared.views.WordStep.TheVariants.{Begun}
 use Rattle.bump_rules.specs.Entries.{is_stray}
 use Rattle.bump_rules.specs.History.{subject, freed_change}
 use Rattle.bump_rules.specs.Starts.{begun_change}
@@ -18,12 +20,12 @@ use Rattle.bump_rules.proofs.Replay.{are_between_push}
 use Rattle.bump_rules.proofs.ToldMoves.{no_stray}
 use Rattle.bump_rules.proofs.Updates.{total_push}
 use Rattle.bump_steps.specs.declared.views.ClassPart.{ClassPart}
-use Rattle.bump_steps.specs.Views.{owns, standing, last_label}
+use Rattle.bump_steps.specs.Views.{owns, standing, labels_of, last_label, last_word}
 use Rattle.bump_heads.specs.Seats.{IsClassPart}
 use Rattle.bump_heads.proofs.ClassParts.{noted_part, entered_part}
-use Rattle.bump_steps.specs.Lives.{class_after_load, class_after_put_label, class_after_link, class_after_unlink, class_after_sweep, class_after_sweep_or_load, IsInSegment}
-use Rattle.bump_steps.proofs.LabelLists.{life_linked}
-use Rattle.bump_steps.proofs.LifeLabels.{put_label_labels, link_labels}
+use Rattle.bump_steps.specs.Lives.{class_after_load, class_after_put_label, class_after_put_word, class_after_link, class_after_unlink, class_after_sweep, class_after_sweep_or_load, IsInSegment}
+use Rattle.bump_steps.proofs.LabelLists.{life_linked, labels_begun}
+use Rattle.bump_steps.proofs.LifeLabels.{put_label_labels, put_word_labels, link_labels}
 use Rattle.bump_steps.proofs.Entering.{freed_quiet, freed_subject, freed_unused, used_in_place}
 
 module _ (words : ℕ) (k : ClassPart) (o : IsClassPart words k) where
@@ -31,6 +33,17 @@ module _ (words : ℕ) (k : ClassPart) (o : IsClassPart words k) where
   pub keeps_put_label : (c y : ℕ) → (standing k c).0 ≡ Unused → IsClassPart words (class_after_put_label c y k)
   keeps_put_label c y unused =
       let have = put_label_labels c y k (record { labelled = o.labelled; unbegun = o.unbegun }) unused in record {
+        within = o.within;
+        between = o.between;
+        causes = o.causes;
+        labelled = have.labelled;
+        unbegun = have.unbegun;
+      }
+
+  -- and so of a further word
+  pub keeps_put_word : (c j y : ℕ) → (standing k c).0 ≡ Unused → IsClassPart words (class_after_put_word c j y k)
+  keeps_put_word c j y unused =
+      let have = put_word_labels c j y k (record { labelled = o.labelled; unbegun = o.unbegun }) unused in record {
         within = o.within;
         between = o.between;
         causes = o.causes;
@@ -61,13 +74,20 @@ module _ (words : ℕ) (k : ClassPart) (o : IsClassPart words k) where
       by true = keeps_sweep c n own
       by false = noted_part words k _ o
 
-  -- a new life has the label that was stored last for the chunk
-  pub link_label : (c : ℕ) → label_of_life (life c ((standing k c).1 + 1)) 0
-      (k.labels ++ Linked (life c ((standing k c).1 + 1)) ∷ []) ≡ Some (last_label k c)
-  link_label c = life_linked (life c ((standing k c).1 + 1)) 0 k.labels
+  -- a new life has the label and the words that were stored last for the chunk
+  pub link_word : (i c : ℕ) → label_of_life (life c ((standing k c).1 + 1)) 0
+      (labels_of i (k.labels ++ Linked (life c ((standing k c).1 + 1)) ∷ [])
+      (k.words ++ Begun (life c ((standing k c).1 + 1)) ∷ [])) ≡ Some (last_word i k c)
+  link_word i c = ap (λ (l : List LabelStep). label_of_life (life c ((standing k c).1 + 1)) 0 l)
+      (labels_begun i k.labels k.words (life c ((standing k c).1 + 1)))
+      ∙ life_linked (life c ((standing k c).1 + 1)) 0 (labels_of i k.labels k.words)
       (and_from (eqb c c) (eqb ((standing k c).1 + 1) ((standing k c).1 + 1)) (eq-eqb c c refl)
       (eq-eqb ((standing k c).1 + 1) ((standing k c).1 + 1) refl))
-      (o.unbegun c ((standing k c).1 + 1) (omega arith))
+      (o.unbegun i c ((standing k c).1 + 1) (omega arith))
+
+  pub link_label : (c : ℕ) → label_of_life (life c ((standing k c).1 + 1)) 0
+      (k.labels ++ Linked (life c ((standing k c).1 + 1)) ∷ []) ≡ Some (last_label k c)
+  link_label c = link_word 0 c
 
   -- and where one begins the class keeps what it keeps
   pub keeps_link : (a : Start) (c n : ℕ) → owns c k ≡ true

@@ -1,6 +1,6 @@
 -- What a class's part keeps over a step: over one that only notes itself, and over an entry of its history that begins
 -- no life.
-use Rattle.std.proofs.Common.{◌≡◌, ℕ, ◌+◌, ◌*◌, ◌<◌, cond, eqb, nat_le, nat_lt, Bool, true, false, List, [], ◌∷◌, ◌++◌, Option, refl, ap, ◌∙◌, subst, arith, eqb-true}
+use Rattle.std.proofs.Common.{◌≡◌, ℕ, ◌+◌, ◌<◌, cond, eqb, nat_le, nat_lt, Bool, true, false, List, [], ◌∷◌, ◌++◌, Option, refl, ap, ◌∙◌, subst, arith, eqb-true}
 use Rattle.std.proofs.lemmas.Bool.{and_parts, ltb-true}
 use Rattle.bump_rules.specs.declared.places.Place.{Place}
 use Rattle.bump_rules.specs.declared.places.Place.TheVariants.{Unused}
@@ -15,12 +15,12 @@ use Rattle.bump_rules.proofs.Updates.{total_push}
 use Rattle.bump_steps.specs.declared.views.OwnStep.{OwnStep}
 use Rattle.bump_steps.specs.declared.views.ClassPart.{ClassPart}
 use Rattle.bump_steps.specs.declared.views.Ride.{Ride}
-use Rattle.bump_steps.specs.Views.{owns, standing}
+use Rattle.bump_steps.specs.Views.{owns, standing, labels_of}
 use Rattle.bump_heads.specs.Linking.{place_of_chunk}
 use Rattle.bump_heads.specs.Seats.{IsClassPart}
 
 -- the chunks of a class are among the table's
-pub own_in_range : (words c : ℕ) (k : ClassPart) → IsClassPart words k → owns c k ≡ true → 3 * c + 11 < words
+pub own_in_range : (words c : ℕ) (k : ClassPart) → IsClassPart words k → owns c k ≡ true → c < words
 own_in_range words c k p own =
     omega (
       arith,
@@ -82,9 +82,9 @@ module _ (words : ℕ) (k : ClassPart) (e : Change) (steps : List OwnStep) (p : 
       within = p.within;
       between = are_between_push k.first (k.first + k.count) k.history e p.between own;
       causes = omega (arith, total_push (λ x. bit (is_stray x)) k.history e, p.causes, ap bit straight);
-      labelled = λ c mine some. ap (λ (g : ℕ). label_of_life (life c g) 0 k.labels) (same_generation c)
-          ∙ p.labelled c mine (still_used c some);
-      unbegun = λ c g later. p.unbegun c g (omega (arith, later, same_generation c));
+      labelled = λ i c mine some. ap (λ (g : ℕ). label_of_life (life c g) 0 (labels_of i k.labels k.words))
+          (same_generation c) ∙ p.labelled i c mine (still_used c some);
+      unbegun = λ i c g later. p.unbegun i c g (omega (arith, later, same_generation c));
     }
       where
         still_used : (c : ℕ) → IsUsed (standing entered c).0 → IsUsed (standing k c).0

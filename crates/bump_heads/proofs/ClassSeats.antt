@@ -1,6 +1,7 @@
 -- A class's seat after a step on its part, and what it knows of the Head that it finds.
 use Rattle.std.proofs.Common.{◌≡◌, ℕ, Bool, true, cond, List, Option, Some, None, refl, sym, ap, ◌∙◌, subst, arith}
 use Rattle.atomic_table.specs.Seated.{TableId}
+use Rattle.bump_steps.specs.Places.{rows}
 use Rattle.bump_rules.specs.declared.items.Head.{Head}
 use Rattle.bump_rules.specs.Lawful.{Shows}
 use Rattle.bump_word.specs.Words.{Spells}
@@ -67,12 +68,12 @@ owns_here m v c is own = subst (λ (x : Sat). OwnsChunk c x.0) (sym is)
 pub seat_kept : (m w : Sat) (now : ClassView) (f : ClassPart → ClassPart) (table id : TableId) (class : ℕ)
     → class_in m.0 ≡ now → m ≡ class_me (class_in m.0) → w ≡ (on_class f m.0, m.1)
     → id ≡ table
-    → IsInRange table (aboard_lane (class_in m.0).lane) → class ≡ (class_in m.0).part.class → IsClassPart table.words
+    → IsInRange table (aboard_lane (class_in m.0).lane) → class ≡ (class_in m.0).part.class → IsClassPart (rows table)
     (class_in m.0).part → KeepsJoined (class_in m.0).part (class_in m.0).lane
-    → (f now.part).class ≡ now.part.class → (IsClassPart table.words now.part → IsClassPart table.words (f now.part))
+    → (f now.part).class ≡ now.part.class → (IsClassPart (rows table) now.part → IsClassPart (rows table) (f now.part))
     → ((joined : Joined) → IsJoined now.part now.lane joined → IsJoined (f now.part) now.lane joined)
     → (w ≡ class_me (class_in w.0)) × (id ≡ table) × IsInRange table (aboard_lane (class_in w.0).lane)
-    × (class ≡ (class_in w.0).part.class) × IsClassPart table.words (class_in w.0).part
+    × (class ≡ (class_in w.0).part.class) × IsClassPart (rows table) (class_in w.0).part
     × KeepsJoined (class_in w.0).part (class_in w.0).lane
 seat_kept m w now f table id class view_is is after same near mine part lane_kept class_same keeps keeps_lane =
     let me : m ≡ class_me now = is ∙ ap class_me view_is in
@@ -83,8 +84,8 @@ seat_kept m w now f table id class view_is is after same near mine part lane_kep
           ∙ sym (ap (λ (x : ClassView). x.lane) view)) near,
       mine ∙ ap (λ (x : ClassView). x.part.class) view_is ∙ sym class_same
           ∙ sym (ap (λ (x : ClassView). x.part.class) view),
-      subst (λ (k : ClassPart). IsClassPart table.words k) (sym (ap (λ (x : ClassView). x.part) view))
-          (keeps (subst (λ (k : ClassPart). IsClassPart table.words k) (ap (λ (x : ClassView). x.part) view_is)
+      subst (λ (k : ClassPart). IsClassPart (rows table) k) (sym (ap (λ (x : ClassView). x.part) view))
+          (keeps (subst (λ (k : ClassPart). IsClassPart (rows table) k) (ap (λ (x : ClassView). x.part) view_is)
           part)),
       (
         lane_kept.0,

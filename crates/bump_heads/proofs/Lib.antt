@@ -6,3 +6,4 @@ pub mod ClassLives
 pub mod ClassSeats
 pub mod Makings
 pub mod Endings
+pub mod MeetingHolds

@@ -1,6 +1,11 @@
 -- One turn of the loops that split the seats of classes, workers and lanes off.
-use Rattle.std.proofs.Common.{◌≡◌, ℕ, zero, suc, ◌+◌, ◌*◌, ◌<◌, false, List, [], ◌∷◌, ◌++◌, Option, None, map, length, refl, sym, ◌∙◌, subst, arith, append_assoc}
+use Rattle.std.proofs.Common.{◌≡◌, ℕ, zero, suc, ◌+◌, ◌<◌, false, List, [], ◌∷◌, ◌++◌, Option, None, map, length, refl, ap, sym, ◌∙◌, subst, arith, append_assoc}
 use Rattle.atomic_table.specs.Table.{Me}
+use Rattle.bump_steps.specs.Places.{rows}
+use Rattle.bump_rules.specs.declared.labels.LabelStep.{LabelStep}
+use Rattle.bump_rules.specs.Labels.{label_of_life}
+use Rattle.bump_rules.specs.Lives.{life}
+use Rattle.bump_steps.proofs.Starts.{nothing_yet}
 use Rattle.bump_rules.specs.declared.bumps.Bump.{Bump}
 use Rattle.bump_rules.specs.declared.bumps.Outcome.TheVariants as outcome
 use Rattle.bump_rules.specs.declared.lanes.Lane.{Lane}
@@ -32,16 +37,16 @@ no_bump = record { chunk = 0; outcome = outcome.Gone }
 abbrev pub Turn : TableId → Me Empty View → View → ℕ → ℕ → List ClassView → List ClassView → Me Empty View
     → Me Empty View → Type 0
 Turn table m v i count made all m' p = (p ≡ class_me (class_in p.0))
-    × IsInRange table (aboard_lane (class_in p.0).lane) × (i ≡ (class_in p.0).part.class) × IsClassPart table.words
+    × IsInRange table (aboard_lane (class_in p.0).lane) × (i ≡ (class_in p.0).part.class) × IsClassPart (rows table)
     (class_in p.0).part × IsJoined (class_in p.0).part (class_in p.0).lane no_bump
     × (m' ≡ (record v { classes = m'.0.classes }, [])) × (i + 1 + length m'.0.classes ≡ count)
-    × AreNewClasses table.words (i + 1) m'.0.classes
+    × AreNewClasses (rows table) (i + 1) m'.0.classes
     × ((made ++ class_in p.0 ∷ []) ++ map class_seen m'.0.classes ≡ all)
 
 -- one turn of the loop over the classes
 pub class_turn : (table : TableId) (m : Me Empty View) (v : View) (i count : ℕ) (made all : List ClassView)
     (m' p : Me Empty View) → m ≡ (record v { classes = m.0.classes }, []) → i + length m.0.classes ≡ count → i < count
-    → AreNewClasses table.words i m.0.classes → made ++ map class_seen m.0.classes ≡ all
+    → AreNewClasses (rows table) i m.0.classes → made ++ map class_seen m.0.classes ≡ all
     → m' ≡ (without_class m.0, m.1) → p ≡ (class_only m.0, [])
     → Turn table m v i count made all m' p
 class_turn table m v i count made all m' p rest long more numbers so_far now part =
@@ -49,7 +54,7 @@ class_turn table m v i count made all m' p rest long more numbers so_far now par
     (λ j. (sym now j, sym part j)) (by m.0.classes rest long numbers so_far)
   where
     by : (ks : List ClassPart) → m ≡ (record v { classes = ks }, []) → i + length ks ≡ count
-        → AreNewClasses table.words i ks → made ++ map class_seen ks ≡ all → Turn table m v i count made all
+        → AreNewClasses (rows table) i ks → made ++ map class_seen ks ≡ all → Turn table m v i count made all
         (record m.0 { classes = behind m.0.classes }, m.1) (record blank { classes = first_of m.0.classes }, [])
     by [] rest long numbers so_far = absurd (omega (arith, more))
     by (k ∷ ks) rest long numbers so_far =
@@ -117,7 +122,7 @@ pub length_classes : (f i at : ℕ) (ks : List ClassConfig) → length (class_pa
 length_classes f i at [] = refl
 length_classes f i at (k ∷ ks) = omega (arith, length_classes f (i + 1) (at + k.chunks) ks)
 
-pub new_classes : (words f i at : ℕ) (ks : List ClassConfig) → words ≡ 3 * (at + chunks_of ks) + 9
+pub new_classes : (words f i at : ℕ) (ks : List ClassConfig) → words ≡ at + chunks_of ks
     → AreNewClasses words i (class_parts f i at ks)
 new_classes words f i at [] all = tt
 new_classes words f i at (k ∷ ks) all = (
@@ -126,8 +131,8 @@ new_classes words f i at (k ∷ ks) all = (
     within = omega (arith, all);
     between = tt;
     causes = refl;
-    labelled = λ c own used. absurd used;
-    unbegun = λ c g later. refl;
+    labelled = λ i c own used. absurd used;
+    unbegun = λ i c g later. ap (λ (l : List LabelStep). label_of_life (life c g) 0 l) (nothing_yet i);
   },
   refl,
   new_classes words f (i + 1) (at + k.chunks) ks (omega (arith, all)),

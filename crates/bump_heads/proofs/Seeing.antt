@@ -4,6 +4,7 @@ use Rattle.std.proofs.lemmas.Bool.{and_parts}
 use Rattle.std.specs.Prelude.{option_map, IfSome, IsSome}
 use Rattle.atomic_table.specs.Seated.{TableId}
 use Rattle.atomic_table.specs.declared.shared.Seat.{Seat}
+use Rattle.bump_steps.specs.Places.{rows}
 use Rattle.bump_rules.specs.declared.items.Head.{Head}
 use Rattle.bump_rules.specs.declared.items.ItemId.{ItemId}
 use Rattle.bump_rules.specs.declared.places.Segment.{Segment}
@@ -329,20 +330,20 @@ move_near table o near = near_as table lane_after_move (λ l. move_refers l.stag
 -- what the class's seat is after a move
 module _ (table : TableId) (number c n : ℕ) (m p : Sat) (v w : ClassView) (is : m ≡ class_me v) (same : v ≡ w)
     (near : IsInRange table (aboard_lane v.lane)) (class : number ≡ v.part.class)
-    (part : IsClassPart table.words v.part) (joined : Joined) (lane : IsJoined v.part v.lane joined) where
+    (part : IsClassPart (rows table) v.part) (joined : Joined) (lane : IsJoined v.part v.lane joined) where
   pub shifted_whole : (from to : Segment) (h : Head) → Spells n h → owns c w.part ≡ true
       → (standing w.part c).0 ≡ place_of from → MayChangeSegment c from to w.lane
       → p ≡ (view_after_move from to c n m.0, m.1) → Found n (Told c m.0)
       → (p ≡ class_me (class_in p.0)) × IsInRange table (aboard_lane (class_in p.0).lane)
-      × (number ≡ (class_in p.0).part.class) × IsClassPart table.words (class_in p.0).part
+      × (number ≡ (class_in p.0).part.class) × IsClassPart (rows table) (class_in p.0).part
       × IsJoined (class_in p.0).part (class_in p.0).lane (joined_after_move joined)
   shifted_whole from to h spells own stands may moved found = let told = told_as m p v w is same n c h spells found in
-      seen_whole table.words table number p (seat_after_move c from to h w) (joined_after_move joined)
+      seen_whole (rows table) table number p (seat_after_move c from to h w) (joined_after_move joined)
       (move_me m p v w is same n c from to h spells moved)
       (move_near table w.lane (subst (λ (x : ClassView). IsInRange table (aboard_lane x.lane)) same near))
       (class ∙ ap (λ (x : ClassView). x.part.class) same)
-      (move_keeps table.words c (word_of h) from to h w
-      (subst (λ (x : ClassView). IsClassPart table.words x.part) same part) own stands may
+      (move_keeps (rows table) c (word_of h) from to h w
+      (subst (λ (x : ClassView). IsClassPart (rows table) x.part) same part) own stands may
       (own_told w c h own told).1 (life_told w c h (change_segment_chunk c from to w.lane may) told))
       (joined_moved c (word_of h) from to w.part w.lane joined stands may
       (subst (λ (x : ClassView). IsJoined x.part x.lane joined) same lane))
@@ -351,7 +352,7 @@ module _ (table : TableId) (number c n : ℕ) (m p : Sat) (v w : ClassView) (is 
   pub cleared_whole : (h : Head) → Spells n h → MayClearActive c (standing w.part c).0 w.lane
       → p ≡ (view_after_clear_active c n m.0, m.1)
       → (p ≡ class_me (class_in p.0)) × IsInRange table (aboard_lane (class_in p.0).lane)
-      × (number ≡ (class_in p.0).part.class) × IsClassPart table.words (class_in p.0).part
+      × (number ≡ (class_in p.0).part.class) × IsClassPart (rows table) (class_in p.0).part
       × IsJoined (class_in p.0).part (class_in p.0).lane joined
   cleared_whole h spells may told =
       let whole : m ≡ class_me w = is ∙ ap class_me same in
@@ -365,25 +366,25 @@ module _ (table : TableId) (number c n : ℕ) (m p : Sat) (v w : ClassView) (is 
         lane =
             option_map (lane_after_clear_active f) w.lane;
       })) spells.0 (active_found n h spells) in
-      seen_whole table.words table number p (seat_after_clear_active c h w) joined me
+      seen_whole (rows table) table number p (seat_after_clear_active c h w) joined me
       (near_as table (lane_after_clear_active h.active) (λ l. clear_active_refers h.active l.stage) w.lane
       (subst (λ (x : ClassView). IsInRange table (aboard_lane x.lane)) same near))
       (class ∙ ap (λ (x : ClassView). x.part.class) same)
-      (noted_part table.words w.part _ (subst (λ (x : ClassView). IsClassPart table.words x.part) same part))
+      (noted_part (rows table) w.part _ (subst (λ (x : ClassView). IsClassPart (rows table) x.part) same part))
       (joined_cleared c h w.part w.lane joined spells.1 may
       (subst (λ (x : ClassView). IsJoined x.part x.lane joined) same lane))
 
   -- after its time was stored
   pub timed_whole : (now : ℕ) → p ≡ (view_after_put_time c now m.0, m.1)
       → (p ≡ class_me (class_in p.0)) × IsInRange table (aboard_lane (class_in p.0).lane)
-      × (number ≡ (class_in p.0).part.class) × IsClassPart table.words (class_in p.0).part
+      × (number ≡ (class_in p.0).part.class) × IsClassPart (rows table) (class_in p.0).part
       × IsJoined (class_in p.0).part (class_in p.0).lane joined
   timed_whole now told =
-      seen_whole table.words table number p (seat_after_put_time c now w) joined
+      seen_whole (rows table) table number p (seat_after_put_time c now w) joined
       (told ∙ ap (λ (x : Sat). (view_after_put_time c now x.0, x.1)) (is ∙ ap class_me same))
       (subst (λ (x : ClassView). IsInRange table (aboard_lane x.lane)) same near)
       (class ∙ ap (λ (x : ClassView). x.part.class) same)
-      (noted_part table.words w.part _ (subst (λ (x : ClassView). IsClassPart table.words x.part) same part))
+      (noted_part (rows table) w.part _ (subst (λ (x : ClassView). IsClassPart (rows table) x.part) same part))
       (noted_joined w.part _ w.lane joined (subst (λ (x : ClassView). IsJoined x.part x.lane joined) same lane))
 
 -- ---- a lane joins
@@ -442,20 +443,20 @@ module _ (m : Sat) (v w : ClassView) (o : Option (Seat Empty View)) (s : Seat Em
         (sym (ap (λ (l : ItemId). l.chunk) life_is)) spells.0
 
     -- it keeps what a class's seat keeps
-    pub tried_whole : (number : ℕ) → number ≡ v.part.class → IsClassPart table.words v.part
+    pub tried_whole : (number : ℕ) → number ≡ v.part.class → IsClassPart (rows table) v.part
         → (kept : Joined) → IsJoined v.part v.lane kept → IsInRange table (aboard_lane (lane_in o)) → IsSome (carried_by lane) → owns (life_aboard lane).chunk w.part
         ≡ true → FoundOfBump w.part (life_aboard lane) h
         → (p ≡ class_me (class_in p.0)) × IsInRange table (aboard_lane (class_in p.0).lane)
-        × (number ≡ (class_in p.0).part.class) × IsClassPart table.words (class_in p.0).part
+        × (number ≡ (class_in p.0).part.class) × IsClassPart (rows table) (class_in p.0).part
         × IsJoined (class_in p.0).part (class_in p.0).lane (joined_after_try b.life.chunk h)
     tried_whole number class part kept rests near carries own seen =
-        seen_whole table.words table number p
+        seen_whole (rows table) table number p
         (record w { lane = option_map (lane_after_try (life_aboard lane).chunk (word_of h)) lane })
         (joined_after_try b.life.chunk h) tried_me
         (near_as table (lane_after_try (life_aboard lane).chunk (word_of h)) (λ l. try_refers l.stage) lane
         (subst (λ (x : Option LanePart). IsInRange table (aboard_lane x)) lane_is near))
         (class ∙ ap (λ (x : ClassView). x.part.class) same)
-        (subst (λ (x : ClassView). IsClassPart table.words x.part) same part)
+        (subst (λ (x : ClassView). IsClassPart (rows table) x.part) same part)
         (tried_joined h w.part lane b carries (sym (ap aboard_lane lane_is) ∙ aboard)
         (idle_alone w.part w.lane kept alone
         (subst (λ (x : ClassView). IsJoined x.part x.lane kept) same rests)) spells.1 seen own)
@@ -575,16 +576,16 @@ module _ (m : Sat) (v w : ClassView) (is : m ≡ class_me v) (same : v ≡ w) (c
 
       -- what is left is a class's seat
       pub alighted_whole : (table : TableId) (number : ℕ) (joined : Joined) → number ≡ v.part.class
-          → IsClassPart table.words v.part
+          → IsClassPart (rows table) v.part
           → (r ≡ class_me (class_in r.0)) × IsInRange table (aboard_lane (class_in r.0).lane)
-          × (number ≡ (class_in r.0).part.class) × IsClassPart table.words (class_in r.0).part × IsJoined
+          × (number ≡ (class_in r.0).part.class) × IsClassPart (rows table) (class_in r.0).part × IsJoined
           (class_in r.0).part (class_in r.0).lane joined
-      alighted_whole table number joined class part = seen_whole table.words table number r
+      alighted_whole table number joined class part = seen_whole (rows table) table number r
           (record { part = class_at_rest w.part; lane = None }) joined
           (rest ∙ ap (λ (x : Sat). (without_lanes x.0, x.1))
           (told ∙ ap (λ (x : Sat). (view_after_alight out c n x.0, x.1)) view_is)) tt
           (class ∙ ap (λ (x : ClassView). x.part.class) same)
-          (named_part table.words w.part None (subst (λ (x : ClassView). IsClassPart table.words x.part) same part))
+          (named_part (rows table) w.part None (subst (λ (x : ClassView). IsClassPart (rows table) x.part) same part))
           refl
 
       -- and as it is seen

@@ -1,5 +1,5 @@
 -- What contracts see of the seats of classes and lanes.
-use Rattle.std.specs.Prelude.{◌≡◌, ℕ, ◌+◌, ◌*◌, ◌<◌, ◌≤◌, true, false, List, [], ◌∷◌, Option, Some, None}
+use Rattle.std.specs.Prelude.{◌≡◌, ℕ, ◌+◌, ◌<◌, ◌≤◌, true, false, List, [], ◌∷◌, Option, Some, None}
 use Rattle.atomic_table.specs.Table.{Me}
 use Rattle.atomic_table.specs.Seated.{TableId}
 use Rattle.atomic_table.specs.declared.shared.Seat.{Seat}
@@ -11,7 +11,7 @@ use Rattle.bump_rules.specs.Totals.{how_many}
 use Rattle.bump_rules.specs.Entries.{is_stray}
 use Rattle.bump_rules.specs.History.{AreBetween}
 use Rattle.bump_rules.specs.Labels.{label_of_life}
-use Rattle.bump_steps.specs.Views.{last_label}
+use Rattle.bump_steps.specs.Views.{labels_of, last_word}
 use Rattle.bump_steps.specs.Riders.{lane_me}
 use Rattle.bump_steps.specs.declared.views.Empty.{Empty}
 use Rattle.bump_steps.specs.declared.views.ClassPart.{ClassPart}
@@ -20,7 +20,7 @@ use Rattle.bump_heads.specs.declared.views.ClassView.{ClassView}
 use Rattle.bump_steps.specs.declared.views.View.{View}
 use Rattle.bump_steps.specs.Views.{bump_aboard, owns, standing}
 use Rattle.bump_steps.specs.Rule.{blank, lane_part}
-use Rattle.bump_steps.specs.Words.{HasChunk}
+use Rattle.bump_steps.specs.Places.{HasChunk}
 use Rattle.bump_readers.specs.Seats.{head_or, first, listed}
 
 -- parts of seats that have none
@@ -28,7 +28,7 @@ abbrev pub no_lane : LanePart
 no_lane = lane_part 0
 
 abbrev pub no_class : ClassPart
-no_class = record { class = 0; first = 0; count = 0; fresh = 0; history = []; labels = []; applying = None; steps = [] }
+no_class = record { class = 0; first = 0; count = 0; fresh = 0; history = []; labels = []; words = []; applying = None; steps = [] }
 
 -- ---- lanes
 
@@ -82,14 +82,15 @@ abbrev pub class_me : ClassView → Me Empty View
 class_me seat = (record blank { classes = seat.part ∷ []; lanes = listed seat.lane }, [])
 
 -- What each class's part keeps.
-pub record IsClassPart (words : ℕ) (class : ClassPart) : Type 0 where
+pub record IsClassPart (count : ℕ) (class : ClassPart) : Type 0 where
   -- its chunks are among the table's
-  pub within : 3 * (class.first + class.count) + 9 ≤ words
+  pub within : class.first + class.count ≤ count
   -- its history speaks of its own chunks alone, and its moves for bumps are from COLD to WARM
   pub between : AreBetween class.first (class.first + class.count) class.history
   pub causes : how_many is_stray class.history ≡ 0
-  -- a chunk that is not free has its life's label, which was stored before the life began
-  pub labelled : (c : ℕ) → owns c class ≡ true → IsUsed (standing class c).0
-      → label_of_life (life c (standing class c).1) 0 class.labels ≡ Some (last_label class c)
+  -- a chunk that is not free has its life's label and words, which were stored before the life began
+  pub labelled : (i c : ℕ) → owns c class ≡ true → IsUsed (standing class c).0
+      → label_of_life (life c (standing class c).1) 0 (labels_of i class.labels class.words) ≡ Some (last_word i class c)
   -- and no life to come has begun
-  pub unbegun : (c g : ℕ) → (standing class c).1 < g → label_of_life (life c g) 0 class.labels ≡ None
+  pub unbegun : (i c g : ℕ) → (standing class c).1 < g
+      → label_of_life (life c g) 0 (labels_of i class.labels class.words) ≡ None

@@ -1,13 +1,13 @@
 //! Lives begin and end under their class's lock: labels, links, unlinks, and the chunks that nobody holds any more.
-ghost use Rattle.std.specs.Prelude.{◌≡◌, ◌+◌, ◌<◌, ◌≤◌, None, Some, true, false};
+ghost use Rattle.std.specs.Prelude.{◌≡◌, ℕ, suc, ◌+◌, ◌<◌, ◌≤◌, None, Some, true, false};
 ghost use Rattle.bump_rules.specs.declared.places.Place.TheVariants.{Dying, Unused};
 ghost use Rattle.bump_rules.specs.declared.places.Start.TheVariants as start;
 ghost use Rattle.bump_rules.specs.Labels.{label_of_life};
 ghost use Rattle.bump_rules.specs.Lawful.{bit, Shows};
 ghost use Rattle.bump_rules.specs.Lives.{life};
 ghost use Rattle.bump_word.specs.Words.{Fits, word_of};
-ghost use Rattle.bump_steps.specs.Views.{owns, last_label};
-ghost use Rattle.bump_steps.specs.Lives.{class_after_load, class_after_see_time, class_after_put_label};
+ghost use Rattle.bump_steps.specs.Views.{owns, last_label, last_word, of_word};
+ghost use Rattle.bump_steps.specs.Lives.{class_after_load, class_after_see_time, class_after_put_label, class_after_put_word};
 ghost use Rattle.bump_steps.specs.Lives.{class_after_sweep_or_load, class_after_unlink, IsInSegment};
 ghost use Rattle.bump_heads.specs.Linking.{place_of_chunk, generation_of_chunk, class_after_open_life};
 
@@ -51,6 +51,17 @@ impl<N: Name> ClassSeat<N> {
         self.heads.words().put_label(&mut self.seat, chunk, label);
     }
 
+    /// Stores a further word of a chunk, by one store, as `put_label` stores its label.
+    pub fn put_word(&mut self, chunk: u32, index: u32, word: u64)
+        requires alone { self.old.lane ≡ None }
+        requires own { owns chunk self.old.part ≡ true }
+        requires unused { place_of_chunk self.old.part chunk ≡ Unused }
+        requires index { index < N.table.slots }
+        ensures stored { self.new ≡ record self.old { part = class_after_put_word chunk index word self.old.part } }
+    {
+        self.heads.words().put_word(&mut self.seat, chunk, index, word);
+    }
+
     /// Begins the next life of a chunk, in HOT or in TEMP, by one store of its head: linked, with the one reference of
     /// the link, and without marks (memcached's `do_item_link`). The chunk must be in UNUSED, so it has a generation to
     /// come. Its label is the last one that was stored for the chunk. Answers the life. A load before the store finds
@@ -62,6 +73,8 @@ impl<N: Name> ClassSeat<N> {
         ensures next { result ≡ life chunk (generation_of_chunk self.old.part chunk + 1) }
         ensures opened { self.new ≡ record self.old { part = class_after_open_life start result self.old.part } }
         ensures label { label_of_life result 0 self.new.part.labels ≡ Some (last_label self.old.part chunk) }
+        ensures words { (j : ℕ) → label_of_life result 0 (of_word j self.new.part.words) ≡ Some
+            (last_word (suc j) self.old.part chunk) }
     {
         let words = self.heads.words();
         let found = head_of(words.see_generation(&mut self.seat, chunk));
@@ -78,6 +91,8 @@ impl<N: Name> ClassSeat<N> {
         ensures next { result ≡ life chunk (generation_of_chunk self.old.part chunk + 1) }
         ensures opened { self.new ≡ record self.old { part = class_after_open_life start.Hot result self.old.part } }
         ensures label { label_of_life result 0 self.new.part.labels ≡ Some (last_label self.old.part chunk) }
+        ensures words { (j : ℕ) → label_of_life result 0 (of_word j self.new.part.words) ≡ Some
+            (last_word (suc j) self.old.part chunk) }
     {
         self.open_life_in(chunk, Start::Hot)
     }

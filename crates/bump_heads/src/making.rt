@@ -1,6 +1,7 @@
 //! A table whose chunks had no life yet, and the seats of its classes, workers and lanes.
 ghost use Rattle.std.specs.Prelude.{◌≡◌, ◌≤◌, ◌<◌, ◌-◌, [], IfOk, None, Some, length, map};
 ghost use Rattle.std.specs.Arc.{arc_value};
+ghost use Rattle.bump_steps.specs.Places.{rows};
 ghost use Rattle.bump_steps.specs.Rule.{opened, class_parts, worker_parts, lane_parts, blank};
 ghost use Rattle.bump_steps.specs.Words.{words_id, config_of};
 ghost use Rattle.bump_readers.specs.Workers.{worker_seen};
@@ -45,8 +46,21 @@ impl Blank {
     /// A table whose chunks had no life yet.
     pub fn new(alloc: Global, config: &Config) -> Result<Blank, AllocError>
         ensures config { IfOk result (λ b. b.config ≡ config.now) }
+        ensures further { IfOk result (λ b. b.table.slots ≡ 0) }
     {
-        let (words, seat) = Words::fresh(alloc, config)?;
+        Blank::with_words(alloc, config, 0)
+    }
+
+    /// The same, and each chunk has so many further words beside its label.
+    pub fn with_words(
+        alloc: Global,
+        config: &Config,
+        further: u32,
+    ) -> Result<Blank, AllocError>
+        ensures config { IfOk result (λ b. b.config ≡ config.now) }
+        ensures further { IfOk result (λ b. b.table.slots ≡ further) }
+    {
+        let (words, seat) = Words::fresh(alloc, config, further)?;
         Ok(Blank { words, seat })
     }
 }
@@ -58,7 +72,7 @@ fn part_classes<N: Name>(
     count: u32,
 ) -> Result<Vec<ClassSeat<N>>, AllocError>
     requires seat { (seat.old.table_id ≡ N.table) × (seat.old.me.1 ≡ []) }
-    requires parts { (length seat.old.me.0.classes ≡ count) × AreNewClasses N.table.words 0 seat.old.me.0.classes }
+    requires parts { (length seat.old.me.0.classes ≡ count) × AreNewClasses (rows N.table) 0 seat.old.me.0.classes }
     ensures rest { IfOk result (λ v. (seat.new.table_id ≡ N.table)
         × (seat.new.me ≡ (record seat.old.me.0 { classes = [] }, []))) }
     ensures seats { IfOk result (λ v. v.items ≡ map class_seen seat.old.me.0.classes) }

@@ -1,10 +1,10 @@
 //! A hold meets its class, and a lane meets a class.
-ghost use Rattle.std.specs.Prelude.{◌≡◌, Some, None, IsSome, IfSome, true};
+ghost use Rattle.std.specs.Prelude.{◌≡◌, ℕ, suc, Some, None, IsSome, IfSome, true};
 ghost use Rattle.bump_rules.specs.Labels.{label_of_life};
 ghost use Rattle.bump_rules.specs.Lawful.{IsUsed};
 ghost use Rattle.bump_rules.specs.Totals.{total};
-ghost use Rattle.bump_steps.specs.Views.{owns, standing, last_label, differs};
-ghost use Rattle.bump_readers.specs.Seats.{labels_in};
+ghost use Rattle.bump_steps.specs.Views.{owns, standing, last_label, last_word, of_word, differs};
+ghost use Rattle.bump_readers.specs.Seats.{labels_in, words_in};
 ghost use Rattle.bump_heads.specs.Applying.{NamesNoBumpTwice, TellsMoves};
 
 use crate::seats::{ClassSeat, LaneSeat};
@@ -24,6 +24,10 @@ impl<N: Name> ClassSeat<N> {
         ensures label { result ≡ last_label self.old.part hold.old.life.chunk }
         ensures stored { label_of_life hold.old.life 0 self.old.part.labels ≡ Some result }
         ensures read { total (differs result) (labels_in hold.old.part) ≡ 0 }
+        ensures words { (j : ℕ) → label_of_life hold.old.life 0 (of_word j self.old.part.words) ≡ Some
+            (last_word (suc j) self.old.part hold.old.life.chunk) }
+        ensures words_read { (j : ℕ) → total (differs (last_word (suc j) self.old.part hold.old.life.chunk))
+            (words_in j hold.old.part) ≡ 0 }
         ensures in_use { IsUsed (standing self.old.part hold.old.life.chunk).0
             × ((standing self.old.part hold.old.life.chunk).1 ≡ hold.old.life.generation) }
     {

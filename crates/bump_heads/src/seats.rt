@@ -1,6 +1,7 @@
 //! The seats of classes and lanes of a named store. Contracts see plain data.
 ghost use Rattle.std.specs.Prelude.{◌≡◌, ◌<◌, Option as TheOption, IsSome, false};
 ghost use Rattle.bump_heads.specs.declared.views.ClassView.{ClassView as TheClassView};
+ghost use Rattle.bump_steps.specs.Places.{rows};
 ghost use Rattle.bump_steps.specs.declared.views.LanePart.{LanePart as TheLanePart};
 ghost use Rattle.bump_rules.specs.Lanes.{is_half_made};
 ghost use Rattle.bump_heads.specs.Applying.{stage_of, KeepsJoined};
@@ -31,7 +32,7 @@ impl<N: Name> Model for ClassSeat<N> {
 
     ghost invariant = { λ s. (s.seat.me ≡ class_me (class_in s.seat.me.0)) × (s.seat.table_id ≡ N.table)
         × IsInRange N.table (aboard_lane (class_in s.seat.me.0).lane) × (s.class ≡ (class_in s.seat.me.0).part.class)
-        × IsClassPart N.table.words (class_in s.seat.me.0).part
+        × IsClassPart (rows N.table) (class_in s.seat.me.0).part
         × KeepsJoined (class_in s.seat.me.0).part (class_in s.seat.me.0).lane };
 }
 

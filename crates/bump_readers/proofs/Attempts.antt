@@ -18,6 +18,7 @@ use Rattle.bump_rules.proofs.Counted.{how_many_push}
 use Rattle.bump_rules.proofs.Updates.{total_append}
 use Rattle.bump_word.specs.Words.{Fits, number_of, word_of}
 use Rattle.bump_word.proofs.Words.{fields}
+use Rattle.bump_steps.specs.Places.{HasChunk}
 use Rattle.bump_steps.specs.declared.refusals.TakeRefusal.{TakeRefusal}
 use Rattle.bump_steps.specs.declared.views.Empty.{Empty}
 use Rattle.bump_steps.specs.declared.views.HoldPart.{HoldPart}
@@ -291,7 +292,7 @@ abbrev with_holds : WorkerPart → List HoldPart → Me Empty View
 with_holds p hs = (record blank { workers = p ∷ []; holds = hs }, [])
 
 -- a hold of a life of the table is in its range
-hold_near : (table : TableId) (l : ItemId) (o : Option HoldPart) → IsHoldOf l o → 3 * l.chunk + 11 < table.words
+hold_near : (table : TableId) (l : ItemId) (o : Option HoldPart) → IsHoldOf l o → HasChunk table l.chunk
     → IsLifeInRange table (held_life o)
 hold_near table l None of near = tt
 hold_near table l (Some h) of near = omega (arith, near, ap (λ (x : ItemId). x.chunk) of)
@@ -313,7 +314,7 @@ module _ (table : TableId) (number : ℕ) (id id₁ : TableId) (m m₁ : Me Empt
   -- a hold is joined, or split off
   pub joined_seat : (p : Me Empty View) (l : ItemId) (o : Option HoldPart) → w.hold ≡ None → p ≡ hold_me o
       → IsHoldOf l o
-      → 3 * l.chunk + 11 < table.words → m₁ ≡ (joined m.0 p.0, m.1) → IsWhole table number id₁ m₁
+      → HasChunk table l.chunk → m₁ ≡ (joined m.0 p.0, m.1) → IsWhole table number id₁ m₁
   joined_seat p l o alone hold of near told = changed_seat table number id id₁ m m₁ w (record w { hold = o }) whole
       same other
       (told ∙ ap₂ (λ (x y : Me Empty View). (joined x.0 y.0, x.1)) before_is hold

@@ -12,8 +12,8 @@ use Rattle.bump_steps.specs.declared.views.Ride.{Ride}
 use Rattle.bump_steps.specs.declared.views.View.{View}
 use Rattle.bump_readers.specs.declared.views.WorkerView.{WorkerView}
 use Rattle.bump_steps.specs.Rule.{blank, worker_part}
-pub use Rattle.bump_steps.specs.Views.{first}
-use Rattle.bump_steps.specs.Words.{HasChunk}
+pub use Rattle.bump_steps.specs.Views.{first, read_of}
+use Rattle.bump_steps.specs.Places.{HasChunk}
 use Rattle.bump_readers.specs.Attempts.{attempts_in}
 
 abbrev pub head_or : {A : Type 0} → A → List A → A
@@ -56,6 +56,16 @@ IsHoldOf item (Some hold) = hold.life ≡ item
 abbrev pub labels_in : Option HoldPart → List ℕ
 labels_in None = []
 labels_in (Some hold) = hold.labels
+
+-- the further words that it read, each behind its number
+abbrev pub reads_in : Option HoldPart → List (ℕ × ℕ)
+reads_in None = []
+reads_in (Some hold) = hold.words
+
+-- and of these, those of word j
+abbrev pub words_in : ℕ → Option HoldPart → List ℕ
+words_in index None = []
+words_in index (Some hold) = read_of index hold.words
 
 -- the head words that its looks found
 abbrev pub looks_in : Option HoldPart → List ℕ

@@ -2,7 +2,7 @@
 ghost use Rattle.std.specs.Prelude.{◌≡◌, IsSome, None, Some};
 ghost use Rattle.bump_readers.specs.declared.views.HoldView.{HoldView as TheHoldView};
 ghost use Rattle.bump_readers.specs.Seats.{IsHoldOf, hold_in_views, hold_views, hold_me};
-ghost use Rattle.bump_steps.specs.Words.{HasChunk};
+ghost use Rattle.bump_steps.specs.Places.{HasChunk, head_place};
 ghost use Rattle.bump_steps.specs.declared.views.HoldPart.{HoldPart as TheHoldPart};
 
 use crate::names::Name;
@@ -17,6 +17,9 @@ use std::marker::{Model, PhantomData};
 pub struct Hold<N: Name> {
     pub(crate) badge: Badge<View>,
     pub(crate) life: ItemId,
+
+    /// Where the chunk has its head word, so that no step on it multiplies.
+    pub(crate) place: usize,
     pub(crate) of: PhantomData<N>,
 }
 
@@ -27,7 +30,8 @@ impl<N: Name> Model for Hold<N> {
 
     ghost invariant = { λ h. (h.badge.views ≡ hold_views (hold_in_views h.badge.views))
         × (IsSome (hold_in_views h.badge.views) → h.badge.table_id ≡ N.table)
-        × IsHoldOf h.life (hold_in_views h.badge.views) × HasChunk N.table h.life.chunk };
+        × IsHoldOf h.life (hold_in_views h.badge.views) × HasChunk N.table h.life.chunk
+        × (h.place ≡ head_place N.table.slots h.life.chunk) };
 }
 
 impl<N: Name> Hold<N> {
@@ -36,6 +40,14 @@ impl<N: Name> Hold<N> {
         ensures { result ≡ self.now.life }
     {
         self.life
+    }
+
+    /// Where the chunk has its head word.
+    #[inline(always)]
+    pub fn place(&self) -> usize
+        ensures { result ≡ head_place N.table.slots self.now.life.chunk }
+    {
+        self.place
     }
 
     /// The hold's seat, for a join to another one; without it the hold is hollow. The hold must be whole.

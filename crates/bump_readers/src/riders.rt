@@ -1,6 +1,6 @@
 //! Bumps' references that travel.
 ghost use Rattle.std.specs.Prelude.{◌≡◌, ◌<◌};
-ghost use Rattle.bump_steps.specs.Words.{HasChunk};
+ghost use Rattle.bump_steps.specs.Places.{HasChunk};
 ghost use Rattle.bump_steps.specs.declared.views.Ride.{Ride as TheRide};
 ghost use Rattle.bump_steps.specs.Riders.{ride_me};
 ghost use Rattle.bump_readers.specs.Seats.{ride_in};

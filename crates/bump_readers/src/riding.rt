@@ -3,6 +3,7 @@ ghost use Rattle.std.specs.Prelude.{◌≡◌, ◌+◌, ◌≤◌, Some, List, I
 ghost use Rattle.bump_rules.specs.declared.hands.Hand.TheVariants.{Idle, Trying, InHand, Clearing};
 ghost use Rattle.bump_rules.specs.declared.items.Head.{Head as TheHead};
 ghost use Rattle.bump_word.specs.Words.{Fits};
+ghost use Rattle.bump_steps.specs.Places.{head_place};
 ghost use Rattle.bump_steps.specs.declared.views.HoldPart.{HoldPart as TheHoldPart};
 ghost use Rattle.bump_steps.specs.Rides.{worker_after_release, returned};
 ghost use Rattle.bump_readers.specs.Riding.{Rode, ride_of};
@@ -32,7 +33,13 @@ impl<N: Name> ReaderHeads<N> {
     /// one of its kind, and is to clear ACTIVE by `unmark`. With a rider the worker is idle, and counts the bump as
     /// accepted.
     #[inline(always)]
-    pub fn ride(&self, worker: &mut WorkerSeat<N>, life: ItemId) -> Result<Rider<N>, RideRefusal>
+    pub fn ride(
+        &self,
+        worker: &mut WorkerSeat<N>,
+        life: ItemId,
+        place: usize,
+    ) -> Result<Rider<N>, RideRefusal>
+        requires place { place ≡ head_place N.table.slots life.chunk }
         requires held { (h : TheHoldPart) × (worker.old.hold ≡ Some h) × (h.life ≡ life) }
         requires trying { worker.old.part.hand ≡ Trying life }
         ensures rode { (first : TheHead) × (more : List TheHead)
@@ -42,7 +49,10 @@ impl<N: Name> ReaderHeads<N> {
         ensures dropped { OnErr result (worker.new.part.hand ≡ Clearing life) }
         ensures hold { worker.new.hold ≡ worker.old.hold }
     {
-        if let Some(refusal) = self.words.ride(&mut worker.seat, self.limit.refs(), life) {
+        if let Some(refusal) = self
+            .words
+            .ride(&mut worker.seat, self.limit.refs(), life, place)
+        {
             return Err(refusal);
         }
         let part = self.words.part_ride(&mut worker.seat);
@@ -75,7 +85,8 @@ impl<N: Name> ReaderHeads<N> {
     /// `lru_bump_async` does where the bump buffer is full. It answers the head before it: of the life, and with a
     /// count of at least 2, for the hold and the bump. The worker has a whole hold of the life joined to its seat. It
     /// counts the bump as dropped for want of room, and is to clear ACTIVE by `unmark`.
-    pub fn give_back_bump(&self, worker: &mut WorkerSeat<N>, life: ItemId) -> Head
+    pub fn give_back_bump(&self, worker: &mut WorkerSeat<N>, life: ItemId, place: usize) -> Head
+        requires place { place ≡ head_place N.table.slots life.chunk }
         requires held { (h : TheHoldPart) × (worker.old.hold ≡ Some h) × (h.life ≡ life) }
         requires in_hand { worker.old.part.hand ≡ InHand life }
         ensures worker { worker.new ≡ record worker.old { part = worker_after_release life result worker.old.part } }
@@ -83,6 +94,6 @@ impl<N: Name> ReaderHeads<N> {
         ensures counted { 2 ≤ result.refs }
         ensures fits { Fits result }
     {
-        head_of(self.words.give_back_bump(&mut worker.seat, life))
+        head_of(self.words.give_back_bump(&mut worker.seat, life, place))
     }
 }

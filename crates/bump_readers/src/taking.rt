@@ -4,10 +4,10 @@ ghost use Rattle.bump_rules.specs.declared.items.Head.{Head as TheHead};
 ghost use Rattle.bump_rules.specs.Lawful.{bit};
 ghost use Rattle.bump_rules.specs.Totals.{total};
 ghost use Rattle.bump_word.specs.Words.{Fits, word_of};
-ghost use Rattle.bump_readers.specs.Seats.{spent_me, labels_in};
+ghost use Rattle.bump_readers.specs.Seats.{spent_me, labels_in, words_in};
 ghost use Rattle.bump_steps.specs.Rule.{chunks as all_chunks};
 ghost use Rattle.bump_readers.specs.Taking.{Took, whole_hold};
-ghost use Rattle.bump_steps.specs.References.{hold_after_label_load, hold_after_look};
+ghost use Rattle.bump_steps.specs.References.{hold_after_label_load, hold_after_word_load, hold_after_look};
 ghost use Rattle.bump_steps.specs.Views.{differs};
 
 use crate::heads::ReaderHeads;
@@ -30,6 +30,7 @@ impl<N: Name> Hold<N> {
         let Hold {
             badge: _,
             life: _,
+            place: _,
             of: _,
         } = self;
     }
@@ -56,13 +57,15 @@ impl<N: Name> ReaderHeads<N> {
         ensures alone { worker.new.hold ≡ None }
         ensures hold { IfOk result (λ h. h ≡ whole_hold life) }
     {
-        if let Some(refusal) = self.words.take(&mut worker.seat, life, &self.limit) {
+        let place = self.words.head_at(life.chunk);
+        if let Some(refusal) = self.words.take(&mut worker.seat, life, place, &self.limit) {
             return Err(refusal);
         }
         let part = self.words.part_holds(&mut worker.seat);
         Ok(Hold {
             badge: part.into_badge(),
             life,
+            place,
             of: PhantomData,
         })
     }
@@ -97,7 +100,7 @@ impl<N: Name> ReaderHeads<N> {
         ensures table { result.1.table_id ≡ N.table }
     {
         let mut seat = hold.seat_out();
-        let head = head_of(self.words.give_back(&mut seat, hold.life.chunk));
+        let head = head_of(self.words.give_back(&mut seat, hold.life.chunk, hold.place));
         (head, seat)
     }
 
@@ -110,9 +113,25 @@ impl<N: Name> ReaderHeads<N> {
         ensures same { total (differs result) (labels_in hold.old.part) ≡ 0 }
     {
         let mut seat = hold.seat_out();
-        let label = self.words.label_of(&mut seat, hold.life.chunk);
+        let label = self.words.label_of(&mut seat, hold.life.chunk, hold.place);
         hold.seat_in(seat);
         label
+    }
+
+    /// One of the chunk's further words, by one load: a number that was stored before the hold's life began. The hold is
+    /// whole, and its view keeps the word. It is each one of this number that this hold read before.
+    pub fn word_of(&self, hold: &mut Hold<N>, index: u32) -> u64
+        requires whole { IsSome hold.old.part }
+        requires index { index < N.table.slots }
+        ensures read { hold.new ≡ record hold.old { part = option_map (hold_after_word_load index result) hold.old.part } }
+        ensures same { total (differs result) (words_in index hold.old.part) ≡ 0 }
+    {
+        let mut seat = hold.seat_out();
+        let word = self
+            .words
+            .word_of(&mut seat, hold.life.chunk, hold.place, index);
+        hold.seat_in(seat);
+        word
     }
 
     /// Looks at the head of the item that the hold holds, by one load, and answers it: of the hold's life, and with a
@@ -127,7 +146,10 @@ impl<N: Name> ReaderHeads<N> {
         ensures fits { Fits result }
     {
         let mut seat = hold.seat_out();
-        let head = head_of(self.words.look_of_hold(&mut seat, hold.life.chunk));
+        let head = head_of(
+            self.words
+                .look_of_hold(&mut seat, hold.life.chunk, hold.place),
+        );
         hold.seat_in(seat);
         head
     }

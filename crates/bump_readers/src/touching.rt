@@ -6,6 +6,7 @@ ghost use Rattle.bump_rules.specs.Lives.{count_of};
 ghost use Rattle.bump_rules.specs.Rings.{most_attempts};
 ghost use Rattle.bump_rules.specs.Tables.{attempts_bump};
 ghost use Rattle.bump_word.specs.Words.{Fits};
+ghost use Rattle.bump_steps.specs.Places.{head_place};
 ghost use Rattle.bump_steps.specs.declared.views.HoldPart.{HoldPart as TheHoldPart};
 ghost use Rattle.bump_readers.specs.Seats.{held_life};
 ghost use Rattle.bump_steps.specs.Marks.{worker_after_fetch, worker_after_mark, worker_after_unmark};
@@ -49,7 +50,8 @@ impl<N: Name> ReaderHeads<N> {
     ///
     /// Where FETCHED was clear this is the first hit of the item: its life joins the worker's list of first hits,
     /// which had not named it. No life is named twice, whichever worker hits it.
-    pub fn mark_fetched(&self, worker: &mut WorkerSeat<N>, life: ItemId) -> Head
+    pub fn mark_fetched(&self, worker: &mut WorkerSeat<N>, life: ItemId, place: usize) -> Head
+        requires place { place ≡ head_place N.table.slots life.chunk }
         requires idle { worker.old.part.hand ≡ hand.Idle }
         requires held { held_life worker.old.hold ≡ Some life }
         ensures worker { worker.new ≡ record worker.old { part = worker_after_fetch life result worker.old.part } }
@@ -61,7 +63,7 @@ impl<N: Name> ReaderHeads<N> {
         ensures once { count_of life worker.new.part.hits ≤ 1 }
         ensures noted { 0 < fetches_of life worker.new.part }
     {
-        head_of(self.words.mark_fetched(&mut worker.seat, life.chunk))
+        head_of(self.words.mark_fetched(&mut worker.seat, life.chunk, place))
     }
 
     /// Sets ACTIVE (memcached's `ITEM_ACTIVE`, in `do_item_bump`) of the item that the joined hold holds, by one step
@@ -70,7 +72,8 @@ impl<N: Name> ReaderHeads<N> {
     ///
     /// Where ACTIVE was clear and the item in COLD the worker attempts a bump from then on: it tries to take a
     /// reference for it.
-    pub fn mark_active(&self, worker: &mut WorkerSeat<N>, life: ItemId) -> Head
+    pub fn mark_active(&self, worker: &mut WorkerSeat<N>, life: ItemId, place: usize) -> Head
+        requires place { place ≡ head_place N.table.slots life.chunk }
         requires idle { worker.old.part.hand ≡ hand.Idle }
         requires held { held_life worker.old.hold ≡ Some life }
         requires fetched { 0 < fetches_of life worker.old.part }
@@ -82,13 +85,14 @@ impl<N: Name> ReaderHeads<N> {
         ensures count { 0 < result.refs }
         ensures fetched { result.fetched ≡ true }
     {
-        head_of(self.words.mark_active(&mut worker.seat, life.chunk))
+        head_of(self.words.mark_active(&mut worker.seat, life.chunk, place))
     }
 
     /// Clears ACTIVE of the item that the joined hold holds (memcached's `do_item_bump`, where `lru_bump_async` found
     /// no room), by one step on its head word, and answers the head that the step found. FETCHED stays. The worker
     /// must have dropped a bump of the item; it is Idle from then on. So one more hit attempts the bump again.
-    pub fn unmark(&self, worker: &mut WorkerSeat<N>, life: ItemId) -> Head
+    pub fn unmark(&self, worker: &mut WorkerSeat<N>, life: ItemId, place: usize) -> Head
+        requires place { place ≡ head_place N.table.slots life.chunk }
         requires clearing { worker.old.part.hand ≡ hand.Clearing life }
         requires held { held_life worker.old.hold ≡ Some life }
         ensures worker { worker.new ≡ record worker.old { part = worker_after_unmark life result worker.old.part } }
@@ -98,15 +102,17 @@ impl<N: Name> ReaderHeads<N> {
         ensures count { 0 < result.refs }
         ensures fetched { 0 < fetches_of life worker.old.part → result.fetched ≡ true }
     {
-        head_of(self.words.unmark(&mut worker.seat, life.chunk))
+        head_of(self.words.unmark(&mut worker.seat, life.chunk, place))
     }
 
     /// Stores the time of the item that the joined hold holds (memcached's `it->time`, in `do_item_bump`), by one
     /// step on its time word: `now`, any number.
-    pub fn set_time(&self, worker: &mut WorkerSeat<N>, life: ItemId, now: u64)
+    pub fn set_time(&self, worker: &mut WorkerSeat<N>, life: ItemId, place: usize, now: u64)
+        requires place { place ≡ head_place N.table.slots life.chunk }
         requires held { held_life worker.old.hold ≡ Some life }
         ensures worker { worker.new ≡ record worker.old { part = worker_after_store_time life now worker.old.part } }
     {
-        self.words.set_time(&mut worker.seat, life.chunk, now);
+        self.words
+            .set_time(&mut worker.seat, life.chunk, place, now);
     }
 }

@@ -1,5 +1,5 @@
 -- Steps of an application: whatever the other seats have, a class's seat with a lane joined to it can go on.
-use Rattle.std.proofs.Common.{◌≡◌, ℕ, ◌+◌, ◌-◌, ◌*◌, ◌%◌, ◌^◌, ◌<◌, ◌≤◌, ◌≢◌, ◌&&◌, ◌==◌, eqb, cond, not, Bool, true, false, List, [], ◌∷◌, ◌++◌, Option, Some, None, refl, sym, ap, ap₂, ◌∙◌, subst, arith, eq-eqb, ne_eqb, eqb-true, bit_xor, bit_and, inl, inr}
+use Rattle.std.proofs.Common.{◌≡◌, ℕ, ◌+◌, ◌-◌, ◌%◌, ◌^◌, ◌<◌, ◌≤◌, ◌≢◌, ◌&&◌, ◌==◌, eqb, cond, not, Bool, true, false, List, [], ◌∷◌, ◌++◌, Option, Some, None, refl, sym, ap, ap₂, ◌∙◌, subst, arith, eq-eqb, ne_eqb, eqb-true, bit_xor, bit_and, inl, inr}
 use mathlib.Core.Bool.{false≢true}
 use mathlib.Core.Option.{none}
 use Rattle.atomic_table.specs.Table.{step, Allows}
@@ -29,9 +29,10 @@ use Rattle.bump_steps.specs.declared.views.ClassPart.{ClassPart}
 use Rattle.bump_steps.specs.declared.views.LanePart.{LanePart}
 use Rattle.bump_steps.specs.declared.views.Ride.{Ride}
 use Rattle.bump_steps.specs.declared.views.View.{View}
-use Rattle.bump_steps.specs.Views.{refers, bump_aboard, Measure, held, named, saw, owners, strays, mislabels, misreads, owns, standing, last_label, weight, evidence, shown_by, claims, claimed_in, settled_in, names_move, underway_in, names_outside, is_entry, outcome_number, Query, in_order, untidy_in, shows_time_only, of_owner, foreign_in, foreign, active_clear, IsBacked}
+use Rattle.bump_steps.specs.Views.{refers, bump_aboard, Measure, held, named, saw, owners, strays, mislabels, misreads, owns, standing, last_word, weight, evidence, shown_by, claims, claimed_in, settled_in, names_move, underway_in, names_outside, is_entry, outcome_number, Query, in_order, untidy_in, shows_time_only, of_owner, foreign_in, foreign, active_clear, IsBacked}
 use Rattle.bump_steps.specs.Rule.{Sound, chunks, Kept, HasFittingLimit, blank}
-use Rattle.bump_steps.specs.Plays.{Sat, Tells, on_chunk, step_of, Stands}
+use Rattle.bump_steps.specs.Places.{head_place}
+use Rattle.bump_steps.specs.Plays.{Sat, Tells, on_chunk, on_time, step_of, Stands}
 use Rattle.bump_steps.specs.Applications.{for_bump, for_first, stage_after_try, lane_after_try, view_after_try, try_tells, stage_after_clear_active, view_after_clear_active, clear_active_tells, noted_class, view_after_put_time, put_time_tells, move_tells, view_after_alight, alight_tells, entries_of_alight, application_of, applying, StandsIn, life_in, lane_after_clear_active, MayMove, is_past_move, Alights, MayAlight}
 use Rattle.bump_steps.specs.Lives.{alone}
 use Rattle.bump_rules.specs.declared.places.Segment.{Segment}
@@ -48,8 +49,8 @@ use Rattle.bump_rules.proofs.Updates.{total_push, total_append}
 use Rattle.bump_rules.proofs.Replay.{standing_push}
 use Rattle.bump_rules.proofs.Standings.{standing_same}
 use Rattle.bump_steps.proofs.LifeLabels.{have_on_first, noted_labels, named_labels, entered_labels}
-use Rattle.bump_steps.proofs.Frame.{Same, Amid, Reaches, on_time, same_sound}
-use Rattle.bump_steps.proofs.StepLemmas.{time_chunk_is, at_chunk, on_first_total, on_first_le, owned_push, same_counts, level, one_life, other_life, other_chunk}
+use Rattle.bump_steps.proofs.Frame.{Same, Amid, Reaches, same_sound}
+use Rattle.bump_steps.proofs.StepLemmas.{at_time, at_chunk, on_first_total, on_first_le, owned_push, same_counts, level, one_life, other_life, other_chunk}
 
 -- ---- looking at the head of the bump's item
 
@@ -77,8 +78,8 @@ try_same c n v b (named j) = refl
 try_same c n v b (saw j) = refl
 try_same c n v b owners = refl
 try_same c n v b (strays s) = refl
-try_same c n v b (mislabels x) = refl
-try_same c n v b (misreads j x) = refl
+try_same c n v b (mislabels i x) = refl
+try_same c n v b (misreads i j x) = refl
 
 cond_is : (b : Bool) (p q : ℕ) → p ≡ q → cond b p 0 ≡ cond b q 0
 cond_is b p q e = ap (λ (n : ℕ). cond b n 0) e
@@ -147,9 +148,9 @@ module _ (c n : ℕ) (v : View) where
       (λ k. refl) v.classes
   clear_active_same b (strays s) = on_first_total (λ k. cond (owns b k && not (is_standing (standing k b) s)) 1 0)
       (noted_class kind.ClearActive c n v.lanes) (λ k. refl) v.classes
-  clear_active_same b (mislabels x) = on_first_total (λ k. cond (owns b k && not (eqb (last_label k b) x)) 1 0)
+  clear_active_same b (mislabels i x) = on_first_total (λ k. cond (owns b k && not (eqb (last_word i k b) x)) 1 0)
       (noted_class kind.ClearActive c n v.lanes) (λ k. refl) v.classes
-  clear_active_same b (misreads j x) = refl
+  clear_active_same b (misreads i j x) = refl
 
   clear_active_backed : IsBacked v (view_after_clear_active c n v)
   clear_active_backed = record {
@@ -212,9 +213,9 @@ module _ (c n : ℕ) (v : View) where
       (λ k. refl) v.classes
   put_time_same b (strays s) = on_first_total (λ k. cond (owns b k && not (is_standing (standing k b) s)) 1 0)
       (noted_class kind.PutTime c n v.lanes) (λ k. refl) v.classes
-  put_time_same b (mislabels x) = on_first_total (λ k. cond (owns b k && not (eqb (last_label k b) x)) 1 0)
+  put_time_same b (mislabels i x) = on_first_total (λ k. cond (owns b k && not (eqb (last_word i k b) x)) 1 0)
       (noted_class kind.PutTime c n v.lanes) (λ k. refl) v.classes
-  put_time_same b (misreads j x) = refl
+  put_time_same b (misreads i j x) = refl
 
   put_time_backed : IsBacked v (view_after_put_time c n v)
   put_time_backed = record {
@@ -251,8 +252,8 @@ module _ (c n : ℕ) (v : View) where
           (step_of kind.PutTime c n (for_first v.lanes))) v.classes in omega arith
 
 module _ (key : Config) (slots id : ℕ) (m : Sat) (c : ℕ) (near : c < chunks key) where
-  pub may_try : Allows (Kept key) slots id m (3 * c + 9) (λ n. n)
-      (on_chunk try_tells (step slots (3 * c + 9) 0 0 none) m)
+  pub may_try : Allows (Kept key) slots id m (head_place slots c) (λ n. n)
+      (on_chunk try_tells (step slots (head_place slots c) 0 0 none) m)
   may_try = at_chunk try_tells key slots id m c 0 (λ n. n) near (λ n x t limits o a. (
     view_after_try c n m.0,
     (λ u moved. same_sound key.refs_limit n x t u
@@ -262,8 +263,8 @@ module _ (key : Config) (slots id : ℕ) (m : Sat) (c : ℕ) (near : c < chunks 
     (refl, (o.head, o.spells, tells c key.refs_limit n x m.0 t o a)),
   ))
 
-  pub may_clear_active : Allows (Kept key) slots id m (3 * c + 9) (λ n. bit_and n (2 ^ 64 - 1 - 2 ^ active_first))
-      (on_chunk clear_active_tells (step slots (3 * c + 9) (2 ^ 64 - 1 - 2 ^ active_first) 0 none) m)
+  pub may_clear_active : Allows (Kept key) slots id m (head_place slots c) (λ n. bit_and n (2 ^ 64 - 1 - 2 ^ active_first))
+      (on_chunk clear_active_tells (step slots (head_place slots c) (2 ^ 64 - 1 - 2 ^ active_first) 0 none) m)
   may_clear_active = at_chunk clear_active_tells key slots id m c (2 ^ 64 - 1 - 2 ^ active_first)
       (λ n. bit_and n (2 ^ 64 - 1 - 2 ^ active_first)) near (λ n x t limits o a. (
         view_after_clear_active c n m.0,
@@ -285,11 +286,9 @@ module _ (key : Config) (slots id : ℕ) (m : Sat) (c : ℕ) (near : c < chunks 
         (refl, refl, (o.head, o.spells, tells c key.refs_limit n x m.0 t o a)),
       ))
 
-  pub may_put_time : (now : ℕ) → Allows (Kept key) slots id m (3 * c + 10) (λ _. now)
-      (λ _. put_time_tells (step slots (3 * c + 10) now 0 none) m now)
-  may_put_time now = subst (λ (d : ℕ). Allows (Kept key) slots id m (3 * c + 10) (λ _. now)
-      (λ _ w. w ≡ (view_after_put_time d now m.0, m.1))) (sym (time_chunk_is c))
-      (on_time key slots id m c (λ _. now) (λ _ w. w ≡ (view_after_put_time c now m.0, m.1)) near
+  pub may_put_time : (now : ℕ) → Allows (Kept key) slots id m (head_place slots c + 1) (λ _. now)
+      (λ _. on_time put_time_tells (step slots (head_place slots c + 1) now 0 none) m now)
+  may_put_time now = at_time put_time_tells key slots id m c now (λ _. now) (λ _. now) near
       (λ y n x t limits o a. (
         view_after_put_time c now m.0,
         (λ u moves. same_sound key.refs_limit n x t u
@@ -297,7 +296,7 @@ module _ (key : Config) (slots id : ℕ) (m : Sat) (c : ℕ) (near : c < chunks 
         (λ b ne. put_time_same c now m.0 b),
         put_time_backed c now m.0,
         refl,
-      )))
+      ))
 
 -- ---- moves: a class's part gets an entry, and the lanes that are joined keep their references
 
@@ -361,13 +360,13 @@ module _ (c : ℕ) (k : ClassPart) (own : owns c k ≡ true) (l : ItemId) (of : 
     move_apart d ne owners = refl
     move_apart d ne (strays s) = ap (λ (at : Standing). bit (owns d k && not (is_standing at s)) + 0)
         (move_stands d ne)
-    move_apart d ne (mislabels z) = refl
-    move_apart d ne (misreads j z) = refl
+    move_apart d ne (mislabels i z) = refl
+    move_apart d ne (misreads i j z) = refl
 
     no_stray : weight c (strays to_be) went ≡ 0
     no_stray = ap₂ (λ (o same : Bool). bit (o && not same) + 0) own (standing_same _ _ move_stands_here)
 
-    move_sound : (limit p label : ℕ) (t u : Measure → ℕ) → Amid c stood t
+    move_sound : (limit p : ℕ) (label : ℕ → ℕ) (t u : Measure → ℕ) → Amid c stood t
         → ((y : Measure) → u y + weight c y stood ≡ t y + weight c y went) → (o : Sound limit p label t) → (n : ℕ)
         → Spells n (record o.head { segment = to }) → o.head.generation ≡ l.generation → o.head.linked ≡ true
         → Sound limit n label u
@@ -385,8 +384,8 @@ module _ (c : ℕ) (k : ClassPart) (own : owns c k ≡ true) (l : ItemId) (of : 
       owned = omega (arith, adds owners, o.owned);
       agreed = subst (λ (g : ℕ). u (strays (place_of to, g)) ≡ 0) (sym gen)
           (omega (arith, adds (strays to_be), no_stray, a.others to_be, a.mine owners, o.owned, ap bit own));
-      labelled = omega (arith, adds (mislabels label), o.labelled);
-      read = omega (arith, adds (misreads o.head.generation label), o.read);
+      labelled = λ i. omega (arith, adds (mislabels i (label i)), o.labelled i);
+      read = λ i. omega (arith, adds (misreads i o.head.generation (label i)), o.read i);
       hit = λ j some. omega (arith, adds (named j), o.hit j (omega (arith, some, adds (saw j))));
     }
       where
@@ -436,9 +435,9 @@ module _ (c : ℕ) (k : ClassPart) (own : owns c k ≡ true) (l : ItemId) (of : 
     module _ (key : Config) (slots id : ℕ) (near : c < chunks key) (sl : List (ℕ × Empty)) where
       -- the seat of the class can go on so, where the move is of the life that the chunk has, and evens out
       move_goes : (tells : Tells) (x : ℕ) (at : Standing) → standing k c ≡ at → at.0 ≡ place_of from
-          → ((n y : ℕ) (t : Measure → ℕ) (o : Sound key.refs_limit n y t) → Amid c stood t → o.head.generation ≡ at.1
+          → ((n : ℕ) (y : ℕ → ℕ) (t : Measure → ℕ) (o : Sound key.refs_limit n y t) → Amid c stood t → o.head.generation ≡ at.1
           → l.generation ≡ at.1) → IsBacked stood went
-          → (n y : ℕ) (t : Measure → ℕ) → HasFittingLimit key → (o : Sound key.refs_limit n y t) → Amid c stood t
+          → (n : ℕ) (y : ℕ → ℕ) (t : Measure → ℕ) → HasFittingLimit key → (o : Sound key.refs_limit n y t) → Amid c stood t
           → tells c x (stood, sl) n (went, sl)
           → Reaches key c (stood, sl) (tells c x (stood, sl) n) (bit_xor n (segment_change from to)) y t
       move_goes say x at st place same_life back n y t limits o a told =
@@ -460,8 +459,8 @@ module _ (c : ℕ) (k : ClassPart) (own : owns c k ≡ true) (l : ItemId) (of : 
 module _ (key : Config) (slots id c : ℕ) (near : c < chunks key) (k : ClassPart) (from to : Segment)
     (st : StandsIn from c k) (sl : List (ℕ × Empty)) where
   -- a pull's
-  pub moves_by_pull : (x : ℕ) → Allows (Kept key) slots id (alone k, sl) (3 * c + 9)
-      (λ n. bit_xor n (segment_change from to)) (on_chunk (move_tells from to) (step slots (3 * c + 9) x 0 none)
+  pub moves_by_pull : (x : ℕ) → Allows (Kept key) slots id (alone k, sl) (head_place slots c)
+      (λ n. bit_xor n (segment_change from to)) (on_chunk (move_tells from to) (step slots (head_place slots c) x 0 none)
       (alone k, sl))
   moves_by_pull x = at_chunk (move_tells from to) key slots id (alone k, sl) c x
       (λ n. bit_xor n (segment_change from to)) near (λ n y t limits o a.
@@ -497,8 +496,8 @@ module _ (key : Config) (slots id c : ℕ) (near : c < chunks key) (k : ClassPar
   -- that of the bump aboard
   pub moves_for_bump : (l : LanePart) (b : Bump) → k.applying ≡ None → b.life.chunk ≡ c → from ≡ Cold → to ≡ Warm
       → (x : ℕ)
-      → Allows (Kept key) slots id (applying k (record l { stage = lane.Cleared b true }), sl) (3 * c + 9)
-      (λ n. bit_xor n (segment_change from to)) (on_chunk (move_tells from to) (step slots (3 * c + 9) x 0 none)
+      → Allows (Kept key) slots id (applying k (record l { stage = lane.Cleared b true }), sl) (head_place slots c)
+      (λ n. bit_xor n (segment_change from to)) (on_chunk (move_tells from to) (step slots (head_place slots c) x 0 none)
       (applying k (record l { stage = lane.Cleared b true }), sl))
   moves_for_bump l b none_named of is_cold is_warm x = at_chunk (move_tells from to) key slots id
       (applying k (record l { stage = lane.Cleared b true }), sl) c x (λ n. bit_xor n (segment_change from to)) near
@@ -568,17 +567,17 @@ module _ (key : Config) (slots id c : ℕ) (near : c < chunks key) (k : ClassPar
 
 -- for the contract
 pub may_move : (key : Config) (slots id c x : ℕ) (from to : Segment) (m : Sat) → c < chunks key
-    → MayMove from to c m.0 → Allows (Kept key) slots id m (3 * c + 9) (λ n. bit_xor n (segment_change from to))
-    (on_chunk (move_tells from to) (step slots (3 * c + 9) x 0 none) m)
+    → MayMove from to c m.0 → Allows (Kept key) slots id m (head_place slots c) (λ n. bit_xor n (segment_change from to))
+    (on_chunk (move_tells from to) (step slots (head_place slots c) x 0 none) m)
 may_move key slots id c x from to m near (inl (k, p)) =
-    subst (λ (v : View). Allows (Kept key) slots id (v, m.1) (3 * c + 9) (λ n. bit_xor n (segment_change from to))
-    (on_chunk (move_tells from to) (step slots (3 * c + 9) x 0 none) (v, m.1))) (sym p.view)
+    subst (λ (v : View). Allows (Kept key) slots id (v, m.1) (head_place slots c) (λ n. bit_xor n (segment_change from to))
+    (on_chunk (move_tells from to) (step slots (head_place slots c) x 0 none) (v, m.1))) (sym p.view)
     (moves_by_pull key slots id c near k from to p.stands m.1 x)
 may_move key slots id c x from to m near (inr (k, l, b, g)) = let is : m.0 ≡ applying k
     (record l { stage = lane.Cleared b true }) = g.view ∙ ap (λ (s : Lane). applying k (record l { stage = s }))
     g.stage in
-    subst (λ (v : View). Allows (Kept key) slots id (v, m.1) (3 * c + 9) (λ n. bit_xor n (segment_change from to))
-    (on_chunk (move_tells from to) (step slots (3 * c + 9) x 0 none) (v, m.1))) (sym is)
+    subst (λ (v : View). Allows (Kept key) slots id (v, m.1) (head_place slots c) (λ n. bit_xor n (segment_change from to))
+    (on_chunk (move_tells from to) (step slots (head_place slots c) x 0 none) (v, m.1))) (sym is)
     (moves_for_bump key slots id c near k from to g.stands m.1 l b g.named g.chunk g.from_cold g.to_warm x)
 
 -- ---- the end of a bump
@@ -690,8 +689,8 @@ module _ (key : Config) (slots id : ℕ) (k : ClassPart) (l : LanePart) (b : Bum
     alight_apart d ne (saw j) = refl
     alight_apart d ne owners = refl
     alight_apart d ne (strays s) = refl
-    alight_apart d ne (mislabels y) = refl
-    alight_apart d ne (misreads j y) = refl
+    alight_apart d ne (mislabels i y) = refl
+    alight_apart d ne (misreads i j y) = refl
 
     more_evidence : (wk : ℕ) (e : AppliedBump) (o : Outcome) → shown_by o wk e (applying k l) ≤ shown_by o wk e
         (view_after_alight out b.life.chunk n (applying k l))
@@ -756,8 +755,8 @@ module _ (key : Config) (slots id : ℕ) (k : ClassPart) (l : LanePart) (b : Bum
             (omega (arith, proof, more_evidence l.worker (applied_bump b out) out))
 
   pub alights : (x : ℕ) → 0 < evidence l.worker (applied_bump b out) (applying k l) → Allows (Kept key) slots id
-      (applying k l, sl) (3 * b.life.chunk + 9) (λ n. (n + (2 ^ 64 - 1)) % 2 ^ 64)
-      (on_chunk (alight_tells out) (step slots (3 * b.life.chunk + 9) x 0 none) (applying k l, sl))
+      (applying k l, sl) (head_place slots b.life.chunk) (λ n. (n + (2 ^ 64 - 1)) % 2 ^ 64)
+      (on_chunk (alight_tells out) (step slots (head_place slots b.life.chunk) x 0 none) (applying k l, sl))
   alights x proof = at_chunk (alight_tells out) key slots id (applying k l, sl) b.life.chunk x
       (λ n. (n + (2 ^ 64 - 1)) % 2 ^ 64) near (λ n label t limits o a.
       let g : ℕ = b.life.generation in
@@ -778,8 +777,8 @@ module _ (key : Config) (slots id : ℕ) (k : ClassPart) (l : LanePart) (b : Bum
               (λ j ne. omega (arith, moves (held j), refers_is c j, other_life b.life j (λ q. ne (q ∙ gen)))));
           owned = omega (arith, moves owners, o.owned);
           agreed = omega (arith, moves (strays (o.at, o.head.generation)), o.agreed);
-          labelled = omega (arith, moves (mislabels label), o.labelled);
-          read = omega (arith, moves (misreads o.head.generation label), o.read);
+          labelled = λ i. omega (arith, moves (mislabels i (label i)), o.labelled i);
+          read = λ i. omega (arith, moves (misreads i o.head.generation (label i)), o.read i);
           hit = λ j some. omega (arith, moves (named j), o.hit j (omega (arith, some, moves (saw j))));
         }),
         (λ d ne. alight_apart n d ne),
@@ -789,10 +788,10 @@ module _ (key : Config) (slots id : ℕ) (k : ClassPart) (l : LanePart) (b : Bum
 
 -- for the contract
 pub may_alight : (key : Config) (slots id c x : ℕ) (out : Outcome) (m : Sat) → c < chunks key → MayAlight c out m.0
-    → Allows (Kept key) slots id m (3 * c + 9) (λ n. (n + (2 ^ 64 - 1)) % 2 ^ 64)
-    (on_chunk (alight_tells out) (step slots (3 * c + 9) x 0 none) m)
+    → Allows (Kept key) slots id m (head_place slots c) (λ n. (n + (2 ^ 64 - 1)) % 2 ^ 64)
+    (on_chunk (alight_tells out) (step slots (head_place slots c) x 0 none) m)
 may_alight key slots id c x out m near may = let k : ClassPart = may.0 in let l : LanePart = may.1 in let b : Bump =
     may.2 in let g : Alights c out m.0 k l b = may.3 in
-    subst (λ (y : ℕ × View). Allows (Kept key) slots id (y.1, m.1) (3 * y.0 + 9) (λ n. (n + (2 ^ 64 - 1)) % 2 ^ 64)
-    (on_chunk (alight_tells out) (step slots (3 * y.0 + 9) x 0 none) (y.1, m.1))) (λ i. (g.chunk i, sym g.view i))
+    subst (λ (y : ℕ × View). Allows (Kept key) slots id (y.1, m.1) (head_place slots y.0) (λ n. (n + (2 ^ 64 - 1)) % 2 ^ 64)
+    (on_chunk (alight_tells out) (step slots (head_place slots y.0) x 0 none) (y.1, m.1))) (λ i. (g.chunk i, sym g.view i))
     (alights key slots id k l b out (omega (arith, g.chunk)) m.1 g.aboard g.past g.named x g.proof)

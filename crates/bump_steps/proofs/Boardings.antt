@@ -36,8 +36,8 @@ module _ (l : LanePart) (r : Ride) where
   even c (saw g) = refl
   even c owners = refl
   even c (strays s) = refl
-  even c (mislabels x) = refl
-  even c (misreads g x) = refl
+  even c (mislabels i x) = refl
+  even c (misreads i g x) = refl
 
   same_evidence : (n : ℕ) (a : AppliedBump) (o : Outcome) → shown_by o n a (board_both waiting riding) + shown_by o n
       a blank ≡ shown_by o n a waiting + shown_by o n a riding

@@ -1,5 +1,5 @@
 -- Steps of a class's seat alone that add an entry to its history: whatever the other seats have, it can go on.
-use Rattle.std.proofs.Common.{◌≡◌, ℕ, ◌+◌, ◌-◌, ◌*◌, ◌/◌, ◌%◌, ◌^◌, ◌<◌, ◌≤◌, ◌≢◌, ◌&&◌, ◌==◌, eqb, cond, not, Bool, true, false, List, [], ◌∷◌, ◌++◌, None, if◌then◌else◌, refl, sym, ap, ap₂, ◌∙◌, subst, arith, eq-eqb, ne_eqb, eqb-true}
+use Rattle.std.proofs.Common.{◌≡◌, ℕ, ◌+◌, ◌-◌, ◌/◌, ◌%◌, ◌^◌, ◌<◌, ◌≤◌, ◌≢◌, ◌&&◌, ◌==◌, eqb, cond, not, Bool, true, false, List, [], ◌∷◌, ◌++◌, None, if◌then◌else◌, refl, sym, ap, ap₂, ◌∙◌, subst, arith, eq-eqb, ne_eqb, eqb-true}
 use mathlib.Core.Bool.{false≢true}
 use mathlib.Core.Option.{none}
 use mathlib.Core.Logic.{dite}
@@ -36,34 +36,37 @@ use Rattle.bump_rules.proofs.Standings.{standing_same}
 use Rattle.bump_rules.proofs.ToldMoves.{no_move}
 use Rattle.bump_rules.proofs.Updates.{total_push}
 use Rattle.bump_word.specs.Layout.{refs_width, linked_first, generation_first, generation_width}
-use Rattle.bump_word.specs.Words.{Spells, word_of, number_of, segment_bits}
+use Rattle.bump_word.specs.Words.{Spells, word_of, number_of}
 use Rattle.bump_word.proofs.Steps.{unlink}
 use Rattle.bump_word.proofs.Words.{fields}
 use Rattle.bump_steps.specs.declared.views.Empty.{Empty}
 use Rattle.bump_steps.specs.declared.views.Kind.TheVariants as kind
 use Rattle.bump_steps.specs.declared.views.OwnStep.{OwnStep}
+use Rattle.bump_steps.specs.declared.views.WordStep.{WordStep}
+use Rattle.bump_steps.specs.declared.views.WordStep.TheVariants.{Begun}
 use Rattle.bump_steps.specs.declared.views.ClassPart.{ClassPart}
 use Rattle.bump_steps.specs.declared.views.View.{View}
-use Rattle.bump_steps.specs.Views.{Measure, held, named, saw, owners, strays, mislabels, misreads, owns, standing, last_label, weight, shown_by, shows_time_only, HasLabels, IsBacked}
+use Rattle.bump_steps.specs.Views.{Measure, held, named, saw, owners, strays, mislabels, misreads, owns, standing, labels_of, last_word, weight, shown_by, shows_time_only, HasLabels, IsBacked}
 use Rattle.bump_steps.specs.Rule.{Sound, chunks, Kept}
+use Rattle.bump_steps.specs.Places.{head_place}
 use Rattle.bump_steps.specs.Plays.{Sat, on_chunk, step_of, Stands}
 use Rattle.bump_steps.specs.Lives.{alone, class_after_load, class_after_link, class_after_sweep, IsInSegment, IsLinked, IsDying, MayLink, on_class, start_in, link_tells, unlink_tells, sweep_or_load_tells}
 use Rattle.bump_steps.specs.Lives as lives
-use Rattle.bump_steps.proofs.Frame.{Same, Amid, Reaches, on_head, same_sound}
-use Rattle.bump_steps.proofs.LabelLists.{word_linked}
+use Rattle.bump_steps.proofs.Frame.{Same, Amid, Reaches, same_sound}
+use Rattle.bump_steps.proofs.LabelLists.{word_linked, labels_begun}
 use Rattle.bump_steps.proofs.LifeLabels.{entered_labels, link_labels}
 use Rattle.bump_steps.proofs.Looking.{look_same, look_backed}
-use Rattle.bump_steps.proofs.StepLemmas.{chunk_is, at_chunk, owned_push, same_counts}
+use Rattle.bump_steps.proofs.StepLemmas.{at_chunk_by, at_chunk, owned_push, same_counts}
 use Rattle.bump_steps.proofs.Told.{at_standing, tells, stands_alone}
 
 -- ---- An entry of a chunk of the class that names no bump, and labels that leave all words.
 
-module _ (c : ℕ) (k : ClassPart) (own : owns c k ≡ true) (e : Change) (ls : List LabelStep) (x : OwnStep)
+module _ (c : ℕ) (k : ClassPart) (own : owns c k ≡ true) (e : Change) (ls : List LabelStep) (ws : List WordStep) (x : OwnStep)
     (of : (subject e).chunk ≡ c) (quiet : names_bump e ≡ false)
-    (same_labels : (b : ℕ) → label_word b 0 ls ≡ last_label k b) where
+    (same_labels : (i b : ℕ) → label_word b 0 (labels_of i ls ws) ≡ last_word i k b) where
   -- the view after it
   abbrev pub entering : View
-  entering = alone (record k { history = k.history ++ e ∷ []; labels = ls; steps = k.steps ++ x ∷ [] })
+  entering = alone (record k { history = k.history ++ e ∷ []; labels = ls; words = ws; steps = k.steps ++ x ∷ [] })
 
   -- where it leaves the chunk
   abbrev pub to_be : Standing
@@ -79,8 +82,8 @@ module _ (c : ℕ) (k : ClassPart) (own : owns c k ≡ true) (e : Change) (ls : 
       (standing_push b (Unused, k.fresh) k.history e
       ∙ ap (λ o. cond o (target e, (subject e).generation) (standing k b))
       (ne_eqb (subject e).chunk b (λ q. ne (sym q ∙ of))))
-  enter_apart b ne (mislabels z) = ap (λ (l : ℕ). bit (owns b k && not (eqb l z)) + 0) (same_labels b)
-  enter_apart b ne (misreads j z) = refl
+  enter_apart b ne (mislabels i z) = ap (λ (l : ℕ). bit (owns b k && not (eqb l z)) + 0) (same_labels i b)
+  enter_apart b ne (misreads i j z) = refl
 
   -- this one stands where the entry says
   no_stray : weight c (strays to_be) entering ≡ 0
@@ -90,7 +93,7 @@ module _ (c : ℕ) (k : ClassPart) (own : owns c k ≡ true) (e : Change) (ls : 
 
   -- the entry shows what was shown, and no move
   pub enter_backed : (HasLabels k
-      → HasLabels (record k { history = k.history ++ e ∷ []; labels = ls; steps = k.steps ++ x ∷ [] }))
+      → HasLabels (record k { history = k.history ++ e ∷ []; labels = ls; words = ws; steps = k.steps ++ x ∷ [] }))
       → IsBacked (alone k) entering
   enter_backed keeps = record {
     backs = λ wk d. (by wk d d.outcome, λ more. absurd (omega arith));
@@ -113,7 +116,7 @@ module _ (c : ℕ) (k : ClassPart) (own : owns c k ≡ true) (e : Change) (ls : 
   }
     where
       by : (wk : ℕ) (d : AppliedBump) (o : Outcome) → shown_by o wk d (alone k) ≤ shown_by o wk d
-          (alone (record k { history = k.history ++ e ∷ []; labels = ls; steps = k.steps ++ x ∷ [] }))
+          (alone (record k { history = k.history ++ e ∷ []; labels = ls; words = ws; steps = k.steps ++ x ∷ [] }))
       by wk d outcome.Moved = omega (
         arith,
         owned_push (owns d.life.chunk k) (λ z. bit (is_move_for (is_same d.life) wk d.number z)) k.history
@@ -132,10 +135,10 @@ module _ (c : ℕ) (k : ClassPart) (own : owns c k ≡ true) (e : Change) (ls : 
           )
 
   -- the chunk is sound with a head that is lawful there
-  pub enter_sound : (limit n p label : ℕ) (t u : Measure → ℕ) → Amid c (alone k) t
+  pub enter_sound : (limit n p : ℕ) (label : ℕ → ℕ) (t u : Measure → ℕ) → Amid c (alone k) t
       → ((y : Measure) → u y + weight c y (alone k) ≡ t y + weight c y entering) → (o : Sound limit n label t)
       (to : Head) → Spells p to → to.generation ≡ (subject e).generation
-      → t (misreads to.generation label) ≡ 0 → Lawful limit to (target e) (λ g. t (held g)) (λ g. t (named g))
+      → ((i : ℕ) → t (misreads i to.generation (label i)) ≡ 0) → Lawful limit to (target e) (λ g. t (held g)) (λ g. t (named g))
       → Sound limit p label u
   enter_sound limit n p label t u a moves o to spells gen read lawful = record {
     head = to;
@@ -146,14 +149,14 @@ module _ (c : ℕ) (k : ClassPart) (own : owns c k ≡ true) (e : Change) (ls : 
     owned = omega (arith, moves owners, o.owned);
     agreed = subst (λ (g : ℕ). u (strays (target e, g)) ≡ 0) (sym gen)
         (omega (arith, moves (strays to_be), no_stray, a.others to_be, a.mine owners, o.owned, ap bit own));
-    labelled = omega (
+    labelled = λ i. omega (
       arith,
-      moves (mislabels label),
-      ap (λ (l : ℕ). bit (owns c k && not (eqb l label)))
-          (same_labels c),
-      o.labelled,
+      moves (mislabels i (label i)),
+      ap (λ (l : ℕ). bit (owns c k && not (eqb l (label i))))
+          (same_labels i c),
+      o.labelled i,
     );
-    read = omega (arith, moves (misreads to.generation label), read);
+    read = λ i. omega (arith, moves (misreads i to.generation (label i)), read i);
     hit = λ j some. omega (arith, moves (named j), o.hit j (omega (arith, some, moves (saw j))));
   }
 
@@ -232,14 +235,10 @@ module _ (key : Config) (slots id c : ℕ) (near : c < chunks key) (sl : List (�
   -- the head of a new life is stored
   pub links : (a : Start) (new : ℕ) → (standing k c).0 ≡ Unused
       → new ≡ word_of (linked_head a ((standing k c).1 + 1))
-      → Allows (Kept key) slots id (alone k, sl) (3 * c + 9) (λ _. new)
-      (λ _. link_tells (step slots (3 * c + 9) new 0 none) (alone k, sl) new)
+      → Allows (Kept key) slots id (alone k, sl) (head_place slots c) (λ _. new)
+      (λ _. on_chunk link_tells (step slots (head_place slots c) new 0 none) (alone k, sl) new)
   links b new unused is = let begins : Start = start_in new in
-      subst (λ (d : ℕ). Allows (Kept key) slots id (alone k, sl) (3 * c + 9) (λ _. new)
-      (λ _ w. w ≡ (on_class (class_after_link begins d (new / 2 ^ generation_first) new) (alone k), sl)))
-      (sym (chunk_is c))
-      (on_head key slots id (alone k, sl) c (λ _. new)
-      (λ _ w. w ≡ (on_class (class_after_link begins c (new / 2 ^ generation_first) new) (alone k), sl)) near
+      at_chunk_by link_tells key slots id (alone k, sl) c new (λ _. new) (λ _. new) near
       (λ n label t limits o a.
       let at = at_standing c key.refs_limit n label (alone k) t o a (Unused, (standing k c).1)
       (stands_at Unused unused) in
@@ -258,26 +257,29 @@ module _ (key : Config) (slots id c : ℕ) (near : c < chunks key) (sl : List (�
       begun_target begins l ∙ ap (λ (d : Start). place_of (first_segment d))
       (starts b new (o.head.generation + 1) spells) in
       let ls : List LabelStep = k.labels ++ Linked l ∷ [] in
-      let same : ((d : ℕ) → label_word d 0 ls ≡ last_label k d) = λ d. word_linked d 0 k.labels l in
+      let ws : List WordStep = k.words ++ Begun l ∷ [] in
+      let same : ((i d : ℕ) → label_word d 0 (labels_of i ls ws) ≡ last_word i k d) =
+      λ i d. ap (λ (z : List LabelStep). label_word d 0 z) (labels_begun i k.labels k.words l)
+      ∙ word_linked d 0 (labels_of i k.labels k.words) l in
       let x : OwnStep = step_of kind.Link c new None in (
         on_class (class_after_link begins c (new / 2 ^ generation_first) new) (alone k),
-        (λ u moves. enter_sound c k own e ls x own_chunk (begun_quiet begins l) same key.refs_limit n new label t u a
+        (λ u moves. enter_sound c k own e ls ws x own_chunk (begun_quiet begins l) same key.refs_limit n new label t u a
             moves o h spells (here ∙ sym (ap (λ (j : ItemId). j.generation) of))
-            (a.readers (o.head.generation + 1) label
+            (λ i. a.readers i (o.head.generation + 1) (label i)
             (none_where_free key.refs_limit o.head o.at (λ g. t (held g)) (λ g. t (named g)) o.lawful
             (ap IsUsed place) (o.head.generation + 1)))
             (subst (λ (p : Place). Lawful key.refs_limit h p (λ g. t (held g)) (λ g. t (named g))) (sym in_place)
             (born key.refs_limit o.head o.at (λ g. t (held g)) (λ g. t (named g)) o.lawful b place limits.0))),
-        enter_apart c k own e ls x own_chunk (begun_quiet begins l) same,
-        enter_backed c k own e ls x own_chunk (begun_quiet begins l) same
+        enter_apart c k own e ls ws x own_chunk (begun_quiet begins l) same,
+        enter_backed c k own e ls ws x own_chunk (begun_quiet begins l) same
             (λ p. link_labels begins c (new / 2 ^ generation_first) new k p (sym here ∙ ap (λ (g : ℕ). g + 1) gen)),
         refl,
-      )))
+      ))
 
   -- LINKED and its reference are subtracted
-  pub unlinks : IsInSegment (standing k c).0 → Allows (Kept key) slots id (alone k, sl) (3 * c + 9)
+  pub unlinks : IsInSegment (standing k c).0 → Allows (Kept key) slots id (alone k, sl) (head_place slots c)
       (λ n. (n + (2 ^ 64 - (2 ^ linked_first + 1))) % 2 ^ 64)
-      (on_chunk unlink_tells (step slots (3 * c + 9) (2 ^ linked_first + 1) 0 none) (alone k, sl))
+      (on_chunk unlink_tells (step slots (head_place slots c) (2 ^ linked_first + 1) 0 none) (alone k, sl))
   unlinks in_it = at_chunk unlink_tells key slots id (alone k, sl) c (2 ^ linked_first + 1)
       (λ n. (n + (2 ^ 64 - (2 ^ linked_first + 1))) % 2 ^ 64) near (λ n label t limits o a.
       let at = at_standing c key.refs_limit n label (alone k) t o a (standing k c)
@@ -289,23 +291,23 @@ module _ (key : Config) (slots id c : ℕ) (near : c < chunks key) (sl : List (�
       let e : Change = change.Unlinked (life c (standing k c).1) in
       let x : OwnStep = step_of kind.Unlink c n None in (
         on_class (lives.class_after_unlink c n) (alone k),
-        (λ u moves. enter_sound c k own e k.labels x refl refl (λ b. refl) key.refs_limit n
+        (λ u moves. enter_sound c k own e k.labels k.words x refl refl (λ i b. refl) key.refs_limit n
             ((n + (2 ^ 64 - (2 ^ linked_first + 1))) % 2 ^ 64) label t u a moves o (unlinked_head o.head)
             (unlink n o.head o.spells (on, omega (arith, many, ap bit on))) gen o.read
             (unlinked key.refs_limit o.head o.at (λ g. t (held g)) (λ g. t (named g)) o.lawful on)),
-        enter_apart c k own e k.labels x refl refl (λ b. refl),
-        enter_backed c k own e k.labels x refl refl (λ b. refl)
+        enter_apart c k own e k.labels k.words x refl refl (λ i b. refl),
+        enter_backed c k own e k.labels k.words x refl refl (λ i b. refl)
             (λ p. entered_labels k e (k.steps ++ x ∷ []) p refl (λ used. used_in_place (standing k c).0 in_it)),
         (refl, (o.head, o.spells, (tells c key.refs_limit n label (alone k) t o a, many))),
       ))
 
   -- a DYING chunk is looked at, and freed where no reference is found
-  pub sweeps : (standing k c).0 ≡ Dying → Allows (Kept key) slots id (alone k, sl) (3 * c + 9) (λ n. n)
-      (on_chunk sweep_or_load_tells (step slots (3 * c + 9) 0 0 none) (alone k, sl))
+  pub sweeps : (standing k c).0 ≡ Dying → Allows (Kept key) slots id (alone k, sl) (head_place slots c) (λ n. n)
+      (on_chunk sweep_or_load_tells (step slots (head_place slots c) 0 0 none) (alone k, sl))
   sweeps dying = at_chunk sweep_or_load_tells key slots id (alone k, sl) c 0 (λ n. n) near
       (λ n label t limits o a. by n label t o a (n % 2 ^ refs_width == 0) refl)
     where
-      by : (n label : ℕ) (t : Measure → ℕ) (o : Sound key.refs_limit n label t) → Amid c (alone k) t → (b : Bool)
+      by : (n : ℕ) (label : ℕ → ℕ) (t : Measure → ℕ) (o : Sound key.refs_limit n label t) → Amid c (alone k) t → (b : Bool)
           → (n % 2 ^ refs_width == 0) ≡ b → Reaches key c (alone k, sl) (sweep_or_load_tells c 0 (alone k, sl) n) n
           label t
       by n label t o a false is = (
@@ -335,13 +337,13 @@ module _ (key : Config) (slots id c : ℕ) (near : c < chunks key) (sl : List (�
           in
           let x : OwnStep = step_of kind.Sweep c n None in (
             on_class (class_after_sweep c n) (alone k),
-            (λ u moves. enter_sound c k own e k.labels x of (freed_quiet l) (λ b. refl) key.refs_limit n n label t u a
+            (λ u moves. enter_sound c k own e k.labels k.words x of (freed_quiet l) (λ i b. refl) key.refs_limit n n label t u a
                 moves o o.head o.spells (gen ∙ sym (ap (λ (j : ItemId). j.generation) (freed_subject l))) o.read
                 (ended key.refs_limit o.head o.at (λ g. t (held g)) (λ g. t (named g)) o.lawful (target e) place
                 zero_refs (freed_shows o.head l (subst (Shows o.head) place o.lawful.shown) o.lawful.generation
                 gen))),
-            enter_apart c k own e k.labels x of (freed_quiet l) (λ b. refl),
-            enter_backed c k own e k.labels x of (freed_quiet l) (λ b. refl)
+            enter_apart c k own e k.labels k.words x of (freed_quiet l) (λ i b. refl),
+            enter_backed c k own e k.labels k.words x of (freed_quiet l) (λ i b. refl)
                 (λ p. entered_labels k e (k.steps ++ x ∷ []) p
                 (subst (λ (j : ItemId). j.generation ≡ (standing k j.chunk).1) (sym (freed_subject l)) refl)
                 (λ used. absurd (freed_unused l used))),
@@ -359,45 +361,44 @@ module _ (key : Config) (slots id c : ℕ) (near : c < chunks key) (sl : List (�
 
 -- a life may begin by the store of its head
 pub may_link : (key : Config) (slots id c g : ℕ) (m : Sat) → c < chunks key → (a : Start) → MayLink c g m.0
-    → (new : ℕ) → new ≡ word_of (linked_head a g) → Allows (Kept key) slots id m (3 * c + 9) (λ _. new)
-    (λ _. link_tells (step slots (3 * c + 9) new 0 none) m new)
+    → (new : ℕ) → new ≡ word_of (linked_head a g) → Allows (Kept key) slots id m (head_place slots c) (λ _. new)
+    (λ _. on_chunk link_tells (step slots (head_place slots c) new 0 none) m new)
 may_link key slots id c g m near a may new is = let k : ClassPart = may.0 in let o = may.1 in
-    subst (λ (v : View). Allows (Kept key) slots id (v, m.1) (3 * c + 9) (λ _. new)
-    (λ _. link_tells (step slots (3 * c + 9) new 0 none) (v, m.1) new)) (sym o.view)
+    subst (λ (v : View). Allows (Kept key) slots id (v, m.1) (head_place slots c) (λ _. new)
+    (λ _. on_chunk link_tells (step slots (head_place slots c) new 0 none) (v, m.1) new)) (sym o.view)
     (links key slots id c near m.1 k o.own a new o.at (is ∙ ap (λ (j : ℕ). word_of (linked_head a j)) may.2))
 
 -- and what that tells
-pub link_told : (slots c g : ℕ) (a : Start) (m w : Sat) (new : ℕ) → g < 2 ^ generation_width
-    → new ≡ word_of (linked_head a g) → link_tells (step slots (3 * c + 9) new 0 none) m new w
+pub link_told : (c g : ℕ) (a : Start) (m w : Sat) (new : ℕ) → g < 2 ^ generation_width
+    → new ≡ word_of (linked_head a g) → link_tells c new m new w
     → w ≡ (on_class (class_after_link a c g (word_of (linked_head a g))) m.0, m.1)
-link_told slots c g a m w new fits is told =
+link_told c g a m w new fits is told =
     let h : Head = linked_head a g in
     let n : ℕ = word_of h in
     let spells : Spells n h = (refl, (omega arith, fits)) in
     told
     ∙ (ap (λ (x : ℕ). (
-      on_class (class_after_link (start_in x) ((3 * c + 9) / 3 - 3) (x / 2 ^ generation_first) x) m.0,
+      on_class (class_after_link (start_in x) c (x / 2 ^ generation_first) x) m.0,
       m.1,
     )) is
-    ∙ (ap (λ (d : ℕ). (on_class (class_after_link (start_in n) d (n / 2 ^ generation_first) n) m.0, m.1)) (chunk_is c)
     ∙ (ap (λ (b : Start). (on_class (class_after_link b c (n / 2 ^ generation_first) n) m.0, m.1)) (starts a n g spells)
-    ∙ ap (λ (j : ℕ). (on_class (class_after_link a c j n) m.0, m.1)) (fields n h spells).generation)))
+    ∙ ap (λ (j : ℕ). (on_class (class_after_link a c j n) m.0, m.1)) (fields n h spells).generation))
 
 -- a linked chunk may be unlinked
 pub may_unlink : (key : Config) (slots id c : ℕ) (m : Sat) → c < chunks key → IsLinked c m.0
-    → Allows (Kept key) slots id m (3 * c + 9) (λ n. (n + (2 ^ 64 - (2 ^ linked_first + 1))) % 2 ^ 64)
-    (on_chunk unlink_tells (step slots (3 * c + 9) (2 ^ linked_first + 1) 0 none) m)
+    → Allows (Kept key) slots id m (head_place slots c) (λ n. (n + (2 ^ 64 - (2 ^ linked_first + 1))) % 2 ^ 64)
+    (on_chunk unlink_tells (step slots (head_place slots c) (2 ^ linked_first + 1) 0 none) m)
 may_unlink key slots id c m near may =
-    subst (λ (v : View). Allows (Kept key) slots id (v, m.1) (3 * c + 9)
+    subst (λ (v : View). Allows (Kept key) slots id (v, m.1) (head_place slots c)
     (λ n. (n + (2 ^ 64 - (2 ^ linked_first + 1))) % 2 ^ 64)
-    (on_chunk unlink_tells (step slots (3 * c + 9) (2 ^ linked_first + 1) 0 none) (v, m.1))) (sym may.1.view)
+    (on_chunk unlink_tells (step slots (head_place slots c) (2 ^ linked_first + 1) 0 none) (v, m.1))) (sym may.1.view)
     (unlinks key slots id c near m.1 may.0 may.1.own may.1.at)
 
 -- a DYING chunk may be seen, and freed
 pub may_sweep : (key : Config) (slots id c : ℕ) (m : Sat) → c < chunks key → IsDying c m.0
-    → Allows (Kept key) slots id m (3 * c + 9) (λ n. n)
-    (on_chunk sweep_or_load_tells (step slots (3 * c + 9) 0 0 none) m)
+    → Allows (Kept key) slots id m (head_place slots c) (λ n. n)
+    (on_chunk sweep_or_load_tells (step slots (head_place slots c) 0 0 none) m)
 may_sweep key slots id c m near may =
-    subst (λ (v : View). Allows (Kept key) slots id (v, m.1) (3 * c + 9) (λ n. n)
-    (on_chunk sweep_or_load_tells (step slots (3 * c + 9) 0 0 none) (v, m.1))) (sym may.1.view)
+    subst (λ (v : View). Allows (Kept key) slots id (v, m.1) (head_place slots c) (λ n. n)
+    (on_chunk sweep_or_load_tells (step slots (head_place slots c) 0 0 none) (v, m.1))) (sym may.1.view)
     (sweeps key slots id c near m.1 may.0 may.1.own may.1.at)

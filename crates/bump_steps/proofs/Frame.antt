@@ -1,11 +1,11 @@
 -- A step on one chunk's words by one seat leaves the other chunks as they are.
-use Rattle.std.proofs.Common.{◌≡◌, ℕ, ◌+◌, ◌*◌, ◌<◌, ◌≤◌, ◌≢◌, ◌&&◌, eqb, cond, not, Bool, true, false, List, [], ◌∷◌, ◌++◌, get_or, set, refl, sym, ap, ◌∙◌, subst, arith, length-set, get_or-set_other, get_or-set_same}
+use Rattle.std.proofs.Common.{◌≡◌, ℕ, ◌+◌, ◌*◌, ◌<◌, ◌≤◌, ◌≢◌, ◌&&◌, eqb, cond, length, not, Bool, true, false, List, [], ◌∷◌, ◌++◌, get_or, set, refl, sym, ap, ◌∙◌, subst, arith, length-set, get_or-set_other, get_or-set_same}
 use mathlib.Core.Logic.{dite}
 use native.Mathlib.Decide.{ℕ_discrete}
 use native.Mathlib.Nat.{zero-mul}
 use mathlib.Core.Option.{Option, some}
 use lib.ListN.{get_elem?}
-use Rattle.atomic_table.specs.Table.{State, Me, Allows, Splits, Joins, keeps}
+use Rattle.atomic_table.specs.Table.{State, Me, Act, Allows, Splits, Joins, Valid, stepped, carried_after, keeps}
 use Rattle.bump_rules.specs.Totals.{total}
 use Rattle.bump_rules.specs.History.{Standing, is_standing}
 use Rattle.bump_rules.specs.declared.configs.Config.{Config}
@@ -14,7 +14,9 @@ use Rattle.bump_rules.specs.declared.bumps.AppliedBump.{AppliedBump}
 use Rattle.bump_rules.specs.Lives.{life, one_if}
 use Rattle.bump_rules.proofs.Updates.{total_append, total_below}
 use Rattle.bump_steps.specs.declared.views.View.{View}
-use Rattle.bump_steps.specs.Views.{Measure, held, owners, strays, mislabels, misreads, misread, differs, owns, standing, last_label, weight, tally, claims, evidence, Query, moves, settled, in_progress, underway, foreign, HaveLabels, workers_of, lanes_of, untidy, IsBacked}
+use Rattle.bump_steps.specs.Views.{Measure, held, owners, strays, mislabels, misreads, misread, differs, owns, standing, last_word, reads_of, weight, tally, claims, evidence, Query, moves, settled, in_progress, underway, foreign, HaveLabels, workers_of, lanes_of, untidy, IsBacked}
+use Rattle.bump_steps.specs.Places.{head_place, words_at}
+use Rattle.bump_steps.proofs.Places.{place_apart, place_near, place_behind, words_beside, words_written, word_found, with_word, with_same}
 use Rattle.bump_steps.specs.Rule.{Sound, SoundAt, chunks, Kept, HasFittingLimit}
 use Rattle.bump_steps.specs.Plays.{every, IsOwn}
 use Rattle.bump_steps.proofs.Once.{settled_once, settled_here}
@@ -37,23 +39,23 @@ pub record Amid (c : ℕ) (v : View) (t : Measure → ℕ) : Type 0 where
   pub mine : (m : Measure) → weight c m v ≤ t m
   -- of the others none is a stray that is no owner
   pub others : (s : Standing) → t (strays s) + weight c owners v ≤ t owners + weight c (strays s) v
-  pub other_labels : (x : ℕ) → t (mislabels x) + weight c owners v ≤ t owners + weight c (mislabels x) v
+  pub other_labels : (i x : ℕ) → t (mislabels i x) + weight c owners v ≤ t owners + weight c (mislabels i x) v
   -- the histories of the view name no bump twice, and speak of its classes' own chunks alone
   pub once : (w n : ℕ) → moves (every w n) v ≤ 1
   pub own : foreign v ≡ 0
   -- they have the moves of own items that its lanes tell
   pub told : (q : Query) → IsOwn q.test v → 0 < lanes_of q.worker v → moves q v ≡ settled q v
   -- only a reference reads
-  pub readers : (g x : ℕ) → t (held g) ≡ 0 → t (misreads g x) ≡ 0
+  pub readers : (i g x : ℕ) → t (held g) ≡ 0 → t (misreads i g x) ≡ 0
 
--- the seat can go on to some view w, so that the chunk stays sound at the head word n and the label word x
-abbrev pub Reaches : Config → ℕ → Sat → (Sat → Type 0) → ℕ → ℕ → (Measure → ℕ) → Type 0
+-- the seat can go on to some view w, so that the chunk stays sound at the head word n, and the label and words x
+abbrev pub Reaches : Config → ℕ → Sat → (Sat → Type 0) → ℕ → (ℕ → ℕ) → (Measure → ℕ) → Type 0
 Reaches key c m then n x t = (w : View)
     × ((u : Measure → ℕ) → ((y : Measure) → u y + weight c y m.0 ≡ t y + weight c y w) → Sound key.refs_limit n x u)
     × ((b : ℕ) → b ≢ c → Same b m.0 w) × IsBacked m.0 w × then (w, m.1)
 
-abbrev pub From : Config → ℕ → Sat → (ℕ → ℕ → (Measure → ℕ) → Type 0) → Type 0
-From key c m goes = (n x : ℕ) (t : Measure → ℕ) → HasFittingLimit key → Sound key.refs_limit n x t → Amid c m.0 t
+abbrev pub From : Config → ℕ → Sat → (ℕ → (ℕ → ℕ) → (Measure → ℕ) → Type 0) → Type 0
+From key c m goes = (n : ℕ) (x : ℕ → ℕ) (t : Measure → ℕ) → HasFittingLimit key → Sound key.refs_limit n x t → Amid c m.0 t
     → goes n x t
 
 same_tally : (views : List View) (i c : ℕ) (v w : View) → get_elem? views i ≡ some v → Same c v w
@@ -72,13 +74,14 @@ pub stray_owns : (c : ℕ) (s : Standing) (v : View) → weight c (strays s) v �
 stray_owns c s v = total_below (λ k. cond (owns c k && not (is_standing (standing k c) s)) 1 0)
     (λ k. cond (owns c k) 1 0) (λ k. and_le (owns c k) (not (is_standing (standing k c) s))) v.classes
 
-pub mislabel_owns : (c x : ℕ) (v : View) → weight c (mislabels x) v ≤ weight c owners v
-mislabel_owns c x v = total_below (λ k. cond (owns c k && not (eqb (last_label k c) x)) 1 0)
-    (λ k. cond (owns c k) 1 0) (λ k. and_le (owns c k) (not (eqb (last_label k c) x))) v.classes
+pub mislabel_owns : (c i x : ℕ) (v : View) → weight c (mislabels i x) v ≤ weight c owners v
+mislabel_owns c i x v = total_below (λ k. cond (owns c k && not (eqb (last_word i k c) x)) 1 0)
+    (λ k. cond (owns c k) 1 0) (λ k. and_le (owns c k) (not (eqb (last_word i k c) x))) v.classes
 
-reader_holds : (c g x : ℕ) (v : View) → weight c (held g) v ≡ 0 → weight c (misreads g x) v ≡ 0
-reader_holds c g x v e = none_where_none (λ h. one_if (life c g) h.life) (misread c g x)
-    (λ h none. ap (λ (k : ℕ). k * total (differs x) h.labels) none ∙ zero-mul (total (differs x) h.labels)) v.holds
+reader_holds : (c i g x : ℕ) (v : View) → weight c (held g) v ≡ 0 → weight c (misreads i g x) v ≡ 0
+reader_holds c i g x v e = none_where_none (λ h. one_if (life c g) h.life) (misread i c g x)
+    (λ h none. ap (λ (k : ℕ). k * total (differs x) (reads_of i h.labels h.words)) none
+    ∙ zero-mul (total (differs x) (reads_of i h.labels h.words))) v.holds
     (omega arith)
 
 -- what the rule says of one of the views
@@ -101,8 +104,8 @@ amid key s o c i v me = record {
   );
   mine = λ m. term_le (weight c m) s.views i v me;
   others = λ at. others_le (weight c (strays at)) (weight c owners) (stray_owns c at) s.views i v me;
-  other_labels = λ x. others_le (weight c (mislabels x)) (weight c owners) (mislabel_owns c x) s.views i v me;
-  readers = λ g x. none_where_none (weight c (held g)) (weight c (misreads g x)) (reader_holds c g x) s.views;
+  other_labels = λ j x. others_le (weight c (mislabels j x)) (weight c owners) (mislabel_owns c j x) s.views i v me;
+  readers = λ j g x. none_where_none (weight c (held g)) (weight c (misreads j g x)) (reader_holds c j g x) s.views;
 }
 
 -- what one view adds to the entries is backed
@@ -115,23 +118,34 @@ backed views i v w me is o n e many = let more = total-set (evidence n e) views 
     (λ none. omega (arith, b.1 (omega arith), term_le (evidence n e) views i v me))
     (λ ne. omega (arith, old (omega arith), b.0))
 
-module _ (key : Config) (s : State Empty View) (o : Kept key s) (homes : List (Option Empty)) (i c word j p : ℕ)
-    (v w : View) (me : get_elem? s.views i ≡ some v) (near : c < chunks key) (at : word ≡ 3 * c + 9 + j)
-    (small : j ≤ 2) where
+-- a word that is not in the row of a chunk is neither its head nor one of its labels
+beside_head : (slots b c i word : ℕ) → word ≡ head_place slots c + i → i < slots + 3 → b ≢ c → head_place slots b ≢ word
+beside_head slots b c i word at small ne e =
+    ne (place_apart slots b c 0 i (omega arith) small (omega (arith, e, at))).0
+
+beside_words : (slots b c i word : ℕ) → word ≡ head_place slots c + i → i < slots + 3 → b ≢ c → (j : ℕ) → j ≤ slots
+    → head_place slots b + (2 + j) ≢ word
+beside_words slots b c i word at small ne j low e =
+    ne (place_apart slots b c (2 + j) i (omega (arith, low)) small (omega (arith, e, at))).0
+
+module _ (key : Config) (s : State Empty View) (o : Kept key s) (i c word j p : ℕ)
+    (v w : View) (me : get_elem? s.views i ≡ some v) (near : c < chunks key)
+    (at : word ≡ head_place (length s.homes) c + j) (small : j < length s.homes + 3) where
   stepped_kept : ((b : ℕ) → b ≢ c → Same b v w) → IsBacked v w
-      → Sound key.refs_limit (get_or (set s.words word p) (3 * c + 9) 0) (get_or (set s.words word p) (3 * c + 11) 0)
-      (tally (set s.views i w) c)
-      → Kept key (state (set s.words word p) homes (set s.views i w))
+      → Sound key.refs_limit (get_or (set s.words word p) (head_place (length s.homes) c) 0)
+      (words_at (length s.homes) (set s.words word p) c) (tally (set s.views i w) c)
+      → Kept key (state (set s.words word p) s.homes (set s.views i w))
   stepped_kept apart back now = record {
     wide = length-set s.words word p ∙ o.wide;
     small = o.small;
     each = λ b h. dite (ℕ_discrete b c)
-        (λ e. subst (λ (x : ℕ). SoundAt key (state (set s.words word p) homes (set s.views i w)) x) (sym e) now)
+        (λ e. subst (λ (x : ℕ). SoundAt key (state (set s.words word p) s.homes (set s.views i w)) x) (sym e) now)
         (λ ne.
-        subst (λ (x : ℕ × ℕ × (Measure → ℕ)). Sound key.refs_limit x.0 x.1 x.2)
+        subst (λ (x : ℕ × (ℕ → ℕ) × (Measure → ℕ)). Sound key.refs_limit x.0 x.1 x.2)
         (λ k. (
-          sym (get_or-set_other s.words word (3 * b + 9) p 0 (λ e. ne (omega arith))) k,
-          sym (get_or-set_other s.words word (3 * b + 11) p 0 (λ e. ne (omega arith))) k,
+          sym (get_or-set_other s.words word (head_place (length s.homes) b) p 0
+              (beside_head (length s.homes) b c j word at small ne)) k,
+          sym (words_beside (length s.homes) s.words word p b (beside_words (length s.homes) b c j word at small ne)) k,
           same_tally s.views i b v w me (apart b ne) k,
         )) (o.each b h));
     one_class = λ b. dite (ℕ_discrete b c)
@@ -159,69 +173,130 @@ module _ (key : Config) (s : State Empty View) (o : Kept key s) (homes : List (O
     orderly = omega (arith, total-set untidy s.views i v w me, back.tidy, o.orderly);
   }
 
+-- what a step that changes no slot has to show of a state
+abbrev Goes : Config → ℕ → Sat → ℕ → (ℕ → ℕ) → (ℕ → Sat → Type 0) → State Empty View → Type 0
+Goes key id m word f then s = (w : View) × (a : Act Empty) × Valid s.homes m.1 a
+    × Kept key (stepped s word (f (get_or s.words word 0)) id m.1 w a)
+    × then (get_or s.words word 0) (w, carried_after m.1 a)
+
 -- a step on a head word is allowed where it can go on, whatever sound words it finds
 pub on_head : (key : Config) (slots id : ℕ) (m : Sat) (c : ℕ) (f : ℕ → ℕ) (then : ℕ → Sat → Type 0) → c < chunks key
-    → From key c m (λ n x t. Reaches key c m (then n) (f n) x t) → Allows (Kept key) slots id m (3 * c + 9) f then
-on_head key slots id m c f then near goes s o count me small = let n : ℕ = get_or s.words (3 * c + 9) 0 in let x : ℕ =
-    get_or s.words (3 * c + 11) 0 in
-    let g = goes n x (tally s.views c) o.small (o.each c near)
-    (amid key s o c id m.0 me) in
-    let now : Sound key.refs_limit (f n) x (tally (set s.views id g.0) c) = g.1 (tally (set s.views id g.0) c)
-    (λ y. total-set (weight c y) s.views id m.0 g.0 me) in (
-      g.0,
-      keeps,
-      tt,
-      stepped_kept key s o s.homes id c (3 * c + 9) 0 (f n) m.0 g.0 me near (omega arith) (omega arith) g.2 g.3
-          (subst (λ (y : ℕ × ℕ). Sound key.refs_limit y.0 y.1 (tally (set s.views id g.0) c))
-          (λ k. (
-            sym (get_or-set_same s.words (3 * c + 9) (f n) 0 (omega (arith, o.wide))) k,
-            sym (get_or-set_other s.words (3 * c + 9) (3 * c + 11) (f n) 0 (λ e. omega arith)) k,
-          )) now),
-      g.4,
-    )
+    → From key c m (λ n x t. Reaches key c m (then n) (f n) x t)
+    → Allows (Kept key) slots id m (head_place slots c) f then
+on_head key slots id m c f then near goes s o count me small =
+    subst (λ (z : ℕ). Goes key id m (head_place z c) f then s) count it
+  where
+    n : ℕ
+    n = get_or s.words (head_place (length s.homes) c) 0
 
--- on a label word
-pub on_label : (key : Config) (slots id : ℕ) (m : Sat) (c : ℕ) (f : ℕ → ℕ) (then : ℕ → Sat → Type 0) → c < chunks key
-    → From key c m (λ n x t. Reaches key c m (then x) n (f x) t) → Allows (Kept key) slots id m (3 * c + 11) f then
-on_label key slots id m c f then near goes s o count me small = let n : ℕ = get_or s.words (3 * c + 9) 0 in
-    let x : ℕ = get_or s.words (3 * c + 11) 0 in
-    let g = goes n x (tally s.views c) o.small (o.each c near)
-    (amid key s o c id m.0 me) in
-    let now : Sound key.refs_limit n (f x) (tally (set s.views id g.0) c) = g.1 (tally (set s.views id g.0) c)
-    (λ y. total-set (weight c y) s.views id m.0 g.0 me) in (
-      g.0,
-      keeps,
-      tt,
-      stepped_kept key s o s.homes id c (3 * c + 11) 2 (f x) m.0 g.0 me near (omega arith) (omega arith) g.2 g.3
-          (subst (λ (y : ℕ × ℕ). Sound key.refs_limit y.0 y.1 (tally (set s.views id g.0) c))
-          (λ k. (
-            sym (get_or-set_other s.words (3 * c + 11) (3 * c + 9) (f x) 0 (λ e. omega arith)) k,
-            sym (get_or-set_same s.words (3 * c + 11) (f x) 0 (omega (arith, o.wide))) k,
-          )) now),
-      g.4,
-    )
+    x : ℕ → ℕ
+    x = words_at (length s.homes) s.words c
+
+    within : head_place (length s.homes) c < length s.words
+    within = omega (arith, o.wide, place_near (length s.homes) c (chunks key) 0 near (omega arith))
+
+    it : Goes key id m (head_place (length s.homes) c) f then s
+    it = let g = goes n x (tally s.views c) o.small (o.each c near) (amid key s o c id m.0 me) in
+        let now : Sound key.refs_limit (f n) x (tally (set s.views id g.0) c) = g.1 (tally (set s.views id g.0) c)
+        (λ y. total-set (weight c y) s.views id m.0 g.0 me) in (
+          g.0,
+          keeps,
+          tt,
+          stepped_kept key s o id c (head_place (length s.homes) c) 0 (f n) m.0 g.0 me near (omega arith) (omega arith) g.2 g.3
+              (subst (λ (y : ℕ × (ℕ → ℕ)). Sound key.refs_limit y.0 y.1 (tally (set s.views id g.0) c))
+              (λ k. (
+                sym (get_or-set_same s.words (head_place (length s.homes) c) (f n) 0 within) k,
+                sym (words_beside (length s.homes) s.words (head_place (length s.homes) c) (f n) c (λ i low e. omega (arith, e))) k,
+              )) now),
+          g.4,
+        )
+
+-- on its label, which is word 0, or on a further word
+pub on_words : (key : Config) (slots id : ℕ) (m : Sat) (c i : ℕ) (f : ℕ → ℕ) (then : ℕ → Sat → Type 0) → i ≤ slots
+    → c < chunks key → From key c m (λ n x t. Reaches key c m (then (x i)) n (with_word x i (f (x i))) t)
+    → Allows (Kept key) slots id m (head_place slots c + (2 + i)) f then
+on_words key slots id m c i f then low near goes s o count me small =
+    subst (λ (z : ℕ). Goes key id m (head_place z c + (2 + i)) f then s) count it
+  where
+    n : ℕ
+    n = get_or s.words (head_place (length s.homes) c) 0
+
+    x : ℕ → ℕ
+    x = words_at (length s.homes) s.words c
+
+    y : ℕ
+    y = get_or s.words (head_place (length s.homes) c + (2 + i)) 0
+
+    few : i ≤ (length s.homes)
+    few = omega (arith, low, count)
+
+    -- the word found is word i
+    found : x i ≡ y
+    found = word_found (length s.homes) s.words c i few
+
+    within : head_place (length s.homes) c + (2 + i) < length s.words
+    within = omega (arith, o.wide, place_near (length s.homes) c (chunks key) (2 + i) near (omega (arith, few)))
+
+    it : Goes key id m (head_place (length s.homes) c + (2 + i)) f then s
+    it = let g = goes n x (tally s.views c) o.small (o.each c near) (amid key s o c id m.0 me) in
+        let now : Sound key.refs_limit n (with_word x i (f (x i))) (tally (set s.views id g.0) c) =
+        g.1 (tally (set s.views id g.0) c) (λ y. total-set (weight c y) s.views id m.0 g.0 me) in (
+          g.0,
+          keeps,
+          tt,
+          stepped_kept key s o id c (head_place (length s.homes) c + (2 + i)) (2 + i) (f y) m.0 g.0 me near refl
+              (omega (arith, few)) g.2 g.3
+              (subst (λ (y : ℕ × (ℕ → ℕ)). Sound key.refs_limit y.0 y.1 (tally (set s.views id g.0) c))
+              (λ k. (
+                sym (get_or-set_other s.words (head_place (length s.homes) c + (2 + i)) (head_place (length s.homes) c) (f y) 0
+                    (λ e. omega (arith, e))) k,
+                (ap (λ (v : ℕ). with_word x i (f v)) found
+                    ∙ sym (words_written (length s.homes) s.words (f y) c i few within)) k,
+              )) now),
+          subst (λ (v : ℕ). then v (g.0, m.1)) found g.4,
+        )
+
+-- a load of one of them
+pub on_words_load : (key : Config) (slots id : ℕ) (m : Sat) (c i : ℕ) (then : ℕ → Sat → Type 0) → i ≤ slots
+    → c < chunks key → From key c m (λ n x t. Reaches key c m (then (x i)) n x t)
+    → Allows (Kept key) slots id m (head_place slots c + (2 + i)) (λ x. x) then
+on_words_load key slots id m c i then low near goes =
+    on_words key slots id m c i (λ x. x) then low near
+        (λ n x t limits o a. subst (λ (y : ℕ → ℕ). Reaches key c m (then (x i)) n y t) (sym (with_same x i))
+        (goes n x t limits o a))
 
 -- on a time word, of which the rule says nothing
-pub on_time : (key : Config) (slots id : ℕ) (m : Sat) (c : ℕ) (f : ℕ → ℕ) (then : ℕ → Sat → Type 0) → c < chunks key
-    → ((y : ℕ) → From key c m (λ n x t. Reaches key c m (then y) n x t)) → Allows (Kept key) slots id m (3 * c + 10) f
-    then
-on_time key slots id m c f then near goes s o count me small = let n : ℕ = get_or s.words (3 * c + 9) 0 in let x : ℕ =
-    get_or s.words (3 * c + 11) 0 in let y : ℕ = get_or s.words (3 * c + 10) 0 in
-    let g = goes y n x (tally s.views c) o.small (o.each c near)
-    (amid key s o c id m.0 me) in
-    let now : Sound key.refs_limit n x (tally (set s.views id g.0) c) = g.1 (tally (set s.views id g.0) c)
-    (λ y. total-set (weight c y) s.views id m.0 g.0 me) in (
-      g.0,
-      keeps,
-      tt,
-      stepped_kept key s o s.homes id c (3 * c + 10) 1 (f y) m.0 g.0 me near (omega arith) (omega arith) g.2 g.3
-          (subst (λ (y : ℕ × ℕ). Sound key.refs_limit y.0 y.1 (tally (set s.views id g.0) c))
-          (λ k. (
-            sym (get_or-set_other s.words (3 * c + 10) (3 * c + 9) (f y) 0 (λ e. omega arith)) k,
-            sym (get_or-set_other s.words (3 * c + 10) (3 * c + 11) (f y) 0 (λ e. omega arith)) k,
-          )) now),
-      g.4,
-    )
+pub time_step : (key : Config) (slots id : ℕ) (m : Sat) (c : ℕ) (f : ℕ → ℕ) (then : ℕ → Sat → Type 0) → c < chunks key
+    → ((y : ℕ) → From key c m (λ n x t. Reaches key c m (then y) n x t))
+    → Allows (Kept key) slots id m (head_place slots c + 1) f then
+time_step key slots id m c f then near goes s o count me small =
+    subst (λ (z : ℕ). Goes key id m (head_place z c + 1) f then s) count it
+  where
+    n : ℕ
+    n = get_or s.words (head_place (length s.homes) c) 0
+
+    x : ℕ → ℕ
+    x = words_at (length s.homes) s.words c
+
+    y : ℕ
+    y = get_or s.words (head_place (length s.homes) c + 1) 0
+
+    it : Goes key id m (head_place (length s.homes) c + 1) f then s
+    it = let g = goes y n x (tally s.views c) o.small (o.each c near) (amid key s o c id m.0 me) in
+        let now : Sound key.refs_limit n x (tally (set s.views id g.0) c) = g.1 (tally (set s.views id g.0) c)
+        (λ y. total-set (weight c y) s.views id m.0 g.0 me) in (
+          g.0,
+          keeps,
+          tt,
+          stepped_kept key s o id c (head_place (length s.homes) c + 1) 1 (f y) m.0 g.0 me near refl (omega arith) g.2 g.3
+              (subst (λ (y : ℕ × (ℕ → ℕ)). Sound key.refs_limit y.0 y.1 (tally (set s.views id g.0) c))
+              (λ k. (
+                sym (get_or-set_other s.words (head_place (length s.homes) c + 1) (head_place (length s.homes) c) (f y) 0
+                    (λ e. omega (arith, e))) k,
+                sym (words_beside (length s.homes) s.words (head_place (length s.homes) c + 1) (f y) c (λ i low e. omega (arith, e))) k,
+              )) now),
+          g.4,
+        )
 
 -- a load of a spare word, which leaves all as it is
 pub on_spare : (key : Config) (slots id : ℕ) (m : Sat) (c : ℕ) (then : ℕ → Sat → Type 0)
@@ -233,10 +308,12 @@ on_spare key slots id m c then goes s o count me small = let n : ℕ = get_or s.
   record {
     wide = length-set s.words 0 n ∙ o.wide;
     small = o.small;
-    each = λ b h. subst (λ (x : ℕ × ℕ × (Measure → ℕ)). Sound key.refs_limit x.0 x.1 x.2)
+    each = λ b h. subst (λ (x : ℕ × (ℕ → ℕ) × (Measure → ℕ)). Sound key.refs_limit x.0 x.1 x.2)
         (λ k. (
-          sym (get_or-set_other s.words 0 (3 * b + 9) n 0 (λ e. omega (arith, e))) k,
-          sym (get_or-set_other s.words 0 (3 * b + 11) n 0 (λ e. omega (arith, e))) k,
+          sym (get_or-set_other s.words 0 (head_place (length s.homes) b) n 0
+              (λ e. omega (arith, e, place_behind (length s.homes) b))) k,
+          sym (words_beside (length s.homes) s.words 0 n b
+              (λ i low e. omega (arith, e, place_behind (length s.homes) b))) k,
           same_tally s.views id b m.0 m.0 me (λ y. refl) k,
         )) (o.each b h);
     one_class = λ b. omega (arith, total-set (weight b owners) s.views id m.0 m.0 me, o.one_class b);
@@ -267,7 +344,7 @@ on_spare key slots id m c then goes s o count me small = let n : ℕ = get_or s.
   goes n (tally s.views c) (amid key s o c id m.0 me),
 )
 
-pub same_sound : (limit n x : ℕ) (t u : Measure → ℕ) → ((y : Measure) → u y ≡ t y) → Sound limit n x t
+pub same_sound : (limit n : ℕ) (x : ℕ → ℕ) (t u : Measure → ℕ) → ((y : Measure) → u y ≡ t y) → Sound limit n x t
     → Sound limit n x u
 same_sound limit n x t u e o = subst (Sound limit n x) (λ i y. sym (e y) i) o
 
@@ -285,7 +362,8 @@ pub splits : (key : Config) (id : ℕ) (v left right : View)
 splits key id v left right even entries rides owned labels workers lanes tidy s o me = record {
   wide = o.wide;
   small = o.small;
-  each = λ c near. same_sound key.refs_limit (get_or s.words (3 * c + 9) 0) (get_or s.words (3 * c + 11) 0)
+  each = λ c near. same_sound key.refs_limit (get_or s.words (head_place (length s.homes) c) 0)
+      (words_at (length s.homes) s.words c)
       (tally s.views c) (tally (set s.views id left ++ right ∷ []) c) (λ x. keep (weight c x) (even c x))
       (o.each c near);
   one_class = λ c. omega (arith, keep (weight c owners) (even c owners), o.one_class c);
@@ -325,7 +403,8 @@ pub joins : (key : Config) (id : ℕ) (v : View) (other : ℕ) (w both spent : V
 joins key id v other w both spent even entries rides owned labels workers lanes tidy s o me apart them = record {
   wide = o.wide;
   small = o.small;
-  each = λ c near. same_sound key.refs_limit (get_or s.words (3 * c + 9) 0) (get_or s.words (3 * c + 11) 0)
+  each = λ c near. same_sound key.refs_limit (get_or s.words (head_place (length s.homes) c) 0)
+      (words_at (length s.homes) s.words c)
       (tally s.views c) (tally (set (set s.views id both) other spent) c) (λ x. keep (weight c x) (even c x))
       (o.each c near);
   one_class = λ c. omega (arith, keep (weight c owners) (even c owners), o.one_class c);

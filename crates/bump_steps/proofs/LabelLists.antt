@@ -1,10 +1,13 @@
 -- Labels and lives' labels after one more step.
-use Rattle.std.proofs.Common.{◌≡◌, ℕ, eqb, Bool, true, false, List, [], ◌∷◌, ◌++◌, Option, Some, None, if◌then◌else◌, refl, ap}
+use Rattle.std.proofs.Common.{◌≡◌, ◌≢◌, ℕ, zero, suc, eqb, Bool, true, false, List, [], ◌∷◌, ◌++◌, Option, Some, None, if◌then◌else◌, refl, sym, ap, ◌∙◌, eq-eqb, ne_eqb}
 use Rattle.bump_rules.specs.declared.items.ItemId.{ItemId}
 use Rattle.bump_rules.specs.declared.labels.LabelStep.{LabelStep}
 use Rattle.bump_rules.specs.declared.labels.LabelStep.TheVariants.{Stored, Linked}
 use Rattle.bump_rules.specs.Labels.{label_of_life, label_word}
 use Rattle.bump_rules.specs.Lives.{is_same}
+use Rattle.bump_steps.specs.declared.views.WordStep.{WordStep}
+use Rattle.bump_steps.specs.declared.views.WordStep.TheVariants.{Put, Begun}
+use Rattle.bump_steps.specs.Views.{of_word, labels_of, read_of, reads_of}
 
 -- a label that is stored is its chunk's label
 pub word_stored : (c x : ℕ) (ls : List LabelStep) (d y : ℕ) → label_word c x (ls ++ Stored d y ∷ [])
@@ -52,3 +55,99 @@ life_linked l x (Linked n ∷ ls) same none = by (is_same l n) none (life_linked
         → (if b then Some x else label_of_life l x (ls ++ Linked l ∷ [])) ≡ Some (label_word l.chunk x ls)
     by true none goes = absurd (let u : ⊥ = cc none in u)
     by false none goes = goes none
+
+-- ---- further words
+
+-- a word that is stored is stored as its own
+pub of_word_put : (j : ℕ) (ws : List WordStep) (c i y : ℕ) → of_word j (ws ++ Put c i y ∷ [])
+    ≡ (if eqb i j then of_word j ws ++ Stored c y ∷ [] else of_word j ws)
+of_word_put j [] c i y = refl
+of_word_put j (Put d k z ∷ ws) c i y = by (eqb k j) (eqb i j) (of_word_put j ws c i y)
+  where
+    by : (b o : Bool) → of_word j (ws ++ Put c i y ∷ []) ≡ (if o then of_word j ws ++ Stored c y ∷ [] else of_word j ws)
+        → (if b then Stored d z ∷ of_word j (ws ++ Put c i y ∷ []) else of_word j (ws ++ Put c i y ∷ []))
+        ≡ (if o then (if b then Stored d z ∷ of_word j ws else of_word j ws) ++ Stored c y ∷ []
+        else (if b then Stored d z ∷ of_word j ws else of_word j ws))
+    by true true e = ap (λ (l : List LabelStep). Stored d z ∷ l) e
+    by true false e = ap (λ (l : List LabelStep). Stored d z ∷ l) e
+    by false true e = e
+    by false false e = e
+of_word_put j (Begun m ∷ ws) c i y = by (eqb i j) (of_word_put j ws c i y)
+  where
+    by : (o : Bool) → of_word j (ws ++ Put c i y ∷ []) ≡ (if o then of_word j ws ++ Stored c y ∷ [] else of_word j ws)
+        → Linked m ∷ of_word j (ws ++ Put c i y ∷ [])
+        ≡ (if o then (Linked m ∷ of_word j ws) ++ Stored c y ∷ [] else Linked m ∷ of_word j ws)
+    by true e = ap (λ (l : List LabelStep). Linked m ∷ l) e
+    by false e = ap (λ (l : List LabelStep). Linked m ∷ l) e
+
+-- a life that begins begins for each word
+pub of_word_begun : (j : ℕ) (ws : List WordStep) (m : ItemId) → of_word j (ws ++ Begun m ∷ []) ≡ of_word j ws ++ Linked m
+    ∷ []
+of_word_begun j [] m = refl
+of_word_begun j (Put d k z ∷ ws) m = by (eqb k j) (of_word_begun j ws m)
+  where
+    by : (b : Bool) → of_word j (ws ++ Begun m ∷ []) ≡ of_word j ws ++ Linked m ∷ []
+        → (if b then Stored d z ∷ of_word j (ws ++ Begun m ∷ []) else of_word j (ws ++ Begun m ∷ []))
+        ≡ (if b then Stored d z ∷ of_word j ws else of_word j ws) ++ Linked m ∷ []
+    by true e = ap (λ (l : List LabelStep). Stored d z ∷ l) e
+    by false e = e
+of_word_begun j (Begun n ∷ ws) m = ap (λ (l : List LabelStep). Linked n ∷ l) (of_word_begun j ws m)
+
+pub labels_begun : (i : ℕ) (ls : List LabelStep) (ws : List WordStep) (m : ItemId) → labels_of i (ls ++ Linked m ∷ [])
+    (ws ++ Begun m ∷ []) ≡ labels_of i ls ws ++ Linked m ∷ []
+labels_begun zero ls ws m = refl
+labels_begun (suc j) ls ws m = of_word_begun j ws m
+
+-- of the words of all chunks the one that is stored changes alone: the label here, or a further word
+pub labels_put_label : (i : ℕ) (ls : List LabelStep) (ws : List WordStep) (c y : ℕ) → i ≢ 0
+    → labels_of i (ls ++ Stored c y ∷ []) ws ≡ labels_of i ls ws
+labels_put_label zero ls ws c y ne = absurd (ne refl)
+labels_put_label (suc j) ls ws c y ne = refl
+
+pub labels_put_word : (i j : ℕ) (ls : List LabelStep) (ws : List WordStep) (c y : ℕ) → i ≢ suc j
+    → labels_of i ls (ws ++ Put c j y ∷ []) ≡ labels_of i ls ws
+labels_put_word zero j ls ws c y ne = refl
+labels_put_word (suc k) j ls ws c y ne = of_word_put k ws c j y
+    ∙ ap (λ (o : Bool). if o then of_word k ws ++ Stored c y ∷ [] else of_word k ws)
+    (ne_eqb j k (λ e. ne (ap suc (sym e))))
+
+pub labels_put_same : (j : ℕ) (ls : List LabelStep) (ws : List WordStep) (c y : ℕ)
+    → labels_of (suc j) ls (ws ++ Put c j y ∷ []) ≡ labels_of (suc j) ls ws ++ Stored c y ∷ []
+labels_put_same j ls ws c y = of_word_put j ws c j y
+    ∙ ap (λ (o : Bool). if o then of_word j ws ++ Stored c y ∷ [] else of_word j ws) (eq-eqb j j refl)
+
+-- what a hold reads of one word it reads of no other
+pub read_of_push : (j : ℕ) (rs : List (ℕ × ℕ)) (i y : ℕ) → read_of j (rs ++ (i, y) ∷ [])
+    ≡ (if eqb i j then read_of j rs ++ y ∷ [] else read_of j rs)
+read_of_push j [] i y = refl
+read_of_push j (r ∷ rs) i y = by (eqb r.0 j) (eqb i j) (read_of_push j rs i y)
+  where
+    by : (b o : Bool) → read_of j (rs ++ (i, y) ∷ []) ≡ (if o then read_of j rs ++ y ∷ [] else read_of j rs)
+        → (if b then r.1 ∷ read_of j (rs ++ (i, y) ∷ []) else read_of j (rs ++ (i, y) ∷ []))
+        ≡ (if o then (if b then r.1 ∷ read_of j rs else read_of j rs) ++ y ∷ []
+        else (if b then r.1 ∷ read_of j rs else read_of j rs))
+    by true true e = ap (λ (l : List ℕ). r.1 ∷ l) e
+    by true false e = ap (λ (l : List ℕ). r.1 ∷ l) e
+    by false true e = e
+    by false false e = e
+
+-- of no word anything was read
+pub none_read : (i : ℕ) → reads_of i [] [] ≡ []
+none_read zero = refl
+none_read (suc j) = refl
+
+pub reads_push_label : (i : ℕ) (ls : List ℕ) (rs : List (ℕ × ℕ)) (y : ℕ) → i ≢ 0 → reads_of i (ls ++ y ∷ []) rs
+    ≡ reads_of i ls rs
+reads_push_label zero ls rs y ne = absurd (ne refl)
+reads_push_label (suc j) ls rs y ne = refl
+
+pub reads_push_word : (i j : ℕ) (ls : List ℕ) (rs : List (ℕ × ℕ)) (y : ℕ) → i ≢ suc j
+    → reads_of i ls (rs ++ (j, y) ∷ []) ≡ reads_of i ls rs
+reads_push_word zero j ls rs y ne = refl
+reads_push_word (suc k) j ls rs y ne = read_of_push k rs j y
+    ∙ ap (λ (o : Bool). if o then read_of k rs ++ y ∷ [] else read_of k rs) (ne_eqb j k (λ e. ne (ap suc (sym e))))
+
+pub reads_push_same : (j : ℕ) (ls : List ℕ) (rs : List (ℕ × ℕ)) (y : ℕ) → reads_of (suc j) ls (rs ++ (j, y) ∷ [])
+    ≡ reads_of (suc j) ls rs ++ y ∷ []
+reads_push_same j ls rs y = read_of_push j rs j y
+    ∙ ap (λ (o : Bool). if o then read_of j rs ++ y ∷ [] else read_of j rs) (eq-eqb j j refl)

@@ -9,7 +9,8 @@ use Rattle.bump_rules.specs.declared.items.ItemId.{ItemId}
 use Rattle.bump_rules.specs.declared.places.Place.TheVariants.{Unused}
 use Rattle.bump_rules.specs.declared.history.Change.{Change}
 use Rattle.bump_rules.specs.declared.places.Start.{Start}
-use Rattle.bump_rules.specs.declared.labels.LabelStep.TheVariants.{Linked}
+use Rattle.bump_rules.specs.declared.labels.LabelStep.{LabelStep}
+use Rattle.bump_rules.specs.declared.labels.LabelStep.TheVariants.{Stored, Linked}
 use Rattle.bump_rules.specs.History.{Standing, subject, target}
 use Rattle.bump_rules.specs.Starts.{begun_change}
 use Rattle.bump_rules.proofs.Beginnings.{begun_subject}
@@ -18,13 +19,14 @@ use Rattle.bump_rules.specs.Lawful.{IsUsed}
 use Rattle.bump_rules.specs.Lives.{life, is_same}
 use Rattle.bump_rules.proofs.Replay.{standing_push}
 use Rattle.bump_steps.specs.declared.views.OwnStep.{OwnStep}
+use Rattle.bump_steps.specs.declared.views.WordStep.{WordStep}
 use Rattle.bump_steps.specs.declared.views.ClassPart.{ClassPart}
 use Rattle.bump_steps.specs.declared.views.Ride.{Ride}
 use Rattle.bump_steps.specs.declared.views.View.{View}
-use Rattle.bump_steps.specs.Views.{standing, last_label, HasLabels, HaveLabels, AreLabelled}
+use Rattle.bump_steps.specs.Views.{owns, standing, labels_of, last_word, HasLabels, HaveLabels, AreLabelled}
 use Rattle.bump_steps.specs.Plays.{behind, first_of, on_first}
-use Rattle.bump_steps.specs.Lives.{class_after_put_label, class_after_link}
-use Rattle.bump_steps.proofs.LabelLists.{word_stored, word_linked, life_stored, life_linked, life_linked_else}
+use Rattle.bump_steps.specs.Lives.{class_after_put_label, class_after_put_word, class_after_link}
+use Rattle.bump_steps.proofs.LabelLists.{word_stored, word_linked, life_stored, life_linked, life_linked_else, labels_begun, labels_put_label, labels_put_word, labels_put_same}
 
 -- ---- lists of parts and of views
 
@@ -116,21 +118,51 @@ module _ (k : ClassPart) (e : Change) (steps : List OwnStep) (p : HasLabels k)
 
   pub entered_labels : HasLabels entered
   entered_labels = record {
-    labelled = λ c mine now. ap (λ (g : ℕ). label_of_life (life c g) 0 k.labels) (same_generation c)
-        ∙ p.labelled c mine (still_used c now);
-    unbegun = λ c g later. p.unbegun c g (omega (arith, later, same_generation c));
+    labelled = λ i c mine now. ap (λ (g : ℕ). label_of_life (life c g) 0 (labels_of i k.labels k.words))
+        (same_generation c) ∙ p.labelled i c mine (still_used c now);
+    unbegun = λ i c g later. p.unbegun i c g (omega (arith, later, same_generation c));
   }
 
--- a label that is stored for a free chunk
+-- a label or a further word that is stored for a free chunk, as word i
+module _ (c i y : ℕ) (k : ClassPart) (ls : List LabelStep) (ws : List WordStep) (steps : List OwnStep) (p : HasLabels k)
+    (here : labels_of i ls ws ≡ labels_of i k.labels k.words ++ Stored c y ∷ [])
+    (there : (j : ℕ) → j ≢ i → labels_of j ls ws ≡ labels_of j k.labels k.words)
+    (unused : (standing k c).0 ≡ Unused) where
+  -- a chunk in use is another one
+  elsewhere : (d : ℕ) → IsUsed (standing k d).0 → eqb c d ≡ false
+  elsewhere d used = ne_eqb c d (λ e. absurd (subst IsUsed (ap (λ (j : ℕ). (standing k j).0) (sym e) ∙ unused) used))
+
+  pub put_labels : HasLabels (record k { labels = ls; words = ws; steps = steps })
+  put_labels = record {
+    labelled = λ j d own used. dite (ℕ_discrete j i)
+        (λ is.
+        subst (λ (n : ℕ). label_of_life (life d (standing k d).1) 0 (labels_of n ls ws) ≡ Some
+        (label_word d 0 (labels_of n ls ws))) (sym is)
+        (subst (λ (l : List LabelStep). label_of_life (life d (standing k d).1) 0 l ≡ Some (label_word d 0 l))
+        (sym here)
+        (life_stored (life d (standing k d).1) 0 (labels_of i k.labels k.words) c y ∙ p.labelled i d own used
+        ∙ ap (λ (n : ℕ). Some n)
+        (sym (word_stored d 0 (labels_of i k.labels k.words) c y
+        ∙ ap (λ (b : Bool). if b then y else last_word i k d) (elsewhere d used))))))
+        (λ ne. subst (λ (l : List LabelStep). label_of_life (life d (standing k d).1) 0 l ≡ Some (label_word d 0 l))
+        (sym (there j ne)) (p.labelled j d own used));
+    unbegun = λ j d g later. dite (ℕ_discrete j i)
+        (λ is. ap (λ (n : ℕ). label_of_life (life d g) 0 (labels_of n ls ws)) is
+        ∙ ap (λ (l : List LabelStep). label_of_life (life d g) 0 l) here
+        ∙ life_stored (life d g) 0 (labels_of i k.labels k.words) c y ∙ p.unbegun i d g later)
+        (λ ne. ap (λ (l : List LabelStep). label_of_life (life d g) 0 l) (there j ne) ∙ p.unbegun j d g later);
+  }
+
 pub put_label_labels : (c y : ℕ) (k : ClassPart) → HasLabels k → (standing k c).0 ≡ Unused
     → HasLabels (class_after_put_label c y k)
-put_label_labels c y k p unused = record {
-  labelled = λ d own used. life_stored (life d (standing k d).1) 0 k.labels c y ∙ p.labelled d own used
-      ∙ ap (λ (n : ℕ). Some n)
-      (sym (word_stored d 0 k.labels c y ∙ ap (λ (b : Bool). if b then y else last_label k d)
-      (ne_eqb c d (λ e. absurd (subst IsUsed (ap (λ (j : ℕ). (standing k j).0) (sym e) ∙ unused) used)))));
-  unbegun = λ d g later. life_stored (life d g) 0 k.labels c y ∙ p.unbegun d g later;
-}
+put_label_labels c y k p unused = put_labels c 0 y k (class_after_put_label c y k).labels k.words
+    (class_after_put_label c y k).steps p refl (λ j ne. labels_put_label j k.labels k.words c y ne) unused
+
+pub put_word_labels : (c j y : ℕ) (k : ClassPart) → HasLabels k → (standing k c).0 ≡ Unused
+    → HasLabels (class_after_put_word c j y k)
+put_word_labels c j y k p unused = put_labels c (suc j) y k k.labels (class_after_put_word c j y k).words
+    (class_after_put_word c j y k).steps p (labels_put_same j k.labels k.words c y)
+    (λ i ne. labels_put_word i j k.labels k.words c y ne) unused
 
 -- two lives of two chunks are two
 other_of_chunk : (d c g j : ℕ) → d ≢ c → is_same (life d g) (life c j) ≡ false
@@ -161,32 +193,50 @@ module _ (a : Start) (c g n : ℕ) (k : ClassPart) (p : HasLabels k) (next : g �
   stands_there d ne = stands d
       ∙ ap (λ b. cond b (target entry, g) (standing k d)) (ne_eqb c d (λ q. ne (sym q)))
 
+  -- what was done about word i
+  abbrev before : ℕ → List LabelStep
+  before i = labels_of i k.labels k.words
+
+  now : (i : ℕ) → labels_of i opened.labels opened.words ≡ before i ++ Linked new_life ∷ []
+  now i = labels_begun i k.labels k.words new_life
+
   -- it has the label that was stored last for the chunk
-  label_here : label_of_life new_life 0 (k.labels ++ Linked new_life ∷ []) ≡ Some
-      (label_word c 0 (k.labels ++ Linked new_life ∷ []))
-  label_here = life_linked new_life 0 k.labels (and_from (eqb c c) (eqb g g) (eq-eqb c c refl) (eq-eqb g g refl))
-      (p.unbegun c g (omega (arith, next))) ∙ ap (λ (y : ℕ). Some y) (sym (word_linked c 0 k.labels new_life))
+  label_here : (i : ℕ) → label_of_life new_life 0 (before i ++ Linked new_life ∷ []) ≡ Some
+      (label_word c 0 (before i ++ Linked new_life ∷ []))
+  label_here i = life_linked new_life 0 (before i) (and_from (eqb c c) (eqb g g) (eq-eqb c c refl) (eq-eqb g g refl))
+      (p.unbegun i c g (omega (arith, next))) ∙ ap (λ (y : ℕ). Some y) (sym (word_linked c 0 (before i) new_life))
+
+  labelled_now : (i d : ℕ) → owns d k ≡ true → IsUsed (standing opened d).0
+      → label_of_life (life d (standing opened d).1) 0 (before i ++ Linked new_life ∷ []) ≡ Some
+      (label_word d 0 (before i ++ Linked new_life ∷ []))
+  labelled_now i d mine used = dite (ℕ_discrete d c)
+      (λ is. subst (λ (j : ℕ). label_of_life (life j (standing opened j).1) 0 (before i ++ Linked new_life ∷ [])
+      ≡ Some (label_word j 0 (before i ++ Linked new_life ∷ []))) (sym is)
+      (subst (λ (s : Standing). label_of_life (life c s.1) 0 (before i ++ Linked new_life ∷ []) ≡ Some
+      (label_word c 0 (before i ++ Linked new_life ∷ []))) (sym stands_here) (label_here i)))
+      (λ ne. subst (λ (s : Standing). label_of_life (life d s.1) 0 (before i ++ Linked new_life ∷ []) ≡ Some
+      (label_word d 0 (before i ++ Linked new_life ∷ []))) (sym (stands_there d ne))
+      (life_linked_else (life d (standing k d).1) 0 (before i) new_life (other_of_chunk d c (standing k d).1 g ne)
+      ∙ p.labelled i d mine (subst (λ (s : Standing). IsUsed s.0) (stands_there d ne) used)
+      ∙ ap (λ (y : ℕ). Some y) (sym (word_linked d 0 (before i) new_life))))
+
+  unbegun_now : (i d j : ℕ) → (standing opened d).1 < j → label_of_life (life d j) 0 (before i ++ Linked new_life ∷ [])
+      ≡ None
+  unbegun_now i d j later = dite (ℕ_discrete d c)
+      (λ is.
+      let at : (standing opened d).1 ≡ g = ap (λ (i : ℕ). (standing opened i).1) is
+      ∙ ap (λ (s : Standing). s.1) stands_here in
+      subst (λ (n : ℕ). label_of_life (life n j) 0 (before i ++ Linked new_life ∷ []) ≡ None) (sym is)
+      (life_linked_else (life c j) 0 (before i) new_life
+      (ap₂ (λ a b. a && b) (eq-eqb c c refl) (ne_eqb j g (λ e. omega (arith, e, at, later))))
+      ∙ p.unbegun i c j (omega (arith, at, later, next))))
+      (λ ne. life_linked_else (life d j) 0 (before i) new_life (other_of_chunk d c j g ne)
+      ∙ p.unbegun i d j (subst (λ (n : ℕ). n < j) (ap (λ (s : Standing). s.1) (stands_there d ne)) later))
 
   pub link_labels : HasLabels opened
   link_labels = record {
-    labelled = λ d mine used. dite (ℕ_discrete d c)
-        (λ is. subst (λ (j : ℕ). label_of_life (life j (standing opened j).1) 0 (k.labels ++ Linked new_life ∷ [])
-        ≡ Some (label_word j 0 (k.labels ++ Linked new_life ∷ []))) (sym is)
-        (subst (λ (s : Standing). label_of_life (life c s.1) 0 (k.labels ++ Linked new_life ∷ []) ≡ Some
-        (label_word c 0 (k.labels ++ Linked new_life ∷ []))) (sym stands_here) label_here))
-        (λ ne. subst (λ (s : Standing). label_of_life (life d s.1) 0 (k.labels ++ Linked new_life ∷ []) ≡ Some
-        (label_word d 0 (k.labels ++ Linked new_life ∷ []))) (sym (stands_there d ne))
-        (life_linked_else (life d (standing k d).1) 0 k.labels new_life (other_of_chunk d c (standing k d).1 g ne)
-        ∙ p.labelled d mine (subst (λ (s : Standing). IsUsed s.0) (stands_there d ne) used)
-        ∙ ap (λ (y : ℕ). Some y) (sym (word_linked d 0 k.labels new_life))));
-    unbegun = λ d j later. dite (ℕ_discrete d c)
-        (λ is.
-        let at : (standing opened d).1 ≡ g = ap (λ (i : ℕ). (standing opened i).1) is
-        ∙ ap (λ (s : Standing). s.1) stands_here in
-        subst (λ (i : ℕ). label_of_life (life i j) 0 (k.labels ++ Linked new_life ∷ []) ≡ None) (sym is)
-        (life_linked_else (life c j) 0 k.labels new_life
-        (ap₂ (λ a b. a && b) (eq-eqb c c refl) (ne_eqb j g (λ e. omega (arith, e, at, later))))
-        ∙ p.unbegun c j (omega (arith, at, later, next))))
-        (λ ne. life_linked_else (life d j) 0 k.labels new_life (other_of_chunk d c j g ne)
-        ∙ p.unbegun d j (subst (λ (i : ℕ). i < j) (ap (λ (s : Standing). s.1) (stands_there d ne)) later));
+    labelled = λ i d mine used. subst (λ (l : List LabelStep). label_of_life (life d (standing opened d).1) 0 l ≡ Some
+        (label_word d 0 l)) (sym (now i)) (labelled_now i d mine used);
+    unbegun = λ i d j later. subst (λ (l : List LabelStep). label_of_life (life d j) 0 l ≡ None) (sym (now i))
+        (unbegun_now i d j later);
   }

@@ -1,5 +1,5 @@
 -- Looks of a class's seat at a chunk change nothing that is counted.
-use Rattle.std.proofs.Common.{◌≡◌, ◌+◌, ℕ, ◌*◌, ◌/◌, ◌^◌, ◌<◌, ◌≤◌, ◌&&◌, eqb, cond, not, [], ◌∷◌, ◌++◌, None, refl, sym, subst, arith}
+use Rattle.std.proofs.Common.{◌+◌, ℕ, ◌/◌, ◌^◌, ◌<◌, ◌≤◌, ◌&&◌, eqb, cond, not, [], ◌∷◌, ◌++◌, None, refl, arith}
 use mathlib.Core.Option.{none}
 use Rattle.atomic_table.specs.Table.{step, Allows}
 use Rattle.bump_rules.specs.declared.bumps.AppliedBump.{AppliedBump}
@@ -15,13 +15,14 @@ use Rattle.bump_steps.specs.declared.views.Kind.{Kind}
 use Rattle.bump_steps.specs.declared.views.Kind.TheVariants as kind
 use Rattle.bump_steps.specs.declared.views.ClassPart.{ClassPart}
 use Rattle.bump_steps.specs.declared.views.View.{View}
-use Rattle.bump_steps.specs.Views.{Measure, held, named, saw, owners, strays, mislabels, misreads, owns, standing, last_label, shown_by, shows_time_only, of_owner, names_move, foreign_in, IsBacked}
+use Rattle.bump_steps.specs.Views.{Measure, held, named, saw, owners, strays, mislabels, misreads, owns, standing, last_word, shown_by, shows_time_only, of_owner, names_move, foreign_in, IsBacked}
 use Rattle.bump_steps.specs.Rule.{Sound, chunks, Kept}
-use Rattle.bump_steps.specs.Plays.{Sat, on_chunk, step_of}
-use Rattle.bump_steps.specs.Lives.{class_after_see_time, on_class, generation_load_tells, load_tells, time_load_tells}
+use Rattle.bump_steps.specs.Places.{head_place}
+use Rattle.bump_steps.specs.Plays.{Sat, on_chunk, on_time, step_of}
+use Rattle.bump_steps.specs.Lives.{on_class, generation_load_tells, load_tells, time_load_tells}
 use Rattle.bump_steps.proofs.LifeLabels.{have_on_first, noted_labels}
-use Rattle.bump_steps.proofs.Frame.{Same, Reaches, on_time, same_sound}
-use Rattle.bump_steps.proofs.StepLemmas.{at_chunk, time_chunk_is, on_first_total, on_first_le, owned_push, same_counts}
+use Rattle.bump_steps.proofs.Frame.{Same, Reaches, same_sound}
+use Rattle.bump_steps.proofs.StepLemmas.{at_chunk, at_time, on_first_total, on_first_le, owned_push, same_counts}
 use Rattle.bump_steps.proofs.Told.{tells}
 
 -- the class noted a step of this kind, for no bump
@@ -37,9 +38,9 @@ module _ (kind : Kind) (c n : ℕ) (v : View) where
   look_same b owners = on_first_total (λ k. cond (owns b k) 1 0) (noted_by kind c n) (λ k. refl) v.classes
   look_same b (strays s) = on_first_total (λ k. cond (owns b k && not (is_standing (standing k b) s)) 1 0)
       (noted_by kind c n) (λ k. refl) v.classes
-  look_same b (mislabels x) = on_first_total (λ k. cond (owns b k && not (eqb (last_label k b) x)) 1 0)
+  look_same b (mislabels i x) = on_first_total (λ k. cond (owns b k && not (eqb (last_word i k b) x)) 1 0)
       (noted_by kind c n) (λ k. refl) v.classes
-  look_same b (misreads j x) = refl
+  look_same b (misreads i j x) = refl
 
   -- and shows what was shown, and no move
   pub look_backed : IsBacked v (on_class (noted_by kind c n) v)
@@ -77,7 +78,7 @@ module _ (kind : Kind) (c n : ℕ) (v : View) where
 
 module _ (key : Config) (slots id : ℕ) (m : Sat) (c : ℕ) (near : c < chunks key) where
   -- whatever is noted of the word that was found
-  reaches_by_look : (kind : Kind) (y n x : ℕ) (t : Measure → ℕ) (tell : Sat → Type 0) → Sound key.refs_limit n x t
+  reaches_by_look : (kind : Kind) (y n : ℕ) (x : ℕ → ℕ) (t : Measure → ℕ) (tell : Sat → Type 0) → Sound key.refs_limit n x t
       → tell (on_class (noted_by kind c y) m.0, m.1) → Reaches key c m tell n x t
   reaches_by_look kind y n x t tell o told = (
     on_class (noted_by kind c y) m.0,
@@ -89,24 +90,21 @@ module _ (key : Config) (slots id : ℕ) (m : Sat) (c : ℕ) (near : c < chunks 
   )
 
   -- any class may look at any chunk
-  pub may_load : Allows (Kept key) slots id m (3 * c + 9) (λ n. n)
-      (on_chunk load_tells (step slots (3 * c + 9) 0 0 none) m)
+  pub may_load : Allows (Kept key) slots id m (head_place slots c) (λ n. n)
+      (on_chunk load_tells (step slots (head_place slots c) 0 0 none) m)
   may_load = at_chunk load_tells key slots id m c 0 (λ n. n) near (λ n x t limits o a.
       reaches_by_look kind.Load n n x t (load_tells c 0 m n) o
       (refl, (o.head, o.spells, tells c key.refs_limit n x m.0 t o a)))
 
   -- also for its generation
-  pub may_see_generation : Allows (Kept key) slots id m (3 * c + 9) (λ n. n)
-      (on_chunk generation_load_tells (step slots (3 * c + 9) 0 0 none) m)
+  pub may_see_generation : Allows (Kept key) slots id m (head_place slots c) (λ n. n)
+      (on_chunk generation_load_tells (step slots (head_place slots c) 0 0 none) m)
   may_see_generation = at_chunk generation_load_tells key slots id m c 0 (λ n. n) near (λ n x t limits o a.
       reaches_by_look kind.SeeGeneration (n / 2 ^ generation_first) n x t (generation_load_tells c 0 m n) o
       (refl, (o.head, o.spells, tells c key.refs_limit n x m.0 t o a)))
 
   -- and at its time
-  pub may_see_time : Allows (Kept key) slots id m (3 * c + 10) (λ y. y)
-      (time_load_tells (step slots (3 * c + 10) 0 0 none) m)
-  may_see_time = subst (λ (d : ℕ). Allows (Kept key) slots id m (3 * c + 10) (λ y. y)
-      (λ y w. w ≡ (on_class (class_after_see_time d y) m.0, m.1))) (sym (time_chunk_is c))
-      (on_time key slots id m c (λ y. y) (λ y w. w ≡ (on_class (class_after_see_time c y) m.0, m.1)) near
-      (λ y n x t limits o a. reaches_by_look kind.SeeTime y n x t
-      (λ w. w ≡ (on_class (class_after_see_time c y) m.0, m.1)) o refl))
+  pub may_see_time : Allows (Kept key) slots id m (head_place slots c + 1) (λ y. y)
+      (on_time time_load_tells (step slots (head_place slots c + 1) 0 0 none) m)
+  may_see_time = at_time time_load_tells key slots id m c 0 (λ y. y) (λ y. y) near
+      (λ y n x t limits o a. reaches_by_look kind.SeeTime y n x t (time_load_tells c 0 m y) o refl)

@@ -1,5 +1,5 @@
 -- The marks that a worker leaves, and its time: whatever the other seats have, a worker's seat can go on.
-use Rattle.std.proofs.Common.{◌≡◌, ℕ, ◌+◌, ◌-◌, ◌*◌, ◌/◌, ◌^◌, ◌<◌, ◌≤◌, ◌≢◌, ◌&&◌, ◌==◌, cond, not, Bool, true, false, List, [], ◌∷◌, length, None, refl, sym, ap, ◌∙◌, subst, arith, eq-eqb, ne_eqb, bit_or, bit_and, if◌then◌else◌}
+use Rattle.std.proofs.Common.{◌≡◌, ℕ, ◌+◌, ◌-◌, ◌/◌, ◌^◌, ◌<◌, ◌≤◌, ◌≢◌, ◌&&◌, ◌==◌, cond, not, Bool, true, false, List, [], ◌∷◌, length, None, refl, sym, ap, ◌∙◌, subst, arith, eq-eqb, ne_eqb, bit_or, bit_and, if◌then◌else◌}
 use mathlib.Core.Logic.{dite}
 use mathlib.Core.Option.{none}
 use native.Mathlib.Decide.{ℕ_discrete}
@@ -29,10 +29,11 @@ use Rattle.bump_steps.specs.declared.views.WorkerPart.{WorkerPart}
 use Rattle.bump_steps.specs.declared.views.View.{View}
 use Rattle.bump_steps.specs.Views.{Measure, held, named, saw, owners, strays, mislabels, misreads, in_hand, is_fetch, is_fetch_of, weight, shown_by, IsBacked}
 use Rattle.bump_steps.specs.Rule.{Sound, chunks, Kept}
-use Rattle.bump_steps.specs.Plays.{Sat, on_chunk, on_first, step_of}
+use Rattle.bump_steps.specs.Places.{head_place}
+use Rattle.bump_steps.specs.Plays.{Sat, on_chunk, on_time, on_first, step_of}
 use Rattle.bump_steps.specs.Marks.{on_worker, noted, hits_after, worker_after_fetch, trying, attempting, worker_after_mark, done, worker_after_unmark, worker_after_store_time, fetch_tells, mark_tells, unmark_tells, store_time_tells, MayMark}
-use Rattle.bump_steps.proofs.Frame.{Same, on_time, same_sound}
-use Rattle.bump_steps.proofs.StepLemmas.{time_chunk_is, at_chunk, on_first_total, same_counts, one_life, other_life, other_chunk}
+use Rattle.bump_steps.proofs.Frame.{Same, same_sound}
+use Rattle.bump_steps.proofs.StepLemmas.{at_time, at_chunk, on_first_total, same_counts, one_life, other_life, other_chunk}
 use Rattle.bump_steps.proofs.Told.{tells}
 
 -- a change of the first element that adds the same to each term adds it to the sum
@@ -74,8 +75,8 @@ quiet_same b f v q (named j) = on_first_total (λ w. count_of (life b j) w.hits)
 quiet_same b f v q (saw j) = on_first_total (λ w. how_many (is_fetch_of b j) w.steps) f (q.steps j) v.workers
 quiet_same b f v q owners = refl
 quiet_same b f v q (strays s) = refl
-quiet_same b f v q (mislabels x) = refl
-quiet_same b f v q (misreads j x) = refl
+quiet_same b f v q (mislabels i x) = refl
+quiet_same b f v q (misreads i j x) = refl
 
 -- a step that isn't a fetch is none of the fetches
 other_steps : (k : Kind) → is_fetch k ≡ false → (b j c n : ℕ) (p : WorkerPart) → how_many (is_fetch_of b j)
@@ -156,7 +157,7 @@ is_its_fetch c n g e j = ap {B = ℕ} (λ (a : Bool). cond ((c == c) && a) 1 0) 
 
 module _ (key : Config) (slots id : ℕ) (m : Sat) (c : ℕ) (near : c < chunks key) where
   -- the seat has a worker's part, and its step finds this word
-  module _ (has : 0 < length m.0.workers) (n x : ℕ) (t : Measure → ℕ) (o : Sound key.refs_limit n x t) where
+  module _ (has : 0 < length m.0.workers) (n : ℕ) (x : ℕ → ℕ) (t : Measure → ℕ) (o : Sound key.refs_limit n x t) where
     abbrev pub found : Head
     found = o.head
 
@@ -210,8 +211,8 @@ module _ (key : Config) (slots id : ℕ) (m : Sat) (c : ℕ) (near : c < chunks 
         )
     fetch_apart b ne owners = refl
     fetch_apart b ne (strays s) = refl
-    fetch_apart b ne (mislabels y) = refl
-    fetch_apart b ne (misreads j y) = refl
+    fetch_apart b ne (mislabels i y) = refl
+    fetch_apart b ne (misreads i j y) = refl
 
     module _ (u : Measure → ℕ) (moves : (y : Measure) → u y + weight c y m.0 ≡ t y + weight c y after) where
       -- the same of all views together
@@ -254,16 +255,16 @@ module _ (key : Config) (slots id : ℕ) (m : Sat) (c : ℕ) (near : c < chunks 
         lawful = lawful;
         owned = omega (arith, moves owners, o.owned);
         agreed = omega (arith, moves (strays (o.at, o.head.generation)), o.agreed);
-        labelled = omega (arith, moves (mislabels x), o.labelled);
-        read = omega (arith, moves (misreads o.head.generation x), o.read);
+        labelled = λ i. omega (arith, moves (mislabels i (x i)), o.labelled i);
+        read = λ i. omega (arith, moves (misreads i o.head.generation (x i)), o.read i);
         hit = λ g some. dite (ℕ_discrete g o.head.generation)
             (λ e. omega (arith, lawful.fetched, ap (λ (k : ℕ). u (named k)) e))
             (λ ne. omega (arith, names g, o.hit g (omega (arith, some, saws g, other_life of g ne))));
       }
 
   -- a fetch is allowed where the seat has a worker's part
-  pub may_fetch : 0 < length m.0.workers → Allows (Kept key) slots id m (3 * c + 9)
-      (λ n. bit_or n (2 ^ fetched_first)) (on_chunk fetch_tells (step slots (3 * c + 9) (2 ^ fetched_first) 0 none) m)
+  pub may_fetch : 0 < length m.0.workers → Allows (Kept key) slots id m (head_place slots c)
+      (λ n. bit_or n (2 ^ fetched_first)) (on_chunk fetch_tells (step slots (head_place slots c) (2 ^ fetched_first) 0 none) m)
   may_fetch has = at_chunk fetch_tells key slots id m c (2 ^ fetched_first) (λ n. bit_or n (2 ^ fetched_first)) near
       (λ n x t limits o a. (
         on_worker (worker_after_fetch (life c o.head.generation) o.head) m.0,
@@ -274,8 +275,8 @@ module _ (key : Config) (slots id : ℕ) (m : Sat) (c : ℕ) (near : c < chunks 
       ))
 
   -- ACTIVE may be set where the seat's own fetch shows that FETCHED is set
-  pub may_mark : MayMark c m.0 → Allows (Kept key) slots id m (3 * c + 9) (λ n. bit_or n (2 ^ active_first))
-      (on_chunk mark_tells (step slots (3 * c + 9) (2 ^ active_first) 0 none) m)
+  pub may_mark : MayMark c m.0 → Allows (Kept key) slots id m (head_place slots c) (λ n. bit_or n (2 ^ active_first))
+      (on_chunk mark_tells (step slots (head_place slots c) (2 ^ active_first) 0 none) m)
   may_mark may = at_chunk mark_tells key slots id m c (2 ^ active_first) (λ n. bit_or n (2 ^ active_first)) near
       (λ n x t limits o a.
       let l : ItemId = life c o.head.generation in
@@ -305,8 +306,8 @@ module _ (key : Config) (slots id : ℕ) (m : Sat) (c : ℕ) (near : c < chunks 
       ))
 
   -- it may always be cleared
-  pub may_unmark : Allows (Kept key) slots id m (3 * c + 9) (λ n. bit_and n (2 ^ 64 - 1 - 2 ^ active_first))
-      (on_chunk unmark_tells (step slots (3 * c + 9) (2 ^ 64 - 1 - 2 ^ active_first) 0 none) m)
+  pub may_unmark : Allows (Kept key) slots id m (head_place slots c) (λ n. bit_and n (2 ^ 64 - 1 - 2 ^ active_first))
+      (on_chunk unmark_tells (step slots (head_place slots c) (2 ^ 64 - 1 - 2 ^ active_first) 0 none) m)
   may_unmark = at_chunk unmark_tells key slots id m c (2 ^ 64 - 1 - 2 ^ active_first)
       (λ n. bit_and n (2 ^ 64 - 1 - 2 ^ active_first)) near (λ n x t limits o a.
       let l : ItemId = life c o.head.generation in (
@@ -331,11 +332,9 @@ module _ (key : Config) (slots id : ℕ) (m : Sat) (c : ℕ) (near : c < chunks 
       ))
 
   -- and the rule says nothing of time words
-  pub may_store_time : (now : ℕ) → Allows (Kept key) slots id m (3 * c + 10) (λ _. now)
-      (λ _. store_time_tells (step slots (3 * c + 10) now 0 none) m now)
-  may_store_time now = subst (λ (d : ℕ). Allows (Kept key) slots id m (3 * c + 10) (λ _. now)
-      (λ _ w. w ≡ (on_worker (worker_after_store_time (life d 0) now) m.0, m.1))) (sym (time_chunk_is c))
-      (on_time key slots id m c (λ _. now) (λ _ w. w ≡ (on_worker (worker_after_store_time (life c 0) now) m.0, m.1))
+  pub may_store_time : (now : ℕ) → Allows (Kept key) slots id m (head_place slots c + 1) (λ _. now)
+      (λ _. on_time store_time_tells (step slots (head_place slots c + 1) now 0 none) m now)
+  may_store_time now = at_time store_time_tells key slots id m c now (λ _. now) (λ _. now)
       near (λ y n x t limits o a. (
         on_worker (worker_after_store_time (life c 0) now) m.0,
         (λ u moves. same_sound key.refs_limit n x t u
@@ -344,4 +343,4 @@ module _ (key : Config) (slots id : ℕ) (m : Sat) (c : ℕ) (near : c < chunks 
         (λ b ne. quiet_same b (worker_after_store_time (life c 0) now) m.0 (store_time_quiet b (life c 0) now)),
         worker_backed (worker_after_store_time (life c 0) now) (λ p. refl) m.0,
         refl,
-      )))
+      ))

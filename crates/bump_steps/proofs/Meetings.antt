@@ -1,6 +1,6 @@
 -- A hold meets its class: each label that it read is the one that the class has for the chunk. And a lane meets a class:
 -- what both have of moves for bumps agrees.
-use Rattle.std.proofs.Common.{◌≡◌, ℕ, ◌+◌, ◌*◌, ◌<◌, ◌&&◌, eqb, not, Bool, true, false, refl, sym, ap, ◌∙◌, subst, arith, eqb-true}
+use Rattle.std.proofs.Common.{◌≡◌, ℕ, suc, ◌+◌, ◌*◌, ◌<◌, ◌&&◌, eqb, not, Bool, true, false, refl, sym, ap, ◌∙◌, subst, arith, eqb-true}
 use mathlib.Core.Option.{none}
 use native.Mathlib.Nat.{one-mul}
 use Rattle.atomic_table.specs.Table.{Allows, step}
@@ -11,13 +11,14 @@ use Rattle.bump_steps.specs.declared.views.HoldPart.{HoldPart}
 use Rattle.bump_steps.specs.declared.views.ClassPart.{ClassPart}
 use Rattle.bump_steps.specs.declared.views.View.{View}
 use Rattle.bump_rules.specs.Lives.{life, one_if}
-use Rattle.bump_steps.specs.Views.{Measure, held, mislabels, misreads, misread, differs, owns, standing, last_label, weight}
+use Rattle.bump_steps.specs.Views.{Measure, held, mislabels, misreads, misread, differs, owns, standing, last_word, reads_of, weight}
 use Rattle.bump_steps.specs.Rule.{Sound, chunks, Kept}
-use Rattle.bump_steps.specs.Plays.{Sat, on_chunk, Told, Stands}
+use Rattle.bump_steps.specs.Places.{head_place}
+use Rattle.bump_steps.specs.Plays.{Sat, on_label, Told, Stands}
 use Rattle.bump_steps.proofs.Told.{tells, stands_alone}
 use Rattle.bump_steps.specs.Meetings.{load_to_meet_tells, load_to_meet_lane_tells, Meets}
-use Rattle.bump_steps.proofs.Frame.{Amid, on_label, on_spare, same_sound}
-use Rattle.bump_steps.proofs.StepLemmas.{one_life, label_chunk_is}
+use Rattle.bump_steps.proofs.Frame.{Amid, on_words_load, on_spare, same_sound}
+use Rattle.bump_steps.proofs.StepLemmas.{at_label, one_life}
 
 equal_where : (own b : Bool) → own ≡ true → bit (own && not b) ≡ 0 → b ≡ true
 equal_where true true o e = refl
@@ -25,10 +26,12 @@ equal_where true false o e = absurd (omega arith)
 equal_where false b o e = absurd (cc o)
 
 -- where the rule holds, the label word is what both know
-pub met_labels : (c limit n x : ℕ) (v : View) (t : Measure → ℕ) (o : Sound limit n x t) → Amid c v t → Meets c v x
+pub met_labels : (c limit n : ℕ) (x : ℕ → ℕ) (v : View) (t : Measure → ℕ) (o : Sound limit n x t) → Amid c v t
+    → Meets c v (x 0)
 met_labels c limit n x v t o a k h ks hs mine of = record {
-  label = ap (last_label k) of ∙ eqb-true _ _ (equal_where (owns c k) (eqb (last_label k c) x) mine own);
-  read = sym (one-mul (total (differs x) h.labels)) ∙ ap (λ (j : ℕ). j * total (differs x) h.labels) (sym one) ∙ read;
+  label = last 0;
+  read = read 0;
+  words = λ j. ap (λ (y : ℕ). total (differs y) (reads_of (suc j) h.labels h.words)) (last (suc j)) ∙ read (suc j);
   used = subst (λ (d : ℕ). IsUsed (standing k d).0) (sym of) (told.in_use g held_here (standing k c) st);
   generation = ap (λ (d : ℕ). (standing k d).1) of ∙ sym (told.stood (standing k c) st).1 ∙ sym gen;
 }
@@ -42,13 +45,17 @@ met_labels c limit n x v t o a k h ks hs mine of = record {
     g : ℕ
     g = h.life.generation
 
-    own : bit (owns c k && not (eqb (last_label k c) x)) ≡ 0
-    own = omega (
+    own : (i : ℕ) → bit (owns c k && not (eqb (last_word i k c) (x i))) ≡ 0
+    own i = omega (
       arith,
-      a.mine (mislabels x),
-      o.labelled,
-      ap (total (λ (k : ClassPart). bit (owns c k && not (eqb (last_label k c) x)))) ks,
+      a.mine (mislabels i (x i)),
+      o.labelled i,
+      ap (total (λ (k : ClassPart). bit (owns c k && not (eqb (last_word i k c) (x i))))) ks,
     )
+
+    last : (i : ℕ) → last_word i k h.life.chunk ≡ x i
+    last i = ap (last_word i k) of
+        ∙ eqb-true _ _ (equal_where (owns c k) (eqb (last_word i k c) (x i)) mine (own i))
 
     one : one_if (life c h.life.generation) h.life ≡ 1
     one = ap (λ (d : ℕ). one_if (life d h.life.generation) h.life) (sym of) ∙ one_life h.life
@@ -59,16 +66,26 @@ met_labels c limit n x v t o a k h ks hs mine of = record {
     gen : h.life.generation ≡ o.head.generation
     gen = (o.lawful.used h.life.generation (omega (arith, a.mine (held h.life.generation), held_here))).0
 
-    read : one_if (life c h.life.generation) h.life * total (differs x) h.labels ≡ 0
-    read = subst (λ (j : ℕ). one_if (life c j) h.life * total (differs x) h.labels ≡ 0) (sym gen)
-        (omega (arith, a.mine (misreads o.head.generation x), o.read, ap (total (misread c o.head.generation x)) hs))
+    wrong : ℕ → ℕ
+    wrong i = total (differs (x i)) (reads_of i h.labels h.words)
+
+    unread : (i : ℕ) → one_if (life c h.life.generation) h.life * wrong i ≡ 0
+    unread i = subst (λ (j : ℕ). one_if (life c j) h.life * wrong i ≡ 0) (sym gen)
+        (omega (
+          arith,
+          a.mine (misreads i o.head.generation (x i)),
+          o.read i,
+          ap (total (misread i c o.head.generation (x i))) hs,
+        ))
+
+    read : (i : ℕ) → wrong i ≡ 0
+    read i = sym (one-mul (wrong i)) ∙ ap (λ (j : ℕ). j * wrong i) (sym one) ∙ unread i
 
 pub may_load_to_meet : (key : Config) (slots id : ℕ) (m : Sat) (c : ℕ) → c < chunks key → Allows (Kept key) slots id m
-    (3 * c + 11) (λ x. x) (on_chunk load_to_meet_tells (step slots (3 * c + 11) 0 0 none) m)
-may_load_to_meet key slots id m c near =
-    subst (λ (d : ℕ). Allows (Kept key) slots id m (3 * c + 11) (λ x. x) (λ x n. load_to_meet_tells d 0 m x n))
-    (sym (label_chunk_is c))
-    (on_label key slots id m c (λ x. x) (λ x n. load_to_meet_tells c 0 m x n) near (λ n x t limits o a. (
+    (head_place slots c + (2 + 0)) (λ x. x)
+    (on_label load_to_meet_tells (step slots (head_place slots c + (2 + 0)) 0 0 none) m)
+may_load_to_meet key slots id m c near = at_label load_to_meet_tells key slots id m c 0 (λ x. x) (λ x. x)
+    (on_words_load key slots id m c 0 (λ x n. load_to_meet_tells c 0 m x n) (omega arith) near (λ n x t limits o a. (
       m.0,
       (λ u moved. same_sound key.refs_limit n x t u (λ y. let e = moved y in omega arith) o),
       (λ b ne y. refl),

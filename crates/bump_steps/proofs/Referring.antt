@@ -1,8 +1,10 @@
 -- A reader's steps on references and labels: whatever the other seats have, its seat can go on.
-use Rattle.std.proofs.Common.{◌≡◌, ◌≢◌, ℕ, ◌+◌, ◌-◌, ◌*◌, ◌/◌, ◌%◌, ◌^◌, ◌<◌, ◌≤◌, ◌&&◌, ◌==◌, eqb, cond, not, nat_lt, Bool, true, false, List, [], ◌∷◌, ◌++◌, None, refl, sym, ap, ◌∙◌, subst, arith, eq-eqb, eqb-true}
+use Rattle.std.proofs.Common.{◌≡◌, ◌≢◌, ℕ, suc, get_or, ◌+◌, ◌-◌, ◌*◌, ◌/◌, ◌%◌, ◌^◌, ◌<◌, ◌≤◌, ◌&&◌, ◌==◌, eqb, cond, not, nat_lt, Bool, true, false, List, [], ◌∷◌, ◌++◌, None, refl, sym, ap, ◌∙◌, subst, arith, mul-zero, eq-eqb, eqb-true}
 use Rattle.std.specs.Prelude.{if◌then◌else◌}
 use Rattle.std.proofs.lemmas.Bool.{and_parts, ltb-true}
 use mathlib.Core.Option.{none}
+use mathlib.Core.Logic.{dite}
+use native.Mathlib.Decide.{ℕ_discrete}
 use native.Mathlib.Nat.{zero-mul, one-mul}
 use prog.Atomic.{either}
 use Rattle.atomic_table.specs.Table.{step, Allows, Enters}
@@ -12,6 +14,7 @@ use Rattle.bump_rules.specs.declared.bumps.Outcome.{Outcome}
 use Rattle.bump_rules.specs.declared.bumps.Outcome.TheVariants as outcome
 use Rattle.bump_rules.specs.declared.configs.Config.{Config}
 use Rattle.bump_rules.specs.declared.items.Head.{Head}
+use Rattle.bump_rules.specs.declared.items.ItemId.{ItemId}
 use Rattle.bump_rules.specs.History.{Standing}
 use Rattle.bump_rules.specs.Lawful.{Lawful}
 use Rattle.bump_rules.specs.Lives.{life, one_if, count_of}
@@ -29,32 +32,34 @@ use Rattle.bump_steps.specs.declared.views.Kind.{Kind}
 use Rattle.bump_steps.specs.declared.views.Kind.TheVariants as kind
 use Rattle.bump_steps.specs.declared.views.View.{View}
 use Rattle.bump_steps.specs.declared.views.WorkerPart.{WorkerPart}
-use Rattle.bump_steps.specs.Plays.{Sat, on_chunk, behind, on_first, step_of}
+use Rattle.bump_steps.specs.Places.{head_place}
+use Rattle.bump_steps.specs.Plays.{Sat, Found, on_chunk, on_label, on_word, behind, on_first, step_of}
 use Rattle.bump_steps.specs.Marks.{noted, on_worker}
-use Rattle.bump_steps.specs.References.{load_to_take_tells, new_hold, view_after_take, take_tells, HasHold, view_after_release, release_of_hold_tells, hold_after_look, view_after_look_of_hold, look_of_hold_tells, hold_after_label_load, view_after_label_load, IsLabel, label_load_tells, load_without_seat_tells}
+use Rattle.bump_steps.specs.References.{load_to_take_tells, new_hold, view_after_take, take_tells, HasHold, view_after_release, release_of_hold_tells, hold_after_look, view_after_look_of_hold, look_of_hold_tells, label_load_tells, word_load_tells, IsAnyHead, load_without_seat_tells}
 use Rattle.bump_steps.specs.Rule.{Sound, chunks, Kept, blank, HasFittingLimit}
-use Rattle.bump_steps.specs.Views.{Measure, held, named, saw, owners, strays, mislabels, misreads, is_fetch, is_fetch_of, in_hand, misread, differs, weight, tally, claims, evidence, shown_by, moves, settled, in_progress, underway, foreign, workers_of, lanes_of, untidy, IsBacked}
+use Rattle.bump_steps.specs.Views.{Measure, held, named, saw, owners, strays, mislabels, misreads, is_fetch, is_fetch_of, in_hand, misread, reads_of, differs, weight, tally, claims, evidence, shown_by, moves, settled, in_progress, underway, foreign, workers_of, lanes_of, untidy, IsBacked}
 use Rattle.bump_steps.proofs.LifeLabels.{labelled_push}
-use Rattle.bump_steps.proofs.Frame.{Same, Amid, Reaches, on_label, same_sound}
-use Rattle.bump_steps.proofs.StepLemmas.{at_chunk, label_chunk_is, on_first_total, same_counts, one_life, other_life, other_chunk}
+use Rattle.bump_steps.proofs.LabelLists.{none_read, reads_push_label, reads_push_word, reads_push_same}
+use Rattle.bump_steps.proofs.Frame.{Same, Amid, Reaches, on_words_load, same_sound}
+use Rattle.bump_steps.proofs.StepLemmas.{at_chunk, at_label, at_word, on_first_total, same_counts, one_life, other_life, other_chunk}
 use Rattle.bump_steps.proofs.Told.{tells}
 
 -- Two views count the same for the chunk but for references, and the second one no more labels other than x that holds
 -- read.
-record Beside (c x : ℕ) (v w : View) : Type 0 where
+record Beside (c : ℕ) (x : ℕ → ℕ) (v w : View) : Type 0 where
   first_hits : (g : ℕ) → weight c (named g) w ≡ weight c (named g) v
   fetches : (g : ℕ) → weight c (saw g) w ≡ weight c (saw g) v
   owning : weight c owners w ≡ weight c owners v
   straying : (s : Standing) → weight c (strays s) w ≡ weight c (strays s) v
-  labels : (y : ℕ) → weight c (mislabels y) w ≡ weight c (mislabels y) v
-  reads : (g : ℕ) → weight c (misreads g x) w ≤ weight c (misreads g x) v
+  labels : (i y : ℕ) → weight c (mislabels i y) w ≡ weight c (mislabels i y) v
+  reads : (i g : ℕ) → weight c (misreads i g (x i)) w ≤ weight c (misreads i g (x i)) v
 
 -- what counts the same on both sides of a step is the same before and behind it
 same_where : (p q a b : ℕ) → q + a ≡ p + b → b ≡ a → p ≡ q
 same_where p q a b moved same = omega arith
 
 -- where only the count of references changes, and with it the references of the views, the chunk stays sound
-refs_sound : (limit n p x c r : ℕ) (v w : View) (t u : Measure → ℕ)
+refs_sound : (limit n p : ℕ) (x : ℕ → ℕ) (c r : ℕ) (v w : View) (t u : Measure → ℕ)
     → ((y : Measure) → u y + weight c y v ≡ t y + weight c y w) → (o : Sound limit n x t)
     → Spells p (record o.head { refs = r })
     → Lawful limit (record o.head { refs = r }) o.at (λ g. u (held g)) (λ g. t (named g)) → Beside c x v w
@@ -68,8 +73,13 @@ refs_sound limit n p x c r v w t u moved o spells lawful b = record {
       (b.first_hits g) i) lawful;
   owned = omega (arith, moved owners, b.owning, o.owned);
   agreed = omega (arith, moved (strays (o.at, o.head.generation)), b.straying (o.at, o.head.generation), o.agreed);
-  labelled = omega (arith, moved (mislabels x), b.labels x, o.labelled);
-  read = omega (arith, moved (misreads o.head.generation x), b.reads o.head.generation, o.read);
+  labelled = λ i. omega (arith, moved (mislabels i (x i)), b.labels i (x i), o.labelled i);
+  read = λ i. omega (
+    arith,
+    moved (misreads i o.head.generation (x i)),
+    b.reads i o.head.generation,
+    o.read i,
+  );
   hit = λ g some. omega (
     arith,
     moved (named g),
@@ -126,8 +136,8 @@ module _ (step_kind : Kind) (plain : is_fetch step_kind ≡ false) (c n : ℕ) w
       (λ w. no_fetch b g w) v.workers
   noted_same v hs b owners = refl
   noted_same v hs b (strays s) = refl
-  noted_same v hs b (mislabels x) = refl
-  noted_same v hs b (misreads g x) = refl
+  noted_same v hs b (mislabels i x) = refl
+  noted_same v hs b (misreads i g x) = refl
 
 -- a view counts the same where its first hold noted a look
 looked_same : (n : ℕ) (v : View) (b : ℕ) → Same b v (view_after_look_of_hold n v)
@@ -137,9 +147,9 @@ looked_same n v b (named g) = refl
 looked_same n v b (saw g) = refl
 looked_same n v b owners = refl
 looked_same n v b (strays s) = refl
-looked_same n v b (mislabels x) = refl
-looked_same n v b (misreads g x) =
-    omega (arith, on_first_total (misread b g x) (hold_after_look n) (λ p. refl) v.holds)
+looked_same n v b (mislabels i x) = refl
+looked_same n v b (misreads i g x) =
+    omega (arith, on_first_total (misread i b g x) (hold_after_look n) (λ p. refl) v.holds)
 
 -- by the get table, a word by which a get is a hold is linked, of the generation, and has a count under the limit
 pub held_is : (limit g : ℕ) (h : Head) → get_of limit g h ≡ IsHeld → (h.linked ≡ true) × (h.generation ≡ g)
@@ -154,9 +164,14 @@ held_is limit g h is = by (is_of g h) refl (nat_lt h.refs limit) refl is
     by true of false few is = absurd (cc is)
     by false of few less is = absurd (cc is)
 
+-- a new hold read nothing
+unread_new : (i b j y : ℕ) (l : ItemId) → misread i b j y (new_hold l) ≡ 0
+unread_new i b j y l = ap (λ (z : List ℕ). one_if (life b j) l * total (differs y) z) (none_read i)
+    ∙ mul-zero (one_if (life b j) l)
+
 module _ (key : Config) (slots id : ℕ) (m : Sat) (c : ℕ) (near : c < chunks key) where
   -- a load by a worker, or its exchange that failed, changes no word, and nothing that counts
-  reaches_by_look : (kind : Kind) → is_fetch kind ≡ false → (n x : ℕ) (t : Measure → ℕ) (tell : Sat → Type 0)
+  reaches_by_look : (kind : Kind) → is_fetch kind ≡ false → (n : ℕ) (x : ℕ → ℕ) (t : Measure → ℕ) (tell : Sat → Type 0)
       → Sound key.refs_limit n x t
       → tell (on_worker (noted kind c n) m.0, m.1) → Reaches key c m tell n x t
   reaches_by_look kind plain n x t tell o told = (
@@ -169,15 +184,15 @@ module _ (key : Config) (slots id : ℕ) (m : Sat) (c : ℕ) (near : c < chunks 
   )
 
   -- a load by a worker
-  pub may_load_to_take : Allows (Kept key) slots id m (3 * c + 9) (λ n. n)
-      (on_chunk load_to_take_tells (step slots (3 * c + 9) 0 0 none) m)
+  pub may_load_to_take : Allows (Kept key) slots id m (head_place slots c) (λ n. n)
+      (on_chunk load_to_take_tells (step slots (head_place slots c) 0 0 none) m)
   may_load_to_take = at_chunk load_to_take_tells key slots id m c 0 (λ n. n) near
       (λ n x t limits o a. reaches_by_look kind.Load refl n x t (load_to_take_tells c 0 m n) o
       (refl, (o.head, o.spells, tells c key.refs_limit n x m.0 t o a)))
 
   -- a load by a hold changes no word, and nothing that counts
-  pub may_look_of_hold : Allows (Kept key) slots id m (3 * c + 9) (λ n. n)
-      (on_chunk look_of_hold_tells (step slots (3 * c + 9) 0 0 none) m)
+  pub may_look_of_hold : Allows (Kept key) slots id m (head_place slots c) (λ n. n)
+      (on_chunk look_of_hold_tells (step slots (head_place slots c) 0 0 none) m)
   may_look_of_hold = at_chunk look_of_hold_tells key slots id m c 0 (λ n. n) near (λ n x t limits o a. (
     view_after_look_of_hold n m.0,
     (λ u moved. same_sound key.refs_limit n x t u
@@ -188,7 +203,7 @@ module _ (key : Config) (slots id : ℕ) (m : Sat) (c : ℕ) (near : c < chunks 
   ))
 
   -- a reference is taken where the word is the one that the exchange expects
-  won : (g old : ℕ) (h : Head) → Spells old h → get_of key.refs_limit g h ≡ IsHeld → (n x : ℕ) (t : Measure → ℕ)
+  won : (g old : ℕ) (h : Head) → Spells old h → get_of key.refs_limit g h ≡ IsHeld → (n : ℕ) (x : ℕ → ℕ) (t : Measure → ℕ)
       → HasFittingLimit key → Sound key.refs_limit n x t → Amid c m.0 t → n ≡ old
       → Reaches key c m (take_tells c old m n) (old + 1) x t
   won g old h is may n x t limits o a hit =
@@ -217,9 +232,9 @@ module _ (key : Config) (slots id : ℕ) (m : Sat) (c : ℕ) (near : c < chunks 
               fetches = λ j. same c (saw j);
               owning = same c owners;
               straying = λ s. same c (strays s);
-              labels = λ y. same c (mislabels y);
+              labels = λ i y. same c (mislabels i y);
               reads =
-                  λ j. omega (arith, same c (misreads j x));
+                  λ i j. omega (arith, same c (misreads i j (x i)), unread_new i c j (x i) (life c k));
             })),
         apart (view_after_take c n m.0) k hs same,
         quiet m.0 (on_first (noted kind.Take c n) m.0.workers) hs m.0.returned (same_workers kind.Take c n m.0),
@@ -235,13 +250,13 @@ module _ (key : Config) (slots id : ℕ) (m : Sat) (c : ℕ) (near : c < chunks 
       apart w k hs same b ne (saw j) = same b (saw j)
       apart w k hs same b ne owners = same b owners
       apart w k hs same b ne (strays s) = same b (strays s)
-      apart w k hs same b ne (mislabels y) = same b (mislabels y)
-      apart w k hs same b ne (misreads j y) = omega (arith, same b (misreads j y))
+      apart w k hs same b ne (mislabels i y) = same b (mislabels i y)
+      apart w k hs same b ne (misreads i j y) = omega (arith, same b (misreads i j y), unread_new i b j y (life c k))
 
   -- the exchange that takes a hold
   pub may_take : (g old : ℕ) (h : Head) → Spells old h → get_of key.refs_limit g h ≡ IsHeld
-      → Allows (Kept key) slots id m (3 * c + 9) (λ n. either (eqb n old) (old + 1) n)
-      (on_chunk take_tells (step slots (3 * c + 9) old (old + 1) none) m)
+      → Allows (Kept key) slots id m (head_place slots c) (λ n. either (eqb n old) (old + 1) n)
+      (on_chunk take_tells (step slots (head_place slots c) old (old + 1) none) m)
   may_take g old h is may = at_chunk take_tells key slots id m c old (λ n. either (eqb n old) (old + 1) n) near
       (λ n x t limits o a.
       exchanged n old (old + 1) (λ p. Reaches key c m (take_tells c old m n) p x t)
@@ -276,12 +291,16 @@ module _ (key : Config) (slots id : ℕ) (m : Sat) (c : ℕ) (near : c < chunks 
     fewer n b ne (saw j) = refl
     fewer n b ne owners = refl
     fewer n b ne (strays s) = refl
-    fewer n b ne (mislabels y) = refl
-    fewer n b ne (misreads j y) =
-        omega (arith, first_term (misread b j y), unread_there b j (total (differs y) h.labels) ne)
+    fewer n b ne (mislabels i y) = refl
+    fewer n b ne (misreads i j y) =
+        omega (
+          arith,
+          first_term (misread i b j y),
+          unread_there b j (total (differs y) (reads_of i h.labels h.words)) ne,
+        )
 
     -- the hold's life is the chunk's
-    is_life : (n x : ℕ) (t : Measure → ℕ) (o : Sound key.refs_limit n x t) → Amid c m.0 t
+    is_life : (n : ℕ) (x : ℕ → ℕ) (t : Measure → ℕ) (o : Sound key.refs_limit n x t) → Amid c m.0 t
         → h.life.generation ≡ o.head.generation
     is_life n x t o a = (o.lawful.used h.life.generation
         (omega (
@@ -292,8 +311,8 @@ module _ (key : Config) (slots id : ℕ) (m : Sat) (c : ℕ) (near : c < chunks 
         ))).0
 
     -- a hold gives its reference back
-    releases : Allows (Kept key) slots id m (3 * c + 9) (λ n. (n + (2 ^ 64 - 1)) % 2 ^ 64)
-        (on_chunk release_of_hold_tells (step slots (3 * c + 9) 1 0 none) m)
+    releases : Allows (Kept key) slots id m (head_place slots c) (λ n. (n + (2 ^ 64 - 1)) % 2 ^ 64)
+        (on_chunk release_of_hold_tells (step slots (head_place slots c) 1 0 none) m)
     releases = at_chunk release_of_hold_tells key slots id m c 1 (λ n. (n + (2 ^ 64 - 1)) % 2 ^ 64) near
         (λ n x t limits o a.
         let g : ℕ = h.life.generation in
@@ -319,100 +338,134 @@ module _ (key : Config) (slots id : ℕ) (m : Sat) (c : ℕ) (near : c < chunks 
                 owning = refl;
                 straying = λ s. refl;
                 labels =
-                    λ y. refl;
-                reads = λ j. omega (arith, first_term (misread c j x));
+                    λ i y. refl;
+                reads = λ i j. omega (arith, first_term (misread i c j (x i)));
               })),
           fewer n,
           quiet m.0 m.0.workers (behind m.0.holds) (view_after_release n m.0).returned (λ w. refl),
           (refl, (o.head, o.spells, tells c key.refs_limit n x m.0 t o a)),
         ))
 
-    -- the hold with one more label
-    first_read : (x : ℕ) (f : HoldPart → ℕ) → total f (on_first (hold_after_label_load x) m.0.holds) ≡ f
-        (hold_after_label_load x h) + total f (behind m.0.holds)
-    first_read x f = ap (λ (l : List HoldPart). total f (on_first (hold_after_label_load x) l)) is
-
-    read_apart : (x b : ℕ) → b ≢ c → Same b m.0 (view_after_label_load x m.0)
-    read_apart x b ne (held j) =
-        omega (arith, on_first_total (λ p. one_if (life b j) p.life) (hold_after_label_load x) (λ p. refl) m.0.holds)
-    read_apart x b ne (named j) = refl
-    read_apart x b ne (saw j) = refl
-    read_apart x b ne owners = refl
-    read_apart x b ne (strays s) = refl
-    read_apart x b ne (mislabels y) = refl
-    read_apart x b ne (misreads j y) = omega (
-      arith,
-      first_read x (misread b j y),
-      first_term (misread b j y),
-      unread_there b j (total (differs y) (hold_after_label_load x h).labels) ne,
-      unread_there b j (total (differs y) h.labels) ne,
-    )
-
   -- for the contract
-  pub may_release : HasHold c m.0 → Allows (Kept key) slots id m (3 * c + 9) (λ n. (n + (2 ^ 64 - 1)) % 2 ^ 64)
-      (on_chunk release_of_hold_tells (step slots (3 * c + 9) 1 0 none) m)
+  pub may_release : HasHold c m.0 → Allows (Kept key) slots id m (head_place slots c) (λ n. (n + (2 ^ 64 - 1)) % 2 ^ 64)
+      (on_chunk release_of_hold_tells (step slots (head_place slots c) 1 0 none) m)
   may_release has = releases has.0 has.1 has.2
 
-  -- the label word is what the first hold of the chunk read
-  is_label : (n x : ℕ) (t : Measure → ℕ) → Sound key.refs_limit n x t → Amid c m.0 t → IsLabel c m.0 x
-  is_label n x t o a h is of =
+  -- a word is what the first hold of the chunk read
+  is_word : (i n : ℕ) (x : ℕ → ℕ) (t : Measure → ℕ) → Sound key.refs_limit n x t → Amid c m.0 t → (h : HoldPart)
+      → m.0.holds ≡ h ∷ behind m.0.holds → h.life.chunk ≡ c
+      → total (differs (x i)) (reads_of i h.labels h.words) ≡ 0
+  is_word i n x t o a h is of =
       let g : ℕ = h.life.generation in
       let gen : g ≡ o.head.generation = is_life h is of n x t o a in
-      let read : one_if (life c g) h.life * total (differs x) h.labels ≡ 0 =
-      subst (λ (j : ℕ). one_if (life c j) h.life * total (differs x) h.labels ≡ 0) (sym gen)
+      let wrong : ℕ = total (differs (x i)) (reads_of i h.labels h.words) in
+      let read : one_if (life c g) h.life * wrong ≡ 0 =
+      subst (λ (j : ℕ). one_if (life c j) h.life * wrong ≡ 0) (sym gen)
       (omega (
         arith,
-        a.mine (misreads o.head.generation x),
-        o.read,
-        first_term h is of (misread c o.head.generation x),
+        a.mine (misreads i o.head.generation (x i)),
+        o.read i,
+        first_term h is of (misread i c o.head.generation (x i)),
       )) in
-      sym (one-mul (total (differs x) h.labels)) ∙ ap (λ (j : ℕ). j * total (differs x) h.labels)
-      (sym (one_here h is of)) ∙ read
+      sym (one-mul wrong) ∙ ap (λ (j : ℕ). j * wrong) (sym (one_here h is of)) ∙ read
 
-  -- no label differs from itself
-  no_difference : (x : ℕ) (p : HoldPart) → total (differs x) (hold_after_label_load x p).labels ≡ total (differs x)
-      p.labels
-  no_difference x p = omega (
-    arith,
-    total_push (differs x) p.labels x,
-    ap {B = ℕ} (λ (b : Bool). cond b 0 1)
-        (eq-eqb x x refl),
-  )
+  -- A load of word i by a hold, which notes what it found: of its label, or of a further word.
+  module _ (i : ℕ) (ls : ℕ → HoldPart → List ℕ) (ws : ℕ → HoldPart → List (ℕ × ℕ))
+      (here : (y : ℕ) (p : HoldPart) → reads_of i (ls y p) (ws y p) ≡ reads_of i p.labels p.words ++ y ∷ [])
+      (there : (j y : ℕ) (p : HoldPart) → j ≢ i → reads_of j (ls y p) (ws y p) ≡ reads_of j p.labels p.words) where
+    abbrev pub read_by : ℕ → HoldPart → HoldPart
+    read_by y p = record p { labels = ls y p; words = ws y p }
+
+    abbrev pub after_read : ℕ → View
+    after_read y = record m.0 { holds = on_first (read_by y) m.0.holds }
+
+    -- no word differs from itself
+    no_difference : (x : ℕ → ℕ) (j : ℕ) (p : HoldPart) → total (differs (x j)) (reads_of j (ls (x i) p) (ws (x i) p))
+        ≡ total (differs (x j)) (reads_of j p.labels p.words)
+    no_difference x j p = dite (ℕ_discrete j i)
+        (λ is. subst (λ (k : ℕ). total (differs (x k)) (reads_of k (ls (x i) p) (ws (x i) p))
+        ≡ total (differs (x k)) (reads_of k p.labels p.words)) (sym is)
+        (ap (total (differs (x i))) (here (x i) p)
+        ∙ omega (
+          arith,
+          total_push (differs (x i)) (reads_of i p.labels p.words) (x i),
+          ap {B = ℕ} (λ (b : Bool). cond b 0 1)
+              (eq-eqb (x i) (x i) refl),
+        )))
+        (λ ne. ap (total (differs (x j))) (there j (x i) p ne))
+
+    module _ (h : HoldPart) (is : m.0.holds ≡ h ∷ behind m.0.holds) (of : h.life.chunk ≡ c) where
+      -- the first hold with what it read
+      first_read : (y : ℕ) (f : HoldPart → ℕ) → total f (on_first (read_by y) m.0.holds) ≡ f (read_by y h) + total f
+          (behind m.0.holds)
+      first_read y f = ap (λ (l : List HoldPart). total f (on_first (read_by y) l)) is
+
+      read_apart : (y b : ℕ) → b ≢ c → Same b m.0 (after_read y)
+      read_apart y b ne (held j) =
+          omega (arith, on_first_total (λ p. one_if (life b j) p.life) (read_by y) (λ p. refl) m.0.holds)
+      read_apart y b ne (named j) = refl
+      read_apart y b ne (saw j) = refl
+      read_apart y b ne owners = refl
+      read_apart y b ne (strays s) = refl
+      read_apart y b ne (mislabels k z) = refl
+      read_apart y b ne (misreads k j z) = omega (
+        arith,
+        first_read y (misread k b j z),
+        first_term h is of (misread k b j z),
+        unread_there h is of b j (total (differs z) (reads_of k (ls y h) (ws y h))) ne,
+        unread_there h is of b j (total (differs z) (reads_of k h.labels h.words)) ne,
+      )
+
+    may_read : HasHold c m.0 → i ≤ slots → Allows (Kept key) slots id m (head_place slots c + (2 + i)) (λ x. x)
+        (λ y w. (w ≡ (after_read y, m.1)) × ((h : HoldPart) → m.0.holds ≡ h ∷ behind m.0.holds → h.life.chunk ≡ c
+        → total (differs y) (reads_of i h.labels h.words) ≡ 0))
+    may_read has low = on_words_load key slots id m c i
+        (λ y w. (w ≡ (after_read y, m.1)) × ((h : HoldPart) → m.0.holds ≡ h ∷ behind m.0.holds → h.life.chunk ≡ c
+        → total (differs y) (reads_of i h.labels h.words) ≡ 0)) low near (λ n x t limits o a.
+        let same : (f : HoldPart → ℕ) → ((p : HoldPart) → f (read_by (x i) p) ≡ f p)
+        → total f (on_first (read_by (x i)) m.0.holds) ≡ total f m.0.holds =
+        λ f e. on_first_total f (read_by (x i)) e m.0.holds in
+        let held_same : (j : ℕ) → weight c (held j) (after_read (x i)) ≡ weight c (held j) m.0 =
+        λ j. omega (arith, same (λ p. one_if (life c j) p.life) (λ p. refl)) in (
+          after_read (x i),
+          (λ u moved. refs_sound key.refs_limit n n x c o.head.refs m.0 (after_read (x i)) t u moved o
+              o.spells
+              (subst (λ (y : ℕ → ℕ). Lawful key.refs_limit o.head o.at y (λ j. t (named j)))
+              (λ k j. same_where (t (held j)) (u (held j)) (weight c (held j) m.0)
+              (weight c (held j) (after_read (x i))) (moved (held j)) (held_same j) k) o.lawful)
+              (record {
+                first_hits = λ j. refl;
+                fetches = λ j. refl;
+                owning = refl;
+                straying = λ s. refl;
+                labels =
+                    λ k y. refl;
+                reads = λ k j. omega (
+                  arith,
+                  same (misread k c j (x k))
+                      (λ p. ap (λ (d : ℕ). one_if (life c j) p.life * d) (no_difference x k p)),
+                );
+              })),
+          read_apart has.0 has.1 has.2 (x i),
+          quiet m.0 m.0.workers (on_first (read_by (x i)) m.0.holds) m.0.returned (λ w. refl),
+          (refl, is_word i n x t o a),
+        ))
 
   -- a load of a label word, by a hold
-  pub may_load_label : HasHold c m.0 → Allows (Kept key) slots id m (3 * c + 11) (λ x. x)
-      (on_chunk label_load_tells (step slots (3 * c + 11) 0 0 none) m)
-  may_load_label has = subst (λ (d : ℕ). Allows (Kept key) slots id m (3 * c + 11) (λ x. x)
-      (λ x n. label_load_tells d 0 m x n)) (sym (label_chunk_is c))
-      (on_label key slots id m c (λ x. x) (λ x n. label_load_tells c 0 m x n) near (λ n x t limits o a.
-      let same : (f : HoldPart → ℕ) → ((p : HoldPart) → f (hold_after_label_load x p) ≡ f p)
-      → total f (on_first (hold_after_label_load x) m.0.holds) ≡ total f m.0.holds =
-      λ f e. on_first_total f (hold_after_label_load x) e m.0.holds in
-      let held_same : (j : ℕ) → weight c (held j) (view_after_label_load x m.0) ≡ weight c (held j) m.0 =
-      λ j. omega (arith, same (λ p. one_if (life c j) p.life) (λ p. refl)) in (
-        view_after_label_load x m.0,
-        (λ u moved. refs_sound key.refs_limit n n x c o.head.refs m.0 (view_after_label_load x m.0) t u moved o
-            o.spells
-            (subst (λ (y : ℕ → ℕ). Lawful key.refs_limit o.head o.at y (λ j. t (named j)))
-            (λ i j. same_where (t (held j)) (u (held j)) (weight c (held j) m.0)
-            (weight c (held j) (view_after_label_load x m.0)) (moved (held j)) (held_same j) i) o.lawful)
-            (record {
-              first_hits = λ j. refl;
-              fetches = λ j. refl;
-              owning = refl;
-              straying = λ s. refl;
-              labels =
-                  λ y. refl;
-              reads = λ j. omega (
-                arith,
-                same (misread c j x)
-                    (λ p. ap (λ (k : ℕ). one_if (life c j) p.life * k) (no_difference x p)),
-              );
-            })),
-        read_apart has.0 has.1 has.2 x,
-        quiet m.0 m.0.workers (on_first (hold_after_label_load x) m.0.holds) m.0.returned (λ w. refl),
-        (refl, is_label n x t o a),
-      )))
+  pub may_load_label : HasHold c m.0 → Allows (Kept key) slots id m (head_place slots c + (2 + 0)) (λ x. x)
+      (on_label label_load_tells (step slots (head_place slots c + (2 + 0)) 0 0 none) m)
+  may_load_label has = at_label label_load_tells key slots id m c 0 (λ x. x) (λ x. x)
+      (may_read 0 (λ y p. p.labels ++ y ∷ []) (λ y p. p.words) (λ y p. refl)
+      (λ j y p ne. reads_push_label j p.labels p.words y ne) has (omega arith))
+
+  -- and of a further word
+  pub may_load_word : (j : ℕ) → j < slots → HasHold c m.0
+      → Allows (Kept key) slots id m (head_place slots c + (2 + suc j)) (λ x. x)
+      (on_word word_load_tells (step slots (head_place slots c + (2 + suc j)) 0 0 none) m)
+  may_load_word j low has = at_word word_load_tells key slots id m c j 0 (λ x. x) (λ x. x) low
+      (may_read (suc j) (λ y p. p.labels) (λ y p. p.words ++ (j, y) ∷ [])
+      (λ y p. reads_push_same j p.labels p.words y) (λ k y p ne. reads_push_word k j p.labels p.words y ne) has
+      (omega (arith, low)))
 
 -- the view that has nothing counts nothing
 nothing : (c : ℕ) (y : Measure) → weight c y blank ≡ 0
@@ -421,12 +474,12 @@ nothing c (named g) = refl
 nothing c (saw g) = refl
 nothing c owners = refl
 nothing c (strays s) = refl
-nothing c (mislabels x) = refl
-nothing c (misreads g x) = refl
+nothing c (mislabels i x) = refl
+nothing c (misreads i g x) = refl
 
 -- a load of a head word, without a seat
 pub may_load_without_seat : (key : Config) (slots c : ℕ) (first : View) → c < chunks key → Enters (Kept key) slots
-    (3 * c + 9) (λ n w. on_chunk (load_without_seat_tells key.refs_limit) (step slots (3 * c + 9) 0 0 none)
+    (head_place slots c) (λ n w. on_chunk (load_without_seat_tells key.refs_limit) (step slots (head_place slots c) 0 0 none)
     (first, []) n (w, []))
 may_load_without_seat key slots c first near s o count small = let e = o.each c near in (
   blank,
@@ -460,9 +513,9 @@ may_load_without_seat key slots c first near s o count small = let e = o.each c 
     one_lane = λ n. omega (arith, total_push (lanes_of n) s.views blank, o.one_lane n);
     orderly = omega (arith, total_push untidy s.views blank, o.orderly);
   },
-  (
+  λ d at. (
     refl,
-    (
+    subst (λ (z : ℕ). Found (get_or s.words (head_place z c) 0) (IsAnyHead key.refs_limit)) count (
       e.head,
       e.spells,
       record {

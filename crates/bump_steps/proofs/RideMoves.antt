@@ -43,8 +43,8 @@ parted v c (saw g) = omega (
 )
 parted v c owners = omega arith
 parted v c (strays s) = omega arith
-parted v c (mislabels y) = omega arith
-parted v c (misreads g y) = omega arith
+parted v c (mislabels i y) = omega arith
+parted v c (misreads i g y) = omega arith
 
 parted_evidence : (v : View) (n : ℕ) (a : AppliedBump) (o : Outcome) → AddsUp (shown_by o n a) v (without_ride v)
     (ride_only v)
@@ -76,8 +76,8 @@ module _ (p : WorkerPart) (h : HoldPart) (r : Ride) where
   even c (saw g) = refl
   even c owners = refl
   even c (strays s) = refl
-  even c (mislabels y) = refl
-  even c (misreads g y) = omega arith
+  even c (mislabels i y) = refl
+  even c (misreads i g y) = omega arith
 
   same_evidence : (n : ℕ) (a : AppliedBump) (o : Outcome) → shown_by o n a (return_both idle travels) + shown_by o n a
       blank ≡ shown_by o n a idle + shown_by o n a travels

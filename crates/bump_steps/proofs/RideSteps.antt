@@ -1,5 +1,5 @@
 -- Steps of a worker for a bump's reference: whatever the other seats have, its seat with the hold joined can go on.
-use Rattle.std.proofs.Common.{◌≡◌, ◌≢◌, ℕ, ◌+◌, ◌-◌, ◌*◌, ◌/◌, ◌%◌, ◌^◌, ◌<◌, ◌≤◌, ◌&&◌, ◌==◌, cond, Bool, false, List, [], ◌∷◌, ◌++◌, Option, Some, None, refl, sym, ap, ◌∙◌, subst, arith}
+use Rattle.std.proofs.Common.{◌≡◌, ◌≢◌, ℕ, ◌+◌, ◌-◌, ◌/◌, ◌%◌, ◌^◌, ◌<◌, ◌≤◌, ◌&&◌, ◌==◌, cond, Bool, false, List, [], ◌∷◌, ◌++◌, Option, Some, None, refl, sym, ap, ◌∙◌, subst, arith}
 use prog.Atomic.{either}
 use Rattle.atomic_table.specs.Table.{Allows}
 use Rattle.atomic_table.proofs.Lists.{exchanged}
@@ -31,6 +31,7 @@ use Rattle.bump_steps.specs.declared.views.HoldPart.{HoldPart}
 use Rattle.bump_steps.specs.declared.views.View.{View}
 use Rattle.bump_steps.specs.Views.{Measure, held, named, saw, owners, strays, mislabels, misreads, weight, in_hand, is_fetch, is_fetch_of, shown_by, IsBacked}
 use Rattle.bump_steps.specs.Rule.{Sound, chunks, Kept, HasFittingLimit}
+use Rattle.bump_steps.specs.Places.{head_place}
 use Rattle.bump_steps.specs.Plays.{Sat, step_of}
 use Rattle.bump_rules.specs.Accounts.{counted_drop}
 use Rattle.bump_steps.specs.Rides.{touching, judged_hand, IsOfHeld, look_to_ride_tells, load_to_ride_tells, reserve_tells, try_to_ride_tells, release_tells, IsOn, HasRoom}
@@ -70,8 +71,8 @@ module _ (p : WorkerPart) (q : HoldPart) (l : ItemId) where
     elsewhere b same (saw k) = omega (arith, same_saw b k)
     elsewhere b same owners = refl
     elsewhere b same (strays w) = refl
-    elsewhere b same (mislabels y) = refl
-    elsewhere b same (misreads k y) = refl
+    elsewhere b same (mislabels i y) = refl
+    elsewhere b same (misreads i k y) = refl
 
     -- a worker's step shows nothing of applied bumps
     quiet : IsBacked (with_hold s p.accounts p.steps) (with_hold z a (p.steps ++ x ∷ []))
@@ -94,7 +95,7 @@ module _ (p : WorkerPart) (q : HoldPart) (l : ItemId) where
         by w e outcome.TimeOnly = omega arith
 
     -- the chunk stays sound where its head's count goes with its references
-    refs_sound : (limit n m y : ℕ) (t u : Measure → ℕ)
+    refs_sound : (limit n m : ℕ) (y : ℕ → ℕ) (t u : Measure → ℕ)
         → ((g : Measure) → u g + weight l.chunk g (with_hold s p.accounts p.steps) ≡ t g + weight l.chunk g
         (with_hold z a (p.steps ++ x ∷ []))) → (o : Sound limit n y t) → (r : ℕ)
         → Spells m (record o.head { refs = r })
@@ -108,8 +109,8 @@ module _ (p : WorkerPart) (q : HoldPart) (l : ItemId) where
           (moves (named j)) i) lawful;
       owned = omega (arith, moves owners, o.owned);
       agreed = omega (arith, moves (strays (o.at, o.head.generation)), o.agreed);
-      labelled = omega (arith, moves (mislabels y), o.labelled);
-      read = omega (arith, moves (misreads o.head.generation y), o.read);
+      labelled = λ i. omega (arith, moves (mislabels i (y i)), o.labelled i);
+      read = λ i. omega (arith, moves (misreads i o.head.generation (y i)), o.read i);
       hit = λ j some. omega (
         arith,
         moves (named j),
@@ -124,7 +125,7 @@ module _ (key : Config) (slots id : ℕ) (p : WorkerPart) (q : HoldPart) (l : It
   seat_with s = (with_hold p q l s p.accounts p.steps, sl)
 
   -- the hold's life is the chunk's, and has a reference
-  held_here : (s : Hand) (n y : ℕ) (t : Measure → ℕ) (o : Sound key.refs_limit n y t) → Amid l.chunk (seat_with s).0 t
+  held_here : (s : Hand) (n : ℕ) (y : ℕ → ℕ) (t : Measure → ℕ) (o : Sound key.refs_limit n y t) → Amid l.chunk (seat_with s).0 t
       → IsOfHeld key.refs_limit l o.head
   held_here s n y t o a =
       let mine : 0 < t (held l.generation) = omega (arith, a.mine (held l.generation), one_life l) in
@@ -132,7 +133,7 @@ module _ (key : Config) (slots id : ℕ) (p : WorkerPart) (q : HoldPart) (l : It
       (sym gen, omega (arith, o.lawful.counted, ap (λ (j : ℕ). t (held j)) gen, mine), o.lawful.within)
 
   -- a load, or an exchange that failed: the attempt ends here or goes on
-  look_reaches : (kind : Kind) → is_fetch kind ≡ false → (failed n y : ℕ) (t : Measure → ℕ)
+  look_reaches : (kind : Kind) → is_fetch kind ≡ false → (failed n : ℕ) (y : ℕ → ℕ) (t : Measure → ℕ)
       (o : Sound key.refs_limit n y t)
       → Amid l.chunk (seat_with (hand.Trying l)).0 t → Reaches key l.chunk (seat_with (hand.Trying l))
       (look_to_ride_tells kind key.refs_limit failed l (seat_with (hand.Trying l)) n) n y t
@@ -150,14 +151,14 @@ module _ (key : Config) (slots id : ℕ) (p : WorkerPart) (q : HoldPart) (l : It
         (o.head, o.spells, held_here (hand.Trying l) n y t o a, refl),
       )
 
-  loads_to_ride : (failed : ℕ) → Allows (Kept key) slots id (seat_with (hand.Trying l)) (3 * l.chunk + 9) (λ n. n)
+  loads_to_ride : (failed : ℕ) → Allows (Kept key) slots id (seat_with (hand.Trying l)) (head_place slots l.chunk) (λ n. n)
       (load_to_ride_tells key.refs_limit failed l (seat_with (hand.Trying l)))
   loads_to_ride failed = on_head key slots id (seat_with (hand.Trying l)) l.chunk (λ n. n)
       (load_to_ride_tells key.refs_limit failed l (seat_with (hand.Trying l))) near
       (λ n y t limits o a. look_reaches kind.Load refl failed n y t o a)
 
   -- an exchange that found the word that it expects
-  reserve_reaches : (old : ℕ) → HasRoom key.refs_limit old → (n y : ℕ) (t : Measure → ℕ) → HasFittingLimit key
+  reserve_reaches : (old : ℕ) → HasRoom key.refs_limit old → (n : ℕ) (y : ℕ → ℕ) (t : Measure → ℕ) → HasFittingLimit key
       → (o : Sound key.refs_limit n y t) → Amid l.chunk (seat_with (hand.Trying l)).0 t → n ≡ old
       → Reaches key l.chunk (seat_with (hand.Trying l)) (reserve_tells key.refs_limit l (seat_with (hand.Trying l)) n)
       (old + 1) y t
@@ -187,7 +188,7 @@ module _ (key : Config) (slots id : ℕ) (p : WorkerPart) (q : HoldPart) (l : It
       away s z a x plain b ne none nothing = elsewhere p q l s z a x plain b (λ j. nothing j ∙ sym (none j))
 
   reserves : (failed old : ℕ) → HasRoom key.refs_limit old → Allows (Kept key) slots id (seat_with (hand.Trying l))
-      (3 * l.chunk + 9) (λ n. either (n == old) (old + 1) n)
+      (head_place slots l.chunk) (λ n. either (n == old) (old + 1) n)
       (try_to_ride_tells key.refs_limit failed l old (seat_with (hand.Trying l)))
   reserves failed old room = on_head key slots id (seat_with (hand.Trying l)) l.chunk
       (λ n. either (n == old) (old + 1) n) (try_to_ride_tells key.refs_limit failed l old (seat_with (hand.Trying l)))
@@ -201,7 +202,7 @@ module _ (key : Config) (slots id : ℕ) (p : WorkerPart) (q : HoldPart) (l : It
       (r.0, r.1, r.2, r.3, ((λ hit. absurd (miss hit)), (λ _. r.4)))))
 
   -- a bump's reference is given back
-  releases : Allows (Kept key) slots id (seat_with (hand.InHand l)) (3 * l.chunk + 9)
+  releases : Allows (Kept key) slots id (seat_with (hand.InHand l)) (head_place slots l.chunk)
       (λ n. (n + (2 ^ 64 - 1)) % 2 ^ 64) (release_tells l (seat_with (hand.InHand l)))
   releases = on_head key slots id (seat_with (hand.InHand l)) l.chunk (λ n. (n + (2 ^ 64 - 1)) % 2 ^ 64)
       (release_tells l (seat_with (hand.InHand l))) near (λ n y t limits o a.
@@ -237,24 +238,24 @@ seat_is s l m on = λ i. (
 )
 
 pub may_load_to_ride : (key : Config) (slots id : ℕ) (m : Sat) (l : ItemId) (limit failed : ℕ) → l.chunk < chunks key
-    → limit ≡ key.refs_limit → IsOn (hand.Trying l) l m.0 → Allows (Kept key) slots id m (3 * l.chunk + 9) (λ n. n)
+    → limit ≡ key.refs_limit → IsOn (hand.Trying l) l m.0 → Allows (Kept key) slots id m (head_place slots l.chunk) (λ n. n)
     (load_to_ride_tells limit failed l m)
 may_load_to_ride key slots id m l limit failed near is on =
-    subst (λ (z : ℕ × Sat). Allows (Kept key) slots id z.1 (3 * l.chunk + 9) (λ n. n)
+    subst (λ (z : ℕ × Sat). Allows (Kept key) slots id z.1 (head_place slots l.chunk) (λ n. n)
     (load_to_ride_tells z.0 failed l z.1)) (λ i. (sym is i, sym (seat_is (hand.Trying l) l m on) i))
     (loads_to_ride key slots id on.part on.hold l near m.1 failed)
 
 pub may_reserve : (key : Config) (slots id : ℕ) (m : Sat) (l : ItemId) (limit failed old : ℕ) → l.chunk < chunks key
     → limit ≡ key.refs_limit → IsOn (hand.Trying l) l m.0 → HasRoom limit old → Allows (Kept key) slots id m
-    (3 * l.chunk + 9) (λ n. either (n == old) (old + 1) n) (try_to_ride_tells limit failed l old m)
+    (head_place slots l.chunk) (λ n. either (n == old) (old + 1) n) (try_to_ride_tells limit failed l old m)
 may_reserve key slots id m l limit failed old near is on room =
-    subst (λ (z : ℕ × Sat). Allows (Kept key) slots id z.1 (3 * l.chunk + 9) (λ n. either (n == old) (old + 1) n)
+    subst (λ (z : ℕ × Sat). Allows (Kept key) slots id z.1 (head_place slots l.chunk) (λ n. either (n == old) (old + 1) n)
     (try_to_ride_tells z.0 failed l old z.1)) (λ i. (sym is i, sym (seat_is (hand.Trying l) l m on) i))
     (reserves key slots id on.part on.hold l near m.1 failed old (subst (λ (k : ℕ). HasRoom k old) is room))
 
 pub may_release_bump : (key : Config) (slots id : ℕ) (m : Sat) (l : ItemId) → l.chunk < chunks key
-    → IsOn (hand.InHand l) l m.0 → Allows (Kept key) slots id m (3 * l.chunk + 9) (λ n. (n + (2 ^ 64 - 1)) % 2 ^ 64)
+    → IsOn (hand.InHand l) l m.0 → Allows (Kept key) slots id m (head_place slots l.chunk) (λ n. (n + (2 ^ 64 - 1)) % 2 ^ 64)
     (release_tells l m)
 may_release_bump key slots id m l near on =
-    subst (λ (z : Sat). Allows (Kept key) slots id z (3 * l.chunk + 9) (λ n. (n + (2 ^ 64 - 1)) % 2 ^ 64)
+    subst (λ (z : Sat). Allows (Kept key) slots id z (head_place slots l.chunk) (λ n. (n + (2 ^ 64 - 1)) % 2 ^ 64)
     (release_tells l z)) (sym (seat_is (hand.InHand l) l m on)) (releases key slots id on.part on.hold l near m.1)

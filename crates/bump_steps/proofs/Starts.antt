@@ -1,9 +1,16 @@
 -- The start: the rule holds of fresh words and the first seat.
-use Rattle.std.proofs.Common.{◌≡◌, ℕ, zero, suc, cond, ◌+◌, ◌-◌, ◌^◌, ◌<◌, ◌≤◌, ◌&&◌, eqb, ltb, leb, not, Bool, true, false, List, [], ◌∷◌, length, None, refl, sym, ap, ap₂, ◌∙◌, subst, arith, eq-eqb, ne_eqb, lt-ltb, le-ltb}
+use Rattle.std.proofs.Common.{◌≡◌, ℕ, zero, suc, cond, map, get_or, set, if◌then◌else◌, length-set, get_or-set_same, get_or-set_other, mul-le-mul_right, ◌*◌, ◌+◌, ◌-◌, ◌^◌, ◌<◌, ◌≤◌, ◌&&◌, eqb, ltb, leb, not, Bool, true, false, List, [], ◌∷◌, length, None, refl, sym, ap, ap₂, ◌∙◌, subst, arith, eq-eqb, ne_eqb, lt-ltb, le-ltb}
 use Rattle.std.proofs.lemmas.Bool.{le-leb, lt-leb}
 use mathlib.Core.Logic.{dite}
 use native.Mathlib.Decide.{dec_le, ℕ_discrete}
+use mathlib.Core.Option.{some}
+use lib.ListN.{length-map}
 use Rattle.atomic_table.specs.Table.{opening}
+use Rattle.bump_rules.specs.declared.labels.LabelStep.{LabelStep}
+use Rattle.bump_rules.specs.Labels.{label_of_life, label_word}
+use Rattle.bump_steps.specs.declared.views.Empty.{Empty}
+use Rattle.bump_steps.specs.Places.{head_place, words_at}
+use Rattle.bump_steps.proofs.Places.{place_near, place_apart, words_beside}
 use Rattle.bump_rules.specs.declared.places.Place.TheVariants.{Unused}
 use Rattle.bump_rules.specs.Lawful.{bit}
 use Rattle.bump_rules.specs.Heads.{fresh_head}
@@ -19,8 +26,8 @@ use Rattle.bump_rules.specs.Lives.{life, count_of}
 use Rattle.bump_rules.specs.History.{is_standing}
 use Rattle.bump_rules.specs.Entries.{is_move_for}
 use Rattle.bump_rules.proofs.Standings.{standing_same}
-use Rattle.bump_word.specs.Layout.{generation_width}
-use Rattle.bump_steps.specs.Views.{owns, standing, last_label, held, named, saw, weight, refers, in_hand, is_fetch_of, bump_aboard, claimed_in, settled_in, names_move, underway_in, foreign_in, HaveLabels, untidy_in}
+use Rattle.bump_word.specs.Layout.{generation_width, generation_first}
+use Rattle.bump_steps.specs.Views.{owns, standing, labels_of, last_word, held, named, saw, weight, refers, in_hand, is_fetch_of, bump_aboard, claimed_in, settled_in, names_move, underway_in, foreign_in, HaveLabels, untidy_in}
 use Rattle.bump_steps.specs.Rule.{chunks, Kept, class_parts, worker_part, worker_parts, lane_part, lane_parts, opened, AreFresh, HasFittingLimit}
 
 -- there are chunks where there are classes
@@ -37,9 +44,15 @@ new_class fresh i first n = record {
   fresh = fresh;
   history = [];
   labels = [];
+  words = [];
   applying = None;
   steps = [];
 }
+
+-- of no word anything was done
+pub nothing_yet : (i : ℕ) → labels_of i [] [] ≡ []
+nothing_yet zero = refl
+nothing_yet (suc j) = refl
 
 owns_yes : (c : ℕ) (k : ClassPart) → k.first ≤ c → c < k.first + k.count → bit (owns c k) ≡ 1
 owns_yes c k low high = ap₂ (λ a b. bit (a && b)) (le-leb k.first c low) (lt-ltb c (k.first + k.count) high)
@@ -114,18 +127,18 @@ no_stray_yet fresh i first c (n ∷ ns) =
     none true = ap (λ b. bit (not b)) (standing_same (Unused, fresh) (Unused, fresh) refl)
     none false = refl
 
-pub no_mislabel_yet : (fresh i first c : ℕ) (ns : List ClassConfig)
-    → total (λ k. bit (owns c k && not (eqb (last_label k c) 0))) (class_parts fresh i first ns) ≡ 0
-no_mislabel_yet fresh i first c [] = refl
-no_mislabel_yet fresh i first c (n ∷ ns) =
+pub no_mislabel_yet : (i fresh j first c : ℕ) (ns : List ClassConfig)
+    → total (λ k. bit (owns c k && not (eqb (last_word i k c) 0))) (class_parts fresh j first ns) ≡ 0
+no_mislabel_yet i fresh j first c [] = refl
+no_mislabel_yet i fresh j first c (n ∷ ns) =
     omega (
       arith,
-      none (owns c (new_class fresh i first n)),
-      no_mislabel_yet fresh (i + 1) (first + n.chunks) c ns,
+      none (owns c (new_class fresh j first n)),
+      no_mislabel_yet i fresh (j + 1) (first + n.chunks) c ns,
     )
   where
-    none : (a : Bool) → bit (a && not (eqb 0 0)) ≡ 0
-    none true = refl
+    none : (a : Bool) → bit (a && not (eqb (label_word c 0 (labels_of i [] [])) 0)) ≡ 0
+    none true = ap (λ (l : List LabelStep). bit (not (eqb (label_word c 0 l) 0))) (nothing_yet i)
     none false = refl
 
 -- workers and lanes count for nothing at the start
@@ -145,6 +158,7 @@ no_classes : (f : ClassPart → ℕ)
       fresh = g;
       history = [];
       labels = [];
+      words = [];
       applying = None;
       steps =
           [];
@@ -173,7 +187,10 @@ no_saw c g key = omega (arith, no_workers (λ w. how_many (is_fetch_of c g) w.st
 fresh_labels : (g i at : ℕ) (ks : List ClassConfig) → HaveLabels (class_parts g i at ks)
 fresh_labels g i at [] = tt
 fresh_labels g i at (k ∷ ks) = (
-  record { labelled = λ c own used. absurd used; unbegun = λ c j later. refl },
+  record {
+    labelled = λ i c own used. absurd used;
+    unbegun = λ i c j later. ap (λ (l : List LabelStep). label_of_life (life c j) 0 l) (nothing_yet i);
+  },
   fresh_labels g (i + 1) (at + k.chunks) ks,
 )
 
@@ -208,10 +225,11 @@ one_worker_of n w (suc m) = dite (ℕ_discrete w n)
     (λ e. omega (arith, ap {B = ℕ} (λ (b : Bool). cond b 1 0) (eq-eqb w n e), no_worker_of n (w + 1) m (omega arith)))
     (λ ne. omega (arith, ap {B = ℕ} (λ (b : Bool). cond b 1 0) (ne_eqb w n ne), one_worker_of n (w + 1) m))
 
-pub starts : (key : Config) (words : List ℕ) → AreFresh (chunks key) (key.first_generation - 1) words
+pub starts : (key : Config) (words : List ℕ) (slots : List Empty)
+    → AreFresh (length slots) (chunks key) (key.first_generation - 1) words
     → HasFittingLimit key → (0 < key.first_generation) × (key.first_generation < 2 ^ generation_width)
-    → Kept key (opening words [] (opened key))
-starts key words fresh limits generations = record {
+    → Kept key (opening words slots (opened key))
+starts key words slots at_first limits generations = record {
   wide = fresh.0;
   small = limits;
   each = λ c near. record {
@@ -231,10 +249,10 @@ starts key words fresh limits generations = record {
     };
     owned = omega (arith, one_owner (key.first_generation - 1) 0 0 c key.classes (omega arith) (omega (arith, near)));
     agreed = omega (arith, no_stray_yet (key.first_generation - 1) 0 0 c key.classes);
-    labelled = subst (λ (x : ℕ). total (λ k. bit (owns c k && not (eqb (last_label k c) x)))
-        (class_parts (key.first_generation - 1) 0 0 key.classes) + 0 ≡ 0) (sym (fresh.1 c near).1)
-        (omega (arith, no_mislabel_yet (key.first_generation - 1) 0 0 c key.classes));
-    read = refl;
+    labelled = λ i. subst (λ (x : ℕ). total (λ k. bit (owns c k && not (eqb (last_word i k c) x)))
+        (class_parts (key.first_generation - 1) 0 0 key.classes) + 0 ≡ 0) (sym ((fresh.1 c near).1 i))
+        (omega (arith, no_mislabel_yet i (key.first_generation - 1) 0 0 c key.classes));
+    read = λ i. refl;
     hit = λ g some. absurd (omega (arith, some, no_saw c g key));
   };
   one_class = λ c. omega (arith, few_owners (key.first_generation - 1) c key.classes);
@@ -258,3 +276,67 @@ starts key words fresh limits generations = record {
   one_lane = λ n. omega (arith, one_of n 0 key.workers);
   orderly = omega (arith, no_lanes untidy_in (λ w. refl) 0 key.workers);
 }
+  where
+    fresh : AreFresh (length (map some slots)) (chunks key) (key.first_generation - 1) words
+    fresh = subst (λ (n : ℕ). AreFresh n (chunks key) (key.first_generation - 1) words) (sym (length-map slots some))
+        at_first
+
+-- ---- fresh words
+
+-- a list of zeros has no other number
+pub all_zero : (ws : List ℕ) → ((k : ℕ) → k < length ws → get_or ws k 0 ≡ 0) → (k : ℕ) → get_or ws k 0 ≡ 0
+all_zero [] zeros k = refl
+all_zero (w ∷ ws) zeros zero = zeros 0 (omega arith)
+all_zero (w ∷ ws) zeros (suc k) = all_zero ws (λ j h. zeros (suc j) (omega (arith, h))) k
+
+-- so each label and word is 0
+pub no_words : (s c : ℕ) (ws : List ℕ) → ((k : ℕ) → get_or ws k 0 ≡ 0) → (i : ℕ) → words_at s ws c i ≡ 0
+no_words s c ws zeros i = by (leb i s) refl
+  where
+    by : (b : Bool) → leb i s ≡ b → words_at s ws c i ≡ 0
+    by true is = ap (λ (b : Bool). if b then get_or ws (head_place s c + (2 + i)) 0 else 0) is
+        ∙ zeros (head_place s c + (2 + i))
+    by false is = ap (λ (b : Bool). if b then get_or ws (head_place s c + (2 + i)) 0 else 0) is
+
+-- how far the loop is that stores the heads
+pub record Heads (s chunks n word : ℕ) (ws : List ℕ) : Type 0 where
+  pub wide : length ws ≡ head_place s chunks
+  pub heads : (c : ℕ) → c < n → get_or ws (head_place s c) 0 ≡ word
+  pub others : (c i : ℕ) → words_at s ws c i ≡ 0
+
+pub heads_start : (s chunks word : ℕ) (ws : List ℕ) → length ws ≡ head_place s chunks
+    → ((k : ℕ) → k < length ws → get_or ws k 0 ≡ 0) → Heads s chunks 0 word ws
+heads_start s chunks word ws wide zeros = record {
+  wide = wide;
+  heads = λ c h. absurd (omega (arith, h));
+  others = λ c i. no_words s c ws (all_zero ws zeros) i;
+}
+
+pub heads_go_on : (s chunks n word : ℕ) (ws : List ℕ) → n < chunks → Heads s chunks n word ws
+    → Heads s chunks (n + 1) word (set ws (head_place s n) word)
+heads_go_on s chunks n word ws near o = record {
+  wide = length-set ws (head_place s n) word ∙ o.wide;
+  heads = λ c h. dite (ℕ_discrete c n)
+      (λ e. ap (λ (d : ℕ). get_or (set ws (head_place s n) word) (head_place s d) 0) e
+      ∙ get_or-set_same ws (head_place s n) word 0
+      (omega (arith, o.wide, place_near s n chunks 0 near (omega arith))))
+      (λ ne. get_or-set_other ws (head_place s n) (head_place s c) word 0
+      (λ e. ne (place_apart s c n 0 0 (omega arith) (omega arith) (omega (arith, e))).0)
+      ∙ o.heads c (omega (arith, h, ne)));
+  others = λ c i. ap (λ (x : ℕ → ℕ). x i) (words_beside s ws (head_place s n) word c
+      (λ j low e. absurd (two_places s c n j low (omega (arith, e))))) ∙ o.others c i;
+}
+  where
+    -- a label is no head
+    two_places : (s c n j : ℕ) → j ≤ s → head_place s c + (2 + j) ≡ head_place s n + 0 → ⊥
+    two_places s c n j low e = let one : (c ≡ n) × (2 + j ≡ 0) =
+        place_apart s c n (2 + j) 0 (omega (arith, low)) (omega arith) e in omega (arith, one.1)
+
+pub heads_fresh : (s chunks g word : ℕ) (ws : List ℕ) → word ≡ 2 ^ generation_first * g → Heads s chunks chunks word ws
+    → AreFresh s chunks g ws
+heads_fresh s chunks g word ws is o = (o.wide, λ c near. (o.heads c near ∙ is, λ i. o.others c i))
+
+-- the table of 1,000,000 chunks is small
+pub place_small : (s c : ℕ) → c ≤ 1000000 → s < 2 ^ 32 → head_place s c < 2 ^ 60
+unfolding head_place
+place_small s c h low = omega (arith, mul-le-mul_right (s + 3) h, low)

@@ -1,6 +1,7 @@
 -- What all steps need: the chunk of a word, lists whose first element changes, and how often a life counts.
-use Rattle.std.proofs.Common.{◌-◌, ◌≡◌, ℕ, ◌+◌, ◌*◌, ◌/◌, ◌<◌, ◌≤◌, ◌≢◌, ◌&&◌, eqb, cond, Bool, true, false, List, [], ◌∷◌, ◌++◌, refl, sym, ap, ap₂, subst, arith, eq-eqb, ne_eqb}
-use Rattle.atomic_table.specs.Table.{Allows}
+use Rattle.std.proofs.Common.{◌≡◌, ℕ, suc, ◌+◌, ◌<◌, ◌≤◌, ◌≢◌, ◌&&◌, eqb, cond, Bool, true, false, List, [], ◌∷◌, ◌++◌, refl, ap, ap₂, subst, subst₂, get_or, arith, eq-eqb, ne_eqb}
+use mathlib.Core.Option.{none}
+use Rattle.atomic_table.specs.Table.{Allows, step, carried_after}
 use Rattle.bump_rules.specs.declared.configs.Config.{Config}
 use Rattle.bump_rules.specs.declared.items.ItemId.{ItemId}
 use Rattle.bump_rules.specs.Totals.{total}
@@ -9,26 +10,77 @@ use Rattle.bump_rules.proofs.Updates.{total_push}
 use Rattle.bump_steps.specs.declared.views.View.{View}
 use Rattle.bump_steps.specs.Views.{Measure, weight}
 use Rattle.bump_steps.specs.Rule.{chunks, Kept}
-use Rattle.bump_steps.specs.Plays.{Sat, Tells, on_first}
-use Rattle.bump_steps.proofs.Frame.{Same, From, Reaches, on_head}
+use Rattle.bump_steps.specs.Places.{head_place}
+use Rattle.bump_steps.specs.Plays.{Sat, Tells, on_chunk, on_time, on_label, on_word, on_first}
+use Rattle.bump_steps.proofs.Places.{place_apart}
+use Rattle.bump_steps.proofs.Frame.{Same, From, Reaches, on_head, time_step}
 
--- the chunk of a head word, of a time word, and of a label word
-pub chunk_is : (c : ℕ) → (3 * c + 9) / 3 - 3 ≡ c
-chunk_is c = omega arith
+-- a step that tells more tells less
+pub allows_less : (key : Config) (slots id : ℕ) (m : Sat) (word : ℕ) (f : ℕ → ℕ) (then less : ℕ → Sat → Type 0)
+    → ((n : ℕ) (w : Sat) → then n w → less n w) → Allows (Kept key) slots id m word f then
+    → Allows (Kept key) slots id m word f less
+allows_less key slots id m word f then less fewer may s o count me small = let g = may s o count me small in (
+  g.0,
+  g.1,
+  g.2,
+  g.3,
+  fewer (get_or s.words word 0) (g.0, carried_after m.1 g.1) g.4,
+)
 
-pub time_chunk_is : (c : ℕ) → (3 * c + 10) / 3 - 3 ≡ c
-time_chunk_is c = omega arith
-
-pub label_chunk_is : (c : ℕ) → (3 * c + 11) / 3 - 3 ≡ c
-label_chunk_is c = omega arith
+-- the chunk whose head a word is is one alone, and so is the one whose time it is, or one of whose words
+pub chunk_is : (s c d i : ℕ) → i < s + 3 → head_place s c + i ≡ head_place s d + i → c ≡ d
+chunk_is s c d i small e = (place_apart s c d i i small small e).0
 
 -- a step on a head word is allowed where it can go on, whatever sound words it finds
+pub at_chunk_by : (tells : Tells) (key : Config) (slots id : ℕ) (m : Sat) (c x : ℕ) (f v : ℕ → ℕ) → c < chunks key
+    → From key c m (λ n z t. Reaches key c m (tells c x m (v n)) (f n) z t)
+    → Allows (Kept key) slots id m (head_place slots c) f
+    (λ n. on_chunk tells (step slots (head_place slots c) x 0 none) m (v n))
+at_chunk_by tells key slots id m c x f v near goes =
+    allows_less key slots id m (head_place slots c) f (λ n. tells c x m (v n))
+        (λ n. on_chunk tells (step slots (head_place slots c) x 0 none) m (v n))
+        (λ n w told d e. subst (λ (b : ℕ). tells b x m (v n) w)
+        (chunk_is slots c d 0 (omega arith) (omega (arith, e))) told)
+        (on_head key slots id m c f (λ n. tells c x m (v n)) near goes)
+
 pub at_chunk : (tells : Tells) (key : Config) (slots id : ℕ) (m : Sat) (c x : ℕ) (f : ℕ → ℕ) → c < chunks key
-    → From key c m (λ n y t. Reaches key c m (tells c x m n) (f n) y t) → Allows (Kept key) slots id m (3 * c + 9) f
-    (tells ((3 * c + 9) / 3 - 3) x m)
-at_chunk tells key slots id m c x f near goes =
-    subst (λ (d : ℕ). Allows (Kept key) slots id m (3 * c + 9) f (tells d x m)) (sym (chunk_is c))
-    (on_head key slots id m c f (tells c x m) near goes)
+    → From key c m (λ n z t. Reaches key c m (tells c x m n) (f n) z t)
+    → Allows (Kept key) slots id m (head_place slots c) f (on_chunk tells (step slots (head_place slots c) x 0 none) m)
+at_chunk tells key slots id m c x f near goes = at_chunk_by tells key slots id m c x f (λ n. n) near goes
+
+-- on a time word, of which v tells
+pub at_time : (tells : Tells) (key : Config) (slots id : ℕ) (m : Sat) (c x : ℕ) (f v : ℕ → ℕ) → c < chunks key
+    → ((y : ℕ) → From key c m (λ n z t. Reaches key c m (tells c x m (v y)) n z t))
+    → Allows (Kept key) slots id m (head_place slots c + 1) f
+    (λ n. on_time tells (step slots (head_place slots c + 1) x 0 none) m (v n))
+at_time tells key slots id m c x f v near goes =
+    allows_less key slots id m (head_place slots c + 1) f (λ n. tells c x m (v n))
+        (λ n. on_time tells (step slots (head_place slots c + 1) x 0 none) m (v n))
+        (λ n w told d e. subst (λ (b : ℕ). tells b x m (v n) w) (chunk_is slots c d 1 (omega arith) e) told)
+        (time_step key slots id m c f (λ n. tells c x m (v n)) near goes)
+
+-- on a label word
+pub at_label : (tells : Tells) (key : Config) (slots id : ℕ) (m : Sat) (c x : ℕ) (f v : ℕ → ℕ)
+    → Allows (Kept key) slots id m (head_place slots c + (2 + 0)) f (λ n. tells c x m (v n))
+    → Allows (Kept key) slots id m (head_place slots c + (2 + 0)) f
+    (λ n. on_label tells (step slots (head_place slots c + (2 + 0)) x 0 none) m (v n))
+at_label tells key slots id m c x f v may =
+    allows_less key slots id m (head_place slots c + (2 + 0)) f (λ n. tells c x m (v n))
+        (λ n. on_label tells (step slots (head_place slots c + (2 + 0)) x 0 none) m (v n))
+        (λ n w told d e. subst (λ (b : ℕ). tells b x m (v n) w) (chunk_is slots c d (2 + 0) (omega arith) e) told) may
+
+-- on a further word
+pub at_word : (tells : ℕ → Tells) (key : Config) (slots id : ℕ) (m : Sat) (c j x : ℕ) (f v : ℕ → ℕ) → j < slots
+    → Allows (Kept key) slots id m (head_place slots c + (2 + suc j)) f (λ n. tells j c x m (v n))
+    → Allows (Kept key) slots id m (head_place slots c + (2 + suc j)) f
+    (λ n. on_word tells (step slots (head_place slots c + (2 + suc j)) x 0 none) m (v n))
+at_word tells key slots id m c j x f v low may =
+    allows_less key slots id m (head_place slots c + (2 + suc j)) f (λ n. tells j c x m (v n))
+        (λ n. on_word tells (step slots (head_place slots c + (2 + suc j)) x 0 none) m (v n))
+        (λ n w told d i small e.
+        let one : (c ≡ d) × (2 + suc j ≡ 2 + suc i) =
+        place_apart slots c d (2 + suc j) (2 + suc i) (omega (arith, low)) (omega (arith, small)) e in
+        subst₂ (λ (b k : ℕ). tells k b x m (v n) w) one.0 (omega (arith, one.1)) told) may
 
 module _ {A : Type 0} (f : A → ℕ) (h : A → A) where
   -- a change of the first element that keeps its term keeps the sum

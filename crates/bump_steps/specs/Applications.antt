@@ -2,7 +2,6 @@
 -- bump off the view: the lane that is joined.
 use Rattle.std.specs.Prelude.{◌≡◌, ℕ, ◌-◌, ◌^◌, ◌<◌, ◌⊎◌, Bool, true, false, not, List, [], ◌∷◌, ◌++◌, Option, Some}
 use Rattle.std.specs.Prelude.{None}
-use Rattle.atomic_table.specs.Table.{Step}
 use Rattle.bump_rules.specs.declared.items.ItemId.{ItemId}
 use Rattle.bump_rules.specs.declared.places.Segment.{Segment}
 use Rattle.bump_rules.specs.declared.places.Segment.TheVariants.{Warm, Cold}
@@ -18,7 +17,6 @@ use Rattle.bump_rules.specs.History.{place_of}
 use Rattle.bump_rules.specs.Lanes.{applied_bump}
 use Rattle.bump_rules.specs.Lives.{life}
 use Rattle.bump_rules.specs.Entries.{is_moved}
-use Rattle.bump_steps.specs.declared.views.Empty.{Empty}
 use Rattle.bump_steps.specs.declared.views.Kind.{Kind}
 use Rattle.bump_steps.specs.declared.views.Kind.TheVariants as kind
 use Rattle.bump_steps.specs.declared.views.ClassPart.{ClassPart}
@@ -29,7 +27,7 @@ use Rattle.bump_steps.specs.Views.{bump_aboard, active_clear, owns, standing, ev
 use Rattle.bump_word.specs.Layout.{active_first}
 use Rattle.bump_steps.specs.Lives.{alone}
 use Rattle.bump_steps.specs.Rule.{blank}
-use Rattle.bump_steps.specs.Plays.{Sat, Tells, chunk_of, Found, Told, on_first, step_of}
+use Rattle.bump_steps.specs.Plays.{Tells, Found, Told, on_first, step_of}
 
 -- the bump for which a step is made, by its lane
 abbrev pub bump_for : ℕ → Option Bump → Option (ℕ × ℕ)
@@ -141,8 +139,8 @@ abbrev pub clear_active_tells : Tells
 clear_active_tells chunk operand before word after = (operand ≡ 2 ^ 64 - 1 - 2 ^ active_first)
     × (after ≡ (view_after_clear_active chunk word before.0, before.1)) × Found word (Told chunk before.0)
 
-abbrev pub put_time_tells : Step Empty → Sat → ℕ → Sat → Type 0
-put_time_tells st before word after = after ≡ (view_after_put_time (chunk_of st.word) word before.0, before.1)
+abbrev pub put_time_tells : Tells
+put_time_tells chunk operand before word after = after ≡ (view_after_put_time chunk word before.0, before.1)
 
 abbrev pub move_tells : Segment → Segment → Tells
 move_tells from to chunk operand before word after = (after ≡ (view_after_move from to chunk word before.0, before.1))

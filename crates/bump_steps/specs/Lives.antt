@@ -1,6 +1,5 @@
 -- The steps of a class's seat that begin and end lives, and its looks at a chunk: what each leaves of the class's part.
 use Rattle.std.specs.Prelude.{◌≡◌, ℕ, ◌+◌, ◌/◌, ◌%◌, ◌^◌, ◌≤◌, ◌==◌, [], ◌∷◌, ◌++◌, None, true, if◌then◌else◌}
-use Rattle.atomic_table.specs.Table.{Step}
 use Rattle.bump_rules.specs.declared.places.Place.{Place}
 use Rattle.bump_rules.specs.declared.places.Place.TheVariants.{Dying, Unused}
 use Rattle.bump_rules.specs.declared.places.Segment.TheVariants as segment
@@ -15,13 +14,13 @@ use Rattle.bump_rules.specs.Lives.{life}
 use Rattle.bump_rules.specs.Places.{is_segment_place}
 use Rattle.bump_word.specs.Layout.{refs_width, generation_first}
 use Rattle.bump_word.specs.Words.{number_of, segment_bits}
-use Rattle.bump_steps.specs.declared.views.Empty.{Empty}
+use Rattle.bump_steps.specs.declared.views.WordStep.TheVariants.{Put, Begun}
 use Rattle.bump_steps.specs.declared.views.Kind.TheVariants as kind
 use Rattle.bump_steps.specs.declared.views.ClassPart.{ClassPart}
 use Rattle.bump_steps.specs.declared.views.View.{View}
 use Rattle.bump_steps.specs.Views.{owns, standing}
 use Rattle.bump_steps.specs.Rule.{blank}
-use Rattle.bump_steps.specs.Plays.{Sat, Tells, chunk_of, Found, Told, on_first, step_of}
+use Rattle.bump_steps.specs.Plays.{Tells, Found, Told, on_first, step_of}
 
 -- the view of a class's seat to which nothing is joined
 abbrev pub alone : ClassPart → View
@@ -50,6 +49,14 @@ class_after_put_label chunk label class = record class {
       class.steps ++ step_of kind.PutLabel chunk label None ∷ [];
 }
 
+-- after the store of further word j
+abbrev pub class_after_put_word : ℕ → ℕ → ℕ → ClassPart → ClassPart
+class_after_put_word chunk index word class = record class {
+  words = class.words ++ Put chunk index word ∷ [];
+  steps =
+      class.steps ++ step_of kind.PutWord chunk word None ∷ [];
+}
+
 -- after the store of the head of a new life, which is this number
 abbrev pub class_after_link : Start → ℕ → ℕ → ℕ → ClassPart → ClassPart
 class_after_link start chunk generation word class =
@@ -57,6 +64,8 @@ class_after_link start chunk generation word class =
       history = class.history ++ begun_change start (life chunk generation) ∷ [];
       labels =
           class.labels ++ Linked (life chunk generation) ∷ [];
+      words =
+          class.words ++ Begun (life chunk generation) ∷ [];
       steps = class.steps ++ step_of kind.Link chunk word None
           ∷ [];
     }
@@ -122,21 +131,24 @@ generation_load_tells chunk operand before word after =
     × Found word (Told chunk before.0)
 
 -- a load of a time
-abbrev pub time_load_tells : Step Empty → Sat → ℕ → Sat → Type 0
-time_load_tells st before word after = after ≡ (
-  on_class (class_after_see_time (chunk_of st.word) word) before.0,
-  before.1,
-)
+abbrev pub time_load_tells : Tells
+time_load_tells chunk operand before word after = after ≡ (on_class (class_after_see_time chunk word) before.0, before.1)
 
 -- a load of a head
 abbrev pub load_tells : Tells
 load_tells chunk operand before word after = (after ≡ (on_class (class_after_load chunk word) before.0, before.1))
     × Found word (Told chunk before.0)
 
--- the store of a label
-abbrev pub put_label_tells : Step Empty → Sat → ℕ → Sat → Type 0
-put_label_tells st before word after = after ≡ (
-  on_class (class_after_put_label (chunk_of st.word) word) before.0,
+-- the store of a label, and of a further word
+abbrev pub put_label_tells : Tells
+put_label_tells chunk operand before word after = after ≡ (
+  on_class (class_after_put_label chunk word) before.0,
+  before.1,
+)
+
+abbrev pub put_word_tells : ℕ → Tells
+put_word_tells index chunk operand before word after = after ≡ (
+  on_class (class_after_put_word chunk index word) before.0,
   before.1,
 )
 
@@ -145,10 +157,10 @@ abbrev pub start_in : ℕ → Start
 start_in word = if segment_bits word == number_of segment.Temp then start.Temp else start.Hot
 
 -- the store of a new life's head: the life begins in the segment that is in it, and its generation is the one in it
-abbrev pub link_tells : Step Empty → Sat → ℕ → Sat → Type 0
-link_tells st before word after =
+abbrev pub link_tells : Tells
+link_tells chunk operand before word after =
     after ≡ (
-      on_class (class_after_link (start_in word) (chunk_of st.word) (word / 2 ^ generation_first) word) before.0,
+      on_class (class_after_link (start_in word) chunk (word / 2 ^ generation_first) word) before.0,
       before.1,
     )
 

@@ -1,6 +1,5 @@
 -- The steps of a worker's seat on the marks of a chunk, and on its time.
 use Rattle.std.specs.Prelude.{◌≡◌, ℕ, ◌+◌, ◌-◌, ◌^◌, ◌<◌, Bool, true, false, if◌then◌else◌, List, [], ◌∷◌, ◌++◌, None}
-use Rattle.atomic_table.specs.Table.{Step}
 use Rattle.bump_rules.specs.declared.hands.Hand.{Hand}
 use Rattle.bump_rules.specs.declared.hands.Hand.TheVariants as hand
 use Rattle.bump_rules.specs.declared.items.Head.{Head}
@@ -9,13 +8,12 @@ use Rattle.bump_rules.specs.Lives.{life}
 use Rattle.bump_rules.specs.Tables.{attempts_bump}
 use Rattle.bump_word.specs.Layout.{fetched_first, active_first}
 use Rattle.bump_word.specs.Words.{word_of}
-use Rattle.bump_steps.specs.declared.views.Empty.{Empty}
 use Rattle.bump_steps.specs.declared.views.Kind.{Kind}
 use Rattle.bump_steps.specs.declared.views.Kind.TheVariants as kind
 use Rattle.bump_steps.specs.declared.views.WorkerPart.{WorkerPart}
 use Rattle.bump_steps.specs.declared.views.View.{View}
 use Rattle.bump_steps.specs.Views.{held, saw, weight}
-use Rattle.bump_steps.specs.Plays.{Sat, Tells, chunk_of, Found, Told, on_first, step_of}
+use Rattle.bump_steps.specs.Plays.{Tells, Found, Told, on_first, step_of}
 
 -- the worker's part changes
 abbrev pub on_worker : (WorkerPart → WorkerPart) → View → View
@@ -83,9 +81,9 @@ mark_tells = changed_by (2 ^ active_first) worker_after_mark
 abbrev pub unmark_tells : Tells
 unmark_tells = changed_by (2 ^ 64 - 1 - 2 ^ active_first) worker_after_unmark
 
-abbrev pub store_time_tells : Step Empty → Sat → ℕ → Sat → Type 0
-store_time_tells st before word after =
-    after ≡ (on_worker (worker_after_store_time (life (chunk_of st.word) 0) word) before.0, before.1)
+abbrev pub store_time_tells : Tells
+store_time_tells chunk operand before word after =
+    after ≡ (on_worker (worker_after_store_time (life chunk 0) word) before.0, before.1)
 
 -- the seat refers to a life of the chunk
 abbrev pub RefersTo : ℕ → View → Type 0

@@ -1,5 +1,5 @@
 -- What a step tells: of the seat before it, the number found, and the seat after it.
-use Rattle.std.specs.Prelude.{◌≡◌, ℕ, ◌-◌, ◌/◌, ◌<◌, ◌≤◌, Bool, true, List, [], ◌∷◌, length, Option}
+use Rattle.std.specs.Prelude.{◌≡◌, ℕ, suc, ◌+◌, ◌<◌, ◌≤◌, Bool, true, List, [], ◌∷◌, length, Option}
 use Rattle.atomic_table.specs.Table.{Me, Step}
 use Rattle.bump_rules.specs.declared.items.Head.{Head}
 use Rattle.bump_rules.specs.declared.items.ItemId.{ItemId}
@@ -10,6 +10,7 @@ use Rattle.bump_steps.specs.declared.views.Empty.{Empty}
 use Rattle.bump_steps.specs.declared.views.Kind.{Kind}
 use Rattle.bump_steps.specs.declared.views.OwnStep.{OwnStep}
 use Rattle.bump_steps.specs.declared.views.View.{View}
+use Rattle.bump_steps.specs.Places.{head_place}
 use Rattle.bump_steps.specs.Views.{named, saw, owners, strays, weight, Query, moves, settled, foreign, lanes_of}
 
 abbrev pub Sat : Type 0
@@ -19,12 +20,23 @@ Sat = Me Empty View
 abbrev pub Tells : Type 1
 Tells = ℕ → ℕ → Sat → ℕ → Sat → Type 0
 
--- the chunk whose head, time or label a word is: three words for each chunk, behind nine that are spare
-abbrev pub chunk_of : ℕ → ℕ
-chunk_of word = word / 3 - 3
-
+-- told of the chunk whose head the word is, whose time it is, or whose label
 abbrev pub on_chunk : Tells → Step Empty → Sat → ℕ → Sat → Type 0
-on_chunk tells st = tells (chunk_of st.word) st.first
+on_chunk tells st before word after = (chunk : ℕ) → st.word ≡ head_place st.slots chunk
+    → tells chunk st.first before word after
+
+abbrev pub on_time : Tells → Step Empty → Sat → ℕ → Sat → Type 0
+on_time tells st before word after = (chunk : ℕ) → st.word ≡ head_place st.slots chunk + 1
+    → tells chunk st.first before word after
+
+abbrev pub on_label : Tells → Step Empty → Sat → ℕ → Sat → Type 0
+on_label tells st before word after = (chunk : ℕ) → st.word ≡ head_place st.slots chunk + (2 + 0)
+    → tells chunk st.first before word after
+
+-- or whose further word of this number
+abbrev pub on_word : (ℕ → Tells) → Step Empty → Sat → ℕ → Sat → Type 0
+on_word tells st before word after = (chunk index : ℕ) → index < st.slots
+    → st.word ≡ head_place st.slots chunk + (2 + suc index) → tells index chunk st.first before word after
 
 -- the number found is the word of a head, of which P holds
 abbrev pub Found : ℕ → (Head → Type 0) → Type 0

@@ -16,7 +16,7 @@ use Rattle.bump_steps.specs.declared.views.View.{View}
 use Rattle.bump_steps.specs.Plays.{Tells, Found, Told, behind, on_first}
 use Rattle.bump_steps.specs.Marks.{noted, on_worker}
 use Rattle.bump_steps.specs.Rule.{blank}
-use Rattle.bump_steps.specs.Views.{differs}
+use Rattle.bump_steps.specs.Views.{differs, read_of}
 
 -- the worker loaded the chunk's head word, and found n
 abbrev pub view_after_load : ℕ → ℕ → View → View
@@ -32,7 +32,7 @@ load_to_take_tells chunk operand before word after = (after ≡ (view_after_load
 
 -- a hold of the life, which read no label, and looked at no head
 abbrev pub new_hold : ItemId → HoldPart
-new_hold item = record { life = item; labels = []; looks = [] }
+new_hold item = record { life = item; labels = []; words = []; looks = [] }
 
 -- the worker took a reference where it found n: the life is the one whose generation n has
 abbrev pub view_after_take : ℕ → ℕ → View → View
@@ -96,6 +96,22 @@ IsLabel chunk view label = (h : HoldPart) → view.holds ≡ h ∷ behind view.h
 abbrev pub label_load_tells : Tells
 label_load_tells chunk operand before word after = (after ≡ (view_after_label_load word before.0, before.1))
     × IsLabel chunk before.0 word
+
+-- the hold read further word j
+abbrev pub hold_after_word_load : ℕ → ℕ → HoldPart → HoldPart
+hold_after_word_load index word hold = record hold { words = hold.words ++ (index, word) ∷ [] }
+
+abbrev pub view_after_word_load : ℕ → ℕ → View → View
+view_after_word_load index word view = record view { holds = on_first (hold_after_word_load index word) view.holds }
+
+-- the word is each one of this number that the first hold, of this chunk, read before
+abbrev pub IsWord : ℕ → ℕ → View → ℕ → Type 0
+IsWord index chunk view word = (h : HoldPart) → view.holds ≡ h ∷ behind view.holds → h.life.chunk ≡ chunk
+    → total (differs word) (read_of index h.words) ≡ 0
+
+abbrev pub word_load_tells : ℕ → Tells
+word_load_tells index chunk operand before word after = (after ≡ (view_after_word_load index word before.0, before.1))
+    × IsWord index chunk before.0 word
 
 -- what holds of the head of each chunk at all times
 pub record IsAnyHead (limit : ℕ) (head : Head) : Type 0 where

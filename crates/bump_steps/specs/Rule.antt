@@ -19,12 +19,13 @@ use Rattle.bump_steps.specs.declared.views.ClassPart.{ClassPart}
 use Rattle.bump_steps.specs.declared.views.LanePart.{LanePart}
 use Rattle.bump_steps.specs.declared.views.WorkerPart.{WorkerPart}
 use Rattle.bump_steps.specs.declared.views.View.{View}
+use Rattle.bump_steps.specs.Places.{head_place, words_at}
 use Rattle.bump_steps.specs.Views.{Measure, held, named, saw, owners, strays, mislabels, misreads, weight, tally}
 use Rattle.bump_steps.specs.Views.{claims, evidence, Query, moves, settled, in_progress, underway, foreign, AreLabelled}
 use Rattle.bump_steps.specs.Views.{workers_of, lanes_of, untidy}
 
--- A chunk is sound: n is its head word, x its label word, and t what all views together count of it.
-pub record Sound (limit word label : ℕ) (tally_of : Measure → ℕ) : Type 0 where
+-- A chunk is sound: n is its head word, x its label and its further words, and t what all views together count of it.
+pub record Sound (limit word : ℕ) (label : ℕ → ℕ) (tally_of : Measure → ℕ) : Type 0 where
   -- the head word is that of a Head, and the chunk stands in some list, so that it is lawful by the references and
   -- first hits of all views
   pub head : Head
@@ -34,9 +35,9 @@ pub record Sound (limit word label : ℕ) (tally_of : Measure → ℕ) : Type 0 
   -- one class has the chunk, and its history leaves it there, in this generation
   pub owned : tally_of owners ≡ 1
   pub agreed : tally_of (strays (at, head.generation)) ≡ 0
-  -- the label word is what this class stored last, and all that holds of the life read
-  pub labelled : tally_of (mislabels label) ≡ 0
-  pub read : tally_of (misreads head.generation label) ≡ 0
+  -- its label and words are what this class stored last, and all that holds of the life read
+  pub labelled : (i : ℕ) → tally_of (mislabels i (label i)) ≡ 0
+  pub read : (i : ℕ) → tally_of (misreads i head.generation (label i)) ≡ 0
   -- a life of which some worker set FETCHED has its first hit
   pub hit : (g : ℕ) → 0 < tally_of (saw g) → 0 < tally_of (named g)
 
@@ -44,17 +45,18 @@ pub record Sound (limit word label : ℕ) (tally_of : Measure → ℕ) : Type 0 
 abbrev pub chunks : Config → ℕ
 chunks key = chunks_of key.classes
 
--- The words of chunk c stand side by side: its head, its time, of which nothing is said, and its label.
+-- The words of chunk c stand side by side: its head, its time, of which nothing is said, its label, and its further
+-- words.
 abbrev pub SoundAt : Config → State Empty View → ℕ → Type 0
-SoundAt key state chunk = Sound key.refs_limit (slice_index state.words (3 * chunk + 9))
-    (slice_index state.words (3 * chunk + 11)) (tally state.views chunk)
+SoundAt key state chunk = Sound key.refs_limit (slice_index state.words (head_place (length state.homes) chunk))
+    (words_at (length state.homes) state.words chunk) (tally state.views chunk)
 
 -- the limit of references is at least 1, and has room in the bits of a head word's count
 abbrev pub HasFittingLimit : Config → Type 0
 HasFittingLimit key = (0 < key.refs_limit) × (key.refs_limit < 2 ^ refs_width)
 
 pub record Kept (key : Config) (state : State Empty View) : Type 0 where
-  pub wide : length state.words ≡ 3 * chunks key + 9
+  pub wide : length state.words ≡ head_place (length state.homes) (chunks key)
   pub small : HasFittingLimit key
   pub each : (c : ℕ) → c < chunks key → SoundAt key state c
   -- no chunk has two classes
@@ -88,6 +90,7 @@ class_parts fresh class first (config ∷ ks) = record {
       fresh;
   history = [];
   labels = [];
+  words = [];
   applying = None;
   steps = [];
 } ∷ class_parts fresh (class + 1) (first + config.chunks) ks
@@ -121,7 +124,7 @@ opened key = record blank {
 }
 
 -- words of chunks that had no life
-abbrev pub AreFresh : ℕ → ℕ → List ℕ → Type 0
-AreFresh count generation words = (length words ≡ 3 * count + 9)
-    × ((c : ℕ) → c < count → (slice_index words (3 * c + 9) ≡ 2 ^ generation_first * generation)
-    × (slice_index words (3 * c + 11) ≡ 0))
+abbrev pub AreFresh : ℕ → ℕ → ℕ → List ℕ → Type 0
+AreFresh slots count generation words = (length words ≡ head_place slots count)
+    × ((c : ℕ) → c < count → (slice_index words (head_place slots c) ≡ 2 ^ generation_first * generation)
+    × ((i : ℕ) → words_at slots words c i ≡ 0))

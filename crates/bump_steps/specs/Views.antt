@@ -1,8 +1,10 @@
 -- What views count for one chunk, what they claim of applied bumps, and what they have of moves for bumps. The rule
 -- reads views through these sums alone.
-use Rattle.std.specs.Prelude.{ℕ, ◌+◌, ◌*◌, ◌/◌, ◌%◌, ◌^◌, ◌<◌, ◌≤◌, ◌≡◌, Bool, true, false, cond, not, ◌&&◌, ◌==◌, List}
+use Rattle.std.specs.Prelude.{ℕ, zero, suc, if◌then◌else◌, ◌+◌, ◌*◌, ◌/◌, ◌%◌, ◌^◌, ◌<◌, ◌≤◌, ◌≡◌, Bool, true, false, cond, not, ◌&&◌, ◌==◌, List}
 use Rattle.std.specs.Prelude.{[], ◌∷◌, Option, Some, None}
 use Rattle.bump_rules.specs.declared.items.ItemId.{ItemId}
+use Rattle.bump_rules.specs.declared.labels.LabelStep.{LabelStep}
+use Rattle.bump_rules.specs.declared.labels.LabelStep.TheVariants.{Stored, Linked}
 use Rattle.bump_rules.specs.declared.bumps.Outcome.{Outcome}
 use Rattle.bump_rules.specs.declared.bumps.Outcome.TheVariants as outcome
 use Rattle.bump_rules.specs.declared.bumps.Bump.{Bump}
@@ -23,6 +25,8 @@ use Rattle.bump_word.specs.Words.{number_of, segment_bits}
 use Rattle.bump_steps.specs.declared.views.Kind.{Kind}
 use Rattle.bump_steps.specs.declared.views.Kind.TheVariants as kind
 use Rattle.bump_steps.specs.declared.views.OwnStep.{OwnStep}
+use Rattle.bump_steps.specs.declared.views.WordStep.{WordStep}
+use Rattle.bump_steps.specs.declared.views.WordStep.TheVariants.{Put, Begun}
 use Rattle.bump_steps.specs.declared.views.Ride.{Ride}
 use Rattle.bump_steps.specs.declared.views.WorkerPart.{WorkerPart}
 use Rattle.bump_steps.specs.declared.views.HoldPart.{HoldPart}
@@ -43,6 +47,30 @@ standing class chunk = standing_in class.fresh class.history chunk
 -- the label that the class stored last for the chunk, 0 before the first
 abbrev pub last_label : ClassPart → ℕ → ℕ
 last_label class chunk = label_word chunk 0 class.labels
+
+-- what was done about further word j of chunks, as it would be about their labels
+abbrev pub of_word : ℕ → List WordStep → List LabelStep
+of_word j [] = []
+of_word j (Put chunk index word ∷ steps) = if index == j then Stored chunk word ∷ of_word j steps else of_word j steps
+of_word j (Begun item ∷ steps) = Linked item ∷ of_word j steps
+
+-- word 0 is the label, and word j + 1 is further word j
+abbrev pub labels_of : ℕ → List LabelStep → List WordStep → List LabelStep
+labels_of zero labels words = labels
+labels_of (suc j) labels words = of_word j words
+
+-- word i that the class stored last for the chunk, 0 before the first
+abbrev pub last_word : ℕ → ClassPart → ℕ → ℕ
+last_word i class chunk = label_word chunk 0 (labels_of i class.labels class.words)
+
+-- what was read of further word j
+abbrev pub read_of : ℕ → List (ℕ × ℕ) → List ℕ
+read_of j [] = []
+read_of j (read ∷ reads) = if read.0 == j then read.1 ∷ read_of j reads else read_of j reads
+
+abbrev pub reads_of : ℕ → List ℕ → List (ℕ × ℕ) → List ℕ
+reads_of zero labels words = labels
+reads_of (suc j) labels words = read_of j words
 
 -- the first of a list, if it has one
 abbrev pub first : {A : Type 0} → List A → Option A
@@ -89,18 +117,19 @@ pub data Measure : Type 0 where
   owners : Measure
   -- of these, those whose history leaves it elsewhere
   strays : Standing → Measure
-  -- of these, those that stored another label last
-  mislabels : ℕ → Measure
-  -- other labels that holds of this life read
-  misreads : ℕ → ℕ → Measure
+  -- of these, those that stored another word i last
+  mislabels : ℕ → ℕ → Measure
+  -- other words i that holds of this life read
+  misreads : ℕ → ℕ → ℕ → Measure
 
 -- 1 where two labels differ
 abbrev pub differs : ℕ → ℕ → ℕ
 differs label other = cond (other == label) 0 1
 
--- how many other labels than x a hold read, if it is of this life
-abbrev pub misread : ℕ → ℕ → ℕ → HoldPart → ℕ
-misread chunk generation label hold = one_if (life chunk generation) hold.life * total (differs label) hold.labels
+-- how many other words i than x a hold read, if it is of this life
+abbrev pub misread : ℕ → ℕ → ℕ → ℕ → HoldPart → ℕ
+misread i chunk generation label hold = one_if (life chunk generation) hold.life * total (differs label)
+    (reads_of i hold.labels hold.words)
 
 -- what parts count of chunk c
 abbrev pub counts : ℕ → Measure → List WorkerPart → List HoldPart → List Ride → List ClassPart → List LanePart → ℕ
@@ -112,9 +141,9 @@ counts chunk (saw generation) ws hs rs ks ls = total (λ w. how_many (is_fetch_o
 counts chunk owners ws hs rs ks ls = total (λ k. cond (owns chunk k) 1 0) ks
 counts chunk (strays at) ws hs rs ks ls =
     total (λ k. cond (owns chunk k && not (is_standing (standing k chunk) at)) 1 0) ks
-counts chunk (mislabels label) ws hs rs ks ls =
-    total (λ k. cond (owns chunk k && not (last_label k chunk == label)) 1 0) ks
-counts chunk (misreads generation label) ws hs rs ks ls = total (misread chunk generation label) hs
+counts chunk (mislabels i label) ws hs rs ks ls =
+    total (λ k. cond (owns chunk k && not (last_word i k chunk == label)) 1 0) ks
+counts chunk (misreads i generation label) ws hs rs ks ls = total (misread i chunk generation label) hs
 
 -- what one view counts of chunk c
 abbrev pub weight : ℕ → Measure → View → ℕ
@@ -246,12 +275,13 @@ foreign_in class = how_many (λ e. not (owns (subject e).chunk class)) class.his
 abbrev pub foreign : View → ℕ
 foreign view = total foreign_in view.classes
 
--- What a class's part has of labels: each of its chunks that isn't free has its life's label, the last one that was
+-- What a class's part has of labels: each of its chunks that isn't free has its life's words, the last ones that were
 -- stored for the chunk, and no life to come has begun.
 pub record HasLabels (class : ClassPart) : Type 0 where
-  pub labelled : (c : ℕ) → owns c class ≡ true → IsUsed (standing class c).0
-      → label_of_life (life c (standing class c).1) 0 class.labels ≡ Some (last_label class c)
-  pub unbegun : (c g : ℕ) → (standing class c).1 < g → label_of_life (life c g) 0 class.labels ≡ None
+  pub labelled : (i c : ℕ) → owns c class ≡ true → IsUsed (standing class c).0
+      → label_of_life (life c (standing class c).1) 0 (labels_of i class.labels class.words) ≡ Some (last_word i class c)
+  pub unbegun : (i c g : ℕ) → (standing class c).1 < g
+      → label_of_life (life c g) 0 (labels_of i class.labels class.words) ≡ None
 
 abbrev pub HaveLabels : List ClassPart → Type 0
 HaveLabels [] = Unit {0}

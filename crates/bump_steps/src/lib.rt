@@ -4,6 +4,7 @@
 
 mod decoding;
 mod fresh;
+mod placing;
 mod refusals;
 mod rule;
 mod steps;
@@ -14,6 +15,6 @@ pub use decoding::head_of;
 pub use refusals::{RideRefusal, TakeRefusal};
 pub use rule::Rule;
 pub use views::{
-    ClassPart, Empty, GivenBack, HoldPart, Kind, LanePart, OwnStep, Ride, View, WorkerPart,
+    ClassPart, Empty, GivenBack, HoldPart, Kind, LanePart, OwnStep, Ride, View, WordStep, WorkerPart,
 };
 pub use words::{Seat, Words};

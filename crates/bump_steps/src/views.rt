@@ -56,6 +56,9 @@ pub enum Kind {
     /// The label was stored.
     PutLabel,
 
+    /// A further word was stored.
+    PutWord,
+
     /// The time was stored under the class's lock.
     PutTime,
 
@@ -80,6 +83,16 @@ pub struct OwnStep {
 
     /// The bump for which it was made, if it was for one: its worker, and its number.
     pub bump: Option<(u32, u64)>,
+}
+
+/// What is done about the further words of a chunk, those beside its label.
+#[derive(Clone, Copy)]
+pub enum WordStep {
+    /// A value (the third) was stored as the chunk's (the first's) further word of a number (the second), from 0.
+    Put(u32, u32, u64),
+
+    /// This life began.
+    Begun(ItemId),
 }
 
 /// A reference that travels as a bump.
@@ -121,6 +134,9 @@ pub struct HoldPart {
     /// The labels that it read, in order.
     pub labels: LinkedList<u64>,
 
+    /// The further words that it read, each behind its number, in order.
+    pub words: LinkedList<(u32, u64)>,
+
     /// The head words that its looks found, in order.
     pub looks: LinkedList<u64>,
 }
@@ -154,6 +170,9 @@ pub struct ClassPart {
 
     /// The labels that it stored, and the lives that it began, in order.
     pub labels: LinkedList<LabelStep>,
+
+    /// The further words that it stored, and the lives that it began, in order.
+    pub words: LinkedList<WordStep>,
 
     /// The bump for which it moved an item last, until that bump's reference is given back: the application in
     /// progress.

@@ -1,6 +1,7 @@
 //! The words that threads share, and the steps on them, under no name.
-ghost use Rattle.std.specs.Prelude.{◌≡◌, ◌+◌, ◌*◌};
+ghost use Rattle.std.specs.Prelude.{◌≡◌, ◌+◌};
 ghost use Rattle.bump_steps.specs.Rule.{chunks as all_chunks};
+ghost use Rattle.bump_steps.specs.Places.{rows};
 
 use crate::rule::Rule;
 use crate::views::{Empty, View};
@@ -17,17 +18,16 @@ pub type Seat = atomic_table::Seat<Empty, View>;
 /// Where chunk 0 has its head.
 pub(crate) const HEAD: usize = 9;
 
-/// Where chunk 0 has its time.
-pub(crate) const TIME: usize = HEAD + 1;
-
-/// Where chunk 0 has its label.
-pub(crate) const LABEL: usize = HEAD + 2;
-
-/// The table of all words: three for each chunk, side by side, its head, its time and its label, behind nine that are
-/// spare.
+/// The table of all words: a row for each chunk, its head, its time, its label and its further words, behind nine that
+/// are spare. The table has as many slots as a chunk has further words: they have no bytes, and their number is known to
+/// each seat.
 #[derive(Drop)]
 pub struct Words {
     /// The kit's table, which asks the rule of each step.
     pub(crate) table: Table<Empty, View, Config, Rule, Global>,
-    ghost sized: { table.shared.table_id.words ≡ 3 * all_chunks table.shared.key + 9 },
+
+    /// How many words a chunk has.
+    pub(crate) row: usize,
+    ghost row_is: { row ≡ table.shared.table_id.slots + 3 },
+    ghost sized: { rows table.shared.table_id ≡ all_chunks table.shared.key },
 }

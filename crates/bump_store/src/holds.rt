@@ -1,8 +1,8 @@
 //! Holds. Contracts see plain data.
-ghost use Rattle.std.specs.Prelude.{◌≡◌, ◌++◌, ◌∷◌, []};
+ghost use Rattle.std.specs.Prelude.{◌≡◌, ◌<◌, ◌++◌, ◌∷◌, []};
 ghost use Rattle.bump_rules.specs.declared.items.Head.{Head as TheHead};
 ghost use Rattle.bump_rules.specs.Totals.{total};
-ghost use Rattle.bump_steps.specs.Views.{differs};
+ghost use Rattle.bump_steps.specs.Views.{differs, read_of};
 ghost use Rattle.bump_steps.specs.declared.views.HoldPart.{HoldPart as TheHoldPart};
 ghost use Rattle.bump_store.specs.Holds.{part_of, whole, SeesMarks};
 
@@ -38,6 +38,16 @@ impl<N: Name> Hold<N> {
         ensures same { total (differs result) self.old.labels ≡ 0 }
     {
         heads.label_of(&mut self.held)
+    }
+
+    /// A further word of the item, by one load. It is each one of this number that this hold read before.
+    #[inline(always)]
+    pub fn word(&mut self, heads: &ReaderHeads<N>, index: u32) -> u64
+        requires index { index < N.table.slots }
+        ensures read { self.new ≡ record self.old { words = self.old.words ++ (index, result) ∷ [] } }
+        ensures same { total (differs result) (read_of index self.old.words) ≡ 0 }
+    {
+        heads.word_of(&mut self.held, index)
     }
 
     /// Whether the item has both marks, FETCHED and ACTIVE, by one load of its head word, which the hold's view keeps.

@@ -4,7 +4,7 @@ ghost use Rattle.bump_links.specs.Lists.{times};
 ghost use Rattle.bump_rules.specs.Labels.{label_of_life};
 ghost use Rattle.bump_rules.specs.Totals.{total};
 ghost use Rattle.bump_heads.specs.Linking.{generation_of_chunk};
-ghost use Rattle.bump_steps.specs.Views.{owns, differs};
+ghost use Rattle.bump_steps.specs.Views.{owns, differs, of_word, read_of};
 ghost use Rattle.bump_rules.specs.Entries.{moves_of};
 ghost use Rattle.bump_heads.specs.Applying.{NamesNoBumpTwice};
 ghost use Rattle.bump_class.specs.Applications.{EachMoveIsTold, moved_in};
@@ -25,6 +25,8 @@ impl<N: Name> Hold<N> {
         ensures book { book.new ≡ book.old }
         ensures label { (label : ℕ) × (label_of_life self.old.life 0 book.old.part.labels ≡ Some label)
             × (total (differs label) self.old.labels ≡ 0) }
+        ensures words { (j : ℕ) → (word : ℕ) × (label_of_life self.old.life 0 (of_word j book.old.part.words) ≡ Some word)
+            × (total (differs word) (read_of j self.old.words) ≡ 0) }
         ensures generation { generation_of_chunk book.old.part self.old.life.chunk ≡ self.old.life.generation }
         ensures in_use { (times self.old.life.chunk book.old.lists.unused ≡ 0)
             × (times self.old.life.chunk book.old.lists.retired ≡ 0) }

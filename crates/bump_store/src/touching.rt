@@ -5,6 +5,7 @@ ghost use Rattle.bump_rules.specs.declared.items.Head.{Head as TheHead};
 ghost use Rattle.bump_rules.specs.declared.commands.Touch.TheVariants as touch;
 ghost use Rattle.bump_rules.specs.Rings.{IsAccounts, most_attempts};
 ghost use Rattle.bump_rules.specs.Tables.{is_cold};
+ghost use Rattle.bump_steps.specs.Places.{head_place};
 ghost use Rattle.bump_steps.specs.declared.views.HoldPart.{HoldPart as TheHoldPart};
 ghost use Rattle.bump_steps.specs.Rides.{dropped_as};
 ghost use Rattle.bump_steps.specs.Rule.{chunks as all_chunks};
@@ -50,7 +51,9 @@ fn attempt<N: Name>(
     seat: &mut WorkerSeat<N>,
     sender: &mut Sender<N>,
     life: ItemId,
+    place: usize,
 ) -> Touch
+    requires place { place ≡ head_place N.table.slots life.chunk }
     requires held { (h : TheHoldPart) × (seat.old.hold ≡ Some h) × (h.life ≡ life) }
     requires trying { seat.old.part.hand ≡ hand.Trying life }
     requires accepted { seat.old.part.accounts.accepted ≡ length sender.old.sent }
@@ -58,18 +61,18 @@ fn attempt<N: Name>(
     ensures { (found : TheFindings) × Attempted heads.now.refs_limit life seat.old seat.new sender.old sender.new result
         found }
 {
-    let dropped = match heads.ride(seat, life) {
+    let dropped = match heads.ride(seat, life, place) {
         Ok(rider) => match sender.offer(rider) {
             Ok(number) => return Touch::Queued(number),
             Err(rider) => {
                 heads.rider_back(seat, rider);
-                heads.give_back_bump(seat, life);
+                heads.give_back_bump(seat, life, place);
                 Dropped::Full
             }
         },
         Err(refusal) => dropped_as(refusal),
     };
-    heads.unmark(seat, life);
+    heads.unmark(seat, life, place);
     Touch::Dropped(dropped)
 }
 
@@ -81,7 +84,9 @@ fn attempt_counted<N: Name>(
     sender: &mut Sender<N>,
     counts: &mut Accounts,
     life: ItemId,
+    place: usize,
 ) -> Touch
+    requires place { place ≡ head_place N.table.slots life.chunk }
     requires held { (h : TheHoldPart) × (seat.old.hold ≡ Some h) × (h.life ≡ life) }
     requires trying { seat.old.part.hand ≡ hand.Trying life }
     requires accepted { seat.old.part.accounts.accepted ≡ length sender.old.sent }
@@ -92,7 +97,7 @@ fn attempt_counted<N: Name>(
         sender.new result found }
     ensures counted { counts.new ≡ counted result counts.old }
 {
-    let touch = attempt(heads, seat, sender, life);
+    let touch = attempt(heads, seat, sender, life, place);
     count(counts, touch);
     touch
 }
@@ -105,9 +110,11 @@ fn hit<N: Name>(
     sender: &mut Sender<N>,
     counts: &mut Accounts,
     life: ItemId,
+    place: usize,
     now: u64,
 ) -> Touch
     requires held { (h : TheHoldPart) × (seat.old.hold ≡ Some h) × (h.life ≡ life) }
+    requires place { place ≡ head_place N.table.slots life.chunk }
     requires idle { seat.old.part.hand ≡ hand.Idle }
     requires accepted { seat.old.part.accounts.accepted ≡ length sender.old.sent }
     requires attempts { seat.old.part.accounts.attempted < most_attempts }
@@ -117,22 +124,22 @@ fn hit<N: Name>(
         result found }
     ensures counted { counts.new ≡ counted result counts.old }
 {
-    let first = heads.mark_fetched(seat, life);
+    let first = heads.mark_fetched(seat, life, place);
     if !first.fetched {
         return Touch::First;
     }
     if first.active {
         return Touch::Already;
     }
-    let second = heads.mark_active(seat, life);
+    let second = heads.mark_active(seat, life, place);
     if second.active {
         return Touch::Already;
     }
     if !is_cold(second.segment) {
-        heads.set_time(seat, life, now);
+        heads.set_time(seat, life, place, now);
         return Touch::Marked;
     }
-    attempt_counted(heads, seat, sender, counts, life)
+    attempt_counted(heads, seat, sender, counts, life, place)
 }
 
 impl<N: Name> Worker<N> {
@@ -199,6 +206,7 @@ impl<N: Name> Worker<N> {
             return Touch::Exhausted;
         }
         let life = hold.life();
+        let place = hold.held.place();
         let Worker {
             seat,
             sender,
@@ -206,7 +214,7 @@ impl<N: Name> Worker<N> {
         } = self;
         seat.promise();
         heads.hold_in(seat, &mut hold.held);
-        let touch = hit(heads, seat, sender, counts, life, now);
+        let touch = hit(heads, seat, sender, counts, life, place, now);
         heads.hold_out(seat, &mut hold.held);
         touch
     }

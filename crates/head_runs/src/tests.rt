@@ -12,3 +12,4 @@ mod lives;
 mod refusals;
 mod refused_memory;
 mod stores;
+mod words;

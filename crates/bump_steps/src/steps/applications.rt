@@ -2,15 +2,16 @@
 ghost use Rattle.std.specs.Prelude.{ℕ, ◌≡◌};
 ghost use Rattle.bump_rules.specs.declared.bumps.Outcome.{Outcome as TheOutcome};
 ghost use Rattle.bump_rules.specs.declared.bumps.Outcome.TheVariants.{Gone};
-ghost use Rattle.bump_steps.specs.Words.{HasChunk, words_id};
-ghost use Rattle.bump_steps.specs.Plays.{on_chunk, OwnsChunk};
+ghost use Rattle.bump_steps.specs.Places.{HasChunk};
+ghost use Rattle.bump_steps.specs.Words.{words_id};
+ghost use Rattle.bump_steps.specs.Plays.{on_chunk, on_time, OwnsChunk};
 ghost use Rattle.bump_steps.specs.Applications.{try_tells, clear_active_tells, put_time_tells, view_after_put_time};
 ghost use Rattle.bump_steps.specs.Applications.{move_tells, alight_tells, MayTry, MayMove, MayAlight};
 ghost use Rattle.bump_rules.specs.declared.places.Segment.{Segment as TheSegment};
 ghost use Rattle.bump_rules.specs.declared.places.Segment.TheVariants.{Hot};
 
 use crate::views::{Empty, View};
-use crate::words::{HEAD, Seat, TIME, Words};
+use crate::words::{Seat, Words};
 use atomic_table::Play;
 use bump_rules::{Outcome, Segment};
 use bump_word::laws::{ALL_BUT_ACTIVE, ONE_REFERENCE};
@@ -32,7 +33,7 @@ impl Play<Empty, View> for ClearActive {
 pub struct PutTime;
 
 impl Play<Empty, View> for PutTime {
-    ghost then = { put_time_tells };
+    ghost then = { on_time put_time_tells };
 }
 
 /// Tells a step the segments between which it moves the chunk.
@@ -83,7 +84,7 @@ impl Words {
     {
         self.table
             .shared
-            .load::<Try>(seat, 3 * chunk as usize + HEAD)
+            .load::<Try>(seat, self.head_at(chunk))
     }
 
     /// ACTIVE is cleared, for a pull or for the bump aboard.
@@ -95,7 +96,7 @@ impl Words {
     {
         self.table
             .shared
-            .fetch_and::<ClearActive>(seat, 3 * chunk as usize + HEAD, ALL_BUT_ACTIVE)
+            .fetch_and::<ClearActive>(seat, self.head_at(chunk), ALL_BUT_ACTIVE)
     }
 
     /// The time is stored under the class's lock, for a link or for the bump aboard.
@@ -107,7 +108,7 @@ impl Words {
     {
         self.table
             .shared
-            .store::<PutTime>(seat, 3 * chunk as usize + TIME, now);
+            .store::<PutTime>(seat, self.time_at(chunk), now);
     }
 
     fn change_segment_by<W: Moving>(
@@ -125,7 +126,7 @@ impl Words {
     {
         self.table
             .shared
-            .fetch_xor::<Move<W>>(seat, 3 * chunk as usize + HEAD, segment_xor(from, to))
+            .fetch_xor::<Move<W>>(seat, self.head_at(chunk), segment_xor(from, to))
     }
 
     /// The segment's bits are changed, for a pull or for the bump aboard.
@@ -147,7 +148,7 @@ impl Words {
     {
         self.table
             .shared
-            .fetch_sub::<Alight<W>>(seat, 3 * chunk as usize + HEAD, ONE_REFERENCE)
+            .fetch_sub::<Alight<W>>(seat, self.head_at(chunk), ONE_REFERENCE)
     }
 
     /// The reference of the bump aboard is given back.

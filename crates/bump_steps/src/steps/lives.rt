@@ -1,16 +1,18 @@
 //! The steps of a class's seat that begin and end lives, and its looks at a chunk.
-ghost use Rattle.std.specs.Prelude.{◌≡◌};
-ghost use Rattle.bump_steps.specs.Words.{HasChunk, words_id};
-ghost use Rattle.bump_steps.specs.Plays.{on_chunk, HasClass};
+ghost use Rattle.std.specs.Prelude.{◌≡◌, ◌<◌};
+ghost use Rattle.bump_steps.specs.Places.{HasChunk};
+ghost use Rattle.bump_steps.specs.Words.{words_id};
+ghost use Rattle.bump_steps.specs.Plays.{on_chunk, on_time, on_label, on_word, HasClass};
 ghost use Rattle.bump_word.specs.Words.{word_of};
 ghost use Rattle.bump_rules.specs.Heads.{linked_head};
 ghost use Rattle.bump_steps.specs.Lives.{generation_load_tells, load_tells, time_load_tells, put_label_tells};
+ghost use Rattle.bump_steps.specs.Lives.{put_word_tells, class_after_put_word};
 ghost use Rattle.bump_steps.specs.Lives.{link_tells, unlink_tells, sweep_or_load_tells, class_after_see_time};
 ghost use Rattle.bump_steps.specs.Lives.{class_after_put_label, class_after_link, on_class, IsUnused, IsDying};
 ghost use Rattle.bump_steps.specs.Lives.{IsLinked, MayLink};
 
 use crate::views::{Empty, View};
-use crate::words::{HEAD, LABEL, Seat, TIME, Words};
+use crate::words::{Seat, Words};
 use atomic_table::Play;
 use bump_rules::{Head, Start};
 use bump_word::laws::LINK;
@@ -25,7 +27,7 @@ impl Play<Empty, View> for LoadGeneration {
 pub struct LoadTime;
 
 impl Play<Empty, View> for LoadTime {
-    ghost then = { time_load_tells };
+    ghost then = { on_time time_load_tells };
 }
 
 pub struct Load;
@@ -37,13 +39,19 @@ impl Play<Empty, View> for Load {
 pub struct PutLabel;
 
 impl Play<Empty, View> for PutLabel {
-    ghost then = { put_label_tells };
+    ghost then = { on_label put_label_tells };
+}
+
+pub struct PutWord;
+
+impl Play<Empty, View> for PutWord {
+    ghost then = { on_word put_word_tells };
 }
 
 pub struct Link;
 
 impl Play<Empty, View> for Link {
-    ghost then = { link_tells };
+    ghost then = { on_chunk link_tells };
 }
 
 pub struct Unlink;
@@ -68,7 +76,7 @@ impl Words {
     {
         self.table
             .shared
-            .load::<LoadGeneration>(seat, 3 * chunk as usize + HEAD)
+            .load::<LoadGeneration>(seat, self.head_at(chunk))
     }
 
     /// A load of a time by its class.
@@ -80,7 +88,7 @@ impl Words {
     {
         self.table
             .shared
-            .load::<LoadTime>(seat, 3 * chunk as usize + TIME)
+            .load::<LoadTime>(seat, self.time_at(chunk))
     }
 
     /// A load of a head by its class.
@@ -92,7 +100,7 @@ impl Words {
     {
         self.table
             .shared
-            .load::<Load>(seat, 3 * chunk as usize + HEAD)
+            .load::<Load>(seat, self.head_at(chunk))
     }
 
     /// The store of a label.
@@ -104,7 +112,20 @@ impl Words {
     {
         self.table
             .shared
-            .store::<PutLabel>(seat, 3 * chunk as usize + LABEL, label);
+            .store::<PutLabel>(seat, self.label_at(chunk), label);
+    }
+
+    /// The store of a further word.
+    pub fn put_word(&self, seat: &mut Seat, chunk: u32, index: u32, word: u64)
+        requires seat { (seat.old.table_id ≡ words_id self.now) × HasChunk (words_id self.now) chunk }
+        requires index { index < (words_id self.now).slots }
+        requires may { IsUnused chunk seat.old.me.0 }
+        ensures same { (seat.new.table_id ≡ seat.old.table_id) × (seat.new.id ≡ seat.old.id) }
+        ensures told { seat.new.me ≡ (on_class (class_after_put_word chunk index word) seat.old.me.0, seat.old.me.1) }
+    {
+        self.table
+            .shared
+            .store::<PutWord>(seat, self.word_at(chunk, index), word);
     }
 
     /// The store of the head of a new life, where it begins.
@@ -121,7 +142,7 @@ impl Words {
         let word = pack(Head::after_link(start, generation));
         self.table
             .shared
-            .store::<Link>(seat, 3 * chunk as usize + HEAD, word);
+            .store::<Link>(seat, self.head_at(chunk), word);
     }
 
     /// The subtraction of LINKED and of the link's reference.
@@ -133,7 +154,7 @@ impl Words {
     {
         self.table
             .shared
-            .fetch_sub::<Unlink>(seat, 3 * chunk as usize + HEAD, LINK)
+            .fetch_sub::<Unlink>(seat, self.head_at(chunk), LINK)
     }
 
     /// A load of the head of a DYING chunk.
@@ -145,6 +166,6 @@ impl Words {
     {
         self.table
             .shared
-            .load::<SweepOrLoad>(seat, 3 * chunk as usize + HEAD)
+            .load::<SweepOrLoad>(seat, self.head_at(chunk))
     }
 }

@@ -1,13 +1,14 @@
 //! The steps of a worker on the marks of a chunk, and on its time.
 ghost use Rattle.std.specs.Prelude.{◌≡◌};
 ghost use Rattle.bump_rules.specs.Lives.{life};
-ghost use Rattle.bump_steps.specs.Words.{HasChunk, words_id};
-ghost use Rattle.bump_steps.specs.Plays.{on_chunk, HasWorker};
+ghost use Rattle.bump_steps.specs.Places.{HasChunk, head_place};
+ghost use Rattle.bump_steps.specs.Words.{words_id};
+ghost use Rattle.bump_steps.specs.Plays.{on_chunk, on_time, HasWorker};
 ghost use Rattle.bump_steps.specs.Marks.{fetch_tells, mark_tells, unmark_tells, store_time_tells, on_worker};
 ghost use Rattle.bump_steps.specs.Marks.{worker_after_store_time, MayMark, RefersTo};
 
 use crate::views::{Empty, View};
-use crate::words::{HEAD, Seat, TIME, Words};
+use crate::words::{Seat, Words};
 use atomic_table::Play;
 use bump_word::laws::ALL_BUT_ACTIVE;
 use bump_word::{ACTIVE, FETCHED};
@@ -33,13 +34,14 @@ impl Play<Empty, View> for Unmark {
 pub struct StoreTime;
 
 impl Play<Empty, View> for StoreTime {
-    ghost then = { store_time_tells };
+    ghost then = { on_time store_time_tells };
 }
 
 impl Words {
     /// A worker sets FETCHED of a chunk to a life of which its seat refers.
-    pub fn mark_fetched(&self, seat: &mut Seat, chunk: u32) -> u64
+    pub fn mark_fetched(&self, seat: &mut Seat, chunk: u32, place: usize) -> u64
         requires seat { (seat.old.table_id ≡ words_id self.now) × HasChunk (words_id self.now) chunk }
+        requires place { place ≡ head_place (words_id self.now).slots chunk }
         requires worker { HasWorker seat.old.me.0 }
         requires held { RefersTo chunk seat.old.me.0 }
         ensures same { (seat.new.table_id ≡ seat.old.table_id) × (seat.new.id ≡ seat.old.id) }
@@ -47,24 +49,26 @@ impl Words {
     {
         self.table
             .shared
-            .fetch_or::<Fetch>(seat, 3 * chunk as usize + HEAD, FETCHED)
+            .fetch_or::<Fetch>(seat, self.head_by(place, chunk), FETCHED)
     }
 
     /// A worker sets ACTIVE.
-    pub fn mark_active(&self, seat: &mut Seat, chunk: u32) -> u64
+    pub fn mark_active(&self, seat: &mut Seat, chunk: u32, place: usize) -> u64
         requires seat { (seat.old.table_id ≡ words_id self.now) × HasChunk (words_id self.now) chunk }
+        requires place { place ≡ head_place (words_id self.now).slots chunk }
         requires may { MayMark chunk seat.old.me.0 }
         ensures same { (seat.new.table_id ≡ seat.old.table_id) × (seat.new.id ≡ seat.old.id) }
         ensures told { mark_tells chunk ACTIVE seat.old.me result seat.new.me }
     {
         self.table
             .shared
-            .fetch_or::<Mark>(seat, 3 * chunk as usize + HEAD, ACTIVE)
+            .fetch_or::<Mark>(seat, self.head_by(place, chunk), ACTIVE)
     }
 
     /// A worker clears ACTIVE of a chunk to a life of which its seat refers.
-    pub fn unmark(&self, seat: &mut Seat, chunk: u32) -> u64
+    pub fn unmark(&self, seat: &mut Seat, chunk: u32, place: usize) -> u64
         requires seat { (seat.old.table_id ≡ words_id self.now) × HasChunk (words_id self.now) chunk }
+        requires place { place ≡ head_place (words_id self.now).slots chunk }
         requires worker { HasWorker seat.old.me.0 }
         requires held { RefersTo chunk seat.old.me.0 }
         ensures same { (seat.new.table_id ≡ seat.old.table_id) × (seat.new.id ≡ seat.old.id) }
@@ -72,12 +76,13 @@ impl Words {
     {
         self.table
             .shared
-            .fetch_and::<Unmark>(seat, 3 * chunk as usize + HEAD, ALL_BUT_ACTIVE)
+            .fetch_and::<Unmark>(seat, self.head_by(place, chunk), ALL_BUT_ACTIVE)
     }
 
     /// A worker stores the time of a chunk to a life of which its seat refers.
-    pub fn set_time(&self, seat: &mut Seat, chunk: u32, now: u64)
+    pub fn set_time(&self, seat: &mut Seat, chunk: u32, place: usize, now: u64)
         requires seat { (seat.old.table_id ≡ words_id self.now) × HasChunk (words_id self.now) chunk }
+        requires place { place ≡ head_place (words_id self.now).slots chunk }
         requires worker { HasWorker seat.old.me.0 }
         requires held { RefersTo chunk seat.old.me.0 }
         ensures same { (seat.new.table_id ≡ seat.old.table_id) × (seat.new.id ≡ seat.old.id) }
@@ -88,6 +93,6 @@ impl Words {
     {
         self.table
             .shared
-            .store::<StoreTime>(seat, 3 * chunk as usize + TIME, now);
+            .store::<StoreTime>(seat, self.time_by(place, chunk), now);
     }
 }

@@ -1,17 +1,18 @@
 //! The steps by which a hold meets its class, and a lane a class.
 ghost use Rattle.std.specs.Prelude.{◌≡◌, ◌<◌};
-ghost use Rattle.bump_steps.specs.Words.{HasChunk, words_id};
-ghost use Rattle.bump_steps.specs.Plays.{on_chunk, HasClass, TellsOfMoves};
+ghost use Rattle.bump_steps.specs.Places.{HasChunk};
+ghost use Rattle.bump_steps.specs.Words.{words_id};
+ghost use Rattle.bump_steps.specs.Plays.{on_label, HasClass, TellsOfMoves};
 ghost use Rattle.bump_steps.specs.Meetings.{load_to_meet_tells, load_to_meet_lane_tells};
 
 use crate::views::{Empty, View};
-use crate::words::{LABEL, Seat, Words};
+use crate::words::{Seat, Words};
 use atomic_table::Play;
 
 pub struct LoadToMeet;
 
 impl Play<Empty, View> for LoadToMeet {
-    ghost then = { on_chunk load_to_meet_tells };
+    ghost then = { on_label load_to_meet_tells };
 }
 
 pub struct LoadToMeetLane;
@@ -30,7 +31,7 @@ impl Words {
     {
         self.table
             .shared
-            .load::<LoadToMeet>(seat, 3 * chunk as usize + LABEL)
+            .load::<LoadToMeet>(seat, self.label_at(chunk))
     }
 
     /// A load of the table's first word, for `meet_lane`: of a spare one, so that no class needs a chunk for it.

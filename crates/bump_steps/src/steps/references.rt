@@ -1,17 +1,18 @@
 //! The steps of a reader on a reference: a load, the exchange that takes it, and the subtraction that gives it back;
 //! the loads of a label and of a head by a hold; and loads that need no seat of the caller's.
-ghost use Rattle.std.specs.Prelude.{ℕ, ◌≡◌, List};
+ghost use Rattle.std.specs.Prelude.{ℕ, ◌≡◌, ◌<◌, List};
 ghost use Rattle.bump_rules.specs.declared.items.Head.{Head as TheHead};
-ghost use Rattle.bump_steps.specs.Words.{HasChunk, words_id, config_of};
-ghost use Rattle.bump_steps.specs.Plays.{on_chunk, Found, HasWorker};
+ghost use Rattle.bump_steps.specs.Places.{HasChunk, head_place};
+ghost use Rattle.bump_steps.specs.Words.{words_id, config_of};
+ghost use Rattle.bump_steps.specs.Plays.{on_chunk, on_label, on_word, Found, HasWorker};
 ghost use Rattle.bump_steps.specs.References.{load_to_take_tells, take_tells, MayTake, HasHold, release_of_hold_tells};
-ghost use Rattle.bump_steps.specs.References.{look_of_hold_tells, label_load_tells, load_without_seat_tells, IsAnyHead};
+ghost use Rattle.bump_steps.specs.References.{look_of_hold_tells, label_load_tells, word_load_tells, load_without_seat_tells, IsAnyHead};
 ghost use Rattle.bump_steps.specs.Tries.{TakeFound, refusal_of, view_after_attempt};
 
 use crate::decoding::head_of;
 use crate::refusals::{TakeRefusal, refusal};
 use crate::views::{Empty, View};
-use crate::words::{HEAD, LABEL, Seat, TIME, Words};
+use crate::words::{Seat, Words};
 use atomic_table::Play;
 use bump_rules::ItemId;
 use bump_word::Limit;
@@ -45,7 +46,13 @@ impl Play<Empty, View> for LookOfHold {
 pub struct LoadLabel;
 
 impl Play<Empty, View> for LoadLabel {
-    ghost then = { on_chunk label_load_tells };
+    ghost then = { on_label label_load_tells };
+}
+
+pub struct LoadWord;
+
+impl Play<Empty, View> for LoadWord {
+    ghost then = { on_word word_load_tells };
 }
 
 /// Tells a load the limit of references, which it can't know.
@@ -69,20 +76,22 @@ impl<L: Limited> Play<Empty, View> for LoadWithoutSeat<L> {
 
 impl Words {
     /// A load of a head word, by a worker.
-    pub fn look_to_take(&self, seat: &mut Seat, chunk: u32) -> u64
+    pub fn look_to_take(&self, seat: &mut Seat, chunk: u32, place: usize) -> u64
         requires seat { (seat.old.table_id ≡ words_id self.now) × HasChunk (words_id self.now) chunk }
+        requires place { place ≡ head_place (words_id self.now).slots chunk }
         requires worker { HasWorker seat.old.me.0 }
         ensures same { (seat.new.table_id ≡ seat.old.table_id) × (seat.new.id ≡ seat.old.id) }
         ensures told { load_to_take_tells chunk 0 seat.old.me result seat.new.me }
     {
         self.table
             .shared
-            .load::<LoadToTake>(seat, 3 * chunk as usize + HEAD)
+            .load::<LoadToTake>(seat, self.head_by(place, chunk))
     }
 
     /// The exchange by which a worker takes a hold.
-    pub fn try_take(&self, seat: &mut Seat, life: ItemId, word: u64) -> u64
+    pub fn try_take(&self, seat: &mut Seat, life: ItemId, place: usize, word: u64) -> u64
         requires seat { (seat.old.table_id ≡ words_id self.now) × HasChunk (words_id self.now) life.chunk }
+        requires place { place ≡ head_place (words_id self.now).slots life.chunk }
         requires worker { HasWorker seat.old.me.0 }
         requires word { MayTake (config_of self.now).refs_limit life word }
         ensures same { (seat.new.table_id ≡ seat.old.table_id) × (seat.new.id ≡ seat.old.id) }
@@ -90,7 +99,7 @@ impl Words {
     {
         self.table.shared.compare_exchange::<Take>(
             seat,
-            3 * life.chunk as usize + HEAD,
+            self.head_by(place, life.chunk),
             word,
             word + ONE_REFERENCE,
         )
@@ -98,8 +107,15 @@ impl Words {
 
     /// One load, and at most 8 exchanges. The limit is read anew for each word, as its comparison's operand.
     #[inline(always)]
-    pub fn take(&self, seat: &mut Seat, life: ItemId, limit: &Limit) -> Option<TakeRefusal>
+    pub fn take(
+        &self,
+        seat: &mut Seat,
+        life: ItemId,
+        place: usize,
+        limit: &Limit,
+    ) -> Option<TakeRefusal>
         requires seat { (seat.old.table_id ≡ words_id self.now) × HasChunk (words_id self.now) life.chunk }
+        requires place { place ≡ head_place (words_id self.now).slots life.chunk }
         requires worker { HasWorker seat.old.me.0 }
         requires limit { limit.now ≡ (config_of self.now).refs_limit }
         ensures same { (seat.new.table_id ≡ seat.old.table_id) × (seat.new.id ≡ seat.old.id) }
@@ -107,13 +123,13 @@ impl Words {
             × (seat.new.me ≡ (view_after_attempt limit.now life first more seat.old.me.0, seat.old.me.1))
             × (result ≡ refusal_of limit.now life first more) }
     {
-        let mut word = self.look_to_take(seat, life.chunk);
+        let mut word = self.look_to_take(seat, life.chunk, place);
         for failed in 0..8u32 {
             let head = head_of(word);
             if let Some(refused) = refusal(word, head, life, limit) {
                 return Some(refused);
             }
-            let found = self.try_take(seat, life, word);
+            let found = self.try_take(seat, life, place, word);
             if found == word {
                 return None;
             }
@@ -124,39 +140,56 @@ impl Words {
 
     /// The subtraction by which a hold gives its reference back. Its seat has no list of steps, and keeps the mark of
     /// it. `drop_full` is the same step of a worker, for the reference of a bump.
-    pub fn give_back(&self, seat: &mut Seat, chunk: u32) -> u64
+    pub fn give_back(&self, seat: &mut Seat, chunk: u32, place: usize) -> u64
         requires seat { (seat.old.table_id ≡ words_id self.now) × HasChunk (words_id self.now) chunk }
+        requires place { place ≡ head_place (words_id self.now).slots chunk }
         requires hold { HasHold chunk seat.old.me.0 }
         ensures same { (seat.new.table_id ≡ seat.old.table_id) × (seat.new.id ≡ seat.old.id) }
         ensures told { release_of_hold_tells chunk ONE_REFERENCE seat.old.me result seat.new.me }
     {
         self.table
             .shared
-            .fetch_sub::<Release>(seat, 3 * chunk as usize + HEAD, ONE_REFERENCE)
+            .fetch_sub::<Release>(seat, self.head_by(place, chunk), ONE_REFERENCE)
     }
 
     /// A load of a head word, by a hold, whose list of looks notes it.
-    pub fn look_of_hold(&self, seat: &mut Seat, chunk: u32) -> u64
+    pub fn look_of_hold(&self, seat: &mut Seat, chunk: u32, place: usize) -> u64
         requires seat { (seat.old.table_id ≡ words_id self.now) × HasChunk (words_id self.now) chunk }
+        requires place { place ≡ head_place (words_id self.now).slots chunk }
         requires hold { HasHold chunk seat.old.me.0 }
         ensures same { (seat.new.table_id ≡ seat.old.table_id) × (seat.new.id ≡ seat.old.id) }
         ensures told { look_of_hold_tells chunk 0 seat.old.me result seat.new.me }
     {
         self.table
             .shared
-            .load::<LookOfHold>(seat, 3 * chunk as usize + HEAD)
+            .load::<LookOfHold>(seat, self.head_by(place, chunk))
     }
 
     /// A load of a label word, by a hold.
-    pub fn label_of(&self, seat: &mut Seat, chunk: u32) -> u64
+    pub fn label_of(&self, seat: &mut Seat, chunk: u32, place: usize) -> u64
         requires seat { (seat.old.table_id ≡ words_id self.now) × HasChunk (words_id self.now) chunk }
+        requires place { place ≡ head_place (words_id self.now).slots chunk }
         requires hold { HasHold chunk seat.old.me.0 }
         ensures same { (seat.new.table_id ≡ seat.old.table_id) × (seat.new.id ≡ seat.old.id) }
         ensures told { label_load_tells chunk 0 seat.old.me result seat.new.me }
     {
         self.table
             .shared
-            .load::<LoadLabel>(seat, 3 * chunk as usize + LABEL)
+            .load::<LoadLabel>(seat, self.label_by(place, chunk))
+    }
+
+    /// A load of a further word, by a hold.
+    pub fn word_of(&self, seat: &mut Seat, chunk: u32, place: usize, index: u32) -> u64
+        requires seat { (seat.old.table_id ≡ words_id self.now) × HasChunk (words_id self.now) chunk }
+        requires place { place ≡ head_place (words_id self.now).slots chunk }
+        requires index { index < (words_id self.now).slots }
+        requires hold { HasHold chunk seat.old.me.0 }
+        ensures same { (seat.new.table_id ≡ seat.old.table_id) × (seat.new.id ≡ seat.old.id) }
+        ensures told { word_load_tells index chunk 0 seat.old.me result seat.new.me }
+    {
+        self.table
+            .shared
+            .load::<LoadWord>(seat, self.word_by(place, chunk, index))
     }
 
     fn see_by<L: Limited>(&self, chunk: u32) -> u64
@@ -167,7 +200,7 @@ impl Words {
         let (found, _seat) = self
             .table
             .shared
-            .load_new_seat::<LoadWithoutSeat<L>>(3 * chunk as usize + HEAD);
+            .load_new_seat::<LoadWithoutSeat<L>>(self.head_at(chunk));
         found
     }
 
@@ -183,6 +216,6 @@ impl Words {
     pub fn see_time_unlisted(&self, chunk: u32) -> u64
         requires { HasChunk (words_id self.now) chunk }
     {
-        self.table.shared.peek(3 * chunk as usize + TIME)
+        self.table.shared.peek(self.time_at(chunk))
     }
 }

@@ -5,7 +5,8 @@ ghost use Rattle.bump_rules.specs.declared.items.ItemId.{ItemId as TheItemId};
 ghost use Rattle.bump_rules.specs.declared.hands.Hand.TheVariants.{Idle, Trying, InHand};
 ghost use Rattle.bump_rules.specs.Lives.{life as life_in};
 ghost use Rattle.bump_steps.specs.declared.views.Ride.{Ride as TheRide};
-ghost use Rattle.bump_steps.specs.Words.{HasChunk, words_id, config_of};
+ghost use Rattle.bump_steps.specs.Places.{HasChunk, head_place};
+ghost use Rattle.bump_steps.specs.Words.{words_id, config_of};
 ghost use Rattle.bump_steps.specs.Rule.{blank};
 ghost use Rattle.bump_steps.specs.Riders.{ride_me};
 ghost use Rattle.bump_steps.specs.Marks.{on_worker};
@@ -16,7 +17,7 @@ ghost use Rattle.bump_steps.specs.Rides.{HasRoom, without_ride, ride_only, retur
 use crate::decoding::head_of;
 use crate::refusals::RideRefusal;
 use crate::views::{Empty, View};
-use crate::words::{HEAD, Seat, Words};
+use crate::words::{Seat, Words};
 use atomic_table::{Join, Play, Split};
 use bump_rules::ItemId;
 use bump_word::Count;
@@ -81,8 +82,15 @@ impl Join<View> for RideBack {
 }
 
 impl Words {
-    fn look_to_ride_by<W: Attempt>(&self, seat: &mut Seat, limit: Count, life: ItemId) -> u64
+    fn look_to_ride_by<W: Attempt>(
+        &self,
+        seat: &mut Seat,
+        limit: Count,
+        life: ItemId,
+        place: usize,
+    ) -> u64
         requires seat { (seat.old.table_id ≡ words_id self.now) × HasChunk (words_id self.now) life.chunk }
+        requires place { place ≡ head_place (words_id self.now).slots life.chunk }
         requires attempt { (W.limit ≡ limit) × (W.failed ≡ 0) × (W.life ≡ life) }
         requires limit { limit ≡ (config_of self.now).refs_limit }
         requires trying { IsOn (Trying life) life seat.old.me.0 }
@@ -91,18 +99,19 @@ impl Words {
     {
         self.table
             .shared
-            .load::<LoadToRide<W>>(seat, 3 * life.chunk as usize + HEAD)
+            .load::<LoadToRide<W>>(seat, self.head_by(place, life.chunk))
     }
 
     /// A load, of a worker that looks for room for its bump's reference.
-    pub fn look_to_ride(&self, seat: &mut Seat, limit: Count, life: ItemId) -> u64
+    pub fn look_to_ride(&self, seat: &mut Seat, limit: Count, life: ItemId, place: usize) -> u64
         requires seat { (seat.old.table_id ≡ words_id self.now) × HasChunk (words_id self.now) life.chunk }
+        requires place { place ≡ head_place (words_id self.now).slots life.chunk }
         requires limit { limit ≡ (config_of self.now).refs_limit }
         requires trying { IsOn (Trying life) life seat.old.me.0 }
         ensures same { (seat.new.table_id ≡ seat.old.table_id) × (seat.new.id ≡ seat.old.id) }
         ensures told { load_to_ride_tells limit 0 life seat.old.me result seat.new.me }
     {
-        self.look_to_ride_by::<Brand>(seat, limit, life)
+        self.look_to_ride_by::<Brand>(seat, limit, life, place)
     }
 
     fn try_to_ride_by<W: Attempt>(
@@ -110,10 +119,12 @@ impl Words {
         seat: &mut Seat,
         limit: Count,
         life: ItemId,
+        place: usize,
         seen: u64,
         failed: u32,
     ) -> u64
         requires seat { (seat.old.table_id ≡ words_id self.now) × HasChunk (words_id self.now) life.chunk }
+        requires place { place ≡ head_place (words_id self.now).slots life.chunk }
         requires attempt { (W.limit ≡ limit) × (W.failed ≡ failed) × (W.life ≡ life) }
         requires limit { limit ≡ (config_of self.now).refs_limit }
         requires trying { IsOn (Trying life) life seat.old.me.0 }
@@ -123,7 +134,7 @@ impl Words {
     {
         self.table.shared.compare_exchange::<Reserve<W>>(
             seat,
-            3 * life.chunk as usize + HEAD,
+            self.head_by(place, life.chunk),
             seen,
             seen + ONE_REFERENCE,
         )
@@ -136,23 +147,32 @@ impl Words {
         seat: &mut Seat,
         limit: Count,
         life: ItemId,
+        place: usize,
         seen: u64,
         failed: u32,
     ) -> u64
         requires seat { (seat.old.table_id ≡ words_id self.now) × HasChunk (words_id self.now) life.chunk }
+        requires place { place ≡ head_place (words_id self.now).slots life.chunk }
         requires limit { limit ≡ (config_of self.now).refs_limit }
         requires trying { IsOn (Trying life) life seat.old.me.0 }
         requires room { HasRoom limit seen }
         ensures same { (seat.new.table_id ≡ seat.old.table_id) × (seat.new.id ≡ seat.old.id) }
         ensures told { try_to_ride_tells limit failed life seen seat.old.me result seat.new.me }
     {
-        self.try_to_ride_by::<Brand>(seat, limit, life, seen, failed)
+        self.try_to_ride_by::<Brand>(seat, limit, life, place, seen, failed)
     }
 
     /// One load, and at most 8 exchanges. The limit is read anew for each word, as its comparison's operand.
     #[inline(always)]
-    pub fn ride(&self, seat: &mut Seat, limit: &Count, life: ItemId) -> Option<RideRefusal>
+    pub fn ride(
+        &self,
+        seat: &mut Seat,
+        limit: &Count,
+        life: ItemId,
+        place: usize,
+    ) -> Option<RideRefusal>
         requires seat { (seat.old.table_id ≡ words_id self.now) × HasChunk (words_id self.now) life.chunk }
+        requires place { place ≡ head_place (words_id self.now).slots life.chunk }
         requires limit { limit.now ≡ (config_of self.now).refs_limit }
         requires trying { IsOn (Trying life) life seat.old.me.0 }
         ensures same { (seat.new.table_id ≡ seat.old.table_id) × (seat.new.id ≡ seat.old.id) }
@@ -160,13 +180,13 @@ impl Words {
             × (seat.new.me ≡ (on_worker (worker_after_attempt limit.now life first more) seat.old.me.0, seat.old.me.1))
             × (option_map dropped_as result ≡ drop_of limit.now first more) }
     {
-        let mut word = self.look_to_ride(seat, *limit, life);
+        let mut word = self.look_to_ride(seat, *limit, life, place);
         for failed in 0..8u32 {
             let head = head_of(word);
             if head.refs as Count >= *limit {
                 return Some(RideRefusal::RefsFull);
             }
-            let found = self.try_to_ride(seat, *limit, life, word, failed + 1);
+            let found = self.try_to_ride(seat, *limit, life, place, word, failed + 1);
             if found == word {
                 return None;
             }
@@ -175,8 +195,9 @@ impl Words {
         Some(RideRefusal::Busy)
     }
 
-    fn give_back_bump_by<W: Attempt>(&self, seat: &mut Seat, life: ItemId) -> u64
+    fn give_back_bump_by<W: Attempt>(&self, seat: &mut Seat, life: ItemId, place: usize) -> u64
         requires seat { (seat.old.table_id ≡ words_id self.now) × HasChunk (words_id self.now) life.chunk }
+        requires place { place ≡ head_place (words_id self.now).slots life.chunk }
         requires attempt { W.life ≡ life }
         requires in_hand { IsOn (InHand life) life seat.old.me.0 }
         ensures same { (seat.new.table_id ≡ seat.old.table_id) × (seat.new.id ≡ seat.old.id) }
@@ -184,18 +205,19 @@ impl Words {
     {
         self.table
             .shared
-            .fetch_sub::<ReleaseOfBump<W>>(seat, 3 * life.chunk as usize + HEAD, ONE_REFERENCE)
+            .fetch_sub::<ReleaseOfBump<W>>(seat, self.head_by(place, life.chunk), ONE_REFERENCE)
     }
 
     /// The subtraction that gives the reference of a bump back which found no room: the same step as `give_back`,
     /// noted by the worker.
-    pub fn give_back_bump(&self, seat: &mut Seat, life: ItemId) -> u64
+    pub fn give_back_bump(&self, seat: &mut Seat, life: ItemId, place: usize) -> u64
         requires seat { (seat.old.table_id ≡ words_id self.now) × HasChunk (words_id self.now) life.chunk }
+        requires place { place ≡ head_place (words_id self.now).slots life.chunk }
         requires in_hand { IsOn (InHand life) life seat.old.me.0 }
         ensures same { (seat.new.table_id ≡ seat.old.table_id) × (seat.new.id ≡ seat.old.id) }
         ensures told { release_tells life seat.old.me result seat.new.me }
     {
-        self.give_back_bump_by::<Brand>(seat, life)
+        self.give_back_bump_by::<Brand>(seat, life, place)
     }
 
     /// The reference in the worker's hand leaves it.

@@ -27,6 +27,7 @@ pub fn begin_in_cold<N: Name>(class: &mut ClassSeat<N>) -> ItemId
       fresh = 0;
       history = [];
       labels = [];
+      words = [];
       applying = None;
       steps = [];
     } }
@@ -61,12 +62,13 @@ pub fn attempt<N: Name>(
     ensures hollow { hold.new ≡ record hold.old { part = None } }
 {
     let life = hold.life();
+    let place = hold.place();
     heads.hold_in(worker, hold);
-    let found = heads.mark_fetched(worker, life);
+    let found = heads.mark_fetched(worker, life, place);
     expect_head(rt, found, head(2, "l", Segment::Cold, 1));
     let fetched = head(2, "lf", Segment::Cold, 1);
     expect_head_of(rt, heads, life.chunk, fetched);
-    let found = heads.mark_active(worker, life);
+    let found = heads.mark_active(worker, life, place);
     assert!(rt; matches!(found.segment, Segment::Cold));
     assert!(rt; !found.active);
     expect_head(rt, found, fetched);
@@ -90,7 +92,9 @@ pub fn send_off<N: Name>(
     ensures hold { hold.new ≡ hold.old }
 {
     attempt(rt, heads, worker, hold);
-    let rider = heads.ride(worker, hold.life()).expect(rt, "there is room");
+    let rider = heads
+        .ride(worker, hold.life(), hold.place())
+        .expect(rt, "there is room");
     let_out(heads, worker, hold);
     rider
 }
@@ -112,15 +116,16 @@ fn drop_full<N: Name>(
 {
     attempt(rt, heads, worker, hold);
     let life = hold.life();
-    let rider = heads.ride(worker, life).expect(rt, "there is room");
+    let place = hold.place();
+    let rider = heads.ride(worker, life, place).expect(rt, "there is room");
     let sent = head(3, "lfa", Segment::Cold, 1);
     expect_head_of(rt, heads, life.chunk, sent);
     heads.rider_back(worker, rider);
     expect_head_of(rt, heads, life.chunk, sent);
-    expect_head(rt, heads.give_back_bump(worker, life), sent);
+    expect_head(rt, heads.give_back_bump(worker, life, place), sent);
     let dropped = head(2, "lfa", Segment::Cold, 1);
     expect_head_of(rt, heads, life.chunk, dropped);
-    expect_head(rt, heads.unmark(worker, life), dropped);
+    expect_head(rt, heads.unmark(worker, life, place), dropped);
     expect_head_of(rt, heads, life.chunk, head(2, "lf", Segment::Cold, 1));
     let_out(heads, worker, hold);
 }
@@ -142,13 +147,14 @@ fn drop_at_limit<N: Name>(
 {
     attempt(rt, heads, worker, hold);
     let life = hold.life();
-    let Err(refusal) = heads.ride(worker, life) else {
+    let place = hold.place();
+    let Err(refusal) = heads.ride(worker, life, place) else {
         panic!(rt; "the item has one more reference than it may have")
     };
     expect(rt, "why", &refusal, &RideRefusal::RefsFull);
     let dropped = head(2, "lfa", Segment::Cold, 1);
     expect_head_of(rt, heads, life.chunk, dropped);
-    expect_head(rt, heads.unmark(worker, life), dropped);
+    expect_head(rt, heads.unmark(worker, life, place), dropped);
     expect_head_of(rt, heads, life.chunk, head(2, "lf", Segment::Cold, 1));
     let_out(heads, worker, hold);
 }

@@ -31,15 +31,16 @@ fn mark_in_hot<N: Name>(
     ensures hold { hold.new ≡ hold.old }
 {
     let life = hold.life();
+    let place = hold.place();
     heads.hold_in(worker, hold);
-    let found = heads.mark_fetched(worker, life);
+    let found = heads.mark_fetched(worker, life, place);
     expect_head(rt, found, head(2, "l", Segment::Hot, 1));
     let fetched = head(2, "lf", Segment::Hot, 1);
     expect_head_of(rt, heads, life.chunk, fetched);
-    let found = heads.mark_active(worker, life);
+    let found = heads.mark_active(worker, life, place);
     assert!(rt; matches!(found.segment, Segment::Hot));
     expect_head(rt, found, fetched);
-    heads.set_time(worker, life, 3);
+    heads.set_time(worker, life, place, 3);
     expect_seen(rt, heads, life.chunk, (head(2, "lfa", Segment::Hot, 1), 3));
     let_out(heads, worker, hold);
 }
@@ -75,6 +76,7 @@ fn live<N: Name>(
       fresh = 0;
       history = [];
       labels = [];
+      words = [];
       applying = None;
       steps = [];
     } }

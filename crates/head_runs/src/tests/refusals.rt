@@ -76,6 +76,7 @@ fn fill<N: Name>(
       fresh = 0;
       history = [];
       labels = [];
+      words = [];
       applying = None;
       steps = [];
     } }

@@ -51,6 +51,7 @@ pub fn open<N: Name>(alloc: Global, blank: Blank, config: &Config) -> Result<Sma
       fresh = 0;
       history = [];
       labels = [];
+      words = [];
       applying = None;
       steps = [];
     })) }

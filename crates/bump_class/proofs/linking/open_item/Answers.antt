@@ -1,5 +1,5 @@
-use Rattle.std.proofs.Common.{ℕ, Bool, Some, if◌then◌else◌, refl, ap, ◌∙◌, eq-eqb}
-use Rattle.bump_steps.specs.Views.{last_label}
+use Rattle.std.proofs.Common.{ℕ, suc, Bool, Some, if◌then◌else◌, refl, ap, ◌∙◌, eq-eqb}
+use Rattle.bump_steps.specs.Views.{last_label, last_word}
 use Rattle.bump_steps.proofs.LabelLists.{word_stored}
 use Rattle.bump_heads.specs.declared.views.ClassView.{ClassView}
 use Rattle.bump_heads.specs.Applying.{seat_after_put_time}
@@ -14,3 +14,11 @@ returns-clause-label g c =
     let last = word_stored at 0 c.args.seat.now.part.labels at c.args.label
     ∙ ap (λ (b : Bool). if b then c.args.label else last_label c.args.seat.now.part at) (eq-eqb at at refl) in
     c.open_life_in.ensures.label ∙ ap (λ (x : ℕ). Some x) (timed ∙ (stored ∙ last))
+
+pub returns-clause-words : goal.returns-clause-words
+returns-clause-words g c j =
+    let at = c.args.chunk in
+    let word : ClassView → ℕ = λ v. last_word (suc j) v.part at in
+    let timed = ap word c.put_time.ensures.timed in
+    let stored = ap (λ v. word (seat_after_put_time at c.args.now v)) c.put_label.ensures.labelled in
+    c.open_life_in.ensures.words j ∙ ap (λ (x : ℕ). Some x) (timed ∙ stored)

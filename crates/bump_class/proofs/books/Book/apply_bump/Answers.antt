@@ -65,7 +65,7 @@ invariant_of-self g c =
     → slice_index more w ≡ slice_index i.moved w + bit (n == w)) (sym c.lane.invariant.worker_is)
     c.count_move.ensures.counted in
     entered_with i.seat c.update-outcome.new.class i.first i.end i.hot_limit i.warm_limit i.workers i.moved more i.lists
-    c.to_front.new.self e _ _ c.self.invariant c.in-Moved.ensures.updates.1.class c.to_front.ensures own refl
+    c.to_front.new.self e _ _ _ c.self.invariant c.in-Moved.ensures.updates.1.class c.to_front.ensures own refl
     (counts_bump i.moved more i.seat.part.history (part_or y.seat).worker b c.self.invariant.4 one)
 
 pub count_move-requires : goal.count_move-requires

@@ -1,7 +1,7 @@
-use Rattle.std.proofs.Common.{◌+◌, arith, ◌-◌, ◌*◌, ap, sym, ◌∙◌, subst, length, []}
+use Rattle.std.proofs.Common.{arith, ◌-◌, ap, sym, ◌∙◌, subst, length, []}
+use Rattle.bump_steps.specs.Places.{rows}
 use Rattle.bump_steps.specs.Plays.{Sat}
 use Rattle.bump_rules.specs.declared.configs.Config.{Config}
-use Rattle.atomic_table.specs.Seated.{TableId}
 use Rattle.bump_rules.specs.Configs.{chunks_of}
 use Rattle.bump_rules.proofs.Bounds.{bounds}
 use Rattle.bump_steps.specs.Rule.{opened}
@@ -16,13 +16,13 @@ part_classes-requires-clause-parts g c = let k = c.args.config.now in let me = c
     ∙ ap (λ (x : Config). (opened x, [])) (ap (λ (b : BlankView). b.config) c.blank.view_is ∙ c.requires.config) in (
       ap (λ (x : Sat). length x.0.classes) me ∙ length_classes (k.first_generation - 1) 0 0 k.classes
           ∙ ap length (sym c.as_slice.ensures),
-      subst (λ (x : Sat). AreNewClasses g.N.Name.table.words 0 x.0.classes)
-          (sym me) (new_classes g.N.Name.table.words (k.first_generation - 1) 0 0 k.classes
+      subst (λ (x : Sat). AreNewClasses (rows g.N.Name.table) 0 x.0.classes)
+          (sym me) (new_classes (rows g.N.Name.table) (k.first_generation - 1) 0 0 k.classes
           (omega (
             arith,
-            ap (λ (t : TableId). t.words)
+            ap rows
                 (sym (ap (λ (b : BlankView). b.table) c.blank.view_is ∙ c.requires.name)) ∙ c.blank.inside.words.sized
-                ∙ ap (λ (x : Config). 3 * chunks_of x.classes + 9) (ap (λ (b : BlankView). b.config) c.blank.view_is
+                ∙ ap (λ (x : Config). chunks_of x.classes) (ap (λ (b : BlankView). b.config) c.blank.view_is
                 ∙ c.requires.config),
           ))),
     )

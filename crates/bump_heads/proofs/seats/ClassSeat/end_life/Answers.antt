@@ -1,4 +1,5 @@
 use Rattle.std.proofs.Common.{rules, ◌≤◌, refl, ap, ◌∙◌, arith}
+use Rattle.bump_steps.specs.Places.{rows}
 use Rattle.bump_rules.specs.Lawful.{bit}
 use Rattle.bump_steps.specs.Plays.{Told}
 use Rattle.bump_steps.specs.Views.{standing}
@@ -14,7 +15,7 @@ invariant_of-self g c = seat_kept c.self.inside.seat.me c.end_life.new.seat.me c
     (class_after_unlink c.args.chunk c.end_life.result) g.N.Name.table c.end_life.new.seat.table_id
     c.self.inside.class c.self.view_is c.self.invariant.0 c.end_life.ensures.told.0
     (c.end_life.ensures.same.0 ∙ c.self.invariant.1) c.self.invariant.2 c.self.invariant.3 c.self.invariant.4
-    c.self.invariant.5 refl (λ o. keeps_unlink g.N.Name.table.words c.args.self.now.part o c.args.chunk
+    c.self.invariant.5 refl (λ o. keeps_unlink (rows g.N.Name.table) c.args.self.now.part o c.args.chunk
     c.end_life.result c.requires.own c.requires.linked)
     (λ j o. alone_joined c.args.self.now.part (class_after_unlink c.args.chunk c.end_life.result c.args.self.now.part)
     c.args.self.now.lane j c.requires.alone refl o)

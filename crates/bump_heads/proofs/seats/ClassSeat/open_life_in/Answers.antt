@@ -1,4 +1,5 @@
-use Rattle.std.proofs.Common.{◌≡◌, Some, ℕ, ◌+◌, ◌/◌, ◌^◌, refl, ap, ◌∙◌, sym, subst, arith}
+use Rattle.std.proofs.Common.{◌≡◌, Some, ℕ, suc, ◌+◌, ◌/◌, ◌^◌, refl, ap, ◌∙◌, sym, subst, arith}
+use Rattle.bump_steps.specs.Places.{rows}
 use Rattle.bump_rules.specs.declared.places.Place.{Place}
 use Rattle.bump_rules.specs.Heads.{linked_head}
 use Rattle.bump_rules.specs.Labels.{label_of_life}
@@ -9,10 +10,10 @@ use Rattle.bump_word.specs.Words.{word_of}
 use Rattle.bump_word.proofs.Words.{fields}
 use Rattle.bump_steps.specs.declared.views.ClassPart.{ClassPart}
 use Rattle.bump_steps.specs.Lives.{class_after_see_generation, class_after_link}
-use Rattle.bump_steps.specs.Views.{last_label}
+use Rattle.bump_steps.specs.Views.{last_label, last_word, of_word}
 use Rattle.bump_heads.specs.declared.views.ClassView.{ClassView}
 use Rattle.bump_heads.specs.Seats.{class_me, IsClassPart}
-use Rattle.bump_heads.proofs.ClassLives.{keeps_link, link_label}
+use Rattle.bump_heads.proofs.ClassLives.{keeps_link, link_label, link_word}
 use Rattle.bump_heads.proofs.ClassParts.{noted_part}
 use Rattle.bump_heads.proofs.Joining.{alone_joined}
 use Rattle.bump_heads.proofs.ClassSeats.{seat_kept, finds, alone_is, me_after, after_two, view_after}
@@ -49,7 +50,7 @@ invariant_of-self g c =
     let n : ℕ = c.head_of-found.result.generation + 1 in
     let word : ℕ = word_of (linked_head c.args.start n) in
     let now = c.args.self.now in
-    let words = g.N.Name.table.words in
+    let words = (rows g.N.Name.table) in
     let gen = (finds c.args.chunk c.see_generation.result c.self.inside.seat.me now c.head_of-found.result
     c.self.view_is c.self.invariant.0 c.requires.own c.head_of-found.ensures c.see_generation.ensures.told.1).1 in
     let seen : ClassPart = class_after_see_generation c.args.chunk y now.part in
@@ -79,7 +80,7 @@ returns-clause-label g c =
     let now = c.args.self.now in
     let gen = (finds c.args.chunk c.see_generation.result c.self.inside.seat.me now c.head_of-found.result
     c.self.view_is c.self.invariant.0 c.requires.own c.head_of-found.ensures c.see_generation.ensures.told.1).1 in
-    let part = subst (λ (v : ClassView). IsClassPart g.N.Name.table.words v.part) c.self.view_is c.self.invariant.4 in
+    let part = subst (λ (v : ClassView). IsClassPart (rows g.N.Name.table) v.part) c.self.view_is c.self.invariant.4 in
     let after = after_two c.self.inside.seat.me c.see_generation.new.seat.me c.open_life.new.seat.me
     (class_after_see_generation c.args.chunk y) (class_after_link c.args.start c.args.chunk n word)
     c.see_generation.ensures.told.0 c.open_life.ensures.told in
@@ -90,7 +91,28 @@ returns-clause-label g c =
     ∙ subst (λ (j : ℕ). label_of_life (life c.args.chunk (j + 1)) 0
     (class_after_link c.args.start c.args.chunk (j + 1) word now.part).labels ≡ Some
     (last_label now.part c.args.chunk)) (sym gen)
-    (link_label g.N.Name.table.words now.part part c.args.chunk)
+    (link_label (rows g.N.Name.table) now.part part c.args.chunk)
+
+pub returns-clause-words : goal.returns-clause-words
+returns-clause-words g c x =
+    let y : ℕ = c.see_generation.result / 2 ^ generation_first in
+    let n : ℕ = c.head_of-found.result.generation + 1 in
+    let word : ℕ = word_of (linked_head c.args.start n) in
+    let now = c.args.self.now in
+    let gen = (finds c.args.chunk c.see_generation.result c.self.inside.seat.me now c.head_of-found.result
+    c.self.view_is c.self.invariant.0 c.requires.own c.head_of-found.ensures c.see_generation.ensures.told.1).1 in
+    let part = subst (λ (v : ClassView). IsClassPart (rows g.N.Name.table) v.part) c.self.view_is c.self.invariant.4 in
+    let after = after_two c.self.inside.seat.me c.see_generation.new.seat.me c.open_life.new.seat.me
+    (class_after_see_generation c.args.chunk y) (class_after_link c.args.start c.args.chunk n word)
+    c.see_generation.ensures.told.0 c.open_life.ensures.told in
+    let seen = view_after c.self.inside.seat.me c.open_life.new.seat.me now
+    (λ k. class_after_link c.args.start c.args.chunk n word (class_after_see_generation c.args.chunk y k))
+    (c.self.invariant.0 ∙ ap class_me c.self.view_is) after in
+    ap (λ (v : ClassView). label_of_life (life c.args.chunk n) 0 (of_word x v.part.words)) seen
+    ∙ subst (λ (j : ℕ). label_of_life (life c.args.chunk (j + 1)) 0
+    (of_word x (class_after_link c.args.start c.args.chunk (j + 1) word now.part).words) ≡ Some
+    (last_word (suc x) now.part c.args.chunk)) (sym gen)
+    (link_word (rows g.N.Name.table) now.part part (suc x) c.args.chunk)
 
 pub returns-clause-opened : goal.returns-clause-opened
 returns-clause-opened g c =

@@ -1,4 +1,5 @@
 use Rattle.std.proofs.Common.{rules, None, refl, ◌∙◌, ◌++◌, ◌∷◌, []}
+use Rattle.bump_steps.specs.Places.{rows}
 use Rattle.bump_steps.specs.declared.views.Kind.TheVariants as kind
 use Rattle.bump_steps.specs.Lives.{class_after_see_time}
 use Rattle.bump_steps.specs.Plays.{step_of}
@@ -15,7 +16,7 @@ invariant_of-self g c =
     g.N.Name.table c.see_time.new.seat.table_id c.self.inside.class c.self.view_is
     c.self.invariant.0 c.see_time.ensures.told
     (c.see_time.ensures.same.0 ∙ c.self.invariant.1) c.self.invariant.2 c.self.invariant.3 c.self.invariant.4
-    c.self.invariant.5 refl (λ o. noted_part g.N.Name.table.words now.part (now.part.steps ++ step ∷ []) o)
+    c.self.invariant.5 refl (λ o. noted_part (rows g.N.Name.table) now.part (now.part.steps ++ step ∷ []) o)
     (λ j o. noted_joined now.part step now.lane j o)
 
 pub returns : goal.returns

@@ -1,4 +1,5 @@
 use Rattle.std.proofs.Common.{ℕ, ◌%◌, ◌^◌, ap, ap₂, ◌∙◌, subst}
+use Rattle.bump_steps.specs.Places.{rows}
 use Rattle.bump_rules.specs.declared.places.Place.{Place}
 use Rattle.bump_rules.specs.Lawful.{Shows}
 use Rattle.bump_word.specs.Layout.{refs_width}
@@ -17,7 +18,7 @@ invariant_of-self g c = seat_kept c.self.inside.seat.me c.seen_unheld.new.seat.m
     c.self.invariant.0 c.seen_unheld.ensures.told.0 (c.seen_unheld.ensures.same.0 ∙ c.self.invariant.1)
     c.self.invariant.2 c.self.invariant.3 c.self.invariant.4 c.self.invariant.5
     (number_kept c.args.chunk (c.seen_unheld.result % 2 ^ refs_width) c.seen_unheld.result c.args.self.now.part)
-    (λ o. keeps_sweep_or_load g.N.Name.table.words c.args.self.now.part o c.args.chunk
+    (λ o. keeps_sweep_or_load (rows g.N.Name.table) c.args.self.now.part o c.args.chunk
     (c.seen_unheld.result % 2 ^ refs_width) c.seen_unheld.result c.requires.own)
     (λ j o. alone_joined c.args.self.now.part
     (class_after_sweep_or_load c.args.chunk (c.seen_unheld.result % 2 ^ refs_width) c.seen_unheld.result

@@ -5,7 +5,11 @@ use Rattle.bump_steps.proofs.words.Words.give_back.Goals as goal
 pub fetch_sub-requires : goal.fetch_sub-requires
 fetch_sub-requires c = let t = c.args.self.now.table.shared in (
   c.requires.seat.0,
-  omega (arith, c.requires.seat.1),
-  may_release t.key t.table_id.slots c.args.seat.now.id
-      c.args.seat.now.me c.args.chunk (omega (arith, c.args.self.now.sized, c.requires.seat.1)) c.requires.hold,
+  c.head_by.ensures.near,
+  rw c.head_by.ensures.is
+      (may_release t.key t.table_id.slots c.args.seat.now.id
+      c.args.seat.now.me c.args.chunk (omega (arith, c.args.self.now.sized, c.requires.seat.1)) c.requires.hold),
 )
+
+pub returns-clause-told : goal.returns-clause-told
+returns-clause-told c = c.fetch_sub.ensures.2 c.args.chunk c.head_by.ensures.is

@@ -1,8 +1,9 @@
-use Rattle.std.proofs.Common.{◌∙◌, length, subst, sym, ap}
+use Rattle.std.proofs.Common.{◌∙◌, ◌≤◌, List, length, subst, sym, ap}
 use Rattle.std.proofs.lemmas.List.{length-map}
 use Rattle.std.proofs.lemmas.Simd.{map-map}
 use Rattle.bump_class.specs.Lanes.{LaneView}
-use Rattle.bump_rules.specs.Configs.{HaveChunks}
+use Rattle.bump_rules.specs.Configs.{HaveChunks, chunks_of}
+use Rattle.bump_rules.specs.declared.configs.ClassConfig.{ClassConfig}
 use Rattle.bump_rules.proofs.Bounds.{bounds}
 use Rattle.bump_store.specs.Lanes.{LaneState}
 use Rattle.bump_store.specs.Parting.{raw_rings, raw_parts_of}
@@ -32,3 +33,8 @@ pub returns-clause-lanes : goal.returns-clause-lanes
 returns-clause-lanes g c = ap raw_parts_of c.in_ok-raw_lanes.ensures
     ∙ map-map (λ (x : LaneView). x.part) (λ (x : LaneState). x.lane) c.in_ok-workers.lanes.items
     ∙ c.in_ok-workers.ensures.lanes
+
+pub make_books-requires-clause-few : goal.make_books-requires-clause-few
+make_books-requires-clause-few g c = let key = c.args.config.now in
+    subst (λ (ks : List ClassConfig). chunks_of ks ≤ 1000000) (sym c.as_slice.ensures)
+    (bounds key.workers key.capacity key.refs_limit key.first_generation key.classes key.valid).chunks_most

@@ -1,6 +1,7 @@
-use Rattle.std.proofs.Common.{rules, ◌≡◌, ◌≤◌, length, sym, ap, ◌∙◌, subst, vec_len, arith}
+use Rattle.std.proofs.Common.{rules, ◌≡◌, ◌≤◌, List, length, sym, ap, ◌∙◌, subst, vec_len, arith}
 use Rattle.std.specs.Arc.{arc_value}
-use Rattle.bump_rules.specs.Configs.{HaveChunks}
+use Rattle.bump_rules.specs.Configs.{HaveChunks, chunks_of}
+use Rattle.bump_rules.specs.declared.configs.ClassConfig.{ClassConfig}
 use Rattle.bump_rules.specs.declared.configs.Config.{Config}
 use Rattle.bump_rules.proofs.Bounds.{bounds}
 use Rattle.bump_store.specs.Stores.{IsStore}
@@ -43,3 +44,8 @@ invariant_of-result g c =
 pub make_books-requires-clause-workers : goal.make_books-requires-clause-workers
 make_books-requires-clause-workers g c = let key = c.args.config.now in
     (bounds key.workers key.capacity key.refs_limit key.first_generation key.classes key.valid).workers_most
+
+pub make_books-requires-clause-few : goal.make_books-requires-clause-few
+make_books-requires-clause-few g c = let key = c.args.config.now in
+    subst (λ (ks : List ClassConfig). chunks_of ks ≤ 1000000) (sym c.as_slice-slice.ensures)
+    (bounds key.workers key.capacity key.refs_limit key.first_generation key.classes key.valid).chunks_most

@@ -1,0 +1,88 @@
+-- Further words of a chunk: those that are stored one by one, and what the life that begins then has.
+use Rattle.std.proofs.Common.{◌≡◌, ℕ, zero, suc, ◌+◌, ◌<◌, ◌≤◌, Bool, List, [], ◌∷◌, ◌++◌, get_or, drop, length, None, if◌then◌else◌, refl, sym, ap, ◌∙◌, arith, append_assoc, append-nil, eq-eqb, ne_eqb}
+use Rattle.bump_rules.specs.declared.labels.LabelStep.TheVariants.{Stored}
+use Rattle.bump_rules.specs.Labels.{label_word}
+use Rattle.bump_steps.specs.declared.views.ClassPart.{ClassPart}
+use Rattle.bump_steps.specs.declared.views.WordStep.{WordStep}
+use Rattle.bump_steps.specs.declared.views.WordStep.TheVariants.{Put}
+use Rattle.bump_steps.specs.declared.views.Kind.TheVariants as kind
+use Rattle.bump_steps.specs.Plays.{step_of}
+use Rattle.bump_steps.specs.Views.{of_word}
+use Rattle.bump_steps.proofs.LabelLists.{of_word_put, word_stored}
+use Rattle.bump_class.specs.Changes.{puts, put_steps}
+
+-- those below i stay
+stays : (c i j : ℕ) (xs : List ℕ) (ws : List WordStep) → j < i
+    → label_word c 0 (of_word j (ws ++ puts c i xs)) ≡ label_word c 0 (of_word j ws)
+stays c i j [] ws low = ap (λ (l : List WordStep). label_word c 0 (of_word j l)) (append-nil ws)
+stays c i j (x ∷ xs) ws low = ap (λ (l : List WordStep). label_word c 0 (of_word j l))
+    (sym (append_assoc ws (Put c i x ∷ []) (puts c (suc i) xs)))
+    ∙ stays c (suc i) j xs (ws ++ Put c i x ∷ []) (omega (arith, low))
+    ∙ ap (label_word c 0) (of_word_put j ws c i x
+    ∙ ap (λ (b : Bool). if b then of_word j ws ++ Stored c x ∷ [] else of_word j ws)
+    (ne_eqb i j (λ e. omega (arith, e, low))))
+
+-- and each of the others is the one given
+pub last_put : (c i j : ℕ) (xs : List ℕ) (ws : List WordStep) → j < length xs
+    → label_word c 0 (of_word (i + j) (ws ++ puts c i xs)) ≡ get_or xs j 0
+last_put c i j [] ws low = absurd (omega (arith, low))
+last_put c i zero (x ∷ xs) ws low = ap (λ (l : List WordStep). label_word c 0 (of_word (i + 0) l))
+    (sym (append_assoc ws (Put c i x ∷ []) (puts c (suc i) xs)))
+    ∙ stays c (suc i) (i + 0) xs (ws ++ Put c i x ∷ []) (omega arith)
+    ∙ ap (label_word c 0) (of_word_put (i + 0) ws c i x
+    ∙ ap (λ (b : Bool). if b then of_word (i + 0) ws ++ Stored c x ∷ [] else of_word (i + 0) ws)
+    (eq-eqb i (i + 0) (omega arith)))
+    ∙ word_stored c 0 (of_word (i + 0) ws) c x
+    ∙ ap (λ (b : Bool). if b then x else label_word c 0 (of_word (i + 0) ws)) (eq-eqb c c refl)
+last_put c i (suc j) (x ∷ xs) ws low = ap (λ (l : List WordStep). label_word c 0 (of_word (i + suc j) l))
+    (sym (append_assoc ws (Put c i x ∷ []) (puts c (suc i) xs)))
+    ∙ ap (λ (n : ℕ). label_word c 0 (of_word n ((ws ++ Put c i x ∷ []) ++ puts c (suc i) xs))) (omega arith)
+    ∙ last_put c (suc i) j xs (ws ++ Put c i x ∷ []) (omega (arith, low))
+
+-- how far the loop is that stores them
+pub record Putting (chunk index : ℕ) (xs : List ℕ) (from now : ClassPart) : Type 0 where
+  pub words : now.words ++ puts chunk index (drop index xs) ≡ from.words ++ puts chunk 0 xs
+  pub steps : now.steps ++ put_steps chunk (drop index xs) ≡ from.steps ++ put_steps chunk xs
+  pub rest : now ≡ record from { words = now.words; steps = now.steps }
+
+-- the list from a place within it on
+drop_at : (i : ℕ) (xs : List ℕ) → i < length xs → drop i xs ≡ get_or xs i 0 ∷ drop (suc i) xs
+drop_at i [] h = absurd (omega (arith, h))
+drop_at zero (x ∷ xs) h = refl
+drop_at (suc i) (x ∷ xs) h = drop_at i xs (omega (arith, h))
+
+drop_all : (i : ℕ) (xs : List ℕ) → length xs ≤ i → drop i xs ≡ []
+drop_all zero [] h = refl
+drop_all (suc i) [] h = refl
+drop_all zero (x ∷ xs) h = absurd (omega (arith, h))
+drop_all (suc i) (x ∷ xs) h = drop_all i xs (omega (arith, h))
+
+pub putting_starts : (chunk : ℕ) (xs : List ℕ) (k : ClassPart) → Putting chunk 0 xs k k
+putting_starts chunk xs k = record { words = refl; steps = refl; rest = refl }
+
+pub putting_goes_on : (chunk i : ℕ) (xs : List ℕ) (from now : ClassPart) → i < length xs → Putting chunk i xs from now
+    → Putting chunk (suc i) xs from (record now {
+      words = now.words ++ Put chunk i (get_or xs i 0) ∷ [];
+      steps = now.steps ++ step_of kind.PutWord chunk (get_or xs i 0) None ∷ [];
+    })
+putting_goes_on chunk i xs from now near o = record {
+  words = append_assoc now.words (Put chunk i (get_or xs i 0) ∷ []) (puts chunk (suc i) (drop (suc i) xs))
+      ∙ ap (λ (l : List ℕ). now.words ++ puts chunk i l) (sym (drop_at i xs near)) ∙ o.words;
+  steps = append_assoc now.steps (step_of kind.PutWord chunk (get_or xs i 0) None ∷ [])
+      (put_steps chunk (drop (suc i) xs))
+      ∙ ap (λ (l : List ℕ). now.steps ++ put_steps chunk l) (sym (drop_at i xs near)) ∙ o.steps;
+  rest = ap (λ (k : ClassPart). record k {
+    words = now.words ++ Put chunk i (get_or xs i 0) ∷ [];
+    steps = now.steps ++ step_of kind.PutWord chunk (get_or xs i 0) None ∷ [];
+  }) o.rest;
+}
+
+pub putting_ends : (chunk i : ℕ) (xs : List ℕ) (from now : ClassPart) → length xs ≤ i → Putting chunk i xs from now
+    → now ≡ record from { words = from.words ++ puts chunk 0 xs; steps = from.steps ++ put_steps chunk xs }
+putting_ends chunk i xs from now past o = o.rest
+    ∙ (λ k. record from {
+      words = (sym (append-nil now.words)
+          ∙ ap (λ (l : List ℕ). now.words ++ puts chunk i l) (sym (drop_all i xs past)) ∙ o.words) k;
+      steps = (sym (append-nil now.steps)
+          ∙ ap (λ (l : List ℕ). now.steps ++ put_steps chunk l) (sym (drop_all i xs past)) ∙ o.steps) k;
+    })

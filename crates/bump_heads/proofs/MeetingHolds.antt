@@ -1,0 +1,62 @@
+-- A hold that is joined to the seat of its class: what both know of the words of its life.
+use Rattle.std.proofs.Common.{◌≡◌, ℕ, suc, true, Option, Some, None, IsSome, refl, sym, ap, ap₂, ◌∙◌, subst}
+use Rattle.bump_rules.specs.declared.items.ItemId.{ItemId}
+use Rattle.bump_rules.specs.Labels.{label_of_life}
+use Rattle.bump_rules.specs.Lives.{life}
+use Rattle.bump_rules.specs.Totals.{total}
+use Rattle.bump_steps.specs.declared.views.HoldPart.{HoldPart}
+use Rattle.bump_steps.specs.Cuts.{joined}
+use Rattle.bump_steps.specs.Meetings.{Met, Meets}
+use Rattle.bump_steps.specs.Plays.{Sat}
+use Rattle.bump_steps.specs.Views.{owns, labels_of, of_word, last_label, last_word, differs}
+use Rattle.bump_readers.specs.Seats.{hold_me, IsHoldOf, labels_in, words_in}
+use Rattle.bump_heads.specs.declared.views.ClassView.{ClassView}
+use Rattle.bump_heads.specs.Seats.{class_me, IsClassPart}
+
+-- the part of a whole hold
+pub part_of_whole : (o : Option HoldPart) → IsSome o → (h : HoldPart) × (o ≡ Some h)
+part_of_whole None whole = absurd (cc whole)
+part_of_whole (Some h) whole = (h, refl)
+
+module _ (m s q : Sat) (v w : ClassView) (o : Option HoldPart) (l held : ItemId) (word n : ℕ) (h : HoldPart)
+    (class : m ≡ class_me v) (same : v ≡ w) (hold : s ≡ hold_me o) (some : o ≡ Some h) (of : IsHoldOf l o)
+    (is : held ≡ l) (joins : q ≡ (joined m.0 s.0, m.1)) (part : IsClassPart n v.part) (own : owns l.chunk w.part ≡ true)
+    (meets : Meets held.chunk q.0 word) where
+  -- the hold's life is the one that it names
+  h_life : h.life ≡ l
+  h_life = subst (IsHoldOf l) some of
+
+  all : q ≡ (joined (class_me w).0 (hold_me (Some h)).0, (class_me w).1)
+  all = joins ∙ ap₂ (λ (x y : Sat). (joined x.0 y.0, x.1)) (class ∙ ap class_me same) (hold ∙ ap hold_me some)
+
+  kept : IsClassPart n w.part
+  kept = subst (λ (x : ClassView). IsClassPart n x.part) same part
+
+  met : Met w.part h word
+  met = meets w.part h (ap (λ (x : Sat). x.0.classes) all) (ap (λ (x : Sat). x.0.holds) all)
+      (subst (λ (x : ItemId). owns x.chunk w.part ≡ true) (sym is) own)
+      (ap (λ (x : ItemId). x.chunk) (h_life ∙ sym is))
+
+  -- word i of the life is the one that the class stored last
+  met_word : (i : ℕ) → label_of_life l 0 (labels_of i w.part.labels w.part.words) ≡ Some (last_word i w.part l.chunk)
+  met_word i = subst (λ (x : ItemId). label_of_life x 0 (labels_of i w.part.labels w.part.words) ≡ Some
+      (last_word i w.part x.chunk)) h_life
+      (subst (λ (g : ℕ). label_of_life (life h.life.chunk g) 0 (labels_of i w.part.labels w.part.words) ≡ Some
+      (last_word i w.part h.life.chunk)) met.generation
+      (kept.labelled i h.life.chunk (subst (λ (x : ItemId). owns x.chunk w.part ≡ true) (sym h_life) own) met.used))
+
+  pub met_stored : label_of_life l 0 w.part.labels ≡ Some word
+  met_stored = met_word 0
+      ∙ ap (λ (x : ItemId). Some (last_label w.part x.chunk)) (sym h_life) ∙ ap (λ (y : ℕ). Some y) met.label
+
+  pub met_words : (j : ℕ) → label_of_life l 0 (of_word j w.part.words) ≡ Some (last_word (suc j) w.part l.chunk)
+  met_words j = met_word (suc j)
+
+  -- and each that the hold read
+  pub met_read : total (differs word) (labels_in o) ≡ 0
+  met_read = ap (λ (x : Option HoldPart). total (differs word) (labels_in x)) some ∙ met.read
+
+  pub met_words_read : (j : ℕ) → total (differs (last_word (suc j) w.part l.chunk)) (words_in j o) ≡ 0
+  met_words_read j = ap (λ (x : Option HoldPart). total (differs (last_word (suc j) w.part l.chunk)) (words_in j x)) some
+      ∙ subst (λ (x : ItemId). total (differs (last_word (suc j) w.part x.chunk)) (words_in j (Some h)) ≡ 0) h_life
+      (met.words j)

@@ -1,0 +1,93 @@
+//! Further words of chunks, as a reader sees them.
+ghost use Rattle.std.specs.Prelude.{◌≡◌, ◌≤◌, None, [], ◌∷◌};
+ghost use Rattle.bump_readers.specs.Workers.{worker_seen};
+ghost use Rattle.bump_steps.specs.Rule.{worker_part, chunks as all_chunks};
+
+use super::expecting::{expect, expect_head, expect_seen};
+use super::stores::{Small, config_of, head, life_of, open};
+use super::*;
+use bump_rules::{Config, Segment};
+use std::alloc::{AllocError, Global};
+use std::marker::Brand;
+use std::process::Abort;
+use std::test::Fail;
+
+fn live_wide<N: Name>(
+    rt: &impl Abort,
+    heads: &Heads<N>,
+    class: &mut ClassSeat<N>,
+    worker: &mut WorkerSeat<N>,
+)
+    requires chunks { all_chunks heads.now ≡ 2 }
+    requires wide { 2 ≤ N.table.slots }
+    requires alone { class.old.lane ≡ None }
+    requires first { class.old.part ≡ record {
+      class = 0;
+      first = 0;
+      count = 2;
+      fresh = 0;
+      history = [];
+      labels = [];
+      words = [];
+      applying = None;
+      steps = [];
+    } }
+    requires worker { worker.old ≡ worker_seen (worker_part 0) }
+{
+    class.put_word(1, 1, 201);
+    class.put_label(0, 7);
+    class.put_word(0, 0, 100);
+    class.put_word(0, 1, 101);
+    class.put_label(1, 8);
+    class.put_word(1, 0, 200);
+    class.put_time(0, 1);
+    let life = class.open_life(0);
+    let other = class.open_life(1);
+    expect(rt, "the first life", &life, &life_of(0, 1));
+    expect(rt, "of the other", &other, &life_of(1, 1));
+    expect_seen(rt, heads, 0, (head(1, "l", Segment::Hot, 1), 1));
+    let mut hold = heads.take(worker, life).expect(rt, "there is room");
+    expect(rt, "word 0", &heads.word_of(&mut hold, 0), &100);
+    expect(rt, "word 1", &heads.word_of(&mut hold, 1), &101);
+    expect(rt, "the label", &heads.label_of(&mut hold), &7);
+    expect(rt, "the label", &class.meet(&mut hold), &7);
+    let mut second = heads.take(worker, other).expect(rt, "there is room");
+    expect(rt, "word 0", &heads.word_of(&mut second, 0), &200);
+    expect(rt, "word 1", &heads.word_of(&mut second, 1), &201);
+    expect(rt, "the label", &heads.label_of(&mut second), &8);
+    expect_head(rt, class.end_life(0), head(2, "l", Segment::Hot, 1));
+    expect(rt, "word 1", &heads.word_of(&mut hold, 1), &101);
+    expect_head(rt, heads.give_back(hold).0, head(1, "", Segment::Hot, 1));
+    expect_head(rt, heads.give_back(second).0, head(2, "l", Segment::Hot, 1));
+    expect_head(rt, class.seen_unheld(0), head(0, "", Segment::Hot, 1));
+}
+
+fn wide_in<N: Name>(
+    rt: &impl Abort,
+    alloc: Global,
+    blank: Blank,
+    config: &Config,
+) -> Result<(), AllocError>
+    requires name { blank.table ≡ N.table }
+    requires wide { 2 ≤ blank.table.slots }
+    requires config { blank.config ≡ config.now }
+    requires small { (config.now.workers ≡ 1) × (config.now.first_generation ≡ 1)
+        × (config.now.classes ≡ record { chunks = 2; hot = 1; warm = 1 } ∷ []) }
+{
+    let Small {
+        heads,
+        mut class,
+        mut worker,
+        lane: _,
+    } = open::<N>(alloc, blank, config)?;
+    live_wide(rt, &heads, &mut class, &mut worker);
+    Ok(())
+}
+
+#[test]
+fn further_words_are_those_that_were_stored(rt: HostRuntime) -> Result<(), Fail> {
+    let alloc = rt.alloc();
+    let config = config_of(alloc, 4).ok_or("no memory")?;
+    let blank = Blank::with_words(alloc, &config, 2)?;
+    Ok(wide_in::<Brand>(&rt, alloc, blank, &config)?)
+}
