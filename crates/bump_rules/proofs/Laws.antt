@@ -116,14 +116,6 @@ module _ (limit : ℕ) (h : Head) (at : Place) (r x : ℕ → ℕ) (o : Lawful l
     past = λ g some. o.past g (omega (arith, same_first_hits g));
   }
 
-  -- a life with a reference is the chunk's
-  pub referred_generation : (g : ℕ) → 0 < r g → g ≡ h.generation
-  referred_generation g some = (o.used g some).0
-
-  -- no other life has a reference
-  pub none_else : (g : ℕ) → g ≢ h.generation → r g ≡ 0
-  none_else g other = dite (ℕ_discrete (r g) 0) (λ e. e) (λ ne. absurd (other (o.used g (omega arith)).0))
-
   -- a free chunk has no reference
   pub none_where_free : IsUsed at ≡ ⊥ → (g : ℕ) → r g ≡ 0
   none_where_free free g = dite (ℕ_discrete (r g) 0) (λ e. e) (λ ne. absurd (subst (λ (T : Type 0). T) free

@@ -99,10 +99,6 @@ pub total_below : {A : Type 0} (f g : A → ℕ) → ((x : A) → f x ≤ g x) �
 total_below f g below [] = omega arith
 total_below f g below (x ∷ xs) = omega (arith, below x, total_below f g below xs)
 
--- how often two lists name a life
-pub count_append : (l : ItemId) (xs ys : List ItemId) → count_of l (xs ++ ys) ≡ count_of l xs + count_of l ys
-count_append l xs ys = total_append (one_if l) xs ys
-
 -- how often a list with one more life at its end names a life
 pub count_push : (l m : ItemId) (xs : List ItemId) → count_of l (xs ++ m ∷ []) ≡ count_of l xs + one_if l m
 count_push l m xs = total_push (one_if l) xs m

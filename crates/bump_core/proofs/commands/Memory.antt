@@ -52,32 +52,10 @@ looks_ask heads (c ∷ cs) s some = by (is_unheld (heads c)) some (looks_ask hea
     by true some others = refl
     by false some others = others some
 
--- a pull asks where it moves its item, and where it ends it
-pub pull_asks : (s : State) (k : ℕ) (t : Tail) (c : ℕ) (to : Segment) → pulled_to (pulled_at s k t c) ≡ Some to
-    → one_asks s (pull_events s k t c) ≡ true
-pull_asks s k tail.Hot c to is = ap (λ o. one_asks (after s (event.ClearActive c)) (move_events c o)) is
-pull_asks s k tail.Warm c to is = ap (λ o. one_asks (after s (event.ClearActive c)) (move_events c o)) is
-pull_asks s k tail.Cold c to is = ap (λ o. one_asks (after s (event.ClearActive c)) (move_events c o)) is
-pull_asks s k tail.Evict c to is = refl
-
 -- whatever is asked before, an event that asks makes the events ask
 or_asks : (b : Bool) → (b || true) ≡ true
 or_asks true = refl
 or_asks false = refl
-
--- the first hit of an item asks
-pub first_asks : (s : State) (w : ℕ) (l : ItemId) (now : ℕ) → (head_at s l.chunk).fetched ≡ false
-    → one_asks s (hit_events s w l now (hit_at s l)) ≡ true
-first_asks s w l now clear =
-    let is : hit_at s l ≡ IsFirst = cond-true (not (head_at s l.chunk).fetched) _ _ (ap not clear) in
-    ap (λ (h : Hit). one_asks s (hit_events s w l now h)) is ∙ ap (λ (b : Bool). not b || false) clear
-
--- and so does a bump that is queued
-pub queue_asks : (s : State) (w : ℕ) (l : ItemId) (now : ℕ) → hit_at s l ≡ Attempts → dropped_at s w l ≡ None
-    → one_asks s (hit_events s w l now (hit_at s l)) ≡ true
-queue_asks s w l now is none = ap (λ (h : Hit). one_asks s (hit_events s w l now h)) is
-    ∙ (ap (λ (o : Option Dropped). one_asks s (event.Fetch w l ∷ event.Mark w l ∷ attempt_events w o)) none
-    ∙ or_asks (not (head_at s l.chunk).fetched))
 
 -- to apply a bump asks, whatever it comes to
 applied_asks : (s : State) (w now c : ℕ) (linked cold active : Bool) (e : Ended) → one_asks s
@@ -89,20 +67,6 @@ applied_asks s w now c false cold active e = refl
 applied_asks s w now c true false active e = refl
 applied_asks s w now c true true true e = refl
 applied_asks s w now c true true false e = refl
-
--- whether the bump is taken first or not
-pub apply_asks : (s : State) (w now c : ℕ) (h : Head) (x : Lane)
-    → one_asks s (take_events w x ++ apply_events h w now c) ≡ true
-apply_asks s w now c h lane.Empty = applied_asks (after s (event.TakeBump w)) w now c h.linked
-    (is_cold h.segment) h.active (ended_of (one_fewer h))
-apply_asks s w now c h (lane.Carrying b) = applied_asks s w now c h.linked (is_cold h.segment) h.active
-    (ended_of (one_fewer h))
-apply_asks s w now c h (lane.Tried b) = applied_asks s w now c h.linked (is_cold h.segment) h.active
-    (ended_of (one_fewer h))
-apply_asks s w now c h (lane.Cleared b found) = applied_asks s w now c h.linked (is_cold h.segment) h.active
-    (ended_of (one_fewer h))
-apply_asks s w now c h (lane.Moved b) = applied_asks s w now c h.linked (is_cold h.segment) h.active
-    (ended_of (one_fewer h))
 
 -- A sweep.
 module _ (s : State) (k : ℕ) (within : k < length s.classes) where

@@ -223,34 +223,17 @@ module _ (first c : ℕ) (s : links.Lists) (six : AreSixLists first s) where
       ≡ 1
   once_at p some = counted_at p (node_at p some) ∙ (held_at p some).once
 
--- the chunk of a node has a number
-pub node_numbered : (first : ℕ) (s : links.Lists) (o : Option ℕ) → AreSixLists first s → IfSome o (λ n. n < s.nodes)
-    → IfSome o (λ n. first + n < 4294967296)
-node_numbered first s None six below = tt
-node_numbered first s (Some n) six below = let last : first + s.nodes < 4294967296 = six.numbered in
-    omega (arith, last, below)
-
 -- What the readers of the links answer, of the list that has the number of a place.
 module _ (first l : ℕ) (s : links.Lists) (p : Place) (is : l ≡ place_number p) where
   -- that list as one of chunks
   numbered_at : chunks_from first (links.list_at s l) ≡ list_at (lists_from first s) p
   numbered_at = ap (λ k. chunks_from first (links.list_at s k)) is ∙ sym (list_at_from first s p)
 
-  -- its first chunk
-  pub first_is : (o r : Option ℕ) → o ≡ first_of (links.list_at s l) → r ≡ option_map (λ n. first + n) o → r
-      ≡ first_of (list_at (lists_from first s) p)
-  first_is o r read as_chunk = as_chunk ∙ ap (option_map (λ n. first + n)) read
-      ∙ chunks_first first (links.list_at s l) ∙ ap first_of numbered_at
-
   -- its last chunk
   pub last_is : (o r : Option ℕ) → o ≡ last_of (links.list_at s l) → r ≡ option_map (λ n. first + n) o → r
       ≡ last_of (list_at (lists_from first s) p)
   last_is o r read as_chunk = as_chunk ∙ ap (option_map (λ n. first + n)) read ∙ chunks_last first (links.list_at s l)
       ∙ ap last_of numbered_at
-
-  -- how many chunks it has
-  pub length_is : length (links.list_at s l) ≡ length (list_at (lists_from first s) p)
-  length_is = sym (length-map (links.list_at s l) (λ n. first + n)) ∙ ap length numbered_at
 
   -- a chunk that moves to its front
   pub moved_is : (c : ℕ) → AreSixLists first s → HasNode first c s → lists_from first (moved_to_front (c - first) l s)
@@ -270,10 +253,3 @@ next_is first c s p o r six some read as_chunk =
     ∙ chunks_next first (c - first) xs
     ∙ ap (λ k. next_of k (chunks_from first xs)) (node_at first c s six p some).is
     ∙ ap (next_of c) (sym (list_at_from first s p))
-
--- lists that were moved in are as many as before
-pub six_moved : (first n l : ℕ) (s t : links.Lists) → AreSixLists first s → t.nodes ≡ s.nodes → length t.lists
-    ≡ length s.lists → HoldsEachOnce t → AreSixLists first t
-six_moved first n l s t six nodes lists each =
-    let last : first + s.nodes < 4294967296 = six.numbered in
-    record { six = lists ∙ six.six; each_once = each; numbered = omega (arith, last, nodes) }
