@@ -59,6 +59,20 @@ module _ (s : State) (o : IsLawful s) where
   never_at c p q in_range is other = times_in (class_of s c) c q (class_within s o.tiles c in_range)
       ∙ ap bit (and_right _ _ (ap (λ at. is_place at q) is ∙ other))
 
+  -- and in no list of another class
+  pub never_in : (k c : ℕ) (q : Place) → k < length s.classes → class_of s c ≢ k
+      → times c (list_at (class_at s k).lists q) ≡ 0
+  never_in k c q within other = by (cases_lt 0 (times c (list_at (class_at s k).lists q)))
+    where
+      by : (0 < times c (list_at (class_at s k).lists q)) ⊎ (times c (list_at (class_at s k).lists q) ≤ 0)
+          → times c (list_at (class_at s k).lists q) ≡ 0
+      by (inl some) = absurd (other (listed k c q within some).0)
+      by (inr none) = omega arith
+
+  -- a linked chunk is at the place of its segment
+  pub place_linked : (c : ℕ) → (head_at s c).linked ≡ true → place s c ≡ place_of (head_at s c).segment
+  place_linked c on = placed_where_linked (head_at s c) (place s c) (o.chunks c).shown on
+
   -- the last of HOT, WARM or COLD is in range, of the class, linked, and has the segment
   pub last_linked : (k c : ℕ) (g : Segment) → k < length s.classes
       → last_of (list_at (class_at s k).lists (place_of g)) ≡ Some c

@@ -147,9 +147,21 @@ module _ (s : State) (o : IsLawful s) where
   pub referred_used : (c g : ℕ) → 0 < references s c g → IsUsed (place s c)
   referred_used c g some = ((o.chunks c).used g some).1
 
+  -- and its count isn't 0
+  pub referred_refs : (c g : ℕ) → 0 < references s c g → 0 < (head_at s c).refs
+  referred_refs c g some = omega (arith, (o.chunks c).counted, ap (references s c) (referred_current c g some))
+
   -- a chunk has no more holds than its count
   pub holds_within : (c : ℕ) → (chunk_at s c).holds ≤ (head_at s c).refs
   holds_within c = omega (arith, (o.chunks c).counted, held_here (chunk_at s c))
+
+  -- and the count is at most the limit
+  pub refs_within : (c : ℕ) → (head_at s c).refs ≤ s.refs_limit
+  refs_within c = (o.chunks c).within
+
+  -- a linked chunk has a count above its holds
+  pub linked_above_holds : (c : ℕ) → (head_at s c).linked ≡ true → (chunk_at s c).holds < (head_at s c).refs
+  linked_above_holds c on = omega (arith, (o.chunks c).counted, held_here (chunk_at s c), ap bit on)
 
   -- a linked chunk is in range
   pub linked_in_range : (c : ℕ) → (head_at s c).linked ≡ true → c < length s.chunks
@@ -183,6 +195,10 @@ module _ (s : State) (o : IsLawful s) where
   clearing_on : (w : ℕ) (l : ItemId) → (worker_at s w).hand ≡ hand.Clearing l → 0 < is_on l (worker_at s w).hand
   clearing_on w l is = omega (arith, ap (is_on l) is, one_if_same l)
 
+  -- a life of which a worker tries to take a reference has a hold
+  pub tried_held : (w : ℕ) (l : ItemId) → w < length s.workers → (worker_at s w).hand ≡ hand.Trying l → 0 < holds_of s l
+  tried_held w l within is = on_held w l within (trying_on w l is)
+
   -- and so references
   pub tried_referred : (w : ℕ) (l : ItemId) → w < length s.workers → (worker_at s w).hand ≡ hand.Trying l
       → 0 < references s l.chunk l.generation
@@ -197,6 +213,11 @@ module _ (s : State) (o : IsLawful s) where
   pub tried_current : (w : ℕ) (l : ItemId) → w < length s.workers → (worker_at s w).hand ≡ hand.Trying l
       → l.generation ≡ (head_at s l.chunk).generation
   tried_current w l within is = referred_current l.chunk l.generation (tried_referred w l within is)
+
+  -- a life with a reference in a worker's hand has a hold
+  pub in_hand_held : (w : ℕ) (l : ItemId) → w < length s.workers → (worker_at s w).hand ≡ hand.InHand l
+      → 0 < holds_of s l
+  in_hand_held w l within is = on_held w l within (in_hand_on w l is)
 
   -- and so references
   pub in_hand_referred : (w : ℕ) (l : ItemId) → w < length s.workers → (worker_at s w).hand ≡ hand.InHand l
@@ -213,6 +234,11 @@ module _ (s : State) (o : IsLawful s) where
       → l.generation ≡ (head_at s l.chunk).generation
   in_hand_current w l within is = referred_current l.chunk l.generation (in_hand_referred w l within is)
 
+  -- a life whose ACTIVE a worker is to clear has a hold
+  pub cleared_held : (w : ℕ) (l : ItemId) → w < length s.workers → (worker_at s w).hand ≡ hand.Clearing l
+      → 0 < holds_of s l
+  cleared_held w l within is = on_held w l within (clearing_on w l is)
+
   -- and so references
   pub cleared_referred : (w : ℕ) (l : ItemId) → w < length s.workers → (worker_at s w).hand ≡ hand.Clearing l
       → 0 < references s l.chunk l.generation
@@ -223,6 +249,23 @@ module _ (s : State) (o : IsLawful s) where
       → l.chunk < length s.chunks
   cleared_in_range w l within is = referred_in_range l.chunk l.generation (cleared_referred w l within is)
 
+  -- and it is its chunk's
+  pub cleared_current : (w : ℕ) (l : ItemId) → w < length s.workers → (worker_at s w).hand ≡ hand.Clearing l
+      → l.generation ≡ (head_at s l.chunk).generation
+  cleared_current w l within is = referred_current l.chunk l.generation (cleared_referred w l within is)
+
+  -- the count of a chunk with a reference in a worker's hand is above its holds
+  pub in_hand_above_holds : (w : ℕ) (l : ItemId) → w < length s.workers → (worker_at s w).hand ≡ hand.InHand l
+      → (chunk_at s l.chunk).holds < (head_at s l.chunk).refs
+  in_hand_above_holds w l within is = omega (
+    arith,
+    (o.chunks l.chunk).counted,
+    held_here (chunk_at s l.chunk),
+    ap (references s l.chunk) (in_hand_current w l within is),
+    ap (λ g. holds_of s (life l.chunk g)) (in_hand_current w l within is),
+    term_within (bumps_of l) s.workers w new_worker within,
+    ap (in_hand_of l) is,
+    one_if_same l,
   )
 
   -- Bumps in a ring or in a lane.
@@ -231,6 +274,16 @@ module _ (s : State) (o : IsLawful s) where
   pub in_ring_referred : (w : ℕ) (l : ItemId) → w < length s.workers → 0 < count_of l (in_ring (worker_at s w))
       → 0 < references s l.chunk l.generation
   in_ring_referred w l within some = omega (arith, bumps_counted s l w within)
+
+  -- its chunk is in range
+  pub in_ring_in_range : (w : ℕ) (l : ItemId) → w < length s.workers → 0 < count_of l (in_ring (worker_at s w))
+      → l.chunk < length s.chunks
+  in_ring_in_range w l within some = referred_in_range l.chunk l.generation (in_ring_referred w l within some)
+
+  -- and it is its chunk's
+  pub in_ring_current : (w : ℕ) (l : ItemId) → w < length s.workers → 0 < count_of l (in_ring (worker_at s w))
+      → l.generation ≡ (head_at s l.chunk).generation
+  in_ring_current w l within some = referred_current l.chunk l.generation (in_ring_referred w l within some)
 
   -- a life with a bump aboard a lane has references
   pub aboard_referred : (w : ℕ) (l : ItemId) → w < length s.workers → 0 < in_lane_of l (worker_at s w).lane
@@ -247,6 +300,16 @@ module _ (s : State) (o : IsLawful s) where
       → l.generation ≡ (head_at s l.chunk).generation
   aboard_current w l within some = referred_current l.chunk l.generation (aboard_referred w l within some)
 
+  -- the count of its chunk is above the holds
+  pub aboard_above_holds : (w : ℕ) (l : ItemId) → w < length s.workers → 0 < in_lane_of l (worker_at s w).lane
+      → (chunk_at s l.chunk).holds < (head_at s l.chunk).refs
+  aboard_above_holds w l within some = omega (
+    arith,
+    (o.chunks l.chunk).counted,
+    held_here (chunk_at s l.chunk),
+    ap (references s l.chunk) (aboard_current w l within some),
+    ap (λ g. holds_of s (life l.chunk g)) (aboard_current w l within some),
+    term_within (bumps_of l) s.workers w new_worker within,
   )
 
   -- a lane that applies a bump has it aboard
@@ -277,8 +340,22 @@ module _ (s : State) (o : IsLawful s) where
     one_if_same b.life,
   ))
 
+  -- where it cleared ACTIVE
+  pub unmarked_in_range : (w : ℕ) (b : Bump) (found : Bool) → w < length s.workers → (worker_at s w).lane
+      ≡ lane.Cleared b found → b.life.chunk < length s.chunks
+  unmarked_in_range w b found within is = aboard_in_range w b.life within (omega (
+    arith,
+    ap (in_lane_of b.life) is,
+    one_if_same b.life,
   ))
 
+  -- and where it moved the item
+  pub moved_in_range : (w : ℕ) (b : Bump) → w < length s.workers → (worker_at s w).lane ≡ lane.Moved b
+      → b.life.chunk < length s.chunks
+  moved_in_range w b within is = aboard_in_range w b.life within (omega (
+    arith,
+    ap (in_lane_of b.life) is,
+    one_if_same b.life,
   ))
 
   -- Free chunks.
@@ -302,6 +379,10 @@ module _ (s : State) (o : IsLawful s) where
     ap bit (unused_shown c is).0,
   )
 
+  -- and it has no holds
+  pub unused_holds : (c : ℕ) → place s c ≡ Unused → (chunk_at s c).holds ≡ 0
+  unused_holds c is = omega (arith, holds_within c, unused_refs c is)
+
   -- A worker's accounts.
 
   -- while an attempt is under way the attempted are one more than the accepted and the dropped
@@ -309,6 +390,12 @@ module _ (s : State) (o : IsLawful s) where
       → (worker_at s w).accounts.accepted + (worker_at s w).accounts.full + (worker_at s w).accounts.busy +
       (worker_at s w).accounts.refs + 1 ≡ (worker_at s w).accounts.attempted
   counts_under_way w within one = omega (arith, (o.workers w within).accounts.attempted)
+
+  -- so it is while the worker tries to take a reference
+  pub tried_under_way : (w : ℕ) (l : ItemId) → w < length s.workers → (worker_at s w).hand ≡ hand.Trying l
+      → (worker_at s w).accounts.accepted + (worker_at s w).accounts.full + (worker_at s w).accounts.busy +
+      (worker_at s w).accounts.refs + 1 ≡ (worker_at s w).accounts.attempted
+  tried_under_way w l within is = counts_under_way w within (ap attempts_of is)
 
   -- and while it has the reference in its hand
   pub in_hand_under_way : (w : ℕ) (l : ItemId) → w < length s.workers → (worker_at s w).hand ≡ hand.InHand l
@@ -323,3 +410,7 @@ module _ (s : State) (o : IsLawful s) where
     ap length (o.workers w within).ring.prefix,
     length-append (worker_at s w).received (in_ring (worker_at s w)),
   )
+
+  -- no more were sent than attempted
+  pub sent_within : (w : ℕ) → w < length s.workers → length (worker_at s w).sent ≤ (worker_at s w).accounts.attempted
+  sent_within w within = omega (arith, (o.workers w within).accounts.accepted, (o.workers w within).accounts.attempted)
