@@ -31,23 +31,24 @@ fn update<N: Name>(
         (part_or lane.new) found }
 {
     let chunk = bump.life.chunk;
-    let tried = class.try_front(lane, bump);
+    let place = class.head_at(chunk);
+    let tried = class.try_front(lane, bump, place);
     if !tried.linked {
-        class.alight(lane, bump, Outcome::Gone);
+        class.alight(lane, bump, place, Outcome::Gone);
         return Outcome::Gone;
     }
-    class.put_time(chunk, now);
+    class.put_time(chunk, place, now);
     if !matches!(tried.segment, Segment::Cold) {
-        class.alight(lane, bump, Outcome::TimeOnly);
+        class.alight(lane, bump, place, Outcome::TimeOnly);
         return Outcome::TimeOnly;
     }
-    let cleared = class.clear_active(chunk);
+    let cleared = class.clear_active(chunk, place);
     if !cleared.active {
-        class.alight(lane, bump, Outcome::TimeOnly);
+        class.alight(lane, bump, place, Outcome::TimeOnly);
         return Outcome::TimeOnly;
     }
-    class.change_segment(chunk, Segment::Cold, Segment::Warm);
-    class.alight(lane, bump, Outcome::Moved);
+    class.change_segment(chunk, place, Segment::Cold, Segment::Warm);
+    class.alight(lane, bump, place, Outcome::Moved);
     Outcome::Moved
 }
 
@@ -119,7 +120,7 @@ impl<N: Name> Book<N> {
                 Applied::Moved
             }
             Outcome::TimeOnly => Applied::TimeOnly,
-            Outcome::Gone => Applied::Gone(self.seen_unheld(chunk).ended()),
+            Outcome::Gone => Applied::Gone(self.seen_unheld(chunk, self.head_at(chunk)).ended()),
         }
     }
 }

@@ -6,6 +6,7 @@ ghost use Rattle.bump_rules.specs.History.{place_of};
 ghost use Rattle.bump_rules.specs.Lawful.{Shows};
 ghost use Rattle.bump_word.specs.Words.{word_of, Fits};
 ghost use Rattle.bump_steps.specs.declared.views.LanePart.{LanePart as TheLanePart};
+ghost use Rattle.bump_steps.specs.Places.{head_place};
 ghost use Rattle.bump_steps.specs.Views.{bump_aboard, owns, standing};
 ghost use Rattle.bump_steps.specs.Applications.{lane_after_alight, lane_after_try, class_at_rest};
 ghost use Rattle.bump_heads.specs.Seats.{aboard_lane};
@@ -25,10 +26,11 @@ impl<N: Name> ClassSeat<N> {
     /// whose chunk is the class's: the first step of memcached's `lru_bump_async` drain for a bump. No other lane may
     /// be joined. The lane is hollow from then on, until `alight`. Answers the head that was found.
     #[inline(always)]
-    pub fn try_front(&mut self, lane: &mut LaneSeat<N>, bump: Bump) -> Head
+    pub fn try_front(&mut self, lane: &mut LaneSeat<N>, bump: Bump, place: usize) -> Head
         requires alone { self.old.lane ≡ None }
         requires carries { carried_by lane.old ≡ Some bump }
         requires own { owns (life_aboard lane.old).chunk self.old.part ≡ true }
+        requires place { place ≡ head_place N.table.slots bump.life.chunk }
         ensures hollow { lane.new ≡ None }
         ensures tried { self.new ≡ record self.old {
           lane = option_map
@@ -45,7 +47,7 @@ impl<N: Name> ClassSeat<N> {
         let seat = std::mem::replace(&mut lane.badge, Badge::blank()).into_seat();
         let words = self.heads.words();
         words.join(&mut self.seat, seat);
-        head_of(words.try_front(&mut self.seat, bump.life.chunk))
+        head_of(words.try_front(&mut self.seat, bump.life.chunk, place))
     }
 
     /// Clears ACTIVE of the chunk, which is the class's, by one and (memcached's `ITEM_ACTIVE` in `lru_pull_tail`).
@@ -53,8 +55,9 @@ impl<N: Name> ClassSeat<N> {
     /// made for its bump, which is of this chunk, in COLD, and at whose head the lane looked. Answers the head that was
     /// found.
     #[inline(always)]
-    pub fn clear_active(&mut self, chunk: u32) -> Head
+    pub fn clear_active(&mut self, chunk: u32, place: usize) -> Head
         requires own { owns chunk self.old.part ≡ true }
+        requires place { place ≡ head_place N.table.slots chunk }
         requires may { MayClearActive chunk (standing self.old.part chunk).0 self.old.lane }
         ensures cleared { self.new ≡ seat_after_clear_active chunk result self.old }
         ensures shows { Shows result (standing self.old.part chunk).0 }
@@ -62,19 +65,25 @@ impl<N: Name> ClassSeat<N> {
         ensures life { IfSome (aboard_lane self.old.lane) (λ b. b.life.generation ≡ result.generation) }
         ensures fits { Fits result }
     {
-        let word = self.heads.words().clear_active(&mut self.seat, chunk);
+        let word = self
+            .heads
+            .words()
+            .clear_active(&mut self.seat, chunk, place);
         head_of(word)
     }
 
     /// Stores the time of the chunk, which is the class's (memcached's `it->time` under the lock). Without a lane it
     /// is a link's step, and the chunk stands in UNUSED; with a lane joined it is made for its bump, which is of this
     /// chunk, at whose head the lane looked, and whose item is linked.
-    pub fn put_time(&mut self, chunk: u32, now: u64)
+    pub fn put_time(&mut self, chunk: u32, place: usize, now: u64)
         requires own { owns chunk self.old.part ≡ true }
+        requires place { place ≡ head_place N.table.slots chunk }
         requires may { MayPutTime chunk (standing self.old.part chunk).0 self.old.lane }
         ensures timed { self.new ≡ seat_after_put_time chunk now self.old }
     {
-        self.heads.words().put_time(&mut self.seat, chunk, now);
+        self.heads
+            .words()
+            .put_time(&mut self.seat, chunk, place, now);
     }
 
     /// Moves the chunk, which is the class's, from the segment in whose list it stands to another one, or to the
@@ -82,8 +91,9 @@ impl<N: Name> ClassSeat<N> {
     /// a pull's step; with a lane joined it is made for its bump, which is of this chunk, from COLD to WARM, after
     /// ACTIVE was found and cleared. Answers the head that was found.
     #[inline(always)]
-    pub fn change_segment(&mut self, chunk: u32, from: Segment, to: Segment) -> Head
+    pub fn change_segment(&mut self, chunk: u32, place: usize, from: Segment, to: Segment) -> Head
         requires own { owns chunk self.old.part ≡ true }
+        requires place { place ≡ head_place N.table.slots chunk }
         requires stands { (standing self.old.part chunk).0 ≡ place_of from }
         requires may { MayChangeSegment chunk from to self.old.lane }
         ensures moved { self.new ≡ seat_after_move chunk from to result self.old }
@@ -95,7 +105,7 @@ impl<N: Name> ClassSeat<N> {
         let word = self
             .heads
             .words()
-            .change_segment(&mut self.seat, chunk, from, to);
+            .change_segment(&mut self.seat, chunk, place, from, to);
         head_of(word)
     }
 
@@ -109,8 +119,15 @@ impl<N: Name> ClassSeat<N> {
     ///
     /// It is called in these four cases alone.
     #[inline(always)]
-    pub fn alight(&mut self, lane: &mut LaneSeat<N>, bump: Bump, outcome: Outcome) -> Head
+    pub fn alight(
+        &mut self,
+        lane: &mut LaneSeat<N>,
+        bump: Bump,
+        place: usize,
+        outcome: Outcome,
+    ) -> Head
         requires hollow { lane.old ≡ None }
+        requires place { place ≡ head_place N.table.slots bump.life.chunk }
         requires ends { (l : TheLanePart) × (h : TheHead) × MayEndAs self.old l bump h outcome }
         ensures class { self.new ≡ record { part = class_at_rest self.old.part; lane = None } }
         ensures lane { lane.new ≡ option_map (lane_after_alight outcome (life_aboard self.old.lane).chunk
@@ -128,7 +145,7 @@ impl<N: Name> ClassSeat<N> {
         ensures moves { IfSome lane.new (TellsMoves self.new.part) }
     {
         let words = self.heads.words();
-        let word = words.alight(&mut self.seat, bump.life.chunk, outcome);
+        let word = words.alight(&mut self.seat, bump.life.chunk, place, outcome);
         let part = words.part_lanes(&mut self.seat);
         lane.badge = part.into_badge();
         head_of(word)

@@ -52,11 +52,7 @@ impl Blank {
     }
 
     /// The same, and each chunk has so many further words beside its label.
-    pub fn with_words(
-        alloc: Global,
-        config: &Config,
-        further: u32,
-    ) -> Result<Blank, AllocError>
+    pub fn with_words(alloc: Global, config: &Config, further: u32) -> Result<Blank, AllocError>
         ensures config { IfOk result (λ b. b.config ≡ config.now) }
         ensures further { IfOk result (λ b. b.table.slots ≡ further) }
     {

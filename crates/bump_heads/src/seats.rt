@@ -1,7 +1,8 @@
 //! The seats of classes and lanes of a named store. Contracts see plain data.
-ghost use Rattle.std.specs.Prelude.{◌≡◌, ◌<◌, Option as TheOption, IsSome, false};
+ghost use Rattle.std.specs.Prelude.{◌≡◌, ◌<◌, Option as TheOption, IsSome, true, false};
 ghost use Rattle.bump_heads.specs.declared.views.ClassView.{ClassView as TheClassView};
-ghost use Rattle.bump_steps.specs.Places.{rows};
+ghost use Rattle.bump_steps.specs.Places.{rows, head_place};
+ghost use Rattle.bump_steps.specs.Views.{owns};
 ghost use Rattle.bump_steps.specs.declared.views.LanePart.{LanePart as TheLanePart};
 ghost use Rattle.bump_rules.specs.Lanes.{is_half_made};
 ghost use Rattle.bump_heads.specs.Applying.{stage_of, KeepsJoined};
@@ -42,6 +43,16 @@ impl<N: Name> ClassSeat<N> {
         ensures { result ≡ self.now.part.class }
     {
         self.class
+    }
+
+    /// Where a chunk of the class has its head: its place, which the calls for the chunk are given, so that several of
+    /// them find it by one multiplication.
+    #[inline(always)]
+    pub fn head_at(&self, chunk: u32) -> usize
+        requires own { owns chunk self.now.part ≡ true }
+        ensures { result ≡ head_place N.table.slots chunk }
+    {
+        self.heads.words().head_at(chunk)
     }
 }
 

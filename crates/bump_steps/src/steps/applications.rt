@@ -2,7 +2,7 @@
 ghost use Rattle.std.specs.Prelude.{ℕ, ◌≡◌};
 ghost use Rattle.bump_rules.specs.declared.bumps.Outcome.{Outcome as TheOutcome};
 ghost use Rattle.bump_rules.specs.declared.bumps.Outcome.TheVariants.{Gone};
-ghost use Rattle.bump_steps.specs.Places.{HasChunk};
+ghost use Rattle.bump_steps.specs.Places.{HasChunk, head_place};
 ghost use Rattle.bump_steps.specs.Words.{words_id};
 ghost use Rattle.bump_steps.specs.Plays.{on_chunk, on_time, OwnsChunk};
 ghost use Rattle.bump_steps.specs.Applications.{try_tells, clear_active_tells, put_time_tells, view_after_put_time};
@@ -76,49 +76,54 @@ impl<W: Alighting> Play<Empty, View> for Alight<W> {
 
 impl Words {
     /// The head of the bump's item is looked at.
-    pub fn try_front(&self, seat: &mut Seat, chunk: u32) -> u64
+    pub fn try_front(&self, seat: &mut Seat, chunk: u32, place: usize) -> u64
         requires seat { (seat.old.table_id ≡ words_id self.now) × HasChunk (words_id self.now) chunk }
+        requires place { place ≡ head_place (words_id self.now).slots chunk }
         requires may { MayTry chunk seat.old.me.0 }
         ensures same { (seat.new.table_id ≡ seat.old.table_id) × (seat.new.id ≡ seat.old.id) }
         ensures told { try_tells chunk 0 seat.old.me result seat.new.me }
     {
         self.table
             .shared
-            .load::<Try>(seat, self.head_at(chunk))
+            .load::<Try>(seat, self.head_by(place, chunk))
     }
 
     /// ACTIVE is cleared, for a pull or for the bump aboard.
-    pub fn clear_active(&self, seat: &mut Seat, chunk: u32) -> u64
+    pub fn clear_active(&self, seat: &mut Seat, chunk: u32, place: usize) -> u64
         requires seat { (seat.old.table_id ≡ words_id self.now) × HasChunk (words_id self.now) chunk }
+        requires place { place ≡ head_place (words_id self.now).slots chunk }
         requires own { OwnsChunk chunk seat.old.me.0 }
         ensures same { (seat.new.table_id ≡ seat.old.table_id) × (seat.new.id ≡ seat.old.id) }
         ensures told { clear_active_tells chunk ALL_BUT_ACTIVE seat.old.me result seat.new.me }
     {
         self.table
             .shared
-            .fetch_and::<ClearActive>(seat, self.head_at(chunk), ALL_BUT_ACTIVE)
+            .fetch_and::<ClearActive>(seat, self.head_by(place, chunk), ALL_BUT_ACTIVE)
     }
 
     /// The time is stored under the class's lock, for a link or for the bump aboard.
-    pub fn put_time(&self, seat: &mut Seat, chunk: u32, now: u64)
+    pub fn put_time(&self, seat: &mut Seat, chunk: u32, place: usize, now: u64)
         requires seat { (seat.old.table_id ≡ words_id self.now) × HasChunk (words_id self.now) chunk }
+        requires place { place ≡ head_place (words_id self.now).slots chunk }
         requires own { OwnsChunk chunk seat.old.me.0 }
         ensures same { (seat.new.table_id ≡ seat.old.table_id) × (seat.new.id ≡ seat.old.id) }
         ensures told { seat.new.me ≡ (view_after_put_time chunk now seat.old.me.0, seat.old.me.1) }
     {
         self.table
             .shared
-            .store::<PutTime>(seat, self.time_at(chunk), now);
+            .store::<PutTime>(seat, self.time_by(place, chunk), now);
     }
 
     fn change_segment_by<W: Moving>(
         &self,
         seat: &mut Seat,
         chunk: u32,
+        place: usize,
         from: Segment,
         to: Segment,
     ) -> u64
         requires seat { (seat.old.table_id ≡ words_id self.now) × HasChunk (words_id self.now) chunk }
+        requires place { place ≡ head_place (words_id self.now).slots chunk }
         requires segments { (from ≡ W.from) × (to ≡ W.to) }
         requires may { MayMove from to chunk seat.old.me.0 }
         ensures same { (seat.new.table_id ≡ seat.old.table_id) × (seat.new.id ≡ seat.old.id) }
@@ -126,21 +131,36 @@ impl Words {
     {
         self.table
             .shared
-            .fetch_xor::<Move<W>>(seat, self.head_at(chunk), segment_xor(from, to))
+            .fetch_xor::<Move<W>>(seat, self.head_by(place, chunk), segment_xor(from, to))
     }
 
     /// The segment's bits are changed, for a pull or for the bump aboard.
-    pub fn change_segment(&self, seat: &mut Seat, chunk: u32, from: Segment, to: Segment) -> u64
+    pub fn change_segment(
+        &self,
+        seat: &mut Seat,
+        chunk: u32,
+        place: usize,
+        from: Segment,
+        to: Segment,
+    ) -> u64
         requires seat { (seat.old.table_id ≡ words_id self.now) × HasChunk (words_id self.now) chunk }
+        requires place { place ≡ head_place (words_id self.now).slots chunk }
         requires may { MayMove from to chunk seat.old.me.0 }
         ensures same { (seat.new.table_id ≡ seat.old.table_id) × (seat.new.id ≡ seat.old.id) }
         ensures told { (x : ℕ) × move_tells from to chunk x seat.old.me result seat.new.me }
     {
-        self.change_segment_by::<Brand>(seat, chunk, from, to)
+        self.change_segment_by::<Brand>(seat, chunk, place, from, to)
     }
 
-    fn alight_by<W: Alighting>(&self, seat: &mut Seat, chunk: u32, outcome: Outcome) -> u64
+    fn alight_by<W: Alighting>(
+        &self,
+        seat: &mut Seat,
+        chunk: u32,
+        place: usize,
+        outcome: Outcome,
+    ) -> u64
         requires seat { (seat.old.table_id ≡ words_id self.now) × HasChunk (words_id self.now) chunk }
+        requires place { place ≡ head_place (words_id self.now).slots chunk }
         requires outcome { outcome ≡ W.outcome }
         requires may { MayAlight chunk outcome seat.old.me.0 }
         ensures same { (seat.new.table_id ≡ seat.old.table_id) × (seat.new.id ≡ seat.old.id) }
@@ -148,16 +168,17 @@ impl Words {
     {
         self.table
             .shared
-            .fetch_sub::<Alight<W>>(seat, self.head_at(chunk), ONE_REFERENCE)
+            .fetch_sub::<Alight<W>>(seat, self.head_by(place, chunk), ONE_REFERENCE)
     }
 
     /// The reference of the bump aboard is given back.
-    pub fn alight(&self, seat: &mut Seat, chunk: u32, outcome: Outcome) -> u64
+    pub fn alight(&self, seat: &mut Seat, chunk: u32, place: usize, outcome: Outcome) -> u64
         requires seat { (seat.old.table_id ≡ words_id self.now) × HasChunk (words_id self.now) chunk }
+        requires place { place ≡ head_place (words_id self.now).slots chunk }
         requires may { MayAlight chunk outcome seat.old.me.0 }
         ensures same { (seat.new.table_id ≡ seat.old.table_id) × (seat.new.id ≡ seat.old.id) }
         ensures told { alight_tells outcome chunk ONE_REFERENCE seat.old.me result seat.new.me }
     {
-        self.alight_by::<Brand>(seat, chunk, outcome)
+        self.alight_by::<Brand>(seat, chunk, place, outcome)
     }
 }

@@ -1,6 +1,6 @@
 //! The steps of a class's seat that begin and end lives, and its looks at a chunk.
 ghost use Rattle.std.specs.Prelude.{◌≡◌, ◌<◌};
-ghost use Rattle.bump_steps.specs.Places.{HasChunk};
+ghost use Rattle.bump_steps.specs.Places.{HasChunk, head_place};
 ghost use Rattle.bump_steps.specs.Words.{words_id};
 ghost use Rattle.bump_steps.specs.Plays.{on_chunk, on_time, on_label, on_word, HasClass};
 ghost use Rattle.bump_word.specs.Words.{word_of};
@@ -68,15 +68,16 @@ impl Play<Empty, View> for SweepOrLoad {
 
 impl Words {
     /// A load of a head by its class, for the generation in it.
-    pub fn see_generation(&self, seat: &mut Seat, chunk: u32) -> u64
+    pub fn see_generation(&self, seat: &mut Seat, chunk: u32, place: usize) -> u64
         requires seat { (seat.old.table_id ≡ words_id self.now) × HasChunk (words_id self.now) chunk }
+        requires place { place ≡ head_place (words_id self.now).slots chunk }
         requires class { HasClass seat.old.me.0 }
         ensures same { (seat.new.table_id ≡ seat.old.table_id) × (seat.new.id ≡ seat.old.id) }
         ensures told { generation_load_tells chunk 0 seat.old.me result seat.new.me }
     {
         self.table
             .shared
-            .load::<LoadGeneration>(seat, self.head_at(chunk))
+            .load::<LoadGeneration>(seat, self.head_by(place, chunk))
     }
 
     /// A load of a time by its class.
@@ -92,32 +93,35 @@ impl Words {
     }
 
     /// A load of a head by its class.
-    pub fn look(&self, seat: &mut Seat, chunk: u32) -> u64
+    pub fn look(&self, seat: &mut Seat, chunk: u32, place: usize) -> u64
         requires seat { (seat.old.table_id ≡ words_id self.now) × HasChunk (words_id self.now) chunk }
+        requires place { place ≡ head_place (words_id self.now).slots chunk }
         requires class { HasClass seat.old.me.0 }
         ensures same { (seat.new.table_id ≡ seat.old.table_id) × (seat.new.id ≡ seat.old.id) }
         ensures told { load_tells chunk 0 seat.old.me result seat.new.me }
     {
         self.table
             .shared
-            .load::<Load>(seat, self.head_at(chunk))
+            .load::<Load>(seat, self.head_by(place, chunk))
     }
 
     /// The store of a label.
-    pub fn put_label(&self, seat: &mut Seat, chunk: u32, label: u64)
+    pub fn put_label(&self, seat: &mut Seat, chunk: u32, place: usize, label: u64)
         requires seat { (seat.old.table_id ≡ words_id self.now) × HasChunk (words_id self.now) chunk }
+        requires place { place ≡ head_place (words_id self.now).slots chunk }
         requires may { IsUnused chunk seat.old.me.0 }
         ensures same { (seat.new.table_id ≡ seat.old.table_id) × (seat.new.id ≡ seat.old.id) }
         ensures told { seat.new.me ≡ (on_class (class_after_put_label chunk label) seat.old.me.0, seat.old.me.1) }
     {
         self.table
             .shared
-            .store::<PutLabel>(seat, self.label_at(chunk), label);
+            .store::<PutLabel>(seat, self.label_by(place, chunk), label);
     }
 
     /// The store of a further word.
-    pub fn put_word(&self, seat: &mut Seat, chunk: u32, index: u32, word: u64)
+    pub fn put_word(&self, seat: &mut Seat, chunk: u32, place: usize, index: u32, word: u64)
         requires seat { (seat.old.table_id ≡ words_id self.now) × HasChunk (words_id self.now) chunk }
+        requires place { place ≡ head_place (words_id self.now).slots chunk }
         requires index { index < (words_id self.now).slots }
         requires may { IsUnused chunk seat.old.me.0 }
         ensures same { (seat.new.table_id ≡ seat.old.table_id) × (seat.new.id ≡ seat.old.id) }
@@ -125,12 +129,13 @@ impl Words {
     {
         self.table
             .shared
-            .store::<PutWord>(seat, self.word_at(chunk, index), word);
+            .store::<PutWord>(seat, self.word_by(place, chunk, index), word);
     }
 
     /// The store of the head of a new life, where it begins.
-    pub fn open_life(&self, seat: &mut Seat, chunk: u32, start: Start, generation: u32)
+    pub fn open_life(&self, seat: &mut Seat, chunk: u32, place: usize, start: Start, generation: u32)
         requires seat { (seat.old.table_id ≡ words_id self.now) × HasChunk (words_id self.now) chunk }
+        requires place { place ≡ head_place (words_id self.now).slots chunk }
         requires may { MayLink chunk generation seat.old.me.0 }
         ensures same { (seat.new.table_id ≡ seat.old.table_id) × (seat.new.id ≡ seat.old.id) }
         ensures told { seat.new.me ≡ (
@@ -142,30 +147,32 @@ impl Words {
         let word = pack(Head::after_link(start, generation));
         self.table
             .shared
-            .store::<Link>(seat, self.head_at(chunk), word);
+            .store::<Link>(seat, self.head_by(place, chunk), word);
     }
 
     /// The subtraction of LINKED and of the link's reference.
-    pub fn end_life(&self, seat: &mut Seat, chunk: u32) -> u64
+    pub fn end_life(&self, seat: &mut Seat, chunk: u32, place: usize) -> u64
         requires seat { (seat.old.table_id ≡ words_id self.now) × HasChunk (words_id self.now) chunk }
+        requires place { place ≡ head_place (words_id self.now).slots chunk }
         requires may { IsLinked chunk seat.old.me.0 }
         ensures same { (seat.new.table_id ≡ seat.old.table_id) × (seat.new.id ≡ seat.old.id) }
         ensures told { unlink_tells chunk LINK seat.old.me result seat.new.me }
     {
         self.table
             .shared
-            .fetch_sub::<Unlink>(seat, self.head_at(chunk), LINK)
+            .fetch_sub::<Unlink>(seat, self.head_by(place, chunk), LINK)
     }
 
     /// A load of the head of a DYING chunk.
-    pub fn seen_unheld(&self, seat: &mut Seat, chunk: u32) -> u64
+    pub fn seen_unheld(&self, seat: &mut Seat, chunk: u32, place: usize) -> u64
         requires seat { (seat.old.table_id ≡ words_id self.now) × HasChunk (words_id self.now) chunk }
+        requires place { place ≡ head_place (words_id self.now).slots chunk }
         requires may { IsDying chunk seat.old.me.0 }
         ensures same { (seat.new.table_id ≡ seat.old.table_id) × (seat.new.id ≡ seat.old.id) }
         ensures told { sweep_or_load_tells chunk 0 seat.old.me result seat.new.me }
     {
         self.table
             .shared
-            .load::<SweepOrLoad>(seat, self.head_at(chunk))
+            .load::<SweepOrLoad>(seat, self.head_by(place, chunk))
     }
 }

@@ -59,23 +59,24 @@ fn apply_front<N: Name>(
     ensures gone { result.tried.linked ≡ false → class.new.part ≡ class_at_rest class.old.part }
 {
     let chunk = bump.life.chunk;
-    let tried = class.try_front(lane, bump);
+    let place = class.head_at(chunk);
+    let tried = class.try_front(lane, bump, place);
     if !tried.linked {
-        let last = class.alight(lane, bump, Outcome::Gone);
+        let last = class.alight(lane, bump, place, Outcome::Gone);
         return unmoved(tried, None, Outcome::Gone, last);
     }
-    class.put_time(chunk, now);
+    class.put_time(chunk, place, now);
     if !matches!(tried.segment, Segment::Cold) {
-        let last = class.alight(lane, bump, Outcome::TimeOnly);
+        let last = class.alight(lane, bump, place, Outcome::TimeOnly);
         return unmoved(tried, None, Outcome::TimeOnly, last);
     }
-    let cleared = class.clear_active(chunk);
+    let cleared = class.clear_active(chunk, place);
     if !cleared.active {
-        let last = class.alight(lane, bump, Outcome::TimeOnly);
+        let last = class.alight(lane, bump, place, Outcome::TimeOnly);
         return unmoved(tried, Some(cleared), Outcome::TimeOnly, last);
     }
-    let moved = class.change_segment(chunk, Segment::Cold, Segment::Warm);
-    let last = class.alight(lane, bump, Outcome::Moved);
+    let moved = class.change_segment(chunk, place, Segment::Cold, Segment::Warm);
+    let last = class.alight(lane, bump, place, Outcome::Moved);
     Applied {
         tried,
         cleared: Some(cleared),

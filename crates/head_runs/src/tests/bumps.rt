@@ -36,10 +36,11 @@ pub fn begin_in_cold<N: Name>(class: &mut ClassSeat<N>) -> ItemId
     ensures stands { standing class.new.part 0 ≡ (place.Cold, 1) }
     ensures life { result ≡ life_of 0 1 }
 {
-    class.put_label(0, 7);
-    class.put_time(0, 1);
-    let life = class.open_life(0);
-    class.change_segment(0, Segment::Hot, Segment::Cold);
+    let place = class.head_at(0);
+    class.put_label(0, place, 7);
+    class.put_time(0, place, 1);
+    let life = class.open_life(0, place);
+    class.change_segment(0, place, Segment::Hot, Segment::Cold);
     life
 }
 

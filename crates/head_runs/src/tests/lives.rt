@@ -82,26 +82,27 @@ fn live<N: Name>(
     } }
     requires worker { worker.old ≡ worker_seen (worker_part 0) }
 {
-    class.put_label(0, 7);
-    class.put_time(0, 1);
-    let life = class.open_life(0);
+    let place = class.head_at(0);
+    class.put_label(0, place, 7);
+    class.put_time(0, place, 1);
+    let life = class.open_life(0, place);
     expect(rt, "the first life", &life, &life_of(0, 1));
     expect_seen(rt, heads, 0, (head(1, "l", Segment::Hot, 1), 1));
     let mut hold = heads.take(worker, life).expect(rt, "there is room");
-    expect_head(rt, class.look(0), head(2, "l", Segment::Hot, 1));
+    expect_head(rt, class.look(0, place), head(2, "l", Segment::Hot, 1));
     mark_in_hot(rt, heads, worker, &mut hold);
     expect(rt, "the label", &class.meet(&mut hold), &7);
-    expect_head(rt, class.end_life(0), head(2, "lfa", Segment::Hot, 1));
-    let held = class.seen_unheld(0);
+    expect_head(rt, class.end_life(0, place), head(2, "lfa", Segment::Hot, 1));
+    let held = class.seen_unheld(0, place);
     expect_head(rt, held, head(1, "fa", Segment::Hot, 1));
     assert!(rt; held.refs == 1);
     expect(rt, "the label", &heads.label_of(&mut hold), &7);
     expect_head(rt, heads.give_back(hold).0, held);
-    let free = class.seen_unheld(0);
+    let free = class.seen_unheld(0, place);
     expect_head(rt, free, head(0, "fa", Segment::Hot, 1));
     assert!(rt; free.refs == 0);
     expect_stale(rt, heads, worker, life);
-    expect(rt, "the second life", &class.open_life(0), &life_of(0, 2));
+    expect(rt, "the second life", &class.open_life(0, place), &life_of(0, 2));
     expect_seen(rt, heads, 0, (head(1, "l", Segment::Hot, 2), 3));
     expect_stale(rt, heads, worker, life);
 }

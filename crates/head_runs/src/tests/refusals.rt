@@ -83,8 +83,9 @@ fn fill<N: Name>(
     requires alone { worker.old.hold ≡ None }
 {
     let first = life_of(0, 1);
-    class.put_label(0, 7);
-    expect(rt, "the first life", &class.open_life(0), &first);
+    let place = class.head_at(0);
+    class.put_label(0, place, 7);
+    expect(rt, "the first life", &class.open_life(0, place), &first);
     miss(rt, heads, worker);
     expect_refusal(rt, heads, worker, first, None, "in it");
     let hold = heads.take(worker, first).expect(rt, "there is room");
@@ -96,7 +97,7 @@ fn fill<N: Name>(
         Some(TakeRefusal::RefsFull),
         "held",
     );
-    class.end_life(0);
+    class.end_life(0, place);
     expect_refusal(
         rt,
         heads,

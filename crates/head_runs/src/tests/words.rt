@@ -34,15 +34,17 @@ fn live_wide<N: Name>(
     } }
     requires worker { worker.old ≡ worker_seen (worker_part 0) }
 {
-    class.put_word(1, 1, 201);
-    class.put_label(0, 7);
-    class.put_word(0, 0, 100);
-    class.put_word(0, 1, 101);
-    class.put_label(1, 8);
-    class.put_word(1, 0, 200);
-    class.put_time(0, 1);
-    let life = class.open_life(0);
-    let other = class.open_life(1);
+    let place = class.head_at(0);
+    let place_of_other = class.head_at(1);
+    class.put_word(1, place_of_other, 1, 201);
+    class.put_label(0, place, 7);
+    class.put_word(0, place, 0, 100);
+    class.put_word(0, place, 1, 101);
+    class.put_label(1, place_of_other, 8);
+    class.put_word(1, place_of_other, 0, 200);
+    class.put_time(0, place, 1);
+    let life = class.open_life(0, place);
+    let other = class.open_life(1, place_of_other);
     expect(rt, "the first life", &life, &life_of(0, 1));
     expect(rt, "of the other", &other, &life_of(1, 1));
     expect_seen(rt, heads, 0, (head(1, "l", Segment::Hot, 1), 1));
@@ -55,11 +57,11 @@ fn live_wide<N: Name>(
     expect(rt, "word 0", &heads.word_of(&mut second, 0), &200);
     expect(rt, "word 1", &heads.word_of(&mut second, 1), &201);
     expect(rt, "the label", &heads.label_of(&mut second), &8);
-    expect_head(rt, class.end_life(0), head(2, "l", Segment::Hot, 1));
+    expect_head(rt, class.end_life(0, place), head(2, "l", Segment::Hot, 1));
     expect(rt, "word 1", &heads.word_of(&mut hold, 1), &101);
     expect_head(rt, heads.give_back(hold).0, head(1, "", Segment::Hot, 1));
     expect_head(rt, heads.give_back(second).0, head(2, "l", Segment::Hot, 1));
-    expect_head(rt, class.seen_unheld(0), head(0, "", Segment::Hot, 1));
+    expect_head(rt, class.seen_unheld(0, place), head(0, "", Segment::Hot, 1));
 }
 
 fn wide_in<N: Name>(

@@ -12,8 +12,8 @@ use Rattle.bump_steps.proofs.words.Words.alight_by.Goals as goal
 pub fetch_sub-requires : goal.fetch_sub-requires
 fetch_sub-requires g c = let t = c.args.self.now.table.shared in let m = c.args.seat.now.me in (
   c.requires.seat.0,
-  c.head_at.ensures.near,
-  rw c.head_at.ensures.is
+  c.head_by.ensures.near,
+  rw c.head_by.ensures.is
       (subst (λ (o : Outcome). Allows (Kept t.key) t.table_id.slots c.args.seat.now.id m (head_place t.table_id.slots c.args.chunk)
       (λ n. (n + (2 ^ 64 - 1)) % 2 ^ 64)
       (on_chunk (alight_tells o) (step t.table_id.slots (head_place t.table_id.slots c.args.chunk) 1 0 none) m)) c.requires.outcome
@@ -23,4 +23,4 @@ fetch_sub-requires g c = let t = c.args.self.now.table.shared in let m = c.args.
 
 pub returns-clause-told : goal.returns-clause-told
 returns-clause-told g c = subst (λ (o : Outcome). alight_tells o c.args.chunk 1 c.args.seat.now.me c.fetch_sub.result
-    c.fetch_sub.new.seat.me) (sym c.requires.outcome) (c.fetch_sub.ensures.2 c.args.chunk c.head_at.ensures.is)
+    c.fetch_sub.new.seat.me) (sym c.requires.outcome) (c.fetch_sub.ensures.2 c.args.chunk c.head_by.ensures.is)

@@ -13,8 +13,8 @@ pub fetch_xor-requires : goal.fetch_xor-requires
 fetch_xor-requires g c = let t = c.args.self.now.table.shared in let m = c.args.seat.now.me in let x : ℕ =
     c.segment_xor.result in (
       c.requires.seat.0,
-      c.head_at.ensures.near,
-      rw c.head_at.ensures.is
+      c.head_by.ensures.near,
+      rw c.head_by.ensures.is
           (subst (λ (k : ℕ). Allows (Kept t.key) t.table_id.slots c.args.seat.now.id m (head_place t.table_id.slots c.args.chunk)
           (λ n. bit_xor n k) (on_chunk (move_tells g.W.Moving.from g.W.Moving.to)
           (step t.table_id.slots (head_place t.table_id.slots c.args.chunk) x 0 none) m)) (sym c.segment_xor.ensures)
@@ -31,5 +31,5 @@ returns-clause-told g c = (
   c.segment_xor.result,
   subst (λ (s : Segment × Segment). move_tells s.0 s.1 c.args.chunk c.segment_xor.result c.args.seat.now.me
       c.fetch_xor.result c.fetch_xor.new.seat.me) (λ i. (sym c.requires.segments.0 i, sym c.requires.segments.1 i))
-      (c.fetch_xor.ensures.2 c.args.chunk c.head_at.ensures.is),
+      (c.fetch_xor.ensures.2 c.args.chunk c.head_by.ensures.is),
 )

@@ -5,12 +5,12 @@ use Rattle.bump_steps.proofs.words.Words.put_label.Goals as goal
 pub store-requires : goal.store-requires
 store-requires c = let t = c.args.self.now.table.shared in (
   c.requires.seat.0,
-  c.label_at.ensures.near,
-  rw c.label_at.ensures.is
+  c.label_by.ensures.near,
+  rw c.label_by.ensures.is
       (may_put_label t.key t.table_id.slots c.args.seat.now.id
       c.args.chunk c.args.label c.args.seat.now.me (omega (arith, c.args.self.now.sized, c.requires.seat.1))
       c.requires.may),
 )
 
 pub returns-clause-told : goal.returns-clause-told
-returns-clause-told c = c.store.ensures.2 c.args.chunk c.label_at.ensures.is
+returns-clause-told c = c.store.ensures.2 c.args.chunk c.label_by.ensures.is

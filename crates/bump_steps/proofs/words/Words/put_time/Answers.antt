@@ -5,11 +5,11 @@ use Rattle.bump_steps.proofs.words.Words.put_time.Goals as goal
 pub store-requires : goal.store-requires
 store-requires c = let t = c.args.self.now.table.shared in (
   c.requires.seat.0,
-  c.time_at.ensures.near,
-  rw c.time_at.ensures.is
+  c.time_by.ensures.near,
+  rw c.time_by.ensures.is
       (may_put_time t.key t.table_id.slots c.args.seat.now.id
       c.args.seat.now.me c.args.chunk (omega (arith, c.args.self.now.sized, c.requires.seat.1)) c.args.now),
 )
 
 pub returns-clause-told : goal.returns-clause-told
-returns-clause-told c = c.store.ensures.2 c.args.chunk c.time_at.ensures.is
+returns-clause-told c = c.store.ensures.2 c.args.chunk c.time_by.ensures.is

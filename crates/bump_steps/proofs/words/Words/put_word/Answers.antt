@@ -5,12 +5,12 @@ use Rattle.bump_steps.proofs.words.Words.put_word.Goals as goal
 pub store-requires : goal.store-requires
 store-requires c = let t = c.args.self.now.table.shared in (
   c.requires.seat.0,
-  c.word_at.ensures.near,
-  rw c.word_at.ensures.is
+  c.word_by.ensures.near,
+  rw c.word_by.ensures.is
       (may_put_word t.key t.table_id.slots c.args.seat.now.id
       c.args.chunk c.args.index c.args.word c.args.seat.now.me (omega (arith, c.args.self.now.sized, c.requires.seat.1))
       c.requires.index c.requires.may),
 )
 
 pub returns-clause-told : goal.returns-clause-told
-returns-clause-told c = c.store.ensures.2 c.args.chunk c.args.index c.requires.index c.word_at.ensures.is
+returns-clause-told c = c.store.ensures.2 c.args.chunk c.args.index c.requires.index c.word_by.ensures.is

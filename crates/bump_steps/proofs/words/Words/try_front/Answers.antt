@@ -5,11 +5,11 @@ use Rattle.bump_steps.proofs.words.Words.try_front.Goals as goal
 pub load-requires : goal.load-requires
 load-requires c = let t = c.args.self.now.table.shared in (
   c.requires.seat.0,
-  c.head_at.ensures.near,
-  rw c.head_at.ensures.is
+  c.head_by.ensures.near,
+  rw c.head_by.ensures.is
       (may_try t.key t.table_id.slots c.args.seat.now.id
       c.args.seat.now.me c.args.chunk (omega (arith, c.args.self.now.sized, c.requires.seat.1))),
 )
 
 pub returns-clause-told : goal.returns-clause-told
-returns-clause-told c = c.load.ensures.2 c.args.chunk c.head_at.ensures.is
+returns-clause-told c = c.load.ensures.2 c.args.chunk c.head_by.ensures.is
