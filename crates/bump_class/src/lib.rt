@@ -9,6 +9,7 @@ mod changing;
 mod ending;
 mod lanes;
 mod linking;
+mod looking;
 mod meeting;
 mod pulling;
 mod running;

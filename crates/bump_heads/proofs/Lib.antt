@@ -7,3 +7,4 @@ pub mod ClassSeats
 pub mod Makings
 pub mod Endings
 pub mod MeetingHolds
+pub mod Stored

@@ -9,6 +9,7 @@ mod linking;
 mod making;
 mod meeting;
 mod seats;
+mod sights;
 mod views;
 
 pub use bump_readers::{Hold, HoldView, Name, ReaderHeads, Rider, WorkerSeat, WorkerView};

@@ -11,6 +11,7 @@ pub mod StepLemmas
 pub mod Told
 pub mod Moves
 pub mod Looking
+pub mod Sights
 pub mod Entering
 pub mod Labelling
 pub mod Meetings

@@ -78,7 +78,7 @@ module _ (kind : Kind) (c n : ℕ) (v : View) where
 
 module _ (key : Config) (slots id : ℕ) (m : Sat) (c : ℕ) (near : c < chunks key) where
   -- whatever is noted of the word that was found
-  reaches_by_look : (kind : Kind) (y n : ℕ) (x : ℕ → ℕ) (t : Measure → ℕ) (tell : Sat → Type 0) → Sound key.refs_limit n x t
+  pub reaches_by_look : (kind : Kind) (y n : ℕ) (x : ℕ → ℕ) (t : Measure → ℕ) (tell : Sat → Type 0) → Sound key.refs_limit n x t
       → tell (on_class (noted_by kind c y) m.0, m.1) → Reaches key c m tell n x t
   reaches_by_look kind y n x t tell o told = (
     on_class (noted_by kind c y) m.0,

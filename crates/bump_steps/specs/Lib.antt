@@ -12,3 +12,4 @@ pub mod Riders
 pub mod Lives
 pub mod Applications
 pub mod Meetings
+pub mod Sights

@@ -7,10 +7,11 @@ use crate::words::{HEAD, Words};
 
 impl Words {
     /// How many further words a chunk has, beside its label.
-    pub fn further(&self) -> usize
+    #[inline(always)]
+    pub fn further(&self) -> u32
         ensures { result ≡ (words_id self.now).slots }
     {
-        self.row - 3
+        (self.row - 3) as u32
     }
 
     /// Where the chunk has its head: its place, by which a caller that keeps it makes further steps.

@@ -8,3 +8,4 @@ mod marks;
 mod meetings;
 mod references;
 mod rides;
+mod sights;

@@ -65,6 +65,12 @@ pub enum Kind {
     /// The time was loaded by a class.
     SeeTime,
 
+    /// The label was loaded by a class.
+    SeeLabel,
+
+    /// A further word was loaded by a class.
+    SeeWord,
+
     /// A head word was loaded for the generation in it.
     SeeGeneration,
 }

@@ -1,5 +1,5 @@
 //! The words that threads share, and the steps on them, under no name.
-ghost use Rattle.std.specs.Prelude.{◌≡◌, ◌+◌};
+ghost use Rattle.std.specs.Prelude.{◌≡◌, ◌+◌, ◌<◌, ◌^◌};
 ghost use Rattle.bump_steps.specs.Rule.{chunks as all_chunks};
 ghost use Rattle.bump_steps.specs.Places.{rows};
 
@@ -29,5 +29,6 @@ pub struct Words {
     /// How many words a chunk has.
     pub(crate) row: usize,
     ghost row_is: { row ≡ table.shared.table_id.slots + 3 },
+    ghost few: { table.shared.table_id.slots < 2 ^ 32 },
     ghost sized: { rows table.shared.table_id ≡ all_chunks table.shared.key },
 }

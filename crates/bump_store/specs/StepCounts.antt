@@ -30,6 +30,8 @@ is_load x = by x.kind
     by kind.PutWord = false
     by kind.PutTime = false
     by kind.SeeTime = false
+    by kind.SeeLabel = false
+    by kind.SeeWord = false
     by kind.SeeGeneration = false
 
 -- an exchange on a head word that takes a reference, or failed to
@@ -57,6 +59,8 @@ is_exchange x = by x.kind
     by kind.PutWord = false
     by kind.PutTime = false
     by kind.SeeTime = false
+    by kind.SeeLabel = false
+    by kind.SeeWord = false
     by kind.SeeGeneration = false
 
 -- another step of a worker on a head word
@@ -84,6 +88,8 @@ is_other x = by x.kind
     by kind.PutWord = false
     by kind.PutTime = false
     by kind.SeeTime = false
+    by kind.SeeLabel = false
+    by kind.SeeWord = false
     by kind.SeeGeneration = false
 
 -- The steps that were made are at most so many loads, so many exchanges, and so many others on a head word.

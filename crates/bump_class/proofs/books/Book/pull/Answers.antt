@@ -1,11 +1,8 @@
-use Rattle.std.proofs.Common.{rules}
+use Rattle.std.proofs.Common.{subst}
+use Rattle.bump_rules.specs.declared.places.Limits.{Limits}
+use Rattle.bump_class.specs.Pulls.{PullsBy}
 use Rattle.bump_class.proofs.books.Book.pull.Goals as goal
 
-pub returns-in_default : goal.returns-in_default
-returns-in_default g c = search rules
-
-pub returns-in-Evict : goal.returns-in-Evict
-returns-in-Evict g c = search rules
-
-pub returns-in-Hot : goal.returns-in-Hot
-returns-in-Hot g c = search rules
+pub returns : goal.returns
+returns g c = subst (λ (l : Limits). PullsBy l c.args.self.now c.args.tail c.pull_by.result c.pull_by.new.self)
+    c.pull_limits-limits.ensures c.pull_by.ensures

@@ -26,6 +26,7 @@ invariant_of-result c = let ok = c.in-Ok.ensures.ok in let t = c.in-Ok.table.sha
     ∙ (λ i. head_place (sym few i) (c.chunks.ensures i)) in
     record {
       row_is = omega (arith, few);
+      few = omega (arith, few, c.ranges.further.fits);
       sized = rows_are t (chunks c.args.config.now) wide ∙ ap chunks (sym ok.5);
     }
 

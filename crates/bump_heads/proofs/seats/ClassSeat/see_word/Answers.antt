@@ -1,0 +1,32 @@
+use Rattle.std.proofs.Common.{rules, None, ◌∙◌, refl, ◌++◌, ◌∷◌, [], suc}
+use Rattle.bump_steps.specs.Places.{rows}
+use Rattle.bump_steps.specs.declared.views.Kind.TheVariants as kind
+use Rattle.bump_steps.specs.Sights.{class_after_see_word}
+use Rattle.bump_steps.specs.Plays.{step_of}
+use Rattle.bump_heads.proofs.ClassParts.{noted_part}
+use Rattle.bump_heads.proofs.ClassSeats.{seat_kept}
+use Rattle.bump_heads.proofs.Joining.{noted_joined}
+use Rattle.bump_heads.proofs.Stored.{found_last, found_of_life}
+use Rattle.bump_heads.proofs.seats.ClassSeat.see_word.Goals as goal
+
+pub invariant_of-self : goal.invariant_of-self
+invariant_of-self g c =
+    let now = c.args.self.now in
+    let step = step_of kind.SeeWord c.args.chunk c.see_word.result None in
+    seat_kept c.self.inside.seat.me c.see_word.new.seat.me now (class_after_see_word c.args.chunk c.see_word.result)
+    g.N.Name.table c.see_word.new.seat.table_id c.self.inside.class c.self.view_is
+    c.self.invariant.0 c.see_word.ensures.told.0
+    (c.see_word.ensures.same.0 ∙ c.self.invariant.1) c.self.invariant.2 c.self.invariant.3 c.self.invariant.4
+    c.self.invariant.5 refl (λ o. noted_part (rows g.N.Name.table) now.part (now.part.steps ++ step ∷ []) o)
+    (λ j o. noted_joined now.part step now.lane j o)
+
+pub returns-clause-seen : goal.returns-clause-seen
+returns-clause-seen g c = search rules
+
+pub returns-clause-stored : goal.returns-clause-stored
+returns-clause-stored g c = found_last (suc c.args.index) c.args.chunk c.see_word.result (rows g.N.Name.table) c.self.inside.seat.me
+    c.args.self.now c.self.view_is c.self.invariant.0 c.requires.own c.see_word.ensures.told.1
+
+pub returns-clause-life : goal.returns-clause-life
+returns-clause-life g c = found_of_life (suc c.args.index) c.args.chunk c.see_word.result (rows g.N.Name.table) c.self.inside.seat.me
+    c.args.self.now c.self.view_is c.self.invariant.0 c.requires.own c.see_word.ensures.told.1 c.self.invariant.4
