@@ -82,9 +82,7 @@ impl Words {
         ensures same { (seat.new.table_id ≡ seat.old.table_id) × (seat.new.id ≡ seat.old.id) }
         ensures told { try_tells chunk 0 seat.old.me result seat.new.me }
     {
-        self.table
-            .shared
-            .load::<Try>(seat, self.head_at(chunk))
+        self.table.shared.load::<Try>(seat, self.head_at(chunk))
     }
 
     /// ACTIVE is cleared, for a pull or for the bump aboard.

@@ -98,9 +98,7 @@ impl Words {
         ensures same { (seat.new.table_id ≡ seat.old.table_id) × (seat.new.id ≡ seat.old.id) }
         ensures told { load_tells chunk 0 seat.old.me result seat.new.me }
     {
-        self.table
-            .shared
-            .load::<Load>(seat, self.head_at(chunk))
+        self.table.shared.load::<Load>(seat, self.head_at(chunk))
     }
 
     /// The store of a label.
