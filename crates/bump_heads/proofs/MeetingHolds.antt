@@ -1,15 +1,14 @@
 -- A hold that is joined to the seat of its class: what both know of the words of its life.
-use Rattle.std.proofs.Common.{◌≡◌, ℕ, suc, true, Option, Some, None, IsSome, refl, sym, ap, ap₂, ◌∙◌, subst}
+use Rattle.std.proofs.Common.{◌≡◌, ℕ, suc, true, get_or, Option, Some, None, IsSome, refl, sym, ap, ap₂, ◌∙◌, subst}
 use Rattle.bump_rules.specs.declared.items.ItemId.{ItemId}
 use Rattle.bump_rules.specs.Labels.{label_of_life}
 use Rattle.bump_rules.specs.Lives.{life}
-use Rattle.bump_rules.specs.Totals.{total}
 use Rattle.bump_steps.specs.declared.views.HoldPart.{HoldPart}
 use Rattle.bump_steps.specs.Cuts.{joined}
 use Rattle.bump_steps.specs.Meetings.{Met, Meets}
 use Rattle.bump_steps.specs.Plays.{Sat}
-use Rattle.bump_steps.specs.Views.{owns, labels_of, of_word, last_label, last_word, differs}
-use Rattle.bump_readers.specs.Seats.{hold_me, IsHoldOf, labels_in, words_in}
+use Rattle.bump_steps.specs.Views.{owns, labels_of, of_word, last_label, last_word}
+use Rattle.bump_readers.specs.Seats.{hold_me, IsHoldOf, row_in}
 use Rattle.bump_heads.specs.declared.views.ClassView.{ClassView}
 use Rattle.bump_heads.specs.Seats.{class_me, IsClassPart}
 
@@ -49,14 +48,15 @@ module _ (m s q : Sat) (v w : ClassView) (o : Option HoldPart) (l held : ItemId)
   met_stored = met_word 0
       ∙ ap (λ (x : ItemId). Some (last_label w.part x.chunk)) (sym h_life) ∙ ap (λ (y : ℕ). Some y) met.label
 
-  pub met_words : (j : ℕ) → label_of_life l 0 (of_word j w.part.words) ≡ Some (last_word (suc j) w.part l.chunk)
-  met_words j = met_word (suc j)
+  -- and it is the one in the hold's row
+  row_is : (i : ℕ) → get_or h.row i 0 ≡ get_or (row_in o) i 0
+  row_is i = ap (λ (x : Option HoldPart). get_or (row_in x) i 0) (sym some)
 
-  -- and each that the hold read
-  pub met_read : total (differs word) (labels_in o) ≡ 0
-  met_read = ap (λ (x : Option HoldPart). total (differs word) (labels_in x)) some ∙ met.read
+  pub met_last : (i : ℕ) → last_word i w.part l.chunk ≡ get_or (row_in o) i 0
+  met_last i = ap (λ (x : ItemId). last_word i w.part x.chunk) (sym h_life) ∙ met.row i ∙ row_is i
 
-  pub met_words_read : (j : ℕ) → total (differs (last_word (suc j) w.part l.chunk)) (words_in j o) ≡ 0
-  met_words_read j = ap (λ (x : Option HoldPart). total (differs (last_word (suc j) w.part l.chunk)) (words_in j x)) some
-      ∙ subst (λ (x : ItemId). total (differs (last_word (suc j) w.part x.chunk)) (words_in j (Some h)) ≡ 0) h_life
-      (met.words j)
+  pub met_read : word ≡ get_or (row_in o) 0 0
+  met_read = sym met.label ∙ met.row 0 ∙ row_is 0
+
+  pub met_words : (j : ℕ) → label_of_life l 0 (of_word j w.part.words) ≡ Some (get_or (row_in o) (suc j) 0)
+  met_words j = met_word (suc j) ∙ ap (λ (y : ℕ). Some y) (met_last (suc j))

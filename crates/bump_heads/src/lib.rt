@@ -14,8 +14,8 @@ mod views;
 
 pub use bump_readers::{Hold, HoldView, Name, ReaderHeads, Rider, WorkerSeat, WorkerView};
 pub use bump_steps::{
-    ClassPart, Empty, HoldPart, Kind, LanePart, OwnStep, Ride, RideRefusal, Rule, TakeRefusal,
-    View, WorkerPart,
+    AnyRefusal, ClassPart, Empty, HoldPart, Kind, LanePart, OwnStep, Ride, RideRefusal, Rule,
+    TakeRefusal, View, WorkerPart,
 };
 pub use heads::Heads;
 pub use making::{Blank, HeadParts};

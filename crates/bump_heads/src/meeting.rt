@@ -1,10 +1,9 @@
 //! A hold meets its class, and a lane meets a class.
-ghost use Rattle.std.specs.Prelude.{◌≡◌, ℕ, suc, Some, None, IsSome, IfSome, true};
+ghost use Rattle.std.specs.Prelude.{◌≡◌, ℕ, suc, Some, None, IsSome, IfSome, true, slice_index};
 ghost use Rattle.bump_rules.specs.Labels.{label_of_life};
 ghost use Rattle.bump_rules.specs.Lawful.{IsUsed};
-ghost use Rattle.bump_rules.specs.Totals.{total};
-ghost use Rattle.bump_steps.specs.Views.{owns, standing, last_label, last_word, of_word, differs};
-ghost use Rattle.bump_readers.specs.Seats.{labels_in, words_in};
+ghost use Rattle.bump_steps.specs.Views.{owns, standing, last_label, last_word, of_word};
+ghost use Rattle.bump_readers.specs.Seats.{row_in};
 ghost use Rattle.bump_heads.specs.Applying.{NamesNoBumpTwice, TellsMoves};
 
 use crate::seats::{ClassSeat, LaneSeat};
@@ -14,8 +13,8 @@ use bump_readers::{Hold, Name};
 impl<N: Name> ClassSeat<N> {
     /// Shows a hold and its class each other: joins the hold's part to the class's seat, loads the label word, and
     /// splits the hold off again. The hold must be whole, and its chunk of this class. Answers the label: it is the
-    /// one that the class stored for the hold's life before that life began, and each label that the hold read. The
-    /// chunk isn't free, and stands in the hold's life.
+    /// one that the class stored for the hold's life before that life began, and the first word of the hold's row. So is
+    /// each further word of the row. The chunk isn't free, and stands in the hold's life.
     pub fn meet(&mut self, hold: &mut Hold<N>) -> u64
         requires whole { IsSome hold.old.part }
         requires own { owns hold.old.life.chunk self.old.part ≡ true }
@@ -23,11 +22,11 @@ impl<N: Name> ClassSeat<N> {
         ensures hold { hold.new ≡ hold.old }
         ensures label { result ≡ last_label self.old.part hold.old.life.chunk }
         ensures stored { label_of_life hold.old.life 0 self.old.part.labels ≡ Some result }
-        ensures read { total (differs result) (labels_in hold.old.part) ≡ 0 }
+        ensures read { result ≡ slice_index (row_in hold.old.part) 0 }
         ensures words { (j : ℕ) → label_of_life hold.old.life 0 (of_word j self.old.part.words) ≡ Some
-            (last_word (suc j) self.old.part hold.old.life.chunk) }
-        ensures words_read { (j : ℕ) → total (differs (last_word (suc j) self.old.part hold.old.life.chunk))
-            (words_in j hold.old.part) ≡ 0 }
+            (slice_index (row_in hold.old.part) (suc j)) }
+        ensures last { (j : ℕ) → last_word (suc j) self.old.part hold.old.life.chunk ≡ slice_index
+            (row_in hold.old.part) (suc j) }
         ensures in_use { IsUsed (standing self.old.part hold.old.life.chunk).0
             × ((standing self.old.part hold.old.life.chunk).1 ≡ hold.old.life.generation) }
     {

@@ -27,17 +27,18 @@ use Rattle.bump_steps.specs.declared.views.OwnStep.{OwnStep}
 use Rattle.bump_steps.specs.declared.views.Ride.{Ride}
 use Rattle.bump_steps.specs.declared.views.View.{View}
 use Rattle.bump_steps.specs.declared.views.WorkerPart.{WorkerPart}
-use Rattle.bump_steps.specs.Cuts.{joined, without_holds}
+use Rattle.bump_steps.specs.Cuts.{joined, without_holds, holds_only}
+use Rattle.bump_steps.specs.References.{new_hold}
 use Rattle.bump_steps.specs.Marks.{attempting, done, worker_after_fetch, worker_after_mark, noted, on_worker, worker_after_store_time, trying, worker_after_unmark}
 use Rattle.bump_steps.specs.Plays.{step_of}
 use Rattle.bump_steps.specs.Riders.{ride_me}
 use Rattle.bump_steps.specs.Rides.{judged, return_both, returned, sent, without_ride, worker_after_release}
 use Rattle.bump_steps.specs.Rule.{blank}
-use Rattle.bump_steps.specs.Tries.{drop_of, held_by, last_found, failures, looks, refusal_of, reserved_or_dropped, steps_of, takes, view_after_attempt, with_more, worker_after_attempt}
+use Rattle.bump_steps.specs.Tries.{drop_of, held_by, last_found, failures, looks, asked_refusal, asked_steps, asked_life, reserved_or_dropped, takes, view_after_attempt, with_more, worker_after_attempt}
 use Rattle.bump_readers.specs.declared.views.WorkerView.{WorkerView}
 use Rattle.bump_readers.specs.Attempts.{is_attempt, attempts_in}
 use Rattle.bump_readers.specs.Riding.{sent_unless}
-use Rattle.bump_readers.specs.Seats.{IsHoldOf, IsLifeInRange, IsWorkerPart, held_life, hold_me, listed, worker_in, worker_me}
+use Rattle.bump_readers.specs.Seats.{IsHoldOf, IsLifeInRange, IsWorkerPart, held_life, hold_me, hold_views, listed, worker_in, worker_me}
 use Rattle.bump_readers.proofs.Touches.{worker_read_back}
 
 -- ---- steps
@@ -93,14 +94,14 @@ more_kept p xs none is =
     record { accounts = is.accounts; attempts = omega (arith, is.attempts, none, attempts_append p.steps xs) }
 
 -- the steps by which a reference is taken for a hold, or isn't
-pub take_kept : (limit : ℕ) (l : ItemId) (first : Head) (more : List Head) (p : WorkerPart) → IsWorkerPart p
-    → IsWorkerPart (with_more (steps_of limit l first more) p)
-take_kept limit l first more p is = more_kept p (steps_of limit l first more) (omega (
+pub take_kept : (limit : ℕ) (asked : Head → ℕ) (c : ℕ) (first : Head) (more : List Head) (p : WorkerPart)
+    → IsWorkerPart p → IsWorkerPart (with_more (asked_steps limit asked c first more) p)
+take_kept limit asked c first more p is = more_kept p (asked_steps limit asked c first more) (omega (
   arith,
-  attempts_append (looks l.chunk first more)
-      (takes l.chunk (refusal_of limit l first more) (last_found first more)),
-  no_look l.chunk first more,
-  no_take l.chunk (refusal_of limit l first more) (last_found first more),
+  attempts_append (looks c first more)
+      (takes c (asked_refusal limit asked first more) (last_found first more)),
+  no_look c first more,
+  no_take c (asked_refusal limit asked first more) (last_found first more),
 )) is
 
 -- FETCHED was set
@@ -291,6 +292,9 @@ mark_worker l h p = by (not h.active && is_cold h.segment)
 abbrev with_holds : WorkerPart → List HoldPart → Me Empty View
 with_holds p hs = (record blank { workers = p ∷ []; holds = hs }, [])
 
+abbrev with_hold : WorkerPart → Option HoldPart → WorkerView
+with_hold p h = record { part = p; hold = h }
+
 -- a hold of a life of the table is in its range
 hold_near : (table : TableId) (l : ItemId) (o : Option HoldPart) → IsHoldOf l o → HasChunk table l.chunk
     → IsLifeInRange table (held_life o)
@@ -327,27 +331,61 @@ module _ (table : TableId) (number : ℕ) (id id₁ : TableId) (m m₁ : Me Empt
       (told ∙ ap (λ (x : Me Empty View). (without_holds x.0, x.1)) before_is) refl (λ was. tt) (λ part. part)
 
   -- no reference is taken for a hold, or one that is split off
-  pub refused_seat : (limit : ℕ) (l : ItemId) (answered : Option TakeRefusal) (r : TakeRefusal) (first : Head)
-      (more : List Head)
-      → w.hold ≡ None → m₁ ≡ (view_after_attempt limit l first more m.0, m.1) → answered ≡ refusal_of limit l first
-      more
-      → answered ≡ Some r → IsWhole table number id₁ m₁
-  refused_seat limit l answered r first more alone view answer is = changed_seat table number id id₁ m m₁ w
-      (record { part = with_more (steps_of limit l first more) w.part; hold = None }) whole same other
-      (view ∙ ap (λ (x : Me Empty View). (view_after_attempt limit l first more x.0, x.1)) before_is
-      ∙ ap₂ (λ (h : Option HoldPart) (q : Option TakeRefusal). with_holds
-      (with_more (steps_of limit l first more) w.part)
-      (held_by q l (listed h))) alone (sym answer ∙ is))
-      refl (λ was. tt) (take_kept limit l first more w.part)
+  module _ (limit : ℕ) (asked : Head → ℕ) (c : ℕ) (first : Head) (more : List Head) (row : List ℕ) where
+    pub refused_seat : (answered : Option TakeRefusal) (r : TakeRefusal)
+        → w.hold ≡ None → m₁ ≡ (view_after_attempt limit asked c first more row m.0, m.1)
+        → answered ≡ asked_refusal limit asked first more
+        → answered ≡ Some r → IsWhole table number id₁ m₁
+    refused_seat answered r alone view answer is = changed_seat table number id id₁ m m₁ w
+        (record { part = with_more (asked_steps limit asked c first more) w.part; hold = None }) whole same other
+        (view ∙ ap (λ (x : Me Empty View). (view_after_attempt limit asked c first more row x.0, x.1)) before_is
+        ∙ ap₂ (λ (h : Option HoldPart) (q : Option TakeRefusal). with_holds
+        (with_more (asked_steps limit asked c first more) w.part)
+        (held_by q (asked_life asked c first more) row (listed h))) alone (sym answer ∙ is))
+        refl (λ was. tt) (take_kept limit asked c first more w.part)
 
-  pub held_seat : (limit : ℕ) (l : ItemId) (first : Head) (more : List Head) (p : Me Empty View)
-      → p ≡ (view_after_attempt limit l first more m.0, m.1) → m₁ ≡ (without_holds p.0, p.1)
-      → IsWhole table number id₁ m₁
-  held_seat limit l first more p view told = changed_seat table number id id₁ m m₁ w
-      (record { part = with_more (steps_of limit l first more) w.part; hold = None }) whole same other
-      (told ∙ ap (λ (x : Me Empty View). (without_holds x.0, x.1)) (view
-      ∙ ap (λ (x : Me Empty View). (view_after_attempt limit l first more x.0, x.1)) before_is)) refl (λ was. tt)
-      (take_kept limit l first more w.part)
+    pub held_seat : (p : Me Empty View)
+        → p ≡ (view_after_attempt limit asked c first more row m.0, m.1) → m₁ ≡ (without_holds p.0, p.1)
+        → IsWhole table number id₁ m₁
+    held_seat p view told = changed_seat table number id id₁ m m₁ w
+        (record { part = with_more (asked_steps limit asked c first more) w.part; hold = None }) whole same other
+        (told ∙ ap (λ (x : Me Empty View). (without_holds x.0, x.1)) (view
+        ∙ ap (λ (x : Me Empty View). (view_after_attempt limit asked c first more row x.0, x.1)) before_is)) refl
+        (λ was. tt) (take_kept limit asked c first more w.part)
+
+    -- what contracts see of the worker then
+    pub refused_view : (r : TakeRefusal) → w.hold ≡ None
+        → m₁ ≡ (view_after_attempt limit asked c first more row m.0, m.1)
+        → asked_refusal limit asked first more ≡ Some r
+        → worker_in m₁.0 ≡ record w { part = with_more (asked_steps limit asked c first more) w.part }
+    refused_view r alone view is = ap (λ (x : Me Empty View). worker_in x.0)
+        (view ∙ ap (λ (x : Me Empty View). (view_after_attempt limit asked c first more row x.0, x.1)) before_is
+        ∙ ap₂ (λ (h : Option HoldPart) (q : Option TakeRefusal). with_holds
+        (with_more (asked_steps limit asked c first more) w.part)
+        (held_by q (asked_life asked c first more) row (listed h))) alone is)
+        ∙ ap (λ (h : Option HoldPart). with_hold
+        (with_more (asked_steps limit asked c first more) w.part) h) (sym alone)
+
+    pub held_view : (p : Me Empty View) → w.hold ≡ None
+        → p ≡ (view_after_attempt limit asked c first more row m.0, m.1) → m₁ ≡ (without_holds p.0, p.1)
+        → worker_in m₁.0 ≡ record w { part = with_more (asked_steps limit asked c first more) w.part }
+    held_view p alone view told = ap (λ (x : Me Empty View). worker_in x.0)
+        (told ∙ ap (λ (x : Me Empty View). (without_holds x.0, x.1)) (view
+        ∙ ap (λ (x : Me Empty View). (view_after_attempt limit asked c first more row x.0, x.1)) before_is))
+        ∙ ap (λ (h : Option HoldPart). with_hold
+        (with_more (asked_steps limit asked c first more) w.part) h) (sym alone)
+
+    -- and of the new hold
+    pub new_views : (p : Me Empty View) (views : List View) → w.hold ≡ None
+        → p ≡ (view_after_attempt limit asked c first more row m.0, m.1) → views ≡ holds_only p.0 ∷ []
+        → asked_refusal limit asked first more ≡ None
+        → views ≡ hold_views (Some (new_hold (asked_life asked c first more) row))
+    new_views p views alone view told is = told
+        ∙ ap (λ (x : Me Empty View). holds_only x.0 ∷ []) (view
+        ∙ ap (λ (x : Me Empty View). (view_after_attempt limit asked c first more row x.0, x.1)) before_is)
+        ∙ ap₂ (λ (h : Option HoldPart) (q : Option TakeRefusal). record blank {
+          holds = held_by q (asked_life asked c first more) row (listed h);
+        } ∷ []) alone is
 
   -- a bump is dropped, sent off, or comes back
   pub dropped_seat : (limit : ℕ) (l : ItemId) (d : Dropped) (first : Head) (more : List Head)

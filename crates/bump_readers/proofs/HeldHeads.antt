@@ -1,5 +1,6 @@
--- What a whole hold knows of the head that it finds.
-use Rattle.std.proofs.Common.{◌≡◌, ℕ, ◌<◌, Option, Some, None, IsSome, [], sym, ap, ◌∙◌, subst, arith}
+-- What a whole hold knows of the head that it finds, and what is known of the head by which one was taken.
+use Rattle.std.proofs.Common.{◌≡◌, ℕ, ◌<◌, ◌==◌, Bool, true, false, List, length, Option, Some, None, Ok, Err, IsSome, [], refl, sym, ap, ◌∙◌, subst, arith}
+use Rattle.std.specs.Prelude.{if◌then◌else◌}
 use Rattle.bump_rules.specs.declared.items.Head.{Head}
 use Rattle.bump_rules.specs.declared.items.ItemId.{ItemId}
 use Rattle.bump_rules.specs.Lives.{life, one_if}
@@ -10,6 +11,14 @@ use Rattle.bump_readers.specs.declared.views.HoldView.{HoldView}
 use Rattle.bump_steps.specs.Plays.{Sat, Found, Told}
 use Rattle.bump_steps.specs.References.{view_after_release}
 use Rattle.bump_readers.specs.Seats.{IsHoldOf, hold_me, spent_me}
+use Rattle.bump_rules.specs.Tables.{Get, IsHeld, get_of}
+use Rattle.bump_steps.specs.declared.refusals.AnyRefusal.{AnyRefusal}
+use Rattle.bump_steps.specs.declared.refusals.TakeRefusal.{TakeRefusal}
+use Rattle.bump_steps.specs.declared.refusals.TakeRefusal.TheVariants.{Busy}
+use Rattle.bump_steps.specs.Tries.{AskedFound, of_any, last_found, refused_by, asked_refusal, asked_life, any_refusal, any_answer}
+use Rattle.bump_steps.proofs.Tries.{last_is_one, unrefused}
+use Rattle.bump_steps.proofs.Referring.{held_is}
+use Rattle.bump_readers.specs.Taking.{IsTakenBy}
 use Rattle.bump_steps.specs.Views.{held, weight}
 use Rattle.bump_steps.proofs.StepLemmas.{one_life}
 
@@ -43,3 +52,32 @@ pub held_found : (v : HoldView) (m : Sat) (n : ℕ) (h : Head) → m ≡ hold_me
     → IsSome v.part → Found n (Told v.life.chunk m.0) → Spells n h → (h.generation ≡ v.life.generation) × (0 < h.refs)
 held_found v m n h mine of whole found spelled = held_told v.life v.part m h mine of whole
     (subst (Told v.life.chunk m.0) (one_head n found.0 h found.1 spelled) found.2)
+
+-- where a call isn't refused, a get by the head that was found last is a hold
+not_refused : (eighth : Bool) (get : Get) → (if eighth then Some Busy else refused_by get) ≡ None → get ≡ IsHeld
+not_refused true get is = absurd (cc is)
+not_refused false get is = unrefused get is
+
+-- so it is a linked one, with room
+pub taken_by : (limit c : ℕ) (first : Head) (more : List Head) → AskedFound limit of_any first more
+    → asked_refusal limit of_any first more ≡ None
+    → IsTakenBy limit (asked_life of_any c first more) (last_found first more)
+taken_by limit c first more found is =
+    let k : Head = last_found first more in
+    let can = held_is limit k.generation k (not_refused (length more == 8) (get_of limit k.generation k) is) in record {
+      fits = last_is_one _ first more found.heads;
+      linked = can.0;
+      generation = refl;
+      room = can.2;
+    }
+
+-- by the answer of a call for whatever life it is known why it is refused, or by which word the reference was taken
+pub any_ok : (o : Option TakeRefusal) (last : Head) (word : ℕ) → Ok word ≡ any_answer o last
+    → (o ≡ None) × (word ≡ word_of last)
+any_ok None last word is = (refl, cc is)
+any_ok (Some q) last word is = absurd (cc is)
+
+pub any_err : (o : Option TakeRefusal) (last : Head) (r : AnyRefusal) → Err r ≡ any_answer o last
+    → (q : TakeRefusal) × (o ≡ Some q) × (r ≡ any_refusal q)
+any_err None last r is = absurd (cc is)
+any_err (Some q) last r is = (q, refl, cc is)

@@ -12,7 +12,7 @@ use Rattle.bump_steps.specs.declared.views.Ride.{Ride}
 use Rattle.bump_steps.specs.declared.views.View.{View}
 use Rattle.bump_readers.specs.declared.views.WorkerView.{WorkerView}
 use Rattle.bump_steps.specs.Rule.{blank, worker_part}
-pub use Rattle.bump_steps.specs.Views.{first, read_of}
+pub use Rattle.bump_steps.specs.Views.{first}
 use Rattle.bump_steps.specs.Places.{HasChunk}
 use Rattle.bump_readers.specs.Attempts.{attempts_in}
 
@@ -52,20 +52,10 @@ abbrev pub IsHoldOf : ItemId → Option HoldPart → Type 0
 IsHoldOf item None = Unit {0}
 IsHoldOf item (Some hold) = hold.life ≡ item
 
--- the labels that a hold read, if it is whole
-abbrev pub labels_in : Option HoldPart → List ℕ
-labels_in None = []
-labels_in (Some hold) = hold.labels
-
--- the further words that it read, each behind its number
-abbrev pub reads_in : Option HoldPart → List (ℕ × ℕ)
-reads_in None = []
-reads_in (Some hold) = hold.words
-
--- and of these, those of word j
-abbrev pub words_in : ℕ → Option HoldPart → List ℕ
-words_in index None = []
-words_in index (Some hold) = read_of index hold.words
+-- the words of the life that is held, if the hold is whole: its label, and then its further words
+abbrev pub row_in : Option HoldPart → List ℕ
+row_in None = []
+row_in (Some hold) = hold.row
 
 -- the head words that its looks found
 abbrev pub looks_in : Option HoldPart → List ℕ

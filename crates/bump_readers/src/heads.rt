@@ -10,7 +10,7 @@ use bump_steps::Words;
 use bump_word::Limit;
 use std::marker::{Model, PhantomData};
 
-/// The words of all chunks of a store: head, time and label. All threads share them, and seats alone change them.
+/// The words of all chunks of a store: head, time, label and further words. All threads share them, and seats alone change them.
 #[derive(Drop)]
 pub struct ReaderHeads<N: Name> {
     pub(crate) words: Words,
@@ -58,6 +58,13 @@ impl<N: Name> ReaderHeads<N> {
         ensures { result ≡ all_chunks self.now }
     {
         self.chunks
+    }
+
+    /// How many further words each chunk has, beside its label.
+    pub fn further(&self) -> usize
+        ensures { result ≡ N.table.slots }
+    {
+        self.words.further()
     }
 
     /// The greatest reference count that a chunk may have.

@@ -1,21 +1,19 @@
 //! References that readers have: taken, given back, and what a hold and a caller without a seat may read.
-ghost use Rattle.std.specs.Prelude.{◌≡◌, ◌<◌, ◌≤◌, IfOk, IsSome, None, List, option_map};
+ghost use Rattle.std.specs.Prelude.{◌≡◌, ◌<◌, ◌≤◌, suc, IfOk, IsSome, None, List, option_map, slice_index};
 ghost use Rattle.bump_rules.specs.declared.items.Head.{Head as TheHead};
 ghost use Rattle.bump_rules.specs.Lawful.{bit};
-ghost use Rattle.bump_rules.specs.Totals.{total};
 ghost use Rattle.bump_word.specs.Words.{Fits, word_of};
-ghost use Rattle.bump_readers.specs.Seats.{spent_me, labels_in, words_in};
+ghost use Rattle.bump_readers.specs.Seats.{spent_me, row_in};
 ghost use Rattle.bump_steps.specs.Rule.{chunks as all_chunks};
-ghost use Rattle.bump_readers.specs.Taking.{Took, whole_hold};
-ghost use Rattle.bump_steps.specs.References.{hold_after_label_load, hold_after_word_load, hold_after_look};
-ghost use Rattle.bump_steps.specs.Views.{differs};
+ghost use Rattle.bump_readers.specs.Taking.{Took, TookAny, IsTakenBy, whole_hold};
+ghost use Rattle.bump_steps.specs.References.{IsRow, hold_after_look};
 
 use crate::heads::ReaderHeads;
 use crate::holds::Hold;
 use crate::names::Name;
 use crate::workers::WorkerSeat;
 use bump_rules::{Head, ItemId};
-use bump_steps::{Seat, TakeRefusal, head_of};
+use bump_steps::{AnyRefusal, Seat, TakeRefusal, head_of};
 use std::marker::PhantomData;
 
 impl<N: Name> Hold<N> {
@@ -48,6 +46,9 @@ impl<N: Name> ReaderHeads<N> {
     ///
     /// Busy is answered where 8 exchanges failed, whatever the last of them found. A refusal changes nothing: all
     /// that is new to the worker is the list of its steps, of which none changed a word.
+    ///
+    /// The hold has the life's words, its label and its further ones, which were stored before it began: each read of one
+    /// tells the same.
     #[inline(always)]
     pub fn take(&self, worker: &mut WorkerSeat<N>, life: ItemId) -> Result<Hold<N>, TakeRefusal>
         requires alone { worker.old.hold ≡ None }
@@ -55,7 +56,8 @@ impl<N: Name> ReaderHeads<N> {
         ensures took { (first : TheHead) × (more : List TheHead)
             × Took self.now.refs_limit life worker.old worker.new result first more }
         ensures alone { worker.new.hold ≡ None }
-        ensures hold { IfOk result (λ h. h ≡ whole_hold life) }
+        ensures hold { IfOk result (λ h. h ≡ whole_hold life (row_in h.part)) }
+        ensures row { IfOk result (λ h. IsRow N.table.slots (row_in h.part)) }
     {
         let place = self.words.head_at(life.chunk);
         if let Some(refusal) = self.words.take(&mut worker.seat, life, place, &self.limit) {
@@ -68,6 +70,56 @@ impl<N: Name> ReaderHeads<N> {
             place,
             of: PhantomData,
         })
+    }
+
+    /// Takes a reference to whatever life is linked in the chunk, which is one of the store's, and answers the hold and
+    /// the head by which it was taken, as it was before: whether it has both marks is known from it, with no further
+    /// step. The worker's seat has no hold joined.
+    ///
+    /// It makes the steps of `take`, and adds a reference to the life that the word found has. By the word that was
+    /// found last the answer is
+    /// 1. Gone, where the chunk isn't linked;
+    /// 2. RefsFull, where its reference count is at the limit;
+    /// 3. a hold, where the exchange found that word again: of the chunk's life in the generation that is in it.
+    ///
+    /// Busy is answered where 8 exchanges failed, whatever the last of them found. A refusal changes nothing: all
+    /// that is new to the worker is the list of its steps, of which none changed a word.
+    #[inline(always)]
+    pub fn take_any(
+        &self,
+        worker: &mut WorkerSeat<N>,
+        chunk: u32,
+    ) -> Result<(Hold<N>, Head), AnyRefusal>
+        requires alone { worker.old.hold ≡ None }
+        requires chunk { chunk < all_chunks self.now }
+        ensures took { (first : TheHead) × (more : List TheHead)
+            × TookAny self.now.refs_limit chunk worker.old worker.new result first more }
+        ensures alone { worker.new.hold ≡ None }
+        ensures chunk { IfOk result (λ told. told.0.life.chunk ≡ chunk) }
+        ensures found { IfOk result (λ told. IsTakenBy self.now.refs_limit told.0.life told.1) }
+        ensures hold { IfOk result (λ told. told.0 ≡ whole_hold told.0.life (row_in told.0.part)) }
+        ensures row { IfOk result (λ told. IsRow N.table.slots (row_in told.0.part)) }
+    {
+        let at = self.words.head_at(chunk);
+        let word = match self
+            .words
+            .take_any(&mut worker.seat, chunk, at, &self.limit)
+        {
+            Ok(word) => word,
+            Err(refusal) => return Err(refusal),
+        };
+        let part = self.words.part_holds(&mut worker.seat);
+        let found = head_of(word);
+        let hold = Hold {
+            badge: part.into_badge(),
+            life: ItemId {
+                chunk,
+                generation: found.generation,
+            },
+            place: at,
+            of: PhantomData,
+        };
+        Ok((hold, found))
     }
 
     /// Gives the hold's reference back by one subtraction, as memcached's `refcount_decr` in `do_item_remove`, and
@@ -105,12 +157,11 @@ impl<N: Name> ReaderHeads<N> {
     }
 
     /// The chunk's label, by one load: a number that was stored before the hold's life began, as memcached's key and
-    /// value of an item are. The hold is whole, and its view keeps the label. It is each label that this hold read
-    /// before.
+    /// value of an item are. It is the first word of the hold's row. The hold is whole, and nothing changes.
     pub fn label_of(&self, hold: &mut Hold<N>) -> u64
         requires whole { IsSome hold.old.part }
-        ensures read { hold.new ≡ record hold.old { part = option_map (hold_after_label_load result) hold.old.part } }
-        ensures same { total (differs result) (labels_in hold.old.part) ≡ 0 }
+        ensures is { result ≡ slice_index (row_in hold.old.part) 0 }
+        ensures same { hold.new ≡ hold.old }
     {
         let mut seat = hold.seat_out();
         let label = self.words.label_of(&mut seat, hold.life.chunk, hold.place);
@@ -118,13 +169,13 @@ impl<N: Name> ReaderHeads<N> {
         label
     }
 
-    /// One of the chunk's further words, by one load: a number that was stored before the hold's life began. The hold is
-    /// whole, and its view keeps the word. It is each one of this number that this hold read before.
+    /// One of the chunk's further words, by one load: a number that was stored before the hold's life began. It stands in
+    /// the hold's row, behind the label. The hold is whole, and nothing changes.
     pub fn word_of(&self, hold: &mut Hold<N>, index: u32) -> u64
         requires whole { IsSome hold.old.part }
         requires index { index < N.table.slots }
-        ensures read { hold.new ≡ record hold.old { part = option_map (hold_after_word_load index result) hold.old.part } }
-        ensures same { total (differs result) (words_in index hold.old.part) ≡ 0 }
+        ensures is { result ≡ slice_index (row_in hold.old.part) (suc index) }
+        ensures same { hold.new ≡ hold.old }
     {
         let mut seat = hold.seat_out();
         let word = self

@@ -14,9 +14,10 @@ use Rattle.bump_rules.specs.declared.bumps.AppliedBump.{AppliedBump}
 use Rattle.bump_rules.specs.Lives.{life, one_if}
 use Rattle.bump_rules.proofs.Updates.{total_append, total_below}
 use Rattle.bump_steps.specs.declared.views.View.{View}
-use Rattle.bump_steps.specs.Views.{Measure, held, owners, strays, mislabels, misreads, misread, differs, owns, standing, last_word, reads_of, weight, tally, claims, evidence, Query, moves, settled, in_progress, underway, foreign, HaveLabels, workers_of, lanes_of, untidy, IsBacked}
-use Rattle.bump_steps.specs.Places.{head_place, words_at}
-use Rattle.bump_steps.proofs.Places.{place_apart, place_near, place_behind, words_beside, words_written, word_found, with_word, with_same}
+use Rattle.bump_steps.specs.Views.{Measure, held, owners, strays, mislabels, misreads, misread, owns, standing, last_word, weight, tally, claims, evidence, Query, moves, settled, in_progress, underway, foreign, HaveLabels, workers_of, lanes_of, untidy, IsBacked}
+use Rattle.bump_steps.specs.Places.{head_place, row_at, words_at}
+use Rattle.bump_steps.specs.References.{IsRow}
+use Rattle.bump_steps.proofs.Places.{place_apart, place_near, place_behind, row_long, words_beside, words_written, word_found, with_word, with_same}
 use Rattle.bump_steps.specs.Rule.{Sound, SoundAt, chunks, Kept, HasFittingLimit}
 use Rattle.bump_steps.specs.Plays.{every, IsOwn}
 use Rattle.bump_steps.proofs.Once.{settled_once, settled_here}
@@ -80,8 +81,8 @@ mislabel_owns c i x v = total_below (λ k. cond (owns c k && not (eqb (last_word
 
 reader_holds : (c i g x : ℕ) (v : View) → weight c (held g) v ≡ 0 → weight c (misreads i g x) v ≡ 0
 reader_holds c i g x v e = none_where_none (λ h. one_if (life c g) h.life) (misread i c g x)
-    (λ h none. ap (λ (k : ℕ). k * total (differs x) (reads_of i h.labels h.words)) none
-    ∙ zero-mul (total (differs x) (reads_of i h.labels h.words))) v.holds
+    (λ h none. ap (λ (k : ℕ). k * cond (eqb (get_or h.row i 0) x) 0 1) none
+    ∙ zero-mul (cond (eqb (get_or h.row i 0) x) 0 1)) v.holds
     (omega arith)
 
 -- what the rule says of one of the views
@@ -179,11 +180,13 @@ Goes key id m word f then s = (w : View) × (a : Act Empty) × Valid s.homes m.1
     × Kept key (stepped s word (f (get_or s.words word 0)) id m.1 w a)
     × then (get_or s.words word 0) (w, carried_after m.1 a)
 
--- a step on a head word is allowed where it can go on, whatever sound words it finds
-pub on_head : (key : Config) (slots id : ℕ) (m : Sat) (c : ℕ) (f : ℕ → ℕ) (then : ℕ → Sat → Type 0) → c < chunks key
-    → From key c m (λ n x t. Reaches key c m (then n) (f n) x t)
+-- a step on a head word is allowed where it can go on, whatever sound words it finds, which are the chunk's row
+pub on_head_row : (key : Config) (slots id : ℕ) (m : Sat) (c : ℕ) (f : ℕ → ℕ) (then : ℕ → Sat → Type 0) → c < chunks key
+    → ((row : List ℕ) → IsRow slots row → (n : ℕ) (t : Measure → ℕ) → HasFittingLimit key
+    → Sound key.refs_limit n (λ i. get_or row i 0) t → Amid c m.0 t
+    → Reaches key c m (then n) (f n) (λ i. get_or row i 0) t)
     → Allows (Kept key) slots id m (head_place slots c) f then
-on_head key slots id m c f then near goes s o count me small =
+on_head_row key slots id m c f then near goes s o count me small =
     subst (λ (z : ℕ). Goes key id m (head_place z c) f then s) count it
   where
     n : ℕ
@@ -196,7 +199,8 @@ on_head key slots id m c f then near goes s o count me small =
     within = omega (arith, o.wide, place_near (length s.homes) c (chunks key) 0 near (omega arith))
 
     it : Goes key id m (head_place (length s.homes) c) f then s
-    it = let g = goes n x (tally s.views c) o.small (o.each c near) (amid key s o c id m.0 me) in
+    it = let g = goes (row_at (length s.homes) s.words c) (omega (arith, row_long (length s.homes) s.words c, count)) n
+        (tally s.views c) o.small (o.each c near) (amid key s o c id m.0 me) in
         let now : Sound key.refs_limit (f n) x (tally (set s.views id g.0) c) = g.1 (tally (set s.views id g.0) c)
         (λ y. total-set (weight c y) s.views id m.0 g.0 me) in (
           g.0,
@@ -210,6 +214,12 @@ on_head key slots id m c f then near goes s o count me small =
               )) now),
           g.4,
         )
+
+pub on_head : (key : Config) (slots id : ℕ) (m : Sat) (c : ℕ) (f : ℕ → ℕ) (then : ℕ → Sat → Type 0) → c < chunks key
+    → From key c m (λ n x t. Reaches key c m (then n) (f n) x t)
+    → Allows (Kept key) slots id m (head_place slots c) f then
+on_head key slots id m c f then near goes =
+    on_head_row key slots id m c f then near (λ row long n t. goes n (λ i. get_or row i 0) t)
 
 -- on its label, which is word 0, or on a further word
 pub on_words : (key : Config) (slots id : ℕ) (m : Sat) (c i : ℕ) (f : ℕ → ℕ) (then : ℕ → Sat → Type 0) → i ≤ slots
@@ -262,8 +272,8 @@ pub on_words_load : (key : Config) (slots id : ℕ) (m : Sat) (c i : ℕ) (then 
     → Allows (Kept key) slots id m (head_place slots c + (2 + i)) (λ x. x) then
 on_words_load key slots id m c i then low near goes =
     on_words key slots id m c i (λ x. x) then low near
-        (λ n x t limits o a. subst (λ (y : ℕ → ℕ). Reaches key c m (then (x i)) n y t) (sym (with_same x i))
-        (goes n x t limits o a))
+    (λ n x t limits o a. subst (λ (y : ℕ → ℕ). Reaches key c m (then (x i)) n y t) (sym (with_same x i))
+    (goes n x t limits o a))
 
 -- on a time word, of which the rule says nothing
 pub time_step : (key : Config) (slots id : ℕ) (m : Sat) (c : ℕ) (f : ℕ → ℕ) (then : ℕ → Sat → Type 0) → c < chunks key

@@ -7,7 +7,7 @@ use Rattle.bump_rules.specs.Labels.{label_of_life, label_word}
 use Rattle.bump_rules.specs.Lives.{is_same}
 use Rattle.bump_steps.specs.declared.views.WordStep.{WordStep}
 use Rattle.bump_steps.specs.declared.views.WordStep.TheVariants.{Put, Begun}
-use Rattle.bump_steps.specs.Views.{of_word, labels_of, read_of, reads_of}
+use Rattle.bump_steps.specs.Views.{of_word, labels_of}
 
 -- a label that is stored is its chunk's label
 pub word_stored : (c x : ℕ) (ls : List LabelStep) (d y : ℕ) → label_word c x (ls ++ Stored d y ∷ [])
@@ -115,39 +115,3 @@ pub labels_put_same : (j : ℕ) (ls : List LabelStep) (ws : List WordStep) (c y 
     → labels_of (suc j) ls (ws ++ Put c j y ∷ []) ≡ labels_of (suc j) ls ws ++ Stored c y ∷ []
 labels_put_same j ls ws c y = of_word_put j ws c j y
     ∙ ap (λ (o : Bool). if o then of_word j ws ++ Stored c y ∷ [] else of_word j ws) (eq-eqb j j refl)
-
--- what a hold reads of one word it reads of no other
-pub read_of_push : (j : ℕ) (rs : List (ℕ × ℕ)) (i y : ℕ) → read_of j (rs ++ (i, y) ∷ [])
-    ≡ (if eqb i j then read_of j rs ++ y ∷ [] else read_of j rs)
-read_of_push j [] i y = refl
-read_of_push j (r ∷ rs) i y = by (eqb r.0 j) (eqb i j) (read_of_push j rs i y)
-  where
-    by : (b o : Bool) → read_of j (rs ++ (i, y) ∷ []) ≡ (if o then read_of j rs ++ y ∷ [] else read_of j rs)
-        → (if b then r.1 ∷ read_of j (rs ++ (i, y) ∷ []) else read_of j (rs ++ (i, y) ∷ []))
-        ≡ (if o then (if b then r.1 ∷ read_of j rs else read_of j rs) ++ y ∷ []
-        else (if b then r.1 ∷ read_of j rs else read_of j rs))
-    by true true e = ap (λ (l : List ℕ). r.1 ∷ l) e
-    by true false e = ap (λ (l : List ℕ). r.1 ∷ l) e
-    by false true e = e
-    by false false e = e
-
--- of no word anything was read
-pub none_read : (i : ℕ) → reads_of i [] [] ≡ []
-none_read zero = refl
-none_read (suc j) = refl
-
-pub reads_push_label : (i : ℕ) (ls : List ℕ) (rs : List (ℕ × ℕ)) (y : ℕ) → i ≢ 0 → reads_of i (ls ++ y ∷ []) rs
-    ≡ reads_of i ls rs
-reads_push_label zero ls rs y ne = absurd (ne refl)
-reads_push_label (suc j) ls rs y ne = refl
-
-pub reads_push_word : (i j : ℕ) (ls : List ℕ) (rs : List (ℕ × ℕ)) (y : ℕ) → i ≢ suc j
-    → reads_of i ls (rs ++ (j, y) ∷ []) ≡ reads_of i ls rs
-reads_push_word zero j ls rs y ne = refl
-reads_push_word (suc k) j ls rs y ne = read_of_push k rs j y
-    ∙ ap (λ (o : Bool). if o then read_of k rs ++ y ∷ [] else read_of k rs) (ne_eqb j k (λ e. ne (ap suc (sym e))))
-
-pub reads_push_same : (j : ℕ) (ls : List ℕ) (rs : List (ℕ × ℕ)) (y : ℕ) → reads_of (suc j) ls (rs ++ (j, y) ∷ [])
-    ≡ reads_of (suc j) ls rs ++ y ∷ []
-reads_push_same j ls rs y = read_of_push j rs j y
-    ∙ ap (λ (o : Bool). if o then read_of j rs ++ y ∷ [] else read_of j rs) (eq-eqb j j refl)

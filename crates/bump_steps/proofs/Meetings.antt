@@ -1,8 +1,7 @@
--- A hold meets its class: each label that it read is the one that the class has for the chunk. And a lane meets a class:
+-- A hold meets its class: each word of its row is the one that the class has for the chunk. And a lane meets a class:
 -- what both have of moves for bumps agrees.
-use Rattle.std.proofs.Common.{◌≡◌, ℕ, suc, ◌+◌, ◌*◌, ◌<◌, ◌&&◌, eqb, not, Bool, true, false, refl, sym, ap, ◌∙◌, subst, arith, eqb-true}
+use Rattle.std.proofs.Common.{◌≡◌, ℕ, ◌+◌, ◌<◌, ◌&&◌, eqb, not, Bool, true, false, List, ◌∷◌, refl, sym, ap, ◌∙◌, subst, arith, eqb-true}
 use mathlib.Core.Option.{none}
-use native.Mathlib.Nat.{one-mul}
 use Rattle.atomic_table.specs.Table.{Allows, step}
 use Rattle.bump_rules.specs.declared.configs.Config.{Config}
 use Rattle.bump_rules.specs.Lawful.{bit, IsUsed}
@@ -11,10 +10,11 @@ use Rattle.bump_steps.specs.declared.views.HoldPart.{HoldPart}
 use Rattle.bump_steps.specs.declared.views.ClassPart.{ClassPart}
 use Rattle.bump_steps.specs.declared.views.View.{View}
 use Rattle.bump_rules.specs.Lives.{life, one_if}
-use Rattle.bump_steps.specs.Views.{Measure, held, mislabels, misreads, misread, differs, owns, standing, last_word, reads_of, weight}
+use Rattle.bump_steps.specs.Views.{Measure, held, mislabels, owns, standing, last_word, weight}
 use Rattle.bump_steps.specs.Rule.{Sound, chunks, Kept}
 use Rattle.bump_steps.specs.Places.{head_place}
-use Rattle.bump_steps.specs.Plays.{Sat, on_label, Told, Stands}
+use Rattle.bump_steps.specs.Plays.{Sat, behind, on_label, Told, Stands}
+use Rattle.bump_steps.proofs.Referring.{first_life, first_row}
 use Rattle.bump_steps.proofs.Told.{tells, stands_alone}
 use Rattle.bump_steps.specs.Meetings.{load_to_meet_tells, load_to_meet_lane_tells, Meets}
 use Rattle.bump_steps.proofs.Frame.{Amid, on_words_load, on_spare, same_sound}
@@ -30,10 +30,10 @@ pub met_labels : (c limit n : ℕ) (x : ℕ → ℕ) (v : View) (t : Measure →
     → Meets c v (x 0)
 met_labels c limit n x v t o a k h ks hs mine of = record {
   label = last 0;
-  read = read 0;
-  words = λ j. ap (λ (y : ℕ). total (differs y) (reads_of (suc j) h.labels h.words)) (last (suc j)) ∙ read (suc j);
+  row = λ i. last i ∙ first_row c limit n x v t o a h first of i;
   used = subst (λ (d : ℕ). IsUsed (standing k d).0) (sym of) (told.in_use g held_here (standing k c) st);
-  generation = ap (λ (d : ℕ). (standing k d).1) of ∙ sym (told.stood (standing k c) st).1 ∙ sym gen;
+  generation = ap (λ (d : ℕ). (standing k d).1) of ∙ sym (told.stood (standing k c) st).1
+      ∙ sym (first_life c limit n x v t o a h first of);
 }
   where
     told : Told c v o.head
@@ -63,23 +63,8 @@ met_labels c limit n x v t o a k h ks hs mine of = record {
     held_here : 0 < weight c (held h.life.generation) v
     held_here = omega (arith, ap (total (λ (p : HoldPart). one_if (life c h.life.generation) p.life)) hs, one)
 
-    gen : h.life.generation ≡ o.head.generation
-    gen = (o.lawful.used h.life.generation (omega (arith, a.mine (held h.life.generation), held_here))).0
-
-    wrong : ℕ → ℕ
-    wrong i = total (differs (x i)) (reads_of i h.labels h.words)
-
-    unread : (i : ℕ) → one_if (life c h.life.generation) h.life * wrong i ≡ 0
-    unread i = subst (λ (j : ℕ). one_if (life c j) h.life * wrong i ≡ 0) (sym gen)
-        (omega (
-          arith,
-          a.mine (misreads i o.head.generation (x i)),
-          o.read i,
-          ap (total (misread i c o.head.generation (x i))) hs,
-        ))
-
-    read : (i : ℕ) → wrong i ≡ 0
-    read i = sym (one-mul (wrong i)) ∙ ap (λ (j : ℕ). j * wrong i) (sym one) ∙ unread i
+    first : v.holds ≡ h ∷ behind v.holds
+    first = hs ∙ ap (λ (l : List HoldPart). h ∷ behind l) (sym hs)
 
 pub may_load_to_meet : (key : Config) (slots id : ℕ) (m : Sat) (c : ℕ) → c < chunks key → Allows (Kept key) slots id m
     (head_place slots c + (2 + 0)) (λ x. x)

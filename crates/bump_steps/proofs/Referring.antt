@@ -1,11 +1,11 @@
--- A reader's steps on references and labels: whatever the other seats have, its seat can go on.
+-- A reader's steps on references and words: whatever the other seats have, its seat can go on.
 use Rattle.std.proofs.Common.{◌≡◌, ◌≢◌, ℕ, suc, get_or, ◌+◌, ◌-◌, ◌*◌, ◌/◌, ◌%◌, ◌^◌, ◌<◌, ◌≤◌, ◌&&◌, ◌==◌, eqb, cond, not, nat_lt, Bool, true, false, List, [], ◌∷◌, ◌++◌, None, refl, sym, ap, ◌∙◌, subst, arith, mul-zero, eq-eqb, eqb-true}
 use Rattle.std.specs.Prelude.{if◌then◌else◌}
 use Rattle.std.proofs.lemmas.Bool.{and_parts, ltb-true}
 use mathlib.Core.Option.{none}
 use mathlib.Core.Logic.{dite}
 use native.Mathlib.Decide.{ℕ_discrete}
-use native.Mathlib.Nat.{zero-mul, one-mul}
+use native.Mathlib.Nat.{zero-mul}
 use prog.Atomic.{either}
 use Rattle.atomic_table.specs.Table.{step, Allows, Enters}
 use Rattle.atomic_table.proofs.Lists.{exchanged}
@@ -33,19 +33,18 @@ use Rattle.bump_steps.specs.declared.views.Kind.TheVariants as kind
 use Rattle.bump_steps.specs.declared.views.View.{View}
 use Rattle.bump_steps.specs.declared.views.WorkerPart.{WorkerPart}
 use Rattle.bump_steps.specs.Places.{head_place}
-use Rattle.bump_steps.specs.Plays.{Sat, Found, on_chunk, on_label, on_word, behind, on_first, step_of}
+use Rattle.bump_steps.specs.Plays.{Sat, Found, on_chunk, on_row, on_label, on_word, behind, on_first, step_of}
 use Rattle.bump_steps.specs.Marks.{noted, on_worker}
-use Rattle.bump_steps.specs.References.{load_to_take_tells, new_hold, view_after_take, take_tells, HasHold, view_after_release, release_of_hold_tells, hold_after_look, view_after_look_of_hold, look_of_hold_tells, label_load_tells, word_load_tells, IsAnyHead, load_without_seat_tells}
+use Rattle.bump_steps.specs.References.{load_to_take_tells, new_hold, view_after_take, take_tells, HasHold, view_after_release, release_of_hold_tells, hold_after_look, view_after_look_of_hold, look_of_hold_tells, IsRow, IsOfRow, label_load_tells, word_load_tells, IsAnyHead, load_without_seat_tells}
 use Rattle.bump_steps.specs.Rule.{Sound, chunks, Kept, blank, HasFittingLimit}
-use Rattle.bump_steps.specs.Views.{Measure, held, named, saw, owners, strays, mislabels, misreads, is_fetch, is_fetch_of, in_hand, misread, reads_of, differs, weight, tally, claims, evidence, shown_by, moves, settled, in_progress, underway, foreign, workers_of, lanes_of, untidy, IsBacked}
+use Rattle.bump_steps.specs.Views.{Measure, held, named, saw, owners, strays, mislabels, misreads, is_fetch, is_fetch_of, in_hand, misread, weight, tally, claims, evidence, shown_by, moves, settled, in_progress, underway, foreign, workers_of, lanes_of, untidy, IsBacked}
 use Rattle.bump_steps.proofs.LifeLabels.{labelled_push}
-use Rattle.bump_steps.proofs.LabelLists.{none_read, reads_push_label, reads_push_word, reads_push_same}
 use Rattle.bump_steps.proofs.Frame.{Same, Amid, Reaches, on_words_load, same_sound}
-use Rattle.bump_steps.proofs.StepLemmas.{at_chunk, at_label, at_word, on_first_total, same_counts, one_life, other_life, other_chunk}
+use Rattle.bump_steps.proofs.StepLemmas.{at_chunk, at_row, at_label, at_word, on_first_total, same_counts, level, one_life, other_life, other_chunk}
 use Rattle.bump_steps.proofs.Told.{tells}
 
--- Two views count the same for the chunk but for references, and the second one no more labels other than x that holds
--- read.
+-- Two views count the same for the chunk but for references, and the second one no more holds in whose row there is
+-- another word than x.
 record Beside (c : ℕ) (x : ℕ → ℕ) (v w : View) : Type 0 where
   first_hits : (g : ℕ) → weight c (named g) w ≡ weight c (named g) v
   fetches : (g : ℕ) → weight c (saw g) w ≡ weight c (saw g) v
@@ -164,10 +163,44 @@ held_is limit g h is = by (is_of g h) refl (nat_lt h.refs limit) refl is
     by true of false few is = absurd (cc is)
     by false of few less is = absurd (cc is)
 
--- a new hold read nothing
-unread_new : (i b j y : ℕ) (l : ItemId) → misread i b j y (new_hold l) ≡ 0
-unread_new i b j y l = ap (λ (z : List ℕ). one_if (life b j) l * total (differs y) z) (none_read i)
+-- a new hold with the chunk's row has no other word
+same_row : (i b j : ℕ) (l : ItemId) (row : List ℕ) → misread i b j (get_or row i 0) (new_hold l row) ≡ 0
+same_row i b j l row = ap (λ (z : Bool). one_if (life b j) l * cond z 0 1) (eq-eqb (get_or row i 0) (get_or row i 0) refl)
     ∙ mul-zero (one_if (life b j) l)
+
+-- of the first hold, of this chunk, it is known that
+module _ (c limit n : ℕ) (x : ℕ → ℕ) (v : View) (t : Measure → ℕ) (o : Sound limit n x t) (a : Amid c v t) (h : HoldPart)
+    (is : v.holds ≡ h ∷ behind v.holds) (of : h.life.chunk ≡ c) where
+  one_first : one_if (life c h.life.generation) h.life ≡ 1
+  one_first = ap (λ (d : ℕ). one_if (life d h.life.generation) h.life) (sym of) ∙ one_life h.life
+
+  -- its life is the chunk's
+  pub first_life : h.life.generation ≡ o.head.generation
+  first_life = (o.lawful.used h.life.generation
+      (omega (
+        arith,
+        a.mine (held h.life.generation),
+        ap (total (λ (p : HoldPart). one_if (life c h.life.generation) p.life)) is,
+        one_first,
+      ))).0
+
+  -- and its row the chunk's
+  pub first_row : (i : ℕ) → x i ≡ get_or h.row i 0
+  first_row i = sym (eqb-true (get_or h.row i 0) (x i) (no_other (eqb (get_or h.row i 0) (x i)) none))
+    where
+      no_other : (b : Bool) → 1 * cond b 0 1 ≡ 0 → b ≡ true
+      no_other true e = refl
+      no_other false e = absurd (omega (arith, e))
+
+      none : 1 * cond (eqb (get_or h.row i 0) (x i)) 0 1 ≡ 0
+      none = subst (λ (k : ℕ). k * cond (eqb (get_or h.row i 0) (x i)) 0 1 ≡ 0) one_first
+          (subst (λ (j : ℕ). misread i c j (x i) h ≡ 0) (sym first_life)
+          (omega (
+            arith,
+            a.mine (misreads i o.head.generation (x i)),
+            o.read i,
+            ap (total (misread i c o.head.generation (x i))) is,
+          )))
 
 module _ (key : Config) (slots id : ℕ) (m : Sat) (c : ℕ) (near : c < chunks key) where
   -- a load by a worker, or its exchange that failed, changes no word, and nothing that counts
@@ -203,10 +236,12 @@ module _ (key : Config) (slots id : ℕ) (m : Sat) (c : ℕ) (near : c < chunks 
   ))
 
   -- a reference is taken where the word is the one that the exchange expects
-  won : (g old : ℕ) (h : Head) → Spells old h → get_of key.refs_limit g h ≡ IsHeld → (n : ℕ) (x : ℕ → ℕ) (t : Measure → ℕ)
-      → HasFittingLimit key → Sound key.refs_limit n x t → Amid c m.0 t → n ≡ old
-      → Reaches key c m (take_tells c old m n) (old + 1) x t
-  won g old h is may n x t limits o a hit =
+  won : (g old : ℕ) (h : Head) → Spells old h → get_of key.refs_limit g h ≡ IsHeld → (row : List ℕ) → IsRow slots row
+      → (n : ℕ) (t : Measure → ℕ)
+      → HasFittingLimit key → Sound key.refs_limit n (λ i. get_or row i 0) t → Amid c m.0 t → n ≡ old
+      → Reaches key c m (take_tells slots c old m n) (old + 1) (λ i. get_or row i 0) t
+  won g old h is may row long n t limits o a hit =
+      let x : ℕ → ℕ = λ i. get_or row i 0 in
       let now : o.head ≡ h = one_head n o.head h o.spells (hit ∙ is.0, is.1) in
       let can = held_is key.refs_limit g h may in
       let k : ℕ = n / 2 ^ generation_first in
@@ -215,11 +250,11 @@ module _ (key : Config) (slots id : ℕ) (m : Sat) (c : ℕ) (near : c < chunks 
       let less : o.head.refs < key.refs_limit = omega (arith, ap (λ (z : Head). z.refs) now, can.2) in
       let here : one_if (life c o.head.generation) (life c k) ≡ 1 = ap (λ (j : ℕ). one_if (life c j) (life c k))
       (sym gen) ∙ one_life (life c k) in
-      let hs : List HoldPart = new_hold (life c k) ∷ m.0.holds in
-      let same : (b : ℕ) (y : Measure) → weight b y (view_after_take c n m.0) ≡ weight b y
+      let hs : List HoldPart = new_hold (life c k) row ∷ m.0.holds in
+      let same : (b : ℕ) (y : Measure) → weight b y (view_after_take c n row m.0) ≡ weight b y
       (record m.0 { holds = hs }) = noted_same kind.Take refl c n m.0 hs in (
-        view_after_take c n m.0,
-        (λ u moved. refs_sound key.refs_limit n (old + 1) x c (o.head.refs + 1) m.0 (view_after_take c n m.0) t u
+        view_after_take c n row m.0,
+        (λ u moved. refs_sound key.refs_limit n (old + 1) x c (o.head.refs + 1) m.0 (view_after_take c n row m.0) t u
             moved o
             (subst (λ (j : ℕ). Spells (j + 1) (record o.head { refs = o.head.refs + 1 })) hit
             (one_more_next n o.head o.spells (omega (arith, less, limits.1))))
@@ -234,34 +269,44 @@ module _ (key : Config) (slots id : ℕ) (m : Sat) (c : ℕ) (near : c < chunks 
               straying = λ s. same c (strays s);
               labels = λ i y. same c (mislabels i y);
               reads =
-                  λ i j. omega (arith, same c (misreads i j (x i)), unread_new i c j (x i) (life c k));
+                  λ i j. omega (arith, same c (misreads i j (x i)), same_row i c j (life c k) row);
             })),
-        apart (view_after_take c n m.0) k hs same,
+        apart (view_after_take c n row m.0) k hs same,
         quiet m.0 (on_first (noted kind.Take c n) m.0.workers) hs m.0.returned (same_workers kind.Take c n m.0),
-        ((λ _. refl), (λ miss. absurd (miss hit)), (o.head, o.spells, tells c key.refs_limit n x m.0 t o a)),
+        (
+          (λ _. (row, long, refl)),
+          (λ miss. absurd (miss hit)),
+          (o.head, o.spells, tells c key.refs_limit n x m.0 t o a),
+        ),
       )
     where
       -- a new hold counts for its own chunk alone
       apart : (w : View) (k : ℕ) (hs : List HoldPart)
           → ((b : ℕ) (y : Measure) → weight b y w ≡ weight b y
-          (record m.0 { holds = new_hold (life c k) ∷ m.0.holds })) → (b : ℕ) → b ≢ c → Same b m.0 w
+          (record m.0 { holds = new_hold (life c k) row ∷ m.0.holds })) → (b : ℕ) → b ≢ c → Same b m.0 w
       apart w k hs same b ne (held j) = omega (arith, same b (held j), other_chunk b j (life c k) ne)
       apart w k hs same b ne (named j) = same b (named j)
       apart w k hs same b ne (saw j) = same b (saw j)
       apart w k hs same b ne owners = same b owners
       apart w k hs same b ne (strays s) = same b (strays s)
       apart w k hs same b ne (mislabels i y) = same b (mislabels i y)
-      apart w k hs same b ne (misreads i j y) = omega (arith, same b (misreads i j y), unread_new i b j y (life c k))
+      apart w k hs same b ne (misreads i j y) = omega (
+        arith,
+        same b (misreads i j y),
+        ap (λ (z : ℕ). z * cond (eqb (get_or row i 0) y) 0 1) (other_chunk b j (life c k) ne),
+        zero-mul (cond (eqb (get_or row i 0) y) 0 1),
+      )
 
   -- the exchange that takes a hold
   pub may_take : (g old : ℕ) (h : Head) → Spells old h → get_of key.refs_limit g h ≡ IsHeld
       → Allows (Kept key) slots id m (head_place slots c) (λ n. either (eqb n old) (old + 1) n)
-      (on_chunk take_tells (step slots (head_place slots c) old (old + 1) none) m)
-  may_take g old h is may = at_chunk take_tells key slots id m c old (λ n. either (eqb n old) (old + 1) n) near
-      (λ n x t limits o a.
-      exchanged n old (old + 1) (λ p. Reaches key c m (take_tells c old m n) p x t)
-      (λ hit. won g old h is may n x t limits o a hit)
-      (λ miss. reaches_by_look kind.Failed refl n x t (take_tells c old m n) o (
+      (on_row take_tells (step slots (head_place slots c) old (old + 1) none) m)
+  may_take g old h is may = at_row take_tells key slots id m c old (λ n. either (eqb n old) (old + 1) n) near
+      (λ row long n t limits o a.
+      let x : ℕ → ℕ = λ i. get_or row i 0 in
+      exchanged n old (old + 1) (λ p. Reaches key c m (take_tells slots c old m n) p x t)
+      (λ hit. won g old h is may row long n t limits o a hit)
+      (λ miss. reaches_by_look kind.Failed refl n x t (take_tells slots c old m n) o (
         (λ hit. absurd (miss hit)),
         (λ _. refl),
         (o.head, o.spells, tells c key.refs_limit n x m.0 t o a),
@@ -281,7 +326,7 @@ module _ (key : Config) (slots id : ℕ) (m : Sat) (c : ℕ) (near : c < chunks 
     none_there : (b j : ℕ) → b ≢ c → one_if (life b j) h.life ≡ 0
     none_there b j ne = other_chunk b j h.life (λ e. ne (e ∙ of))
 
-    -- labels that the hold read count for its own chunk alone
+    -- its row counts for its own chunk alone
     unread_there : (b j : ℕ) (more : ℕ) → b ≢ c → one_if (life b j) h.life * more ≡ 0
     unread_there b j more ne = ap (λ (k : ℕ). k * more) (none_there b j ne) ∙ zero-mul more
 
@@ -296,19 +341,8 @@ module _ (key : Config) (slots id : ℕ) (m : Sat) (c : ℕ) (near : c < chunks 
         omega (
           arith,
           first_term (misread i b j y),
-          unread_there b j (total (differs y) (reads_of i h.labels h.words)) ne,
+          unread_there b j (cond (eqb (get_or h.row i 0) y) 0 1) ne,
         )
-
-    -- the hold's life is the chunk's
-    is_life : (n : ℕ) (x : ℕ → ℕ) (t : Measure → ℕ) (o : Sound key.refs_limit n x t) → Amid c m.0 t
-        → h.life.generation ≡ o.head.generation
-    is_life n x t o a = (o.lawful.used h.life.generation
-        (omega (
-          arith,
-          a.mine (held h.life.generation),
-          first_term (λ p. one_if (life c h.life.generation) p.life),
-          one_here,
-        ))).0
 
     -- a hold gives its reference back
     releases : Allows (Kept key) slots id m (head_place slots c) (λ n. (n + (2 ^ 64 - 1)) % 2 ^ 64)
@@ -316,7 +350,7 @@ module _ (key : Config) (slots id : ℕ) (m : Sat) (c : ℕ) (near : c < chunks 
     releases = at_chunk release_of_hold_tells key slots id m c 1 (λ n. (n + (2 ^ 64 - 1)) % 2 ^ 64) near
         (λ n x t limits o a.
         let g : ℕ = h.life.generation in
-        let gen : g ≡ o.head.generation = is_life n x t o a in
+        let gen : g ≡ o.head.generation = first_life c key.refs_limit n x m.0 t o a h is of in
         let mine : weight c (held g) m.0 ≡ 1 + weight c (held g) (view_after_release n m.0) =
         omega (arith, first_term (λ p. one_if (life c g) p.life), one_here) in
         let many : 0 < o.head.refs =
@@ -351,121 +385,28 @@ module _ (key : Config) (slots id : ℕ) (m : Sat) (c : ℕ) (near : c < chunks 
       (on_chunk release_of_hold_tells (step slots (head_place slots c) 1 0 none) m)
   may_release has = releases has.0 has.1 has.2
 
-  -- a word is what the first hold of the chunk read
-  is_word : (i n : ℕ) (x : ℕ → ℕ) (t : Measure → ℕ) → Sound key.refs_limit n x t → Amid c m.0 t → (h : HoldPart)
-      → m.0.holds ≡ h ∷ behind m.0.holds → h.life.chunk ≡ c
-      → total (differs (x i)) (reads_of i h.labels h.words) ≡ 0
-  is_word i n x t o a h is of =
-      let g : ℕ = h.life.generation in
-      let gen : g ≡ o.head.generation = is_life h is of n x t o a in
-      let wrong : ℕ = total (differs (x i)) (reads_of i h.labels h.words) in
-      let read : one_if (life c g) h.life * wrong ≡ 0 =
-      subst (λ (j : ℕ). one_if (life c j) h.life * wrong ≡ 0) (sym gen)
-      (omega (
-        arith,
-        a.mine (misreads i o.head.generation (x i)),
-        o.read i,
-        first_term h is of (misread i c o.head.generation (x i)),
-      )) in
-      sym (one-mul wrong) ∙ ap (λ (j : ℕ). j * wrong) (sym (one_here h is of)) ∙ read
-
-  -- A load of word i by a hold, which notes what it found: of its label, or of a further word.
-  module _ (i : ℕ) (ls : ℕ → HoldPart → List ℕ) (ws : ℕ → HoldPart → List (ℕ × ℕ))
-      (here : (y : ℕ) (p : HoldPart) → reads_of i (ls y p) (ws y p) ≡ reads_of i p.labels p.words ++ y ∷ [])
-      (there : (j y : ℕ) (p : HoldPart) → j ≢ i → reads_of j (ls y p) (ws y p) ≡ reads_of j p.labels p.words) where
-    abbrev pub read_by : ℕ → HoldPart → HoldPart
-    read_by y p = record p { labels = ls y p; words = ws y p }
-
-    abbrev pub after_read : ℕ → View
-    after_read y = record m.0 { holds = on_first (read_by y) m.0.holds }
-
-    -- no word differs from itself
-    no_difference : (x : ℕ → ℕ) (j : ℕ) (p : HoldPart) → total (differs (x j)) (reads_of j (ls (x i) p) (ws (x i) p))
-        ≡ total (differs (x j)) (reads_of j p.labels p.words)
-    no_difference x j p = dite (ℕ_discrete j i)
-        (λ is. subst (λ (k : ℕ). total (differs (x k)) (reads_of k (ls (x i) p) (ws (x i) p))
-        ≡ total (differs (x k)) (reads_of k p.labels p.words)) (sym is)
-        (ap (total (differs (x i))) (here (x i) p)
-        ∙ omega (
-          arith,
-          total_push (differs (x i)) (reads_of i p.labels p.words) (x i),
-          ap {B = ℕ} (λ (b : Bool). cond b 0 1)
-              (eq-eqb (x i) (x i) refl),
-        )))
-        (λ ne. ap (total (differs (x j))) (there j (x i) p ne))
-
-    module _ (h : HoldPart) (is : m.0.holds ≡ h ∷ behind m.0.holds) (of : h.life.chunk ≡ c) where
-      -- the first hold with what it read
-      first_read : (y : ℕ) (f : HoldPart → ℕ) → total f (on_first (read_by y) m.0.holds) ≡ f (read_by y h) + total f
-          (behind m.0.holds)
-      first_read y f = ap (λ (l : List HoldPart). total f (on_first (read_by y) l)) is
-
-      read_apart : (y b : ℕ) → b ≢ c → Same b m.0 (after_read y)
-      read_apart y b ne (held j) =
-          omega (arith, on_first_total (λ p. one_if (life b j) p.life) (read_by y) (λ p. refl) m.0.holds)
-      read_apart y b ne (named j) = refl
-      read_apart y b ne (saw j) = refl
-      read_apart y b ne owners = refl
-      read_apart y b ne (strays s) = refl
-      read_apart y b ne (mislabels k z) = refl
-      read_apart y b ne (misreads k j z) = omega (
-        arith,
-        first_read y (misread k b j z),
-        first_term h is of (misread k b j z),
-        unread_there h is of b j (total (differs z) (reads_of k (ls y h) (ws y h))) ne,
-        unread_there h is of b j (total (differs z) (reads_of k h.labels h.words)) ne,
-      )
-
-    may_read : HasHold c m.0 → i ≤ slots → Allows (Kept key) slots id m (head_place slots c + (2 + i)) (λ x. x)
-        (λ y w. (w ≡ (after_read y, m.1)) × ((h : HoldPart) → m.0.holds ≡ h ∷ behind m.0.holds → h.life.chunk ≡ c
-        → total (differs y) (reads_of i h.labels h.words) ≡ 0))
-    may_read has low = on_words_load key slots id m c i
-        (λ y w. (w ≡ (after_read y, m.1)) × ((h : HoldPart) → m.0.holds ≡ h ∷ behind m.0.holds → h.life.chunk ≡ c
-        → total (differs y) (reads_of i h.labels h.words) ≡ 0)) low near (λ n x t limits o a.
-        let same : (f : HoldPart → ℕ) → ((p : HoldPart) → f (read_by (x i) p) ≡ f p)
-        → total f (on_first (read_by (x i)) m.0.holds) ≡ total f m.0.holds =
-        λ f e. on_first_total f (read_by (x i)) e m.0.holds in
-        let held_same : (j : ℕ) → weight c (held j) (after_read (x i)) ≡ weight c (held j) m.0 =
-        λ j. omega (arith, same (λ p. one_if (life c j) p.life) (λ p. refl)) in (
-          after_read (x i),
-          (λ u moved. refs_sound key.refs_limit n n x c o.head.refs m.0 (after_read (x i)) t u moved o
-              o.spells
-              (subst (λ (y : ℕ → ℕ). Lawful key.refs_limit o.head o.at y (λ j. t (named j)))
-              (λ k j. same_where (t (held j)) (u (held j)) (weight c (held j) m.0)
-              (weight c (held j) (after_read (x i))) (moved (held j)) (held_same j) k) o.lawful)
-              (record {
-                first_hits = λ j. refl;
-                fetches = λ j. refl;
-                owning = refl;
-                straying = λ s. refl;
-                labels =
-                    λ k y. refl;
-                reads = λ k j. omega (
-                  arith,
-                  same (misread k c j (x k))
-                      (λ p. ap (λ (d : ℕ). one_if (life c j) p.life * d) (no_difference x k p)),
-                );
-              })),
-          read_apart has.0 has.1 has.2 (x i),
-          quiet m.0 m.0.workers (on_first (read_by (x i)) m.0.holds) m.0.returned (λ w. refl),
-          (refl, is_word i n x t o a),
-        ))
+  -- A load of word i by a hold changes nothing: it finds the word of the hold's row.
+  may_read : (i : ℕ) → i ≤ slots → Allows (Kept key) slots id m (head_place slots c + (2 + i)) (λ x. x)
+      (λ y w. (w ≡ m) × IsOfRow i c m.0 y)
+  may_read i low = on_words_load key slots id m c i (λ y w. (w ≡ m) × IsOfRow i c m.0 y) low near
+      (λ n x t limits o a. (
+        m.0,
+        (λ u moved. same_sound key.refs_limit n x t u (λ y. sym (level (t y) (u y) (weight c y m.0) (moved y))) o),
+        (λ b ne y. refl),
+        quiet m.0 m.0.workers m.0.holds m.0.returned (λ w. refl),
+        (refl, λ h is of. first_row c key.refs_limit n x m.0 t o a h is of i),
+      ))
 
   -- a load of a label word, by a hold
-  pub may_load_label : HasHold c m.0 → Allows (Kept key) slots id m (head_place slots c + (2 + 0)) (λ x. x)
+  pub may_load_label : Allows (Kept key) slots id m (head_place slots c + (2 + 0)) (λ x. x)
       (on_label label_load_tells (step slots (head_place slots c + (2 + 0)) 0 0 none) m)
-  may_load_label has = at_label label_load_tells key slots id m c 0 (λ x. x) (λ x. x)
-      (may_read 0 (λ y p. p.labels ++ y ∷ []) (λ y p. p.words) (λ y p. refl)
-      (λ j y p ne. reads_push_label j p.labels p.words y ne) has (omega arith))
+  may_load_label = at_label label_load_tells key slots id m c 0 (λ x. x) (λ x. x) (may_read 0 (omega arith))
 
   -- and of a further word
-  pub may_load_word : (j : ℕ) → j < slots → HasHold c m.0
-      → Allows (Kept key) slots id m (head_place slots c + (2 + suc j)) (λ x. x)
+  pub may_load_word : (j : ℕ) → j < slots → Allows (Kept key) slots id m (head_place slots c + (2 + suc j)) (λ x. x)
       (on_word word_load_tells (step slots (head_place slots c + (2 + suc j)) 0 0 none) m)
-  may_load_word j low has = at_word word_load_tells key slots id m c j 0 (λ x. x) (λ x. x) low
-      (may_read (suc j) (λ y p. p.labels) (λ y p. p.words ++ (j, y) ∷ [])
-      (λ y p. reads_push_same j p.labels p.words y) (λ k y p ne. reads_push_word k j p.labels p.words y ne) has
-      (omega (arith, low)))
+  may_load_word j low = at_word word_load_tells key slots id m c j 0 (λ x. x) (λ x. x) low
+      (may_read (suc j) (omega (arith, low)))
 
 -- the view that has nothing counts nothing
 nothing : (c : ℕ) (y : Measure) → weight c y blank ≡ 0

@@ -10,7 +10,7 @@ use Rattle.bump_rules.specs.declared.labels.LabelStep.{LabelStep}
 use Rattle.bump_rules.specs.Labels.{label_of_life, label_word}
 use Rattle.bump_steps.specs.declared.views.Empty.{Empty}
 use Rattle.bump_steps.specs.Places.{head_place, words_at}
-use Rattle.bump_steps.proofs.Places.{place_near, place_apart, words_beside}
+use Rattle.bump_steps.proofs.Places.{place_near, place_apart, words_beside, word_found, word_past}
 use Rattle.bump_rules.specs.declared.places.Place.TheVariants.{Unused}
 use Rattle.bump_rules.specs.Lawful.{bit}
 use Rattle.bump_rules.specs.Heads.{fresh_head}
@@ -291,12 +291,8 @@ all_zero (w ∷ ws) zeros (suc k) = all_zero ws (λ j h. zeros (suc j) (omega (a
 
 -- so each label and word is 0
 pub no_words : (s c : ℕ) (ws : List ℕ) → ((k : ℕ) → get_or ws k 0 ≡ 0) → (i : ℕ) → words_at s ws c i ≡ 0
-no_words s c ws zeros i = by (leb i s) refl
-  where
-    by : (b : Bool) → leb i s ≡ b → words_at s ws c i ≡ 0
-    by true is = ap (λ (b : Bool). if b then get_or ws (head_place s c + (2 + i)) 0 else 0) is
-        ∙ zeros (head_place s c + (2 + i))
-    by false is = ap (λ (b : Bool). if b then get_or ws (head_place s c + (2 + i)) 0 else 0) is
+no_words s c ws zeros i = dite (dec_le i s) (λ le. word_found s ws c i le ∙ zeros (head_place s c + (2 + i)))
+    (λ gt. word_past s ws c i (omega (arith, gt)))
 
 -- how far the loop is that stores the heads
 pub record Heads (s chunks n word : ℕ) (ws : List ℕ) : Type 0 where

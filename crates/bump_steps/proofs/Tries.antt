@@ -1,13 +1,13 @@
 -- How the heads that an attempt found grow, for a hold or for a bump; and what a call of `take` comes to.
-use Rattle.std.proofs.Common.{◌≡◌, ◌≢◌, ℕ, ◌+◌, ◌/◌, ◌^◌, ◌<◌, ◌≤◌, Bool, List, [], ◌∷◌, ◌++◌, length, Option, Some, None, refl, sym, ap, ap₂, ◌∙◌, subst, arith, eq-eqb, ne_eqb, append_assoc, append-nil, length-append}
+use Rattle.std.proofs.Common.{◌≡◌, ◌≢◌, ℕ, zero, suc, ◌+◌, ◌/◌, ◌^◌, ◌<◌, ◌≤◌, Bool, List, [], ◌∷◌, ◌++◌, length, Option, Some, None, refl, sym, ap, ap₂, ◌∙◌, subst, arith, eq-eqb, ne_eqb, append_assoc, append-nil, length-append, option_map}
 use Rattle.std.specs.Prelude.{if◌then◌else◌}
 use Rattle.bump_rules.specs.declared.items.Head.{Head}
-use Rattle.bump_rules.specs.declared.items.ItemId.{ItemId}
 use Rattle.bump_rules.specs.Lives.{life}
 use Rattle.bump_rules.specs.Tables.{Get, IsHeld, IsStale, IsRefsFull, get_of}
 use Rattle.bump_word.specs.Layout.{generation_first}
 use Rattle.bump_word.specs.Words.{Fits, Spells, word_of}
 use Rattle.bump_word.proofs.Words.{fields, one_head}
+use Rattle.bump_steps.specs.declared.refusals.AnyRefusal.{AnyRefusal}
 use Rattle.bump_steps.specs.declared.refusals.TakeRefusal.{TakeRefusal}
 use Rattle.bump_steps.specs.declared.refusals.TakeRefusal.TheVariants.{Busy}
 use Rattle.bump_steps.specs.declared.views.Kind.TheVariants as kind
@@ -16,8 +16,8 @@ use Rattle.bump_steps.specs.declared.views.View.{View}
 use Rattle.bump_steps.specs.declared.views.WorkerPart.{WorkerPart}
 use Rattle.bump_steps.specs.Marks.{on_worker}
 use Rattle.bump_steps.specs.Plays.{Sat, HasWorker, on_first, step_of}
-use Rattle.bump_steps.specs.References.{new_hold, view_after_load, view_after_failed, load_to_take_tells, view_after_take, take_tells}
-use Rattle.bump_steps.specs.Tries.{last_found, AreAll, AreTries, AttemptFound, TakeFound, refused_by, take_refused, refusal_of, failures, looks, takes, with_more, held_by, view_after_attempt}
+use Rattle.bump_steps.specs.References.{new_hold, view_after_load, view_after_failed, load_to_take_tells, view_after_take, IsRow, take_tells}
+use Rattle.bump_steps.specs.Tries.{last_found, AreAll, AreTries, AttemptFound, AskedFound, refused_by, take_refused, asked_refusal, failures, looks, takes, with_more, held_by, asked_life, view_after_attempt, any_refusal}
 use Rattle.bump_steps.proofs.Referring.{held_is}
 
 -- ---- lists of heads and of steps
@@ -152,7 +152,7 @@ module _ {Refusal : Type 0} (Is IsOpen : Head → Type 0) (refused : ℕ → Hea
 -- ---- for a hold
 
 -- where the get table doesn't refuse, a get is a hold
-unrefused : (get : Get) → refused_by get ≡ None → get ≡ IsHeld
+pub unrefused : (get : Get) → refused_by get ≡ None → get ≡ IsHeld
 unrefused IsStale is = absurd (cc is)
 unrefused IsRefsFull is = absurd (cc is)
 unrefused IsHeld is = refl
@@ -161,81 +161,99 @@ unrefused IsHeld is = refl
 abbrev pub seen_to_take : Option TakeRefusal → List OwnStep → View → View
 seen_to_take o steps v = on_worker (with_more steps) v
 
--- So many exchanges of a call of `take` failed, and the last step found the word.
-abbrev pub TryingToTake : ℕ → ItemId → Sat → Sat → ℕ → ℕ → Head → List Head → Type 0
-TryingToTake limit l before now word failed first more =
-    Trying Fits (λ h. get_of limit l.generation h ≡ IsHeld) (take_refused limit l) seen_to_take l.chunk before now
+-- So many exchanges of a call that asks for a hold failed, and the last step found the word.
+abbrev pub TryingToTake : ℕ → (Head → ℕ) → ℕ → Sat → Sat → ℕ → ℕ → Head → List Head → Type 0
+TryingToTake limit asked c before now word failed first more =
+    Trying Fits (λ h. get_of limit (asked h) h ≡ IsHeld) (take_refused limit asked) seen_to_take c before now
     word failed first more
 
 -- what the call comes to
-pub record TakesSo (limit : ℕ) (l : ItemId) (before after : Sat) (answered : Option TakeRefusal) (first : Head)
-    (more : List Head)
+pub record TakesSo (limit slots : ℕ) (asked : Head → ℕ) (c : ℕ) (before after : Sat) (answered : Option TakeRefusal)
+    (first : Head) (more : List Head)
     : Type 0 where
-  pub found : TakeFound limit l first more
-  pub view : after ≡ (view_after_attempt limit l first more before.0, before.1)
-  pub answer : answered ≡ refusal_of limit l first more
+  pub row : List ℕ
+  pub long : IsRow slots row
+  pub found : AskedFound limit asked first more
+  pub view : after ≡ (view_after_attempt limit asked c first more row before.0, before.1)
+  pub answer : answered ≡ asked_refusal limit asked first more
 
-module _ (limit : ℕ) (l : ItemId) (before : Sat) where
+-- some row
+abbrev row_of_zeros : ℕ → List ℕ
+row_of_zeros zero = []
+row_of_zeros (suc n) = 0 ∷ row_of_zeros n
+
+zeros_long : (n : ℕ) → length (row_of_zeros n) ≡ n
+zeros_long zero = refl
+zeros_long (suc n) = ap suc (zeros_long n)
+
+module _ (limit slots : ℕ) (asked : Head → ℕ) (c : ℕ) (before : Sat) where
   abbrev open_to_take : Head → Type 0
-  open_to_take h = get_of limit l.generation h ≡ IsHeld
+  open_to_take h = get_of limit (asked h) h ≡ IsHeld
 
   -- after the load
-  pub take_starts : (now : Sat) (word x : ℕ) → load_to_take_tells l.chunk x before word now
-      → (first : Head) × (more : List Head) × TryingToTake limit l before now word 0 first more
-  take_starts now word x t = tries_start Fits open_to_take (take_refused limit l) seen_to_take l.chunk
+  pub take_starts : (now : Sat) (word x : ℕ) → load_to_take_tells c x before word now
+      → (first : Head) × (more : List Head) × TryingToTake limit asked c before now word 0 first more
+  take_starts now word x t = tries_start Fits open_to_take (take_refused limit asked) seen_to_take c
       (λ h fits. fits) before now word
-      t.1.0 t.1.1 t.1.1.1 (t.0 ∙ ap (λ (n : ℕ). (view_after_load l.chunk n before.0, before.1)) t.1.1.0)
+      t.1.0 t.1.1 t.1.1.1 (t.0 ∙ ap (λ (n : ℕ). (view_after_load c n before.0, before.1)) t.1.1.0)
 
   module _ (now : Sat) (word failed : ℕ) (first : Head) (more : List Head)
-      (y : TryingToTake limit l before now word failed first more)
+      (y : TryingToTake limit asked c before now word failed first more)
     where
       -- the seat still has its worker's part
       pub still_working : HasWorker before.0 → HasWorker now.0
       still_working some = subst (λ (m : Sat). HasWorker m.0) (sym y.view)
-          (some_first (with_more (looks l.chunk first more)) before.0.workers some)
+          (some_first (with_more (looks c first more)) before.0.workers some)
 
       -- the word is that of a head
       pub take_head : (h : Head) × Spells word h
-      take_head = has_head Fits open_to_take (take_refused limit l) seen_to_take l.chunk (λ h fits. fits) before now
+      take_head = has_head Fits open_to_take (take_refused limit asked) seen_to_take c (λ h fits. fits) before now
           word failed first more y
 
       -- by fewer than 8 exchanges that failed, the get table decides
-      decides : failed < 8 → (h : Head) → take_refused limit l failed h ≡ refused_by (get_of limit l.generation h)
-      decides few h = ap (λ (b : Bool). if b then Some Busy else refused_by (get_of limit l.generation h))
+      decides : failed < 8 → (h : Head) → take_refused limit asked failed h ≡ refused_by (get_of limit (asked h) h)
+      decides few h = ap (λ (b : Bool). if b then Some Busy else refused_by (get_of limit (asked h) h))
           (ne_eqb failed 8 (λ e. absurd (omega (arith, e, few))))
 
-      refusal_is : (h : Head) → Spells word h → refusal_of limit l first more ≡ take_refused limit l failed h
-      refusal_is h spelled = refused_is Fits open_to_take (take_refused limit l) seen_to_take l.chunk (λ h fits. fits)
+      refusal_is : (h : Head) → Spells word h → asked_refusal limit asked first more ≡ take_refused limit asked failed h
+      refusal_is h spelled = refused_is Fits open_to_take (take_refused limit asked) seen_to_take c (λ h fits. fits)
           before now word
           failed first more y h spelled
 
+      -- the head is the one that was found last
+      pub last_head : (h : Head) → Spells word h → last_found first more ≡ h
+      last_head h spelled = last_is Fits open_to_take (take_refused limit asked) seen_to_take c (λ h fits. fits)
+          before now word failed first more y h spelled
+
       -- an exchange failed
-      pub take_goes_on : failed < 8 → (h : Head) → Spells word h → refused_by (get_of limit l.generation h) ≡ None
+      pub take_goes_on : failed < 8 → (h : Head) → Spells word h → refused_by (get_of limit (asked h) h) ≡ None
           → (next : Sat) (found : ℕ)
-          → found ≢ word → take_tells l.chunk word now found next
-          → (k : Head) × TryingToTake limit l before next found (failed + 1) first (more ++ k ∷ [])
+          → found ≢ word → take_tells slots c word now found next
+          → (k : Head) × TryingToTake limit asked c before next found (failed + 1) first (more ++ k ∷ [])
       take_goes_on few h spelled can next found miss t = let k : Head = t.2.0 in
-          goes_on Fits open_to_take (take_refused limit l) seen_to_take l.chunk (λ h fits. fits) before now word failed
+          goes_on Fits open_to_take (take_refused limit asked) seen_to_take c (λ h fits. fits) before now word failed
           first more y
-          h spelled (unrefused (get_of limit l.generation h) can) (decides few h ∙ can) next found miss k t.2.1 t.2.1.1
-          (λ s view. t.1 miss ∙ ap₂ (λ (n : ℕ) (m : Sat). (view_after_failed l.chunk n m.0, m.1)) t.2.1.0 view
+          h spelled (unrefused (get_of limit (asked h) h) can) (decides few h ∙ can) next found miss k t.2.1 t.2.1.1
+          (λ s view. t.1 miss ∙ ap₂ (λ (n : ℕ) (m : Sat). (view_after_failed c n m.0, m.1)) t.2.1.0 view
           ∙ ap (λ (v : View). (v, before.1))
-          (more_again s (step_of kind.Failed l.chunk (word_of k) None ∷ []) before.0))
+          (more_again s (step_of kind.Failed c (word_of k) None ∷ []) before.0))
 
       -- a refusal adds no step
-      take_stays : (r : TakeRefusal) → failed ≤ 8 → refusal_of limit l first more ≡ Some r → TakesSo limit l before now
-          (Some r) first more
+      take_stays : (r : TakeRefusal) → failed ≤ 8 → asked_refusal limit asked first more ≡ Some r
+          → TakesSo limit slots asked c before now (Some r) first more
       take_stays r few is = record {
-        found = found_so Fits open_to_take (take_refused limit l) seen_to_take l.chunk (λ h fits. fits) before now word
-            failed first more y few;
+        row = row_of_zeros (slots + 1);
+        long = zeros_long (slots + 1);
+        found = found_so Fits open_to_take (take_refused limit asked) seen_to_take c (λ h fits. fits) before now
+            word failed first more y few;
         view = y.view
             ∙ ap (λ (s : List OwnStep). (on_worker (with_more s) before.0, before.1))
-            (sym (append-nil (looks l.chunk first more)))
+            (sym (append-nil (looks c first more)))
             ∙ ap (λ (o : Option TakeRefusal). (
               record before.0 {
-                workers = on_first (with_more (looks l.chunk first more ++ takes l.chunk o (last_found first more)))
+                workers = on_first (with_more (looks c first more ++ takes c o (last_found first more)))
                     before.0.workers;
-                holds = held_by o l before.0.holds;
+                holds = held_by o (asked_life asked c first more) (row_of_zeros (slots + 1)) before.0.holds;
               },
               before.1,
             )) (sym is);
@@ -244,46 +262,59 @@ module _ (limit : ℕ) (l : ItemId) (before : Sat) where
 
       -- the get table refuses
       pub take_refuses : failed < 8 → (h : Head) → Spells word h → (r : TakeRefusal)
-          → refused_by (get_of limit l.generation h) ≡ Some r
-          → TakesSo limit l before now (Some r) first more
+          → refused_by (get_of limit (asked h) h) ≡ Some r
+          → TakesSo limit slots asked c before now (Some r) first more
       take_refuses few h spelled r is = take_stays r (omega (arith, few)) (refusal_is h spelled ∙ decides few h ∙ is)
 
       -- 8 exchanges failed
-      pub take_gives_up : failed ≡ 8 → TakesSo limit l before now (Some Busy) first more
+      pub take_gives_up : failed ≡ 8 → TakesSo limit slots asked c before now (Some Busy) first more
       take_gives_up all = take_stays Busy (omega (arith, all)) (ap
-          (λ (b : Bool). if b then Some Busy else refused_by (get_of limit l.generation (last_found first more)))
+          (λ (b : Bool). if b then Some Busy else refused_by
+          (get_of limit (asked (last_found first more)) (last_found first more)))
           (eq-eqb (length more) 8 (y.count ∙ all)))
 
       -- an exchange found the word that it expects
-      pub takes_it : failed < 8 → (h : Head) → Spells word h → refused_by (get_of limit l.generation h) ≡ None
+      pub takes_it : failed < 8 → (h : Head) → Spells word h → refused_by (get_of limit (asked h) h) ≡ None
           → (next : Sat) (found : ℕ)
-          → found ≡ word → take_tells l.chunk word now found next → TakesSo limit l before next None first more
+          → found ≡ word → take_tells slots c word now found next
+          → TakesSo limit slots asked c before next None first more
       takes_it few h spelled can next found hit t =
           let k : Head = last_found first more in
-          let is : refusal_of limit l first more ≡ None = refusal_is h spelled ∙ decides few h ∙ can in
-          let now_is : k ≡ h = last_is Fits open_to_take (take_refused limit l) seen_to_take l.chunk (λ h fits. fits)
-          before now word failed
-          first more y h spelled in
-          let held : get_of limit l.generation k ≡ IsHeld = ap (get_of limit l.generation) now_is
-          ∙ unrefused (get_of limit l.generation h) can in
-          let gen : word_of k / 2 ^ generation_first ≡ l.generation =
+          let is : asked_refusal limit asked first more ≡ None = refusal_is h spelled ∙ decides few h ∙ can in
+          let now_is : k ≡ h = last_head h spelled in
+          let held : get_of limit (asked k) k ≡ IsHeld = ap (λ (j : Head). get_of limit (asked j) j) now_is
+          ∙ unrefused (get_of limit (asked h) h) can in
+          let gen : word_of k / 2 ^ generation_first ≡ asked k =
           (fields (word_of k) k (refl, last_is_one Fits first more y.heads)).generation
-          ∙ (held_is limit l.generation k held).1 in record {
-            found = found_so Fits open_to_take (take_refused limit l) seen_to_take l.chunk (λ h fits. fits) before now
+          ∙ (held_is limit (asked k) k held).1 in
+          let took = t.0 hit in record {
+            row = took.0;
+            long = took.1;
+            found = found_so Fits open_to_take (take_refused limit asked) seen_to_take c (λ h fits. fits) before now
                 word failed first more y (omega (arith, few));
-            view = t.0 hit ∙ ap₂ (λ (n : ℕ) (m : Sat). (view_after_take l.chunk n m.0, m.1)) (hit ∙ y.last) y.view
+            view = took.2 ∙ ap₂ (λ (n : ℕ) (m : Sat). (view_after_take c n took.0 m.0, m.1)) (hit ∙ y.last) y.view
                 ∙ ap₂ (λ (v : View) (g : ℕ). (
-                  record v { holds = new_hold (life l.chunk g) ∷ before.0.holds },
+                  record v { holds = new_hold (life c g) took.0 ∷ before.0.holds },
                   before.1,
                 ))
-                (more_again (looks l.chunk first more) (step_of kind.Take l.chunk (word_of k) None ∷ [])
+                (more_again (looks c first more) (step_of kind.Take c (word_of k) None ∷ [])
                 before.0) gen
                 ∙ ap (λ (o : Option TakeRefusal). (
                   record before.0 {
-                    workers = on_first (with_more (looks l.chunk first more ++ takes l.chunk o k)) before.0.workers;
-                    holds = held_by o l before.0.holds;
+                    workers = on_first (with_more (looks c first more ++ takes c o k)) before.0.workers;
+                    holds = held_by o (life c (asked k)) took.0 before.0.holds;
                   },
                   before.1,
                 )) (sym is);
             answer = sym is;
           }
+
+-- a call for whatever life is refused as a get of the head's own generation is
+pub any_refused : (o : Option TakeRefusal) (r : AnyRefusal) → option_map any_refusal o ≡ Some r
+    → (q : TakeRefusal) × (o ≡ Some q) × (r ≡ any_refusal q)
+any_refused None r is = absurd (cc is)
+any_refused (Some q) r is = (q, refl, cc is)
+
+pub any_taken : (o : Option TakeRefusal) → option_map any_refusal o ≡ None → o ≡ None
+any_taken None is = refl
+any_taken (Some q) is = absurd (cc is)

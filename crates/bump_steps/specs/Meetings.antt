@@ -1,22 +1,20 @@
 -- A hold meets its class, and a lane meets a class.
-use Rattle.std.specs.Prelude.{◌≡◌, ℕ, suc, true, [], ◌∷◌}
+use Rattle.std.specs.Prelude.{◌≡◌, ℕ, true, [], ◌∷◌, slice_index}
 use Rattle.bump_rules.specs.Lawful.{IsUsed}
-use Rattle.bump_rules.specs.Totals.{total}
 use Rattle.bump_steps.specs.declared.views.ClassPart.{ClassPart}
 use Rattle.bump_steps.specs.declared.views.HoldPart.{HoldPart}
 use Rattle.bump_steps.specs.declared.views.View.{View}
-use Rattle.bump_steps.specs.Views.{owns, standing, last_label, last_word, read_of, differs}
+use Rattle.bump_steps.specs.Views.{owns, standing, last_label, last_word}
 use Rattle.atomic_table.specs.Table.{Step}
 use Rattle.bump_steps.specs.declared.views.Empty.{Empty}
 use Rattle.bump_steps.specs.Plays.{Sat, Tells, TellsOfMoves}
 
 -- what a class and a hold of one of its chunks know, where x is the label word of the chunk
 pub record Met (class : ClassPart) (hold : HoldPart) (word : ℕ) : Type 0 where
-  -- it is what the class stored last for the chunk, and each label that the hold read
+  -- it is what the class stored last for the chunk
   pub label : last_label class hold.life.chunk ≡ word
-  pub read : total (differs word) hold.labels ≡ 0
-  -- and so is each further word that the hold read
-  pub words : (j : ℕ) → total (differs (last_word (suc j) class hold.life.chunk)) (read_of j hold.words) ≡ 0
+  -- and so is each word of the hold's row, of which it is the first
+  pub row : (i : ℕ) → last_word i class hold.life.chunk ≡ slice_index hold.row i
   -- the chunk is not free, and in the hold's life
   pub used : IsUsed (standing class hold.life.chunk).0
   pub generation : (standing class hold.life.chunk).1 ≡ hold.life.generation

@@ -25,6 +25,10 @@ abbrev pub on_chunk : Tells → Step Empty → Sat → ℕ → Sat → Type 0
 on_chunk tells st before word after = (chunk : ℕ) → st.word ≡ head_place st.slots chunk
     → tells chunk st.first before word after
 
+-- or of it and the number of its further words
+abbrev pub on_row : (ℕ → Tells) → Step Empty → Sat → ℕ → Sat → Type 0
+on_row tells st = on_chunk (tells st.slots) st
+
 abbrev pub on_time : Tells → Step Empty → Sat → ℕ → Sat → Type 0
 on_time tells st before word after = (chunk : ℕ) → st.word ≡ head_place st.slots chunk + 1
     → tells chunk st.first before word after

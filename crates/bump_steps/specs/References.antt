@@ -1,12 +1,11 @@
 -- What a reader's steps on a reference tell: a worker looks at a head word and takes a reference by an exchange, and a
--- hold gives its reference back, and reads its label. And what is told of a word that is seen without a seat.
-use Rattle.std.specs.Prelude.{◌≡◌, ◌≢◌, ℕ, ◌/◌, ◌^◌, ◌≤◌, List, [], ◌∷◌, ◌++◌}
+-- hold gives its reference back, and reads its words. And what is told of a word that is seen without a seat.
+use Rattle.std.specs.Prelude.{◌≡◌, ◌≢◌, ℕ, suc, ◌+◌, ◌/◌, ◌^◌, ◌≤◌, List, [], ◌∷◌, ◌++◌, length, slice_index}
 use Rattle.bump_rules.specs.declared.items.Head.{Head}
 use Rattle.bump_rules.specs.declared.items.ItemId.{ItemId}
 use Rattle.bump_rules.specs.Lawful.{bit}
 use Rattle.bump_rules.specs.Lives.{life}
 use Rattle.bump_rules.specs.Tables.{get_of, IsHeld}
-use Rattle.bump_rules.specs.Totals.{total}
 use Rattle.bump_word.specs.Layout.{generation_first}
 use Rattle.bump_word.specs.Words.{Spells}
 use Rattle.bump_steps.specs.declared.views.GivenBack.{GivenBack}
@@ -16,7 +15,6 @@ use Rattle.bump_steps.specs.declared.views.View.{View}
 use Rattle.bump_steps.specs.Plays.{Tells, Found, Told, behind, on_first}
 use Rattle.bump_steps.specs.Marks.{noted, on_worker}
 use Rattle.bump_steps.specs.Rule.{blank}
-use Rattle.bump_steps.specs.Views.{differs, read_of}
 
 -- the worker loaded the chunk's head word, and found n
 abbrev pub view_after_load : ℕ → ℕ → View → View
@@ -30,22 +28,28 @@ abbrev pub load_to_take_tells : Tells
 load_to_take_tells chunk operand before word after = (after ≡ (view_after_load chunk word before.0, before.1))
     × Found word (Told chunk before.0)
 
--- a hold of the life, which read no label, and looked at no head
-abbrev pub new_hold : ItemId → HoldPart
-new_hold item = record { life = item; labels = []; words = []; looks = [] }
+-- a hold of the life, whose words are these, and which looked at no head
+abbrev pub new_hold : ItemId → List ℕ → HoldPart
+new_hold item row = record { life = item; row = row; looks = [] }
 
 -- the worker took a reference where it found n: the life is the one whose generation n has
-abbrev pub view_after_take : ℕ → ℕ → View → View
-view_after_take chunk word view = record view {
+abbrev pub view_after_take : ℕ → ℕ → List ℕ → View → View
+view_after_take chunk word row view = record view {
   workers = on_first (noted kind.Take chunk word) view.workers;
   holds =
-      new_hold (life chunk (word / 2 ^ generation_first)) ∷ view.holds;
+      new_hold (life chunk (word / 2 ^ generation_first)) row ∷ view.holds;
 }
 
--- an exchange that finds another word than it expects failed
-abbrev pub take_tells : Tells
-take_tells chunk operand before word after =
-    (word ≡ operand → after ≡ (view_after_take chunk word before.0, before.1))
+-- a row has a label and these many further words
+abbrev pub IsRow : ℕ → List ℕ → Type 0
+IsRow slots row = length row ≡ slots + 1
+
+-- an exchange that finds the word that it expects puts the life's row into the hold's part, and one that finds another
+-- word failed
+abbrev pub take_tells : ℕ → Tells
+take_tells slots chunk operand before word after =
+    (word ≡ operand → (row : List ℕ) × IsRow slots row
+    × (after ≡ (view_after_take chunk word row before.0, before.1)))
     × (word ≢ operand → after ≡ (view_after_failed chunk word before.0, before.1)) × Found word (Told chunk before.0)
 
 -- by this word a get of the life is a hold
@@ -81,37 +85,17 @@ abbrev pub look_of_hold_tells : Tells
 look_of_hold_tells chunk operand before word after = (after ≡ (view_after_look_of_hold word before.0, before.1))
     × Found word (Told chunk before.0)
 
--- the hold read a label
-abbrev pub hold_after_label_load : ℕ → HoldPart → HoldPart
-hold_after_label_load label hold = record hold { labels = hold.labels ++ label ∷ [] }
+-- the word is number i of the row of the first hold, of this chunk
+abbrev pub IsOfRow : ℕ → ℕ → View → ℕ → Type 0
+IsOfRow i chunk view word = (h : HoldPart) → view.holds ≡ h ∷ behind view.holds → h.life.chunk ≡ chunk
+    → word ≡ slice_index h.row i
 
-abbrev pub view_after_label_load : ℕ → View → View
-view_after_label_load label view = record view { holds = on_first (hold_after_label_load label) view.holds }
-
--- the label is each one that the first hold, of this chunk, read before
-abbrev pub IsLabel : ℕ → View → ℕ → Type 0
-IsLabel chunk view label = (h : HoldPart) → view.holds ≡ h ∷ behind view.holds → h.life.chunk ≡ chunk
-    → total (differs label) h.labels ≡ 0
-
+-- a hold read its label, or further word j, by which it learns nothing new
 abbrev pub label_load_tells : Tells
-label_load_tells chunk operand before word after = (after ≡ (view_after_label_load word before.0, before.1))
-    × IsLabel chunk before.0 word
-
--- the hold read further word j
-abbrev pub hold_after_word_load : ℕ → ℕ → HoldPart → HoldPart
-hold_after_word_load index word hold = record hold { words = hold.words ++ (index, word) ∷ [] }
-
-abbrev pub view_after_word_load : ℕ → ℕ → View → View
-view_after_word_load index word view = record view { holds = on_first (hold_after_word_load index word) view.holds }
-
--- the word is each one of this number that the first hold, of this chunk, read before
-abbrev pub IsWord : ℕ → ℕ → View → ℕ → Type 0
-IsWord index chunk view word = (h : HoldPart) → view.holds ≡ h ∷ behind view.holds → h.life.chunk ≡ chunk
-    → total (differs word) (read_of index h.words) ≡ 0
+label_load_tells chunk operand before word after = (after ≡ before) × IsOfRow 0 chunk before.0 word
 
 abbrev pub word_load_tells : ℕ → Tells
-word_load_tells index chunk operand before word after = (after ≡ (view_after_word_load index word before.0, before.1))
-    × IsWord index chunk before.0 word
+word_load_tells index chunk operand before word after = (after ≡ before) × IsOfRow (suc index) chunk before.0 word
 
 -- what holds of the head of each chunk at all times
 pub record IsAnyHead (limit : ℕ) (head : Head) : Type 0 where

@@ -35,7 +35,7 @@ pub record Sound (limit word : ℕ) (label : ℕ → ℕ) (tally_of : Measure �
   -- one class has the chunk, and its history leaves it there, in this generation
   pub owned : tally_of owners ≡ 1
   pub agreed : tally_of (strays (at, head.generation)) ≡ 0
-  -- its label and words are what this class stored last, and all that holds of the life read
+  -- its label and words are what this class stored last, and the row of each hold of the life
   pub labelled : (i : ℕ) → tally_of (mislabels i (label i)) ≡ 0
   pub read : (i : ℕ) → tally_of (misreads i head.generation (label i)) ≡ 0
   -- a life of which some worker set FETCHED has its first hit

@@ -1,12 +1,15 @@
 -- What an attempt to take a reference comes to, for a hold or for a bump, by the heads that it found: the first one by
 -- its load, and more by the exchanges that failed, in order.
 use Rattle.std.specs.Prelude.{◌≡◌, ◌≢◌, ℕ, ◌<◌, ◌≤◌, ◌==◌, if◌then◌else◌, List, [], ◌∷◌, ◌++◌, length, Option, Some}
-use Rattle.std.specs.Prelude.{None}
+use Rattle.std.specs.Prelude.{None, Result, Ok, Err}
 use Rattle.bump_rules.specs.declared.commands.Dropped.{Dropped}
 use Rattle.bump_rules.specs.declared.items.Head.{Head}
 use Rattle.bump_rules.specs.declared.items.ItemId.{ItemId}
 use Rattle.bump_rules.specs.Tables.{Get, IsHeld, IsStale, IsRefsFull, get_of, most_exchanges, refused_of}
 use Rattle.bump_word.specs.Words.{Fits, word_of}
+use Rattle.bump_rules.specs.Lives.{life}
+use Rattle.bump_steps.specs.declared.refusals.AnyRefusal.{AnyRefusal}
+use Rattle.bump_steps.specs.declared.refusals.AnyRefusal.TheVariants as any
 use Rattle.bump_steps.specs.declared.refusals.TakeRefusal.{TakeRefusal}
 use Rattle.bump_steps.specs.declared.refusals.TakeRefusal.TheVariants.{Stale, RefsFull, Busy}
 use Rattle.bump_steps.specs.declared.views.HoldPart.{HoldPart}
@@ -43,9 +46,21 @@ pub record AttemptFound (Is IsOpen : Head → Type 0) (first : Head) (more : Lis
   -- at most 8 exchanges failed
   pub most : length more ≤ most_exchanges
 
--- for a hold of the life: each is what a word can spell, and a get is a hold by each at which an exchange was tried
+-- The generation that is asked of a head that was found: that of one life, or whatever generation the head has.
+abbrev pub of_life : ItemId → Head → ℕ
+of_life item head = item.generation
+
+abbrev pub of_any : Head → ℕ
+of_any head = head.generation
+
+-- for a hold: each is what a word can spell, and a get of the generation that is asked is a hold by each at which an
+-- exchange was tried
+abbrev pub AskedFound : ℕ → (Head → ℕ) → Head → List Head → Type 0
+AskedFound limit asked first more = AttemptFound Fits (λ h. get_of limit (asked h) h ≡ IsHeld) first more
+
+-- for a hold of the life
 abbrev pub TakeFound : ℕ → ItemId → Head → List Head → Type 0
-TakeFound limit item first more = AttemptFound Fits (λ h. get_of limit item.generation h ≡ IsHeld) first more
+TakeFound limit item = AskedFound limit (of_life item)
 
 -- for a bump: each is of the life that the worker holds, and has room for a reference where an exchange was tried
 abbrev pub RideFound : ℕ → ItemId → Head → List Head → Type 0
@@ -74,13 +89,16 @@ refused_by IsHeld = None
 
 -- Why no reference is taken where so many exchanges failed, and this head was found last, if none is: it is busy where
 -- 8 failed, whatever the last of them found, and else the get table decides.
-abbrev pub take_refused : ℕ → ItemId → ℕ → Head → Option TakeRefusal
-take_refused limit item failed found = if failed == most_exchanges then Some Busy else refused_by
-    (get_of limit item.generation found)
+abbrev pub take_refused : ℕ → (Head → ℕ) → ℕ → Head → Option TakeRefusal
+take_refused limit asked failed found = if failed == most_exchanges then Some Busy else refused_by
+    (get_of limit (asked found) found)
 
 -- why the call is refused, if it is
+abbrev pub asked_refusal : ℕ → (Head → ℕ) → Head → List Head → Option TakeRefusal
+asked_refusal limit asked first more = take_refused limit asked (length more) (last_found first more)
+
 abbrev pub refusal_of : ℕ → ItemId → Head → List Head → Option TakeRefusal
-refusal_of limit item first more = take_refused limit item (length more) (last_found first more)
+refusal_of limit item = asked_refusal limit (of_life item)
 
 -- the exchange by which the reference was taken, if it was
 abbrev pub takes : ℕ → Option TakeRefusal → Head → List OwnStep
@@ -88,21 +106,41 @@ takes chunk None head = step_of kind.Take chunk (word_of head) None ∷ []
 takes chunk (Some refusal) head = []
 
 -- the steps of the call
-abbrev pub steps_of : ℕ → ItemId → Head → List Head → List OwnStep
-steps_of limit item first more = looks item.chunk first more ++ takes item.chunk
-    (refusal_of limit item first more) (last_found first more)
+abbrev pub asked_steps : ℕ → (Head → ℕ) → ℕ → Head → List Head → List OwnStep
+asked_steps limit asked chunk first more = looks chunk first more ++ takes chunk
+    (asked_refusal limit asked first more) (last_found first more)
 
--- the new hold, if there is one, is the first
-abbrev pub held_by : Option TakeRefusal → ItemId → List HoldPart → List HoldPart
-held_by None item holds = new_hold item ∷ holds
-held_by (Some refusal) item holds = holds
+abbrev pub steps_of : ℕ → ItemId → Head → List Head → List OwnStep
+steps_of limit item = asked_steps limit (of_life item) item.chunk
+
+-- the new hold, if there is one, is the first, and has this row
+abbrev pub held_by : Option TakeRefusal → ItemId → List ℕ → List HoldPart → List HoldPart
+held_by None item row holds = new_hold item row ∷ holds
+held_by (Some refusal) item row holds = holds
+
+-- the life that is held: of the generation that is asked of the head that was found last
+abbrev pub asked_life : (Head → ℕ) → ℕ → Head → List Head → ItemId
+asked_life asked chunk first more = life chunk (asked (last_found first more))
 
 -- the view after the call
-abbrev pub view_after_attempt : ℕ → ItemId → Head → List Head → View → View
-view_after_attempt limit item first more view = record view {
-  workers = on_first (with_more (steps_of limit item first more)) view.workers;
-  holds = held_by (refusal_of limit item first more) item view.holds;
+abbrev pub view_after_attempt : ℕ → (Head → ℕ) → ℕ → Head → List Head → List ℕ → View → View
+view_after_attempt limit asked chunk first more row view = record view {
+  workers = on_first (with_more (asked_steps limit asked chunk first more)) view.workers;
+  holds = held_by (asked_refusal limit asked first more) (asked_life asked chunk first more) row view.holds;
 }
+
+-- ---- for a hold of whatever life the chunk has
+
+-- the refusals by their names there: the chunk has no life that could be held
+abbrev pub any_refusal : TakeRefusal → AnyRefusal
+any_refusal Stale = any.Gone
+any_refusal RefsFull = any.RefsFull
+any_refusal Busy = any.Busy
+
+-- the word of the head that was found last, by which the reference was taken, or the refusal
+abbrev pub any_answer : Option TakeRefusal → Head → Result ℕ AnyRefusal
+any_answer None found = Ok (word_of found)
+any_answer (Some refusal) found = Err (any_refusal refusal)
 
 -- ---- for a bump
 

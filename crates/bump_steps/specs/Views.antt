@@ -1,7 +1,7 @@
 -- What views count for one chunk, what they claim of applied bumps, and what they have of moves for bumps. The rule
 -- reads views through these sums alone.
 use Rattle.std.specs.Prelude.{ℕ, zero, suc, if◌then◌else◌, ◌+◌, ◌*◌, ◌/◌, ◌%◌, ◌^◌, ◌<◌, ◌≤◌, ◌≡◌, Bool, true, false, cond, not, ◌&&◌, ◌==◌, List}
-use Rattle.std.specs.Prelude.{[], ◌∷◌, Option, Some, None}
+use Rattle.std.specs.Prelude.{[], ◌∷◌, Option, Some, None, slice_index}
 use Rattle.bump_rules.specs.declared.items.ItemId.{ItemId}
 use Rattle.bump_rules.specs.declared.labels.LabelStep.{LabelStep}
 use Rattle.bump_rules.specs.declared.labels.LabelStep.TheVariants.{Stored, Linked}
@@ -63,15 +63,6 @@ labels_of (suc j) labels words = of_word j words
 abbrev pub last_word : ℕ → ClassPart → ℕ → ℕ
 last_word i class chunk = label_word chunk 0 (labels_of i class.labels class.words)
 
--- what was read of further word j
-abbrev pub read_of : ℕ → List (ℕ × ℕ) → List ℕ
-read_of j [] = []
-read_of j (read ∷ reads) = if read.0 == j then read.1 ∷ read_of j reads else read_of j reads
-
-abbrev pub reads_of : ℕ → List ℕ → List (ℕ × ℕ) → List ℕ
-reads_of zero labels words = labels
-reads_of (suc j) labels words = read_of j words
-
 -- the first of a list, if it has one
 abbrev pub first : {A : Type 0} → List A → Option A
 first [] = None
@@ -119,17 +110,13 @@ pub data Measure : Type 0 where
   strays : Standing → Measure
   -- of these, those that stored another word i last
   mislabels : ℕ → ℕ → Measure
-  -- other words i that holds of this life read
+  -- holds of this life in whose row another word i stands
   misreads : ℕ → ℕ → ℕ → Measure
 
--- 1 where two labels differ
-abbrev pub differs : ℕ → ℕ → ℕ
-differs label other = cond (other == label) 0 1
-
--- how many other words i than x a hold read, if it is of this life
+-- 1 where the hold is of this life, and word i of its row isn't this one
 abbrev pub misread : ℕ → ℕ → ℕ → ℕ → HoldPart → ℕ
-misread i chunk generation label hold = one_if (life chunk generation) hold.life * total (differs label)
-    (reads_of i hold.labels hold.words)
+misread i chunk generation word hold =
+    one_if (life chunk generation) hold.life * cond (slice_index hold.row i == word) 0 1
 
 -- what parts count of chunk c
 abbrev pub counts : ℕ → Measure → List WorkerPart → List HoldPart → List Ride → List ClassPart → List LanePart → ℕ

@@ -12,7 +12,7 @@ mod views;
 mod words;
 
 pub use decoding::head_of;
-pub use refusals::{RideRefusal, TakeRefusal};
+pub use refusals::{AnyRefusal, RideRefusal, TakeRefusal};
 pub use rule::Rule;
 pub use views::{
     ClassPart, Empty, GivenBack, HoldPart, Kind, LanePart, OwnStep, Ride, View, WordStep,

@@ -137,11 +137,8 @@ pub struct HoldPart {
     /// The life to which it refers.
     pub life: ItemId,
 
-    /// The labels that it read, in order.
-    pub labels: LinkedList<u64>,
-
-    /// The further words that it read, each behind its number, in order.
-    pub words: LinkedList<(u32, u64)>,
+    /// The life's words: its label, and then its further words, which were stored before it began.
+    pub row: LinkedList<u64>,
 
     /// The head words that its looks found, in order.
     pub looks: LinkedList<u64>,

@@ -4,13 +4,13 @@ ghost use Rattle.std.specs.Prelude.{ℕ, ◌≡◌, ◌<◌, List};
 ghost use Rattle.bump_rules.specs.declared.items.Head.{Head as TheHead};
 ghost use Rattle.bump_steps.specs.Places.{HasChunk, head_place};
 ghost use Rattle.bump_steps.specs.Words.{words_id, config_of};
-ghost use Rattle.bump_steps.specs.Plays.{on_chunk, on_label, on_word, Found, HasWorker};
-ghost use Rattle.bump_steps.specs.References.{load_to_take_tells, take_tells, MayTake, HasHold, release_of_hold_tells};
+ghost use Rattle.bump_steps.specs.Plays.{on_chunk, on_row, on_label, on_word, Found, HasWorker};
+ghost use Rattle.bump_steps.specs.References.{load_to_take_tells, take_tells, MayTake, IsRow, HasHold, release_of_hold_tells};
 ghost use Rattle.bump_steps.specs.References.{look_of_hold_tells, label_load_tells, word_load_tells, load_without_seat_tells, IsAnyHead};
-ghost use Rattle.bump_steps.specs.Tries.{TakeFound, refusal_of, view_after_attempt};
+ghost use Rattle.bump_steps.specs.Tries.{AskedFound, TakeFound, last_found, of_life, of_any, asked_refusal, refusal_of, view_after_attempt, any_answer};
 
 use crate::decoding::head_of;
-use crate::refusals::{TakeRefusal, refusal};
+use crate::refusals::{AnyRefusal, TakeRefusal, any_refusal, refusal};
 use crate::views::{Empty, View};
 use crate::words::{Seat, Words};
 use atomic_table::Play;
@@ -28,7 +28,7 @@ impl Play<Empty, View> for LoadToTake {
 pub struct Take;
 
 impl Play<Empty, View> for Take {
-    ghost then = { on_chunk take_tells };
+    ghost then = { on_row take_tells };
 }
 
 pub struct Release;
@@ -95,7 +95,7 @@ impl Words {
         requires worker { HasWorker seat.old.me.0 }
         requires word { MayTake (config_of self.now).refs_limit life word }
         ensures same { (seat.new.table_id ≡ seat.old.table_id) × (seat.new.id ≡ seat.old.id) }
-        ensures told { take_tells life.chunk word seat.old.me result seat.new.me }
+        ensures told { take_tells (words_id self.now).slots life.chunk word seat.old.me result seat.new.me }
     {
         self.table.shared.compare_exchange::<Take>(
             seat,
@@ -105,7 +105,8 @@ impl Words {
         )
     }
 
-    /// One load, and at most 8 exchanges. The limit is read anew for each word, as its comparison's operand.
+    /// One load, and at most 8 exchanges. The limit is read anew for each word, as its comparison's operand. The hold
+    /// has the row of the life.
     #[inline(always)]
     pub fn take(
         &self,
@@ -119,8 +120,12 @@ impl Words {
         requires worker { HasWorker seat.old.me.0 }
         requires limit { limit.now ≡ (config_of self.now).refs_limit }
         ensures same { (seat.new.table_id ≡ seat.old.table_id) × (seat.new.id ≡ seat.old.id) }
-        ensures told { (first : TheHead) × (more : List TheHead) × TakeFound limit.now life first more
-            × (seat.new.me ≡ (view_after_attempt limit.now life first more seat.old.me.0, seat.old.me.1))
+        ensures told { (first : TheHead) × (more : List TheHead) × (row : List ℕ) × IsRow (words_id self.now).slots row
+            × TakeFound limit.now life first more
+            × (seat.new.me ≡ (
+              view_after_attempt limit.now (of_life life) life.chunk first more row seat.old.me.0,
+              seat.old.me.1,
+            ))
             × (result ≡ refusal_of limit.now life first more) }
     {
         let mut word = self.look_to_take(seat, life.chunk, place);
@@ -136,6 +141,45 @@ impl Words {
             word = found;
         }
         Some(TakeRefusal::Busy)
+    }
+
+    /// The same for whatever life is linked in the chunk. Answers the head word by which the reference was taken, as it
+    /// was before.
+    #[inline(always)]
+    pub fn take_any(
+        &self,
+        seat: &mut Seat,
+        chunk: u32,
+        place: usize,
+        limit: &Limit,
+    ) -> Result<u64, AnyRefusal>
+        requires seat { (seat.old.table_id ≡ words_id self.now) × HasChunk (words_id self.now) chunk }
+        requires place { place ≡ head_place (words_id self.now).slots chunk }
+        requires worker { HasWorker seat.old.me.0 }
+        requires limit { limit.now ≡ (config_of self.now).refs_limit }
+        ensures same { (seat.new.table_id ≡ seat.old.table_id) × (seat.new.id ≡ seat.old.id) }
+        ensures told { (first : TheHead) × (more : List TheHead) × (row : List ℕ) × IsRow (words_id self.now).slots row
+            × AskedFound limit.now of_any first more
+            × (seat.new.me ≡ (view_after_attempt limit.now of_any chunk first more row seat.old.me.0, seat.old.me.1))
+            × (result ≡ any_answer (asked_refusal limit.now of_any first more) (last_found first more)) }
+    {
+        let mut expected = self.look_to_take(seat, chunk, place);
+        for lost in 0..8u32 {
+            let head = head_of(expected);
+            if let Some(refused) = any_refusal(expected, head, limit) {
+                return Err(refused);
+            }
+            let life = ItemId {
+                chunk,
+                generation: head.generation,
+            };
+            let found = self.try_take(seat, life, place, expected);
+            if found == expected {
+                return Ok(expected);
+            }
+            expected = found;
+        }
+        Err(AnyRefusal::Busy)
     }
 
     /// The subtraction by which a hold gives its reference back. Its seat has no list of steps, and keeps the mark of

@@ -9,7 +9,6 @@ overflow_mul-result c = let t = c.args.self.now.table.shared.table_id in
       row_sum t c.args.chunk c.args.self.now.row c.args.self.now.row_is,
       row_near t c.args.chunk (0) c.requires (omega arith),
       c.word_count-bound.ensures,
-
     )
 
 pub overflow_add-result : goal.overflow_add-result
@@ -19,7 +18,6 @@ overflow_add-result c = let t = c.args.self.now.table.shared.table_id in
       row_sum t c.args.chunk c.args.self.now.row c.args.self.now.row_is,
       row_near t c.args.chunk (0) c.requires (omega arith),
       c.word_count-bound.ensures,
-
     )
 
 pub returns-clause-is : goal.returns-clause-is

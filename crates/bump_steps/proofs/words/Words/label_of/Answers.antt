@@ -8,7 +8,7 @@ load-requires c = let t = c.args.self.now.table.shared in (
   c.label_by.ensures.near,
   rw c.label_by.ensures.is
       (may_load_label t.key t.table_id.slots c.args.seat.now.id
-      c.args.seat.now.me c.args.chunk (omega (arith, c.args.self.now.sized, c.requires.seat.1)) c.requires.hold),
+      c.args.seat.now.me c.args.chunk (omega (arith, c.args.self.now.sized, c.requires.seat.1))),
 )
 
 pub returns-clause-told : goal.returns-clause-told

@@ -9,7 +9,7 @@ load-requires c = let t = c.args.self.now.table.shared in (
   rw c.word_by.ensures.is
       (may_load_word t.key t.table_id.slots c.args.seat.now.id
       c.args.seat.now.me c.args.chunk (omega (arith, c.args.self.now.sized, c.requires.seat.1)) c.args.index
-      c.requires.index c.requires.hold),
+      c.requires.index),
 )
 
 pub returns-clause-told : goal.returns-clause-told
