@@ -61,7 +61,7 @@ impl<N: Name> ReaderHeads<N> {
     }
 
     /// How many further words each chunk has, beside its label.
-    pub fn further(&self) -> usize
+    pub fn further(&self) -> u32
         ensures { result ≡ N.table.slots }
     {
         self.words.further()
