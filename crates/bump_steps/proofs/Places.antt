@@ -17,7 +17,7 @@ pub place_next : (s c : ℕ) → head_place s (c + 1) ≡ head_place s c + (s + 
 unfolding head_place
 place_next s c = omega (arith, add-mul c 1 (s + 3), one-mul (s + 3))
 
-pub place_is : (s c : ℕ) → head_place s c ≡ c * (s + 3) + 9
+pub place_is : (s c : ℕ) → head_place s c ≡ c * (s + 3) + 14
 unfolding head_place
 place_is s c = refl
 
@@ -31,17 +31,17 @@ pub place_near : (s c n i : ℕ) → c < n → i < s + 3 → head_place s c + i 
 place_near s c n i h small = omega (arith, place_next s c, place_mono s (c + 1) n (omega (arith, h)), small)
 
 -- the first row is behind the spare words
-pub place_behind : (s c : ℕ) → 9 ≤ head_place s c
+pub place_behind : (s c : ℕ) → 14 ≤ head_place s c
 unfolding head_place
 place_behind s c = omega arith
 
 -- a table that has these rows and no more has so many
 pub rows_are : (t : TableId) (n : ℕ) → t.words ≡ head_place t.slots n → rows t ≡ n
 unfolding head_place rows
-rows_are t n e = ap (λ (x : ℕ). (x - 9) / (t.slots + 3)) e
+rows_are t n e = ap (λ (x : ℕ). (x - 14) / (t.slots + 3)) e
     ∙ ap (λ (x : ℕ). x / (t.slots + 3)) (the n (t.slots + 3)) ∙ div-mul-add n (t.slots + 3) 0 (omega arith)
   where
-    the : (n w : ℕ) → n * w + 9 - 9 ≡ n * w + 0
+    the : (n w : ℕ) → n * w + 14 - 14 ≡ n * w + 0
     the n w = omega arith
 
 -- each word of a chunk is in the table
@@ -52,8 +52,8 @@ row_near t c i near small = omega (
   small,
   add-mul c 1 (t.slots + 3),
   one-mul (t.slots + 3),
-  mul-le-mul_right {m = c + 1} {n = (t.words - 9) / (t.slots + 3)} (t.slots + 3) (omega (arith, near)),
-  div-mul-le_self (t.words - 9) (t.slots + 3),
+  mul-le-mul_right {m = c + 1} {n = (t.words - 14) / (t.slots + 3)} (t.slots + 3) (omega (arith, near)),
+  div-mul-le_self (t.words - 14) (t.slots + 3),
 )
 
 -- ---- the labels and words of a chunk
@@ -140,6 +140,6 @@ module _ (s : ℕ) (ws : List ℕ) (p c i : ℕ) (small : i ≤ s) (near : head_
   words_written = λ k j. at_each j k
 
 -- the sum by which the code finds a row
-pub row_sum : (t : TableId) (c row : ℕ) → row ≡ t.slots + 3 → c * row + 9 ≡ head_place t.slots c
+pub row_sum : (t : TableId) (c row : ℕ) → row ≡ t.slots + 3 → c * row + 14 ≡ head_place t.slots c
 unfolding head_place
-row_sum t c row is = ap (λ (r : ℕ). c * r + 9) is
+row_sum t c row is = ap (λ (r : ℕ). c * r + 14) is

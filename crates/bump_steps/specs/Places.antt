@@ -1,15 +1,15 @@
--- Where the words of a chunk lie. A table has a row of words for each chunk, behind nine that are spare: the chunk's head,
+-- Where the words of a chunk lie. A table has a row of words for each chunk, behind 14 that are spare: the chunk's head,
 -- its time, its label, and as many more words as the table has slots. A slot has no bytes: their number alone counts.
 use Rattle.std.specs.Prelude.{ℕ, zero, suc, ◌+◌, ◌-◌, ◌*◌, ◌/◌, ◌<◌, List, [], ◌∷◌, slice_index}
 use Rattle.atomic_table.specs.Seated.{TableId}
 
 -- the head of the chunk; its time stands one place behind, word i of its labels two and i places
 unfoldable pub head_place : ℕ → ℕ → ℕ
-head_place slots chunk = chunk * (slots + 3) + 9
+head_place slots chunk = chunk * (slots + 3) + 14
 
 -- how many chunks have all their words
 unfoldable pub rows : TableId → ℕ
-rows table = (table.words - 9) / (table.slots + 3)
+rows table = (table.words - 14) / (table.slots + 3)
 
 abbrev pub HasChunk : TableId → ℕ → Type 0
 HasChunk table chunk = chunk < rows table

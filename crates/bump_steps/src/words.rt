@@ -13,12 +13,14 @@ use std::alloc::Global;
 pub type Seat = atomic_table::Seat<Empty, View>;
 
 // No step changes the words before chunk 0's, which take a whole line of the cache: each cut and join of seats reads
-// the table's first word, so that it is not to lie where a thread writes.
+// the table's first word, so that it is not to lie where a thread writes. They are as many as let chunk 0's row begin at
+// a line: a large block begins 16 bytes behind a page, and 14 words later stand 128 bytes. So a row of 4 words, as a
+// chunk with one further word has, and one of 8 lie in one line each.
 
 /// Where chunk 0 has its head.
-pub(crate) const HEAD: usize = 9;
+pub(crate) const HEAD: usize = 14;
 
-/// The table of all words: a row for each chunk, its head, its time, its label and its further words, behind nine that
+/// The table of all words: a row for each chunk, its head, its time, its label and its further words, behind 14 that
 /// are spare. The table has as many slots as a chunk has further words: they have no bytes, and their number is known to
 /// each seat.
 #[derive(Drop)]
