@@ -1,6 +1,6 @@
 -- Places for holds: what stands there, and what calls of a reader with a place come to. The view `v` is that of the
 -- reader's fields.
-use Rattle.std.proofs.Common.{◌≡◌, ◌≢◌, ℕ, ◌≤◌, ◌<◌, List, ◌++◌, [], ◌∷◌, true, false, Option, Some, None, is_some, Result, Ok, Err, refl, sym, ap, ◌∙◌, subst, arith}
+use Rattle.std.proofs.Common.{◌≡◌, ◌≢◌, ℕ, ◌≤◌, ◌<◌, List, get_or, true, false, Option, Some, None, is_some, Result, Ok, Err, refl, sym, ap, ◌∙◌, subst, arith}
 use Rattle.std.proofs.lemmas.Grind.{common_steps}
 use Rattle.std.proofs.lemmas.List.{set-get_or}
 use Rattle.std.specs.Prelude.{slice_get, slice_set, slice_index_or}
@@ -9,10 +9,8 @@ use Rattle.bump_rules.specs.declared.items.Head.{Head}
 use Rattle.bump_rules.specs.declared.items.ItemId.{ItemId}
 use Rattle.bump_rules.specs.declared.configs.Config.{Config}
 use Rattle.bump_rules.specs.Rings.{most_attempts}
-use Rattle.bump_rules.specs.Totals.{total}
 use Rattle.bump_steps.specs.declared.views.HoldPart.{HoldPart}
 use Rattle.bump_steps.specs.Rule.{chunks as all_chunks}
-use Rattle.bump_steps.specs.Views.{differs}
 use Rattle.bump_store.specs.declared.refusals.GetRefusal.{GetRefusal}
 use Rattle.bump_store.specs.declared.refusals.GetRefusal.TheVariants as refused
 use Rattle.bump_store.specs.Gets.{Got}
@@ -163,18 +161,18 @@ reads_nothing place v before after x same there none read left =
 
 -- and of an item that is held
 pub reads_there : (place label : ℕ) (v before after : ReaderView) (x : Option HoldPart) (hold left_hold : HoldPart)
-    → v ≡ before → slice_get v.holds place ≡ Some x → x ≡ Some hold
-    → left_hold ≡ record hold { labels = hold.labels ++ label ∷ [] } → total (differs label) hold.labels ≡ 0
+    → v ≡ before → slice_get v.holds place ≡ Some x → x ≡ Some hold → x ≡ slice_index_or v.holds place x
+    → left_hold ≡ hold → label ≡ get_or hold.row 0 0
     → after ≡ record v { holds = slice_set v.holds place (Some left_hold) }
     → ReaderReads place before after (Some label)
-reads_there place label v before after x hold left_hold same there is reads agrees left =
+reads_there place label v before after x hold left_hold same there is read stays in_row left =
     subst (λ (b : ReaderView). ReaderReads place b after (Some label)) same (record {
       no_hold = tt;
       read = (
         hold,
         there ∙ ap (λ (z : Option HoldPart). Some z) is,
-        agrees,
-        left ∙ ap (λ (h : HoldPart). record v { holds = slice_set v.holds place (Some h) }) reads,
+        in_row,
+        as_it_was place v after x (Some left_hold) read (ap (λ (h : HoldPart). Some h) stays ∙ sym is) left,
       );
     })
 
@@ -205,13 +203,13 @@ releases_there place v before after x y hold same there is none left =
 -- a whole hit
 pub hits_there : (item : ItemId) (now : ℕ) (v before after : ReaderView) (between : WorkerState) (hold : HoldPart)
     (touch : Touch) (label : ℕ) → v ≡ before → WorkerGets v.config item v.worker between (Ok hold)
-    → WorkerTouches v.config hold.life now between after.worker touch
+    → WorkerTouches v.config hold.life now between after.worker touch → label ≡ get_or hold.row 0 0
     → after.worker.sender.ring ≡ v.worker.sender.ring → after ≡ record v { worker = after.worker }
     → ReaderHits item now before after (Ok (record { touch = touch; label = label }))
-hits_there item now v before after between hold touch label same gets touches ring left =
+hits_there item now v before after between hold touch label same gets touches in_row ring left =
     subst (λ (b : ReaderView). ReaderHits item now b after (Ok (record { touch = touch; label = label }))) same (record {
       refused = tt;
-      hit = (between, hold, gets, touches);
+      hit = (between, hold, gets, touches, in_row);
       ring = ring;
       kept = left;
     })

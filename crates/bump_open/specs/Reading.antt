@@ -1,5 +1,5 @@
 -- What readers do with numbered holds.
-use Rattle.std.specs.Prelude.{◌≡◌, ◌≢◌, ℕ, ◌<◌, ◌≤◌, Bool, true, false, List, [], ◌∷◌, ◌++◌, Option, Some, None}
+use Rattle.std.specs.Prelude.{◌≡◌, ◌≢◌, ℕ, ◌<◌, ◌≤◌, Bool, true, false, List, Option, Some, None, slice_index}
 use Rattle.std.specs.Prelude.{Result, Ok, Err}
 use Rattle.std.specs.Prelude.{IfSome, IfNone, IfOk, IfErr, slice_get, slice_set}
 use Rattle.bump_rules.specs.declared.commands.Touch.{Touch}
@@ -8,10 +8,8 @@ use Rattle.bump_rules.specs.declared.configs.Config.{Config}
 use Rattle.bump_rules.specs.declared.items.Head.{Head}
 use Rattle.bump_rules.specs.declared.items.ItemId.{ItemId}
 use Rattle.bump_rules.specs.Rings.{most_attempts}
-use Rattle.bump_rules.specs.Totals.{total}
 use Rattle.bump_steps.specs.declared.views.HoldPart.{HoldPart}
 use Rattle.bump_steps.specs.Rule.{chunks as all_chunks}
-use Rattle.bump_steps.specs.Views.{differs}
 use Rattle.bump_store.specs.declared.refusals.GetRefusal.{GetRefusal}
 use Rattle.bump_store.specs.declared.refusals.GetRefusal.TheVariants as refused
 use Rattle.bump_store.specs.Gets.{Got}
@@ -79,14 +77,11 @@ pub record ReaderTouches (place : ℕ) (now : ℕ) (before after : ReaderView) (
   pub ring : after.worker.sender.ring ≡ before.worker.sender.ring
   pub kept : after ≡ record before { worker = after.worker }
 
--- What reading the label of the item in a place comes to: it is each label that its hold read before.
+-- What reading the label of the item in a place comes to: it is the first word of its hold's row.
 pub record ReaderReads (place : ℕ) (before after : ReaderView) (answer : Option ℕ) : Type 0 where
   pub no_hold : IfNone answer (HoldsNothing place before × (after ≡ before))
   pub read : IfSome answer (λ label. (hold : HoldPart) × HasHold place before hold
-      × (total (differs label) hold.labels ≡ 0)
-      × (after ≡ record before {
-        holds = slice_set before.holds place (Some (record hold { labels = hold.labels ++ label ∷ [] }));
-      }))
+      × (label ≡ slice_index hold.row 0) × (after ≡ before))
 
 -- What giving back the hold in a place comes to.
 pub record ReaderReleases (place : ℕ) (before after : ReaderView) (answer : Bool) : Type 0 where
@@ -94,12 +89,14 @@ pub record ReaderReleases (place : ℕ) (before after : ReaderView) (answer : Bo
   pub released : answer ≡ true → (hold : HoldPart) × HasHold place before hold
       × (after ≡ record before { holds = slice_set before.holds place None })
 
--- What a whole hit comes to: a get; and where that gave a hold, a touch of it.
+-- What a whole hit comes to: a get; and where that gave a hold, a touch of it, and its label, which is the first word of
+-- its row.
 pub record ReaderHits (item : ItemId) (now : ℕ) (before after : ReaderView)
     (answer : Result WholeHit GetRefusal) : Type 0 where
   pub refused : IfErr answer (λ refusal. WorkerGets before.config item before.worker after.worker (Err refusal))
   pub hit : IfOk answer (λ whole. (between : WorkerState) × (hold : HoldPart)
       × WorkerGets before.config item before.worker between (Ok hold)
-      × WorkerTouches before.config hold.life now between after.worker whole.touch)
+      × WorkerTouches before.config hold.life now between after.worker whole.touch
+      × (whole.label ≡ slice_index hold.row 0))
   pub ring : after.worker.sender.ring ≡ before.worker.sender.ring
   pub kept : after ≡ record before { worker = after.worker }

@@ -1,3 +1,4 @@
+mod GetLemmas
 mod AttemptLemmas
 mod HitLemmas
 mod StepLemmas

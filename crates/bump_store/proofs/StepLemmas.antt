@@ -15,13 +15,14 @@ use Rattle.bump_rules.specs.declared.commands.Touch.TheVariants as touch
 use Rattle.bump_rules.specs.Tables.{hit_of, makes_second, get_of, dropped_for_room, touch_of}
 use Rattle.bump_rules.specs.Totals.{total}
 use Rattle.bump_rules.proofs.Updates.{total_append}
+use Rattle.bump_steps.specs.declared.refusals.AnyRefusal.{AnyRefusal}
 use Rattle.bump_steps.specs.declared.refusals.TakeRefusal.{TakeRefusal}
 use Rattle.bump_steps.specs.declared.refusals.TakeRefusal.TheVariants.{Busy}
 use Rattle.bump_steps.specs.declared.views.OwnStep.{OwnStep}
-use Rattle.bump_steps.specs.Tries.{failures, looks, last_found, takes, steps_of, refusal_of, refused_by}
+use Rattle.bump_steps.specs.Tries.{failures, looks, last_found, takes, of_life, of_any, asked_steps, asked_refusal, refused_by}
 use Rattle.bump_readers.specs.declared.views.HoldView.{HoldView}
 use Rattle.bump_readers.specs.declared.views.WorkerView.{WorkerView}
-use Rattle.bump_readers.specs.Taking.{Took}
+use Rattle.bump_readers.specs.Taking.{Took, TookAny}
 use Rattle.bump_store.specs.StepCounts.{is_load, is_exchange, is_other, MakesAtMost}
 use Rattle.bump_store.specs.Touches.{Findings, why_dropped, answer_of, is_attempted, second_steps, end_steps}
 use Rattle.bump_store.specs.Touches.{attempt_steps, touch_steps}
@@ -78,18 +79,17 @@ takes_others c h None = refl
 takes_others c h (Some why) = refl
 
 -- the steps of a get that found these heads are few
-found_steps : (limit : ℕ) (l : ItemId) (first : Head) (more : List Head) (before after : List OwnStep)
-    → length more ≤ 8 → after ≡ before ++ steps_of limit l first more → MakesAtMost 1 8 0 before after
-found_steps limit l first more before after most grown =
-    let c = l.chunk in
+found_steps : (limit : ℕ) (asked : Head → ℕ) (c : ℕ) (first : Head) (more : List Head) (before after : List OwnStep)
+    → length more ≤ 8 → after ≡ before ++ asked_steps limit asked c first more → MakesAtMost 1 8 0 before after
+found_steps limit asked c first more before after most grown =
     let decisive = last_found first more in
     let looked = looks c first more in
-    let o = refusal_of limit l first more in
-    let judged = refused_by (get_of limit l.generation decisive) in
+    let o = asked_refusal limit asked first more in
+    let judged = refused_by (get_of limit (asked decisive) decisive) in
     let left = λ (none : o ≡ None). below (length more) most (took_left (length more == 8) judged none) in
     let last = takes c o decisive in
     let few = takes_exchanges c decisive (length more) o most left in record {
-      made = steps_of limit l first more;
+      made = asked_steps limit asked c first more;
       grown = grown;
       few_loads =
           omega (arith, total_append loads looked last, failures_loads c more, takes_loads c decisive o);
@@ -103,7 +103,14 @@ pub get_steps : (limit : ℕ) (l : ItemId) (before after : WorkerView) (answered
     → ((first : Head) × (more : List Head) × Took limit l before after answered first more)
     → MakesAtMost 1 8 0 before.part.steps after.part.steps
 get_steps limit l before after answered t =
-    found_steps limit l t.0 t.1 _ _ t.2.found.most (ap (λ (v : WorkerView). v.part.steps) t.2.steps)
+    found_steps limit (of_life l) l.chunk t.0 t.1 _ _ t.2.found.most (ap (λ (v : WorkerView). v.part.steps) t.2.steps)
+
+-- and those of a get of whatever item is linked
+pub get_any_steps : (limit c : ℕ) (before after : WorkerView) (answered : Result (HoldView × Head) AnyRefusal)
+    → ((first : Head) × (more : List Head) × TookAny limit c before after answered first more)
+    → MakesAtMost 1 8 0 before.part.steps after.part.steps
+get_any_steps limit c before after answered t =
+    found_steps limit of_any c t.0 t.1 _ _ t.2.found.most (ap (λ (v : WorkerView). v.part.steps) t.2.steps)
 
 -- ---- a touch
 

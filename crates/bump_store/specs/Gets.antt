@@ -3,11 +3,15 @@
 use Rattle.std.specs.Prelude.{◌≡◌, ℕ, List, Option, Some, None, Result, Ok, Err}
 use Rattle.bump_rules.specs.declared.items.Head.{Head}
 use Rattle.bump_rules.specs.declared.items.ItemId.{ItemId}
+use Rattle.bump_steps.specs.declared.refusals.AnyRefusal.{AnyRefusal}
+use Rattle.bump_steps.specs.declared.refusals.AnyRefusal.TheVariants as any
 use Rattle.bump_steps.specs.declared.refusals.TakeRefusal.{TakeRefusal}
 use Rattle.bump_steps.specs.declared.refusals.TakeRefusal.TheVariants as take
 use Rattle.bump_steps.specs.declared.views.HoldPart.{HoldPart}
 use Rattle.bump_steps.specs.References.{new_hold}
-use Rattle.bump_steps.specs.Tries.{TakeFound, refusal_of, steps_of, with_more}
+use Rattle.bump_steps.specs.Tries.{AskedFound, TakeFound, of_any, last_found, asked_refusal, refusal_of, asked_steps, steps_of, asked_life, with_more, any_refusal}
+use Rattle.bump_store.specs.declared.refusals.GetAnyRefusal.{GetAnyRefusal}
+use Rattle.bump_store.specs.declared.refusals.GetAnyRefusal.TheVariants as get_any
 use Rattle.bump_store.specs.declared.refusals.GetRefusal.{GetRefusal}
 use Rattle.bump_store.specs.declared.refusals.GetRefusal.TheVariants.{Stale, RefsFull, Busy}
 use Rattle.bump_store.specs.Workers.{WorkerState}
@@ -18,10 +22,10 @@ get_refusal take.Stale = Stale
 get_refusal take.RefsFull = RefsFull
 get_refusal take.Busy = Busy
 
--- a hold of the item that read no label, or the refusal
-abbrev pub get_answer : Option TakeRefusal → ItemId → Result HoldPart GetRefusal
-get_answer None item = Ok (new_hold item)
-get_answer (Some refusal) item = Err (get_refusal refusal)
+-- a hold of the item, with its words, or the refusal
+abbrev pub get_answer : Option TakeRefusal → ItemId → List ℕ → Result HoldPart GetRefusal
+get_answer None item row = Ok (new_hold item row)
+get_answer (Some refusal) item row = Err (get_refusal refusal)
 
 -- what a get of a chunk of the store comes to that found these heads
 pub record Got (limit : ℕ) (item : ItemId) (before after : WorkerState) (answered : Result HoldPart GetRefusal)
@@ -29,4 +33,29 @@ pub record Got (limit : ℕ) (item : ItemId) (before after : WorkerState) (answe
   pub found : TakeFound limit item first more
   -- nothing but the steps is new to the worker: where the get is refused none of them changed a word
   pub steps : after ≡ record before { part = with_more (steps_of limit item first more) before.part }
-  pub answer : answered ≡ get_answer (refusal_of limit item first more) item
+  -- the words of the item, which the hold has
+  pub row : List ℕ
+  pub answer : answered ≡ get_answer (refusal_of limit item first more) item row
+
+-- ---- of whatever item is linked
+
+abbrev pub get_any_refusal : AnyRefusal → GetAnyRefusal
+get_any_refusal any.Gone = get_any.Gone
+get_any_refusal any.RefsFull = get_any.RefsFull
+get_any_refusal any.Busy = get_any.Busy
+
+-- a hold of the item that the head found last has, and this head, or the refusal
+abbrev pub get_any_answer : Option TakeRefusal → ItemId → List ℕ → Head → Result (HoldPart × Head) GetAnyRefusal
+get_any_answer None item row found = Ok (new_hold item row, found)
+get_any_answer (Some refusal) item row found = Err (get_any_refusal (any_refusal refusal))
+
+-- what a get of whatever item is linked in a chunk of the store comes to that found these heads
+pub record GotAny (limit chunk : ℕ) (before after : WorkerState) (answered : Result (HoldPart × Head) GetAnyRefusal)
+    (first : Head) (more : List Head) : Type 0 where
+  pub found : AskedFound limit of_any first more
+  -- nothing but the steps is new to the worker: where the get is refused none of them changed a word
+  pub steps : after ≡ record before { part = with_more (asked_steps limit of_any chunk first more) before.part }
+  -- the words of the item, which the hold has
+  pub row : List ℕ
+  pub answer : answered ≡ get_any_answer (asked_refusal limit of_any first more) (asked_life of_any chunk first more)
+      row (last_found first more)

@@ -4,11 +4,11 @@ use Rattle.bump_rules.specs.declared.items.Head.{Head}
 use Rattle.bump_word.specs.Words.{Fits, word_of}
 use Rattle.bump_steps.specs.declared.views.HoldPart.{HoldPart}
 use Rattle.bump_readers.specs.declared.views.HoldView.{HoldView}
-use Rattle.bump_readers.specs.Seats.{labels_in, reads_in, looks_in}
+use Rattle.bump_readers.specs.Seats.{row_in, looks_in}
 
--- the life that is held, the labels that were read, and the head words that looks found
+-- the life that is held, its words, and the head words that looks found
 abbrev pub part_of : HoldView → HoldPart
-part_of hold = record { life = hold.life; labels = labels_in hold.part; words = reads_in hold.part; looks = looks_in hold.part }
+part_of hold = record { life = hold.life; row = row_in hold.part; looks = looks_in hold.part }
 
 -- a hold with its part, which is joined to no seat
 abbrev pub whole : HoldPart → HoldView

@@ -1,8 +1,6 @@
 //! Holds. Contracts see plain data.
-ghost use Rattle.std.specs.Prelude.{◌≡◌, ◌<◌, ◌++◌, ◌∷◌, []};
+ghost use Rattle.std.specs.Prelude.{◌≡◌, ◌<◌, suc, slice_index};
 ghost use Rattle.bump_rules.specs.declared.items.Head.{Head as TheHead};
-ghost use Rattle.bump_rules.specs.Totals.{total};
-ghost use Rattle.bump_steps.specs.Views.{differs, read_of};
 ghost use Rattle.bump_steps.specs.declared.views.HoldPart.{HoldPart as TheHoldPart};
 ghost use Rattle.bump_store.specs.Holds.{part_of, whole, SeesMarks};
 
@@ -32,20 +30,20 @@ impl<N: Name> Hold<N> {
         self.held.life()
     }
 
-    /// The label of the item, by one load. It is each label that this hold read before.
+    /// The label of the item, by one load: the first word of its row. Nothing changes.
     pub fn label(&mut self, heads: &ReaderHeads<N>) -> u64
-        ensures read { self.new ≡ record self.old { labels = self.old.labels ++ result ∷ [] } }
-        ensures same { total (differs result) self.old.labels ≡ 0 }
+        ensures is { result ≡ slice_index self.old.row 0 }
+        ensures same { self.new ≡ self.old }
     {
         heads.label_of(&mut self.held)
     }
 
-    /// A further word of the item, by one load. It is each one of this number that this hold read before.
+    /// A further word of the item, by one load: it stands in the row behind the label. Nothing changes.
     #[inline(always)]
     pub fn word(&mut self, heads: &ReaderHeads<N>, index: u32) -> u64
         requires index { index < N.table.slots }
-        ensures read { self.new ≡ record self.old { words = self.old.words ++ (index, result) ∷ [] } }
-        ensures same { total (differs result) (read_of index self.old.words) ≡ 0 }
+        ensures is { result ≡ slice_index self.old.row (suc index) }
+        ensures same { self.new ≡ self.old }
     {
         heads.word_of(&mut self.held, index)
     }

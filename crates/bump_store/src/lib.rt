@@ -26,7 +26,7 @@ pub use holds::Hold;
 pub use lanes::Lane;
 pub use maintainers::Maintainer;
 pub use parting::StoreParts;
-pub use refusals::GetRefusal;
+pub use refusals::{GetAnyRefusal, GetRefusal};
 pub use settling::{Settled, Unseen, Unsettled};
 pub use stores::{NoSuchClass, Store};
 pub use workers::Worker;

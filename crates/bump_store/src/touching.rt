@@ -1,5 +1,5 @@
 //! What a worker does with items: gets and touches.
-ghost use Rattle.std.specs.Prelude.{◌≡◌, ◌<◌, ◌≤◌, ◌+◌, List, Some, None, Err, length};
+ghost use Rattle.std.specs.Prelude.{◌≡◌, ◌<◌, ◌≤◌, ◌+◌, List, Some, None, Err, IfOk, length};
 ghost use Rattle.bump_rules.specs.declared.hands.Hand.TheVariants as hand;
 ghost use Rattle.bump_rules.specs.declared.items.Head.{Head as TheHead};
 ghost use Rattle.bump_rules.specs.declared.commands.Touch.TheVariants as touch;
@@ -7,24 +7,27 @@ ghost use Rattle.bump_rules.specs.Rings.{IsAccounts, most_attempts};
 ghost use Rattle.bump_rules.specs.Tables.{is_cold};
 ghost use Rattle.bump_steps.specs.Places.{head_place};
 ghost use Rattle.bump_steps.specs.declared.views.HoldPart.{HoldPart as TheHoldPart};
+ghost use Rattle.bump_steps.specs.References.{new_hold, IsRow};
 ghost use Rattle.bump_steps.specs.Rides.{dropped_as};
 ghost use Rattle.bump_steps.specs.Rule.{chunks as all_chunks};
+ghost use Rattle.bump_readers.specs.Taking.{IsTakenBy};
 ghost use Rattle.bump_readers.specs.Touching.{fetches_of};
+ghost use Rattle.bump_store.specs.declared.refusals.GetAnyRefusal.TheVariants as refused_any;
 ghost use Rattle.bump_store.specs.declared.refusals.GetRefusal.TheVariants as refused;
 ghost use Rattle.bump_store.specs.Counts.{counted};
-ghost use Rattle.bump_store.specs.Gets.{Got};
+ghost use Rattle.bump_store.specs.Gets.{Got, GotAny};
 ghost use Rattle.bump_store.specs.StepCounts.{MakesAtMost};
 ghost use Rattle.bump_store.specs.Touches.{Findings as TheFindings, Touched};
 ghost use Rattle.bump_store.specs.Attempts.{Attempted, Hit as DoesHit};
 
 use crate::counting::count;
 use crate::holds::Hold;
-use crate::refusals::GetRefusal;
+use crate::refusals::{GetAnyRefusal, GetRefusal};
 use crate::workers::Worker;
 use bump_readers::{Name, ReaderHeads, WorkerSeat};
 use bump_ring::Sender;
-use bump_rules::{Accounts, Dropped, ItemId, MOST_ATTEMPTS, Segment, Touch};
-use bump_steps::{RideRefusal, TakeRefusal};
+use bump_rules::{Accounts, Dropped, Head, ItemId, MOST_ATTEMPTS, Segment, Touch};
+use bump_steps::{AnyRefusal, RideRefusal, TakeRefusal};
 
 // A condition that proofs read as an equation.
 fn is_cold(segment: Segment) -> bool
@@ -154,12 +157,14 @@ impl<N: Name> Worker<N> {
     /// 4. Busy, where the eighth exchange failed, whatever word it found.
     ///
     /// A refusal changes nothing: all that is new to the worker is the list of its steps, of which none changed a
-    /// word.
+    /// word. The hold has the item's row: its label, and then its further words, as they were stored for it.
     #[inline(always)]
     pub fn get(&mut self, heads: &ReaderHeads<N>, id: ItemId) -> Result<Hold<N>, GetRefusal>
         ensures missing { all_chunks heads.now ≤ id.chunk → (result ≡ Err refused.NoSuchChunk) × (self.new ≡ self.old) }
         ensures got { id.chunk < all_chunks heads.now → (first : TheHead) × (more : List TheHead)
             × Got heads.now.refs_limit id self.old self.new result first more }
+        ensures hold { IfOk result (λ h. h ≡ new_hold id h.row) }
+        ensures row { IfOk result (λ h. IsRow N.table.slots h.row) }
         ensures few { MakesAtMost 1 8 0 self.old.part.steps self.new.part.steps }
         ensures sender { self.new.sender ≡ self.old.sender }
     {
@@ -171,6 +176,40 @@ impl<N: Name> Worker<N> {
             Err(TakeRefusal::Stale) => Err(GetRefusal::Stale),
             Err(TakeRefusal::RefsFull) => Err(GetRefusal::RefsFull),
             Err(TakeRefusal::Busy) => Err(GetRefusal::Busy),
+        }
+    }
+
+    /// Takes a hold of whatever item is linked in a chunk, and answers it with the head by which it was taken, as it was
+    /// before: so it is known with no further step whether both marks are set. `chunk` is any number. No lock is taken.
+    ///
+    /// It makes the steps of `get`. It is refused as
+    /// 1. NoSuchChunk, where the store has no such chunk: then no step is made;
+    /// 2. Gone, where by the word found last the chunk isn't linked;
+    /// 3. RefsFull, where by that word its reference count is at the limit;
+    /// 4. Busy, where the eighth exchange failed, whatever word it found.
+    ///
+    /// A refusal changes nothing: all that is new to the worker is the list of its steps, of which none changed a
+    /// word.
+    #[inline(always)]
+    pub fn get_any(&mut self, heads: &ReaderHeads<N>, chunk: u32) -> Result<(Hold<N>, Head), GetAnyRefusal>
+        ensures missing { all_chunks heads.now ≤ chunk → (result ≡ Err refused_any.NoSuchChunk) × (self.new ≡ self.old) }
+        ensures got { chunk < all_chunks heads.now → (first : TheHead) × (more : List TheHead)
+            × GotAny heads.now.refs_limit chunk self.old self.new result first more }
+        ensures chunk { IfOk result (λ told. told.0.life.chunk ≡ chunk) }
+        ensures found { IfOk result (λ told. IsTakenBy heads.now.refs_limit told.0.life told.1) }
+        ensures hold { IfOk result (λ told. told.0 ≡ new_hold told.0.life told.0.row) }
+        ensures row { IfOk result (λ told. IsRow N.table.slots told.0.row) }
+        ensures few { MakesAtMost 1 8 0 self.old.part.steps self.new.part.steps }
+        ensures sender { self.new.sender ≡ self.old.sender }
+    {
+        if chunk >= heads.chunks() {
+            return Err(GetAnyRefusal::NoSuchChunk);
+        }
+        match heads.take_any(&mut self.seat, chunk) {
+            Ok((held, found)) => Ok((Hold { held }, found)),
+            Err(AnyRefusal::Gone) => Err(GetAnyRefusal::Gone),
+            Err(AnyRefusal::RefsFull) => Err(GetAnyRefusal::RefsFull),
+            Err(AnyRefusal::Busy) => Err(GetAnyRefusal::Busy),
         }
     }
 

@@ -1,7 +1,7 @@
 //! What no clause says: that calls succeed, and known answers.
 use bump_heads::{
-    Blank, ClassSeat, HeadParts, Heads, Hold, LaneSeat, Name, RideRefusal, Rider, TakeRefusal,
-    WorkerSeat,
+    AnyRefusal, Blank, ClassSeat, HeadParts, Heads, Hold, LaneSeat, Name, RideRefusal, Rider,
+    TakeRefusal, WorkerSeat,
 };
 
 mod applications;
@@ -12,4 +12,5 @@ mod lives;
 mod refusals;
 mod refused_memory;
 mod stores;
+mod whichever;
 mod words;

@@ -7,6 +7,7 @@ ghost use Rattle.bump_heads.specs.Applying.{carried_by};
 ghost use Rattle.bump_heads.specs.Linking.{place_of_chunk};
 ghost use Rattle.bump_steps.specs.Applications.{class_at_rest};
 ghost use Rattle.bump_steps.specs.Rule.{chunks as all_chunks};
+ghost use Rattle.bump_readers.specs.Seats.{row_in};
 ghost use Rattle.bump_readers.specs.Taking.{whole_hold};
 ghost use Rattle.bump_steps.specs.Views.{owns, standing};
 
@@ -102,7 +103,7 @@ fn carry<N: Name>(
     ensures own { IfOk result (λ r. owns 0 r.0.class.part ≡ true) }
     ensures stands { IfOk result (λ r. standing r.0.class.part 0 ≡ (place.Cold, 1)) }
     ensures carries { IfOk result (λ r. carried_by r.0.lane ≡ Some (record { number = 0; life = life_of 0 1 })) }
-    ensures hold { IfOk result (λ r. r.1 ≡ whole_hold (life_of 0 1)) }
+    ensures hold { IfOk result (λ r. r.1 ≡ whole_hold (life_of 0 1) (row_in r.1.part)) }
 {
     let Small {
         heads,

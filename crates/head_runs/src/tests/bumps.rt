@@ -5,6 +5,7 @@ ghost use Rattle.bump_rules.specs.declared.places.Place.TheVariants as place;
 ghost use Rattle.bump_rules.specs.Lives.{life as life_of};
 ghost use Rattle.bump_steps.specs.References.{new_hold};
 ghost use Rattle.bump_steps.specs.Rule.{chunks as all_chunks, no_accounts};
+ghost use Rattle.bump_readers.specs.Seats.{row_in};
 ghost use Rattle.bump_readers.specs.Taking.{whole_hold};
 ghost use Rattle.bump_steps.specs.Views.{owns, standing};
 
@@ -54,10 +55,10 @@ pub fn attempt<N: Name>(
     requires idle { worker.old.part.hand ≡ Idle }
     requires alone { worker.old.hold ≡ None }
     requires fresh { worker.old.part.accounts ≡ no_accounts }
-    requires hold { hold.old ≡ whole_hold hold.old.life }
+    requires hold { hold.old ≡ whole_hold hold.old.life (row_in hold.old.part) }
     requires chunk { hold.old.life.chunk < all_chunks heads.now }
     ensures trying { worker.new.part.hand ≡ Trying hold.old.life }
-    ensures joined { worker.new.hold ≡ Some (new_hold hold.old.life) }
+    ensures joined { worker.new.hold ≡ Some (new_hold hold.old.life (row_in hold.old.part)) }
     ensures accepted { worker.new.part.accounts.accepted ≡ 0 }
     ensures number { worker.new.part.worker ≡ worker.old.part.worker }
     ensures hollow { hold.new ≡ record hold.old { part = None } }
@@ -87,7 +88,7 @@ pub fn send_off<N: Name>(
     requires idle { worker.old.part.hand ≡ Idle }
     requires alone { worker.old.hold ≡ None }
     requires fresh { worker.old.part.accounts ≡ no_accounts }
-    requires hold { hold.old ≡ whole_hold hold.old.life }
+    requires hold { hold.old ≡ whole_hold hold.old.life (row_in hold.old.part) }
     requires chunk { hold.old.life.chunk < all_chunks heads.now }
     ensures rider { result ≡ record { worker = worker.old.part.worker; number = 0; life = hold.old.life } }
     ensures hold { hold.new ≡ hold.old }
@@ -110,7 +111,7 @@ fn drop_full<N: Name>(
     requires idle { worker.old.part.hand ≡ Idle }
     requires alone { worker.old.hold ≡ None }
     requires fresh { worker.old.part.accounts ≡ no_accounts }
-    requires hold { hold.old ≡ whole_hold hold.old.life }
+    requires hold { hold.old ≡ whole_hold hold.old.life (row_in hold.old.part) }
     requires chunk { hold.old.life.chunk < all_chunks heads.now }
     ensures alone { worker.new.hold ≡ None }
     ensures hold { hold.new ≡ hold.old }
@@ -141,7 +142,7 @@ fn drop_at_limit<N: Name>(
     requires idle { worker.old.part.hand ≡ Idle }
     requires alone { worker.old.hold ≡ None }
     requires fresh { worker.old.part.accounts ≡ no_accounts }
-    requires hold { hold.old ≡ whole_hold hold.old.life }
+    requires hold { hold.old ≡ whole_hold hold.old.life (row_in hold.old.part) }
     requires chunk { hold.old.life.chunk < all_chunks heads.now }
     ensures alone { worker.new.hold ≡ None }
     ensures hold { hold.new ≡ hold.old }

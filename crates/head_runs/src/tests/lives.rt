@@ -3,6 +3,7 @@ ghost use Rattle.std.specs.Prelude.{◌≡◌, ◌<◌, None, [], ◌∷◌};
 ghost use Rattle.bump_rules.specs.declared.hands.Hand.TheVariants.{Idle};
 ghost use Rattle.bump_readers.specs.Workers.{worker_seen};
 ghost use Rattle.bump_steps.specs.Rule.{no_accounts, worker_part, chunks as all_chunks};
+ghost use Rattle.bump_readers.specs.Seats.{row_in};
 ghost use Rattle.bump_readers.specs.Taking.{whole_hold};
 
 use super::expecting::{expect, expect_head, expect_head_of, expect_seen};
@@ -14,8 +15,8 @@ use std::marker::Brand;
 use std::process::Abort;
 use std::test::Fail;
 
-// Marks the item twice: FETCHED, then ACTIVE.
-fn mark_in_hot<N: Name>(
+/// Marks the item twice: FETCHED, then ACTIVE.
+pub fn mark_in_hot<N: Name>(
     rt: &impl Abort,
     heads: &Heads<N>,
     worker: &mut WorkerSeat<N>,
@@ -24,7 +25,7 @@ fn mark_in_hot<N: Name>(
     requires idle { worker.old.part.hand ≡ Idle }
     requires alone { worker.old.hold ≡ None }
     requires fresh { worker.old.part.accounts ≡ no_accounts }
-    requires hold { hold.old ≡ whole_hold hold.old.life }
+    requires hold { hold.old ≡ whole_hold hold.old.life (row_in hold.old.part) }
     requires chunk { hold.old.life.chunk < all_chunks heads.now }
     ensures idle { worker.new.part.hand ≡ Idle }
     ensures alone { worker.new.hold ≡ None }

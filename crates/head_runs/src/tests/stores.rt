@@ -6,6 +6,7 @@ ghost use Rattle.bump_steps.specs.References.{new_hold};
 ghost use Rattle.bump_steps.specs.Rule.{chunks as all_chunks, worker_part, lane_part};
 ghost use Rattle.bump_readers.specs.Workers.{worker_seen};
 ghost use Rattle.bump_heads.specs.Making.{class_seen, lane_seen};
+ghost use Rattle.bump_readers.specs.Seats.{row_in};
 ghost use Rattle.bump_readers.specs.Taking.{whole_hold};
 
 use super::*;
@@ -112,13 +113,13 @@ pub fn refusal<N: Name>(
     }
 }
 
-/// Splits a hold that read no label off the worker's seat, to which it was joined.
+/// Splits a hold that looked at no head off the worker's seat, to which it was joined.
 pub fn let_out<N: Name>(heads: &Heads<N>, worker: &mut WorkerSeat<N>, hold: &mut Hold<N>)
     requires idle { worker.old.part.hand ≡ Idle }
-    requires joined { worker.old.hold ≡ Some (new_hold hold.old.life) }
+    requires joined { worker.old.hold ≡ Some (new_hold hold.old.life (row_in worker.old.hold)) }
     requires hollow { hold.old.part ≡ None }
     ensures worker { worker.new ≡ record worker.old { hold = None } }
-    ensures hold { hold.new ≡ whole_hold hold.old.life }
+    ensures hold { hold.new ≡ whole_hold hold.old.life (row_in worker.old.hold) }
 {
     heads.hold_out(worker, hold);
 }

@@ -11,4 +11,4 @@ returns-in_default-held g c =
 pub returns : goal.returns
 returns g c =
     let there = slice_get_read c.self.inside.holds.items _ c.args.place c.in-Some.held.now c.self.inside.holds.ok.0 (c.in-Some.ensures.variant.0 refl) c.in-Some.ensures.value in
-    record { reads = reads_there c.args.place c.label.result _ _ _ c.in-Some.held.now c.in-Some-held.hold c.label.new.self c.self.view_is there c.in-Some-held.is c.label.ensures.read c.label.ensures.same refl }
+    record { reads = reads_there c.args.place c.label.result _ _ _ c.in-Some.held.now c.in-Some-held.hold c.label.new.self c.self.view_is there c.in-Some-held.is c.in-Some.ensures.value c.label.ensures.same c.label.ensures.is refl }

@@ -1,0 +1,101 @@
+//! A hold of whichever life is linked in a chunk, and the head by which it was taken.
+ghost use Rattle.std.specs.Prelude.{◌≡◌, ◌<◌, None, [], ◌∷◌};
+ghost use Rattle.bump_readers.specs.Workers.{worker_seen};
+ghost use Rattle.bump_steps.specs.Rule.{worker_part, chunks as all_chunks};
+
+use super::expecting::{expect, expect_head};
+use super::lives::mark_in_hot;
+use super::stores::{Small, config_of, head, life_of, open};
+use super::*;
+use bump_rules::{Config, Segment};
+use std::alloc::{AllocError, Global};
+use std::marker::Brand;
+use std::process::Abort;
+use std::test::Fail;
+
+// No hold of the chunk is taken, for this reason.
+fn expect_none<N: Name>(
+    rt: &impl Abort,
+    heads: &Heads<N>,
+    worker: &mut WorkerSeat<N>,
+    wanted: AnyRefusal,
+    what: &str,
+)
+    requires alone { worker.old.hold ≡ None }
+    requires chunk { 0 < all_chunks heads.now }
+    ensures alone { worker.new.hold ≡ None }
+{
+    match heads.take_any(worker, 0) {
+        Ok((hold, _)) => {
+            heads.give_back(hold);
+            panic!(rt; "it is held: {what}")
+        }
+        Err(why) => expect(rt, what, &why, &wanted),
+    }
+}
+
+// The chunk's first life, marked by its first hold, and held by as many as may hold it.
+fn take_whichever<N: Name>(
+    rt: &impl Abort,
+    heads: &Heads<N>,
+    class: &mut ClassSeat<N>,
+    worker: &mut WorkerSeat<N>,
+)
+    requires chunks { all_chunks heads.now ≡ 2 }
+    requires alone { class.old.lane ≡ None }
+    requires first { class.old.part ≡ record {
+      class = 0;
+      first = 0;
+      count = 2;
+      fresh = 0;
+      history = [];
+      labels = [];
+      words = [];
+      applying = None;
+      steps = [];
+    } }
+    requires worker { worker.old ≡ worker_seen (worker_part 0) }
+{
+    class.put_label(0, 7);
+    let life = class.open_life(0);
+    let mut first = heads.take(worker, life).expect(rt, "there is room");
+    mark_in_hot(rt, heads, worker, &mut first);
+    heads.give_back(first);
+    let (mut hold, found) = heads.take_any(worker, 0).expect(rt, "there is room");
+    expect(rt, "the life", &hold.life(), &life_of(0, 1));
+    expect_head(rt, found, head(1, "lfa", Segment::Hot, 1));
+    expect(rt, "the label", &heads.label_of(&mut hold), &7);
+    expect_none(rt, heads, worker, AnyRefusal::RefsFull, "held");
+    class.end_life(0);
+    expect_none(rt, heads, worker, AnyRefusal::Gone, "behind it");
+    heads.give_back(hold);
+}
+
+fn whichever_in<N: Name>(
+    rt: &impl Abort,
+    alloc: Global,
+    blank: Blank,
+    config: &Config,
+) -> Result<(), AllocError>
+    requires name { blank.table ≡ N.table }
+    requires config { blank.config ≡ config.now }
+    requires small { (config.now.workers ≡ 1) × (config.now.first_generation ≡ 1)
+        × (config.now.classes ≡ record { chunks = 2; hot = 1; warm = 1 } ∷ []) }
+{
+    let Small {
+        heads,
+        mut class,
+        mut worker,
+        lane: _,
+    } = open::<N>(alloc, blank, config)?;
+    take_whichever(rt, &heads, &mut class, &mut worker);
+    Ok(())
+}
+
+#[test]
+fn whichever_life_is_linked_is_held(rt: HostRuntime) -> Result<(), Fail> {
+    let alloc = rt.alloc();
+    let config = config_of(alloc, 2).ok_or("no memory")?;
+    let blank = Blank::new(alloc, &config)?;
+    Ok(whichever_in::<Brand>(&rt, alloc, blank, &config)?)
+}
