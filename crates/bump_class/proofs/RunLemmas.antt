@@ -11,16 +11,7 @@ use Rattle.bump_steps.specs.declared.views.Ride.{Ride}
 use Rattle.bump_class.specs.Applications.{AppliesFront, EachMoveIsTold}
 use Rattle.bump_class.specs.Books.{BookView}
 use Rattle.bump_class.specs.Lanes.{LaneView, carries, entries, Boards}
-use Rattle.bump_class.specs.Runs.{AppliesOwn, AppliesRun, HasNextAboard, MayHaveBoarded}
-
--- one more bump was applied
-pub run_more : (now : ℕ) (book : BookView) (from : LaneView) (count more : ℕ) (between : BookView)
-    (last aboard : LaneView) (answer : Applied) (left : BookView) (to : LaneView) → count + 1 ≡ more
-    → AppliesRun now book from count between last → HasNextAboard (carries last) last aboard
-    → AppliesOwn now between aboard answer left to → AppliesRun now book from more left to
-run_more now book from count more between last aboard answer left to is runs next own =
-    let one_more : suc count ≡ more = omega (arith, is) in
-    subst (λ n. AppliesRun now book from n left to) one_more (between, last, aboard, answer, runs, next, own)
+use Rattle.bump_class.specs.Runs.{HasNextAboard, MayHaveBoarded}
 
 -- a bump that is aboard already is the next
 pub is_aboard : (o : Option Bump) (this_lane : LaneView) → IsSome o → HasNextAboard o this_lane this_lane

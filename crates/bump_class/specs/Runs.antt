@@ -1,6 +1,8 @@
 -- What a run of applications comes to: the bump aboard, and the next ones of its class, one after the other.
-use Rattle.std.specs.Prelude.{◌≡◌, ℕ, zero, suc, Option, None, Some, IfSome, [], true, false}
+use Rattle.std.specs.Prelude.{◌≡◌, ℕ, zero, suc, ◌<◌, Option, None, Some, IfSome, List, [], ◌∷◌, ◌++◌, length, slice_set, true, false}
 use Rattle.bump_rules.specs.declared.bumps.Applied.{Applied}
+use Rattle.bump_rules.specs.declared.bumps.Applied.TheVariants as applied
+use Rattle.bump_rules.specs.declared.bumps.Ended.TheVariants as ended
 use Rattle.bump_rules.specs.declared.bumps.Bump.{Bump}
 use Rattle.bump_steps.specs.declared.views.Ride.{Ride}
 use Rattle.bump_steps.specs.Views.{owns}
@@ -39,3 +41,35 @@ MayHaveBoarded (Some bump) last to = (ride : Ride) × Boards last bump to ride
 abbrev pub IsRunOver : Option Bump → BookView → LaneView → Type 0
 IsRunOver None left to = to.known ≡ []
 IsRunOver (Some bump) left to = owns bump.life.chunk left.part ≡ false
+
+-- ---- which chunks came free
+
+-- the chunk of an application, where it came free by that
+abbrev pub freed_alone : ℕ → Applied → List ℕ
+freed_alone chunk applied.Moved = []
+freed_alone chunk applied.TimeOnly = []
+freed_alone chunk (applied.Gone ended.Freed) = chunk ∷ []
+freed_alone chunk (applied.Gone ended.Deferred) = []
+
+-- that of the bump that was applied
+abbrev pub freed_by : Option Bump → Applied → List ℕ
+freed_by None answer = []
+freed_by (Some bump) answer = freed_alone bump.life.chunk answer
+
+-- it is written as the next of a slice
+abbrev pub with_freed : ℕ → List ℕ → List ℕ → List ℕ
+with_freed count [] slice = slice
+with_freed count (chunk ∷ chunks) slice = slice_set slice count chunk
+
+-- one more chunk can be told in a slice of this size; where it has no length nobody is told
+abbrev pub HasRoom : ℕ → List ℕ → Type 0
+HasRoom size told = 0 < size → length told < size
+
+-- So many bumps were applied, as in AppliesRun, each while there was room to tell one more chunk, and these chunks came
+-- free by that, in this order.
+abbrev pub FreesRun : ℕ → ℕ → BookView → LaneView → ℕ → List ℕ → BookView → LaneView → Type 0
+FreesRun now size book from zero freed left to = (left ≡ book) × (to ≡ from) × (freed ≡ [])
+FreesRun now size book from (suc count) freed left to = (between : BookView) × (last : LaneView) × (aboard : LaneView)
+    × (answer : Applied) × (before : List ℕ) × FreesRun now size book from count before between last
+    × HasNextAboard (carries last) last aboard × AppliesOwn now between aboard answer left to × HasRoom size before
+    × (freed ≡ before ++ freed_by (carries aboard) answer)

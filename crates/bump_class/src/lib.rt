@@ -19,3 +19,4 @@ pub use books::Book;
 pub use ending::UnlinkRefusal;
 pub use lanes::RawLane;
 pub use linking::LinkRefusal;
+pub use running::RunEnd;

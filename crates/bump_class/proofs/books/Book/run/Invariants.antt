@@ -1,16 +1,16 @@
-use Rattle.std.proofs.Common.{◌≡◌, ◌+◌, ◌<◌, ◌-◌, length, true, Some}
+use Rattle.std.proofs.Common.{◌≡◌, ◌+◌, ◌<◌, ◌≤◌, ◌-◌, length, true, Some}
 use mathlib.Core.List.{IsPrefix}
 use Rattle.bump_steps.specs.Views.{owns}
-use Rattle.bump_class.specs.Lanes.{LaneView, carries, entries}
-use Rattle.bump_class.specs.Runs.{AppliesRun, HasNextAboard}
+use Rattle.bump_class.specs.Lanes.{carries, entries}
 use Rattle.bump_class.proofs.ApplicationLemmas.{IsSameClass}
+use Rattle.bump_class.proofs.FreeRuns.{RunSoFar}
 use Rattle.bump_class.proofs.books.Book.run.Given as goal
 
 -- so many bumps were applied, and the next one, which is of the class, is aboard
 abbrev pub invariant-loop-done : goal.invariant-loop-done
 invariant-loop-done g l = record {
-  runs : (last : LaneView) × AppliesRun l.now l.fn.self l.fn.lane l.done l.self last
-      × HasNextAboard (carries last) last l.lane;
+  runs : RunSoFar l.now l.fn.self l.fn.lane l.fn.freed l.done l.count l.freed l.self l.lane;
+  few : l.count ≤ l.done;
   aboard : carries l.lane ≡ Some l.bump;
   own : owns l.bump.life.chunk l.self.part ≡ true;
   below : l.done < l.limit;
