@@ -1,2 +1,3 @@
 mod PlaceLemmas
+mod RestLemmas
 mod RunLemmas

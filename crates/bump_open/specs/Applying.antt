@@ -1,18 +1,35 @@
 -- What lanes do, each with the closed worker of its ring at the end.
-use Rattle.std.specs.Prelude.{◌≡◌, ℕ, ◌+◌, ◌≤◌, ◌<◌, length, Option, None, IfSome, IsSome}
+use Rattle.std.specs.Prelude.{◌≡◌, ℕ, zero, suc, ◌+◌, ◌-◌, ◌^◌, ◌≤◌, ◌<◌, Bool, true, false, List, [], length}
+use Rattle.std.specs.Prelude.{Option, Some, None, IfSome, IfNone, IsSome}
+use Rattle.bump_rules.specs.declared.bumps.Accounts.{Accounts}
+use Rattle.bump_rules.specs.declared.bumps.Bump.{Bump}
 use Rattle.bump_class.specs.Lanes.{LaneView, carries, entries}
-use Rattle.bump_class.specs.Runs.{AppliesRun, HasNextAboard, MayHaveBoarded}
+use Rattle.bump_class.specs.Runs.{AppliesRun, HasNextAboard, MayHaveBoarded, IsRunOver}
+use Rattle.bump_store.specs.Closing.{ClosedState}
 use Rattle.bump_store.specs.Settling.{AppliedAll}
 use Rattle.bump_store.specs.Stores.{IsBetweenStarts}
 use Rattle.bump_open.specs.declared.drainers.Rested.{Rested}
+use Rattle.bump_open.specs.declared.drainers.RestState.{RestState}
 use Rattle.bump_open.specs.declared.drainers.RestState.TheVariants as state
 use Rattle.bump_open.specs.Views.{TaggedBookView, DrainerView}
+
+-- no class has the chunk, by the first chunk of each
+abbrev pub HasNoClass : ℕ → List ℕ → Type 0
+HasNoClass chunk starts = (class : ℕ) → class < 2 ^ 32 → ¬ IsBetweenStarts chunk starts class
+
+-- Why no class is told, by the bump that is aboard then: none is aboard or known, and nothing is changed; or no class
+-- has its chunk.
+abbrev pub HasNoNextClass : Option Bump → DrainerView → DrainerView → Type 0
+HasNoNextClass None before after = (before.lane.known ≡ []) × (after ≡ before)
+HasNoNextClass (Some bump) before after = HasNoClass bump.life.chunk before.starts
 
 -- What asking for the class of the next bump comes to: that bump is aboard from then on.
 pub record TellsClass (before after : DrainerView) (answer : Option ℕ) : Type 0 where
   pub class : IfSome answer (λ class. IfSome (carries after.lane) (λ bump.
       IsBetweenStarts bump.life.chunk before.starts class))
   pub aboard : IfSome answer (λ class. IsSome (carries after.lane))
+  pub next : IsSome (carries after.lane) → HasNextAboard (carries before.lane) before.lane after.lane
+  pub none : IfNone answer (HasNoNextClass (carries after.lane) before after)
   pub applied : entries after.lane ≡ entries before.lane
   pub ring : after.lane.ring ≡ before.lane.ring
   pub kept : after ≡ record before { lane = after.lane }
@@ -27,13 +44,45 @@ pub record DrainerApplies (now limit : ℕ) (book : TaggedBookView) (before : Dr
       × AppliesRun now book.book aboard count left.book last
       × MayHaveBoarded (carries after.lane) last after.lane
   pub most : count ≤ limit
+  -- it ended early only where no bump is aboard or known, or the next is of another class
+  pub over : count < limit → IsRunOver (carries after.lane) left.book after.lane
+  -- else the next one didn't go aboard
+  pub full : 0 < count → count ≡ limit → carries after.lane ≡ None
   pub grown : length (entries after.lane) ≡ length (entries before.lane) + count
   pub ring : after.lane.ring ≡ before.lane.ring
   pub kept : after ≡ record before { lane = after.lane }
   pub store : left.store ≡ book.store
 
+-- nothing is counted
+abbrev pub no_counts : Accounts
+no_counts = record { attempted = 0; accepted = 0; full = 0; busy = 0; refs = 0 }
+
+-- how far a lane is whose worker is closed, and whose ring has so many bumps left
+abbrev pub state_of_left : ℕ → RestState
+state_of_left zero = state.Settled
+state_of_left (suc others) = state.Left
+
+-- What is left of a ring whose worker is closed with these counts, where so many of its bumps were applied: the others
+-- that it accepted, where it shows its end; else it isn't known.
+abbrev pub rested_closed : Bool → Accounts → ℕ → Rested
+rested_closed true counts applied = record {
+  state = state_of_left (counts.accepted - applied);
+  left = counts.accepted - applied;
+  counts = counts;
+  applied = applied;
+}
+rested_closed false counts applied = record { state = state.Unseen; left = 0; counts = counts; applied = applied }
+
+-- What is left of a ring, by its worker if that is closed, where so many of its bumps were applied. Of one whose worker
+-- isn't closed nothing else is told.
+abbrev pub rested : Option ClosedState → ℕ → Rested
+rested None applied = record { state = state.Open; left = 0; counts = no_counts; applied = applied }
+rested (Some closed) applied = rested_closed closed.sender.shows_end closed.part.accounts applied
+
 -- What asking what is left of a lane's ring comes to.
 pub record DrainerRests (before after : DrainerView) (answer : Rested) : Type 0 where
+  pub told : answer ≡ rested before.closed (length (entries before.lane))
+  pub is_open : before.closed ≡ None → answer.state ≡ state.Open
   pub not_closed : answer.state ≡ state.Open → before.closed ≡ None
   -- the lane has applied all that the ring accepted, once each and in order
   pub settled : answer.state ≡ state.Settled → IfSome before.closed (λ closed.

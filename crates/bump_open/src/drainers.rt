@@ -1,9 +1,9 @@
 //! Lanes, each with the closed worker of its ring at the end.
-ghost use Rattle.std.specs.Prelude.{◌≡◌, IfSome, IsSome, None};
+ghost use Rattle.std.specs.Prelude.{◌≡◌, IfSome, IfNone, IsSome, None};
 ghost use Rattle.std.specs.Option.{ForSome};
 ghost use Rattle.bump_store.specs.Stores.{IsBetweenStarts};
 ghost use Rattle.bump_open.specs.Draining.{why_not_closed};
-ghost use Rattle.bump_open.specs.Applying.{DrainerApplies, DrainerRests, TellsClass};
+ghost use Rattle.bump_open.specs.Applying.{DrainerApplies, DrainerRests, TellsClass, HasNoClass, state_of_left};
 ghost use Rattle.bump_open.specs.Views.{DrainerView as TheDrainerView};
 
 use crate::books::TaggedBook;
@@ -70,6 +70,18 @@ const NO_COUNTS: Accounts = Accounts {
     refs: 0,
 };
 
+// How far a lane is whose worker is closed, and whose ring has so many bumps left.
+#[tactic(auto, using(crate::proofs::RestLemmas::left_is_left, crate::proofs::RestLemmas::none_is_settled,))]
+fn state_of(left: u64) -> RestState
+    ensures { result ≡ state_of_left left }
+{
+    if left > 0 {
+        RestState::Left
+    } else {
+        RestState::Settled
+    }
+}
+
 /// The lane of a worker's ring, and the worker once it is closed. One thread has it at a time.
 #[derive(Drop)]
 pub struct Drainer<N: Name> {
@@ -110,7 +122,8 @@ impl<N: Name> Drainer<N> {
 
     // The class that has a chunk.
     fn class_of(&self, chunk: u32) -> Option<u32>
-        ensures { IfSome result (λ class. IsBetweenStarts chunk self.now.starts class) }
+        ensures some { IfSome result (λ class. IsBetweenStarts chunk self.now.starts class) }
+        ensures none { IfNone result (HasNoClass chunk self.now.starts) }
     {
         for class in 1..self.starts.len() {
             if self.starts[class - 1] <= chunk && chunk < self.starts[class] {
@@ -121,7 +134,8 @@ impl<N: Name> Drainer<N> {
     }
 
     /// The class of the next bump, whose Book is to apply it: that bump goes aboard, where none is, as
-    /// `RawLane::fetch` does it. It answers None where none is aboard or known.
+    /// `RawLane::fetch` does it. It answers None only where none is aboard or known, and nothing is changed then, or
+    /// where no class has its chunk.
     pub fn next_class(&mut self) -> Option<u32>
         ensures { TellsClass self.old self.new result }
     {
@@ -130,8 +144,8 @@ impl<N: Name> Drainer<N> {
     }
 
     /// Applies the next bumps as long as their chunks are the Book's, at most `limit`, as `Book::apply_run` does, and
-    /// tells how many. It applies none where none is aboard or known, where the next is of another class, or where
-    /// `limit` is 0.
+    /// tells how many. They are fewer than `limit` only where then no bump is aboard or known, or the next is of another
+    /// class. At a `limit` above 0 that is reached nothing is aboard.
     pub fn apply(&mut self, tagged: &mut TaggedBook<N>, now: u64, limit: u32) -> u32
         ensures applies { DrainerApplies now limit tagged.old self.old tagged.new self.new result }
     {
@@ -175,8 +189,9 @@ impl<N: Name> Drainer<N> {
         self.closed = Some(reader.into_worker().close());
     }
 
-    /// What is left of its ring, once that is closed. Where it answers Settled, the lane has applied all that the ring
-    /// accepted, once each and in order. It may be asked again.
+    /// What is left of its ring, once that is closed. It answers Open exactly where its worker isn't closed, and Unseen
+    /// exactly where it is and the ring can't show its end. Where it answers Settled, the lane has applied all that the
+    /// ring accepted, once each and in order. It may be asked again.
     pub fn rest(&mut self) -> Rested
         ensures rests { DrainerRests self.old self.new result }
     {
@@ -190,13 +205,16 @@ impl<N: Name> Drainer<N> {
             };
         };
         let counts = closed.counts();
-        let (state, left) = match closed.rest(&mut self.raw) {
-            None => (RestState::Unseen, 0),
-            Some(0) => (RestState::Settled, 0),
-            Some(left) => (RestState::Left, left),
+        let Some(left) = closed.rest(&mut self.raw) else {
+            return Rested {
+                state: RestState::Unseen,
+                left: 0,
+                counts,
+                applied,
+            };
         };
         Rested {
-            state,
+            state: state_of(left),
             left,
             counts,
             applied,
