@@ -1,5 +1,5 @@
 -- The start: the rule holds of fresh words and the first seat.
-use Rattle.std.proofs.Common.{◌≡◌, ℕ, zero, suc, cond, map, get_or, set, if◌then◌else◌, length-set, get_or-set_same, get_or-set_other, mul-le-mul_right, ◌*◌, ◌+◌, ◌-◌, ◌^◌, ◌<◌, ◌≤◌, ◌&&◌, eqb, ltb, leb, not, Bool, true, false, List, [], ◌∷◌, length, None, refl, sym, ap, ap₂, ◌∙◌, subst, arith, eq-eqb, ne_eqb, lt-ltb, le-ltb}
+use Rattle.std.proofs.Common.{◌≡◌, ℕ, zero, suc, cond, map, get_or, set, length-set, get_or-set_same, get_or-set_other, mul-le-mul_right, ◌*◌, ◌+◌, ◌-◌, ◌^◌, ◌<◌, ◌≤◌, ◌&&◌, eqb, ltb, leb, not, Bool, true, false, List, [], ◌∷◌, length, None, refl, sym, ap, ap₂, ◌∙◌, subst, arith, eq-eqb, ne_eqb, lt-ltb, le-ltb}
 use Rattle.std.proofs.lemmas.Bool.{le-leb, lt-leb}
 use mathlib.Core.Logic.{dite}
 use native.Mathlib.Decide.{dec_le, ℕ_discrete}

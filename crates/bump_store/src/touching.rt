@@ -191,7 +191,11 @@ impl<N: Name> Worker<N> {
     /// A refusal changes nothing: all that is new to the worker is the list of its steps, of which none changed a
     /// word.
     #[inline(always)]
-    pub fn get_any(&mut self, heads: &ReaderHeads<N>, chunk: u32) -> Result<(Hold<N>, Head), GetAnyRefusal>
+    pub fn get_any(
+        &mut self,
+        heads: &ReaderHeads<N>,
+        chunk: u32,
+    ) -> Result<(Hold<N>, Head), GetAnyRefusal>
         ensures missing { all_chunks heads.now ≤ chunk → (result ≡ Err refused_any.NoSuchChunk) × (self.new ≡ self.old) }
         ensures got { chunk < all_chunks heads.now → (first : TheHead) × (more : List TheHead)
             × GotAny heads.now.refs_limit chunk self.old self.new result first more }
