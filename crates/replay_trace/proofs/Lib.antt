@@ -1,1 +1,3 @@
 mod CountedLines
+mod RefusalLemmas
+mod WritingLemmas

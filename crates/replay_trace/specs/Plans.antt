@@ -1,17 +1,67 @@
--- Which plans are refused.
-use Rattle.std.specs.Prelude.{◌≡◌, ◌⊎◌, [], ◌∷◌, Option, None, Some}
+-- Which plans and runs are refused, and why.
+use Rattle.std.specs.Prelude.{ℕ, ◌≡◌, ◌<◌, ◌⊎◌, ⊤, true, List, [], ◌∷◌, length, Option, None, Some}
 use Rattle.bump_rules.specs.Configs.{first_fault}
 use Rattle.bump_rules.specs.declared.configs.ConfigFault.{ConfigFault}
+use Rattle.bump_trace.specs.Meaning.{verdict_of}
+use Rattle.bump_trace.specs.Runs.{most_bytes}
+use Rattle.bump_trace.specs.declared.runs.SimFault.{SimFault}
+use Rattle.bump_trace.specs.declared.runs.SimFault.TheVariants as sim
+use Rattle.replay_trace.specs.Writing.{IsTraceOf, HasTooLong}
 use Rattle.replay_trace.specs.declared.plans.TracePlan.{TracePlan}
 use Rattle.replay_trace.specs.declared.plans.TraceFault.{TraceFault}
-use Rattle.replay_trace.specs.declared.plans.TraceFault.TheVariants.{Plan, Memory}
+use Rattle.replay_trace.specs.declared.plans.TraceFault.TheVariants.{Plan, Long, Memory, Refused, Run}
 
 -- The first fault that the store of a plan has, if it has one: at most 1023 references to an item there are at once, the
 -- first generation is 1, and the lists of its one class have no limits of their own.
 abbrev pub plan_fault : TracePlan → Option ConfigFault
 plan_fault plan = first_fault plan.workers plan.ring 1023 1 (record { chunks = plan.items; hot = 0; warm = 0 } ∷ [])
 
--- A plan that has a fault is refused by it, or for want of memory.
-abbrev pub Refuses : Option ConfigFault → TraceFault → Type 0
-Refuses None fault = Unit {0}
-Refuses (Some own) fault = (fault ≡ Plan own) ⊎ (fault ≡ Memory)
+-- why no store is made of a plan: for its fault, if it has one, or for want of memory
+abbrev pub RefusesStore : Option ConfigFault → TraceFault → Type 0
+RefusesStore None fault = fault ≡ Memory
+RefusesStore (Some own) fault = (fault ≡ Plan own) ⊎ (fault ≡ Memory)
+
+-- why no text is written: memory was refused, or the World refused a call, or the text would be too long
+abbrev pub IsOfWriting : TracePlan → List ℕ → TraceFault → Type 0
+IsOfWriting plan accesses (Plan own) = ⊥
+IsOfWriting plan accesses Long = HasTooLong plan accesses
+IsOfWriting plan accesses Memory = ⊤
+IsOfWriting plan accesses Refused = ⊤
+IsOfWriting plan accesses (Run own) = ⊥
+
+-- The fault of a text's run, as one of a trace that is written. What the run tells is kept in memory, so only for want of
+-- it can that not be written.
+abbrev pub fault_of : SimFault → TraceFault
+fault_of sim.Trace = Run sim.Trace
+fault_of sim.Read = Run sim.Read
+fault_of sim.Size = Long
+fault_of sim.Write = Memory
+fault_of sim.Memory = Memory
+fault_of sim.Threads = Run sim.Threads
+fault_of sim.Ring = Run sim.Ring
+fault_of sim.Gate = Run sim.Gate
+
+-- why a text doesn't run: it has a fault, it couldn't be read, it is too long, or memory was refused
+abbrev pub IsOfText : List ℕ → TraceFault → Type 0
+IsOfText text (Plan own) = ⊥
+IsOfText text Long = most_bytes < length text
+IsOfText text Memory = ⊤
+IsOfText text Refused = ⊥
+IsOfText text (Run sim.Trace) = (verdict_of text).is_fault ≡ true
+IsOfText text (Run sim.Read) = ⊤
+IsOfText text (Run sim.Size) = ⊥
+IsOfText text (Run sim.Write) = ⊥
+IsOfText text (Run sim.Memory) = ⊥
+IsOfText text (Run sim.Threads) = ⊥
+IsOfText text (Run sim.Ring) = ⊥
+IsOfText text (Run sim.Gate) = ⊥
+
+-- why a run of these accesses isn't traced: no text is written, or the one that is written doesn't run
+abbrev pub IsOfTracing : TracePlan → List ℕ → TraceFault → Type 0
+IsOfTracing plan accesses fault = IsOfWriting plan accesses fault
+    ⊎ ((text : List ℕ) × IsTraceOf plan accesses text × IsOfText text fault)
+
+-- A plan that has a fault is refused by it, or for want of memory, and one that has none is traced, but for those reasons.
+abbrev pub Refuses : Option ConfigFault → TracePlan → List ℕ → TraceFault → Type 0
+Refuses None plan accesses fault = IsOfTracing plan accesses fault
+Refuses (Some own) plan accesses fault = (fault ≡ Plan own) ⊎ (fault ≡ Memory)

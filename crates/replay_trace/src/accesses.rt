@@ -1,5 +1,8 @@
 //! What a cache does at an access, and where it is tended.
-ghost use Rattle.std.specs.Prelude.{◌≡◌, ◌+◌, ◌<◌, IfOk, length};
+ghost use Rattle.std.specs.Prelude.{◌≡◌, ◌+◌, ◌*◌, ◌%◌, ◌<◌, ◌++◌, IfOk, IfErr, OnOk, length, max};
+ghost use Rattle.replay_trace.specs.Writing.{with_end, set_line, IsUpkeep, IsPutOrUpkeep, Adds, AddsAccess, IsTraceOf};
+ghost use Rattle.replay_trace.specs.Writing.{IsOfCalls, most_behind};
+ghost use Rattle.replay_trace.specs.Plans.{IsOfWriting};
 
 use crate::plans::{TraceFault, TracePlan};
 use crate::scribes::Scribe;
@@ -10,26 +13,11 @@ use std::hash::RandomState;
 /// So often an upkeep looks at the last items of HOT and WARM.
 const LOOKS: u32 = 100;
 
-/// A trace that was written, and what its accesses came to.
-#[derive(Drop)]
-pub(crate) struct Written {
-    pub(crate) text: Vec<u8>,
-    pub(crate) gets: u64,
-    pub(crate) misses: u64,
-    pub(crate) unplaced: u64,
-}
-
-// What an access came to.
-#[derive(Clone, Copy)]
-enum Access {
-    Get,
-    Miss,
-    // the key couldn't be put, since each chunk was held
-    Unplaced,
-}
-
 // Makes room where no chunk is free; whether there may be some now.
-fn make_room(scribe: &mut Scribe) -> Result<bool, TraceFault> {
+fn make_room(scribe: &mut Scribe) -> Result<bool, TraceFault>
+    ensures text { OnOk result (Adds IsUpkeep 6 scribe.old.text.items scribe.new.text.items) }
+    ensures fault { IfErr result IsOfCalls }
+{
     if scribe.sweep()? {
         return Ok(true);
     }
@@ -39,32 +27,46 @@ fn make_room(scribe: &mut Scribe) -> Result<bool, TraceFault> {
     if scribe.end_last_of(Tail::Warm)? {
         return Ok(true);
     }
-    scribe.end_last_of(Tail::Hot)
+    let ended = scribe.end_last_of(Tail::Hot)?;
+    Ok(ended)
 }
 
-// Links an item for a key that has none; whether there was room. No put evicts more items than there are, and one sweep
-// is enough for one: so many tries are enough.
-fn place(scribe: &mut Scribe, plan: &TracePlan, key: u32) -> Result<bool, TraceFault> {
-    for _ in 0..plan.items.saturating_add(2) {
-        if scribe.link(key)? {
-            return Ok(true);
-        }
+// Links an item for a key that has none, where there is room. No put evicts more items than there are, and one sweep is
+// enough for one: so many tries are enough.
+fn place(scribe: &mut Scribe, plan: &TracePlan, key: u32) -> Result<(), TraceFault>
+    ensures text { OnOk result (Adds (IsPutOrUpkeep key) (7 * (plan.now.items + 1))
+        (scribe.old.text.items ++ with_end (set_line key)) scribe.new.text.items) }
+    ensures fault { IfErr result IsOfCalls }
+{
+    if scribe.link(key)? {
+        return Ok(());
+    }
+    for _ in 0..plan.items.saturating_add(1) {
         if !make_room(scribe)? {
-            return Ok(false);
+            return Ok(());
+        }
+        if scribe.link(key)? {
+            return Ok(());
         }
     }
-    Ok(false)
+    Ok(())
 }
 
 // Looks at the ends of HOT and of WARM, where they have too many items; whether one has.
-fn balance(scribe: &mut Scribe, plan: &TracePlan) -> Result<bool, TraceFault> {
+fn balance(scribe: &mut Scribe, plan: &TracePlan) -> Result<bool, TraceFault>
+    ensures text { OnOk result (Adds IsUpkeep 2 scribe.old.text.items scribe.new.text.items) }
+    ensures fault { IfErr result IsOfCalls }
+{
     let hot = scribe.look_over(Tail::Hot, plan.hot)?;
     let warm = scribe.look_over(Tail::Warm, plan.warm)?;
     Ok(hot || warm)
 }
 
 // Tends the cache. A look that finds nothing to do changes nothing, nor do those behind it.
-fn tend(scribe: &mut Scribe, plan: &TracePlan) -> Result<(), TraceFault> {
+fn tend(scribe: &mut Scribe, plan: &TracePlan) -> Result<(), TraceFault>
+    ensures text { OnOk result (Adds IsUpkeep 202 scribe.old.text.items scribe.new.text.items) }
+    ensures fault { IfErr result IsOfCalls }
+{
     scribe.drain()?;
     scribe.sweep()?;
     for _ in 0..LOOKS {
@@ -81,63 +83,68 @@ fn get_or_put(
     plan: &TracePlan,
     worker: u32,
     key: u32,
-) -> Result<Access, TraceFault> {
+) -> Result<(), TraceFault>
+    ensures text { OnOk result (AddsAccess worker key (7 * (plan.now.items + 1) + 2) scribe.old.text.items
+        scribe.new.text.items) }
+    ensures fault { IfErr result IsOfCalls }
+{
     if scribe.get(worker, key)? {
-        return Ok(Access::Get);
+        return Ok(());
     }
-    let placed = place(scribe, plan, key)?;
+    place(scribe, plan, key)?;
     balance(scribe, plan)?;
-    Ok(if placed {
-        Access::Miss
-    } else {
-        Access::Unplaced
-    })
+    Ok(())
 }
 
 // Whose turn an access is.
 fn worker_at(place: usize, workers: u32) -> u32
     requires some { 0 < workers }
-    ensures { result < workers }
+    ensures { result ≡ place % workers }
 {
     (place % workers as usize) as u32
 }
 
-/// Writes the trace of a log's run by a plan, whose store is of this configuration. It isn't run yet.
+// Writes the lines of an access, and tends the cache behind it where it is time for it.
+fn write_access(
+    scribe: &mut Scribe,
+    plan: &TracePlan,
+    place: usize,
+    key: u32,
+) -> Result<(), TraceFault>
+    ensures text { OnOk result (AddsAccess (place % max plan.now.workers 1) key (most_behind plan.now)
+        scribe.old.text.items scribe.new.text.items) }
+    ensures fault { IfErr result IsOfCalls }
+{
+    let workers = plan.workers.max(1);
+    get_or_put(scribe, plan, worker_at(place, workers), key)?;
+    let is_time = place % plan.tend_every.max(1) as usize == 0;
+    if !is_time {
+        return Ok(());
+    }
+    tend(scribe, plan)?;
+    Ok(())
+}
+
+/// Writes the trace of a log's run by a plan, whose store is of this configuration. It isn't run yet, and it may be too
+/// long by what the last access wrote.
 pub(crate) fn write_trace(
     alloc: Global,
     keys: RandomState,
     plan: &TracePlan,
     config: &Config,
     accesses: &[u32],
-) -> Result<Written, TraceFault>
+) -> Result<Vec<u8>, TraceFault>
     requires some { 0 < length config.now.classes }
-    ensures sum { IfOk result (λ it. it.gets + it.misses ≡ length accesses.now) }
+    ensures text { IfOk result (λ text. IsTraceOf plan.now accesses.now text.items) }
+    ensures fault { IfErr result (IsOfWriting plan.now accesses.now) }
 {
     let mut scribe = Scribe::new(alloc, keys, plan, config)?;
-    let workers = plan.workers.max(1);
-    let tend_every = plan.tend_every.max(1) as usize;
-    let mut gets = 0u64;
-    let mut unplaced = 0u64;
     for place in 0..accesses.len() {
-        match get_or_put(
-            &mut scribe,
-            plan,
-            worker_at(place, workers),
-            accesses[place],
-        )? {
-            Access::Get => gets += 1,
-            Access::Miss => {}
-            Access::Unplaced => unplaced = unplaced.saturating_add(1),
-        }
-        if place % tend_every == 0 {
-            tend(&mut scribe, plan)?;
+        write_access(&mut scribe, plan, place, accesses[place])?;
+        if scribe.is_long() {
+            return Err(TraceFault::Long);
         }
     }
     scribe.show()?;
-    Ok(Written {
-        text: scribe.into_text(),
-        gets,
-        misses: accesses.len() as u64 - gets,
-        unplaced,
-    })
+    Ok(scribe.into_text())
 }

@@ -73,13 +73,13 @@ impl<T: Drop> From<AllocFailed<T>> for TraceFault {
 }
 
 impl TracePlan {
-    ghost use Rattle.replay_trace.specs.Plans.{plan_fault, Refuses};
+    ghost use Rattle.replay_trace.specs.Plans.{plan_fault, RefusesStore};
 
     // The store of a cache of these numbers: one class, whose lists have no limits of their own.
     pub(crate) fn config(&self, alloc: Global) -> Result<Config, TraceFault>
         ensures some { IfOk result (λ config. 0 < length config.classes) }
         ensures allowed { OnOk result (plan_fault self.now ≡ None) }
-        ensures refused { IfErr result (λ it. Refuses (plan_fault self.now) it) }
+        ensures refused { IfErr result (RefusesStore (plan_fault self.now)) }
     {
         let class = ClassConfig {
             chunks: self.items,

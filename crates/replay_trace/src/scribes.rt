@@ -1,5 +1,6 @@
 //! A trace that is written line by line, each of which is made on a World at once.
-ghost use Rattle.std.specs.Prelude.{◌<◌, length};
+ghost use Rattle.std.specs.Prelude.{◌≡◌, ◌<◌, ◌∷◌, ◌++◌, [], true, false, length, codes, IfOk, IfErr, OnOk};
+ghost use Rattle.replay_trace.specs.Writing.{with_end, get_line, set_line, header, is_upkeep, IsUpkeep, Adds, IsOfCalls};
 
 use crate::plans::{MOST_HOLDS, TraceFault, TracePlan};
 use bump_core::{Answer, Command, Config, ItemId, Pulled, Refused, Tail, World};
@@ -27,7 +28,10 @@ pub(crate) struct Scribe {
 }
 
 // The first lines of a trace: what the store is.
-fn header_of(alloc: Global, plan: &TracePlan) -> Result<Vec<u8>, TraceFault> {
+fn header_of(alloc: Global, plan: &TracePlan) -> Result<Vec<u8>, TraceFault>
+    ensures text { IfOk result (λ text. text.items ≡ header plan.now) }
+    ensures fault { IfErr result IsOfCalls }
+{
     let mut text = Vec::new(alloc);
     put_word(&mut text, b"store ", u64::from(plan.workers))?;
     put_word(&mut text, b" ", u64::from(plan.ring))?;
@@ -38,7 +42,9 @@ fn header_of(alloc: Global, plan: &TracePlan) -> Result<Vec<u8>, TraceFault> {
 }
 
 // The line of a pull.
-fn pull_line(tail: Tail) -> &'static str {
+fn pull_line(tail: Tail) -> &'static str
+    ensures { is_upkeep result.now ≡ true }
+{
     match tail {
         Tail::Hot => "pull 0 hot",
         Tail::Warm => "pull 0 warm",
@@ -70,6 +76,8 @@ impl Scribe {
         config: &Config,
     ) -> Result<Scribe, TraceFault>
         requires some { 0 < length config.now.classes }
+        ensures text { IfOk result (λ scribe. scribe.text.items ≡ header plan.now) }
+        ensures fault { IfErr result IsOfCalls }
     {
         let mut chunks = Vec::new(alloc);
         chunks.resize(plan.items as usize, 0)?;
@@ -84,13 +92,18 @@ impl Scribe {
     }
 
     /// The trace that was written.
-    pub(crate) fn into_text(self) -> Vec<u8> {
+    pub(crate) fn into_text(self) -> Vec<u8>
+        ensures { result ≡ self.text }
+    {
         let Scribe { text, .. } = self;
         text
     }
 
     // Makes a command on the World.
-    fn make(&mut self, command: Command) -> Result<Answer, TraceFault> {
+    fn make(&mut self, command: Command) -> Result<Answer, TraceFault>
+        ensures text { self.new.text ≡ self.old.text }
+        ensures fault { IfErr result IsOfCalls }
+    {
         match self.world.command(command) {
             Ok(answer) => Ok(answer),
             Err(Refused::OutOfMemory) => Err(TraceFault::Memory),
@@ -98,24 +111,39 @@ impl Scribe {
         }
     }
 
+    /// Whether the text has more bytes than a trace may have.
+    pub(crate) fn is_long(&self) -> bool
+        ensures { result ≡ true → 16777216 < length self.now.text.items }
+    {
+        self.text.len() > MOST_BYTES
+    }
+
     // Ends a line.
-    fn end_line(&mut self) -> Result<(), TraceFault> {
+    fn end_line(&mut self) -> Result<(), TraceFault>
+        ensures text { OnOk result (self.new.text.items ≡ self.old.text.items ++ 10 ∷ []) }
+        ensures fault { IfErr result IsOfCalls }
+    {
         self.text.push(b'\n')?;
-        if self.text.len() > MOST_BYTES {
-            return Err(TraceFault::Long);
-        }
         self.lines = self.lines.saturating_add(1);
         Ok(())
     }
 
     // Writes a line.
-    fn write(&mut self, line: &str) -> Result<(), TraceFault> {
+    fn write(&mut self, line: &str) -> Result<(), TraceFault>
+        ensures text { OnOk result (self.new.text.items ≡ self.old.text.items ++ with_end line.now) }
+        ensures fault { IfErr result IsOfCalls }
+    {
         self.text.extend_from_slice(line.as_bytes())?;
         self.end_line()
     }
 
     // Whether the key has an item. It is got by the worker then.
-    pub(crate) fn get(&mut self, worker: u32, key: u32) -> Result<bool, TraceFault> {
+    pub(crate) fn get(&mut self, worker: u32, key: u32) -> Result<bool, TraceFault>
+        ensures got { IfOk result (λ got. got ≡ true
+            → self.new.text.items ≡ self.old.text.items ++ with_end (get_line worker key)) }
+        ensures none { IfOk result (λ got. got ≡ false → self.new.text.items ≡ self.old.text.items) }
+        ensures fault { IfErr result IsOfCalls }
+    {
         let Some(id) = self.items.get(&key).copied() else {
             return Ok(false);
         };
@@ -127,7 +155,10 @@ impl Scribe {
     }
 
     // What the line of a get does.
-    fn hit(&mut self, worker: u32, id: ItemId) -> Result<(), TraceFault> {
+    fn hit(&mut self, worker: u32, id: ItemId) -> Result<(), TraceFault>
+        ensures text { OnOk result (self.new.text ≡ self.old.text) }
+        ensures fault { IfErr result IsOfCalls }
+    {
         if let Answer::Held = self.make(Command::Take { worker, id })? {
             let now = self.lines;
             self.make(Command::Touch { worker, id, now })?;
@@ -137,7 +168,10 @@ impl Scribe {
     }
 
     /// Links an item for the key; whether a chunk was free for it.
-    pub(crate) fn link(&mut self, key: u32) -> Result<bool, TraceFault> {
+    pub(crate) fn link(&mut self, key: u32) -> Result<bool, TraceFault>
+        ensures text { OnOk result (self.new.text.items ≡ self.old.text.items ++ with_end (set_line key)) }
+        ensures fault { IfErr result IsOfCalls }
+    {
         put_word(&mut self.text, b"set k", u64::from(key))?;
         self.write(" 0 0")?;
         let link = Command::Link {
@@ -155,7 +189,10 @@ impl Scribe {
     }
 
     // The key has the item.
-    fn bind(&mut self, key: u32, id: ItemId) -> Result<(), TraceFault> {
+    fn bind(&mut self, key: u32, id: ItemId) -> Result<(), TraceFault>
+        ensures text { OnOk result (self.new.text ≡ self.old.text) }
+        ensures fault { IfErr result IsOfCalls }
+    {
         self.items.insert(key, id)?;
         if let Some(chunk) = self.keys.get_mut(id.chunk as usize) {
             *chunk = key;
@@ -169,13 +206,18 @@ impl Scribe {
     }
 
     // The item ended.
-    fn forget(&mut self, id: ItemId) {
+    fn forget(&mut self, id: ItemId)
+        ensures { self.new.text ≡ self.old.text }
+    {
         let key = self.key_of(id);
         let _ = self.items.remove(&key);
     }
 
     /// Frees the chunks of ended items that nobody holds; whether there were any.
-    pub(crate) fn sweep(&mut self) -> Result<bool, TraceFault> {
+    pub(crate) fn sweep(&mut self) -> Result<bool, TraceFault>
+        ensures text { OnOk result (Adds IsUpkeep 1 self.old.text.items self.new.text.items) }
+        ensures fault { IfErr result IsOfCalls }
+    {
         self.write("sweep 0")?;
         match self.make(Command::Sweep { class: 0 })? {
             Answer::Swept(count) => Ok(count > 0),
@@ -184,7 +226,10 @@ impl Scribe {
     }
 
     // Looks at the last item of a list; which one that is.
-    fn pull(&mut self, tail: Tail) -> Result<Option<ItemId>, TraceFault> {
+    fn pull(&mut self, tail: Tail) -> Result<Option<ItemId>, TraceFault>
+        ensures text { OnOk result (Adds IsUpkeep 1 self.old.text.items self.new.text.items) }
+        ensures fault { IfErr result IsOfCalls }
+    {
         self.write(pull_line(tail))?;
         match self.make(Command::Pull { class: 0, tail })? {
             Answer::Pulled(pulled) => Ok(item_of(pulled)),
@@ -193,7 +238,10 @@ impl Scribe {
     }
 
     /// Ends the last item of COLD; whether there was one.
-    pub(crate) fn evict(&mut self) -> Result<bool, TraceFault> {
+    pub(crate) fn evict(&mut self) -> Result<bool, TraceFault>
+        ensures text { OnOk result (Adds IsUpkeep 1 self.old.text.items self.new.text.items) }
+        ensures fault { IfErr result IsOfCalls }
+    {
         match self.pull(Tail::Evict)? {
             Some(id) => {
                 self.forget(id);
@@ -204,7 +252,10 @@ impl Scribe {
     }
 
     /// Looks at the last item of HOT or WARM, and ends it; whether there was one.
-    pub(crate) fn end_last_of(&mut self, tail: Tail) -> Result<bool, TraceFault> {
+    pub(crate) fn end_last_of(&mut self, tail: Tail) -> Result<bool, TraceFault>
+        ensures text { OnOk result (Adds IsUpkeep 2 self.old.text.items self.new.text.items) }
+        ensures fault { IfErr result IsOfCalls }
+    {
         let Some(id) = self.pull(tail)? else {
             return Ok(false);
         };
@@ -217,7 +268,10 @@ impl Scribe {
     }
 
     /// Looks at the last item of HOT or WARM, where it has more items than so many; whether it has.
-    pub(crate) fn look_over(&mut self, tail: Tail, most: u32) -> Result<bool, TraceFault> {
+    pub(crate) fn look_over(&mut self, tail: Tail, most: u32) -> Result<bool, TraceFault>
+        ensures text { OnOk result (Adds IsUpkeep 1 self.old.text.items self.new.text.items) }
+        ensures fault { IfErr result IsOfCalls }
+    {
         if self.world.list_len(0, tail.segment().place()) <= most {
             return Ok(false);
         }
@@ -226,7 +280,10 @@ impl Scribe {
     }
 
     /// Applies the bumps that wait, at most a ring's room of each worker.
-    pub(crate) fn drain(&mut self) -> Result<(), TraceFault> {
+    pub(crate) fn drain(&mut self) -> Result<(), TraceFault>
+        ensures text { OnOk result (Adds IsUpkeep 1 self.old.text.items self.new.text.items) }
+        ensures fault { IfErr result IsOfCalls }
+    {
         self.write("drain")?;
         for worker in 0..self.world.workers() {
             self.drain_worker(worker)?;
@@ -235,7 +292,10 @@ impl Scribe {
     }
 
     // Applies the bumps of a worker that wait, at most a ring's room.
-    fn drain_worker(&mut self, worker: u32) -> Result<(), TraceFault> {
+    fn drain_worker(&mut self, worker: u32) -> Result<(), TraceFault>
+        ensures text { OnOk result (self.new.text ≡ self.old.text) }
+        ensures fault { IfErr result IsOfCalls }
+    {
         for _ in 0..self.ring {
             let now = self.lines;
             if let Answer::Nothing = self.make(Command::Next { worker, now })? {
@@ -246,7 +306,10 @@ impl Scribe {
     }
 
     /// Tells of the whole store.
-    pub(crate) fn show(&mut self) -> Result<(), TraceFault> {
+    pub(crate) fn show(&mut self) -> Result<(), TraceFault>
+        ensures text { OnOk result (self.new.text.items ≡ self.old.text.items ++ with_end (codes "show")) }
+        ensures fault { IfErr result IsOfCalls }
+    {
         self.write("show")
     }
 }

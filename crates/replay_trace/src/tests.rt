@@ -17,9 +17,9 @@ fn plan(items: u32, hot: u32, warm: u32, tend_every: u32) -> TracePlan {
     }
 }
 
-// So many accesses hit and missed, and this was written.
-fn expect(rt: &impl Abort, trace: &ReplayTrace, counts: (u64, u64), text: &str) {
-    assert!(rt; (trace.gets, trace.misses) == counts, "the counts");
+// So many hits are told, and this was written.
+fn expect(rt: &impl Abort, trace: &ReplayTrace, hits: u64, text: &str) {
+    assert!(rt; all_hits(trace.hits) == hits, "the hits");
     assert!(rt; trace.text.as_slice() == text.as_bytes(), "the text");
 }
 
@@ -40,7 +40,7 @@ fn one_key(rt: HostRuntime) -> Result<(), Fail> {
         ..plan(1, 0, 0, 100)
     };
     let trace = trace_of(rt.alloc(), keys, &plan, &[5, 5, 5])?;
-    expect(&rt, &trace, (2, 1), ONE_KEY);
+    expect(&rt, &trace, 2, ONE_KEY);
     assert!(rt; trace.hits.first == 1 && trace.hits.queued == 1);
     Ok(())
 }
@@ -49,8 +49,8 @@ fn one_key(rt: HostRuntime) -> Result<(), Fail> {
 fn three_keys_through_two_items(rt: HostRuntime) -> Result<(), Fail> {
     let keys = RandomState::new(&rt)?;
     let trace = trace_of(rt.alloc(), keys, &plan(2, 1, 1, 3), &[1, 2, 1, 3, 1, 2])?;
-    expect(&rt, &trace, (1, 5), THREE_KEYS);
-    assert!(rt; trace.hits.first == 1 && trace.unplaced == 0);
+    expect(&rt, &trace, 1, THREE_KEYS);
+    assert!(rt; trace.hits.first == 1);
     Ok(())
 }
 
@@ -58,7 +58,7 @@ fn three_keys_through_two_items(rt: HostRuntime) -> Result<(), Fail> {
 fn last_of_hot_ends_where_cold_and_warm_are_empty(rt: HostRuntime) -> Result<(), Fail> {
     let keys = RandomState::new(&rt)?;
     let trace = trace_of(rt.alloc(), keys, &plan(1, 1, 1, 9), &[1, 2])?;
-    expect(&rt, &trace, (0, 2), WITHOUT_COLD);
+    expect(&rt, &trace, 0, WITHOUT_COLD);
     Ok(())
 }
 
@@ -93,12 +93,23 @@ fn all_hits(hits: HitCounts) -> u64 {
         .wrapping_add(hits.full)
 }
 
+// How many lines `get` a text has.
+fn gets_in(text: &[u8]) -> u64 {
+    let mut count = 0u64;
+    for line in text.split(|byte| *byte == b'\n') {
+        if line.starts_with(b"get ") {
+            count = count.saturating_add(1);
+        }
+    }
+    count
+}
+
 #[test]
 fn each_get_tells_a_hit(rt: HostRuntime) -> Result<(), Fail> {
     let keys = RandomState::new(&rt)?;
     let accesses = shuffled(rt.alloc(), 600, 64)?;
     let trace = trace_of(rt.alloc(), keys, &plan(20, 4, 8, 7), &accesses)?;
-    assert!(rt; all_hits(trace.hits) == trace.gets);
+    assert!(rt; all_hits(trace.hits) == gets_in(&trace.text));
     assert!(rt; trace.hits.marked > 0 && trace.hits.queued > 0 && trace.hits.full == 0);
     Ok(())
 }

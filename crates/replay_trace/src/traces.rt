@@ -1,9 +1,10 @@
 //! The trace of an access log's run.
-ghost use Rattle.std.specs.Prelude.{◌≡◌, ◌+◌, ◌<◌, ◌≤◌, false, length, None, IfOk, OnOk, IfErr};
+ghost use Rattle.std.specs.Prelude.{◌≡◌, ◌<◌, ◌≤◌, false, length, None, IfOk, OnOk, IfErr};
 ghost use Rattle.bump_trace.specs.Meaning.{verdict_of};
 ghost use Rattle.bump_trace.specs.Runs.{most_bytes};
 ghost use Rattle.replay_trace.specs.Counting.{hits_told};
-ghost use Rattle.replay_trace.specs.Plans.{plan_fault, Refuses};
+ghost use Rattle.replay_trace.specs.Plans.{plan_fault, fault_of, IsOfText, IsOfTracing, Refuses};
+ghost use Rattle.replay_trace.specs.Writing.{IsTraceOf};
 
 use crate::accesses::write_trace;
 use crate::counting::{HitCounts, count_hits};
@@ -21,22 +22,14 @@ pub struct ReplayTrace {
 
     /// The hits that its text tells, by kind.
     pub hits: HitCounts,
-
-    /// So many accesses found their key in the cache: each is a line `get`. Where an item's count is at its limit such a
-    /// line tells no hit.
-    pub gets: u64,
-
-    /// So many accesses didn't.
-    pub misses: u64,
-
-    /// So many of the misses could not be put, since each chunk was held: by bumps that wait.
-    pub unplaced: u64,
 }
 
-// The fault of a run, as one of a trace that is written.
-fn fault_of(fault: SimFault) -> TraceFault {
+// The fault of a run, as one of a trace that is written. What the run tells is kept in memory.
+fn fault_of(fault: SimFault) -> TraceFault
+    ensures { result ≡ fault_of fault }
+{
     match fault {
-        SimFault::Memory => TraceFault::Memory,
+        SimFault::Memory | SimFault::Write => TraceFault::Memory,
         SimFault::Size => TraceFault::Long,
         other => TraceFault::Run(other),
     }
@@ -47,6 +40,7 @@ fn told_by_model(alloc: Global, keys: RandomState, trace: &[u8]) -> Result<Vec<u
     ensures text { IfOk result (λ told. told.items ≡ (verdict_of trace.now).text) }
     ensures no_fault { OnOk result ((verdict_of trace.now).is_fault ≡ false) }
     ensures size { OnOk result (length trace.now ≤ most_bytes) }
+    ensures fault { IfErr result (IsOfText trace.now) }
 {
     let mut reader = Counted::new(trace);
     let mut writer = Counted::new(Vec::new(alloc));
@@ -68,16 +62,14 @@ fn write_and_run(
     ensures no_fault { IfOk result (λ it. (verdict_of it.text.items).is_fault ≡ false) }
     ensures size { IfOk result (λ it. length it.text.items ≤ most_bytes) }
     ensures hits { IfOk result (λ it. it.hits ≡ hits_told (verdict_of it.text.items).text) }
-    ensures sum { IfOk result (λ it. it.gets + it.misses ≡ length accesses.now) }
+    ensures accesses { IfOk result (λ it. IsTraceOf plan.now accesses.now it.text.items) }
+    ensures fault { IfErr result (IsOfTracing plan.now accesses.now) }
 {
-    let written = write_trace(alloc, keys, plan, config, accesses)?;
-    let told = told_by_model(alloc, keys, &written.text)?;
+    let text = write_trace(alloc, keys, plan, config, accesses)?;
+    let told = told_by_model(alloc, keys, &text)?;
     Ok(ReplayTrace {
         hits: count_hits(&told),
-        text: written.text,
-        gets: written.gets,
-        misses: written.misses,
-        unplaced: written.unplaced,
+        text,
     })
 }
 
@@ -86,8 +78,9 @@ fn write_and_run(
 /// and else put. A key's item has the name `k` and the key's number, and the label 0.
 ///
 /// The trace is run on a World before it is given to anybody, so it has no fault. `keys` hash the keys and the names. It
-/// is refused as `Plan` where no store is made from the plan's numbers, as `Long` as soon as the trace has more than
-/// 16,777,216 bytes, and as `Memory` for want of memory.
+/// is refused as `Plan` exactly where no store is made from the plan's numbers, as `Long` where the trace would have more
+/// than 16,777,216 bytes, and as `Memory` for want of memory. `Refused` and `Run` are of no log that is known.
+#[tactic(auto, using(crate::proofs::RefusalLemmas::store_refused, crate::proofs::RefusalLemmas::trace_refused))]
 pub fn trace_of(
     alloc: Global,
     keys: RandomState,
@@ -97,9 +90,9 @@ pub fn trace_of(
     ensures no_fault { IfOk result (λ it. (verdict_of it.text.items).is_fault ≡ false) }
     ensures size { IfOk result (λ it. length it.text.items ≤ most_bytes) }
     ensures hits { IfOk result (λ it. it.hits ≡ hits_told (verdict_of it.text.items).text) }
-    ensures sum { IfOk result (λ it. it.gets + it.misses ≡ length accesses.now) }
+    ensures accesses { IfOk result (λ it. IsTraceOf plan.now accesses.now it.text.items) }
     ensures allowed { OnOk result (plan_fault plan.now ≡ None) }
-    ensures refused { IfErr result (λ it. Refuses (plan_fault plan.now) it) }
+    ensures refused { IfErr result (Refuses (plan_fault plan.now) plan.now accesses.now) }
 {
     let config = match plan.config(alloc) {
         Ok(config) => config,
