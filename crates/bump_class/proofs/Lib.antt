@@ -9,3 +9,4 @@ pub mod RunLemmas
 pub mod Walks
 pub mod MoveLemmas
 pub mod Widening
+mod Tables

@@ -8,3 +8,4 @@ mod SettlingLemmas
 mod PassLemmas
 mod FinishingLemmas
 mod RunLemmas
+mod MeetingLemmas
