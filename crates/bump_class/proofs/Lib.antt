@@ -11,3 +11,4 @@ pub mod FreeRuns
 pub mod Walks
 pub mod MoveLemmas
 pub mod Widening
+mod Tables

@@ -1,7 +1,8 @@
 //! A lane but for the bump aboard: who applies bumps has that one in his hand.
-ghost use Rattle.std.specs.Prelude.{◌≡◌, ◌↔◌, [], ◌++◌, length, None, Some, IsSome, IsNone, IfSome, IfNone, false};
+ghost use Rattle.std.specs.Prelude.{◌≡◌, ◌≤◌, ◌↔◌, [], ◌++◌, length, None, Some, IsSome, IsNone, IfSome, IfNone, false};
 ghost use Rattle.bump_rules.specs.declared.lanes.Lane.TheVariants.{Empty as IsEmpty};
 ghost use Rattle.bump_steps.specs.declared.views.Ride.{Ride as TheRide};
+ghost use Rattle.bump_steps.specs.Meetings.{class_after_meet};
 ghost use Rattle.bump_steps.specs.Riders.{applied_by};
 ghost use Rattle.bump_heads.specs.Applying.{stage_of, NamesNoBumpTwice, TellsMoves};
 ghost use Rattle.bump_class.specs.Lanes.{LaneView as TheLaneView, carries, entries, part_or, IsRawLane, KeepsLane};
@@ -92,10 +93,10 @@ impl<N: Name> Carrier<N> {
         Some(bump)
     }
 
-    // Shows the class and the lane each other, by one load, and changes nothing.
+    // Shows the class and the lane each other, by one load, which the class notes.
     pub fn meet(&mut self, class: &mut ClassSeat<N>)
         requires alone { class.old.lane ≡ None }
-        ensures class { class.new ≡ class.old }
+        ensures class { class.new ≡ record class.old { part = class_after_meet class.old.part } }
         ensures lane { self.new ≡ self.old }
         ensures kept { IsRawLane self.old.part self.old.received }
         ensures once { NamesNoBumpTwice class.old.part }
@@ -110,6 +111,7 @@ impl<N: Name> Carrier<N> {
         ensures lane { self.new ≡ record self.old { known = self.new.known } }
         ensures number { IfSome result (λ left. left ≡ length self.new.known) }
         ensures rest { IfSome result (λ left. closed.old.sent ≡ self.new.received ++ self.new.known) }
+        ensures few { IfSome result (λ left. left ≤ closed.old.capacity) }
         ensures none { IsNone result ↔ (closed.old.shows_end ≡ false) }
         ensures unchanged { IfNone result (self.new ≡ self.old) }
     {

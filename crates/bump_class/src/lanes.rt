@@ -1,5 +1,5 @@
 //! A lane: the receiving end of a worker's ring, and the seat that applies what comes.
-ghost use Rattle.std.specs.Prelude.{◌≡◌, ◌↔◌, length, [], ◌++◌, None, IsSome, IsNone, IfSome, IfNone, false};
+ghost use Rattle.std.specs.Prelude.{◌≡◌, ◌≤◌, ◌↔◌, length, [], ◌++◌, None, IsSome, IsNone, IfSome, IfNone, false};
 ghost use Rattle.bump_rules.specs.declared.lanes.Lane.TheVariants.{Empty as IsEmpty};
 ghost use Rattle.bump_steps.specs.declared.views.Ride.{Ride as TheRide};
 ghost use Rattle.bump_steps.specs.Riders.{applied_by};
@@ -115,7 +115,7 @@ impl<N: Name> RawLane<N> {
     }
 
     /// How many bumps are left in the ring, by the closed sender of this ring: all of them are known from then on, and
-    /// no other will come. The bump aboard isn't counted. It may be asked again. It answers None exactly where the
+    /// no other will come: at most as many as the ring's capacity. The bump aboard isn't counted. It may be asked again. It answers None exactly where the
     /// closed sender can't show the ring's end, and nothing is changed then.
     pub fn rest(&mut self, closed: &mut ClosedSender<N>) -> Option<u64>
         requires ring { closed.old.ring ≡ self.old.ring }
@@ -123,6 +123,7 @@ impl<N: Name> RawLane<N> {
         ensures lane { self.new ≡ record self.old { known = self.new.known } }
         ensures number { IfSome result (λ left. left ≡ length self.new.known) }
         ensures rest { IfSome result (λ left. closed.old.sent ≡ self.new.received ++ self.new.known) }
+        ensures few { IfSome result (λ left. left ≤ closed.old.capacity) }
         ensures none { IsNone result ↔ (closed.old.shows_end ≡ false) }
         ensures unchanged { IfNone result (self.new ≡ self.old) }
     {

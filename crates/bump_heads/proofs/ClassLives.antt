@@ -4,6 +4,7 @@ use Rattle.std.proofs.lemmas.Bool.{and_from}
 use Rattle.bump_rules.specs.declared.items.ItemId.{ItemId}
 use Rattle.bump_rules.specs.declared.places.Place.TheVariants.{Unused}
 use Rattle.bump_rules.specs.declared.places.Start.{Start}
+use Rattle.bump_rules.specs.declared.places.Start.TheVariants as start
 use Rattle.bump_rules.specs.declared.history.Change.{Change}
 use Rattle.bump_rules.specs.declared.history.Change.TheVariants as change
 use Rattle.bump_rules.specs.declared.labels.LabelStep.{LabelStep}
@@ -21,12 +22,24 @@ use Rattle.bump_rules.proofs.ToldMoves.{no_stray}
 use Rattle.bump_rules.proofs.Updates.{total_push}
 use Rattle.bump_steps.specs.declared.views.ClassPart.{ClassPart}
 use Rattle.bump_steps.specs.Views.{owns, standing, labels_of, last_label, last_word}
-use Rattle.bump_heads.specs.Seats.{IsClassPart}
+use Rattle.bump_heads.specs.Seats.{IsClassPart, is_barred}
 use Rattle.bump_heads.proofs.ClassParts.{noted_part, entered_part}
 use Rattle.bump_steps.specs.Lives.{class_after_load, class_after_put_label, class_after_put_word, class_after_link, class_after_unlink, class_after_sweep, class_after_sweep_or_load, IsInSegment}
 use Rattle.bump_steps.proofs.LabelLists.{life_linked, labels_begun}
 use Rattle.bump_steps.proofs.LifeLabels.{put_label_labels, put_word_labels, link_labels}
 use Rattle.bump_steps.proofs.Entering.{freed_quiet, freed_subject, freed_unused, used_in_place}
+
+-- what is no move is none that a table hasn't
+freed_allowed : (l : ItemId) → is_barred (freed_change l) ≡ false
+freed_allowed l = by (l.generation == 4294967295)
+  where
+    by : (b : Bool) → is_barred (if b then change.Retired l else change.Swept l) ≡ false
+    by true = refl
+    by false = refl
+
+begun_allowed : (a : Start) (l : ItemId) → is_barred (begun_change a l) ≡ false
+begun_allowed start.Hot l = refl
+begun_allowed start.Temp l = refl
 
 module _ (words : ℕ) (k : ClassPart) (o : IsClassPart words k) where
   -- a label that is stored for a free chunk
@@ -36,6 +49,7 @@ module _ (words : ℕ) (k : ClassPart) (o : IsClassPart words k) where
         within = o.within;
         between = o.between;
         causes = o.causes;
+        allowed = o.allowed;
         labelled = have.labelled;
         unbegun = have.unbegun;
       }
@@ -47,6 +61,7 @@ module _ (words : ℕ) (k : ClassPart) (o : IsClassPart words k) where
         within = o.within;
         between = o.between;
         causes = o.causes;
+        allowed = o.allowed;
         labelled = have.labelled;
         unbegun = have.unbegun;
       }
@@ -54,7 +69,7 @@ module _ (words : ℕ) (k : ClassPart) (o : IsClassPart words k) where
   -- the chunk's life is unlinked
   pub keeps_unlink : (c n : ℕ) → owns c k ≡ true → IsInSegment (standing k c).0
       → IsClassPart words (class_after_unlink c n k)
-  keeps_unlink c n own in_it = entered_part words k (change.Unlinked (life c (standing k c).1)) _ o own refl refl
+  keeps_unlink c n own in_it = entered_part words k (change.Unlinked (life c (standing k c).1)) _ o own refl refl refl
       (λ used. used_in_place (standing k c).0 in_it)
 
   -- the chunk is freed
@@ -63,7 +78,7 @@ module _ (words : ℕ) (k : ClassPart) (o : IsClassPart words k) where
       entered_part words k (freed_change l) _ o
       (subst (λ (j : ItemId). owns j.chunk k ≡ true) (sym (freed_subject l)) own)
       (subst (λ (j : ItemId). j.generation ≡ (standing k j.chunk).1) (sym (freed_subject l)) refl)
-      (no_stray (freed_change l) (freed_quiet l)) (λ used. absurd (freed_unused l used))
+      (no_stray (freed_change l) (freed_quiet l)) (freed_allowed l) (λ used. absurd (freed_unused l used))
 
   -- or seen
   pub keeps_sweep_or_load : (c refs n : ℕ) → owns c k ≡ true
@@ -106,6 +121,12 @@ module _ (words : ℕ) (k : ClassPart) (o : IsClassPart words k) where
           total_push (λ z. bit (is_stray z)) k.history e,
           o.causes,
           ap bit (no_stray e (begun_quiet a l)),
+        );
+        allowed = omega (
+          arith,
+          total_push (λ z. bit (is_barred z)) k.history e,
+          o.allowed,
+          ap bit (begun_allowed a l),
         );
         labelled = have.labelled;
         unbegun = have.unbegun;

@@ -17,7 +17,7 @@ use Rattle.bump_steps.specs.declared.views.ClassPart.{ClassPart}
 use Rattle.bump_steps.specs.declared.views.Ride.{Ride}
 use Rattle.bump_steps.specs.Views.{owns, standing, labels_of}
 use Rattle.bump_heads.specs.Linking.{place_of_chunk}
-use Rattle.bump_heads.specs.Seats.{IsClassPart}
+use Rattle.bump_heads.specs.Seats.{IsClassPart, is_barred}
 
 -- the chunks of a class are among the table's
 pub own_in_range : (words c : ℕ) (k : ClassPart) → IsClassPart words k → owns c k ≡ true → c < words
@@ -36,6 +36,7 @@ noted_part words k steps p = record {
   within = p.within;
   between = p.between;
   causes = p.causes;
+  allowed = p.allowed;
   labelled =
       p.labelled;
   unbegun = p.unbegun;
@@ -48,6 +49,7 @@ named_part words k named p = record {
   within = p.within;
   between = p.between;
   causes = p.causes;
+  allowed = p.allowed;
   labelled =
       p.labelled;
   unbegun = p.unbegun;
@@ -75,13 +77,14 @@ module _ (words : ℕ) (k : ClassPart) (e : Change) (steps : List OwnStep) (p : 
         by false is = refl
 
     -- An entry of the class's own chunk, in the life that this has, keeps what the class's part keeps: it is no stray
-    -- move, and it leaves no free chunk where chunks are used.
-    pub entered_part : is_stray e ≡ false → (IsUsed (target e) → IsUsed (standing k (subject e).chunk).0)
-        → IsClassPart words entered
-    entered_part straight used = record {
+    -- move, nor one that no table has, and it leaves no free chunk where chunks are used.
+    pub entered_part : is_stray e ≡ false → is_barred e ≡ false
+        → (IsUsed (target e) → IsUsed (standing k (subject e).chunk).0) → IsClassPart words entered
+    entered_part straight fair used = record {
       within = p.within;
       between = are_between_push k.first (k.first + k.count) k.history e p.between own;
       causes = omega (arith, total_push (λ x. bit (is_stray x)) k.history e, p.causes, ap bit straight);
+      allowed = omega (arith, total_push (λ x. bit (is_barred x)) k.history e, p.allowed, ap bit fair);
       labelled = λ i c mine some. ap (λ (g : ℕ). label_of_life (life c g) 0 (labels_of i k.labels k.words))
           (same_generation c) ∙ p.labelled i c mine (still_used c some);
       unbegun = λ i c g later. p.unbegun i c g (omega (arith, later, same_generation c));

@@ -131,6 +131,7 @@ new_classes words f i at (k ∷ ks) all = (
     within = omega (arith, all);
     between = tt;
     causes = refl;
+    allowed = refl;
     labelled = λ i c own used. absurd used;
     unbegun = λ i c g later. ap (λ (l : List LabelStep). label_of_life (life c g) 0 l) (nothing_yet i);
   },

@@ -16,7 +16,7 @@ use Rattle.bump_rules.specs.declared.bumps.Outcome.TheVariants as outcome
 use Rattle.bump_rules.specs.declared.lanes.Lane.{Lane}
 use Rattle.bump_rules.specs.declared.lanes.Lane.TheVariants as lane
 use Rattle.bump_rules.specs.Entries.{is_bump, is_move_for, is_unlink_of, moves_told}
-use Rattle.bump_rules.specs.Tables.{is_cold, is_warm}
+use Rattle.bump_rules.specs.Tables.{is_cold, is_warm, may_move}
 use Rattle.bump_rules.specs.declared.places.Place.{Place}
 use Rattle.bump_rules.specs.declared.history.Cause.TheVariants as cause
 use Rattle.bump_rules.specs.declared.history.Change.{Change}
@@ -38,8 +38,10 @@ use Rattle.bump_steps.specs.declared.views.View.{View}
 use Rattle.bump_steps.specs.Views.{bump_aboard, active_clear, refers, owns, standing, shows_time_only, of_owner, evidence}
 use Rattle.bump_steps.specs.Plays.{Sat, Told, TellsOfMoves, Found, on_first, step_of}
 use Rattle.bump_steps.specs.Cuts.{joined, lanes_only, without_lanes}
+use Rattle.bump_steps.specs.Lives.{on_class}
+use Rattle.bump_steps.specs.Meetings.{class_after_meet, AreOfWorkers}
 use Rattle.bump_steps.specs.Applications.{applying, bump_for, lane_after_try, view_after_try, lane_after_clear_active, view_after_clear_active, view_after_put_time, noted_class, stage_after_move, lane_after_move, change_of_move_for, application_of, class_at_rest, class_after_move, view_after_move, life_in, lane_after_alight, entries_of_alight, view_after_alight, MayTry, MayMove, MayAlight}
-use Rattle.bump_heads.specs.Applying.{life_aboard, life_of, IsOf, MayClearActive, MayChangeSegment, IsShown, IsJoined, carried_by, joined_after_try, joined_after_move, seat_after_move, seat_after_clear_active, seat_after_put_time, FoundOfBump, NamesNoBumpTwice, is_own, TellsMoves}
+use Rattle.bump_heads.specs.Applying.{life_aboard, life_of, IsOf, MayClearActive, MayChangeSegment, IsShown, IsJoined, carried_by, joined_after_try, joined_after_move, seat_after_move, seat_after_clear_active, seat_after_put_time, FoundOfBump, NamesNoBumpTwice, NamesWorkersBelow, is_own, TellsMoves}
 use Rattle.bump_readers.specs.Seats.{head_or, listed}
 use Rattle.bump_steps.specs.Riders.{lane_me, applied_by}
 use Rattle.bump_heads.specs.Seats.{class_me, class_in, lane_in, IsLane, IsOfWorker, IsInRange, IsClassPart, aboard_lane, no_class, no_lane}
@@ -268,6 +270,7 @@ move_keeps words c n from to h v part own stands may gen lives = by v.lane may l
         (ap (λ (d : ℕ). owns d v.part) of ∙ own)
         (same_life ∙ gen ∙ ap (λ (d : ℕ). (standing v.part d).1) (sym of))
         (ap₂ (λ (f t : Segment). not (is_cold f && is_warm t)) cold warm)
+        (ap₂ (λ (f t : Segment). not (may_move f t)) cold warm)
         (λ there. subst (λ (d : ℕ). IsUsed (standing v.part d).0) (sym of) (used there))))
 
     by : (o : Option LanePart) → MayChangeSegment c from to o
@@ -275,7 +278,7 @@ move_keeps words c n from to h v part own stands may gen lives = by v.lane may l
         → IsClassPart words (class_after_move from to c n (listed o) v.part)
     by None may lives = named_part words _ v.part.applying
         (entered_part words v.part (change.Moved (life_in v.part c) from to cause.Pull)
-        (v.part.steps ++ step_of kind.Move c n None ∷ []) part own refl refl used)
+        (v.part.steps ++ step_of kind.Move c n None ∷ []) part own refl refl (ap not may) used)
     by (Some l) may lives = let b = of_active c l.stage may.2 in let is : bump_aboard l.stage ≡ Some b.0 =
         ap bump_aboard b.1 in
         for_bump l b.0 is b.2 may.0 may.1
@@ -290,7 +293,7 @@ may_change_segment from to c m v w joined is same kept own stands may = subst (�
   where
     by : (o : Option LanePart) → MayChangeSegment c from to o → IsJoined w.part o joined
         → MayMove from to c (class_me (record { part = w.part; lane = o })).0
-    by None may kept = inl (w.part, record { view = refl; stands = (own, stands) })
+    by None may kept = inl (w.part, record { view = refl; stands = (own, stands); may = may })
     by (Some l) may kept = let b = of_active c l.stage may.2 in
         inr (
           w.part,
@@ -645,24 +648,29 @@ tells_by k l told = λ test n. let mine : eqb l.worker l.worker ≡ true = eq-eq
       ap (λ (b : Bool). cond b (moves_told (is_own k test) n l.applied l.stage) 0) mine,
     )
 
-module _ (m q r p : Sat) (v w : ClassView) (o : Option (Seat Empty View)) (s : Seat Empty View) (table : TableId)
+module _ (m q n r p : Sat) (v w : ClassView) (o : Option (Seat Empty View)) (s : Seat Empty View) (table : TableId)
     (lane : Option LanePart) (is : m ≡ class_me v) (same : v ≡ w) (alone : w.lane ≡ None) (whole : IsLane table o)
     (some : o ≡ Some s) (lane_is : lane_in o ≡ lane) (joins : q ≡ (joined m.0 s.me.0, m.1))
-    (rest : r ≡ (without_lanes q.0, q.1)) (parts : p ≡ (lanes_only q.0, [])) where
+    (note : n ≡ (on_class class_after_meet q.0, q.1))
+    (rest : r ≡ (without_lanes n.0, n.1)) (parts : p ≡ (lanes_only n.0, [])) where
   met_me : q ≡ class_me (record w { lane = lane })
   met_me = joins ∙ joined_me m v w o s table lane is same alone whole some lane_is
 
   met_some : lane ≡ Some (head_or no_lane s.me.0.lanes)
   met_some = sym lane_is ∙ ap lane_in some
 
-  -- the class's seat is as before
-  pub met_rest : r ≡ m
-  met_rest = rest ∙ ap (λ (x : Sat). (without_lanes x.0, x.1)) met_me
-      ∙ ap (λ (x : Option LanePart). class_me (record w { lane = x })) (sym alone) ∙ sym (is ∙ ap class_me same)
+  met_noted : n ≡ class_me (record w { part = class_after_meet w.part; lane = lane })
+  met_noted = note ∙ ap (λ (x : Sat). (on_class class_after_meet x.0, x.1)) met_me
 
-  -- and the lane's
+  -- the class's seat noted the load, and is as before
+  pub met_rest : r ≡ (on_class class_after_meet m.0, m.1)
+  met_rest = rest ∙ ap (λ (x : Sat). (without_lanes x.0, x.1)) met_noted
+      ∙ ap (λ (x : Option LanePart). class_me (record { part = class_after_meet w.part; lane = x })) (sym alone)
+      ∙ ap (λ (x : Sat). (on_class class_after_meet x.0, x.1)) (sym (is ∙ ap class_me same))
+
+  -- and the lane's is as before
   pub met_back : p ≡ s.me
-  met_back = parts ∙ ap (λ (x : Sat). (lanes_only x.0, [])) met_me
+  met_back = parts ∙ ap (λ (x : Sat). (lanes_only x.0, [])) met_noted
       ∙ ap (λ (x : Option LanePart). (lanes_only (class_me (record w { lane = x })).0, [])) met_some
       ∙ sym (subst (IsLane table) some whole).0
 
@@ -675,3 +683,17 @@ module _ (m q r p : Sat) (v w : ClassView) (o : Option (Seat Empty View)) (s : S
         subst (λ (x : Option LanePart). IfSome x (TellsMoves w.part)) (sym met_some)
             (tells_by w.part (head_or no_lane s.me.0.lanes) t),
       )
+
+module _ (m : Sat) (v w : ClassView) (is : m ≡ class_me v) (same : v ≡ w) where
+  -- the moves of a class's seat alone are those of its class's history
+  pub met_workers : (workers : ℕ) → AreOfWorkers workers m.0 → NamesWorkersBelow workers w.part
+  met_workers workers of worker number far =
+      let none : AreOfWorkers workers (class_me w).0 =
+      subst (λ (x : Sat). AreOfWorkers workers x.0) (is ∙ ap class_me same) of in
+      omega (arith, none (record { test = λ l. true; worker = worker; number = number }) far)
+
+  -- and no bump is named twice
+  pub met_once : TellsOfMoves m.0 → NamesNoBumpTwice w.part
+  met_once told worker number =
+      let t : TellsOfMoves (class_me w).0 = subst (λ (x : Sat). TellsOfMoves x.0) (is ∙ ap class_me same) told in
+      omega (arith, t.once worker number)

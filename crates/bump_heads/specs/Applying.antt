@@ -192,6 +192,10 @@ pub record FoundOfBump (part : ClassPart) (item : ItemId) (head : Head) : Type 0
 abbrev pub NamesNoBumpTwice : ClassPart → Type 0
 NamesNoBumpTwice class = (w n : ℕ) → how_many (is_move_for (λ l. true) w n) class.history ≤ 1
 
+-- each move for a bump in the class's history is of a worker below this number
+abbrev pub NamesWorkersBelow : ℕ → ClassPart → Type 0
+NamesWorkersBelow workers class = (w n : ℕ) → workers ≤ w → how_many (is_move_for (λ l. true) w n) class.history ≡ 0
+
 -- the item passes the test, and its chunk is the class's
 abbrev pub is_own : ClassPart → (ItemId → Bool) → ItemId → Bool
 is_own class test item = owns item.chunk class && test item

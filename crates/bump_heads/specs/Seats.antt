@@ -1,5 +1,5 @@
 -- What contracts see of the seats of classes and lanes.
-use Rattle.std.specs.Prelude.{◌≡◌, ℕ, ◌+◌, ◌<◌, ◌≤◌, true, false, List, [], ◌∷◌, Option, Some, None}
+use Rattle.std.specs.Prelude.{◌≡◌, ℕ, ◌+◌, ◌<◌, ◌≤◌, Bool, true, false, not, ◌||◌, List, [], ◌∷◌, Option, Some, None}
 use Rattle.atomic_table.specs.Table.{Me}
 use Rattle.atomic_table.specs.Seated.{TableId}
 use Rattle.atomic_table.specs.declared.shared.Seat.{Seat}
@@ -7,7 +7,12 @@ use Rattle.bump_rules.specs.declared.bumps.Bump.{Bump}
 use Rattle.bump_rules.specs.Lanes.{is_half_made}
 use Rattle.bump_rules.specs.Lawful.{IsUsed}
 use Rattle.bump_rules.specs.Lives.{life}
+use Rattle.bump_rules.specs.Tables.{may_move}
 use Rattle.bump_rules.specs.Totals.{how_many}
+use Rattle.bump_rules.specs.declared.history.Change.{Change}
+use Rattle.bump_rules.specs.declared.history.Change.TheVariants as change
+use Rattle.bump_rules.specs.declared.places.Segment.{Segment}
+use Rattle.bump_rules.specs.declared.places.Segment.TheVariants as segment
 use Rattle.bump_rules.specs.Entries.{is_stray}
 use Rattle.bump_rules.specs.History.{AreBetween}
 use Rattle.bump_rules.specs.Labels.{label_of_life}
@@ -73,6 +78,32 @@ abbrev pub IsInRange : TableId → Option Bump → Type 0
 IsInRange table None = Unit {0}
 IsInRange table (Some bump) = HasChunk table bump.life.chunk
 
+-- ---- histories
+
+-- the entry is a move between segments that no table has: neither the tail table nor the update table
+abbrev pub is_barred : Change → Bool
+is_barred (change.Linked life) = false
+is_barred (change.LinkedTemp life) = false
+is_barred (change.Moved life from to cause) = not (may_move from to)
+is_barred (change.Unlinked life) = false
+is_barred (change.Swept life) = false
+is_barred (change.Retired life) = false
+
+abbrev pub is_temp : Segment → Bool
+is_temp segment.Hot = false
+is_temp segment.Warm = false
+is_temp segment.Cold = false
+is_temp segment.Temp = true
+
+-- the entry is a move from TEMP or to TEMP
+abbrev pub moves_temp : Change → Bool
+moves_temp (change.Linked life) = false
+moves_temp (change.LinkedTemp life) = false
+moves_temp (change.Moved life from to cause) = is_temp from || is_temp to
+moves_temp (change.Unlinked life) = false
+moves_temp (change.Swept life) = false
+moves_temp (change.Retired life) = false
+
 -- ---- classes
 
 abbrev pub class_in : View → ClassView
@@ -88,6 +119,8 @@ pub record IsClassPart (count : ℕ) (class : ClassPart) : Type 0 where
   -- its history speaks of its own chunks alone, and its moves for bumps are from COLD to WARM
   pub between : AreBetween class.first (class.first + class.count) class.history
   pub causes : how_many is_stray class.history ≡ 0
+  -- and each of its moves is one that a table has
+  pub allowed : how_many is_barred class.history ≡ 0
   -- a chunk that is not free has its life's label and words, which were stored before the life began
   pub labelled : (i c : ℕ) → owns c class ≡ true → IsUsed (standing class c).0
       → label_of_life (life c (standing class c).1) 0 (labels_of i class.labels class.words) ≡ Some (last_word i class c)

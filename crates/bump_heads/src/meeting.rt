@@ -1,14 +1,16 @@
-//! A hold meets its class, and a lane meets a class.
+//! A hold meets its class, and a class a lane, and the store's workers.
 ghost use Rattle.std.specs.Prelude.{◌≡◌, ℕ, suc, Some, None, IsSome, IfSome, true, slice_index};
 ghost use Rattle.bump_rules.specs.Labels.{label_of_life};
 ghost use Rattle.bump_rules.specs.Lawful.{IsUsed};
 ghost use Rattle.bump_steps.specs.Views.{owns, standing, last_label, last_word, of_word};
 ghost use Rattle.bump_readers.specs.Seats.{row_in};
-ghost use Rattle.bump_heads.specs.Applying.{NamesNoBumpTwice, TellsMoves};
+ghost use Rattle.bump_heads.specs.Applying.{NamesNoBumpTwice, TellsMoves, NamesWorkersBelow};
+ghost use Rattle.bump_rules.specs.Totals.{total};
+ghost use Rattle.bump_steps.specs.Meetings.{class_after_meet};
 
 use crate::seats::{ClassSeat, LaneSeat};
 use atomic_table::Badge;
-use bump_readers::{Hold, Name};
+use bump_readers::{Hold, Name, ReaderHeads};
 
 impl<N: Name> ClassSeat<N> {
     /// Shows a hold and its class each other: joins the hold's part to the class's seat, loads the label word, and
@@ -36,14 +38,14 @@ impl<N: Name> ClassSeat<N> {
         label
     }
 
-    /// Shows a class and a lane each other: joins the lane's part to the class's seat, makes one load, and splits the
-    /// lane off again. The lane must be whole, and no other one joined. From then on it is known that the class's
-    /// history names no bump twice, and that the moves that it has for bumps of the lane's worker are those that the
-    /// lane tells of items of the class. Nothing changes.
+    /// Shows a class and a lane each other: joins the lane's part to the class's seat, makes one load, which the class
+    /// notes, and splits the lane off again. The lane must be whole, and no other one joined. From then on it is known
+    /// that the class's history names no bump twice, and that the moves that it has for bumps of the lane's worker are
+    /// those that the lane tells of items of the class. Nothing else changes.
     pub fn meet_lane(&mut self, lane: &mut LaneSeat<N>)
         requires alone { self.old.lane ≡ None }
         requires whole { IsSome lane.old }
-        ensures class { self.new ≡ self.old }
+        ensures class { self.new ≡ record self.old { part = class_after_meet self.old.part } }
         ensures lane { lane.new ≡ lane.old }
         ensures once { NamesNoBumpTwice self.old.part }
         ensures moves { IfSome lane.old (TellsMoves self.old.part) }
@@ -53,5 +55,17 @@ impl<N: Name> ClassSeat<N> {
         words.join(&mut self.seat, seat);
         words.meet_lane(&mut self.seat);
         lane.badge = words.part_lanes(&mut self.seat).into_badge();
+    }
+
+    /// Shows a class and the workers of its store each other, by one load, which the class notes. No lane is joined. From
+    /// then on it is known that the class's history names no bump twice, and that each move for a bump that it has is of
+    /// one of these workers. Nothing else changes.
+    pub fn meet_workers(&mut self, heads: &ReaderHeads<N>)
+        requires alone { self.old.lane ≡ None }
+        ensures class { self.new ≡ record self.old { part = class_after_meet self.old.part } }
+        ensures once { NamesNoBumpTwice self.old.part }
+        ensures workers { NamesWorkersBelow heads.now.workers self.old.part }
+    {
+        heads.words().meet_workers(&mut self.seat);
     }
 }

@@ -5,9 +5,10 @@ ghost use Rattle.bump_steps.specs.Places.{rows, head_place};
 ghost use Rattle.bump_steps.specs.Views.{owns};
 ghost use Rattle.bump_steps.specs.declared.views.LanePart.{LanePart as TheLanePart};
 ghost use Rattle.bump_rules.specs.Lanes.{is_half_made};
+ghost use Rattle.bump_rules.specs.Totals.{how_many};
 ghost use Rattle.bump_heads.specs.Applying.{stage_of, KeepsJoined};
 ghost use Rattle.bump_heads.specs.Seats.{lane_views, lane_in_views, IsAtRest, IsOfWorker, class_in, class_me};
-ghost use Rattle.bump_heads.specs.Seats.{aboard_lane, most_workers, IsInRange, IsClassPart};
+ghost use Rattle.bump_heads.specs.Seats.{aboard_lane, most_workers, IsInRange, IsClassPart, is_barred};
 
 use crate::heads::Heads;
 use atomic_table::Badge;
@@ -38,6 +39,14 @@ impl<N: Name> Model for ClassSeat<N> {
 }
 
 impl<N: Name> ClassSeat<N> {
+    /// What every class's seat keeps: each move in its class's history is one that the tail table or the update table
+    /// has.
+    pub fn promise(&self)
+        ensures { how_many is_barred self.now.part.history ≡ 0 }
+    {
+        let _seat = &self.seat;
+    }
+
     /// The class's number, from 0.
     pub fn class(&self) -> u32
         ensures { result ≡ self.now.part.class }

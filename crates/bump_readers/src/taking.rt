@@ -6,7 +6,7 @@ ghost use Rattle.bump_word.specs.Words.{Fits, word_of};
 ghost use Rattle.bump_readers.specs.Seats.{spent_me, row_in};
 ghost use Rattle.bump_steps.specs.Rule.{chunks as all_chunks};
 ghost use Rattle.bump_readers.specs.Taking.{Took, TookAny, IsTakenBy, whole_hold};
-ghost use Rattle.bump_steps.specs.References.{IsRow, hold_after_look};
+ghost use Rattle.bump_steps.specs.References.{IsRow, hold_after_look, seen_me};
 
 use crate::heads::ReaderHeads;
 use crate::holds::Hold;
@@ -206,15 +206,18 @@ impl<N: Name> ReaderHeads<N> {
     }
 
     /// The head and the time of a chunk of the store, by two loads, between which other threads may change both. No
-    /// seat is needed. Of the time nothing is promised.
-    pub fn see(&self, chunk: u32) -> (Head, u64)
+    /// seat is needed: the load of the head makes one, which comes with them. It has that load in its list, of this
+    /// chunk and with the word of this head, and no part. Of the time nothing is promised.
+    pub fn see(&self, chunk: u32) -> (Head, u64, Seat)
         requires chunk { chunk < all_chunks self.now }
+        ensures seen { result.2.me ≡ seen_me chunk (word_of result.0) }
+        ensures table { result.2.table_id ≡ N.table }
         ensures limit { result.0.refs ≤ self.now.refs_limit }
         ensures linked { bit result.0.linked ≤ result.0.refs }
         ensures active { bit result.0.active ≤ bit result.0.fetched }
         ensures fits { Fits result.0 }
     {
-        let head = head_of(self.words.see(chunk));
-        (head, self.words.see_time_unlisted(chunk))
+        let (word, seat) = self.words.see(chunk);
+        (head_of(word), self.words.see_time_unlisted(chunk), seat)
     }
 }

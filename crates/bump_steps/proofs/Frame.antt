@@ -171,6 +171,7 @@ module _ (key : Config) (s : State Empty View) (o : Kept key s) (i c word j p : 
     own_labels = labelled_set s.views i v w me o.own_labels (back.labels (labelled_at s.views i v me o.own_labels));
     one_worker = λ n. omega (arith, total-set (workers_of n) s.views i v w me, back.workers n, o.one_worker n);
     one_lane = λ n. omega (arith, total-set (lanes_of n) s.views i v w me, back.lanes n, o.one_lane n);
+    few_lanes = λ n far. omega (arith, total-set (lanes_of n) s.views i v w me, back.lanes n, o.few_lanes n far);
     orderly = omega (arith, total-set untidy s.views i v w me, back.tidy, o.orderly);
   }
 
@@ -308,11 +309,13 @@ time_step key slots id m c f then near goes s o count me small =
           g.4,
         )
 
--- a load of a spare word, which leaves all as it is
-pub on_spare : (key : Config) (slots id : ℕ) (m : Sat) (c : ℕ) (then : ℕ → Sat → Type 0)
-    → ((n : ℕ) (t : Measure → ℕ) → Amid c m.0 t → then n m) → Allows (Kept key) slots id m 0 (λ n. n) then
-on_spare key slots id m c then goes s o count me small = let n : ℕ = get_or s.words 0 0 in (
-  m.0,
+-- a load of a spare word, which leaves all words as they are, where the seat goes on to a view that counts the same
+pub on_spare : (key : Config) (slots id : ℕ) (m : Sat) (w : View) (then : ℕ → Sat → Type 0)
+    → ((b : ℕ) → Same b m.0 w) → IsBacked m.0 w
+    → ((n : ℕ) (s : State Empty View) → Kept key s → get_elem? s.views id ≡ some m.0 → then n (w, m.1))
+    → Allows (Kept key) slots id m 0 (λ n. n) then
+on_spare key slots id m w then same back goes s o count me small = let n : ℕ = get_or s.words 0 0 in (
+  w,
   keeps,
   tt,
   record {
@@ -324,34 +327,32 @@ on_spare key slots id m c then goes s o count me small = let n : ℕ = get_or s.
               (λ e. omega (arith, e, place_behind (length s.homes) b))) k,
           sym (words_beside (length s.homes) s.words 0 n b
               (λ i low e. omega (arith, e, place_behind (length s.homes) b))) k,
-          same_tally s.views id b m.0 m.0 me (λ y. refl) k,
+          same_tally s.views id b m.0 w me (same b) k,
         )) (o.each b h);
-    one_class = λ b. omega (arith, total-set (weight b owners) s.views id m.0 m.0 me, o.one_class b);
-    true_entries = λ w e many. let old = o.true_entries w e in
-        omega (
-          arith,
-          total-set (evidence w e) s.views id m.0 m.0 me,
-          old (omega (arith, many, total-set (claims w e) s.views id m.0 m.0 me)),
-        );
+    one_class = λ b. omega (arith, total-set (weight b owners) s.views id m.0 w me, same b owners, o.one_class b);
+    true_entries = backed s.views id m.0 w me back o.true_entries;
     even_moves = λ q. omega (
       arith,
-      total-set (moves q) s.views id m.0 m.0 me,
-      total-set (settled q) s.views id m.0 m.0 me,
+      total-set (moves q) s.views id m.0 w me,
+      total-set (settled q) s.views id m.0 w me,
+      back.even q,
       o.even_moves q,
     );
     named_moves = λ q. omega (
       arith,
-      total-set (in_progress q) s.views id m.0 m.0 me,
-      total-set (underway q) s.views id m.0 m.0 me,
+      total-set (in_progress q) s.views id m.0 w me,
+      total-set (underway q) s.views id m.0 w me,
+      back.progress q,
       o.named_moves q,
     );
-    own_chunks = omega (arith, total-set foreign s.views id m.0 m.0 me, o.own_chunks);
-    own_labels = labelled_set s.views id m.0 m.0 me o.own_labels (labelled_at s.views id m.0 me o.own_labels);
-    one_worker = λ w. omega (arith, total-set (workers_of w) s.views id m.0 m.0 me, o.one_worker w);
-    one_lane = λ w. omega (arith, total-set (lanes_of w) s.views id m.0 m.0 me, o.one_lane w);
-    orderly = omega (arith, total-set untidy s.views id m.0 m.0 me, o.orderly);
+    own_chunks = omega (arith, total-set foreign s.views id m.0 w me, back.own, o.own_chunks);
+    own_labels = labelled_set s.views id m.0 w me o.own_labels (back.labels (labelled_at s.views id m.0 me o.own_labels));
+    one_worker = λ k. omega (arith, total-set (workers_of k) s.views id m.0 w me, back.workers k, o.one_worker k);
+    one_lane = λ k. omega (arith, total-set (lanes_of k) s.views id m.0 w me, back.lanes k, o.one_lane k);
+    few_lanes = λ k far. omega (arith, total-set (lanes_of k) s.views id m.0 w me, back.lanes k, o.few_lanes k far);
+    orderly = omega (arith, total-set untidy s.views id m.0 w me, back.tidy, o.orderly);
   },
-  goes n (tally s.views c) (amid key s o c id m.0 me),
+  goes n s o me,
 )
 
 pub same_sound : (limit n : ℕ) (x : ℕ → ℕ) (t u : Measure → ℕ) → ((y : Measure) → u y ≡ t y) → Sound limit n x t
@@ -391,6 +392,7 @@ splits key id v left right even entries rides owned labels workers lanes tidy s 
       right (labelled_set s.views id v left me o.own_labels have.0) have.1;
   one_worker = λ n. omega (arith, keep (workers_of n) (workers n), o.one_worker n);
   one_lane = λ n. omega (arith, keep (lanes_of n) (lanes n), o.one_lane n);
+  few_lanes = λ n far. omega (arith, keep (lanes_of n) (lanes n), o.few_lanes n far);
   orderly = omega (arith, keep untidy tidy, o.orderly);
 }
   where
@@ -428,6 +430,7 @@ joins key id v other w both spent even entries rides owned labels workers lanes 
       spent them (labelled_set s.views id v both me o.own_labels have.0) have.1;
   one_worker = λ n. omega (arith, keep (workers_of n) (workers n), o.one_worker n);
   one_lane = λ n. omega (arith, keep (lanes_of n) (lanes n), o.one_lane n);
+  few_lanes = λ n far. omega (arith, keep (lanes_of n) (lanes n), o.few_lanes n far);
   orderly = omega (arith, keep untidy tidy, o.orderly);
 }
   where

@@ -10,14 +10,19 @@ use Rattle.bump_steps.specs.declared.views.HoldPart.{HoldPart}
 use Rattle.bump_steps.specs.declared.views.ClassPart.{ClassPart}
 use Rattle.bump_steps.specs.declared.views.View.{View}
 use Rattle.bump_rules.specs.Lives.{life, one_if}
-use Rattle.bump_steps.specs.Views.{Measure, held, mislabels, owns, standing, last_word, weight}
+use Rattle.bump_steps.specs.Views.{Measure, held, mislabels, owns, standing, last_word, weight, misreads, moves}
 use Rattle.bump_steps.specs.Rule.{Sound, chunks, Kept}
 use Rattle.bump_steps.specs.Places.{head_place}
 use Rattle.bump_steps.specs.Plays.{Sat, behind, on_label, Told, Stands}
 use Rattle.bump_steps.proofs.Referring.{first_life, first_row}
 use Rattle.bump_steps.proofs.Told.{tells, stands_alone}
-use Rattle.bump_steps.specs.Meetings.{load_to_meet_tells, load_to_meet_lane_tells, Meets}
-use Rattle.bump_steps.proofs.Frame.{Amid, on_words_load, on_spare, same_sound}
+use Rattle.bump_steps.specs.declared.views.Kind.TheVariants as kind
+use Rattle.bump_steps.specs.Lives.{on_class}
+use Rattle.bump_steps.specs.Meetings.{load_to_meet_tells, load_to_meet_lane_tells, load_to_meet_workers_tells, class_after_meet, Meets}
+use Rattle.bump_steps.proofs.Frame.{Amid, amid, on_words_load, on_spare, same_sound}
+use Rattle.bump_steps.proofs.Looking.{look_same, look_backed}
+use Rattle.bump_steps.proofs.Once.{settled_nowhere}
+use Rattle.bump_steps.proofs.Sums.{term_le}
 use Rattle.bump_steps.proofs.StepLemmas.{at_label, one_life}
 
 equal_where : (own b : Bool) → own ≡ true → bit (own && not b) ≡ 0 → b ≡ true
@@ -90,5 +95,23 @@ may_load_to_meet key slots id m c near = at_label load_to_meet_tells key slots i
 -- a lane that is joined to a class's seat
 pub may_load_to_meet_lane : (key : Config) (slots id : ℕ) (m : Sat) → Allows (Kept key) slots id m 0 (λ x. x)
     (load_to_meet_lane_tells (step slots 0 0 0 none) m)
-may_load_to_meet_lane key slots id m = on_spare key slots id m 0 (load_to_meet_lane_tells (step slots 0 0 0 none) m)
-    (λ n t a. (refl, record { once = a.once; own = a.own; told = a.told }))
+may_load_to_meet_lane key slots id m = on_spare key slots id m (on_class class_after_meet m.0)
+    (load_to_meet_lane_tells (step slots 0 0 0 none) m) (look_same kind.Meet 0 0 m.0) (look_backed kind.Meet 0 0 m.0)
+    (λ n s o me. let a = amid key s o 0 id m.0 me in (refl, record { once = a.once; own = a.own; told = a.told }))
+
+-- a class's seat alone: a worker that the store hasn't has no lane, and so no move
+pub may_load_to_meet_workers : (key : Config) (slots id : ℕ) (m : Sat) → Allows (Kept key) slots id m 0 (λ x. x)
+    (load_to_meet_workers_tells key.workers (step slots 0 0 0 none) m)
+may_load_to_meet_workers key slots id m = on_spare key slots id m (on_class class_after_meet m.0)
+    (load_to_meet_workers_tells key.workers (step slots 0 0 0 none) m) (look_same kind.Meet 0 0 m.0)
+    (look_backed kind.Meet 0 0 m.0)
+    (λ n s o me. let a = amid key s o 0 id m.0 me in (
+      refl,
+      λ q far. omega (
+        arith,
+        term_le (moves q) s.views id m.0 me,
+        o.even_moves q,
+        settled_nowhere q s.views (o.few_lanes q.worker far),
+      ),
+      record { once = a.once; own = a.own; told = a.told },
+    ))

@@ -121,6 +121,12 @@ settled_none q ls none = none_where_none (λ l. cond (l.worker == q.worker) 1 0)
     by true e n = absurd (omega (arith, e))
     by false e n = refl
 
+-- where no lane is of the worker, no move of its bumps is told
+pub settled_nowhere : (q : Query) (views : List View) → total (lanes_of q.worker) views ≡ 0
+    → total (settled q) views ≡ 0
+settled_nowhere q views none = none_where_none (lanes_of q.worker) (settled q) (λ w e. settled_none q w.lanes e) views
+    none
+
 -- the view that has the worker's lane tells of all moves of its bumps
 pub settled_here : (q : Query) (views : List View) (i : ℕ) (v : View) → get_elem? views i ≡ some v
     → total (lanes_of q.worker) views ≤ 1 → 0 < lanes_of q.worker v → total (settled q) views ≡ settled q v

@@ -33,12 +33,12 @@ use Rattle.bump_steps.specs.declared.views.WorkerPart.{WorkerPart}
 use Rattle.bump_steps.specs.Places.{head_place}
 use Rattle.bump_steps.specs.Plays.{Sat, Found, on_chunk, on_row, on_label, on_word, behind, on_first, step_of}
 use Rattle.bump_steps.specs.Marks.{noted, on_worker}
-use Rattle.bump_steps.specs.References.{load_to_take_tells, new_hold, view_after_take, take_tells, HasHold, view_after_release, release_of_hold_tells, hold_after_look, view_after_look_of_hold, look_of_hold_tells, IsRow, IsOfRow, label_load_tells, word_load_tells, IsAnyHead, load_without_seat_tells}
+use Rattle.bump_steps.specs.References.{load_to_take_tells, new_hold, view_after_take, take_tells, HasHold, view_after_release, release_of_hold_tells, hold_after_look, view_after_look_of_hold, look_of_hold_tells, IsRow, IsOfRow, label_load_tells, word_load_tells, IsAnyHead, load_without_seat_tells, seen_me}
 use Rattle.bump_steps.specs.Rule.{Sound, chunks, Kept, blank, HasFittingLimit}
 use Rattle.bump_steps.specs.Views.{Measure, held, named, saw, owners, strays, mislabels, misreads, is_fetch, is_fetch_of, in_hand, misread, weight, tally, claims, evidence, shown_by, moves, settled, in_progress, underway, foreign, workers_of, lanes_of, untidy, IsBacked}
 use Rattle.bump_steps.proofs.LifeLabels.{labelled_push}
 use Rattle.bump_steps.proofs.Frame.{Same, Amid, Reaches, on_words_load, same_sound}
-use Rattle.bump_steps.proofs.StepLemmas.{at_chunk, at_row, at_label, at_word, on_first_total, same_counts, level, one_life, other_life, other_chunk}
+use Rattle.bump_steps.proofs.StepLemmas.{at_chunk, at_row, at_label, at_word, on_first_total, same_counts, level, one_life, other_life, other_chunk, chunk_is}
 use Rattle.bump_steps.proofs.Told.{tells}
 
 -- Two views count the same for the chunk but for references, and the second one no more holds in whose row there is
@@ -406,63 +406,66 @@ module _ (key : Config) (slots id : ℕ) (m : Sat) (c : ℕ) (near : c < chunks 
   may_load_word j low = at_word word_load_tells key slots id m c j 0 (λ x. x) (λ x. x) low
       (may_read (suc j) (omega (arith, low)))
 
--- the view that has nothing counts nothing
-nothing : (c : ℕ) (y : Measure) → weight c y blank ≡ 0
-nothing c (held g) = refl
-nothing c (named g) = refl
-nothing c (saw g) = refl
-nothing c owners = refl
-nothing c (strays s) = refl
-nothing c (mislabels i x) = refl
-nothing c (misreads i g x) = refl
+-- the view that has no part counts nothing
+nothing : (b c n : ℕ) (y : Measure) → weight b y (seen_me c n).0 ≡ 0
+nothing b c n (held g) = refl
+nothing b c n (named g) = refl
+nothing b c n (saw g) = refl
+nothing b c n owners = refl
+nothing b c n (strays s) = refl
+nothing b c n (mislabels i x) = refl
+nothing b c n (misreads i g x) = refl
 
 -- a load of a head word, without a seat
 pub may_load_without_seat : (key : Config) (slots c : ℕ) (first : View) → c < chunks key → Enters (Kept key) slots
     (head_place slots c) (λ n w. on_chunk (load_without_seat_tells key.refs_limit) (step slots (head_place slots c) 0 0 none)
     (first, []) n (w, []))
-may_load_without_seat key slots c first near s o count small = let e = o.each c near in (
-  blank,
-  record {
-    wide = o.wide;
-    small = o.small;
-    each = λ b h. same_sound key.refs_limit _ _ (tally s.views b) (tally (s.views ++ blank ∷ []) b)
-        (λ y. omega (arith, total_push (weight b y) s.views blank, nothing b y)) (o.each b h);
-    one_class = λ b. omega (arith, total_push (weight b owners) s.views blank, o.one_class b);
-    true_entries = λ w a many. let old = o.true_entries w a in
-        omega (
-          arith,
-          total_push (evidence w a) s.views blank,
-          old (omega (arith, many, total_push (claims w a) s.views blank)),
-        );
-    even_moves = λ q. omega (
-      arith,
-      total_push (moves q) s.views blank,
-      total_push (settled q) s.views blank,
-      o.even_moves q,
-    );
-    named_moves = λ q. omega (
-      arith,
-      total_push (in_progress q) s.views blank,
-      total_push (underway q) s.views blank,
-      o.named_moves q,
-    );
-    own_chunks = omega (arith, total_push foreign s.views blank, o.own_chunks);
-    own_labels = labelled_push s.views blank o.own_labels tt;
-    one_worker = λ n. omega (arith, total_push (workers_of n) s.views blank, o.one_worker n);
-    one_lane = λ n. omega (arith, total_push (lanes_of n) s.views blank, o.one_lane n);
-    orderly = omega (arith, total_push untidy s.views blank, o.orderly);
-  },
-  λ d at. (
-    refl,
-    subst (λ (z : ℕ). Found (get_or s.words (head_place z c) 0) (IsAnyHead key.refs_limit)) count (
-      e.head,
-      e.spells,
+may_load_without_seat key slots c first near s o count small =
+    let e = o.each c near in
+    let n : ℕ = get_or s.words (head_place slots c) 0 in (
+      (seen_me c n).0,
       record {
-        within = e.lawful.within;
-        linked = omega (arith, e.lawful.counted);
-        active =
-            e.lawful.active;
+        wide = o.wide;
+        small = o.small;
+        each = λ b h. same_sound key.refs_limit _ _ (tally s.views b) (tally (s.views ++ (seen_me c n).0 ∷ []) b)
+            (λ y. omega (arith, total_push (weight b y) s.views (seen_me c n).0, nothing b c n y)) (o.each b h);
+        one_class = λ b. omega (arith, total_push (weight b owners) s.views (seen_me c n).0, o.one_class b);
+        true_entries = λ w a many. let old = o.true_entries w a in
+            omega (
+              arith,
+              total_push (evidence w a) s.views (seen_me c n).0,
+              old (omega (arith, many, total_push (claims w a) s.views (seen_me c n).0)),
+            );
+        even_moves = λ q. omega (
+          arith,
+          total_push (moves q) s.views (seen_me c n).0,
+          total_push (settled q) s.views (seen_me c n).0,
+          o.even_moves q,
+        );
+        named_moves = λ q. omega (
+          arith,
+          total_push (in_progress q) s.views (seen_me c n).0,
+          total_push (underway q) s.views (seen_me c n).0,
+          o.named_moves q,
+        );
+        own_chunks = omega (arith, total_push foreign s.views (seen_me c n).0, o.own_chunks);
+        own_labels = labelled_push s.views (seen_me c n).0 o.own_labels tt;
+        one_worker = λ k. omega (arith, total_push (workers_of k) s.views (seen_me c n).0, o.one_worker k);
+        one_lane = λ k. omega (arith, total_push (lanes_of k) s.views (seen_me c n).0, o.one_lane k);
+        few_lanes = λ k far. omega (arith, total_push (lanes_of k) s.views (seen_me c n).0, o.few_lanes k far);
+        orderly = omega (arith, total_push untidy s.views (seen_me c n).0, o.orderly);
       },
-    ),
-  ),
-)
+      λ d at. (
+        ap (λ (b : ℕ). seen_me b n) (chunk_is slots c d 0 (omega arith) (omega (arith, at))),
+        subst (λ (z : ℕ). Found (get_or s.words (head_place z c) 0) (IsAnyHead key.refs_limit)) count (
+          e.head,
+          e.spells,
+          record {
+            within = e.lawful.within;
+            linked = omega (arith, e.lawful.counted);
+            active =
+                e.lawful.active;
+          },
+        ),
+      ),
+    )

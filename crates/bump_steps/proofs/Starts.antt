@@ -209,6 +209,15 @@ one_of n w (suc m) = dite (ℕ_discrete w n)
     (λ e. omega (arith, ap {B = ℕ} (λ (b : Bool). cond b 1 0) (eq-eqb w n e), none_of n (w + 1) m (omega arith)))
     (λ ne. omega (arith, ap {B = ℕ} (λ (b : Bool). cond b 1 0) (ne_eqb w n ne), one_of n (w + 1) m))
 
+-- and none is of a number behind them
+none_above : (n w m : ℕ) → w + m ≤ n → total (λ l. cond (eqb l.worker n) 1 0) (lane_parts w m) ≡ 0
+none_above n w zero h = refl
+none_above n w (suc m) h = omega (
+  arith,
+  ap {B = ℕ} (λ (b : Bool). cond b 1 0) (ne_eqb w n (λ e. omega (arith, h, e))),
+  none_above n (w + 1) m (omega arith),
+)
+
 -- and the same of workers
 no_worker_of : (n w m : ℕ) → n < w → total (λ p. cond (eqb p.worker n) 1 0) (worker_parts w m) ≡ 0
 no_worker_of n w zero h = refl
@@ -274,6 +283,7 @@ starts key words slots at_first limits generations = record {
   own_labels = (fresh_labels (key.first_generation - 1) 0 0 key.classes, tt);
   one_worker = λ n. omega (arith, one_worker_of n 0 key.workers);
   one_lane = λ n. omega (arith, one_of n 0 key.workers);
+  few_lanes = λ n far. omega (arith, none_above n 0 key.workers (omega (arith, far)));
   orderly = omega (arith, no_lanes untidy_in (λ w. refl) 0 key.workers);
 }
   where

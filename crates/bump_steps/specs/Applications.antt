@@ -16,6 +16,7 @@ use Rattle.bump_rules.specs.declared.lanes.Lane.TheVariants as lane
 use Rattle.bump_rules.specs.History.{place_of}
 use Rattle.bump_rules.specs.Lanes.{applied_bump}
 use Rattle.bump_rules.specs.Lives.{life}
+use Rattle.bump_rules.specs.Tables.{may_move}
 use Rattle.bump_rules.specs.Entries.{is_moved}
 use Rattle.bump_steps.specs.declared.views.Kind.{Kind}
 use Rattle.bump_steps.specs.declared.views.Kind.TheVariants as kind
@@ -194,10 +195,11 @@ MayTry chunk view = (k : ClassPart) × (l : LanePart) × (b : Bump) × Fronts ch
 abbrev pub StandsIn : Segment → ℕ → ClassPart → Type 0
 StandsIn from chunk class = (owns chunk class ≡ true) × ((standing class chunk).0 ≡ place_of from)
 
--- no lane is joined, and the chunk stands where it is moved from
-pub record MovesByPull (from : Segment) (chunk : ℕ) (seat : View) (class : ClassPart) : Type 0 where
+-- no lane is joined, the chunk stands where it is moved from, and the tail table has such a move
+pub record MovesByPull (from to : Segment) (chunk : ℕ) (seat : View) (class : ClassPart) : Type 0 where
   pub view : seat ≡ alone class
   pub stands : StandsIn from chunk class
+  pub may : may_move from to ≡ true
 
 -- ACTIVE was found and cleared for the bump aboard, which is of this chunk, and the chunk is moved from COLD to WARM
 pub record MovesForBump (from to : Segment) (here : ℕ) (seat : View) (class : ClassPart) (this_lane : LanePart)
@@ -211,7 +213,7 @@ pub record MovesForBump (from to : Segment) (here : ℕ) (seat : View) (class : 
   pub to_warm : to ≡ Warm
 
 abbrev pub MayMove : Segment → Segment → ℕ → View → Type 0
-MayMove from to chunk view = ((k : ClassPart) × MovesByPull from chunk view k) ⊎
+MayMove from to chunk view = ((k : ClassPart) × MovesByPull from to chunk view k) ⊎
     ((k : ClassPart) × (l : LanePart) × (b : Bump) × MovesForBump from to chunk view k l b)
 
 abbrev pub is_past_move : Lane → Bool

@@ -13,6 +13,7 @@ joined view other = record {
   classes = view.classes ++ other.classes;
   lanes = view.lanes ++ other.lanes;
   returned = view.returned ++ other.returned;
+  seen = view.seen ++ other.seen;
 }
 
 abbrev pub without_lanes : View → View

@@ -1,6 +1,6 @@
 -- What a reader's steps on a reference tell: a worker looks at a head word and takes a reference by an exchange, and a
 -- hold gives its reference back, and reads its words. And what is told of a word that is seen without a seat.
-use Rattle.std.specs.Prelude.{◌≡◌, ◌≢◌, ℕ, suc, ◌+◌, ◌/◌, ◌^◌, ◌≤◌, List, [], ◌∷◌, ◌++◌, length, slice_index}
+use Rattle.std.specs.Prelude.{◌≡◌, ◌≢◌, ℕ, suc, ◌+◌, ◌/◌, ◌^◌, ◌≤◌, List, [], ◌∷◌, ◌++◌, length, slice_index, None}
 use Rattle.bump_rules.specs.declared.items.Head.{Head}
 use Rattle.bump_rules.specs.declared.items.ItemId.{ItemId}
 use Rattle.bump_rules.specs.Lawful.{bit}
@@ -12,7 +12,7 @@ use Rattle.bump_steps.specs.declared.views.GivenBack.{GivenBack}
 use Rattle.bump_steps.specs.declared.views.HoldPart.{HoldPart}
 use Rattle.bump_steps.specs.declared.views.Kind.TheVariants as kind
 use Rattle.bump_steps.specs.declared.views.View.{View}
-use Rattle.bump_steps.specs.Plays.{Tells, Found, Told, behind, on_first}
+use Rattle.bump_steps.specs.Plays.{Sat, Tells, Found, Told, behind, on_first, step_of}
 use Rattle.bump_steps.specs.Marks.{noted, on_worker}
 use Rattle.bump_steps.specs.Rule.{blank}
 
@@ -105,6 +105,11 @@ pub record IsAnyHead (limit : ℕ) (head : Head) : Type 0 where
   -- ACTIVE implies FETCHED
   pub active : bit head.active ≤ bit head.fetched
 
--- a load without a seat: the new seat knows nothing
+-- a seat that was made by a load of the chunk's head, which found n: it knows that load, and nothing else
+abbrev pub seen_me : ℕ → ℕ → Sat
+seen_me chunk word = (record blank { seen = step_of kind.Load chunk word None ∷ [] }, [])
+
+-- a load without a seat of the caller's
 abbrev pub load_without_seat_tells : ℕ → Tells
-load_without_seat_tells limit chunk operand before word after = (after ≡ (blank, [])) × Found word (IsAnyHead limit)
+load_without_seat_tells limit chunk operand before word after = (after ≡ seen_me chunk word)
+    × Found word (IsAnyHead limit)

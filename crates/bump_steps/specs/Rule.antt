@@ -75,6 +75,8 @@ pub record Kept (key : Config) (state : State Empty View) : Type 0 where
   -- a worker has one part and one lane, and each lane's bumps are numbered in order
   pub one_worker : (n : ℕ) → total (workers_of n) state.views ≤ 1
   pub one_lane : (n : ℕ) → total (lanes_of n) state.views ≤ 1
+  -- and a number that is no worker's has no lane
+  pub few_lanes : (n : ℕ) → key.workers ≤ n → total (lanes_of n) state.views ≡ 0
   pub orderly : total untidy state.views ≡ 0
 
 -- The views at the start: one seat has every part.
@@ -113,7 +115,7 @@ lane_parts worker (suc count) = lane_part worker ∷ lane_parts (worker + 1) cou
 
 -- the view that has nothing: what a seat that was joined leaves behind
 abbrev pub blank : View
-blank = record { workers = []; holds = []; riders = []; classes = []; lanes = []; returned = [] }
+blank = record { workers = []; holds = []; riders = []; classes = []; lanes = []; returned = []; seen = [] }
 
 abbrev pub opened : Config → View
 opened key = record blank {

@@ -73,6 +73,9 @@ pub enum Kind {
 
     /// A head word was loaded for the generation in it.
     SeeGeneration,
+
+    /// A spare word was loaded, by which a class meets a lane, or the store's workers. Its chunk and its word are 0.
+    Meet,
 }
 
 /// A step that a seat made.
@@ -219,6 +222,9 @@ pub struct View {
 
     /// References of holds that it gave back, in order. No sum counts them.
     pub returned: LinkedList<GivenBack>,
+
+    /// The loads of heads that made it, in order: one of a seat that a load made, which has no part. No sum counts them.
+    pub seen: LinkedList<OwnStep>,
 }
 
 /// What lies in a slot of the table. The table has none.

@@ -9,3 +9,4 @@ mod SettlingLemmas
 mod PassLemmas
 mod FinishingLemmas
 mod RunLemmas
+mod MeetingLemmas

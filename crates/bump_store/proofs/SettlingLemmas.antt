@@ -240,12 +240,14 @@ without_any [] none = refl
 without_any (x ∷ xs) none = absurd (omega (arith, none))
 
 -- what a look for the end comes to
-pub looked_once : (sent : List Ride) (before after : LaneView) (left : Option ℕ)
+pub looked_once : (sent : List Ride) (capacity : ℕ) (before after : LaneView) (left : Option ℕ)
     → after ≡ record before { known = after.known }
-    → IfSome left (λ count. sent ≡ after.received ++ after.known) → IfNone left (after ≡ before)
-    → MaySeeEnd sent before after
-looked_once sent before after None lane end same = record { lane = lane; left = inl same }
-looked_once sent before after (Some count) lane end same = record { lane = lane; left = inr end }
+    → IfSome left (λ count. sent ≡ after.received ++ after.known)
+    → IfSome left (λ count. count ≡ length after.known) → IfSome left (λ count. count ≤ capacity)
+    → IfNone left (after ≡ before) → MaySeeEnd sent capacity before after
+looked_once sent capacity before after None lane end number few same = record { lane = lane; left = inl same }
+looked_once sent capacity before after (Some count) lane end number few same =
+    record { lane = lane; left = inr (end, omega (arith, number, few)) }
 
 -- where it shows that nothing is left, all was applied
 pub all_at_end : (sent : List Ride) (before after : LaneView) (left : Option ℕ) → IsRawLane before.part before.received
@@ -318,3 +320,14 @@ pub all_at_none_left : (before after : LaneView) (sent : List Ride) (left : ℕ)
     → length (entries after) + left ≡ length sent → left ≡ 0 → AppliedAll sent after
 all_at_none_left before after sent left keeps same end number none =
     all_if_as_many after sent (knows_more before after same keeps) end (omega (arith, number, none))
+
+-- what was sent was applied, is aboard, or is known to be left
+pub sent_in_parts : (before after : LaneView) (sent : List Ride) → IsRawLane before.part before.received
+    → after ≡ record before { known = after.known } → sent ≡ after.received ++ after.known
+    → length sent ≡ length (entries after) + length (aboard after.part.stage) + length after.known
+sent_in_parts before after sent keeps same end = omega (
+  arith,
+  received_long after (knows_more before after same keeps),
+  ap length end,
+  length-append after.received after.known,
+)

@@ -7,6 +7,7 @@ pub mod StepCounts
 pub mod Attempts
 pub mod Stores
 pub mod Lanes
+pub mod Meetings
 pub mod Loans
 pub mod Closing
 pub mod Settling

@@ -1,5 +1,5 @@
 -- What lanes do with rings that are closed.
-use Rattle.std.specs.Prelude.{◌≡◌, ℕ, suc, ◌+◌, ◌*◌, ◌⊎◌, List, [], ◌∷◌, ◌++◌, length, map}
+use Rattle.std.specs.Prelude.{◌≡◌, ℕ, suc, ◌+◌, ◌*◌, ◌≤◌, ◌⊎◌, List, [], ◌∷◌, ◌++◌, length, map}
 use mathlib.Core.List.{IsPrefix}
 use Rattle.bump_rules.specs.declared.bumps.Entry.{Entry}
 use Rattle.bump_rules.specs.declared.lanes.Lane.TheVariants.{Empty}
@@ -13,10 +13,11 @@ use Rattle.bump_store.specs.Lanes.{AppliesNext, NothingAboard, told}
 abbrev pub AppliedAll : List Ride → LaneView → Type 0
 AppliedAll bumps this_lane = map bump_applied (entries this_lane) ≡ numbered_from 0 (lives bumps)
 
--- A lane may have been shown the end of its ring, of which this was sent: then it knows all that is left.
-pub record MaySeeEnd (sent : List Ride) (before after : LaneView) : Type 0 where
+-- A lane may have been shown the end of its ring, of this room and of which this was sent: then it knows all that is
+-- left, which has room in the ring.
+pub record MaySeeEnd (sent : List Ride) (capacity : ℕ) (before after : LaneView) : Type 0 where
   pub lane : after ≡ record before { known = after.known }
-  pub left : (after ≡ before) ⊎ (sent ≡ after.received ++ after.known)
+  pub left : (after ≡ before) ⊎ ((sent ≡ after.received ++ after.known) × (length after.known ≤ capacity))
 
 -- A lane as it is so many bumps later.
 pub record IsLater (count : ℕ) (before after : LaneView) : Type 0 where

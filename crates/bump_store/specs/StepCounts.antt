@@ -33,6 +33,7 @@ is_load x = by x.kind
     by kind.SeeLabel = false
     by kind.SeeWord = false
     by kind.SeeGeneration = false
+    by kind.Meet = false
 
 -- an exchange on a head word that takes a reference, or failed to
 abbrev pub is_exchange : OwnStep → Bool
@@ -62,6 +63,7 @@ is_exchange x = by x.kind
     by kind.SeeLabel = false
     by kind.SeeWord = false
     by kind.SeeGeneration = false
+    by kind.Meet = false
 
 -- another step of a worker on a head word
 abbrev pub is_other : OwnStep → Bool
@@ -91,6 +93,7 @@ is_other x = by x.kind
     by kind.SeeLabel = false
     by kind.SeeWord = false
     by kind.SeeGeneration = false
+    by kind.Meet = false
 
 -- The steps that were made are at most so many loads, so many exchanges, and so many others on a head word.
 pub record MakesAtMost (loads exchanges others : ℕ) (before after : List OwnStep) : Type 0 where

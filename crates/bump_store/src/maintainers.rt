@@ -1,10 +1,17 @@
 //! The maintainer, which has the lanes of all workers.
-ghost use Rattle.std.specs.Prelude.{◌≡◌, ◌<◌, ◌≤◌, ◌+◌, List as TheList, Some, length, slice_get};
+ghost use Rattle.std.specs.Prelude.{◌≡◌, ◌<◌, ◌≤◌, ◌+◌, List as TheList, Some, length, slice_get, All};
+ghost use Rattle.bump_rules.specs.Entries.{moves_of};
+ghost use Rattle.bump_heads.specs.Applying.{NamesNoBumpTwice, NamesWorkersBelow};
+ghost use Rattle.bump_class.specs.Applications.{EachMoveIsTold, moved_in};
+ghost use Rattle.bump_class.specs.Changes.{book_after_meets};
+ghost use Rattle.bump_class.specs.Lanes.{entries};
 ghost use Rattle.bump_store.specs.Lanes.{LaneState as TheLaneState};
+ghost use Rattle.bump_store.specs.Meetings.{AreAllLanes, EachIsTold};
 ghost use Rattle.bump_store.specs.Passes.{all_applied, AllDrained};
 
 use crate::lanes::Lane;
 use crate::stores::Store;
+use bump_class::Book;
 use bump_heads::Name;
 use std::marker::Model;
 use std::sync::Wait;
@@ -50,6 +57,29 @@ impl<N: Name> Maintainer<N> {
             count += self.lanes[worker].drain(rt, store, now);
         }
         count
+    }
+
+    /// Shows all lanes and the Book of a class each other, by one load for each lane and one more, which the class
+    /// notes. It answers nothing, and changes nothing else: from then on it is known that the class's history names no
+    /// bump twice; that each move for a bump that it has is of one of the store's workers; that for each of these lanes
+    /// each move for its worker's bumps is its entry of that bump's number, with the same life and the outcome Moved,
+    /// and there are as many; and so, where the lanes are those of all workers, that each move for a bump that the
+    /// history has is such an entry of one of them.
+    pub fn meet(&mut self, store: &Store<N>, book: &mut Book<N>)
+        ensures lanes { self.new ≡ self.old }
+        ensures book { book.new ≡ book_after_meets (length self.old + 1) book.old }
+        ensures once { NamesNoBumpTwice book.old.part }
+        ensures workers { NamesWorkersBelow store.now.workers book.old.part }
+        ensures told { All (λ l. EachMoveIsTold book.old.part l.lane.part) self.old }
+        ensures moves { All (λ l. moves_of l.lane.part.worker book.old.part.history
+            ≡ moved_in book.old.part (entries l.lane)) self.old }
+        ensures all_told { AreAllLanes store.now.workers self.old → EachIsTold book.old.part self.old }
+    {
+        let count = self.lanes.len();
+        for worker in 0..count {
+            self.lanes[worker].meet(book);
+        }
+        book.meet_workers(store);
     }
 
     /// The lanes, by number.

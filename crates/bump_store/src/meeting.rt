@@ -7,6 +7,7 @@ ghost use Rattle.bump_steps.specs.Views.{owns, of_word};
 ghost use Rattle.bump_rules.specs.Entries.{moves_of};
 ghost use Rattle.bump_heads.specs.Applying.{NamesNoBumpTwice};
 ghost use Rattle.bump_class.specs.Applications.{EachMoveIsTold, moved_in};
+ghost use Rattle.bump_class.specs.Changes.{book_after_meet};
 ghost use Rattle.bump_class.specs.Lanes.{entries};
 
 use crate::holds::Hold;
@@ -35,14 +36,14 @@ impl<N: Name> Hold<N> {
 }
 
 impl<N: Name> Lane<N> {
-    /// Shows a lane and the Book of a class each other, by one load. It answers nothing, and changes nothing: from then
-    /// on it is known that the class's history names no bump twice; that each move that it has for a bump of the lane's
-    /// worker is this lane's entry of that bump's number, with the same life and the outcome Moved; and that there are
-    /// as many such moves as the lane has entries with the outcome Moved of items of the class. So `moves` of the Book
-    /// tells how many these are.
+    /// Shows a lane and the Book of a class each other, by one load, which the class notes. It answers nothing, and
+    /// changes nothing else: from then on it is known that the class's history names no bump twice; that each move that
+    /// it has for a bump of the lane's worker is this lane's entry of that bump's number, with the same life and the
+    /// outcome Moved; and that there are as many such moves as the lane has entries with the outcome Moved of items of
+    /// the class. So `moves` of the Book tells how many these are.
     pub fn meet(&mut self, book: &mut Book<N>)
         ensures lane { self.new ≡ self.old }
-        ensures book { book.new ≡ book.old }
+        ensures book { book.new ≡ book_after_meet book.old }
         ensures once { NamesNoBumpTwice book.old.part }
         ensures told { EachMoveIsTold book.old.part self.old.lane.part }
         ensures moves { moves_of self.old.lane.part.worker book.old.part.history

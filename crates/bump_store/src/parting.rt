@@ -1,6 +1,7 @@
 //! A store in parts, for callers whose locks are their own.
-ghost use Rattle.std.specs.Prelude.{◌≡◌, ◌+◌, ◌-◌, ◌++◌, ◌↔◌, length, map, All, IfOk, IfSome, IfNone, IsNone, false};
+ghost use Rattle.std.specs.Prelude.{◌≡◌, ◌≤◌, ◌+◌, ◌-◌, ◌++◌, ◌↔◌, length, map, All, IfOk, IfSome, IfNone, IsNone, false};
 ghost use Rattle.std.specs.Arc.{arc_value};
+ghost use Rattle.bump_rules.specs.Rings.{aboard};
 ghost use Rattle.bump_class.specs.Lanes.{entries};
 ghost use Rattle.bump_steps.specs.Rule.{class_parts, worker_parts, lane_parts};
 ghost use Rattle.bump_store.specs.Lanes.{LaneState as TheLaneState, worker_rings, worker_parts_of};
@@ -95,8 +96,9 @@ impl<N: Name> StoreParts<N> {
 
 impl<N: Name> ClosedWorker<N> {
     /// How many bumps that its ring accepted are still to be applied by this lane, which is the ring's: all of them are
-    /// known from then on, or aboard, and no other will come. It may be asked again. It answers None exactly where the
-    /// ring can't show its end, and nothing is changed then.
+    /// known from then on, or aboard, and no other will come: at most as many as the ring's capacity, and one more where
+    /// a bump is aboard. It may be asked again. It answers None exactly where the ring can't show its end, and nothing is
+    /// changed then.
     ///
     /// Where none is left, the lane has applied all that the ring accepted, once each and in order.
     pub fn rest(&mut self, lane: &mut RawLane<N>) -> Option<u64>
@@ -105,6 +107,7 @@ impl<N: Name> ClosedWorker<N> {
         ensures lane { lane.new ≡ record lane.old { known = lane.new.known } }
         ensures rest { IfSome result (λ left. self.old.sender.sent ≡ lane.new.received ++ lane.new.known) }
         ensures number { IfSome result (λ left. length (entries lane.new) + left ≡ length self.old.sender.sent) }
+        ensures few { IfSome result (λ left. left ≤ self.old.sender.capacity + length (aboard lane.new.part.stage)) }
         ensures all { IfSome result (λ left. left ≡ 0 → AppliedAll self.old.sender.sent lane.new) }
         ensures none { IsNone result ↔ (self.old.sender.shows_end ≡ false) }
         ensures unchanged { IfNone result (lane.new ≡ lane.old) }

@@ -47,7 +47,7 @@ impl<N: Name> Lane<N> {
         ensures entries { entries self.new.lane ≡ entries self.old.lane }
         ensures order { AppliedAll self.new.lane.received self.new.lane }
         ensures empty { self.new.lane.part.stage ≡ IsEmpty }
-        ensures seen { MaySeeEnd closed.old.sender.sent self.old.lane self.new.lane }
+        ensures seen { MaySeeEnd closed.old.sender.sent closed.old.sender.capacity self.old.lane self.new.lane }
         ensures rest { IfSome result (λ left.
             closed.old.sender.sent ≡ self.new.lane.received ++ self.new.lane.known) }
         ensures number { IfSome result (λ left. left ≡ length self.new.lane.known) }
@@ -99,7 +99,8 @@ impl<N: Name> Lane<N> {
         ensures closed { closed.new ≡ closed.old }
         ensures none { (result ≡ Ok None) ↔ (length (entries self.old.lane) ≡ length closed.old.sender.sent) }
         ensures next { IfOk result (λ answered. IfSome answered (λ entry. (seen : TheLaneView)
-            × MaySeeEnd closed.old.sender.sent self.old.lane seen × AppliesNext now seen entry self.new.lane)) }
+            × MaySeeEnd closed.old.sender.sent closed.old.sender.capacity self.old.lane seen
+            × AppliesNext now seen entry self.new.lane)) }
         ensures number { IfOk result (λ answered. IfSome answered (λ entry.
             entry.number ≡ length (entries self.old.lane))) }
         ensures entry { IfOk result (λ answered. IfSome answered (λ entry.

@@ -1,6 +1,7 @@
 //! What no clause says: that calls succeed, and known answers.
 mod beside_world;
 mod besides;
+mod books;
 mod calls;
 mod classes;
 mod drains;

@@ -1,13 +1,16 @@
-//! The steps by which a hold meets its class, and a lane a class.
-ghost use Rattle.std.specs.Prelude.{◌≡◌, ◌<◌};
+//! The steps by which a hold meets its class, and a class a lane, or the store's workers.
+ghost use Rattle.std.specs.Prelude.{ℕ, ◌≡◌, ◌<◌};
 ghost use Rattle.bump_steps.specs.Places.{HasChunk};
-ghost use Rattle.bump_steps.specs.Words.{words_id};
+ghost use Rattle.bump_steps.specs.Words.{words_id, config_of};
 ghost use Rattle.bump_steps.specs.Plays.{on_label, HasClass, TellsOfMoves};
-ghost use Rattle.bump_steps.specs.Meetings.{load_to_meet_tells, load_to_meet_lane_tells};
+ghost use Rattle.bump_steps.specs.Lives.{on_class};
+ghost use Rattle.bump_steps.specs.Meetings.{load_to_meet_tells, load_to_meet_lane_tells, load_to_meet_workers_tells};
+ghost use Rattle.bump_steps.specs.Meetings.{class_after_meet, AreOfWorkers};
 
 use crate::views::{Empty, View};
 use crate::words::{Seat, Words};
 use atomic_table::Play;
+use std::marker::{Brand, PhantomData};
 
 pub struct LoadToMeet;
 
@@ -19,6 +22,25 @@ pub struct LoadToMeetLane;
 
 impl Play<Empty, View> for LoadToMeetLane {
     ghost then = { load_to_meet_lane_tells };
+}
+
+/// Tells a load how many workers the store has, which it can't know.
+pub trait Counted {
+    ghost use Rattle.std.specs.Prelude.{ℕ};
+
+    ghost workers: { ℕ };
+}
+
+impl Counted for Brand {
+    ghost workers = { 0 };
+}
+
+pub struct LoadToMeetWorkers<C: Counted> {
+    of: PhantomData<C>,
+}
+
+impl<C: Counted> Play<Empty, View> for LoadToMeetWorkers<C> {
+    ghost then = { load_to_meet_workers_tells C.workers };
 }
 
 impl Words {
@@ -39,10 +61,34 @@ impl Words {
         requires seat { seat.old.table_id ≡ words_id self.now }
         requires some { 0 < (words_id self.now).words }
         requires class { HasClass seat.old.me.0 }
-        ensures same { (seat.new.table_id ≡ seat.old.table_id) × (seat.new.id ≡ seat.old.id)
-            × (seat.new.me ≡ seat.old.me) }
+        ensures same { (seat.new.table_id ≡ seat.old.table_id) × (seat.new.id ≡ seat.old.id) }
+        ensures noted { seat.new.me ≡ (on_class class_after_meet seat.old.me.0, seat.old.me.1) }
         ensures told { TellsOfMoves seat.old.me.0 }
     {
         let _spare = self.table.shared.load::<LoadToMeetLane>(seat, 0);
+    }
+
+    fn meet_workers_by<C: Counted>(&self, seat: &mut Seat)
+        requires seat { seat.old.table_id ≡ words_id self.now }
+        requires some { 0 < (words_id self.now).words }
+        requires class { HasClass seat.old.me.0 }
+        requires workers { C.workers ≡ (config_of self.now).workers }
+        ensures same { (seat.new.table_id ≡ seat.old.table_id) × (seat.new.id ≡ seat.old.id) }
+        ensures noted { seat.new.me ≡ (on_class class_after_meet seat.old.me.0, seat.old.me.1) }
+        ensures told { AreOfWorkers C.workers seat.old.me.0 × TellsOfMoves seat.old.me.0 }
+    {
+        let _spare = self.table.shared.load::<LoadToMeetWorkers<C>>(seat, 0);
+    }
+
+    /// A load of the table's first word, for `meet_workers`.
+    pub fn meet_workers(&self, seat: &mut Seat)
+        requires seat { seat.old.table_id ≡ words_id self.now }
+        requires some { 0 < (words_id self.now).words }
+        requires class { HasClass seat.old.me.0 }
+        ensures same { (seat.new.table_id ≡ seat.old.table_id) × (seat.new.id ≡ seat.old.id) }
+        ensures noted { seat.new.me ≡ (on_class class_after_meet seat.old.me.0, seat.old.me.1) }
+        ensures told { AreOfWorkers (config_of self.now).workers seat.old.me.0 × TellsOfMoves seat.old.me.0 }
+    {
+        self.meet_workers_by::<Brand>(seat);
     }
 }

@@ -5,8 +5,7 @@ ghost use Rattle.bump_rules.specs.declared.items.Head.{Head as TheHead};
 ghost use Rattle.bump_steps.specs.Places.{HasChunk, head_place};
 ghost use Rattle.bump_steps.specs.Words.{words_id, config_of};
 ghost use Rattle.bump_steps.specs.Plays.{on_chunk, on_row, on_label, on_word, Found, HasWorker};
-ghost use Rattle.bump_steps.specs.References.{load_to_take_tells, take_tells, MayTake, IsRow, HasHold, release_of_hold_tells};
-ghost use Rattle.bump_steps.specs.References.{look_of_hold_tells, label_load_tells, word_load_tells, load_without_seat_tells, IsAnyHead};
+ghost use Rattle.bump_steps.specs.References.{load_to_take_tells, take_tells, MayTake, IsRow, HasHold, release_of_hold_tells, look_of_hold_tells, label_load_tells, word_load_tells, load_without_seat_tells, IsAnyHead, seen_me};
 ghost use Rattle.bump_steps.specs.Tries.{AskedFound, TakeFound, last_found, of_life, of_any, asked_refusal, refusal_of, view_after_attempt, any_answer};
 
 use crate::decoding::head_of;
@@ -236,22 +235,24 @@ impl Words {
             .load::<LoadWord>(seat, self.word_by(place, chunk, index))
     }
 
-    fn see_by<L: Limited>(&self, chunk: u32) -> u64
+    fn see_by<L: Limited>(&self, chunk: u32) -> (u64, Seat)
         requires chunk { HasChunk (words_id self.now) chunk }
         requires limit { L.limit ≡ (config_of self.now).refs_limit }
-        ensures { Found result (IsAnyHead L.limit) }
+        ensures found { Found result.0 (IsAnyHead L.limit) }
+        ensures seen { result.1.me ≡ seen_me chunk result.0 }
+        ensures table { result.1.table_id ≡ words_id self.now }
     {
-        let (found, _seat) = self
-            .table
+        self.table
             .shared
-            .load_new_seat::<LoadWithoutSeat<L>>(self.head_at(chunk));
-        found
+            .load_new_seat::<LoadWithoutSeat<L>>(self.head_at(chunk))
     }
 
-    /// A load of a head word, without a seat.
-    pub fn see(&self, chunk: u32) -> u64
+    /// A load of a head word, without a seat. It makes one, which has that load in its list and no part.
+    pub fn see(&self, chunk: u32) -> (u64, Seat)
         requires { HasChunk (words_id self.now) chunk }
-        ensures { Found result (IsAnyHead (config_of self.now).refs_limit) }
+        ensures found { Found result.0 (IsAnyHead (config_of self.now).refs_limit) }
+        ensures seen { result.1.me ≡ seen_me chunk result.0 }
+        ensures table { result.1.table_id ≡ words_id self.now }
     {
         self.see_by::<Brand>(chunk)
     }

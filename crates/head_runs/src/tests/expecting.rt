@@ -18,7 +18,8 @@ pub fn expect_head(rt: &impl Abort, told: Head, wanted: Head) {
 /// A chunk has this head and this time.
 pub fn expect_seen<N: Name>(rt: &impl Abort, heads: &Heads<N>, chunk: u32, wanted: (Head, u64)) {
     assert!(rt; chunk < heads.chunks());
-    assert_eq!(rt; heads.see(chunk), wanted, "of chunk {chunk}");
+    let (head, time, _seat) = heads.see(chunk);
+    assert_eq!(rt; (head, time), wanted, "of chunk {chunk}");
 }
 
 // The head of a chunk.

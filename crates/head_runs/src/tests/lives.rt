@@ -89,6 +89,7 @@ fn live<N: Name>(
     let life = class.open_life(0, place);
     expect(rt, "the first life", &life, &life_of(0, 1));
     expect_seen(rt, heads, 0, (head(1, "l", Segment::Hot, 1), 1));
+    expect_seen(rt, heads, 1, (head(0, "", Segment::Hot, 0), 0));
     let mut hold = heads.take(worker, life).expect(rt, "there is room");
     expect_head(rt, class.look(0, place), head(2, "l", Segment::Hot, 1));
     mark_in_hot(rt, heads, worker, &mut hold);

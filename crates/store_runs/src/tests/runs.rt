@@ -84,7 +84,8 @@ fn expect_sizes<N: Name>(rt: &impl Abort, book: &Book<N>, wanted: (u32, u32)) {
 
 fn see<N: Name>(rt: &impl Abort, heads: &Heads<N>, chunk: u32) -> (Head, u64) {
     assert!(rt; chunk < heads.chunks());
-    heads.see(chunk)
+    let (head, time, _seat) = heads.see(chunk);
+    (head, time)
 }
 
 // An item of generation 1 is in WARM and was hit, is not ACTIVE, and has this time.

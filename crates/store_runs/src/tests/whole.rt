@@ -3,6 +3,7 @@ ghost use Rattle.std.specs.Prelude.{◌≡◌};
 
 use super::beside_world::run_beside;
 use super::besides::{end_full, keep_times, leave_the_rest, pass_in_order, tell_opened};
+use super::books::link_two;
 use super::classes::{find_exchanged, tell_classes};
 use super::drains::{drain_again, drain_in_turn};
 use super::marks::mark_by_hits;
@@ -41,6 +42,7 @@ pub enum Story {
     TimesKept,
     EndedFull,
     Marked,
+    TwoLinked,
 }
 
 // Two workers. None where memory is refused.
@@ -100,6 +102,7 @@ fn tell_short<N: Name, R: Abort + Wait>(
         }
         Story::EndedAgain => return end_again(rt, alloc, store, worker),
         Story::Opened => tell_opened(rt, &store),
+        Story::TwoLinked => link_two(rt, alloc, &store),
         Story::EndedFull => end_full(rt, alloc, store, worker, lane),
         Story::RestLeft => leave_the_rest(rt, &store, worker, lane),
         Story::Marked => mark_by_hits(rt, &store, worker, lane),

@@ -8,8 +8,8 @@ use Rattle.bump_steps.proofs.Referring.{may_load_without_seat}
 use Rattle.bump_steps.specs.Places.{head_place}
 use Rattle.bump_steps.proofs.words.Words.see_by.Goals as goal
 
-pub load_new_seat-found-requires : goal.load_new_seat-found-requires
-load_new_seat-found-requires g c = let t = c.args.self.now.table.shared in (
+pub load_new_seat-requires : goal.load_new_seat-requires
+load_new_seat-requires g c = let t = c.args.self.now.table.shared in (
   c.head_at.ensures.near,
   rw c.head_at.ensures.is
       (subst (λ (limit : ℕ). Enters (Kept t.key) t.table_id.slots (head_place t.table_id.slots c.args.chunk)
@@ -19,5 +19,8 @@ load_new_seat-found-requires g c = let t = c.args.self.now.table.shared in (
       (omega (arith, c.args.self.now.sized, c.requires.chunk)))),
 )
 
-pub returns : goal.returns
-returns g c = let told = c.load_new_seat-found.ensures.2 c.args.chunk c.head_at.ensures.is in told.1
+pub returns-clause-found : goal.returns-clause-found
+returns-clause-found g c = (c.load_new_seat.ensures.2 c.args.chunk c.head_at.ensures.is).1
+
+pub returns-clause-seen : goal.returns-clause-seen
+returns-clause-seen g c = (c.load_new_seat.ensures.2 c.args.chunk c.head_at.ensures.is).0

@@ -2,7 +2,7 @@ use Rattle.std.proofs.Common.{◌≡◌, length, ap, ◌∙◌, subst, arith}
 use Rattle.bump_rules.specs.declared.bumps.Accounts.{Accounts}
 use Rattle.bump_store.specs.Closing.{ClosedState}
 use Rattle.bump_store.specs.Settling.{AppliedAll}
-use Rattle.bump_store.proofs.SettlingLemmas.{left_over, all_at_none_left}
+use Rattle.bump_store.proofs.SettlingLemmas.{left_over, sent_in_parts, all_at_none_left}
 use Rattle.bump_store.proofs.closing.ClosedWorker.rest.Goals as goal
 
 pub overflow_sub-result : goal.overflow_sub-result
@@ -21,3 +21,17 @@ returns-clause-all g c = λ none.
     let few = left_over c.args.lane.now c.rest.new.self c.self.inside.sender.sent _ _ c.promise.ensures c.rest.ensures.lane c.in_ok-_known.ensures.rest sum c.applied.ensures in
     subst (λ (w : ClosedState). AppliedAll w.sender.sent c.rest.new.self) c.self.view_is
     (all_at_none_left c.args.lane.now c.rest.new.self c.self.inside.sender.sent _ c.promise.ensures c.rest.ensures.lane c.in_ok-_known.ensures.rest (omega (arith, few, sum, c.applied.ensures)) none)
+
+pub returns-clause-few : goal.returns-clause-few
+returns-clause-few g c =
+    let sum = ap (λ (x : Accounts). x.accepted) c.self.invariant.0 ∙ c.self.invariant.1.accepted in
+    let parts = sent_in_parts c.args.lane.now c.rest.new.self c.self.inside.sender.sent c.promise.ensures c.rest.ensures.lane c.in_ok-_known.ensures.rest in
+    omega (
+      arith,
+      sum,
+      parts,
+      c.applied.ensures,
+      c.in_ok-_known.ensures.number,
+      c.in_ok-_known.ensures.few,
+      ap (λ (w : ClosedState). w.sender.capacity) c.self.view_is,
+    )

@@ -11,9 +11,10 @@ returns-clause-seen g c =
     let sent = c.closed.inside.sender.sent in
     let after = c.rest.new.self in
     let e = c.rest.ensures in
-    subst (λ (w : ClosedState). MaySeeEnd w.sender.sent c.args.self.now.lane after) c.closed.view_is
-    (subst (λ (s : LaneState). MaySeeEnd sent s.lane after) c.self.view_is
-    (looked_once sent c.self.inside.raw after c.rest.result e.lane e.rest e.unchanged))
+    let room = c.closed.inside.sender.capacity in
+    subst (λ (w : ClosedState). MaySeeEnd w.sender.sent w.sender.capacity c.args.self.now.lane after) c.closed.view_is
+    (subst (λ (s : LaneState). MaySeeEnd sent room s.lane after) c.self.view_is
+    (looked_once sent room c.self.inside.raw after c.rest.result e.lane e.rest e.number e.few e.unchanged))
 
 pub returns-clause-all : goal.returns-clause-all
 returns-clause-all g c =
