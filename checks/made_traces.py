@@ -3,7 +3,8 @@ import re
 
 from reports import run
 
-BEHIND_PAR = ["get", "get", "get", "get", "del", "pull", "sweep", "drain"]
+MAINTENANCE = ["del", "pull", "sweep", "drain", "pull", "pull"]
+BEHIND_PAR = ["get", "get", "get", "get", "get", "get"] + MAINTENANCE
 LINES = BEHIND_PAR + ["set", "set", "set", "hold", "hit", "read", "drop", "close", "show", "moves", "pull"]
 
 
@@ -36,6 +37,12 @@ def line_of(word, state, chance):
     return word
 
 
+def own(line, state):
+    """The same `get` line, by the worker to whom its name belongs."""
+    name = line.split()[2]
+    return f"get {state['names'].index(name) % state['workers'] if name in state['names'] else 0} {name}"
+
+
 def fault(chance):
     """A line that is most likely a fault."""
     return chance.choice(
@@ -57,8 +64,9 @@ def ask(program, lines):
 
 
 def make(program, chance, file):
-    """A trace, made up in pieces: what a piece bound is read off the model's text before the next one is made."""
-    workers, classes = chance.choice([1, 1, 2, 3, 8]), chance.choice([1, 1, 2, 3])
+    """A trace, made up in pieces: what a piece bound is read off the model's text before the next one is made. Behind `par` stand lines of all
+    kinds, or those of maintenance alone, or `get` lines alone, of which each worker has names of its own."""
+    workers, classes = chance.choice([1, 2, 4, 5, 8]), chance.choice([1, 2, 3, 4])
     state = {"workers": workers, "classes": classes, "names": [], "holds": set()}
     lines = [f"store {workers} {chance.choice([1, 2, 4, 16])} {chance.choice([2, 3, 8, 65535, 1048575])} {chance.choice([1, 4294967294])}"]
     lines += [f"class {chance.randrange(1, 6)} {chance.randrange(3)} {chance.randrange(3)}" for _ in range(classes)]
@@ -79,10 +87,11 @@ def make(program, chance, file):
         state["names"], state["holds"] = ask(program, text.splitlines())
     if chance.random() < 0.5:
         lines.append("par")
+        words = chance.choice([BEHIND_PAR, BEHIND_PAR, MAINTENANCE, ["get"]])
         for _ in range(chance.randrange(1, 60)):
-            line = line_of(chance.choice(BEHIND_PAR), state, chance)
+            line = line_of(chance.choice(words), state, chance)
             if line is not None:
-                lines.append(line)
+                lines.append(own(line, state) if words == ["get"] else line)
     else:
         lines.append("moves")
     if chance.random() < 1 / 6:

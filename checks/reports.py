@@ -78,3 +78,77 @@ def report_faults(lines, text):
         if sum(int(n) for n in re.findall(r" (\d+)", line)[1:]) != count:
             wrong.append(line)
     return wrong
+
+
+def told_in_order(lines, drainers):
+    """Whether it is known what the lines behind `par` come to: where they stand in one thread, or where no thread sees what another does. So it
+    is where they are all of maintenance, by one drainer or without a `drain`; and where all are `get` lines, of which no two workers have one
+    of the same name."""
+    behind = lines[lines.index("par") + 1:] if "par" in lines else []
+    gets = [line.split() for line in behind if line.startswith("get ")]
+    if gets:
+        return len(gets) == len(behind) and len({(w, name) for _, w, name in gets}) == len({name for _, _, name in gets})
+    return drainers == 1 or "drain" not in behind
+
+
+def in_order(lines):
+    """The same trace with its lines behind `par` in their order, on one thread, and at its end what is done before a report: all holds are
+    given back, all workers closed, and all lists and counters printed."""
+    workers = int(next(line for line in lines if line.startswith("store ")).split()[1])
+    holds = sorted({line.split()[3] for line in lines if line.startswith("hold ")})
+    rest = [f"close {worker}" for worker in range(workers)] + ["moves", "show"]
+    return ["#" if line == "par" else line for line in lines], holds, rest
+
+
+def report_of(lines, text):
+    """The report of par, by what the same trace tells in its order."""
+    told = text.splitlines()
+    par = lines.index("par") if "par" in lines else len(lines)
+    gets = sum(line.startswith("get ") for line in lines[:par])
+    answers = [line.split()[3:] for line in told if line.startswith("get ")][gets:]
+    kinds = {}
+    for answer in answers:
+        word = answer[-1] if len(answer) == 1 else answer[1]
+        kinds[word] = kinds.get(word, 0) + 1
+    total = " ".join(f"{kind} {kinds.get(kind, 0)}" for kind in ("first", "already", "marked", "queued", "dropped", "miss", "refs", "busy", "closed"))
+    classes = sum(line.startswith("class ") for line in lines)
+    workers = int(next(line for line in lines if line.startswith("store ")).split()[1])
+    moves = [line for line in told if line.startswith("moves ")][-classes * workers:]
+    shown = told[max(i for i, line in enumerate(told) if line == moves[-1]) + 1:]
+    sizes = [{} for _ in range(classes)]
+    for line in shown:
+        if line.startswith("class "):
+            _, of, place, count = line.split()[:4]
+            sizes[int(of)][place] = count
+    rows = [line for line in shown if line.startswith("worker ")]
+    rows += [f"total {total}"] + moves
+    for of, size in enumerate(sizes):
+        row = " ".join(f"{place} {size[place]}" for place in ("hot", "warm", "cold", "dying", "unused", "retired"))
+        rows.append(f"sizes {of} {row}" + (f" temp {size['temp']}" if "temp" in size else ""))
+    return rows
+
+
+def order_faults(program, lines, text, file):
+    """What is wrong with a report of par of which all is known: where it isn't what the model tells of the lines in their order."""
+    first, holds, rest = in_order(lines)
+    _, model, _ = run(program, "model", write(file, first))
+    taken = {match.group(1) for match in re.finditer(r"^hold \d+ \w+ (\w+) held$", model, re.MULTILINE)}
+    held = [hold for hold in holds if hold in taken and last_of(model, hold) == "hold"]
+    ended, model, _ = run(program, "model", write(file, first + [f"drop {hold}" for hold in held] + rest))
+    if ended != 0:
+        return [f"in their order the lines end with {ended}"]
+    wanted = report_of(lines, model)
+    told = text.splitlines()[-len(wanted):]
+    return [f"{row!r} in place of {want!r}" for row, want in zip(told, wanted) if row != want]
+
+
+def last_of(text, hold):
+    """Whether a hold name was last taken or given back, where it was taken."""
+    found = re.findall(rf"^(hold|drop) (?:\d+ \w+ )?{hold}(?: held)?$", text, re.MULTILINE)
+    return found[-1] if found else None
+
+
+def write(file, lines):
+    """The file with these lines."""
+    file.write_text("\n".join(lines) + "\n")
+    return file

@@ -1,6 +1,8 @@
 -- What is dealt in turn and gathered in turn stays in order.
-use Rattle.std.proofs.Common.{◌≡◌, ℕ, suc, ◌+◌, ◌-◌, ◌<◌, List, [], ◌∷◌, ◌++◌, sym, ap, ◌∙◌, append_assoc, arith}
+use Rattle.std.proofs.Common.{◌≡◌, ℕ, zero, suc, ◌+◌, ◌-◌, ◌<◌, List, [], ◌∷◌, ◌++◌, sym, ap, ◌∙◌, append_assoc, arith}
+use Rattle.std.specs.List.{AllZip}
 use Rattle.store_trace.specs.Dealing.{in_turn}
+use Rattle.store_trace.proofs.InTurn.{zip_push}
 
 -- one more was dealt: the last of those that were left
 pub dealt_more : {A : Type 0} (before left : List A) (x : A) (n : ℕ) (old new : List (List A)) (all : List A) → before ≡ left ++ x ∷ []
@@ -16,3 +18,15 @@ gathered_more before done x count i old new all last inside is_all step =
     let one_less : count - i ≡ suc (count - (i + 1)) = omega arith in
     ap (λ xs. xs ++ in_turn (count - (i + 1)) new) last ∙ append_assoc before (x ∷ []) (in_turn (count - (i + 1)) new)
     ∙ ap (λ xs. before ++ xs) (sym (step (count - (i + 1))) ∙ ap (λ n. in_turn n old) (sym one_less)) ∙ is_all
+
+-- where the groups' elements go together, so do those that they have in turn
+pub in_turn_zip : {A : Type 0} (R : A → A → Type 0) (n : ℕ) (gs hs : List (List A)) → AllZip (AllZip R) gs hs → AllZip R (in_turn n gs) (in_turn n hs)
+in_turn_zip R zero gs hs each = tt
+in_turn_zip R (suc n) [] [] each = tt
+in_turn_zip R (suc n) [] (h ∷ hs) each = absurd each
+in_turn_zip R (suc n) (g ∷ gs) [] each = absurd each
+in_turn_zip R (suc n) ([] ∷ gs) ([] ∷ hs) each = tt
+in_turn_zip R (suc n) ([] ∷ gs) ((y ∷ ys) ∷ hs) each = absurd each.0
+in_turn_zip R (suc n) ((x ∷ xs) ∷ gs) ([] ∷ hs) each = absurd each.0
+in_turn_zip R (suc n) ((x ∷ xs) ∷ gs) ((y ∷ ys) ∷ hs) each =
+    (each.0.0, in_turn_zip R n (gs ++ xs ∷ []) (hs ++ ys ∷ []) (zip_push (AllZip R) gs hs xs ys each.1 each.0.1))

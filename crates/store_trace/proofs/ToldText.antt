@@ -3,6 +3,7 @@ use Rattle.std.proofs.Common.{◌≡◌, ℕ, Bool, true, false, List, [], ◌�
 use Rattle.std.specs.Io.KnownBytes.{Appends}
 use Rattle.bump_rules.specs.declared.configs.Config.{Config}
 use Rattle.bump_state.specs.Opening.{new_state}
+use Rattle.bump_store.specs.Lanes.{LaneState}
 use Rattle.bump_trace.specs.Gathering.{Gathers, GathersFault}
 use Rattle.bump_trace.specs.Meaning.{fault_in, step, parts_of}
 use Rattle.bump_trace.specs.Stages.{Stage, StoreState, Before}
@@ -66,15 +67,15 @@ module _ (held mid holds : Option (List ℕ)) (old gathered new : List ℕ) (bef
   tells_error number (errors.Fault what) ends told = tells_stop number what ends told
 
   -- a report was gathered behind the last line
-  pub tells_report : (config : Config) (totals : Totals) (store : StoreState) (report : List ℕ) → store.state ≡ new_state config → IsReport config totals report
+  pub tells_report : (config : Config) (lanes : List LaneState) (totals : Totals) (store : StoreState) (report : List ℕ) → store.state ≡ new_state config → IsReport config lanes totals report
       → EndsAt n all s (Whole store) → Gathers mid holds gathered new report → TellsEnd Reported held holds old new n all s false
-  tells_report config totals store report is_new is_report ends told =
+  tells_report config lanes totals store report is_new is_report ends told =
       let (text, lines, so_far) = before in record {
         text = text ++ report;
         end = Whole store;
         told = gathers_more held mid holds old gathered new text report so_far told;
         ends = ends;
-        as_text = (text, report, lines, (config, totals, is_new, is_report), refl);
+        as_text = (text, report, lines, (config, lanes, totals, is_new, is_report), refl);
         fault = refl;
       }
 

@@ -1,8 +1,7 @@
 -- Lanes that are dealt to drainers: one to each in turn, over and over.
 use Rattle.std.specs.Prelude.{ℕ, zero, suc, List, [], ◌∷◌, ◌++◌, map}
 use Rattle.std.specs.declared.collections.VecDeque.{VecDeque}
-use Rattle.bump_ring.specs.Ends.{Ring}
-use Rattle.bump_store.specs.Lanes.{LaneState, lane_rings}
+use Rattle.bump_store.specs.Lanes.{LaneState}
 
 -- The first so many that groups have in turn: the first of the first group, then that of the second one, and so on, and
 -- behind the last group the second of the first one. Up to the turn of a group that has no more.
@@ -13,6 +12,6 @@ in_turn (suc n) ([] ∷ groups) = []
 in_turn (suc n) ((x ∷ xs) ∷ groups) = x ∷ in_turn n (groups ++ xs ∷ [])
 
 module _ {Z : Type 0} where
-  -- the rings of each group's lanes
-  abbrev pub group_rings : List (VecDeque LaneState Z) → List (List Ring)
-  group_rings groups = map (λ group. lane_rings group.items) groups
+  -- the lanes of each group
+  abbrev pub group_lanes : List (VecDeque LaneState Z) → List (List LaneState)
+  group_lanes groups = map (λ group. group.items) groups

@@ -7,7 +7,12 @@ pub mod Settled
 pub mod NamedHolds
 pub mod Endings
 pub mod WholeLines
+pub mod Pairs
 pub mod OpenStores
 pub mod Reports
 pub mod Runs
 pub mod Gates
+pub mod Commands
+pub mod Tasks
+pub mod Making
+pub mod Reading

@@ -1,12 +1,20 @@
 -- The lines of the report of a run with threads.
 use Rattle.std.specs.Prelude.{◌≡◌, ℕ, ◌+◌, List, [], ◌∷◌, ◌++◌, length, map, All, Option, None, Some, codes, decimal}
-use Rattle.std.specs.Prelude.{if◌then◌else◌}
+use Rattle.std.specs.Prelude.{if◌then◌else◌, slice_get}
+use Rattle.std.specs.List.{range_with_len}
+use mathlib.Core.List.{IsPrefix}
+use Rattle.bump_class.specs.Applications.{moved_in}
+use Rattle.bump_class.specs.Books.{BookView}
 use Rattle.bump_class.specs.Lanes.{entries}
+use Rattle.bump_rules.specs.Entries.{moves_of}
+use Rattle.bump_rules.specs.declared.history.Change.{Change}
 use Rattle.bump_rules.specs.declared.configs.Config.{Config}
 use Rattle.bump_rules.specs.declared.places.Place.TheVariants as place
 use Rattle.bump_store.specs.Finishing.{AreOfClasses, sum_of}
 use Rattle.bump_store.specs.Workers.{WorkerState}
+use Rattle.bump_steps.specs.declared.views.ClassPart.{ClassPart}
 use Rattle.bump_store.specs.Lanes.{LaneState}
+use Rattle.bump_store.specs.Stores.{IsOfClass}
 use Rattle.bump_store.specs.declared.finishing.ClassSizes.{ClassSizes}
 use Rattle.bump_store.specs.declared.settling.Settled.{Settled}
 use Rattle.trace_lines.specs.Text.{is_shown, accounts_line, moves_line}
@@ -71,14 +79,40 @@ abbrev pub told_by : Option WorkerState → LaneState → Settled → Settled
 told_by None lane settled = settled
 told_by (Some worker) lane settled = record { counts = worker.part.accounts; applied = length (entries lane.lane) }
 
--- for each class, how many moves there were for each worker's bumps
-pub record AreMoves (config : Config) (moves : List (List ℕ)) : Type 0 where
-  pub classes : length moves ≡ length config.classes
-  pub workers : All (λ counts. length counts ≡ config.workers) moves
+-- how many moves a history has for bumps of each of so many workers
+abbrev pub moves_of_each : ℕ → List Change → List ℕ
+moves_of_each workers history = map (λ worker. moves_of worker history) (range_with_len 0 workers)
 
--- The report of a run on a store of this configuration, behind whose `get` lines stand these totals: a line of each
--- worker, once it was settled; that of the totals; those of the moves of each class; and one of the sizes of each.
-pub record IsReport (config : Config) (totals : Totals) (text : List ℕ) : Type 0 where
+-- how many moves of items of a class each lane told
+abbrev pub moves_told : ClassPart → List LaneState → List ℕ
+moves_told class lanes = map (λ this_lane. moved_in class (entries this_lane.lane)) lanes
+
+-- how many moves a class's history has for bumps of each lane's worker
+abbrev pub moves_of_lanes : ClassPart → List LaneState → List ℕ
+moves_of_lanes class lanes = map (λ this_lane. moves_of this_lane.lane.part.worker class.history) lanes
+
+-- The counts of a class: those of the history that some Book of the class has. Of each lane's worker it has as many
+-- moves as the lane told of items of the class.
+pub record AreMovesOf (config : Config) (lanes : List LaneState) (class : ℕ) (counts : List ℕ) : Type 0 where
+  pub book : BookView
+  pub of_class : IsOfClass class config.classes book
+  pub counted : counts ≡ moves_of_each config.workers book.part.history
+  pub told : moves_of_lanes book.part lanes ≡ moves_told book.part lanes
+
+-- for each class, how many moves there were for each worker's bumps
+pub record AreMoves (config : Config) (lanes : List LaneState) (moves : List (List ℕ)) : Type 0 where
+  pub classes : length moves ≡ length config.classes
+  pub each : (class : ℕ) (counts : List ℕ) → slice_get moves class ≡ Some counts → AreMovesOf config lanes class counts
+
+-- A lane is later: it is of the same worker, and has entries behind those that it had.
+abbrev pub IsLaterLane : LaneState → LaneState → Type 0
+IsLaterLane before after =
+    (after.lane.part.worker ≡ before.lane.part.worker) × IsPrefix (entries before.lane) (entries after.lane)
+
+-- The report of a run on a store of this configuration, behind whose `get` lines stand these totals, once these lanes
+-- were settled: a line of each worker; that of the totals; those of the moves of each class; and one of the sizes of
+-- each.
+pub record IsReport (config : Config) (lanes : List LaneState) (totals : Totals) (text : List ℕ) : Type 0 where
   pub workers : List Settled
   pub moves : List (List ℕ)
   pub sizes : List ClassSizes
@@ -86,6 +120,6 @@ pub record IsReport (config : Config) (totals : Totals) (text : List ℕ) : Type
       ++ numbered_text sizes_line 0 sizes
   pub each : length workers ≡ config.workers
   pub settled : All IsSettled workers
-  pub moved : AreMoves config moves
+  pub moved : AreMoves config lanes moves
   pub of_classes : AreOfClasses config.classes sizes
   pub sums : map sum_of sizes ≡ map (λ class. class.chunks) config.classes

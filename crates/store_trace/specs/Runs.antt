@@ -3,6 +3,7 @@ use Rattle.std.specs.Prelude.{◌≡◌, ◌<◌, ◌≤◌, ⊤, ℕ, Bool, tru
 use Rattle.std.specs.Io.KnownBytes.{Appends, Consumes, Keeps, IsAtEnd}
 use Rattle.bump_rules.specs.declared.configs.Config.{Config}
 use Rattle.bump_state.specs.Opening.{new_state}
+use Rattle.bump_store.specs.Lanes.{LaneState}
 use Rattle.bump_trace.specs.Gathering.{Gathers, GathersFault}
 use Rattle.bump_trace.specs.Runs.{most_bytes, TooManyCame}
 use Rattle.bump_trace.specs.Stages.{Stage, StoreState}
@@ -27,8 +28,8 @@ NoMore store text = text ≡ []
 
 -- the report of a run with threads, on a store of that configuration
 abbrev pub Reported : Behind
-Reported store text =
-    (config : Config) × (totals : Totals) × (store.state ≡ new_state config) × IsReport config totals text
+Reported store text = (config : Config) × (lanes : List LaneState) × (totals : Totals)
+    × (store.state ≡ new_state config) × IsReport config lanes totals text
 
 -- The text of a trace that ends so: whole lines, and then what is told behind them, or the line of the fault.
 abbrev pub EndsAs : Behind → Ending → List ℕ → Type 0

@@ -74,6 +74,8 @@ impl Counting {
 }
 
 impl Gate for Counting {
+    fn begin(&self, _drainers: u32) {}
+
     fn enter(&self, worker: u32, call: u64) -> bool {
         match worker {
             0 => self.note(self.first.enter(call)),

@@ -2,7 +2,8 @@
 ghost use Rattle.std.specs.Prelude.{◌≤◌};
 
 use super::behind_par::{
-    ENDED, FAULTS_BEHIND_PAR, GATED, ONE_ITEM, OWN_ITEMS, REPORTED, TOLD_APART,
+    ALL_LANES, EACH_ITS_OWN, ENDED, FAULTS_BEHIND_PAR, GATED, ONE_ITEM, OWN_ITEMS, REPORTED,
+    TOLD_APART,
 };
 use super::expect_run;
 use super::expecting::{Ending, Expecting, expect_whole, tell_left, tell_refused};
@@ -110,6 +111,21 @@ fn threads_are_told_apart(rt: HostRuntime) -> Result<(), Fail> {
     Ok(())
 }
 
+#[test]
+fn each_thread_makes_its_own_lines(rt: HostRuntime) -> Result<(), Fail> {
+    let keys = RandomState::new(&rt)?;
+    all_give(&rt, rt.alloc(), keys, 1, &EACH_ITS_OWN, Ok(()));
+    all_give(&rt, rt.alloc(), keys, 3, &EACH_ITS_OWN, Ok(()));
+    Ok(())
+}
+
+#[test]
+fn one_drainer_drains_all_lanes(rt: HostRuntime) -> Result<(), Fail> {
+    let keys = RandomState::new(&rt)?;
+    all_give(&rt, rt.alloc(), keys, 1, &[ALL_LANES], Ok(()));
+    Ok(())
+}
+
 /// Each bump of a worker that was accepted was applied, and no more than these moved an item.
 fn expect_applied(rt: &impl Abort, text: &[u8], worker: &[u8], moves: &[u8]) {
     let told = behind(text, worker).unwrap_or(b"");
@@ -162,6 +178,8 @@ struct Meeting {
 }
 
 impl Gate for Meeting {
+    fn begin(&self, _drainers: u32) {}
+
     fn enter(&self, _worker: u32, call: u64) -> bool {
         if call != 0 {
             return true;

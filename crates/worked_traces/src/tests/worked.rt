@@ -57,7 +57,7 @@ pub(super) const WORKED: [(&str, &str); 12] = [
 ];
 
 /// Items of TEMP.
-pub(super) const TEMP: [(&str, &str); 2] = [
+pub(super) const TEMP: [(&str, &str); 3] = [
     (
         "store 1 4 4 1\nclass 2 0 5\ntemp a 0 7\nget 0 a\nget 0 a\nget 0 a\npull 0 hot\npull 0 evict\nshow\ndel a\n",
         "temp a 0.1\nget 0 a 7 first\nget 0 a 7 marked\nget 0 a 7 already\npull 0 hot empty\npull 0 evict empty\nclass 0 hot 0\nclass 0 warm 0\nclass 0 cold 0\nclass 0 temp 1 0.1:1:fa:5\nclass 0 dying 0\nclass 0 unused 1 1\nclass 0 retired 0\nworker 0 attempted 0 accepted 0 full 0 busy 0 refs 0 applied 0\ndel a freed\n",
@@ -65,6 +65,10 @@ pub(super) const TEMP: [(&str, &str); 2] = [
     (
         "store 1 4 4 1\nclass 1 0 5\nset a 0 7\ntemp b 0 8\n",
         "set a 0.1\ntemp b full\n",
+    ),
+    (
+        "store 1 4 4 1\nclass 1 5 5\nclass 1 5 5\ntemp a 1 7\nshow\n",
+        "temp a 1.1\nclass 0 hot 0\nclass 0 warm 0\nclass 0 cold 0\nclass 0 dying 0\nclass 0 unused 1 0\nclass 0 retired 0\nclass 1 hot 0\nclass 1 warm 0\nclass 1 cold 0\nclass 1 temp 1 1.1:1:-:4\nclass 1 dying 0\nclass 1 unused 0\nclass 1 retired 0\nworker 0 attempted 0 accepted 0 full 0 busy 0 refs 0 applied 0\n",
     ),
 ];
 
@@ -86,7 +90,7 @@ pub(super) const LARGEST: [(&str, &str); 3] = [
 
 /// What `moves` counts, by class and worker: each move for a bump, whether it was drained or left by a closed worker;
 /// no bump that found its item out of COLD or ended, and no move by a pull.
-pub(super) const MOVES: [(&str, &str); 5] = [
+pub(super) const MOVES: [(&str, &str); 7] = [
     (
         "store 2 4 8 1\nclass 2 0 0\nset a 0 7\npull 0 hot\nget 0 a\nget 0 a\npull 0 cold\npull 0 warm\nget 1 a\ndrain\nmoves\n",
         "set a 0.1\npull 0 hot cold 0.1\nget 0 a 7 first\nget 0 a 7 queued 0\npull 0 cold warm 0.1\npull 0 warm cold 0.1\nget 1 a 7 queued 0\nbump 0 0 0.1 warm\nbump 1 0 0.1 time\ndrain 2\nmoves 0 0 1\nmoves 0 1 0\n",
@@ -106,6 +110,14 @@ pub(super) const MOVES: [(&str, &str); 5] = [
     (
         "store 1 1 4 1\nclass 1 0 0\nset a 0 7\npull 0 hot\nget 0 a\nget 0 a\ndrain\npull 0 warm\nget 0 a\ndrain\nmoves\n",
         "set a 0.1\npull 0 hot cold 0.1\nget 0 a 7 first\nget 0 a 7 queued 0\nbump 0 0 0.1 warm\ndrain 1\npull 0 warm cold 0.1\nget 0 a 7 queued 1\nbump 0 1 0.1 warm\ndrain 1\nmoves 0 0 2\n",
+    ),
+    (
+        "store 3 4 8 1\nclass 3 0 5\nset a 0 7\nset b 0 8\nset c 0 9\npull 0 hot\npull 0 hot\npull 0 hot\nget 2 a\nget 2 a\nget 2 b\nget 2 b\nget 1 c\nget 1 c\ndrain\nmoves\n",
+        "set a 0.1\nset b 1.1\nset c 2.1\npull 0 hot cold 0.1\npull 0 hot cold 1.1\npull 0 hot cold 2.1\nget 2 a 7 first\nget 2 a 7 queued 0\nget 2 b 8 first\nget 2 b 8 queued 1\nget 1 c 9 first\nget 1 c 9 queued 0\nbump 1 0 2.1 warm\nbump 2 0 0.1 warm\nbump 2 1 1.1 warm\ndrain 3\nmoves 0 0 0\nmoves 0 1 1\nmoves 0 2 2\n",
+    ),
+    (
+        "store 1 4 4 1\nclass 1 0 5\nclass 1 0 5\nclass 1 0 5\nset a 2 7\npull 2 hot\nget 0 a\nget 0 a\ndrain\nmoves\n",
+        "set a 2.1\npull 2 hot cold 2.1\nget 0 a 7 first\nget 0 a 7 queued 0\nbump 0 0 2.1 warm\ndrain 1\nmoves 0 0 0\nmoves 1 0 0\nmoves 2 0 1\n",
     ),
 ];
 

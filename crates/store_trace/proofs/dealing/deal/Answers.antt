@@ -1,14 +1,12 @@
-use Rattle.std.proofs.Common.{suc, ◌∷◌, [], ap, ◌∙◌, append-nil, arith}
-use Rattle.std.proofs.lemmas.List.{map-append}
-use Rattle.bump_store.specs.Lanes.{LaneState, lane_rings}
-use Rattle.store_trace.specs.Dealing.{group_rings}
+use Rattle.std.proofs.Common.{suc, ◌∙◌, append-nil, arith}
+use Rattle.store_trace.specs.Dealing.{group_lanes}
 use Rattle.store_trace.proofs.DealtLanes.{dealt_more}
 use Rattle.store_trace.proofs.dealing.deal.Goals as goal
 
 pub loop-lane-init : goal.loop-lane-init
 loop-lane-init g c = record {
   count = omega arith;
-  dealt = (0, omega arith, append-nil (lane_rings c.args.lanes.items));
+  dealt = (0, omega arith, append-nil c.args.lanes.items);
 }
 
 pub loop-lane-preserved : goal.loop-lane-preserved
@@ -20,8 +18,7 @@ loop-lane-preserved g c =
       dealt = (
         suc n,
         omega (arith, sum, c.in-Some.ensures.len),
-        dealt_more (lane_rings c.loop-lane.left.items) (lane_rings left) c.in-Some.lane.lane.ring n
-            (group_rings c.loop-lane.groups.items) (group_rings c.put_first.new.groups.items) (lane_rings c.args.lanes.items)
-            (ap lane_rings c.in-Some.ensures.items ∙ map-append (λ (l : LaneState). l.lane.ring) left (c.in-Some.lane ∷ [])) is_all c.in_ok-put_first.ensures.rings,
+        dealt_more c.loop-lane.left.items left c.in-Some.lane n (group_lanes c.loop-lane.groups.items)
+            (group_lanes c.put_first.new.groups.items) c.args.lanes.items c.in-Some.ensures.items is_all c.in_ok-put_first.ensures.lanes,
       );
     }

@@ -1,6 +1,5 @@
 use Rattle.std.proofs.Common.{◌≡◌, ℕ, ◌+◌, ◌++◌, length, vec_len}
-use Rattle.bump_store.specs.Lanes.{lane_rings}
-use Rattle.store_trace.specs.Dealing.{in_turn, group_rings}
+use Rattle.store_trace.specs.Dealing.{in_turn, group_lanes}
 use Rattle.store_trace.proofs.dealing.deal.Given as goal
 
 -- so many groups were made
@@ -11,7 +10,7 @@ invariant-loop g l = length l.groups.items ≡ l.counter
 abbrev pub invariant-loop-lane : goal.invariant-loop-lane
 invariant-loop-lane g l = record {
   count : length l.groups.items ≡ l.drainers;
-  dealt : (n : ℕ) × (length l.left.items + n ≡ length l.fn.lanes.items) × (lane_rings l.left.items ++ in_turn n (group_rings l.groups.items) ≡ lane_rings l.fn.lanes.items);
+  dealt : (n : ℕ) × (length l.left.items + n ≡ length l.fn.lanes.items) × (l.left.items ++ in_turn n (group_lanes l.groups.items) ≡ l.fn.lanes.items);
 }
 
 abbrev pub decreases-loop-lane : goal.decreases-loop-lane

@@ -1,9 +1,12 @@
-use Rattle.std.proofs.Common.{◌≡◌, ◌⊎◌, ◌++◌, ◌<◌, ◌≤◌, [], ◌∷◌, ℕ, ◌+◌, true, false, List, length, ap, ◌∙◌, inl, inr, arith}
+use Rattle.std.proofs.Common.{◌≡◌, ◌⊎◌, ◌++◌, ◌<◌, ◌≤◌, [], ◌∷◌, ℕ, ◌+◌, true, false, List, length, refl, sym, ap, ◌∙◌, subst, inl, inr, arith}
 use Rattle.std.proofs.lemmas.Bool.{cases_lt, false≢true}
 use Rattle.std.proofs.lemmas.List.{length_push}
-use Rattle.std.proofs.lemmas.List.Elements.{All-push}
 use Rattle.bump_class.specs.Books.{BookView}
-use Rattle.store_trace.specs.Reports.{moves_lines}
+use Rattle.bump_store.specs.Lanes.{LaneState}
+use Rattle.bump_store.specs.Stores.{IsOfClass}
+use Rattle.store_trace.specs.Pairs.{lanes_of}
+use Rattle.store_trace.specs.Reports.{moves_lines, moves_of_each, moves_of_lanes, moves_told, AreMovesOf}
+use Rattle.store_trace.proofs.MoveLines.{each_push}
 use Rattle.store_trace.proofs.NumberedTexts.{told_more}
 use Rattle.store_trace.proofs.reports.put_all_moves.Goals as goal
 
@@ -17,13 +20,31 @@ inside class count none = by (cases_lt class count)
 
 pub loop-class-preserved : goal.loop-class-preserved
 loop-class-preserved g c =
-    let (moves, count, range, each, is) = c.loop-class.invariant in
-    let (counts, many, told) = c.in_ok-put_class_moves.ensures in
-    let class = c.loop-class.class in (
-      moves ++ counts ∷ [],
-      length_push moves counts ∙ ap (λ (n : ℕ). n + 1) count,
-      inside class (length c.args.store.now.classes) c.in-Ok.ensures.none.1,
-      All-push (λ (xs : List ℕ). length xs ≡ c.args.store.now.workers) moves counts each
-          (many ∙ ap (λ (book : BookView). book.workers) c.deref-book.ensures ∙ c.in-Ok.ensures.workers),
-      told_more moves_lines moves counts class c.args.out.now.items c.loop-class.out.items c.put_class_moves.new.out.items count is told,
-    )
+    let i = c.loop-class.invariant in
+    let (moves, count, range, each, is) = i.told in
+    let class = c.loop-class.class in
+    let store = c.args.store.now in
+    let lanes = lanes_of c.args.pairs.now.items in
+    let book = c.deref_mut-book.result.now in
+    let value = c.deref_mut-book.ensures.value in
+    let before = c.loop-class.out.items in
+    let workers : book.workers ≡ store.workers = ap (λ (b : BookView). b.workers) value ∙ c.in-Ok.ensures.workers in
+    let counts = moves_of_each store.workers book.part.history in
+    let one : AreMovesOf store lanes class counts = record {
+      book = book;
+      of_class = subst (λ (b : BookView). IsOfClass class store.classes b) (sym value) c.in-Ok.ensures.class;
+      counted = refl;
+      told = subst (λ (ls : List LaneState). moves_of_lanes book.part ls ≡ moves_told book.part ls) i.lanes c.meet_lanes.ensures.told;
+    } in record {
+      lanes = c.meet_lanes.ensures.lanes ∙ i.lanes;
+      told = (
+        moves ++ counts ∷ [],
+        length_push moves counts ∙ ap (λ (n : ℕ). n + 1) count,
+        inside class (length store.classes) c.in-Ok.ensures.none.1,
+        each_push (AreMovesOf store lanes) moves counts each (subst (λ (n : ℕ). AreMovesOf store lanes n counts) (sym count) one),
+        told_more moves_lines moves counts class c.args.out.now.items before c.put_class_moves.new.out.items count is
+            (c.in_ok-put_class_moves.ensures
+            ∙ ap (λ (b : BookView). before ++ moves_lines class (moves_of_each b.workers b.part.history)) c.meet_lanes.ensures.book
+            ∙ ap (λ (n : ℕ). before ++ moves_lines class (moves_of_each n book.part.history)) workers),
+      );
+    }

@@ -1,15 +1,19 @@
-use Rattle.std.proofs.Common.{◌++◌, [], ◌∷◌, ℕ, ◌+◌, ap, ◌∙◌}
-use Rattle.std.proofs.lemmas.List.{length_push}
+use Rattle.std.proofs.Common.{◌≡◌, ◌++◌, [], ◌∷◌, ℕ, ◌+◌, List, sym, ap, ◌∙◌, subst, arith}
+use Rattle.std.proofs.lemmas.List.{length-map}
+use Rattle.std.proofs.lemmas.List.FromFn.{map-range_with_len_more, length-map-range_with_len}
+use Rattle.bump_rules.specs.Entries.{moves_of}
 use Rattle.trace_lines.specs.Text.{moves_line}
+use Rattle.store_trace.specs.Reports.{moves_lines, moves_of_each}
 use Rattle.store_trace.proofs.NumberedTexts.{told_more}
 use Rattle.store_trace.proofs.reports.put_class_moves.Goals as goal
 
 pub loop-worker-preserved : goal.loop-worker-preserved
 loop-worker-preserved g c =
-    let (counts, count, is) = c.loop-worker.invariant in
-    let more = c.moves.result in (
-      counts ++ more ∷ [],
-      length_push counts more ∙ ap (λ (n : ℕ). n + 1) count,
-      told_more (moves_line c.args.class) counts more c.loop-worker.worker c.args.out.now.items c.loop-worker.out.items
-          c.put_moves.new.out.items count is c.in_ok-put_moves.ensures,
-    )
+    let class = c.args.class in
+    let worker = c.loop-worker.worker in
+    let history = c.args.book.now.part.history in
+    let told = λ (w : ℕ). moves_of w history in
+    told_more (moves_line class) (moves_of_each worker history) (told worker) worker c.args.out.now.items c.loop-worker.out.items
+    c.put_moves.new.out.items (length-map-range_with_len told 0 worker) c.loop-worker.invariant
+    (c.in_ok-put_moves.ensures ∙ ap (λ (n : ℕ). c.loop-worker.out.items ++ moves_line class worker n) c.moves.ensures)
+    ∙ ap (λ (counts : List ℕ). c.args.out.now.items ++ moves_lines class counts) (sym (map-range_with_len_more told 0 worker worker (omega arith)))

@@ -38,6 +38,8 @@ returns-in_err-find_class-in-Sweep-clause-fault g c =
 
 pub returns-in_default : goal.returns-in_default
 returns-in_default g c = record {
+  count = c.requires.gets;
+  added = tt;
   fault = not_past (seen c.args.self.now) c.args.now (seen_instruction c.args.instruction) c.requires.past
       (others_not_past c.args.instruction c.in_default.not-Get c.in_default.not-Del c.in_default.not-Pull c.in_default.not-Sweep c.in_default.not-Drain);
   passes = tt;

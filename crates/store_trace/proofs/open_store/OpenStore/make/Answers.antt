@@ -21,7 +21,7 @@ returns-in_ok-put_all_moves-in-Moves-clause-fault g c = ap (λ (i : TheInstructi
 pub returns-in_ok-put_all_moves-in-Moves-clause-lines : goal.returns-in_ok-put_all_moves-in-Moves-clause-lines
 returns-in_ok-put_all_moves-in-Moves-clause-lines g c =
     λ before.
-    let (moves, are_moves, is) = c.in_ok-put_all_moves-in-Moves.ensures in
+    let (moves, are_moves, is) = c.in_ok-put_all_moves-in-Moves.ensures.moves in
     subst IsLines (sym is) (lines_behind c.args.out.now.items _ before (moves_whole moves))
 
 pub returns-in-Par-clause-fault : goal.returns-in-Par-clause-fault

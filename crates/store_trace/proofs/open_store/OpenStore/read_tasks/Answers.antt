@@ -1,4 +1,4 @@
-use Rattle.std.proofs.Common.{Some, None, sym, ◌∙◌, inr, arith}
+use Rattle.std.proofs.Common.{Some, None, sym, ◌∙◌, inr, rules, arith}
 use Rattle.bump_trace.specs.Meaning.{parts_of}
 use Rattle.bump_trace.specs.Stages.{Open}
 use Rattle.store_trace.specs.Endings.{Whole}
@@ -8,7 +8,7 @@ use Rattle.store_trace.proofs.LinesSaid.{open_end, is_open}
 use Rattle.store_trace.proofs.open_store.OpenStore.read_tasks.Goals as goal
 
 pub loop-line-init : goal.loop-line-init
-loop-line-init g c = record { room = c.requires.room; so_far = λ end p. p; past = c.requires.past }
+loop-line-init g c = record { room = c.requires.room; so_far = λ end p. p; count = search rules; past = c.requires.past }
 
 pub check_line-requires-clause-past : goal.check_line-requires-clause-past
 check_line-requires-clause-past g c =
@@ -21,6 +21,7 @@ loop-line-preserved g c =
       so_far =
           goes_on c.args.place.number (parts_of c.args.place.rest.now) s c.loop-line.number c.loop-line.rest.now s c.loop-line.invariant.so_far
           c.in-Some.line.now c.in-Some.after.now c.in-Some.ensures.0 s c.in_default-check_line.ensures.passes;
+      count = c.in_default-check_line.ensures.count;
       past = inr (past_of c.args.self.now.is_past_par c.loop-line.rest.now c.in-Some.line.now c.in-Some.after.now c.loop-line.invariant.past c.in-Some.ensures.0);
     }
 

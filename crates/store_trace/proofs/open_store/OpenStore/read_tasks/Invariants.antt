@@ -11,6 +11,7 @@ abbrev pub invariant-loop-line : goal.invariant-loop-line
 invariant-loop-line g l = record {
   room : l.number + length l.rest ≤ 16777217;
   so_far : Goes l.place.number (parts_of l.place.rest.now) (Open (seen l.self)) l.number (parts_of l.rest) (Open (seen l.self));
+  count : length l.tasks.gets.items ≡ length l.self.pairs.items;
   past : (parts_of l.rest ≡ l.rest ∷ []) ⊎ (l.self.is_past_par ≡ true);
 }
 

@@ -1,0 +1,47 @@
+use Rattle.std.proofs.Common.{◌≡◌, ◌⊎◌, ℕ, ◌≤◌, ◌<◌, List, Option, None, Some, Ok, Err, inl, inr, sym, ◌∙◌, subst}
+use Rattle.std.proofs.lemmas.Bool.{cases_lt}
+use Rattle.bump_rules.specs.declared.configs.Config.{Config}
+use Rattle.bump_rules.specs.declared.items.Head.{Head}
+use Rattle.bump_rules.specs.declared.items.ItemId.{ItemId}
+use Rattle.bump_rules.specs.declared.commands.Touch.{Touch}
+use Rattle.bump_steps.specs.Rule.{chunks as all_chunks}
+use Rattle.bump_steps.specs.declared.refusals.TakeRefusal.{TakeRefusal}
+use Rattle.bump_steps.specs.declared.views.HoldPart.{HoldPart}
+use Rattle.bump_store.specs.Gets.{Got, get_answer}
+use Rattle.bump_store.specs.Touches.{Findings, Touched}
+use Rattle.bump_store.specs.Workers.{WorkerState}
+use Rattle.store_trace.proofs.commands.get.Goals as goal
+
+-- a hold that was taken is of the item that was asked for
+held_item : (refusal : Option TakeRefusal) (item : ItemId) (hold : HoldPart) → Ok hold ≡ get_answer refusal item → hold.life ≡ item
+held_item None item hold is = cc is
+held_item (Some refusal) item hold is = absurd (cc is)
+
+pub returns-clause-got : goal.returns-clause-got
+returns-clause-got g c =
+    let config = c.args.store.now in
+    let item = c.args.id in
+    let hold = c.in_ok-hold.hold in
+    let inside : item.chunk < all_chunks c.deref.result.now = by (cases_lt item.chunk (all_chunks c.deref.result.now)) in
+    let (first, more, got) = c.in_ok-hold.ensures.got inside in
+    let same = c.read_label-label.ensures ∙ held_item _ item hold got.answer in (
+      hold,
+      first,
+      more,
+      c.get.new.self,
+      subst (λ (k : Config). Got k.refs_limit item c.args.worker.now c.get.new.self (Ok hold) first more) c.deref.ensures got,
+      (
+        c.touch-touch.ensures.exhausted,
+        λ low.
+            let (found, touched) = c.touch-touch.ensures.touched low in (
+              found,
+              subst (λ (k : Config). Touched k.refs_limit item c.args.now c.get.new.self c.touch-touch.new.self c.touch-touch.result found) c.deref-2.ensures
+                  (subst (λ (i : ItemId). Touched c.deref-2.result.now.refs_limit i c.args.now c.get.new.self c.touch-touch.new.self c.touch-touch.result found) same touched),
+            ),
+      ),
+    )
+  where
+    by : (c.args.id.chunk < all_chunks c.deref.result.now) ⊎ (all_chunks c.deref.result.now ≤ c.args.id.chunk)
+        → c.args.id.chunk < all_chunks c.deref.result.now
+    by (inl low) = low
+    by (inr high) = absurd (cc (c.in_ok-hold.ensures.missing high).0)
