@@ -37,11 +37,12 @@ few_together loads exchanges others more_loads more_exchanges more_others before
         omega (arith, total_append (λ (step : OwnStep). cond (test step) 1 0) first.made second.made, few, too)
 
 -- a hold that is answered is of the item
-hold_answered : (item : ItemId) (hold : HoldPart) (refusal : Option TakeRefusal) → Ok hold ≡ get_answer refusal item
+hold_answered : (item : ItemId) (hold : HoldPart) (refusal : Option TakeRefusal) (row : List ℕ)
+    → Ok hold ≡ get_answer refusal item row
     → hold.life ≡ item
-hold_answered item hold None answered =
-    let e : hold ≡ new_hold item = cc answered in ap (λ (h : HoldPart). h.life) e
-hold_answered item hold (Some refusal) answered = absurd (cc answered)
+hold_answered item hold None row answered =
+    let e : hold ≡ new_hold item row = cc answered in ap (λ (h : HoldPart). h.life) e
+hold_answered item hold (Some refusal) row answered = absurd (cc answered)
 
 -- a hold that a worker's get gave is of the item
 hold_of_item : (config : Config) (item : ItemId) (before after : WorkerState) (hold : HoldPart)
@@ -49,7 +50,7 @@ hold_of_item : (config : Config) (item : ItemId) (before after : WorkerState) (h
 hold_of_item config item before after hold gets = by (cases_lt item.chunk (all_chunks config))
   where
     by : (item.chunk < all_chunks config) ⊎ (all_chunks config ≤ item.chunk) → hold.life ≡ item
-    by (inl there) = hold_answered item hold _ (gets.got there).2.answer
+    by (inl there) = hold_answered item hold _ _ (gets.got there).2.answer
     by (inr missing) = absurd (cc ((gets.missing missing).0))
 
 -- a hit whose get gave a hold
