@@ -2,7 +2,9 @@
 
 use crate::reports::{Report, whole};
 use access_logs::{Format, LogFault, read_log};
+use std::alloc::{AllocError, Global};
 use std::io::{self, ErrorKind, Read};
+use std::test::*;
 
 // Gives a text in pieces of so many bytes, with an interruption before each; and fails behind it, if it is to.
 #[derive(Drop)]
@@ -59,6 +61,43 @@ fn pieces_make_no_difference(rt: HostRuntime) {
         let records = give(b"1,key\r\n2,other\r\n3\r\n4,\"key\"", size, false);
         assert!(rt; report.is(&read_log(rt.alloc(), records, CSV, false)));
     }
+}
+
+const DIGITS: &[u8; 10] = b"0123456789";
+
+// The lines of so many keys, at most 1000, twice: each has 40 bytes and its number. And their numbers.
+fn keys_twice(alloc: Global, count: u32) -> Result<(Vec<u8>, Vec<u32>), AllocError> {
+    let mut text = Vec::new(alloc);
+    let mut numbers = Vec::new(alloc);
+    for _ in 0..2 {
+        for number in 0..count {
+            text.resize(text.len().saturating_add(40), b'k')?;
+            text.push(DIGITS[(number / 100 % 10) as usize])?;
+            text.push(DIGITS[(number / 10 % 10) as usize])?;
+            text.push(DIGITS[(number % 10) as usize])?;
+            text.push(b'\n')?;
+            numbers.push(number)?;
+        }
+    }
+    Ok((text, numbers))
+}
+
+// A reader that doesn't fail has no fault, nor do many keys, long lines or many pieces and interruptions make one.
+#[test]
+fn reader_that_never_fails_is_read_to_its_end(rt: HostRuntime) -> Result<(), Fail> {
+    let (text, numbers) = keys_twice(rt.alloc(), 300)?;
+    let first = Format::Csv {
+        column: 0,
+        header: false,
+        size: None,
+    };
+    for size in 1..4 {
+        let lines = give(&text, size, false);
+        assert!(rt; whole(&numbers, 300).is(&read_log(rt.alloc(), lines, Format::Lines, true)));
+        let records = give(&text, size, false);
+        assert!(rt; whole(&numbers, 300).is(&read_log(rt.alloc(), records, first, true)));
+    }
+    Ok(())
 }
 
 #[test]
