@@ -1,8 +1,9 @@
 //! The ways of running the trace of a file.
-ghost use Rattle.std.specs.Prelude.{◌≡◌, ◌≤◌, ℕ, List, Result, ⊤};
+ghost use Rattle.std.specs.Prelude.{◌≡◌, ◌≤◌, ℕ, List, Result, IfErr, ⊤};
 ghost use Rattle.std.specs.Thread.{IsSync};
 ghost use Rattle.bump_trace.specs.declared.runs.SimFault.{SimFault};
-ghost use Rattle.bumpsim.specs.Ways.{RanAs};
+ghost use Rattle.bump_trace.specs.declared.runs.SimFault.TheVariants.{Read};
+ghost use Rattle.bumpsim.specs.Ways.{RanAs, RanModel, RanSerial, RanPar, HaveBegun};
 
 use crate::runs::{Mode, Run};
 use bump_trace::{Counted, SimFault, run_model};
@@ -13,7 +14,7 @@ use std::random::RandomSource;
 use std::rt::Files;
 use std::sync::Wait;
 use std::thread::Threads;
-use store_trace::{OpenGate, run_par, run_serial};
+use store_trace::{Gate, run_par, run_serial};
 
 /// The three runs of the trace of a file, each with a relation between the file's name and the answer. Where nothing
 /// more is known of the runs, a relation holds by the call alone: so a clause that says `serials` says that `serial`
@@ -74,7 +75,9 @@ pub fn run_as<R: Print + Files + AllocGlobal + RandomSource + Threads + Wait + S
 }
 
 /// A file, and keys by which names are hashed.
-fn opened<R: Files + RandomSource>(rt: &R, file: &str) -> Result<(R::File, RandomState), SimFault> {
+fn opened<R: Files + RandomSource>(rt: &R, file: &str) -> Result<(R::File, RandomState), SimFault>
+    ensures { IfErr result (λ e. e ≡ Read) }
+{
     let Ok(file) = File::open(rt, file) else {
         return Err(SimFault::Read);
     };
@@ -84,17 +87,32 @@ fn opened<R: Files + RandomSource>(rt: &R, file: &str) -> Result<(R::File, Rando
     }
 }
 
+/// The gate of the program, which lets all lines pass.
+#[derive(Clone, Copy)]
+pub struct Passing;
+
+impl Gate for Passing {
+    ghost begins = { λ gate drainers. HaveBegun drainers };
+
+    fn begin(&self, _drainers: u32) {}
+
+    fn enter(&self, _worker: u32, _call: u64) -> bool {
+        true
+    }
+
+    fn leave(&self, _worker: u32, _call: u64) {}
+}
+
 /// The runs whose text goes to standard output.
 #[derive(Clone, Copy)]
 pub struct ToOutput;
 
 impl Ways for ToOutput {
-    // What is in a file, and what becomes of standard output, no clause can say.
-    ghost models = { λ self file answer. ⊤ };
+    ghost models = { λ self file answer. RanModel answer };
 
-    ghost serials = { λ self file answer. ⊤ };
+    ghost serials = { λ self file answer. RanSerial answer };
 
-    ghost pars = { λ self file drainers answer. ⊤ };
+    ghost pars = { λ self file drainers answer. RanPar drainers answer };
 
     fn model<R: Print + Files + AllocGlobal + RandomSource>(
         &self,
@@ -131,7 +149,7 @@ impl Ways for ToOutput {
             rt,
             rt.alloc(),
             keys,
-            &OpenGate,
+            &Passing,
             drainers,
             &mut reader,
             &mut writer,
