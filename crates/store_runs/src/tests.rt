@@ -17,3 +17,4 @@ mod settling;
 mod shared_item;
 mod threads;
 mod whole;
+mod words;
