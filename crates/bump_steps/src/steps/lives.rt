@@ -133,7 +133,14 @@ impl Words {
     }
 
     /// The store of the head of a new life, where it begins.
-    pub fn open_life(&self, seat: &mut Seat, chunk: u32, place: usize, start: Start, generation: u32)
+    pub fn open_life(
+        &self,
+        seat: &mut Seat,
+        chunk: u32,
+        place: usize,
+        start: Start,
+        generation: u32,
+    )
         requires seat { (seat.old.table_id ≡ words_id self.now) × HasChunk (words_id self.now) chunk }
         requires place { place ≡ head_place (words_id self.now).slots chunk }
         requires may { MayLink chunk generation seat.old.me.0 }

@@ -94,7 +94,11 @@ fn live<N: Name>(
     expect_head(rt, class.look(0, place), head(2, "l", Segment::Hot, 1));
     mark_in_hot(rt, heads, worker, &mut hold);
     expect(rt, "the label", &class.meet(&mut hold), &7);
-    expect_head(rt, class.end_life(0, place), head(2, "lfa", Segment::Hot, 1));
+    expect_head(
+        rt,
+        class.end_life(0, place),
+        head(2, "lfa", Segment::Hot, 1),
+    );
     let held = class.seen_unheld(0, place);
     expect_head(rt, held, head(1, "fa", Segment::Hot, 1));
     assert!(rt; held.refs == 1);
@@ -104,7 +108,12 @@ fn live<N: Name>(
     expect_head(rt, free, head(0, "fa", Segment::Hot, 1));
     assert!(rt; free.refs == 0);
     expect_stale(rt, heads, worker, life);
-    expect(rt, "the second life", &class.open_life(0, place), &life_of(0, 2));
+    expect(
+        rt,
+        "the second life",
+        &class.open_life(0, place),
+        &life_of(0, 2),
+    );
     expect_seen(rt, heads, 0, (head(1, "l", Segment::Hot, 2), 3));
     expect_stale(rt, heads, worker, life);
 }

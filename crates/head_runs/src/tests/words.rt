@@ -61,7 +61,11 @@ fn live_wide<N: Name>(
     expect(rt, "word 1", &heads.word_of(&mut hold, 1), &101);
     expect_head(rt, heads.give_back(hold).0, head(1, "", Segment::Hot, 1));
     expect_head(rt, heads.give_back(second).0, head(2, "l", Segment::Hot, 1));
-    expect_head(rt, class.seen_unheld(0, place), head(0, "", Segment::Hot, 1));
+    expect_head(
+        rt,
+        class.seen_unheld(0, place),
+        head(0, "", Segment::Hot, 1),
+    );
 }
 
 fn wide_in<N: Name>(
