@@ -2,7 +2,7 @@
 //! that come free are the same.
 ghost use Rattle.std.specs.Prelude.{◌≡◌, IfSome, [], ◌∷◌};
 
-use super::expecting::{expect, expect_of};
+use super::expecting::expect_of;
 use bump_class::Book;
 use bump_heads::{Blank, HeadParts, Heads, Name};
 use bump_ring::ring;
@@ -14,7 +14,11 @@ use std::process::Abort;
 use std::sync::Arc;
 use std::test::Fail;
 
+/// Chunks of the class.
 const ITEMS: u32 = 10;
+
+/// Commands at each width.
+const COMMANDS: u32 = 10_000;
 
 const CLASS: ClassConfig = ClassConfig {
     chunks: ITEMS,
@@ -335,7 +339,7 @@ fn link<N: Name>(
     let count = (number / 8 % (u64::from(book.further()) + 1)) as usize;
     let mut words = Vec::new(alloc);
     for place in 0..count {
-        words.push(number.wrapping_mul(place as u64 + 3))?;
+        words.push(number.wrapping_mul((place as u64).wrapping_add(3)))?;
     }
     assert!(rt; words.len() <= book.further() as usize);
     let (linked, wanted) = match number % 4 {
@@ -442,11 +446,12 @@ fn command<N: Name, R: Abort>(
     number: u64,
 ) -> Result<(), AllocError> {
     let chunk = (number / 64 % u64::from(ITEMS)) as u32;
-    match number % 8 {
-        0..=2 => link(rt, alloc, book, plain, number / 8, number)?,
-        3 => unlink(rt, alloc, book, plain, chunk)?,
-        4..=5 => pull(rt, alloc, book, plain, number / 8)?,
-        _ => sweep(rt, alloc, book, plain, (number / 8 % 4) as usize)?,
+    let rest = number / 32;
+    match number % 32 {
+        0..=11 => link(rt, alloc, book, plain, rest, number)?,
+        12..=19 => unlink(rt, alloc, book, plain, chunk)?,
+        20..=30 => pull(rt, alloc, book, plain, rest)?,
+        _ => sweep(rt, alloc, book, plain, (rest % 4) as usize)?,
     }
     expect_lists(rt, alloc, book, plain)
 }
@@ -559,9 +564,21 @@ fn play_wide<R: Abort>(rt: &R, alloc: Global, further: u32, commands: u32) -> Re
 }
 
 #[test]
-fn a_book_and_plain_lists_are_the_same_at_each_width(rt: HostRuntime) -> Result<(), Fail> {
-    for (further, commands) in [(0, 4_000), (1, 3_000), (5, 2_000), (16, 1_000)] {
-        play_wide(&rt, rt.alloc(), further, commands)?;
-    }
-    Ok(())
+fn chunks_with_no_further_word(rt: HostRuntime) -> Result<(), Fail> {
+    play_wide(&rt, rt.alloc(), 0, COMMANDS)
+}
+
+#[test]
+fn chunks_with_one_further_word(rt: HostRuntime) -> Result<(), Fail> {
+    play_wide(&rt, rt.alloc(), 1, COMMANDS)
+}
+
+#[test]
+fn chunks_with_five_further_words(rt: HostRuntime) -> Result<(), Fail> {
+    play_wide(&rt, rt.alloc(), 5, COMMANDS)
+}
+
+#[test]
+fn chunks_with_sixteen_further_words(rt: HostRuntime) -> Result<(), Fail> {
+    play_wide(&rt, rt.alloc(), 16, COMMANDS)
 }
