@@ -8,6 +8,7 @@ mod drains;
 mod expecting;
 mod marks;
 mod moves;
+mod offers;
 mod opening;
 mod pairs;
 mod refused_memory;
