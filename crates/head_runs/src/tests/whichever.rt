@@ -56,8 +56,9 @@ fn take_whichever<N: Name>(
     } }
     requires worker { worker.old ≡ worker_seen (worker_part 0) }
 {
-    class.put_label(0, 7);
-    let life = class.open_life(0);
+    let place = class.head_at(0);
+    class.put_label(0, place, 7);
+    let life = class.open_life(0, place);
     let mut first = heads.take(worker, life).expect(rt, "there is room");
     mark_in_hot(rt, heads, worker, &mut first);
     heads.give_back(first);
@@ -66,7 +67,7 @@ fn take_whichever<N: Name>(
     expect_head(rt, found, head(1, "lfa", Segment::Hot, 1));
     expect(rt, "the label", &heads.label_of(&mut hold), &7);
     expect_none(rt, heads, worker, AnyRefusal::RefsFull, "held");
-    class.end_life(0);
+    class.end_life(0, place);
     expect_none(rt, heads, worker, AnyRefusal::Gone, "behind it");
     heads.give_back(hold);
 }
