@@ -1,4 +1,4 @@
-use Rattle.std.proofs.Common.{◌≡◌, ◌⊎◌, ℕ, ◌≤◌, ◌<◌, List, Option, None, Some, Ok, Err, inl, inr, sym, ◌∙◌, subst}
+use Rattle.std.proofs.Common.{◌≡◌, ◌⊎◌, ℕ, ◌≤◌, ◌<◌, List, Option, None, Some, Ok, Err, inl, inr, sym, ap, ◌∙◌, subst}
 use Rattle.std.proofs.lemmas.Bool.{cases_lt}
 use Rattle.bump_rules.specs.declared.configs.Config.{Config}
 use Rattle.bump_rules.specs.declared.items.Head.{Head}
@@ -7,15 +7,17 @@ use Rattle.bump_rules.specs.declared.commands.Touch.{Touch}
 use Rattle.bump_steps.specs.Rule.{chunks as all_chunks}
 use Rattle.bump_steps.specs.declared.refusals.TakeRefusal.{TakeRefusal}
 use Rattle.bump_steps.specs.declared.views.HoldPart.{HoldPart}
+use Rattle.bump_steps.specs.References.{new_hold}
 use Rattle.bump_store.specs.Gets.{Got, get_answer}
 use Rattle.bump_store.specs.Touches.{Findings, Touched}
 use Rattle.bump_store.specs.Workers.{WorkerState}
 use Rattle.store_trace.proofs.commands.get.Goals as goal
 
 -- a hold that was taken is of the item that was asked for
-held_item : (refusal : Option TakeRefusal) (item : ItemId) (hold : HoldPart) → Ok hold ≡ get_answer refusal item → hold.life ≡ item
-held_item None item hold is = cc is
-held_item (Some refusal) item hold is = absurd (cc is)
+held_item : (refusal : Option TakeRefusal) (item : ItemId) (row : List ℕ) (hold : HoldPart)
+    → Ok hold ≡ get_answer refusal item row → hold.life ≡ item
+held_item None item row hold is = let e : hold ≡ new_hold item row = cc is in ap (λ (h : HoldPart). h.life) e
+held_item (Some refusal) item row hold is = absurd (cc is)
 
 pub returns-clause-got : goal.returns-clause-got
 returns-clause-got g c =
@@ -24,7 +26,7 @@ returns-clause-got g c =
     let hold = c.in_ok-hold.hold in
     let inside : item.chunk < all_chunks c.deref.result.now = by (cases_lt item.chunk (all_chunks c.deref.result.now)) in
     let (first, more, got) = c.in_ok-hold.ensures.got inside in
-    let same = c.read_label-label.ensures ∙ held_item _ item hold got.answer in (
+    let same = c.read_label-label.ensures ∙ held_item _ item _ hold got.answer in (
       hold,
       first,
       more,

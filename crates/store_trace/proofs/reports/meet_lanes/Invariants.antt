@@ -1,5 +1,6 @@
 use Rattle.std.proofs.Common.{◌≡◌, ◌≤◌, length, map, take}
 use Rattle.bump_class.specs.Applications.{moved_in}
+use Rattle.bump_class.specs.Changes.{book_after_meets}
 use Rattle.bump_class.specs.Lanes.{entries}
 use Rattle.bump_rules.specs.Entries.{moves_of}
 use Rattle.store_trace.specs.Pairs.{lanes_of}
@@ -8,7 +9,7 @@ use Rattle.store_trace.proofs.reports.meet_lanes.Given as goal
 -- the first lanes, so many, met the Book
 abbrev pub invariant-loop-at : goal.invariant-loop-at
 invariant-loop-at g l = record {
-  book : l.book ≡ l.fn.book;
+  book : l.book ≡ book_after_meets l.at l.fn.book;
   lanes : lanes_of l.pairs.items ≡ lanes_of l.fn.pairs.items;
   told : map (λ m. moves_of m.lane.part.worker l.fn.book.part.history) (take l.at (lanes_of l.fn.pairs.items))
       ≡ map (λ m. moved_in l.fn.book.part (entries m.lane)) (take l.at (lanes_of l.fn.pairs.items));

@@ -1,7 +1,8 @@
-use Rattle.std.proofs.Common.{◌≡◌, ◌⊎◌, ◌++◌, ◌<◌, ◌≤◌, [], ◌∷◌, ℕ, ◌+◌, true, false, List, length, refl, sym, ap, ◌∙◌, subst, inl, inr, arith}
+use Rattle.std.proofs.Common.{◌≡◌, ◌⊎◌, ◌++◌, ◌<◌, ◌≤◌, [], ◌∷◌, ℕ, zero, suc, ◌+◌, true, false, List, length, refl, sym, ap, ◌∙◌, subst, inl, inr, arith}
 use Rattle.std.proofs.lemmas.Bool.{cases_lt, false≢true}
 use Rattle.std.proofs.lemmas.List.{length_push}
 use Rattle.bump_class.specs.Books.{BookView}
+use Rattle.bump_class.specs.Changes.{book_after_meets}
 use Rattle.bump_store.specs.Lanes.{LaneState}
 use Rattle.bump_store.specs.Stores.{IsOfClass}
 use Rattle.store_trace.specs.Pairs.{lanes_of}
@@ -9,6 +10,12 @@ use Rattle.store_trace.specs.Reports.{moves_lines, moves_of_each, moves_of_lanes
 use Rattle.store_trace.proofs.MoveLines.{each_push}
 use Rattle.store_trace.proofs.NumberedTexts.{told_more}
 use Rattle.store_trace.proofs.reports.put_all_moves.Goals as goal
+
+-- a Book that met lanes has the workers, and the history, that it had
+moves_stay : (n : ℕ) (b : BookView) → moves_of_each (book_after_meets n b).workers (book_after_meets n b).part.history
+    ≡ moves_of_each b.workers b.part.history
+moves_stay zero b = refl
+moves_stay (suc n) b = moves_stay n b
 
 -- a class whose Book was locked is one of so many
 inside : (class count : ℕ) → (count ≤ class → false ≡ true) → class + 1 ≤ count
@@ -45,6 +52,7 @@ loop-class-preserved g c =
         told_more moves_lines moves counts class c.args.out.now.items before c.put_class_moves.new.out.items count is
             (c.in_ok-put_class_moves.ensures
             ∙ ap (λ (b : BookView). before ++ moves_lines class (moves_of_each b.workers b.part.history)) c.meet_lanes.ensures.book
+            ∙ ap (λ (told : List ℕ). before ++ moves_lines class told) (moves_stay (length c.loop-class.pairs.items) book)
             ∙ ap (λ (n : ℕ). before ++ moves_lines class (moves_of_each n book.part.history)) workers),
       );
     }
