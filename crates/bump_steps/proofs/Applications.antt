@@ -30,7 +30,7 @@ use Rattle.bump_steps.specs.declared.views.LanePart.{LanePart}
 use Rattle.bump_steps.specs.declared.views.Ride.{Ride}
 use Rattle.bump_steps.specs.declared.views.View.{View}
 use Rattle.bump_steps.specs.Views.{refers, bump_aboard, Measure, held, named, saw, owners, strays, mislabels, misreads, owns, standing, last_word, weight, evidence, shown_by, claims, claimed_in, settled_in, names_move, underway_in, names_outside, is_entry, outcome_number, Query, in_order, untidy_in, shows_time_only, of_owner, foreign_in, foreign, active_clear, IsBacked}
-use Rattle.bump_steps.specs.Rule.{Sound, chunks, Kept, HasFittingLimit, blank}
+use Rattle.bump_steps.specs.Rule.{Law, Sound, chunks, Kept, HasFittingLimit, blank}
 use Rattle.bump_steps.specs.Places.{head_place}
 use Rattle.bump_steps.specs.Plays.{Sat, Tells, on_chunk, on_time, step_of, Stands}
 use Rattle.bump_steps.specs.Applications.{for_bump, for_first, stage_after_try, lane_after_try, view_after_try, try_tells, stage_after_clear_active, view_after_clear_active, clear_active_tells, noted_class, view_after_put_time, put_time_tells, move_tells, view_after_alight, alight_tells, entries_of_alight, application_of, applying, StandsIn, life_in, lane_after_clear_active, MayMove, is_past_move, Alights, MayAlight}
@@ -251,8 +251,8 @@ module _ (c n : ℕ) (v : View) where
           (λ k. owned_push (owns e.life.chunk k) (λ x. cond (shows_time_only wk e.number e.life.chunk x) 1 0) k.steps
           (step_of kind.PutTime c n (for_first v.lanes))) v.classes in omega arith
 
-module _ (key : Config) (slots id : ℕ) (m : Sat) (c : ℕ) (near : c < chunks key) where
-  pub may_try : Allows (Kept key) slots id m (head_place slots c) (λ n. n)
+module _ {law : Law} (key : Config) (slots id : ℕ) (m : Sat) (c : ℕ) (near : c < chunks key) where
+  pub may_try : Allows (Kept law key) slots id m (head_place slots c) (λ n. n)
       (on_chunk try_tells (step slots (head_place slots c) 0 0 none) m)
   may_try = at_chunk try_tells key slots id m c 0 (λ n. n) near (λ n x t limits o a. (
     view_after_try c n m.0,
@@ -263,7 +263,7 @@ module _ (key : Config) (slots id : ℕ) (m : Sat) (c : ℕ) (near : c < chunks 
     (refl, (o.head, o.spells, tells c key.refs_limit n x m.0 t o a)),
   ))
 
-  pub may_clear_active : Allows (Kept key) slots id m (head_place slots c) (λ n. bit_and n (2 ^ 64 - 1 - 2 ^ active_first))
+  pub may_clear_active : Allows (Kept law key) slots id m (head_place slots c) (λ n. bit_and n (2 ^ 64 - 1 - 2 ^ active_first))
       (on_chunk clear_active_tells (step slots (head_place slots c) (2 ^ 64 - 1 - 2 ^ active_first) 0 none) m)
   may_clear_active = at_chunk clear_active_tells key slots id m c (2 ^ 64 - 1 - 2 ^ active_first)
       (λ n. bit_and n (2 ^ 64 - 1 - 2 ^ active_first)) near (λ n x t limits o a. (
@@ -279,6 +279,7 @@ module _ (key : Config) (slots id : ℕ) (m : Sat) (c : ℕ) (near : c < chunks 
               agreed = o.agreed;
               labelled = o.labelled;
               read = o.read;
+              obeys = o.obeys;
               hit = o.hit;
             })),
         (λ b ne. clear_active_same c n m.0 b),
@@ -286,7 +287,7 @@ module _ (key : Config) (slots id : ℕ) (m : Sat) (c : ℕ) (near : c < chunks 
         (refl, refl, (o.head, o.spells, tells c key.refs_limit n x m.0 t o a)),
       ))
 
-  pub may_put_time : (now : ℕ) → Allows (Kept key) slots id m (head_place slots c + 1) (λ _. now)
+  pub may_put_time : (now : ℕ) → Allows (Kept law key) slots id m (head_place slots c + 1) (λ _. now)
       (λ _. on_time put_time_tells (step slots (head_place slots c + 1) now 0 none) m now)
   may_put_time now = at_time put_time_tells key slots id m c now (λ _. now) (λ _. now) near
       (λ y n x t limits o a. (
@@ -366,10 +367,10 @@ module _ (c : ℕ) (k : ClassPart) (own : owns c k ≡ true) (l : ItemId) (of : 
     no_stray : weight c (strays to_be) went ≡ 0
     no_stray = ap₂ (λ (o same : Bool). bit (o && not same) + 0) own (standing_same _ _ move_stands_here)
 
-    move_sound : (limit p : ℕ) (label : ℕ → ℕ) (t u : Measure → ℕ) → Amid c stood t
-        → ((y : Measure) → u y + weight c y stood ≡ t y + weight c y went) → (o : Sound limit p label t) → (n : ℕ)
+    move_sound : {law : Law} (limit p : ℕ) (label : ℕ → ℕ) (t u : Measure → ℕ) → Amid c stood t
+        → ((y : Measure) → u y + weight c y stood ≡ t y + weight c y went) → (o : Sound law limit p label t) → (n : ℕ)
         → Spells n (record o.head { segment = to }) → o.head.generation ≡ l.generation → o.head.linked ≡ true
-        → Sound limit n label u
+        → Sound law limit n label u
     move_sound limit p label t u a adds o n spells gen on = record {
       head = record o.head { segment = to };
       at = place_of to;
@@ -386,6 +387,7 @@ module _ (c : ℕ) (k : ClassPart) (own : owns c k ≡ true) (l : ItemId) (of : 
           (omega (arith, adds (strays to_be), no_stray, a.others to_be, a.mine owners, o.owned, ap bit own));
       labelled = λ i. omega (arith, adds (mislabels i (label i)), o.labelled i);
       read = λ i. omega (arith, adds (misreads i o.head.generation (label i)), o.read i);
+      obeys = o.obeys;
       hit = λ j some. omega (arith, adds (named j), o.hit j (omega (arith, some, adds (saw j))));
     }
       where
@@ -432,14 +434,14 @@ module _ (c : ℕ) (k : ClassPart) (own : owns c k ≡ true) (l : ItemId) (of : 
               (λ z. cond (shows_time_only wk e.number e.life.chunk z) 1 0) k.steps made,
         )
 
-    module _ (key : Config) (slots id : ℕ) (near : c < chunks key) (sl : List (ℕ × Empty)) where
+    module _ {law : Law} (key : Config) (slots id : ℕ) (near : c < chunks key) (sl : List (ℕ × Empty)) where
       -- the seat of the class can go on so, where the move is of the life that the chunk has, and evens out
       move_goes : (tells : Tells) (x : ℕ) (at : Standing) → standing k c ≡ at → at.0 ≡ place_of from
-          → ((n : ℕ) (y : ℕ → ℕ) (t : Measure → ℕ) (o : Sound key.refs_limit n y t) → Amid c stood t → o.head.generation ≡ at.1
+          → ((n : ℕ) (y : ℕ → ℕ) (t : Measure → ℕ) (o : Sound law key.refs_limit n y t) → Amid c stood t → o.head.generation ≡ at.1
           → l.generation ≡ at.1) → IsBacked stood went
-          → (n : ℕ) (y : ℕ → ℕ) (t : Measure → ℕ) → HasFittingLimit key → (o : Sound key.refs_limit n y t) → Amid c stood t
+          → (n : ℕ) (y : ℕ → ℕ) (t : Measure → ℕ) → HasFittingLimit key → (o : Sound law key.refs_limit n y t) → Amid c stood t
           → tells c x (stood, sl) n (went, sl)
-          → Reaches key c (stood, sl) (tells c x (stood, sl) n) (bit_xor n (segment_change from to)) y t
+          → Reaches law key c (stood, sl) (tells c x (stood, sl) n) (bit_xor n (segment_change from to)) y t
       move_goes say x at st place same_life back n y t limits o a told =
           let stands : Stands c stood at = subst (Stands c stood) st (stands_alone c stood k refl own) in
           let here = at_standing c key.refs_limit n y stood t o a at stands in
@@ -456,10 +458,10 @@ module _ (c : ℕ) (k : ClassPart) (own : owns c k ≡ true) (l : ItemId) (of : 
 
 -- ---- what is asked of a move
 
-module _ (key : Config) (slots id c : ℕ) (near : c < chunks key) (k : ClassPart) (from to : Segment)
+module _ {law : Law} (key : Config) (slots id c : ℕ) (near : c < chunks key) (k : ClassPart) (from to : Segment)
     (st : StandsIn from c k) (sl : List (ℕ × Empty)) where
   -- a pull's
-  pub moves_by_pull : (x : ℕ) → Allows (Kept key) slots id (alone k, sl) (head_place slots c)
+  pub moves_by_pull : (x : ℕ) → Allows (Kept law key) slots id (alone k, sl) (head_place slots c)
       (λ n. bit_xor n (segment_change from to)) (on_chunk (move_tells from to) (step slots (head_place slots c) x 0 none)
       (alone k, sl))
   moves_by_pull x = at_chunk (move_tells from to) key slots id (alone k, sl) c x
@@ -496,7 +498,7 @@ module _ (key : Config) (slots id c : ℕ) (near : c < chunks key) (k : ClassPar
   -- that of the bump aboard
   pub moves_for_bump : (l : LanePart) (b : Bump) → k.applying ≡ None → b.life.chunk ≡ c → from ≡ Cold → to ≡ Warm
       → (x : ℕ)
-      → Allows (Kept key) slots id (applying k (record l { stage = lane.Cleared b true }), sl) (head_place slots c)
+      → Allows (Kept law key) slots id (applying k (record l { stage = lane.Cleared b true }), sl) (head_place slots c)
       (λ n. bit_xor n (segment_change from to)) (on_chunk (move_tells from to) (step slots (head_place slots c) x 0 none)
       (applying k (record l { stage = lane.Cleared b true }), sl))
   moves_for_bump l b none_named of is_cold is_warm x = at_chunk (move_tells from to) key slots id
@@ -566,17 +568,17 @@ module _ (key : Config) (slots id c : ℕ) (near : c < chunks key) (k : ClassPar
       ))
 
 -- for the contract
-pub may_move : (key : Config) (slots id c x : ℕ) (from to : Segment) (m : Sat) → c < chunks key
-    → MayMove from to c m.0 → Allows (Kept key) slots id m (head_place slots c) (λ n. bit_xor n (segment_change from to))
+pub may_move : {law : Law} (key : Config) (slots id c x : ℕ) (from to : Segment) (m : Sat) → c < chunks key
+    → MayMove from to c m.0 → Allows (Kept law key) slots id m (head_place slots c) (λ n. bit_xor n (segment_change from to))
     (on_chunk (move_tells from to) (step slots (head_place slots c) x 0 none) m)
-may_move key slots id c x from to m near (inl (k, p)) =
-    subst (λ (v : View). Allows (Kept key) slots id (v, m.1) (head_place slots c) (λ n. bit_xor n (segment_change from to))
+may_move {law = law} key slots id c x from to m near (inl (k, p)) =
+    subst (λ (v : View). Allows (Kept law key) slots id (v, m.1) (head_place slots c) (λ n. bit_xor n (segment_change from to))
     (on_chunk (move_tells from to) (step slots (head_place slots c) x 0 none) (v, m.1))) (sym p.view)
     (moves_by_pull key slots id c near k from to p.stands m.1 x)
-may_move key slots id c x from to m near (inr (k, l, b, g)) = let is : m.0 ≡ applying k
+may_move {law = law} key slots id c x from to m near (inr (k, l, b, g)) = let is : m.0 ≡ applying k
     (record l { stage = lane.Cleared b true }) = g.view ∙ ap (λ (s : Lane). applying k (record l { stage = s }))
     g.stage in
-    subst (λ (v : View). Allows (Kept key) slots id (v, m.1) (head_place slots c) (λ n. bit_xor n (segment_change from to))
+    subst (λ (v : View). Allows (Kept law key) slots id (v, m.1) (head_place slots c) (λ n. bit_xor n (segment_change from to))
     (on_chunk (move_tells from to) (step slots (head_place slots c) x 0 none) (v, m.1))) (sym is)
     (moves_for_bump key slots id c near k from to g.stands m.1 l b g.named g.chunk g.from_cold g.to_warm x)
 
@@ -754,7 +756,7 @@ module _ (key : Config) (slots id : ℕ) (k : ClassPart) (l : LanePart) (b : Bum
             (view_after_alight out b.life.chunk n (applying k l))) (λ i. (whose i, is i))
             (omega (arith, proof, more_evidence l.worker (applied_bump b out) out))
 
-  pub alights : (x : ℕ) → 0 < evidence l.worker (applied_bump b out) (applying k l) → Allows (Kept key) slots id
+  pub alights : {law : Law} (x : ℕ) → 0 < evidence l.worker (applied_bump b out) (applying k l) → Allows (Kept law key) slots id
       (applying k l, sl) (head_place slots b.life.chunk) (λ n. (n + (2 ^ 64 - 1)) % 2 ^ 64)
       (on_chunk (alight_tells out) (step slots (head_place slots b.life.chunk) x 0 none) (applying k l, sl))
   alights x proof = at_chunk (alight_tells out) key slots id (applying k l, sl) b.life.chunk x
@@ -779,6 +781,7 @@ module _ (key : Config) (slots id : ℕ) (k : ClassPart) (l : LanePart) (b : Bum
           agreed = omega (arith, moves (strays (o.at, o.head.generation)), o.agreed);
           labelled = λ i. omega (arith, moves (mislabels i (label i)), o.labelled i);
           read = λ i. omega (arith, moves (misreads i o.head.generation (label i)), o.read i);
+          obeys = o.obeys;
           hit = λ j some. omega (arith, moves (named j), o.hit j (omega (arith, some, moves (saw j))));
         }),
         (λ d ne. alight_apart n d ne),
@@ -787,11 +790,11 @@ module _ (key : Config) (slots id : ℕ) (k : ClassPart) (l : LanePart) (b : Bum
       ))
 
 -- for the contract
-pub may_alight : (key : Config) (slots id c x : ℕ) (out : Outcome) (m : Sat) → c < chunks key → MayAlight c out m.0
-    → Allows (Kept key) slots id m (head_place slots c) (λ n. (n + (2 ^ 64 - 1)) % 2 ^ 64)
+pub may_alight : {law : Law} (key : Config) (slots id c x : ℕ) (out : Outcome) (m : Sat) → c < chunks key → MayAlight c out m.0
+    → Allows (Kept law key) slots id m (head_place slots c) (λ n. (n + (2 ^ 64 - 1)) % 2 ^ 64)
     (on_chunk (alight_tells out) (step slots (head_place slots c) x 0 none) m)
-may_alight key slots id c x out m near may = let k : ClassPart = may.0 in let l : LanePart = may.1 in let b : Bump =
+may_alight {law = law} key slots id c x out m near may = let k : ClassPart = may.0 in let l : LanePart = may.1 in let b : Bump =
     may.2 in let g : Alights c out m.0 k l b = may.3 in
-    subst (λ (y : ℕ × View). Allows (Kept key) slots id (y.1, m.1) (head_place slots y.0) (λ n. (n + (2 ^ 64 - 1)) % 2 ^ 64)
+    subst (λ (y : ℕ × View). Allows (Kept law key) slots id (y.1, m.1) (head_place slots y.0) (λ n. (n + (2 ^ 64 - 1)) % 2 ^ 64)
     (on_chunk (alight_tells out) (step slots (head_place slots y.0) x 0 none) (y.1, m.1))) (λ i. (g.chunk i, sym g.view i))
     (alights key slots id k l b out (omega (arith, g.chunk)) m.1 g.aboard g.past g.named x g.proof)

@@ -47,15 +47,16 @@ use Rattle.bump_steps.specs.declared.views.WordStep.TheVariants.{Begun}
 use Rattle.bump_steps.specs.declared.views.ClassPart.{ClassPart}
 use Rattle.bump_steps.specs.declared.views.View.{View}
 use Rattle.bump_steps.specs.Views.{Measure, held, named, saw, owners, strays, mislabels, misreads, owns, standing, labels_of, last_word, weight, shown_by, shows_time_only, HasLabels, IsBacked}
-use Rattle.bump_steps.specs.Rule.{Sound, chunks, Kept}
+use Rattle.bump_steps.specs.Rule.{Law, Sound, chunks, Kept}
 use Rattle.bump_steps.specs.Places.{head_place}
 use Rattle.bump_steps.specs.Plays.{Sat, on_chunk, step_of, Stands}
-use Rattle.bump_steps.specs.Lives.{alone, class_after_load, class_after_link, class_after_sweep, IsInSegment, IsLinked, IsDying, MayLink, on_class, start_in, link_tells, unlink_tells, sweep_or_load_tells}
+use Rattle.bump_steps.specs.Lives.{Obeys, alone, class_after_load, class_after_link, class_after_sweep, IsInSegment, IsLinked, IsDying, MayLink, on_class, start_in, link_tells, unlink_tells, sweep_or_load_tells}
 use Rattle.bump_steps.specs.Lives as lives
 use Rattle.bump_steps.proofs.Frame.{Same, Amid, Reaches, same_sound}
 use Rattle.bump_steps.proofs.LabelLists.{word_linked, labels_begun}
 use Rattle.bump_steps.proofs.LifeLabels.{entered_labels, link_labels}
 use Rattle.bump_steps.proofs.Looking.{look_same, look_backed}
+use Rattle.bump_steps.proofs.Sights.{stored_last}
 use Rattle.bump_steps.proofs.StepLemmas.{at_chunk_by, at_chunk, owned_push, same_counts}
 use Rattle.bump_steps.proofs.Told.{at_standing, tells, stands_alone}
 
@@ -135,12 +136,13 @@ module _ (c : ℕ) (k : ClassPart) (own : owns c k ≡ true) (e : Change) (ls : 
           )
 
   -- the chunk is sound with a head that is lawful there
-  pub enter_sound : (limit n p : ℕ) (label : ℕ → ℕ) (t u : Measure → ℕ) → Amid c (alone k) t
-      → ((y : Measure) → u y + weight c y (alone k) ≡ t y + weight c y entering) → (o : Sound limit n label t)
+  pub enter_sound : {law : Law} (limit n p : ℕ) (label : ℕ → ℕ) (t u : Measure → ℕ) → Amid c (alone k) t
+      → ((y : Measure) → u y + weight c y (alone k) ≡ t y + weight c y entering) → (o : Sound law limit n label t)
       (to : Head) → Spells p to → to.generation ≡ (subject e).generation
-      → ((i : ℕ) → t (misreads i to.generation (label i)) ≡ 0) → Lawful limit to (target e) (λ g. t (held g)) (λ g. t (named g))
-      → Sound limit p label u
-  enter_sound limit n p label t u a moves o to spells gen read lawful = record {
+      → ((i : ℕ) → t (misreads i to.generation (label i)) ≡ 0) → (to.linked ≡ true → law label)
+      → Lawful limit to (target e) (λ g. t (held g)) (λ g. t (named g))
+      → Sound law limit p label u
+  enter_sound limit n p label t u a moves o to spells gen read obeys lawful = record {
     head = to;
     at = target e;
     spells = spells;
@@ -157,6 +159,7 @@ module _ (c : ℕ) (k : ClassPart) (own : owns c k ≡ true) (e : Change) (ls : 
       o.labelled i,
     );
     read = λ i. omega (arith, moves (misreads i to.generation (label i)), read i);
+    obeys = obeys;
     hit = λ j some. omega (arith, moves (named j), o.hit j (omega (arith, some, moves (saw j))));
   }
 
@@ -233,11 +236,11 @@ module _ (key : Config) (slots id c : ℕ) (near : c < chunks key) (sl : List (�
       (stands_alone c (alone k) k refl own)
 
   -- the head of a new life is stored
-  pub links : (a : Start) (new : ℕ) → (standing k c).0 ≡ Unused
-      → new ≡ word_of (linked_head a ((standing k c).1 + 1))
-      → Allows (Kept key) slots id (alone k, sl) (head_place slots c) (λ _. new)
+  pub links : {law : Law} (a : Start) (new : ℕ) → (standing k c).0 ≡ Unused
+      → new ≡ word_of (linked_head a ((standing k c).1 + 1)) → law (λ i. last_word i k c)
+      → Allows (Kept law key) slots id (alone k, sl) (head_place slots c) (λ _. new)
       (λ _. on_chunk link_tells (step slots (head_place slots c) new 0 none) (alone k, sl) new)
-  links b new unused is = let begins : Start = start_in new in
+  links {law = law} b new unused is obeys = let begins : Start = start_in new in
       at_chunk_by link_tells key slots id (alone k, sl) c new (λ _. new) (λ _. new) near
       (λ n label t limits o a.
       let at = at_standing c key.refs_limit n label (alone k) t o a (Unused, (standing k c).1)
@@ -268,6 +271,7 @@ module _ (key : Config) (slots id c : ℕ) (near : c < chunks key) (sl : List (�
             (λ i. a.readers i (o.head.generation + 1) (label i)
             (none_where_free key.refs_limit o.head o.at (λ g. t (held g)) (λ g. t (named g)) o.lawful
             (ap IsUsed place) (o.head.generation + 1)))
+            (λ lit. subst law (λ z i. stored_last c i key.refs_limit n label (alone k) t o a k refl own z) obeys)
             (subst (λ (p : Place). Lawful key.refs_limit h p (λ g. t (held g)) (λ g. t (named g))) (sym in_place)
             (born key.refs_limit o.head o.at (λ g. t (held g)) (λ g. t (named g)) o.lawful b place limits.0))),
         enter_apart c k own e ls ws x own_chunk (begun_quiet begins l) same,
@@ -277,7 +281,7 @@ module _ (key : Config) (slots id c : ℕ) (near : c < chunks key) (sl : List (�
       ))
 
   -- LINKED and its reference are subtracted
-  pub unlinks : IsInSegment (standing k c).0 → Allows (Kept key) slots id (alone k, sl) (head_place slots c)
+  pub unlinks : {law : Law} → IsInSegment (standing k c).0 → Allows (Kept law key) slots id (alone k, sl) (head_place slots c)
       (λ n. (n + (2 ^ 64 - (2 ^ linked_first + 1))) % 2 ^ 64)
       (on_chunk unlink_tells (step slots (head_place slots c) (2 ^ linked_first + 1) 0 none) (alone k, sl))
   unlinks in_it = at_chunk unlink_tells key slots id (alone k, sl) c (2 ^ linked_first + 1)
@@ -294,6 +298,7 @@ module _ (key : Config) (slots id c : ℕ) (near : c < chunks key) (sl : List (�
         (λ u moves. enter_sound c k own e k.labels k.words x refl refl (λ i b. refl) key.refs_limit n
             ((n + (2 ^ 64 - (2 ^ linked_first + 1))) % 2 ^ 64) label t u a moves o (unlinked_head o.head)
             (unlink n o.head o.spells (on, omega (arith, many, ap bit on))) gen o.read
+            (λ lit. absurd (false≢true lit))
             (unlinked key.refs_limit o.head o.at (λ g. t (held g)) (λ g. t (named g)) o.lawful on)),
         enter_apart c k own e k.labels k.words x refl refl (λ i b. refl),
         enter_backed c k own e k.labels k.words x refl refl (λ i b. refl)
@@ -302,13 +307,13 @@ module _ (key : Config) (slots id c : ℕ) (near : c < chunks key) (sl : List (�
       ))
 
   -- a DYING chunk is looked at, and freed where no reference is found
-  pub sweeps : (standing k c).0 ≡ Dying → Allows (Kept key) slots id (alone k, sl) (head_place slots c) (λ n. n)
+  pub sweeps : {law : Law} → (standing k c).0 ≡ Dying → Allows (Kept law key) slots id (alone k, sl) (head_place slots c) (λ n. n)
       (on_chunk sweep_or_load_tells (step slots (head_place slots c) 0 0 none) (alone k, sl))
-  sweeps dying = at_chunk sweep_or_load_tells key slots id (alone k, sl) c 0 (λ n. n) near
+  sweeps {law = law} dying = at_chunk sweep_or_load_tells key slots id (alone k, sl) c 0 (λ n. n) near
       (λ n label t limits o a. by n label t o a (n % 2 ^ refs_width == 0) refl)
     where
-      by : (n : ℕ) (label : ℕ → ℕ) (t : Measure → ℕ) (o : Sound key.refs_limit n label t) → Amid c (alone k) t → (b : Bool)
-          → (n % 2 ^ refs_width == 0) ≡ b → Reaches key c (alone k, sl) (sweep_or_load_tells c 0 (alone k, sl) n) n
+      by : (n : ℕ) (label : ℕ → ℕ) (t : Measure → ℕ) (o : Sound law key.refs_limit n label t) → Amid c (alone k) t → (b : Bool)
+          → (n % 2 ^ refs_width == 0) ≡ b → Reaches law key c (alone k, sl) (sweep_or_load_tells c 0 (alone k, sl) n) n
           label t
       by n label t o a false is = (
         on_class (class_after_load c n) (alone k),
@@ -338,7 +343,7 @@ module _ (key : Config) (slots id c : ℕ) (near : c < chunks key) (sl : List (�
           let x : OwnStep = step_of kind.Sweep c n None in (
             on_class (class_after_sweep c n) (alone k),
             (λ u moves. enter_sound c k own e k.labels k.words x of (freed_quiet l) (λ i b. refl) key.refs_limit n n label t u a
-                moves o o.head o.spells (gen ∙ sym (ap (λ (j : ItemId). j.generation) (freed_subject l))) o.read
+                moves o o.head o.spells (gen ∙ sym (ap (λ (j : ItemId). j.generation) (freed_subject l))) o.read o.obeys
                 (ended key.refs_limit o.head o.at (λ g. t (held g)) (λ g. t (named g)) o.lawful (target e) place
                 zero_refs (freed_shows o.head l (subst (Shows o.head) place o.lawful.shown) o.lawful.generation
                 gen))),
@@ -360,13 +365,13 @@ module _ (key : Config) (slots id c : ℕ) (near : c < chunks key) (sl : List (�
 -- ---- For the contracts.
 
 -- a life may begin by the store of its head
-pub may_link : (key : Config) (slots id c g : ℕ) (m : Sat) → c < chunks key → (a : Start) → MayLink c g m.0
-    → (new : ℕ) → new ≡ word_of (linked_head a g) → Allows (Kept key) slots id m (head_place slots c) (λ _. new)
+pub may_link : {law : Law} (key : Config) (slots id c g : ℕ) (m : Sat) → c < chunks key → (a : Start) → MayLink c g m.0
+    → Obeys law c m.0 → (new : ℕ) → new ≡ word_of (linked_head a g) → Allows (Kept law key) slots id m (head_place slots c) (λ _. new)
     (λ _. on_chunk link_tells (step slots (head_place slots c) new 0 none) m new)
-may_link key slots id c g m near a may new is = let k : ClassPart = may.0 in let o = may.1 in
-    subst (λ (v : View). Allows (Kept key) slots id (v, m.1) (head_place slots c) (λ _. new)
+may_link {law = law} key slots id c g m near a may obeys new is = let k : ClassPart = may.0 in let o = may.1 in
+    subst (λ (v : View). Allows (Kept law key) slots id (v, m.1) (head_place slots c) (λ _. new)
     (λ _. on_chunk link_tells (step slots (head_place slots c) new 0 none) (v, m.1) new)) (sym o.view)
-    (links key slots id c near m.1 k o.own a new o.at (is ∙ ap (λ (j : ℕ). word_of (linked_head a j)) may.2))
+    (links key slots id c near m.1 k o.own a new o.at (is ∙ ap (λ (j : ℕ). word_of (linked_head a j)) may.2) (obeys k o.view))
 
 -- and what that tells
 pub link_told : (c g : ℕ) (a : Start) (m w : Sat) (new : ℕ) → g < 2 ^ generation_width
@@ -385,20 +390,20 @@ link_told c g a m w new fits is told =
     ∙ ap (λ (j : ℕ). (on_class (class_after_link a c j n) m.0, m.1)) (fields n h spells).generation))
 
 -- a linked chunk may be unlinked
-pub may_unlink : (key : Config) (slots id c : ℕ) (m : Sat) → c < chunks key → IsLinked c m.0
-    → Allows (Kept key) slots id m (head_place slots c) (λ n. (n + (2 ^ 64 - (2 ^ linked_first + 1))) % 2 ^ 64)
+pub may_unlink : {law : Law} (key : Config) (slots id c : ℕ) (m : Sat) → c < chunks key → IsLinked c m.0
+    → Allows (Kept law key) slots id m (head_place slots c) (λ n. (n + (2 ^ 64 - (2 ^ linked_first + 1))) % 2 ^ 64)
     (on_chunk unlink_tells (step slots (head_place slots c) (2 ^ linked_first + 1) 0 none) m)
-may_unlink key slots id c m near may =
-    subst (λ (v : View). Allows (Kept key) slots id (v, m.1) (head_place slots c)
+may_unlink {law = law} key slots id c m near may =
+    subst (λ (v : View). Allows (Kept law key) slots id (v, m.1) (head_place slots c)
     (λ n. (n + (2 ^ 64 - (2 ^ linked_first + 1))) % 2 ^ 64)
     (on_chunk unlink_tells (step slots (head_place slots c) (2 ^ linked_first + 1) 0 none) (v, m.1))) (sym may.1.view)
     (unlinks key slots id c near m.1 may.0 may.1.own may.1.at)
 
 -- a DYING chunk may be seen, and freed
-pub may_sweep : (key : Config) (slots id c : ℕ) (m : Sat) → c < chunks key → IsDying c m.0
-    → Allows (Kept key) slots id m (head_place slots c) (λ n. n)
+pub may_sweep : {law : Law} (key : Config) (slots id c : ℕ) (m : Sat) → c < chunks key → IsDying c m.0
+    → Allows (Kept law key) slots id m (head_place slots c) (λ n. n)
     (on_chunk sweep_or_load_tells (step slots (head_place slots c) 0 0 none) m)
-may_sweep key slots id c m near may =
-    subst (λ (v : View). Allows (Kept key) slots id (v, m.1) (head_place slots c) (λ n. n)
+may_sweep {law = law} key slots id c m near may =
+    subst (λ (v : View). Allows (Kept law key) slots id (v, m.1) (head_place slots c) (λ n. n)
     (on_chunk sweep_or_load_tells (step slots (head_place slots c) 0 0 none) (v, m.1))) (sym may.1.view)
     (sweeps key slots id c near m.1 may.0 may.1.own may.1.at)

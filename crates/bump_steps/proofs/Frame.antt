@@ -18,7 +18,7 @@ use Rattle.bump_steps.specs.Views.{Measure, held, owners, strays, mislabels, mis
 use Rattle.bump_steps.specs.Places.{head_place, row_at, words_at}
 use Rattle.bump_steps.specs.References.{IsRow}
 use Rattle.bump_steps.proofs.Places.{place_apart, place_near, place_behind, row_long, words_beside, words_written, word_found, with_word, with_same}
-use Rattle.bump_steps.specs.Rule.{Sound, SoundAt, chunks, Kept, HasFittingLimit}
+use Rattle.bump_steps.specs.Rule.{Law, Sound, SoundAt, chunks, Kept, HasFittingLimit}
 use Rattle.bump_steps.specs.Plays.{every, IsOwn}
 use Rattle.bump_steps.proofs.Once.{settled_once, settled_here}
 use Rattle.bump_steps.proofs.OwnMoves.{moves_here}
@@ -50,13 +50,13 @@ pub record Amid (c : ℕ) (v : View) (t : Measure → ℕ) : Type 0 where
   pub readers : (i g x : ℕ) → t (held g) ≡ 0 → t (misreads i g x) ≡ 0
 
 -- the seat can go on to some view w, so that the chunk stays sound at the head word n, and the label and words x
-abbrev pub Reaches : Config → ℕ → Sat → (Sat → Type 0) → ℕ → (ℕ → ℕ) → (Measure → ℕ) → Type 0
-Reaches key c m then n x t = (w : View)
-    × ((u : Measure → ℕ) → ((y : Measure) → u y + weight c y m.0 ≡ t y + weight c y w) → Sound key.refs_limit n x u)
+abbrev pub Reaches : Law → Config → ℕ → Sat → (Sat → Type 0) → ℕ → (ℕ → ℕ) → (Measure → ℕ) → Type 0
+Reaches law key c m then n x t = (w : View)
+    × ((u : Measure → ℕ) → ((y : Measure) → u y + weight c y m.0 ≡ t y + weight c y w) → Sound law key.refs_limit n x u)
     × ((b : ℕ) → b ≢ c → Same b m.0 w) × IsBacked m.0 w × then (w, m.1)
 
-abbrev pub From : Config → ℕ → Sat → (ℕ → (ℕ → ℕ) → (Measure → ℕ) → Type 0) → Type 0
-From key c m goes = (n : ℕ) (x : ℕ → ℕ) (t : Measure → ℕ) → HasFittingLimit key → Sound key.refs_limit n x t → Amid c m.0 t
+abbrev pub From : Law → Config → ℕ → Sat → (ℕ → (ℕ → ℕ) → (Measure → ℕ) → Type 0) → Type 0
+From law key c m goes = (n : ℕ) (x : ℕ → ℕ) (t : Measure → ℕ) → HasFittingLimit key → Sound law key.refs_limit n x t → Amid c m.0 t
     → goes n x t
 
 same_tally : (views : List View) (i c : ℕ) (v w : View) → get_elem? views i ≡ some v → Same c v w
@@ -86,7 +86,7 @@ reader_holds c i g x v e = none_where_none (λ h. one_if (life c g) h.life) (mis
     (omega arith)
 
 -- what the rule says of one of the views
-pub amid : (key : Config) (s : State Empty View) → Kept key s → (c i : ℕ) (v : View) → get_elem? s.views i ≡ some v
+pub amid : {law : Law} (key : Config) (s : State Empty View) → Kept law key s → (c i : ℕ) (v : View) → get_elem? s.views i ≡ some v
     → Amid c v (tally s.views c)
 amid key s o c i v me = record {
   once = λ w n. omega (
@@ -129,20 +129,20 @@ beside_words : (slots b c i word : ℕ) → word ≡ head_place slots c + i → 
 beside_words slots b c i word at small ne j low e =
     ne (place_apart slots b c (2 + j) i (omega (arith, low)) small (omega (arith, e, at))).0
 
-module _ (key : Config) (s : State Empty View) (o : Kept key s) (i c word j p : ℕ)
+module _ {law : Law} (key : Config) (s : State Empty View) (o : Kept law key s) (i c word j p : ℕ)
     (v w : View) (me : get_elem? s.views i ≡ some v) (near : c < chunks key)
     (at : word ≡ head_place (length s.homes) c + j) (small : j < length s.homes + 3) where
   stepped_kept : ((b : ℕ) → b ≢ c → Same b v w) → IsBacked v w
-      → Sound key.refs_limit (get_or (set s.words word p) (head_place (length s.homes) c) 0)
+      → Sound law key.refs_limit (get_or (set s.words word p) (head_place (length s.homes) c) 0)
       (words_at (length s.homes) (set s.words word p) c) (tally (set s.views i w) c)
-      → Kept key (state (set s.words word p) s.homes (set s.views i w))
+      → Kept law key (state (set s.words word p) s.homes (set s.views i w))
   stepped_kept apart back now = record {
     wide = length-set s.words word p ∙ o.wide;
     small = o.small;
     each = λ b h. dite (ℕ_discrete b c)
-        (λ e. subst (λ (x : ℕ). SoundAt key (state (set s.words word p) s.homes (set s.views i w)) x) (sym e) now)
+        (λ e. subst (λ (x : ℕ). SoundAt law key (state (set s.words word p) s.homes (set s.views i w)) x) (sym e) now)
         (λ ne.
-        subst (λ (x : ℕ × (ℕ → ℕ) × (Measure → ℕ)). Sound key.refs_limit x.0 x.1 x.2)
+        subst (λ (x : ℕ × (ℕ → ℕ) × (Measure → ℕ)). Sound law key.refs_limit x.0 x.1 x.2)
         (λ k. (
           sym (get_or-set_other s.words word (head_place (length s.homes) b) p 0
               (beside_head (length s.homes) b c j word at small ne)) k,
@@ -176,19 +176,19 @@ module _ (key : Config) (s : State Empty View) (o : Kept key s) (i c word j p : 
   }
 
 -- what a step that changes no slot has to show of a state
-abbrev Goes : Config → ℕ → Sat → ℕ → (ℕ → ℕ) → (ℕ → Sat → Type 0) → State Empty View → Type 0
-Goes key id m word f then s = (w : View) × (a : Act Empty) × Valid s.homes m.1 a
-    × Kept key (stepped s word (f (get_or s.words word 0)) id m.1 w a)
+abbrev Goes : Law → Config → ℕ → Sat → ℕ → (ℕ → ℕ) → (ℕ → Sat → Type 0) → State Empty View → Type 0
+Goes law key id m word f then s = (w : View) × (a : Act Empty) × Valid s.homes m.1 a
+    × Kept law key (stepped s word (f (get_or s.words word 0)) id m.1 w a)
     × then (get_or s.words word 0) (w, carried_after m.1 a)
 
 -- a step on a head word is allowed where it can go on, whatever sound words it finds, which are the chunk's row
-pub on_head_row : (key : Config) (slots id : ℕ) (m : Sat) (c : ℕ) (f : ℕ → ℕ) (then : ℕ → Sat → Type 0) → c < chunks key
+pub on_head_row : {law : Law} (key : Config) (slots id : ℕ) (m : Sat) (c : ℕ) (f : ℕ → ℕ) (then : ℕ → Sat → Type 0) → c < chunks key
     → ((row : List ℕ) → IsRow slots row → (n : ℕ) (t : Measure → ℕ) → HasFittingLimit key
-    → Sound key.refs_limit n (λ i. get_or row i 0) t → Amid c m.0 t
-    → Reaches key c m (then n) (f n) (λ i. get_or row i 0) t)
-    → Allows (Kept key) slots id m (head_place slots c) f then
-on_head_row key slots id m c f then near goes s o count me small =
-    subst (λ (z : ℕ). Goes key id m (head_place z c) f then s) count it
+    → Sound law key.refs_limit n (λ i. get_or row i 0) t → Amid c m.0 t
+    → Reaches law key c m (then n) (f n) (λ i. get_or row i 0) t)
+    → Allows (Kept law key) slots id m (head_place slots c) f then
+on_head_row {law = law} key slots id m c f then near goes s o count me small =
+    subst (λ (z : ℕ). Goes law key id m (head_place z c) f then s) count it
   where
     n : ℕ
     n = get_or s.words (head_place (length s.homes) c) 0
@@ -199,16 +199,16 @@ on_head_row key slots id m c f then near goes s o count me small =
     within : head_place (length s.homes) c < length s.words
     within = omega (arith, o.wide, place_near (length s.homes) c (chunks key) 0 near (omega arith))
 
-    it : Goes key id m (head_place (length s.homes) c) f then s
+    it : Goes law key id m (head_place (length s.homes) c) f then s
     it = let g = goes (row_at (length s.homes) s.words c) (omega (arith, row_long (length s.homes) s.words c, count)) n
         (tally s.views c) o.small (o.each c near) (amid key s o c id m.0 me) in
-        let now : Sound key.refs_limit (f n) x (tally (set s.views id g.0) c) = g.1 (tally (set s.views id g.0) c)
+        let now : Sound law key.refs_limit (f n) x (tally (set s.views id g.0) c) = g.1 (tally (set s.views id g.0) c)
         (λ y. total-set (weight c y) s.views id m.0 g.0 me) in (
           g.0,
           keeps,
           tt,
           stepped_kept key s o id c (head_place (length s.homes) c) 0 (f n) m.0 g.0 me near (omega arith) (omega arith) g.2 g.3
-              (subst (λ (y : ℕ × (ℕ → ℕ)). Sound key.refs_limit y.0 y.1 (tally (set s.views id g.0) c))
+              (subst (λ (y : ℕ × (ℕ → ℕ)). Sound law key.refs_limit y.0 y.1 (tally (set s.views id g.0) c))
               (λ k. (
                 sym (get_or-set_same s.words (head_place (length s.homes) c) (f n) 0 within) k,
                 sym (words_beside (length s.homes) s.words (head_place (length s.homes) c) (f n) c (λ i low e. omega (arith, e))) k,
@@ -216,18 +216,18 @@ on_head_row key slots id m c f then near goes s o count me small =
           g.4,
         )
 
-pub on_head : (key : Config) (slots id : ℕ) (m : Sat) (c : ℕ) (f : ℕ → ℕ) (then : ℕ → Sat → Type 0) → c < chunks key
-    → From key c m (λ n x t. Reaches key c m (then n) (f n) x t)
-    → Allows (Kept key) slots id m (head_place slots c) f then
+pub on_head : {law : Law} (key : Config) (slots id : ℕ) (m : Sat) (c : ℕ) (f : ℕ → ℕ) (then : ℕ → Sat → Type 0) → c < chunks key
+    → From law key c m (λ n x t. Reaches law key c m (then n) (f n) x t)
+    → Allows (Kept law key) slots id m (head_place slots c) f then
 on_head key slots id m c f then near goes =
     on_head_row key slots id m c f then near (λ row long n t. goes n (λ i. get_or row i 0) t)
 
 -- on its label, which is word 0, or on a further word
-pub on_words : (key : Config) (slots id : ℕ) (m : Sat) (c i : ℕ) (f : ℕ → ℕ) (then : ℕ → Sat → Type 0) → i ≤ slots
-    → c < chunks key → From key c m (λ n x t. Reaches key c m (then (x i)) n (with_word x i (f (x i))) t)
-    → Allows (Kept key) slots id m (head_place slots c + (2 + i)) f then
-on_words key slots id m c i f then low near goes s o count me small =
-    subst (λ (z : ℕ). Goes key id m (head_place z c + (2 + i)) f then s) count it
+pub on_words : {law : Law} (key : Config) (slots id : ℕ) (m : Sat) (c i : ℕ) (f : ℕ → ℕ) (then : ℕ → Sat → Type 0) → i ≤ slots
+    → c < chunks key → From law key c m (λ n x t. Reaches law key c m (then (x i)) n (with_word x i (f (x i))) t)
+    → Allows (Kept law key) slots id m (head_place slots c + (2 + i)) f then
+on_words {law = law} key slots id m c i f then low near goes s o count me small =
+    subst (λ (z : ℕ). Goes law key id m (head_place z c + (2 + i)) f then s) count it
   where
     n : ℕ
     n = get_or s.words (head_place (length s.homes) c) 0
@@ -248,16 +248,16 @@ on_words key slots id m c i f then low near goes s o count me small =
     within : head_place (length s.homes) c + (2 + i) < length s.words
     within = omega (arith, o.wide, place_near (length s.homes) c (chunks key) (2 + i) near (omega (arith, few)))
 
-    it : Goes key id m (head_place (length s.homes) c + (2 + i)) f then s
+    it : Goes law key id m (head_place (length s.homes) c + (2 + i)) f then s
     it = let g = goes n x (tally s.views c) o.small (o.each c near) (amid key s o c id m.0 me) in
-        let now : Sound key.refs_limit n (with_word x i (f (x i))) (tally (set s.views id g.0) c) =
+        let now : Sound law key.refs_limit n (with_word x i (f (x i))) (tally (set s.views id g.0) c) =
         g.1 (tally (set s.views id g.0) c) (λ y. total-set (weight c y) s.views id m.0 g.0 me) in (
           g.0,
           keeps,
           tt,
           stepped_kept key s o id c (head_place (length s.homes) c + (2 + i)) (2 + i) (f y) m.0 g.0 me near refl
               (omega (arith, few)) g.2 g.3
-              (subst (λ (y : ℕ × (ℕ → ℕ)). Sound key.refs_limit y.0 y.1 (tally (set s.views id g.0) c))
+              (subst (λ (y : ℕ × (ℕ → ℕ)). Sound law key.refs_limit y.0 y.1 (tally (set s.views id g.0) c))
               (λ k. (
                 sym (get_or-set_other s.words (head_place (length s.homes) c + (2 + i)) (head_place (length s.homes) c) (f y) 0
                     (λ e. omega (arith, e))) k,
@@ -268,20 +268,20 @@ on_words key slots id m c i f then low near goes s o count me small =
         )
 
 -- a load of one of them
-pub on_words_load : (key : Config) (slots id : ℕ) (m : Sat) (c i : ℕ) (then : ℕ → Sat → Type 0) → i ≤ slots
-    → c < chunks key → From key c m (λ n x t. Reaches key c m (then (x i)) n x t)
-    → Allows (Kept key) slots id m (head_place slots c + (2 + i)) (λ x. x) then
-on_words_load key slots id m c i then low near goes =
+pub on_words_load : {law : Law} (key : Config) (slots id : ℕ) (m : Sat) (c i : ℕ) (then : ℕ → Sat → Type 0) → i ≤ slots
+    → c < chunks key → From law key c m (λ n x t. Reaches law key c m (then (x i)) n x t)
+    → Allows (Kept law key) slots id m (head_place slots c + (2 + i)) (λ x. x) then
+on_words_load {law = law} key slots id m c i then low near goes =
     on_words key slots id m c i (λ x. x) then low near
-    (λ n x t limits o a. subst (λ (y : ℕ → ℕ). Reaches key c m (then (x i)) n y t) (sym (with_same x i))
+    (λ n x t limits o a. subst (λ (y : ℕ → ℕ). Reaches law key c m (then (x i)) n y t) (sym (with_same x i))
     (goes n x t limits o a))
 
 -- on a time word, of which the rule says nothing
-pub time_step : (key : Config) (slots id : ℕ) (m : Sat) (c : ℕ) (f : ℕ → ℕ) (then : ℕ → Sat → Type 0) → c < chunks key
-    → ((y : ℕ) → From key c m (λ n x t. Reaches key c m (then y) n x t))
-    → Allows (Kept key) slots id m (head_place slots c + 1) f then
-time_step key slots id m c f then near goes s o count me small =
-    subst (λ (z : ℕ). Goes key id m (head_place z c + 1) f then s) count it
+pub time_step : {law : Law} (key : Config) (slots id : ℕ) (m : Sat) (c : ℕ) (f : ℕ → ℕ) (then : ℕ → Sat → Type 0) → c < chunks key
+    → ((y : ℕ) → From law key c m (λ n x t. Reaches law key c m (then y) n x t))
+    → Allows (Kept law key) slots id m (head_place slots c + 1) f then
+time_step {law = law} key slots id m c f then near goes s o count me small =
+    subst (λ (z : ℕ). Goes law key id m (head_place z c + 1) f then s) count it
   where
     n : ℕ
     n = get_or s.words (head_place (length s.homes) c) 0
@@ -292,15 +292,15 @@ time_step key slots id m c f then near goes s o count me small =
     y : ℕ
     y = get_or s.words (head_place (length s.homes) c + 1) 0
 
-    it : Goes key id m (head_place (length s.homes) c + 1) f then s
+    it : Goes law key id m (head_place (length s.homes) c + 1) f then s
     it = let g = goes y n x (tally s.views c) o.small (o.each c near) (amid key s o c id m.0 me) in
-        let now : Sound key.refs_limit n x (tally (set s.views id g.0) c) = g.1 (tally (set s.views id g.0) c)
+        let now : Sound law key.refs_limit n x (tally (set s.views id g.0) c) = g.1 (tally (set s.views id g.0) c)
         (λ y. total-set (weight c y) s.views id m.0 g.0 me) in (
           g.0,
           keeps,
           tt,
           stepped_kept key s o id c (head_place (length s.homes) c + 1) 1 (f y) m.0 g.0 me near refl (omega arith) g.2 g.3
-              (subst (λ (y : ℕ × (ℕ → ℕ)). Sound key.refs_limit y.0 y.1 (tally (set s.views id g.0) c))
+              (subst (λ (y : ℕ × (ℕ → ℕ)). Sound law key.refs_limit y.0 y.1 (tally (set s.views id g.0) c))
               (λ k. (
                 sym (get_or-set_other s.words (head_place (length s.homes) c + 1) (head_place (length s.homes) c) (f y) 0
                     (λ e. omega (arith, e))) k,
@@ -310,18 +310,18 @@ time_step key slots id m c f then near goes s o count me small =
         )
 
 -- a load of a spare word, which leaves all words as they are, where the seat goes on to a view that counts the same
-pub on_spare : (key : Config) (slots id : ℕ) (m : Sat) (w : View) (then : ℕ → Sat → Type 0)
+pub on_spare : {law : Law} (key : Config) (slots id : ℕ) (m : Sat) (w : View) (then : ℕ → Sat → Type 0)
     → ((b : ℕ) → Same b m.0 w) → IsBacked m.0 w
-    → ((n : ℕ) (s : State Empty View) → Kept key s → get_elem? s.views id ≡ some m.0 → then n (w, m.1))
-    → Allows (Kept key) slots id m 0 (λ n. n) then
-on_spare key slots id m w then same back goes s o count me small = let n : ℕ = get_or s.words 0 0 in (
+    → ((n : ℕ) (s : State Empty View) → Kept law key s → get_elem? s.views id ≡ some m.0 → then n (w, m.1))
+    → Allows (Kept law key) slots id m 0 (λ n. n) then
+on_spare {law = law} key slots id m w then same back goes s o count me small = let n : ℕ = get_or s.words 0 0 in (
   w,
   keeps,
   tt,
   record {
     wide = length-set s.words 0 n ∙ o.wide;
     small = o.small;
-    each = λ b h. subst (λ (x : ℕ × (ℕ → ℕ) × (Measure → ℕ)). Sound key.refs_limit x.0 x.1 x.2)
+    each = λ b h. subst (λ (x : ℕ × (ℕ → ℕ) × (Measure → ℕ)). Sound law key.refs_limit x.0 x.1 x.2)
         (λ k. (
           sym (get_or-set_other s.words 0 (head_place (length s.homes) b) n 0
               (λ e. omega (arith, e, place_behind (length s.homes) b))) k,
@@ -355,21 +355,21 @@ on_spare key slots id m w then same back goes s o count me small = let n : ℕ =
   goes n s o me,
 )
 
-pub same_sound : (limit n : ℕ) (x : ℕ → ℕ) (t u : Measure → ℕ) → ((y : Measure) → u y ≡ t y) → Sound limit n x t
-    → Sound limit n x u
-same_sound limit n x t u e o = subst (Sound limit n x) (λ i y. sym (e y) i) o
+pub same_sound : {law : Law} (limit n : ℕ) (x : ℕ → ℕ) (t u : Measure → ℕ) → ((y : Measure) → u y ≡ t y) → Sound law limit n x t
+    → Sound law limit n x u
+same_sound {law = law} limit n x t u e o = subst (Sound law limit n x) (λ i y. sym (e y) i) o
 
 abbrev pub AddsUp : (View → ℕ) → View → View → View → Type 0
 AddsUp f v left right = f left + f right ≡ f v
 
-pub splits : (key : Config) (id : ℕ) (v left right : View)
+pub splits : {law : Law} (key : Config) (id : ℕ) (v left right : View)
     → ((c : ℕ) (x : Measure) → AddsUp (weight c x) v left right)
     → ((n : ℕ) (e : AppliedBump) → AddsUp (claims n e) v left right × AddsUp (evidence n e) v left right)
     → ((q : Query) → AddsUp (moves q) v left right × AddsUp (settled q) v left right
     × AddsUp (in_progress q) v left right × AddsUp (underway q) v left right) → AddsUp foreign v left right
     → (HaveLabels v.classes → HaveLabels left.classes × HaveLabels right.classes)
     → ((n : ℕ) → AddsUp (workers_of n) v left right) → ((n : ℕ) → AddsUp (lanes_of n) v left right)
-    → AddsUp untidy v left right → Splits (Kept key) id v left right
+    → AddsUp untidy v left right → Splits (Kept law key) id v left right
 splits key id v left right even entries rides owned labels workers lanes tidy s o me = record {
   wide = o.wide;
   small = o.small;
@@ -399,7 +399,7 @@ splits key id v left right even entries rides owned labels workers lanes tidy s 
     keep : (f : View → ℕ) → AddsUp f v left right → total f (set s.views id left ++ right ∷ []) ≡ total f s.views
     keep f h = omega (arith, total_append f (set s.views id left) (right ∷ []), total-set f s.views id v left me)
 
-pub joins : (key : Config) (id : ℕ) (v : View) (other : ℕ) (w both spent : View)
+pub joins : {law : Law} (key : Config) (id : ℕ) (v : View) (other : ℕ) (w both spent : View)
     → ((c : ℕ) (x : Measure) → weight c x both + weight c x spent ≡ weight c x v + weight c x w)
     → ((n : ℕ) (e : AppliedBump) → (claims n e both + claims n e spent ≡ claims n e v + claims n e w)
     × (evidence n e both + evidence n e spent ≡ evidence n e v + evidence n e w))
@@ -411,7 +411,7 @@ pub joins : (key : Config) (id : ℕ) (v : View) (other : ℕ) (w both spent : V
     × HaveLabels spent.classes)
     → ((n : ℕ) → workers_of n both + workers_of n spent ≡ workers_of n v + workers_of n w)
     → ((n : ℕ) → lanes_of n both + lanes_of n spent ≡ lanes_of n v + lanes_of n w)
-    → untidy both + untidy spent ≡ untidy v + untidy w → Joins (Kept key) id v other w both spent
+    → untidy both + untidy spent ≡ untidy v + untidy w → Joins (Kept law key) id v other w both spent
 joins key id v other w both spent even entries rides owned labels workers lanes tidy s o me apart them = record {
   wide = o.wide;
   small = o.small;

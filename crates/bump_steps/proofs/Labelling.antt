@@ -1,6 +1,7 @@
 -- The store of a label or of a further word: whatever the other seats have, a class's seat alone can go on.
 use Rattle.std.proofs.Common.{◌≡◌, ℕ, suc, ◌+◌, ◌<◌, ◌≤◌, ◌≢◌, ◌&&◌, eqb, not, Bool, true, List, [], ◌∷◌, ◌++◌, None, if◌then◌else◌, refl, sym, ap, ◌∙◌, subst, arith, eq-eqb, ne_eqb}
 use mathlib.Core.Option.{none}
+use mathlib.Core.Bool.{false≢true}
 use mathlib.Core.Logic.{dite}
 use native.Mathlib.Decide.{ℕ_discrete}
 use Rattle.atomic_table.specs.Table.{step, Allows}
@@ -14,7 +15,7 @@ use Rattle.bump_rules.specs.declared.bumps.Outcome.{Outcome}
 use Rattle.bump_rules.specs.declared.bumps.Outcome.TheVariants as outcome
 use Rattle.bump_rules.specs.History.{Standing}
 use Rattle.bump_rules.specs.Labels.{label_word}
-use Rattle.bump_rules.specs.Lawful.{bit, IsUsed}
+use Rattle.bump_rules.specs.Lawful.{bit, Shows, IsUsed}
 use Rattle.bump_rules.proofs.Laws.{relawful, none_where_free}
 use Rattle.bump_steps.specs.declared.views.Empty.{Empty}
 use Rattle.bump_steps.specs.declared.views.Kind.TheVariants as kind
@@ -23,7 +24,7 @@ use Rattle.bump_steps.specs.declared.views.OwnStep.{OwnStep}
 use Rattle.bump_steps.specs.declared.views.ClassPart.{ClassPart}
 use Rattle.bump_steps.specs.declared.views.View.{View}
 use Rattle.bump_steps.specs.Views.{held, named, saw, owners, strays, mislabels, misreads, owns, standing, labels_of, last_word, weight, shown_by, shows_time_only, HasLabels, IsBacked}
-use Rattle.bump_steps.specs.Rule.{chunks, Kept}
+use Rattle.bump_steps.specs.Rule.{Law, chunks, Kept}
 use Rattle.bump_steps.specs.Places.{head_place}
 use Rattle.bump_steps.specs.Plays.{Sat, on_label, on_word, step_of, Stands}
 use Rattle.bump_steps.specs.Lives.{alone, class_after_put_label, class_after_put_word, IsUnused, put_label_tells, put_word_tells}
@@ -100,9 +101,9 @@ module _ (c i y : ℕ) (k : ClassPart) (own : owns c k ≡ true) (ls : List Labe
           )
 
   -- a word of a free chunk is stored: nobody has read another
-  pub puts : (key : Config) (slots id : ℕ) (sl : List (ℕ × Empty)) → i ≤ slots → c < chunks key
+  pub puts : {law : Law} (key : Config) (slots id : ℕ) (sl : List (ℕ × Empty)) → i ≤ slots → c < chunks key
       → (standing k c).0 ≡ Unused → (HasLabels k → HasLabels stored)
-      → Allows (Kept key) slots id (alone k, sl) (head_place slots c + (2 + i)) (λ _. y)
+      → Allows (Kept law key) slots id (alone k, sl) (head_place slots c + (2 + i)) (λ _. y)
       (λ _ w. w ≡ (alone stored, sl))
   puts key slots id sl low near unused keeps = on_words key slots id (alone k, sl) c i (λ _. y)
       (λ _ w. w ≡ (alone stored, sl)) low near (λ n label t limits o a.
@@ -141,6 +142,7 @@ module _ (c i y : ℕ) (k : ClassPart) (own : owns c k ≡ true) (ls : List Labe
             moves (misreads j o.head.generation (with_word label i y j)),
             a.readers j o.head.generation (with_word label i y j) unheld,
           );
+          obeys = λ lit. absurd (false≢true (sym (subst (Shows o.head) place o.lawful.shown).0 ∙ lit));
           hit = λ j some. omega (arith, moves (named j), o.hit j (omega (arith, some, moves (saw j))));
         }),
         label_apart,
@@ -149,11 +151,11 @@ module _ (c i y : ℕ) (k : ClassPart) (own : owns c k ≡ true) (ls : List Labe
       ))
 
 -- for the contract: the label of a chunk of UNUSED may be stored
-pub may_put_label : (key : Config) (slots id c y : ℕ) (m : Sat) → c < chunks key → IsUnused c m.0
-    → Allows (Kept key) slots id m (head_place slots c + (2 + 0)) (λ _. y)
+pub may_put_label : {law : Law} (key : Config) (slots id c y : ℕ) (m : Sat) → c < chunks key → IsUnused c m.0
+    → Allows (Kept law key) slots id m (head_place slots c + (2 + 0)) (λ _. y)
     (λ _. on_label put_label_tells (step slots (head_place slots c + (2 + 0)) y 0 none) m y)
-may_put_label key slots id c y m near may =
-    subst (λ (v : View). Allows (Kept key) slots id (v, m.1) (head_place slots c + (2 + 0)) (λ _. y)
+may_put_label {law = law} key slots id c y m near may =
+    subst (λ (v : View). Allows (Kept law key) slots id (v, m.1) (head_place slots c + (2 + 0)) (λ _. y)
     (λ _. on_label put_label_tells (step slots (head_place slots c + (2 + 0)) y 0 none) (v, m.1) y)) (sym may.1.view)
     (at_label put_label_tells key slots id (alone k, m.1) c y (λ _. y) (λ _. y)
     (puts c 0 y k may.1.own (class_after_put_label c y k).labels k.words (step_of kind.PutLabel c y None) refl
@@ -164,11 +166,11 @@ may_put_label key slots id c y m near may =
     k = may.0
 
 -- and a further word
-pub may_put_word : (key : Config) (slots id c j y : ℕ) (m : Sat) → c < chunks key → j < slots → IsUnused c m.0
-    → Allows (Kept key) slots id m (head_place slots c + (2 + suc j)) (λ _. y)
+pub may_put_word : {law : Law} (key : Config) (slots id c j y : ℕ) (m : Sat) → c < chunks key → j < slots → IsUnused c m.0
+    → Allows (Kept law key) slots id m (head_place slots c + (2 + suc j)) (λ _. y)
     (λ _. on_word put_word_tells (step slots (head_place slots c + (2 + suc j)) y 0 none) m y)
-may_put_word key slots id c j y m near low may =
-    subst (λ (v : View). Allows (Kept key) slots id (v, m.1) (head_place slots c + (2 + suc j)) (λ _. y)
+may_put_word {law = law} key slots id c j y m near low may =
+    subst (λ (v : View). Allows (Kept law key) slots id (v, m.1) (head_place slots c + (2 + suc j)) (λ _. y)
     (λ _. on_word put_word_tells (step slots (head_place slots c + (2 + suc j)) y 0 none) (v, m.1) y))
     (sym may.1.view)
     (at_word put_word_tells key slots id (alone k, m.1) c j y (λ _. y) (λ _. y) low

@@ -16,7 +16,7 @@ use Rattle.bump_steps.specs.declared.views.Kind.TheVariants as kind
 use Rattle.bump_steps.specs.declared.views.ClassPart.{ClassPart}
 use Rattle.bump_steps.specs.declared.views.View.{View}
 use Rattle.bump_steps.specs.Views.{Measure, held, named, saw, owners, strays, mislabels, misreads, owns, standing, last_word, shown_by, shows_time_only, of_owner, names_move, foreign_in, IsBacked}
-use Rattle.bump_steps.specs.Rule.{Sound, chunks, Kept}
+use Rattle.bump_steps.specs.Rule.{Law, Sound, chunks, Kept}
 use Rattle.bump_steps.specs.Places.{head_place}
 use Rattle.bump_steps.specs.Plays.{Sat, on_chunk, on_time, step_of}
 use Rattle.bump_steps.specs.Lives.{on_class, generation_load_tells, load_tells, time_load_tells}
@@ -76,10 +76,10 @@ module _ (kind : Kind) (c n : ℕ) (v : View) where
           (λ x. cond (shows_time_only wk e.number e.life.chunk x) 1 0) k.steps (step_of kind c n None)) v.classes
           in omega arith
 
-module _ (key : Config) (slots id : ℕ) (m : Sat) (c : ℕ) (near : c < chunks key) where
+module _ {law : Law} (key : Config) (slots id : ℕ) (m : Sat) (c : ℕ) (near : c < chunks key) where
   -- whatever is noted of the word that was found
-  pub reaches_by_look : (kind : Kind) (y n : ℕ) (x : ℕ → ℕ) (t : Measure → ℕ) (tell : Sat → Type 0) → Sound key.refs_limit n x t
-      → tell (on_class (noted_by kind c y) m.0, m.1) → Reaches key c m tell n x t
+  pub reaches_by_look : (kind : Kind) (y n : ℕ) (x : ℕ → ℕ) (t : Measure → ℕ) (tell : Sat → Type 0) → Sound law key.refs_limit n x t
+      → tell (on_class (noted_by kind c y) m.0, m.1) → Reaches law key c m tell n x t
   reaches_by_look kind y n x t tell o told = (
     on_class (noted_by kind c y) m.0,
     (λ u moved. same_sound key.refs_limit n x t u
@@ -90,21 +90,21 @@ module _ (key : Config) (slots id : ℕ) (m : Sat) (c : ℕ) (near : c < chunks 
   )
 
   -- any class may look at any chunk
-  pub may_load : Allows (Kept key) slots id m (head_place slots c) (λ n. n)
+  pub may_load : Allows (Kept law key) slots id m (head_place slots c) (λ n. n)
       (on_chunk load_tells (step slots (head_place slots c) 0 0 none) m)
   may_load = at_chunk load_tells key slots id m c 0 (λ n. n) near (λ n x t limits o a.
       reaches_by_look kind.Load n n x t (load_tells c 0 m n) o
       (refl, (o.head, o.spells, tells c key.refs_limit n x m.0 t o a)))
 
   -- also for its generation
-  pub may_see_generation : Allows (Kept key) slots id m (head_place slots c) (λ n. n)
+  pub may_see_generation : Allows (Kept law key) slots id m (head_place slots c) (λ n. n)
       (on_chunk generation_load_tells (step slots (head_place slots c) 0 0 none) m)
   may_see_generation = at_chunk generation_load_tells key slots id m c 0 (λ n. n) near (λ n x t limits o a.
       reaches_by_look kind.SeeGeneration (n / 2 ^ generation_first) n x t (generation_load_tells c 0 m n) o
       (refl, (o.head, o.spells, tells c key.refs_limit n x m.0 t o a)))
 
   -- and at its time
-  pub may_see_time : Allows (Kept key) slots id m (head_place slots c + 1) (λ y. y)
+  pub may_see_time : Allows (Kept law key) slots id m (head_place slots c + 1) (λ y. y)
       (on_time time_load_tells (step slots (head_place slots c + 1) 0 0 none) m)
   may_see_time = at_time time_load_tells key slots id m c 0 (λ y. y) (λ y. y) near
       (λ y n x t limits o a. reaches_by_look kind.SeeTime y n x t (time_load_tells c 0 m y) o refl)

@@ -28,7 +28,7 @@ use Rattle.bump_steps.specs.declared.views.Kind.TheVariants as kind
 use Rattle.bump_steps.specs.declared.views.WorkerPart.{WorkerPart}
 use Rattle.bump_steps.specs.declared.views.View.{View}
 use Rattle.bump_steps.specs.Views.{Measure, held, named, saw, owners, strays, mislabels, misreads, in_hand, is_fetch, is_fetch_of, weight, shown_by, IsBacked}
-use Rattle.bump_steps.specs.Rule.{Sound, chunks, Kept}
+use Rattle.bump_steps.specs.Rule.{Law, Sound, chunks, Kept}
 use Rattle.bump_steps.specs.Places.{head_place}
 use Rattle.bump_steps.specs.Plays.{Sat, on_chunk, on_time, on_first, step_of}
 use Rattle.bump_steps.specs.Marks.{on_worker, noted, hits_after, worker_after_fetch, trying, attempting, worker_after_mark, done, worker_after_unmark, worker_after_store_time, fetch_tells, mark_tells, unmark_tells, store_time_tells, MayMark}
@@ -155,9 +155,9 @@ is_its_fetch c n g e j = ap {B = ℕ} (λ (a : Bool). cond ((c == c) && a) 1 0) 
     eqb_turn x y = dite (ℕ_discrete x y) (λ e. eq-eqb x y e ∙ sym (eq-eqb y x (sym e)))
         (λ ne. ne_eqb x y ne ∙ sym (ne_eqb y x (λ e. ne (sym e))))
 
-module _ (key : Config) (slots id : ℕ) (m : Sat) (c : ℕ) (near : c < chunks key) where
+module _ {law : Law} (key : Config) (slots id : ℕ) (m : Sat) (c : ℕ) (near : c < chunks key) where
   -- the seat has a worker's part, and its step finds this word
-  module _ (has : 0 < length m.0.workers) (n : ℕ) (x : ℕ → ℕ) (t : Measure → ℕ) (o : Sound key.refs_limit n x t) where
+  module _ (has : 0 < length m.0.workers) (n : ℕ) (x : ℕ → ℕ) (t : Measure → ℕ) (o : Sound law key.refs_limit n x t) where
     abbrev pub found : Head
     found = o.head
 
@@ -247,7 +247,7 @@ module _ (key : Config) (slots id : ℕ) (m : Sat) (c : ℕ) (near : c < chunks 
           (λ g. u (held g)) (λ g. u (named g)) (λ g. omega (arith, moves (held g), held_as c g)) (λ g. refl)
 
       -- and sound
-      fetch_sound : Sound key.refs_limit (bit_or n (2 ^ fetched_first)) x u
+      fetch_sound : Sound law key.refs_limit (bit_or n (2 ^ fetched_first)) x u
       fetch_sound = let lawful = fetch_lawful o.head.fetched refl in record {
         head = fetched_head o.head;
         at = o.at;
@@ -257,13 +257,14 @@ module _ (key : Config) (slots id : ℕ) (m : Sat) (c : ℕ) (near : c < chunks 
         agreed = omega (arith, moves (strays (o.at, o.head.generation)), o.agreed);
         labelled = λ i. omega (arith, moves (mislabels i (x i)), o.labelled i);
         read = λ i. omega (arith, moves (misreads i o.head.generation (x i)), o.read i);
+        obeys = o.obeys;
         hit = λ g some. dite (ℕ_discrete g o.head.generation)
             (λ e. omega (arith, lawful.fetched, ap (λ (k : ℕ). u (named k)) e))
             (λ ne. omega (arith, names g, o.hit g (omega (arith, some, saws g, other_life of g ne))));
       }
 
   -- a fetch is allowed where the seat has a worker's part
-  pub may_fetch : 0 < length m.0.workers → Allows (Kept key) slots id m (head_place slots c)
+  pub may_fetch : 0 < length m.0.workers → Allows (Kept law key) slots id m (head_place slots c)
       (λ n. bit_or n (2 ^ fetched_first)) (on_chunk fetch_tells (step slots (head_place slots c) (2 ^ fetched_first) 0 none) m)
   may_fetch has = at_chunk fetch_tells key slots id m c (2 ^ fetched_first) (λ n. bit_or n (2 ^ fetched_first)) near
       (λ n x t limits o a. (
@@ -275,7 +276,7 @@ module _ (key : Config) (slots id : ℕ) (m : Sat) (c : ℕ) (near : c < chunks 
       ))
 
   -- ACTIVE may be set where the seat's own fetch shows that FETCHED is set
-  pub may_mark : MayMark c m.0 → Allows (Kept key) slots id m (head_place slots c) (λ n. bit_or n (2 ^ active_first))
+  pub may_mark : MayMark c m.0 → Allows (Kept law key) slots id m (head_place slots c) (λ n. bit_or n (2 ^ active_first))
       (on_chunk mark_tells (step slots (head_place slots c) (2 ^ active_first) 0 none) m)
   may_mark may = at_chunk mark_tells key slots id m c (2 ^ active_first) (λ n. bit_or n (2 ^ active_first)) near
       (λ n x t limits o a.
@@ -296,6 +297,7 @@ module _ (key : Config) (slots id : ℕ) (m : Sat) (c : ℕ) (near : c < chunks 
               agreed = o.agreed;
               labelled = o.labelled;
               read = o.read;
+              obeys = o.obeys;
               hit = o.hit;
             })),
         (λ b ne. quiet_same b (worker_after_mark l o.head) m.0 (mark_quiet b l o.head)),
@@ -306,7 +308,7 @@ module _ (key : Config) (slots id : ℕ) (m : Sat) (c : ℕ) (near : c < chunks 
       ))
 
   -- it may always be cleared
-  pub may_unmark : Allows (Kept key) slots id m (head_place slots c) (λ n. bit_and n (2 ^ 64 - 1 - 2 ^ active_first))
+  pub may_unmark : Allows (Kept law key) slots id m (head_place slots c) (λ n. bit_and n (2 ^ 64 - 1 - 2 ^ active_first))
       (on_chunk unmark_tells (step slots (head_place slots c) (2 ^ 64 - 1 - 2 ^ active_first) 0 none) m)
   may_unmark = at_chunk unmark_tells key slots id m c (2 ^ 64 - 1 - 2 ^ active_first)
       (λ n. bit_and n (2 ^ 64 - 1 - 2 ^ active_first)) near (λ n x t limits o a.
@@ -324,6 +326,7 @@ module _ (key : Config) (slots id : ℕ) (m : Sat) (c : ℕ) (near : c < chunks 
               agreed = o.agreed;
               labelled = o.labelled;
               read = o.read;
+              obeys = o.obeys;
               hit = o.hit;
             })),
         (λ b ne. quiet_same b (worker_after_unmark l o.head) m.0 (unmark_quiet b l o.head)),
@@ -332,7 +335,7 @@ module _ (key : Config) (slots id : ℕ) (m : Sat) (c : ℕ) (near : c < chunks 
       ))
 
   -- and the rule says nothing of time words
-  pub may_store_time : (now : ℕ) → Allows (Kept key) slots id m (head_place slots c + 1) (λ _. now)
+  pub may_store_time : (now : ℕ) → Allows (Kept law key) slots id m (head_place slots c + 1) (λ _. now)
       (λ _. on_time store_time_tells (step slots (head_place slots c + 1) now 0 none) m now)
   may_store_time now = at_time store_time_tells key slots id m c now (λ _. now) (λ _. now)
       near (λ y n x t limits o a. (

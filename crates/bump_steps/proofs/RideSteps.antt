@@ -30,7 +30,7 @@ use Rattle.bump_steps.specs.declared.views.WorkerPart.{WorkerPart}
 use Rattle.bump_steps.specs.declared.views.HoldPart.{HoldPart}
 use Rattle.bump_steps.specs.declared.views.View.{View}
 use Rattle.bump_steps.specs.Views.{Measure, held, named, saw, owners, strays, mislabels, misreads, weight, in_hand, is_fetch, is_fetch_of, shown_by, IsBacked}
-use Rattle.bump_steps.specs.Rule.{Sound, chunks, Kept, HasFittingLimit}
+use Rattle.bump_steps.specs.Rule.{Law, Sound, chunks, Kept, HasFittingLimit}
 use Rattle.bump_steps.specs.Places.{head_place}
 use Rattle.bump_steps.specs.Plays.{Sat, step_of}
 use Rattle.bump_rules.specs.Accounts.{counted_drop}
@@ -95,11 +95,11 @@ module _ (p : WorkerPart) (q : HoldPart) (l : ItemId) where
         by w e outcome.TimeOnly = omega arith
 
     -- the chunk stays sound where its head's count goes with its references
-    refs_sound : (limit n m : ℕ) (y : ℕ → ℕ) (t u : Measure → ℕ)
+    refs_sound : {law : Law} (limit n m : ℕ) (y : ℕ → ℕ) (t u : Measure → ℕ)
         → ((g : Measure) → u g + weight l.chunk g (with_hold s p.accounts p.steps) ≡ t g + weight l.chunk g
-        (with_hold z a (p.steps ++ x ∷ []))) → (o : Sound limit n y t) → (r : ℕ)
+        (with_hold z a (p.steps ++ x ∷ []))) → (o : Sound law limit n y t) → (r : ℕ)
         → Spells m (record o.head { refs = r })
-        → Lawful limit (record o.head { refs = r }) o.at (λ g. u (held g)) (λ g. t (named g)) → Sound limit m y u
+        → Lawful limit (record o.head { refs = r }) o.at (λ g. u (held g)) (λ g. t (named g)) → Sound law limit m y u
     refs_sound limit n m y t u moves o r spells lawful = record {
       head = record o.head { refs = r };
       at = o.at;
@@ -111,6 +111,7 @@ module _ (p : WorkerPart) (q : HoldPart) (l : ItemId) where
       agreed = omega (arith, moves (strays (o.at, o.head.generation)), o.agreed);
       labelled = λ i. omega (arith, moves (mislabels i (y i)), o.labelled i);
       read = λ i. omega (arith, moves (misreads i o.head.generation (y i)), o.read i);
+      obeys = o.obeys;
       hit = λ j some. omega (
         arith,
         moves (named j),
@@ -125,7 +126,7 @@ module _ (key : Config) (slots id : ℕ) (p : WorkerPart) (q : HoldPart) (l : It
   seat_with s = (with_hold p q l s p.accounts p.steps, sl)
 
   -- the hold's life is the chunk's, and has a reference
-  held_here : (s : Hand) (n : ℕ) (y : ℕ → ℕ) (t : Measure → ℕ) (o : Sound key.refs_limit n y t) → Amid l.chunk (seat_with s).0 t
+  held_here : {law : Law} (s : Hand) (n : ℕ) (y : ℕ → ℕ) (t : Measure → ℕ) (o : Sound law key.refs_limit n y t) → Amid l.chunk (seat_with s).0 t
       → IsOfHeld key.refs_limit l o.head
   held_here s n y t o a =
       let mine : 0 < t (held l.generation) = omega (arith, a.mine (held l.generation), one_life l) in
@@ -133,9 +134,9 @@ module _ (key : Config) (slots id : ℕ) (p : WorkerPart) (q : HoldPart) (l : It
       (sym gen, omega (arith, o.lawful.counted, ap (λ (j : ℕ). t (held j)) gen, mine), o.lawful.within)
 
   -- a load, or an exchange that failed: the attempt ends here or goes on
-  look_reaches : (kind : Kind) → is_fetch kind ≡ false → (failed n : ℕ) (y : ℕ → ℕ) (t : Measure → ℕ)
-      (o : Sound key.refs_limit n y t)
-      → Amid l.chunk (seat_with (hand.Trying l)).0 t → Reaches key l.chunk (seat_with (hand.Trying l))
+  look_reaches : {law : Law} (kind : Kind) → is_fetch kind ≡ false → (failed n : ℕ) (y : ℕ → ℕ) (t : Measure → ℕ)
+      (o : Sound law key.refs_limit n y t)
+      → Amid l.chunk (seat_with (hand.Trying l)).0 t → Reaches law key l.chunk (seat_with (hand.Trying l))
       (look_to_ride_tells kind key.refs_limit failed l (seat_with (hand.Trying l)) n) n y t
   look_reaches kind plain failed n y t o a = let why : Option Dropped = refused_of key.refs_limit failed o.head in
       let x : OwnStep = step_of kind l.chunk (word_of o.head) None in
@@ -151,16 +152,16 @@ module _ (key : Config) (slots id : ℕ) (p : WorkerPart) (q : HoldPart) (l : It
         (o.head, o.spells, held_here (hand.Trying l) n y t o a, refl),
       )
 
-  loads_to_ride : (failed : ℕ) → Allows (Kept key) slots id (seat_with (hand.Trying l)) (head_place slots l.chunk) (λ n. n)
+  loads_to_ride : {law : Law} (failed : ℕ) → Allows (Kept law key) slots id (seat_with (hand.Trying l)) (head_place slots l.chunk) (λ n. n)
       (load_to_ride_tells key.refs_limit failed l (seat_with (hand.Trying l)))
   loads_to_ride failed = on_head key slots id (seat_with (hand.Trying l)) l.chunk (λ n. n)
       (load_to_ride_tells key.refs_limit failed l (seat_with (hand.Trying l))) near
       (λ n y t limits o a. look_reaches kind.Load refl failed n y t o a)
 
   -- an exchange that found the word that it expects
-  reserve_reaches : (old : ℕ) → HasRoom key.refs_limit old → (n : ℕ) (y : ℕ → ℕ) (t : Measure → ℕ) → HasFittingLimit key
-      → (o : Sound key.refs_limit n y t) → Amid l.chunk (seat_with (hand.Trying l)).0 t → n ≡ old
-      → Reaches key l.chunk (seat_with (hand.Trying l)) (reserve_tells key.refs_limit l (seat_with (hand.Trying l)) n)
+  reserve_reaches : {law : Law} (old : ℕ) → HasRoom key.refs_limit old → (n : ℕ) (y : ℕ → ℕ) (t : Measure → ℕ) → HasFittingLimit key
+      → (o : Sound law key.refs_limit n y t) → Amid l.chunk (seat_with (hand.Trying l)).0 t → n ≡ old
+      → Reaches law key l.chunk (seat_with (hand.Trying l)) (reserve_tells key.refs_limit l (seat_with (hand.Trying l)) n)
       (old + 1) y t
   reserve_reaches old room n y t limits o a hit =
       let x : OwnStep = step_of kind.Reserve l.chunk (word_of o.head) None in
@@ -187,14 +188,14 @@ module _ (key : Config) (slots id : ℕ) (p : WorkerPart) (q : HoldPart) (l : It
           → Same b (seat_with s).0 (with_hold p q l z a (p.steps ++ x ∷ []))
       away s z a x plain b ne none nothing = elsewhere p q l s z a x plain b (λ j. nothing j ∙ sym (none j))
 
-  reserves : (failed old : ℕ) → HasRoom key.refs_limit old → Allows (Kept key) slots id (seat_with (hand.Trying l))
+  reserves : {law : Law} (failed old : ℕ) → HasRoom key.refs_limit old → Allows (Kept law key) slots id (seat_with (hand.Trying l))
       (head_place slots l.chunk) (λ n. either (n == old) (old + 1) n)
       (try_to_ride_tells key.refs_limit failed l old (seat_with (hand.Trying l)))
-  reserves failed old room = on_head key slots id (seat_with (hand.Trying l)) l.chunk
+  reserves {law = law} failed old room = on_head key slots id (seat_with (hand.Trying l)) l.chunk
       (λ n. either (n == old) (old + 1) n) (try_to_ride_tells key.refs_limit failed l old (seat_with (hand.Trying l)))
       near (λ n y t limits o a.
       exchanged n old (old + 1)
-      (λ k. Reaches key l.chunk (seat_with (hand.Trying l))
+      (λ k. Reaches law key l.chunk (seat_with (hand.Trying l))
       (try_to_ride_tells key.refs_limit failed l old (seat_with (hand.Trying l)) n) k y t)
       (λ hit. let r = reserve_reaches old room n y t limits o a hit in
       (r.0, r.1, r.2, r.3, ((λ _. r.4), (λ miss. absurd (miss hit)))))
@@ -202,7 +203,7 @@ module _ (key : Config) (slots id : ℕ) (p : WorkerPart) (q : HoldPart) (l : It
       (r.0, r.1, r.2, r.3, ((λ hit. absurd (miss hit)), (λ _. r.4)))))
 
   -- a bump's reference is given back
-  releases : Allows (Kept key) slots id (seat_with (hand.InHand l)) (head_place slots l.chunk)
+  releases : {law : Law} → Allows (Kept law key) slots id (seat_with (hand.InHand l)) (head_place slots l.chunk)
       (λ n. (n + (2 ^ 64 - 1)) % 2 ^ 64) (release_tells l (seat_with (hand.InHand l)))
   releases = on_head key slots id (seat_with (hand.InHand l)) l.chunk (λ n. (n + (2 ^ 64 - 1)) % 2 ^ 64)
       (release_tells l (seat_with (hand.InHand l))) near (λ n y t limits o a.
@@ -237,25 +238,25 @@ seat_is s l m on = λ i. (
   m.1,
 )
 
-pub may_load_to_ride : (key : Config) (slots id : ℕ) (m : Sat) (l : ItemId) (limit failed : ℕ) → l.chunk < chunks key
-    → limit ≡ key.refs_limit → IsOn (hand.Trying l) l m.0 → Allows (Kept key) slots id m (head_place slots l.chunk) (λ n. n)
+pub may_load_to_ride : {law : Law} (key : Config) (slots id : ℕ) (m : Sat) (l : ItemId) (limit failed : ℕ) → l.chunk < chunks key
+    → limit ≡ key.refs_limit → IsOn (hand.Trying l) l m.0 → Allows (Kept law key) slots id m (head_place slots l.chunk) (λ n. n)
     (load_to_ride_tells limit failed l m)
-may_load_to_ride key slots id m l limit failed near is on =
-    subst (λ (z : ℕ × Sat). Allows (Kept key) slots id z.1 (head_place slots l.chunk) (λ n. n)
+may_load_to_ride {law = law} key slots id m l limit failed near is on =
+    subst (λ (z : ℕ × Sat). Allows (Kept law key) slots id z.1 (head_place slots l.chunk) (λ n. n)
     (load_to_ride_tells z.0 failed l z.1)) (λ i. (sym is i, sym (seat_is (hand.Trying l) l m on) i))
     (loads_to_ride key slots id on.part on.hold l near m.1 failed)
 
-pub may_reserve : (key : Config) (slots id : ℕ) (m : Sat) (l : ItemId) (limit failed old : ℕ) → l.chunk < chunks key
-    → limit ≡ key.refs_limit → IsOn (hand.Trying l) l m.0 → HasRoom limit old → Allows (Kept key) slots id m
+pub may_reserve : {law : Law} (key : Config) (slots id : ℕ) (m : Sat) (l : ItemId) (limit failed old : ℕ) → l.chunk < chunks key
+    → limit ≡ key.refs_limit → IsOn (hand.Trying l) l m.0 → HasRoom limit old → Allows (Kept law key) slots id m
     (head_place slots l.chunk) (λ n. either (n == old) (old + 1) n) (try_to_ride_tells limit failed l old m)
-may_reserve key slots id m l limit failed old near is on room =
-    subst (λ (z : ℕ × Sat). Allows (Kept key) slots id z.1 (head_place slots l.chunk) (λ n. either (n == old) (old + 1) n)
+may_reserve {law = law} key slots id m l limit failed old near is on room =
+    subst (λ (z : ℕ × Sat). Allows (Kept law key) slots id z.1 (head_place slots l.chunk) (λ n. either (n == old) (old + 1) n)
     (try_to_ride_tells z.0 failed l old z.1)) (λ i. (sym is i, sym (seat_is (hand.Trying l) l m on) i))
     (reserves key slots id on.part on.hold l near m.1 failed old (subst (λ (k : ℕ). HasRoom k old) is room))
 
-pub may_release_bump : (key : Config) (slots id : ℕ) (m : Sat) (l : ItemId) → l.chunk < chunks key
-    → IsOn (hand.InHand l) l m.0 → Allows (Kept key) slots id m (head_place slots l.chunk) (λ n. (n + (2 ^ 64 - 1)) % 2 ^ 64)
+pub may_release_bump : {law : Law} (key : Config) (slots id : ℕ) (m : Sat) (l : ItemId) → l.chunk < chunks key
+    → IsOn (hand.InHand l) l m.0 → Allows (Kept law key) slots id m (head_place slots l.chunk) (λ n. (n + (2 ^ 64 - 1)) % 2 ^ 64)
     (release_tells l m)
-may_release_bump key slots id m l near on =
-    subst (λ (z : Sat). Allows (Kept key) slots id z (head_place slots l.chunk) (λ n. (n + (2 ^ 64 - 1)) % 2 ^ 64)
+may_release_bump {law = law} key slots id m l near on =
+    subst (λ (z : Sat). Allows (Kept law key) slots id z (head_place slots l.chunk) (λ n. (n + (2 ^ 64 - 1)) % 2 ^ 64)
     (release_tells l z)) (sym (seat_is (hand.InHand l) l m on)) (releases key slots id on.part on.hold l near m.1)

@@ -1,6 +1,7 @@
 -- The start: the rule holds of fresh words and the first seat.
 use Rattle.std.proofs.Common.{◌≡◌, ℕ, zero, suc, cond, map, get_or, set, length-set, get_or-set_same, get_or-set_other, mul-le-mul_right, ◌*◌, ◌+◌, ◌-◌, ◌^◌, ◌<◌, ◌≤◌, ◌&&◌, eqb, ltb, leb, not, Bool, true, false, List, [], ◌∷◌, length, None, refl, sym, ap, ap₂, ◌∙◌, subst, arith, eq-eqb, ne_eqb, lt-ltb, le-ltb}
 use Rattle.std.proofs.lemmas.Bool.{le-leb, lt-leb}
+use mathlib.Core.Bool.{false≢true}
 use mathlib.Core.Logic.{dite}
 use native.Mathlib.Decide.{dec_le, ℕ_discrete}
 use mathlib.Core.Option.{some}
@@ -28,7 +29,7 @@ use Rattle.bump_rules.specs.Entries.{is_move_for}
 use Rattle.bump_rules.proofs.Standings.{standing_same}
 use Rattle.bump_word.specs.Layout.{generation_width, generation_first}
 use Rattle.bump_steps.specs.Views.{owns, standing, labels_of, last_word, held, named, saw, weight, refers, in_hand, is_fetch_of, bump_aboard, claimed_in, settled_in, names_move, underway_in, foreign_in, HaveLabels, untidy_in}
-use Rattle.bump_steps.specs.Rule.{chunks, Kept, class_parts, worker_part, worker_parts, lane_part, lane_parts, opened, AreFresh, HasFittingLimit}
+use Rattle.bump_steps.specs.Rule.{Law, chunks, Kept, class_parts, worker_part, worker_parts, lane_part, lane_parts, opened, AreFresh, HasFittingLimit}
 
 -- there are chunks where there are classes
 pub some_chunks : (ks : List ClassConfig) → 1 ≤ length ks → HaveChunks ks → 0 < chunks_of ks
@@ -234,10 +235,10 @@ one_worker_of n w (suc m) = dite (ℕ_discrete w n)
     (λ e. omega (arith, ap {B = ℕ} (λ (b : Bool). cond b 1 0) (eq-eqb w n e), no_worker_of n (w + 1) m (omega arith)))
     (λ ne. omega (arith, ap {B = ℕ} (λ (b : Bool). cond b 1 0) (ne_eqb w n ne), one_worker_of n (w + 1) m))
 
-pub starts : (key : Config) (words : List ℕ) (slots : List Empty)
+pub starts : {law : Law} (key : Config) (words : List ℕ) (slots : List Empty)
     → AreFresh (length slots) (chunks key) (key.first_generation - 1) words
     → HasFittingLimit key → (0 < key.first_generation) × (key.first_generation < 2 ^ generation_width)
-    → Kept key (opening words slots (opened key))
+    → Kept law key (opening words slots (opened key))
 starts key words slots at_first limits generations = record {
   wide = fresh.0;
   small = limits;
@@ -257,6 +258,7 @@ starts key words slots at_first limits generations = record {
       past = λ g many. absurd (omega (arith, many, no_named c g key));
     };
     owned = omega (arith, one_owner (key.first_generation - 1) 0 0 c key.classes (omega arith) (omega (arith, near)));
+    obeys = λ lit. absurd (false≢true lit);
     agreed = omega (arith, no_stray_yet (key.first_generation - 1) 0 0 c key.classes);
     labelled = λ i. subst (λ (x : ℕ). total (λ k. bit (owns c k && not (eqb (last_word i k c) x)))
         (class_parts (key.first_generation - 1) 0 0 key.classes) + 0 ≡ 0) (sym ((fresh.1 c near).1 i))

@@ -15,8 +15,9 @@ use Rattle.bump_steps.specs.declared.views.OwnStep.{OwnStep}
 use Rattle.bump_steps.specs.declared.views.View.{View}
 use Rattle.bump_steps.specs.declared.views.WorkerPart.{WorkerPart}
 use Rattle.bump_steps.specs.Marks.{on_worker}
+use Rattle.bump_steps.specs.Rule.{Law}
 use Rattle.bump_steps.specs.Plays.{Sat, HasWorker, on_first, step_of}
-use Rattle.bump_steps.specs.References.{new_hold, view_after_load, view_after_failed, load_to_take_tells, view_after_take, IsRow, take_tells}
+use Rattle.bump_steps.specs.References.{new_hold, view_after_load, view_after_failed, load_to_take_tells, view_after_take, IsRow, words_in, take_tells}
 use Rattle.bump_steps.specs.Tries.{last_found, AreAll, AreTries, AttemptFound, AskedFound, refused_by, take_refused, asked_refusal, failures, looks, takes, with_more, held_by, asked_life, view_after_attempt, any_refusal}
 use Rattle.bump_steps.proofs.Referring.{held_is}
 
@@ -168,7 +169,7 @@ TryingToTake limit asked c before now word failed first more =
     word failed first more
 
 -- what the call comes to
-pub record TakesSo (limit slots : ℕ) (asked : Head → ℕ) (c : ℕ) (before after : Sat) (answered : Option TakeRefusal)
+pub record TakesSo (law : Law) (limit slots : ℕ) (asked : Head → ℕ) (c : ℕ) (before after : Sat) (answered : Option TakeRefusal)
     (first : Head) (more : List Head)
     : Type 0 where
   pub row : List ℕ
@@ -176,6 +177,7 @@ pub record TakesSo (limit slots : ℕ) (asked : Head → ℕ) (c : ℕ) (before 
   pub found : AskedFound limit asked first more
   pub view : after ≡ (view_after_attempt limit asked c first more row before.0, before.1)
   pub answer : answered ≡ asked_refusal limit asked first more
+  pub obeys : answered ≡ None → law (words_in row)
 
 -- some row
 abbrev row_of_zeros : ℕ → List ℕ
@@ -186,7 +188,7 @@ zeros_long : (n : ℕ) → length (row_of_zeros n) ≡ n
 zeros_long zero = refl
 zeros_long (suc n) = ap suc (zeros_long n)
 
-module _ (limit slots : ℕ) (asked : Head → ℕ) (c : ℕ) (before : Sat) where
+module _ (law : Law) (limit slots : ℕ) (asked : Head → ℕ) (c : ℕ) (before : Sat) where
   abbrev open_to_take : Head → Type 0
   open_to_take h = get_of limit (asked h) h ≡ IsHeld
 
@@ -228,7 +230,7 @@ module _ (limit slots : ℕ) (asked : Head → ℕ) (c : ℕ) (before : Sat) whe
       -- an exchange failed
       pub take_goes_on : failed < 8 → (h : Head) → Spells word h → refused_by (get_of limit (asked h) h) ≡ None
           → (next : Sat) (found : ℕ)
-          → found ≢ word → take_tells slots c word now found next
+          → found ≢ word → take_tells law slots c word now found next
           → (k : Head) × TryingToTake limit asked c before next found (failed + 1) first (more ++ k ∷ [])
       take_goes_on few h spelled can next found miss t = let k : Head = t.2.0 in
           goes_on Fits open_to_take (take_refused limit asked) seen_to_take c (λ h fits. fits) before now word failed
@@ -240,7 +242,7 @@ module _ (limit slots : ℕ) (asked : Head → ℕ) (c : ℕ) (before : Sat) whe
 
       -- a refusal adds no step
       take_stays : (r : TakeRefusal) → failed ≤ 8 → asked_refusal limit asked first more ≡ Some r
-          → TakesSo limit slots asked c before now (Some r) first more
+          → TakesSo law limit slots asked c before now (Some r) first more
       take_stays r few is = record {
         row = row_of_zeros (slots + 1);
         long = zeros_long (slots + 1);
@@ -258,16 +260,17 @@ module _ (limit slots : ℕ) (asked : Head → ℕ) (c : ℕ) (before : Sat) whe
               before.1,
             )) (sym is);
         answer = sym is;
+        obeys = λ none. absurd (cc none);
       }
 
       -- the get table refuses
       pub take_refuses : failed < 8 → (h : Head) → Spells word h → (r : TakeRefusal)
           → refused_by (get_of limit (asked h) h) ≡ Some r
-          → TakesSo limit slots asked c before now (Some r) first more
+          → TakesSo law limit slots asked c before now (Some r) first more
       take_refuses few h spelled r is = take_stays r (omega (arith, few)) (refusal_is h spelled ∙ decides few h ∙ is)
 
       -- 8 exchanges failed
-      pub take_gives_up : failed ≡ 8 → TakesSo limit slots asked c before now (Some Busy) first more
+      pub take_gives_up : failed ≡ 8 → TakesSo law limit slots asked c before now (Some Busy) first more
       take_gives_up all = take_stays Busy (omega (arith, all)) (ap
           (λ (b : Bool). if b then Some Busy else refused_by
           (get_of limit (asked (last_found first more)) (last_found first more)))
@@ -276,8 +279,8 @@ module _ (limit slots : ℕ) (asked : Head → ℕ) (c : ℕ) (before : Sat) whe
       -- an exchange found the word that it expects
       pub takes_it : failed < 8 → (h : Head) → Spells word h → refused_by (get_of limit (asked h) h) ≡ None
           → (next : Sat) (found : ℕ)
-          → found ≡ word → take_tells slots c word now found next
-          → TakesSo limit slots asked c before next None first more
+          → found ≡ word → take_tells law slots c word now found next
+          → TakesSo law limit slots asked c before next None first more
       takes_it few h spelled can next found hit t =
           let k : Head = last_found first more in
           let is : asked_refusal limit asked first more ≡ None = refusal_is h spelled ∙ decides few h ∙ can in
@@ -292,7 +295,7 @@ module _ (limit slots : ℕ) (asked : Head → ℕ) (c : ℕ) (before : Sat) whe
             long = took.1;
             found = found_so Fits open_to_take (take_refused limit asked) seen_to_take c (λ h fits. fits) before now
                 word failed first more y (omega (arith, few));
-            view = took.2 ∙ ap₂ (λ (n : ℕ) (m : Sat). (view_after_take c n took.0 m.0, m.1)) (hit ∙ y.last) y.view
+            view = took.3 ∙ ap₂ (λ (n : ℕ) (m : Sat). (view_after_take c n took.0 m.0, m.1)) (hit ∙ y.last) y.view
                 ∙ ap₂ (λ (v : View) (g : ℕ). (
                   record v { holds = new_hold (life c g) took.0 ∷ before.0.holds },
                   before.1,
@@ -307,6 +310,7 @@ module _ (limit slots : ℕ) (asked : Head → ℕ) (c : ℕ) (before : Sat) whe
                   before.1,
                 )) (sym is);
             answer = sym is;
+            obeys = λ none. took.2;
           }
 
 -- a call for whatever life is refused as a get of the head's own generation is

@@ -18,8 +18,8 @@ use Rattle.bump_steps.specs.declared.views.WordStep.TheVariants.{Put, Begun}
 use Rattle.bump_steps.specs.declared.views.Kind.TheVariants as kind
 use Rattle.bump_steps.specs.declared.views.ClassPart.{ClassPart}
 use Rattle.bump_steps.specs.declared.views.View.{View}
-use Rattle.bump_steps.specs.Views.{owns, standing}
-use Rattle.bump_steps.specs.Rule.{blank}
+use Rattle.bump_steps.specs.Views.{owns, standing, last_word}
+use Rattle.bump_steps.specs.Rule.{Law, blank}
 use Rattle.bump_steps.specs.Plays.{Tells, Found, Told, on_first, step_of}
 
 -- the view of a class's seat to which nothing is joined
@@ -117,6 +117,10 @@ IsLinked chunk view = (k : ClassPart) × StandsAt IsInSegment chunk view k
 abbrev pub MayLink : ℕ → ℕ → View → Type 0
 MayLink chunk generation view = (k : ClassPart) × StandsAt (λ p. p ≡ Unused) chunk view k
     × (generation ≡ (standing k chunk).1 + 1)
+
+-- and the words that the class stored last for the chunk are a row of which the law holds
+abbrev pub Obeys : Law → ℕ → View → Type 0
+Obeys law chunk view = (class : ClassPart) → view ≡ alone class → law (λ index. last_word index class chunk)
 
 -- a step on the class's part
 abbrev pub on_class : (ClassPart → ClassPart) → View → View

@@ -1,5 +1,5 @@
 -- The rule: what holds of the words and of all views between any two atomic steps of all threads.
-use Rattle.std.specs.Prelude.{◌≡◌, ℕ, zero, suc, ◌+◌, ◌-◌, ◌*◌, ◌^◌, ◌<◌, ◌≤◌, List, [], ◌∷◌, length, slice_index, None}
+use Rattle.std.specs.Prelude.{◌≡◌, ℕ, true, zero, suc, ◌+◌, ◌-◌, ◌*◌, ◌^◌, ◌<◌, ◌≤◌, List, [], ◌∷◌, length, slice_index, None}
 use Rattle.atomic_table.specs.Table.{State}
 use Rattle.bump_rules.specs.declared.places.Place.{Place}
 use Rattle.bump_rules.specs.declared.items.Head.{Head}
@@ -24,8 +24,13 @@ use Rattle.bump_steps.specs.Views.{Measure, held, named, saw, owners, strays, mi
 use Rattle.bump_steps.specs.Views.{claims, evidence, Query, moves, settled, in_progress, underway, foreign, AreLabelled}
 use Rattle.bump_steps.specs.Views.{workers_of, lanes_of, untidy}
 
+-- A law of rows: what holds of a row's words by number, of its label, which is number 0, and of its further words.
+-- Behind the last one all are 0.
+abbrev pub Law : Type 1
+Law = (ℕ → ℕ) → Type 0
+
 -- A chunk is sound: n is its head word, x its label and its further words, and t what all views together count of it.
-pub record Sound (limit word : ℕ) (label : ℕ → ℕ) (tally_of : Measure → ℕ) : Type 0 where
+pub record Sound (law : Law) (limit word : ℕ) (label : ℕ → ℕ) (tally_of : Measure → ℕ) : Type 0 where
   -- the head word is that of a Head, and the chunk stands in some list, so that it is lawful by the references and
   -- first hits of all views
   pub head : Head
@@ -38,6 +43,8 @@ pub record Sound (limit word : ℕ) (label : ℕ → ℕ) (tally_of : Measure �
   -- its label and words are what this class stored last, and the row of each hold of the life
   pub labelled : (i : ℕ) → tally_of (mislabels i (label i)) ≡ 0
   pub read : (i : ℕ) → tally_of (misreads i head.generation (label i)) ≡ 0
+  -- and of a chunk that is linked the table's law holds
+  pub obeys : head.linked ≡ true → law label
   -- a life of which some worker set FETCHED has its first hit
   pub hit : (g : ℕ) → 0 < tally_of (saw g) → 0 < tally_of (named g)
 
@@ -47,18 +54,18 @@ chunks key = chunks_of key.classes
 
 -- The words of chunk c stand side by side: its head, its time, of which nothing is said, its label, and its further
 -- words.
-abbrev pub SoundAt : Config → State Empty View → ℕ → Type 0
-SoundAt key state chunk = Sound key.refs_limit (slice_index state.words (head_place (length state.homes) chunk))
+abbrev pub SoundAt : Law → Config → State Empty View → ℕ → Type 0
+SoundAt law key state chunk = Sound law key.refs_limit (slice_index state.words (head_place (length state.homes) chunk))
     (words_at (length state.homes) state.words chunk) (tally state.views chunk)
 
 -- the limit of references is at least 1, and has room in the bits of a head word's count
 abbrev pub HasFittingLimit : Config → Type 0
 HasFittingLimit key = (0 < key.refs_limit) × (key.refs_limit < 2 ^ refs_width)
 
-pub record Kept (key : Config) (state : State Empty View) : Type 0 where
+pub record Kept (law : Law) (key : Config) (state : State Empty View) : Type 0 where
   pub wide : length state.words ≡ head_place (length state.homes) (chunks key)
   pub small : HasFittingLimit key
-  pub each : (c : ℕ) → c < chunks key → SoundAt key state c
+  pub each : (c : ℕ) → c < chunks key → SoundAt law key state c
   -- no chunk has two classes
   pub one_class : (c : ℕ) → total (weight c owners) state.views ≤ 1
   -- each applied entry is true

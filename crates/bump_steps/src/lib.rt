@@ -4,6 +4,7 @@
 
 mod decoding;
 mod fresh;
+mod laws;
 mod placing;
 mod refusals;
 mod rule;
@@ -12,6 +13,7 @@ mod views;
 mod words;
 
 pub use decoding::head_of;
+pub use laws::{AnyRow, RowLaw};
 pub use refusals::{AnyRefusal, RideRefusal, TakeRefusal};
 pub use rule::Rule;
 pub use views::{

@@ -3,9 +3,10 @@ ghost use Rattle.std.specs.Prelude.{◌≡◌, suc, ◌+◌, ◌<◌};
 ghost use Rattle.bump_steps.specs.Words.{words_id};
 ghost use Rattle.bump_steps.specs.Places.{HasChunk, head_place};
 
+use crate::laws::RowLaw;
 use crate::words::{HEAD, Words};
 
-impl Words {
+impl<L: RowLaw> Words<L> {
     /// How many further words a chunk has, beside its label.
     #[inline(always)]
     pub fn further(&self) -> u32

@@ -3,6 +3,7 @@ ghost use Rattle.std.specs.Prelude.{◌≡◌, ◌+◌, ◌<◌, ◌^◌};
 ghost use Rattle.bump_steps.specs.Rule.{chunks as all_chunks};
 ghost use Rattle.bump_steps.specs.Places.{rows};
 
+use crate::laws::{AnyRow, RowLaw};
 use crate::rule::Rule;
 use crate::views::{Empty, View};
 use atomic_table::Table;
@@ -24,9 +25,9 @@ pub(crate) const HEAD: usize = 14;
 /// are spare. The table has as many slots as a chunk has further words: they have no bytes, and their number is known to
 /// each seat.
 #[derive(Drop)]
-pub struct Words {
+pub struct Words<L: RowLaw = AnyRow> {
     /// The kit's table, which asks the rule of each step.
-    pub(crate) table: Table<Empty, View, Config, Rule, Global>,
+    pub(crate) table: Table<Empty, View, Config, Rule<L>, Global>,
 
     /// How many words a chunk has.
     pub(crate) row: usize,

@@ -10,6 +10,7 @@ ghost use Rattle.bump_steps.specs.Applications.{move_tells, alight_tells, MayTry
 ghost use Rattle.bump_rules.specs.declared.places.Segment.{Segment as TheSegment};
 ghost use Rattle.bump_rules.specs.declared.places.Segment.TheVariants.{Hot};
 
+use crate::laws::RowLaw;
 use crate::views::{Empty, View};
 use crate::words::{Seat, Words};
 use atomic_table::Play;
@@ -74,7 +75,7 @@ impl<W: Alighting> Play<Empty, View> for Alight<W> {
     ghost then = { on_chunk (alight_tells W.outcome) };
 }
 
-impl Words {
+impl<L: RowLaw> Words<L> {
     /// The head of the bump's item is looked at.
     pub fn try_front(&self, seat: &mut Seat, chunk: u32, place: usize) -> u64
         requires seat { (seat.old.table_id ≡ words_id self.now) × HasChunk (words_id self.now) chunk }

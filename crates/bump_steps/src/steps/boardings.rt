@@ -8,6 +8,7 @@ ghost use Rattle.bump_steps.specs.Riders.{ride_me, board_both};
 ghost use Rattle.bump_steps.specs.Riders.{lane_me};
 ghost use Rattle.bump_steps.specs.Rule.{blank};
 
+use crate::laws::RowLaw;
 use crate::views::View;
 use crate::words::{Seat, Words};
 use atomic_table::Join;
@@ -20,7 +21,7 @@ impl Join<View> for Board {
     ghost spent = { blank };
 }
 
-impl Words {
+impl<L: RowLaw> Words<L> {
     /// A rider's seat joins a lane's, which has nothing aboard.
     pub fn board(&self, seat: &mut Seat, rider: Seat)
         requires seats { (seat.old.table_id ≡ words_id self.now) × (rider.table_id ≡ words_id self.now)

@@ -5,6 +5,7 @@ ghost use Rattle.bump_steps.specs.Rule.{blank};
 ghost use Rattle.bump_steps.specs.Cuts.{joined, without_lanes, lanes_only, without_holds, holds_only, without_class};
 ghost use Rattle.bump_steps.specs.Cuts.{class_only, without_worker, worker_only, without_lane, lane_only};
 
+use crate::laws::RowLaw;
 use crate::views::View;
 use crate::words::{Seat, Words};
 use atomic_table::{Join, Split};
@@ -57,7 +58,7 @@ impl Split<View> for FirstLane {
     ghost right = { lane_only };
 }
 
-impl Words {
+impl<L: RowLaw> Words<L> {
     /// Joins another seat to this one, which has the parts of both from then on. The other one may not have taken a
     /// slot.
     pub fn join(&self, seat: &mut Seat, other: Seat)

@@ -9,8 +9,9 @@ ghost use Rattle.bump_steps.specs.Lives.{generation_load_tells, load_tells, time
 ghost use Rattle.bump_steps.specs.Lives.{put_word_tells, class_after_put_word};
 ghost use Rattle.bump_steps.specs.Lives.{link_tells, unlink_tells, sweep_or_load_tells, class_after_see_time};
 ghost use Rattle.bump_steps.specs.Lives.{class_after_put_label, class_after_link, on_class, IsUnused, IsDying};
-ghost use Rattle.bump_steps.specs.Lives.{IsLinked, MayLink};
+ghost use Rattle.bump_steps.specs.Lives.{IsLinked, MayLink, Obeys};
 
+use crate::laws::RowLaw;
 use crate::views::{Empty, View};
 use crate::words::{Seat, Words};
 use atomic_table::Play;
@@ -66,7 +67,7 @@ impl Play<Empty, View> for SweepOrLoad {
     ghost then = { on_chunk sweep_or_load_tells };
 }
 
-impl Words {
+impl<L: RowLaw> Words<L> {
     /// A load of a head by its class, for the generation in it.
     pub fn see_generation(&self, seat: &mut Seat, chunk: u32, place: usize) -> u64
         requires seat { (seat.old.table_id ≡ words_id self.now) × HasChunk (words_id self.now) chunk }
@@ -144,6 +145,7 @@ impl Words {
         requires seat { (seat.old.table_id ≡ words_id self.now) × HasChunk (words_id self.now) chunk }
         requires place { place ≡ head_place (words_id self.now).slots chunk }
         requires may { MayLink chunk generation seat.old.me.0 }
+        requires law { Obeys L.law chunk seat.old.me.0 }
         ensures same { (seat.new.table_id ≡ seat.old.table_id) × (seat.new.id ≡ seat.old.id) }
         ensures told { seat.new.me ≡ (
           on_class (class_after_link start chunk generation

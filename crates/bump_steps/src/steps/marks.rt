@@ -7,6 +7,7 @@ ghost use Rattle.bump_steps.specs.Plays.{on_chunk, on_time, HasWorker};
 ghost use Rattle.bump_steps.specs.Marks.{fetch_tells, mark_tells, unmark_tells, store_time_tells, on_worker};
 ghost use Rattle.bump_steps.specs.Marks.{worker_after_store_time, MayMark, RefersTo};
 
+use crate::laws::RowLaw;
 use crate::views::{Empty, View};
 use crate::words::{Seat, Words};
 use atomic_table::Play;
@@ -37,7 +38,7 @@ impl Play<Empty, View> for StoreTime {
     ghost then = { on_time store_time_tells };
 }
 
-impl Words {
+impl<L: RowLaw> Words<L> {
     /// A worker sets FETCHED of a chunk to a life of which its seat refers.
     pub fn mark_fetched(&self, seat: &mut Seat, chunk: u32, place: usize) -> u64
         requires seat { (seat.old.table_id ≡ words_id self.now) × HasChunk (words_id self.now) chunk }

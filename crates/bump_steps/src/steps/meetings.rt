@@ -7,6 +7,7 @@ ghost use Rattle.bump_steps.specs.Lives.{on_class};
 ghost use Rattle.bump_steps.specs.Meetings.{load_to_meet_tells, load_to_meet_lane_tells, load_to_meet_workers_tells};
 ghost use Rattle.bump_steps.specs.Meetings.{class_after_meet, AreOfWorkers};
 
+use crate::laws::RowLaw;
 use crate::views::{Empty, View};
 use crate::words::{Seat, Words};
 use atomic_table::Play;
@@ -43,7 +44,7 @@ impl<C: Counted> Play<Empty, View> for LoadToMeetWorkers<C> {
     ghost then = { load_to_meet_workers_tells C.workers };
 }
 
-impl Words {
+impl<L: RowLaw> Words<L> {
     /// A load of the label word, for `meet`.
     pub fn meet(&self, seat: &mut Seat, chunk: u32) -> u64
         requires seat { (seat.old.table_id ≡ words_id self.now) × HasChunk (words_id self.now) chunk }

@@ -1,14 +1,15 @@
 //! The steps of a reader on a reference: a load, the exchange that takes it, and the subtraction that gives it back;
 //! the loads of a label and of a head by a hold; and loads that need no seat of the caller's.
-ghost use Rattle.std.specs.Prelude.{ℕ, ◌≡◌, ◌<◌, List};
+ghost use Rattle.std.specs.Prelude.{ℕ, ◌≡◌, ◌<◌, List, None};
 ghost use Rattle.bump_rules.specs.declared.items.Head.{Head as TheHead};
 ghost use Rattle.bump_steps.specs.Places.{HasChunk, head_place};
 ghost use Rattle.bump_steps.specs.Words.{words_id, config_of};
 ghost use Rattle.bump_steps.specs.Plays.{on_chunk, on_row, on_label, on_word, Found, HasWorker};
-ghost use Rattle.bump_steps.specs.References.{load_to_take_tells, take_tells, MayTake, IsRow, HasHold, release_of_hold_tells, look_of_hold_tells, label_load_tells, word_load_tells, load_without_seat_tells, IsAnyHead, seen_me};
+ghost use Rattle.bump_steps.specs.References.{load_to_take_tells, take_tells, MayTake, IsRow, words_in, HasHold, release_of_hold_tells, look_of_hold_tells, label_load_tells, word_load_tells, load_without_seat_tells, IsAnyHead, seen_me};
 ghost use Rattle.bump_steps.specs.Tries.{AskedFound, TakeFound, last_found, of_life, of_any, asked_refusal, refusal_of, view_after_attempt, any_answer};
 
 use crate::decoding::head_of;
+use crate::laws::RowLaw;
 use crate::refusals::{AnyRefusal, TakeRefusal, any_refusal, refusal};
 use crate::views::{Empty, View};
 use crate::words::{Seat, Words};
@@ -24,10 +25,12 @@ impl Play<Empty, View> for LoadToTake {
     ghost then = { on_chunk load_to_take_tells };
 }
 
-pub struct Take;
+pub struct Take<L: RowLaw> {
+    of: PhantomData<L>,
+}
 
-impl Play<Empty, View> for Take {
-    ghost then = { on_row take_tells };
+impl<L: RowLaw> Play<Empty, View> for Take<L> {
+    ghost then = { on_row (take_tells L.law) };
 }
 
 pub struct Release;
@@ -65,15 +68,15 @@ impl Limited for Brand {
     ghost limit = { 0 };
 }
 
-pub struct LoadWithoutSeat<L: Limited> {
-    of: PhantomData<L>,
+pub struct LoadWithoutSeat<B: Limited> {
+    of: PhantomData<B>,
 }
 
-impl<L: Limited> Play<Empty, View> for LoadWithoutSeat<L> {
-    ghost then = { on_chunk (load_without_seat_tells L.limit) };
+impl<B: Limited> Play<Empty, View> for LoadWithoutSeat<B> {
+    ghost then = { on_chunk (load_without_seat_tells B.limit) };
 }
 
-impl Words {
+impl<L: RowLaw> Words<L> {
     /// A load of a head word, by a worker.
     pub fn look_to_take(&self, seat: &mut Seat, chunk: u32, place: usize) -> u64
         requires seat { (seat.old.table_id ≡ words_id self.now) × HasChunk (words_id self.now) chunk }
@@ -94,9 +97,9 @@ impl Words {
         requires worker { HasWorker seat.old.me.0 }
         requires word { MayTake (config_of self.now).refs_limit life word }
         ensures same { (seat.new.table_id ≡ seat.old.table_id) × (seat.new.id ≡ seat.old.id) }
-        ensures told { take_tells (words_id self.now).slots life.chunk word seat.old.me result seat.new.me }
+        ensures told { take_tells L.law (words_id self.now).slots life.chunk word seat.old.me result seat.new.me }
     {
-        self.table.shared.compare_exchange::<Take>(
+        self.table.shared.compare_exchange::<Take<L>>(
             seat,
             self.head_by(place, life.chunk),
             word,
@@ -105,7 +108,7 @@ impl Words {
     }
 
     /// One load, and at most 8 exchanges. The limit is read anew for each word, as its comparison's operand. The hold
-    /// has the row of the life.
+    /// has the row of the life, of which the table's law holds.
     #[inline(always)]
     pub fn take(
         &self,
@@ -125,7 +128,8 @@ impl Words {
               view_after_attempt limit.now (of_life life) life.chunk first more row seat.old.me.0,
               seat.old.me.1,
             ))
-            × (result ≡ refusal_of limit.now life first more) }
+            × (result ≡ refusal_of limit.now life first more)
+            × (result ≡ None → L.law (words_in row)) }
     {
         let mut word = self.look_to_take(seat, life.chunk, place);
         for failed in 0..8u32 {
@@ -160,7 +164,8 @@ impl Words {
         ensures told { (first : TheHead) × (more : List TheHead) × (row : List ℕ) × IsRow (words_id self.now).slots row
             × AskedFound limit.now of_any first more
             × (seat.new.me ≡ (view_after_attempt limit.now of_any chunk first more row seat.old.me.0, seat.old.me.1))
-            × (result ≡ any_answer (asked_refusal limit.now of_any first more) (last_found first more)) }
+            × (result ≡ any_answer (asked_refusal limit.now of_any first more) (last_found first more))
+            × (asked_refusal limit.now of_any first more ≡ None → L.law (words_in row)) }
     {
         let mut expected = self.look_to_take(seat, chunk, place);
         for lost in 0..8u32 {
@@ -182,7 +187,7 @@ impl Words {
     }
 
     /// The subtraction by which a hold gives its reference back. Its seat has no list of steps, and keeps the mark of
-    /// it. `drop_full` is the same step of a worker, for the reference of a bump.
+    /// it. `give_back_bump` is the same step of a worker, for the reference of a bump.
     pub fn give_back(&self, seat: &mut Seat, chunk: u32, place: usize) -> u64
         requires seat { (seat.old.table_id ≡ words_id self.now) × HasChunk (words_id self.now) chunk }
         requires place { place ≡ head_place (words_id self.now).slots chunk }
@@ -235,16 +240,16 @@ impl Words {
             .load::<LoadWord>(seat, self.word_by(place, chunk, index))
     }
 
-    fn see_by<L: Limited>(&self, chunk: u32) -> (u64, Seat)
+    fn see_by<B: Limited>(&self, chunk: u32) -> (u64, Seat)
         requires chunk { HasChunk (words_id self.now) chunk }
-        requires limit { L.limit ≡ (config_of self.now).refs_limit }
-        ensures found { Found result.0 (IsAnyHead L.limit) }
+        requires limit { B.limit ≡ (config_of self.now).refs_limit }
+        ensures found { Found result.0 (IsAnyHead B.limit) }
         ensures seen { result.1.me ≡ seen_me chunk result.0 }
         ensures table { result.1.table_id ≡ words_id self.now }
     {
         self.table
             .shared
-            .load_new_seat::<LoadWithoutSeat<L>>(self.head_at(chunk))
+            .load_new_seat::<LoadWithoutSeat<B>>(self.head_at(chunk))
     }
 
     /// A load of a head word, without a seat. It makes one, which has that load in its list and no part.

@@ -15,6 +15,7 @@ ghost use Rattle.bump_steps.specs.Rides.{dropped_as, load_to_ride_tells, try_to_
 ghost use Rattle.bump_steps.specs.Rides.{HasRoom, without_ride, ride_only, return_both};
 
 use crate::decoding::head_of;
+use crate::laws::RowLaw;
 use crate::refusals::RideRefusal;
 use crate::views::{Empty, View};
 use crate::words::{Seat, Words};
@@ -81,7 +82,7 @@ impl Join<View> for RideBack {
     ghost spent = { blank };
 }
 
-impl Words {
+impl<L: RowLaw> Words<L> {
     fn look_to_ride_by<W: Attempt>(
         &self,
         seat: &mut Seat,

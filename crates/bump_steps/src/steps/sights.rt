@@ -5,6 +5,7 @@ ghost use Rattle.bump_steps.specs.Words.{words_id};
 ghost use Rattle.bump_steps.specs.Plays.{on_label, on_word, HasClass};
 ghost use Rattle.bump_steps.specs.Sights.{label_sight_tells, word_sight_tells};
 
+use crate::laws::RowLaw;
 use crate::views::{Empty, View};
 use crate::words::{Seat, Words};
 use atomic_table::Play;
@@ -21,7 +22,7 @@ impl Play<Empty, View> for SightOfWord {
     ghost then = { on_word word_sight_tells };
 }
 
-impl Words {
+impl<L: RowLaw> Words<L> {
     /// A load of a label by its class.
     pub fn see_label(&self, seat: &mut Seat, chunk: u32) -> u64
         requires seat { (seat.old.table_id ≡ words_id self.now) × HasChunk (words_id self.now) chunk }

@@ -14,7 +14,7 @@ fetch_sub-requires g c = let t = c.args.self.now.table.shared in let m = c.args.
   c.requires.seat.0,
   c.head_by.ensures.near,
   rw c.head_by.ensures.is
-      (subst (λ (o : Outcome). Allows (Kept t.key) t.table_id.slots c.args.seat.now.id m (head_place t.table_id.slots c.args.chunk)
+      (subst (λ (o : Outcome). Allows (Kept g.L.RowLaw.law t.key) t.table_id.slots c.args.seat.now.id m (head_place t.table_id.slots c.args.chunk)
       (λ n. (n + (2 ^ 64 - 1)) % 2 ^ 64)
       (on_chunk (alight_tells o) (step t.table_id.slots (head_place t.table_id.slots c.args.chunk) 1 0 none) m)) c.requires.outcome
       (may_alight t.key t.table_id.slots c.args.seat.now.id c.args.chunk 1 c.args.outcome m

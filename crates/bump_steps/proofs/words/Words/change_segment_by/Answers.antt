@@ -15,10 +15,10 @@ fetch_xor-requires g c = let t = c.args.self.now.table.shared in let m = c.args.
       c.requires.seat.0,
       c.head_by.ensures.near,
       rw c.head_by.ensures.is
-          (subst (λ (k : ℕ). Allows (Kept t.key) t.table_id.slots c.args.seat.now.id m (head_place t.table_id.slots c.args.chunk)
+          (subst (λ (k : ℕ). Allows (Kept g.L.RowLaw.law t.key) t.table_id.slots c.args.seat.now.id m (head_place t.table_id.slots c.args.chunk)
           (λ n. bit_xor n k) (on_chunk (move_tells g.W.Moving.from g.W.Moving.to)
           (step t.table_id.slots (head_place t.table_id.slots c.args.chunk) x 0 none) m)) (sym c.segment_xor.ensures)
-          (subst (λ (s : Segment × Segment). Allows (Kept t.key) t.table_id.slots c.args.seat.now.id m
+          (subst (λ (s : Segment × Segment). Allows (Kept g.L.RowLaw.law t.key) t.table_id.slots c.args.seat.now.id m
           (head_place t.table_id.slots c.args.chunk) (λ n. bit_xor n (Rattle.bump_word.specs.Words.segment_change c.args.from c.args.to))
           (on_chunk (move_tells s.0 s.1) (step t.table_id.slots (head_place t.table_id.slots c.args.chunk) x 0 none) m))
           (λ i. (c.requires.segments.0 i, c.requires.segments.1 i))

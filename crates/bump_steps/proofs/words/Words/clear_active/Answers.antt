@@ -3,7 +3,7 @@ use Rattle.bump_steps.proofs.Applications.{may_clear_active}
 use Rattle.bump_steps.proofs.words.Words.clear_active.Goals as goal
 
 pub fetch_and-requires : goal.fetch_and-requires
-fetch_and-requires c = let t = c.args.self.now.table.shared in (
+fetch_and-requires g c = let t = c.args.self.now.table.shared in (
   c.requires.seat.0,
   c.head_by.ensures.near,
   rw c.head_by.ensures.is
@@ -12,4 +12,4 @@ fetch_and-requires c = let t = c.args.self.now.table.shared in (
 )
 
 pub returns-clause-told : goal.returns-clause-told
-returns-clause-told c = c.fetch_and.ensures.2 c.args.chunk c.head_by.ensures.is
+returns-clause-told g c = c.fetch_and.ensures.2 c.args.chunk c.head_by.ensures.is

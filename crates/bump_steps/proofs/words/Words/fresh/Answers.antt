@@ -7,7 +7,7 @@ use Rattle.bump_steps.proofs.Starts.{starts}
 use Rattle.bump_steps.proofs.words.Words.fresh.Goals as goal
 
 pub new-requires : goal.new-requires
-new-requires c = let key = c.args.config.now in let b = bounds key.workers key.capacity key.refs_limit
+new-requires g c = let key = c.args.config.now in let b = bounds key.workers key.capacity key.refs_limit
     key.first_generation key.classes key.valid in
     let many : length c.resize.new.self.items ≡ c.args.further =
     omega (arith, c.in_ok-resize.ensures.len, c.resize.new.self.ok.0) in
@@ -18,7 +18,7 @@ new-requires c = let key = c.args.config.now in let b = bounds key.workers key.c
     (omega (arith, b.generation_least), c.fresh_words.ensures.fits)
 
 pub invariant_of-result : goal.invariant_of-result
-invariant_of-result c = let ok = c.in-Ok.ensures.ok in let t = c.in-Ok.table.shared.table_id in
+invariant_of-result g c = let ok = c.in-Ok.ensures.ok in let t = c.in-Ok.table.shared.table_id in
     let fresh : AreFresh c.args.further c.chunks.result (c.args.config.now.first_generation - 1) c.in_ok-words.words.items =
     c.in_ok-words.ensures.words in
     let few : t.slots ≡ c.args.further = ok.1 ∙ omega (arith, c.in_ok-resize.ensures.len, c.resize.new.self.ok.0) in
@@ -31,7 +31,7 @@ invariant_of-result c = let ok = c.in-Ok.ensures.ok in let t = c.in-Ok.table.sha
     }
 
 pub returns-in-Ok-clause-chunks : goal.returns-in-Ok-clause-chunks
-returns-in-Ok-clause-chunks c = let ok = c.in-Ok.ensures.ok in
+returns-in-Ok-clause-chunks g c = let ok = c.in-Ok.ensures.ok in
     let fresh : AreFresh c.args.further c.chunks.result (c.args.config.now.first_generation - 1) c.in_ok-words.words.items =
     c.in_ok-words.ensures.words in
     omega (

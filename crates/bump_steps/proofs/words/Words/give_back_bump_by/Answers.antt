@@ -12,7 +12,7 @@ fetch_sub-requires g c = let t = c.args.self.now.table.shared in let m = c.args.
   c.requires.seat.0,
   c.head_by.ensures.near,
   rw c.head_by.ensures.is
-      (subst (λ (z : ItemId). Allows (Kept t.key) t.table_id.slots c.args.seat.now.id m (head_place t.table_id.slots c.args.life.chunk)
+      (subst (λ (z : ItemId). Allows (Kept g.L.RowLaw.law t.key) t.table_id.slots c.args.seat.now.id m (head_place t.table_id.slots c.args.life.chunk)
       (λ n. (n + (2 ^ 64 - 1)) % 2 ^ 64) (release_tells z m)) (sym c.requires.attempt)
       (may_release_bump t.key t.table_id.slots c.args.seat.now.id m c.args.life
       (omega (arith, c.args.self.now.sized, c.requires.seat.1)) c.requires.in_hand)),

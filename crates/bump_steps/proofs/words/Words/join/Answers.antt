@@ -2,7 +2,7 @@ use Rattle.bump_steps.proofs.Moves.{both_join}
 use Rattle.bump_steps.proofs.words.Words.join.Goals as goal
 
 pub join_seat-requires : goal.join_seat-requires
-join_seat-requires c = (
+join_seat-requires g c = (
   c.requires.0,
   c.requires.1,
   c.requires.2,

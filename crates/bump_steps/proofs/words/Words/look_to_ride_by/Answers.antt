@@ -13,7 +13,7 @@ load-requires g c = let t = c.args.self.now.table.shared in let m = c.args.seat.
       c.requires.seat.0,
       c.head_by.ensures.near,
       rw c.head_by.ensures.is
-          (subst (λ (z : ℕ × ℕ × ItemId). Allows (Kept t.key) t.table_id.slots c.args.seat.now.id m
+          (subst (λ (z : ℕ × ℕ × ItemId). Allows (Kept g.L.RowLaw.law t.key) t.table_id.slots c.args.seat.now.id m
           (head_place t.table_id.slots c.args.life.chunk)
           (λ n. n) (load_to_ride_tells z.0 z.1 z.2 m)) (λ i. (sym is.0 i, sym is.1 i, sym is.2 i))
           (may_load_to_ride t.key t.table_id.slots c.args.seat.now.id m c.args.life c.args.limit 0

@@ -3,7 +3,7 @@ use Rattle.bump_steps.proofs.Marking.{may_fetch}
 use Rattle.bump_steps.proofs.words.Words.mark_fetched.Goals as goal
 
 pub fetch_or-requires : goal.fetch_or-requires
-fetch_or-requires c = let t = c.args.self.now.table.shared in (
+fetch_or-requires g c = let t = c.args.self.now.table.shared in (
   c.requires.seat.0,
   c.head_by.ensures.near,
   rw c.head_by.ensures.is
@@ -12,4 +12,4 @@ fetch_or-requires c = let t = c.args.self.now.table.shared in (
 )
 
 pub returns-clause-told : goal.returns-clause-told
-returns-clause-told c = c.fetch_or.ensures.2 c.args.chunk c.head_by.ensures.is
+returns-clause-told g c = c.fetch_or.ensures.2 c.args.chunk c.head_by.ensures.is

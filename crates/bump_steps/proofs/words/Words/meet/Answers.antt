@@ -3,7 +3,7 @@ use Rattle.bump_steps.proofs.Meetings.{may_load_to_meet}
 use Rattle.bump_steps.proofs.words.Words.meet.Goals as goal
 
 pub load-requires : goal.load-requires
-load-requires c = let t = c.args.self.now.table.shared in (
+load-requires g c = let t = c.args.self.now.table.shared in (
   c.requires.seat.0,
   c.label_at.ensures.near,
   rw c.label_at.ensures.is
@@ -12,4 +12,4 @@ load-requires c = let t = c.args.self.now.table.shared in (
 )
 
 pub returns-clause-told : goal.returns-clause-told
-returns-clause-told c = c.load.ensures.2 c.args.chunk c.label_at.ensures.is
+returns-clause-told g c = c.load.ensures.2 c.args.chunk c.label_at.ensures.is

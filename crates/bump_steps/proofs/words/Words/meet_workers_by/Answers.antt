@@ -10,7 +10,7 @@ pub load-spare-requires : goal.load-spare-requires
 load-spare-requires g c = let t = c.args.self.now.table.shared in (
   c.requires.seat,
   c.requires.some,
-  subst (λ (workers : ℕ). Allows (Kept t.key) t.table_id.slots c.args.seat.now.id c.args.seat.now.me 0 (λ x. x)
+  subst (λ (workers : ℕ). Allows (Kept g.L.RowLaw.law t.key) t.table_id.slots c.args.seat.now.id c.args.seat.now.me 0 (λ x. x)
       (load_to_meet_workers_tells workers (step t.table_id.slots 0 0 0 none) c.args.seat.now.me)) (sym c.requires.workers)
       (may_load_to_meet_workers t.key t.table_id.slots c.args.seat.now.id c.args.seat.now.me),
 )

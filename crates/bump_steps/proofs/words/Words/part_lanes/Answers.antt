@@ -2,7 +2,7 @@ use Rattle.bump_steps.proofs.Moves.{lanes_split}
 use Rattle.bump_steps.proofs.words.Words.part_lanes.Goals as goal
 
 pub split_seat-requires : goal.split_seat-requires
-split_seat-requires c = (
+split_seat-requires g c = (
   c.requires.0,
   c.requires.1,
   lanes_split c.args.self.now.table.shared.key c.args.seat.now.id

@@ -3,7 +3,7 @@ use Rattle.bump_steps.proofs.Applications.{may_put_time}
 use Rattle.bump_steps.proofs.words.Words.put_time.Goals as goal
 
 pub store-requires : goal.store-requires
-store-requires c = let t = c.args.self.now.table.shared in (
+store-requires g c = let t = c.args.self.now.table.shared in (
   c.requires.seat.0,
   c.time_by.ensures.near,
   rw c.time_by.ensures.is
@@ -12,4 +12,4 @@ store-requires c = let t = c.args.self.now.table.shared in (
 )
 
 pub returns-clause-told : goal.returns-clause-told
-returns-clause-told c = c.store.ensures.2 c.args.chunk c.time_by.ensures.is
+returns-clause-told g c = c.store.ensures.2 c.args.chunk c.time_by.ensures.is

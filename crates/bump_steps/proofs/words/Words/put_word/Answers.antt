@@ -3,7 +3,7 @@ use Rattle.bump_steps.proofs.Labelling.{may_put_word}
 use Rattle.bump_steps.proofs.words.Words.put_word.Goals as goal
 
 pub store-requires : goal.store-requires
-store-requires c = let t = c.args.self.now.table.shared in (
+store-requires g c = let t = c.args.self.now.table.shared in (
   c.requires.seat.0,
   c.word_by.ensures.near,
   rw c.word_by.ensures.is
@@ -13,4 +13,4 @@ store-requires c = let t = c.args.self.now.table.shared in (
 )
 
 pub returns-clause-told : goal.returns-clause-told
-returns-clause-told c = c.store.ensures.2 c.args.chunk c.args.index c.requires.index c.word_by.ensures.is
+returns-clause-told g c = c.store.ensures.2 c.args.chunk c.args.index c.requires.index c.word_by.ensures.is

@@ -3,7 +3,7 @@ use Rattle.bump_steps.proofs.RideTries.{ride_starts, ride_head, still_on, ride_g
 use Rattle.bump_steps.proofs.words.Words.ride.Goals as goal
 
 pub loop-failed-init : goal.loop-failed-init
-loop-failed-init c = record {
+loop-failed-init g c = record {
   same = c.look_to_ride-word.ensures.same;
   tries = ride_starts c.args.limit.now c.args.life c.args.seat.now.me c.look_to_ride-word.new.seat.me
       c.look_to_ride-word.result
@@ -11,22 +11,22 @@ loop-failed-init c = record {
 }
 
 pub head_of-head-requires : goal.head_of-head-requires
-head_of-head-requires c = let t = c.loop-failed.invariant.tries in
+head_of-head-requires g c = let t = c.loop-failed.invariant.tries in
     ride_head c.args.limit.now c.args.life c.args.seat.now.me c.loop-failed.seat.me c.loop-failed.word
     c.loop-failed.failed t.0 t.1 t.2
 
 pub try_to_ride-found-requires-clause-trying : goal.try_to_ride-found-requires-clause-trying
-try_to_ride-found-requires-clause-trying c = let t = c.loop-failed.invariant.tries in
+try_to_ride-found-requires-clause-trying g c = let t = c.loop-failed.invariant.tries in
     still_on c.args.limit.now c.args.life c.args.seat.now.me c.loop-failed.seat.me c.loop-failed.word
     c.loop-failed.failed t.0 t.1 t.2
     (omega (arith, c.loop-failed-test.true)) c.head_of-head.result c.head_of-head.ensures c.if-head-limit.false
     c.requires.trying
 
 pub try_to_ride-found-requires-clause-room : goal.try_to_ride-found-requires-clause-room
-try_to_ride-found-requires-clause-room c = (c.head_of-head.result, c.head_of-head.ensures, c.if-head-limit.false)
+try_to_ride-found-requires-clause-room g c = (c.head_of-head.result, c.head_of-head.ensures, c.if-head-limit.false)
 
 pub returns-then-head-limit-clause-told : goal.returns-then-head-limit-clause-told
-returns-then-head-limit-clause-told c = let t = c.loop-failed.invariant.tries in
+returns-then-head-limit-clause-told g c = let t = c.loop-failed.invariant.tries in
     let k = ride_refuses c.args.limit.now c.args.life c.args.seat.now.me c.loop-failed.seat.me c.loop-failed.word
     c.loop-failed.failed
     t.0 t.1 t.2 (omega (arith, c.loop-failed-test.true)) c.head_of-head.result c.head_of-head.ensures
@@ -34,7 +34,7 @@ returns-then-head-limit-clause-told c = let t = c.loop-failed.invariant.tries in
     (t.0, t.1, k.found, k.view, k.answer)
 
 pub returns-then-found-word-clause-told : goal.returns-then-found-word-clause-told
-returns-then-found-word-clause-told c = let t = c.loop-failed.invariant.tries in
+returns-then-found-word-clause-told g c = let t = c.loop-failed.invariant.tries in
     let k = reserves_it c.args.limit.now c.args.life c.args.seat.now.me c.loop-failed.seat.me c.loop-failed.word
     c.loop-failed.failed
     t.0 t.1 t.2 (omega (arith, c.loop-failed-test.true)) c.head_of-head.result c.head_of-head.ensures
@@ -44,7 +44,7 @@ returns-then-found-word-clause-told c = let t = c.loop-failed.invariant.tries in
     (t.0, t.1, k.found, k.view, k.answer)
 
 pub loop-failed-preserved : goal.loop-failed-preserved
-loop-failed-preserved c = let t = c.loop-failed.invariant.tries in
+loop-failed-preserved g c = let t = c.loop-failed.invariant.tries in
     let k = ride_goes_on c.args.limit.now c.args.life c.args.seat.now.me c.loop-failed.seat.me c.loop-failed.word
     c.loop-failed.failed
     t.0 t.1 t.2 (omega (arith, c.loop-failed-test.true)) c.head_of-head.result c.head_of-head.ensures
@@ -59,7 +59,7 @@ loop-failed-preserved c = let t = c.loop-failed.invariant.tries in
     }
 
 pub returns-clause-told : goal.returns-clause-told
-returns-clause-told c = let t = c.loop-failed.invariant.tries in
+returns-clause-told g c = let t = c.loop-failed.invariant.tries in
     let k = ride_gives_up c.args.limit.now c.args.life c.args.seat.now.me c.loop-failed.seat.me c.loop-failed.word
     c.loop-failed.failed
     t.0 t.1 t.2 (omega arith) in

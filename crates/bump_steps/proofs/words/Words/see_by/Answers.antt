@@ -12,7 +12,7 @@ pub load_new_seat-requires : goal.load_new_seat-requires
 load_new_seat-requires g c = let t = c.args.self.now.table.shared in (
   c.head_at.ensures.near,
   rw c.head_at.ensures.is
-      (subst (λ (limit : ℕ). Enters (Kept t.key) t.table_id.slots (head_place t.table_id.slots c.args.chunk)
+      (subst (λ (limit : ℕ). Enters (Kept g.L.RowLaw.law t.key) t.table_id.slots (head_place t.table_id.slots c.args.chunk)
       (λ n w. on_chunk (load_without_seat_tells limit) (step t.table_id.slots (head_place t.table_id.slots c.args.chunk) 0 0 none)
       (opened t.key, []) n (w, []))) (sym c.requires.limit)
       (may_load_without_seat t.key t.table_id.slots c.args.chunk (opened t.key)

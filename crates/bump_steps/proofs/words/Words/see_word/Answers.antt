@@ -3,7 +3,7 @@ use Rattle.bump_steps.proofs.Sights.{may_see_word}
 use Rattle.bump_steps.proofs.words.Words.see_word.Goals as goal
 
 pub load-requires : goal.load-requires
-load-requires c = let t = c.args.self.now.table.shared in (
+load-requires g c = let t = c.args.self.now.table.shared in (
   c.requires.seat.0,
   c.word_at.ensures.near,
   rw c.word_at.ensures.is
@@ -13,4 +13,4 @@ load-requires c = let t = c.args.self.now.table.shared in (
 )
 
 pub returns-clause-told : goal.returns-clause-told
-returns-clause-told c = c.load.ensures.2 c.args.chunk c.args.index c.requires.index c.word_at.ensures.is
+returns-clause-told g c = c.load.ensures.2 c.args.chunk c.args.index c.requires.index c.word_at.ensures.is

@@ -5,7 +5,7 @@ use Rattle.bump_steps.proofs.Tries.{TryingToTake}
 use Rattle.bump_steps.proofs.words.Words.take.Given as goal
 
 abbrev pub invariant-loop-failed : goal.invariant-loop-failed
-invariant-loop-failed l = record {
+invariant-loop-failed g l = record {
   same : (l.seat.table_id ≡ l.fn.seat.table_id) × (l.seat.id ≡ l.fn.seat.id);
   tries : (first : Head) × (more : List Head) × TryingToTake l.limit (of_life l.life) l.life.chunk l.fn.seat.me l.seat.me
       l.word l.failed first more;

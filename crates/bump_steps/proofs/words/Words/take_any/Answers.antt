@@ -6,18 +6,18 @@ use Rattle.bump_steps.proofs.Tries.{still_working, take_head, take_starts, take_
 use Rattle.bump_steps.proofs.words.Words.take_any.Goals as goal
 
 pub head_of-head-requires : goal.head_of-head-requires
-head_of-head-requires c = let t = c.loop-lost.invariant.tries in
-    take_head c.args.limit.now c.args.self.now.table.shared.table_id.slots of_any c.args.chunk c.args.seat.now.me c.loop-lost.seat.me
+head_of-head-requires g c = let t = c.loop-lost.invariant.tries in
+    take_head g.L.RowLaw.law c.args.limit.now c.args.self.now.table.shared.table_id.slots of_any c.args.chunk c.args.seat.now.me c.loop-lost.seat.me
     c.loop-lost.expected c.loop-lost.lost t.0 t.1 t.2
 
 pub try_take-found-requires-clause-worker : goal.try_take-found-requires-clause-worker
-try_take-found-requires-clause-worker c = let t = c.loop-lost.invariant.tries in
-    still_working c.args.limit.now c.args.self.now.table.shared.table_id.slots of_any c.args.chunk c.args.seat.now.me c.loop-lost.seat.me
+try_take-found-requires-clause-worker g c = let t = c.loop-lost.invariant.tries in
+    still_working g.L.RowLaw.law c.args.limit.now c.args.self.now.table.shared.table_id.slots of_any c.args.chunk c.args.seat.now.me c.loop-lost.seat.me
     c.loop-lost.expected c.loop-lost.lost t.0 t.1 t.2
     c.requires.worker
 
 pub try_take-found-requires-clause-word : goal.try_take-found-requires-clause-word
-try_take-found-requires-clause-word c =
+try_take-found-requires-clause-word g c =
     let h = c.head_of-head.result in (
       h,
       c.head_of-head.ensures,
@@ -27,11 +27,11 @@ try_take-found-requires-clause-word c =
     )
 
 pub returns-in-Some-clause-told : goal.returns-in-Some-clause-told
-returns-in-Some-clause-told c = let t = c.loop-lost.invariant.tries in
+returns-in-Some-clause-told g c = let t = c.loop-lost.invariant.tries in
     let h = c.head_of-head.result in
     let q = any_refused (refused_by (get_of c.args.limit.now h.generation h)) c.in-Some.refused
     (sym c.any_refusal.ensures ∙ c.in-Some.is) in
-    let k = take_refuses c.args.limit.now c.args.self.now.table.shared.table_id.slots of_any c.args.chunk c.args.seat.now.me c.loop-lost.seat.me
+    let k = take_refuses g.L.RowLaw.law c.args.limit.now c.args.self.now.table.shared.table_id.slots of_any c.args.chunk c.args.seat.now.me c.loop-lost.seat.me
     c.loop-lost.expected c.loop-lost.lost t.0 t.1 t.2
     (omega (arith, c.loop-lost-test.true)) h c.head_of-head.ensures q.0 q.1 in (
       t.0,
@@ -41,12 +41,13 @@ returns-in-Some-clause-told c = let t = c.loop-lost.invariant.tries in
       k.found,
       k.view,
       ap Err q.2 ∙ ap (λ (o : Option TakeRefusal). any_answer o (last_found t.0 t.1)) k.answer,
+      λ none. k.obeys (k.answer ∙ none),
     )
 
 pub returns-then-found-expected-clause-told : goal.returns-then-found-expected-clause-told
-returns-then-found-expected-clause-told c = let t = c.loop-lost.invariant.tries in
+returns-then-found-expected-clause-told g c = let t = c.loop-lost.invariant.tries in
     let h = c.head_of-head.result in
-    let k = takes_it c.args.limit.now c.args.self.now.table.shared.table_id.slots of_any c.args.chunk c.args.seat.now.me c.loop-lost.seat.me
+    let k = takes_it g.L.RowLaw.law c.args.limit.now c.args.self.now.table.shared.table_id.slots of_any c.args.chunk c.args.seat.now.me c.loop-lost.seat.me
     c.loop-lost.expected c.loop-lost.lost t.0 t.1 t.2
     (omega (arith, c.loop-lost-test.true)) h c.head_of-head.ensures
     (any_taken (refused_by (get_of c.args.limit.now h.generation h)) (sym c.any_refusal.ensures ∙ c.in_default.is))
@@ -58,12 +59,13 @@ returns-then-found-expected-clause-told c = let t = c.loop-lost.invariant.tries 
       k.found,
       k.view,
       ap Ok t.2.last ∙ ap (λ (o : Option TakeRefusal). any_answer o (last_found t.0 t.1)) k.answer,
+      λ none. k.obeys (k.answer ∙ none),
     )
 
 pub loop-lost-preserved : goal.loop-lost-preserved
-loop-lost-preserved c = let t = c.loop-lost.invariant.tries in
+loop-lost-preserved g c = let t = c.loop-lost.invariant.tries in
     let h = c.head_of-head.result in
-    let k = take_goes_on c.args.limit.now c.args.self.now.table.shared.table_id.slots of_any c.args.chunk c.args.seat.now.me c.loop-lost.seat.me
+    let k = take_goes_on g.L.RowLaw.law c.args.limit.now c.args.self.now.table.shared.table_id.slots of_any c.args.chunk c.args.seat.now.me c.loop-lost.seat.me
     c.loop-lost.expected c.loop-lost.lost t.0 t.1 t.2
     (omega (arith, c.loop-lost-test.true)) h c.head_of-head.ensures
     (any_taken (refused_by (get_of c.args.limit.now h.generation h)) (sym c.any_refusal.ensures ∙ c.in_default.is))
@@ -76,8 +78,8 @@ loop-lost-preserved c = let t = c.loop-lost.invariant.tries in
     }
 
 pub returns-clause-told : goal.returns-clause-told
-returns-clause-told c = let t = c.loop-lost.invariant.tries in
-    let k = take_gives_up c.args.limit.now c.args.self.now.table.shared.table_id.slots of_any c.args.chunk c.args.seat.now.me c.loop-lost.seat.me
+returns-clause-told g c = let t = c.loop-lost.invariant.tries in
+    let k = take_gives_up g.L.RowLaw.law c.args.limit.now c.args.self.now.table.shared.table_id.slots of_any c.args.chunk c.args.seat.now.me c.loop-lost.seat.me
     c.loop-lost.expected c.loop-lost.lost t.0 t.1 t.2
     (omega arith) in (
       t.0,
@@ -87,12 +89,13 @@ returns-clause-told c = let t = c.loop-lost.invariant.tries in
       k.found,
       k.view,
       ap (λ (o : Option TakeRefusal). any_answer o (last_found t.0 t.1)) k.answer,
+      λ none. k.obeys (k.answer ∙ none),
     )
 
 pub loop-lost-init : goal.loop-lost-init
-loop-lost-init c = record {
+loop-lost-init g c = record {
   same = c.look_to_take-expected.ensures.same;
-  tries = take_starts c.args.limit.now c.args.self.now.table.shared.table_id.slots of_any c.args.chunk
+  tries = take_starts g.L.RowLaw.law c.args.limit.now c.args.self.now.table.shared.table_id.slots of_any c.args.chunk
       c.args.seat.now.me c.look_to_take-expected.new.seat.me
       c.look_to_take-expected.result 0
       c.look_to_take-expected.ensures.told;

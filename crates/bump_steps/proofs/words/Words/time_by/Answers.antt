@@ -3,7 +3,7 @@ use Rattle.bump_steps.proofs.Places.{row_near}
 use Rattle.bump_steps.proofs.words.Words.time_by.Goals as goal
 
 pub overflow_add-result : goal.overflow_add-result
-overflow_add-result c = let t = c.args.self.now.table.shared.table_id in
+overflow_add-result g c = let t = c.args.self.now.table.shared.table_id in
     omega (
       arith,
       c.requires.place,
@@ -12,8 +12,8 @@ overflow_add-result c = let t = c.args.self.now.table.shared.table_id in
     )
 
 pub returns-clause-is : goal.returns-clause-is
-returns-clause-is c = omega (arith, c.requires.place)
+returns-clause-is g c = omega (arith, c.requires.place)
 
 pub returns-clause-near : goal.returns-clause-near
-returns-clause-near c = let t = c.args.self.now.table.shared.table_id in
+returns-clause-near g c = let t = c.args.self.now.table.shared.table_id in
     omega (arith, c.requires.place, row_near t c.args.chunk 1 c.requires.chunk (omega arith))

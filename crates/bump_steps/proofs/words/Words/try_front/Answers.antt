@@ -3,7 +3,7 @@ use Rattle.bump_steps.proofs.Applications.{may_try}
 use Rattle.bump_steps.proofs.words.Words.try_front.Goals as goal
 
 pub load-requires : goal.load-requires
-load-requires c = let t = c.args.self.now.table.shared in (
+load-requires g c = let t = c.args.self.now.table.shared in (
   c.requires.seat.0,
   c.head_by.ensures.near,
   rw c.head_by.ensures.is
@@ -12,4 +12,4 @@ load-requires c = let t = c.args.self.now.table.shared in (
 )
 
 pub returns-clause-told : goal.returns-clause-told
-returns-clause-told c = c.load.ensures.2 c.args.chunk c.head_by.ensures.is
+returns-clause-told g c = c.load.ensures.2 c.args.chunk c.head_by.ensures.is

@@ -3,7 +3,7 @@ use Rattle.bump_steps.proofs.Referring.{may_take}
 use Rattle.bump_steps.proofs.words.Words.try_take.Goals as goal
 
 pub compare_exchange-requires : goal.compare_exchange-requires
-compare_exchange-requires c = let t = c.args.self.now.table.shared in let may = c.requires.word in (
+compare_exchange-requires g c = let t = c.args.self.now.table.shared in let may = c.requires.word in (
   c.requires.seat.0,
   c.head_by.ensures.near,
   rw c.head_by.ensures.is
@@ -13,4 +13,4 @@ compare_exchange-requires c = let t = c.args.self.now.table.shared in let may = 
 )
 
 pub returns-clause-told : goal.returns-clause-told
-returns-clause-told c = c.compare_exchange.ensures.2 c.args.life.chunk c.head_by.ensures.is
+returns-clause-told g c = c.compare_exchange.ensures.2 c.args.life.chunk c.head_by.ensures.is

@@ -14,7 +14,7 @@ compare_exchange-requires g c = let t = c.args.self.now.table.shared in let m = 
       c.requires.seat.0,
       c.head_by.ensures.near,
       rw c.head_by.ensures.is
-          (subst (λ (z : ℕ × ℕ × ItemId). Allows (Kept t.key) t.table_id.slots c.args.seat.now.id m
+          (subst (λ (z : ℕ × ℕ × ItemId). Allows (Kept g.L.RowLaw.law t.key) t.table_id.slots c.args.seat.now.id m
           (head_place t.table_id.slots c.args.life.chunk)
           (λ n. either (n == c.args.seen) (c.args.seen + 1) n) (try_to_ride_tells z.0 z.1 z.2 c.args.seen m))
           (λ i. (sym is.0 i, sym is.1 i, sym is.2 i))

@@ -3,7 +3,7 @@ use Rattle.bump_steps.proofs.Places.{row_sum, row_near}
 use Rattle.bump_steps.proofs.words.Words.word_at.Goals as goal
 
 pub overflow_mul-result : goal.overflow_mul-result
-overflow_mul-result c = let t = c.args.self.now.table.shared.table_id in
+overflow_mul-result g c = let t = c.args.self.now.table.shared.table_id in
     omega (
       arith,
       row_sum t c.args.chunk c.args.self.now.row c.args.self.now.row_is,
@@ -12,7 +12,7 @@ overflow_mul-result c = let t = c.args.self.now.table.shared.table_id in
     )
 
 pub overflow_add-result-2 : goal.overflow_add-result-2
-overflow_add-result-2 c = let t = c.args.self.now.table.shared.table_id in
+overflow_add-result-2 g c = let t = c.args.self.now.table.shared.table_id in
     omega (
       arith,
       row_sum t c.args.chunk c.args.self.now.row c.args.self.now.row_is,
@@ -21,7 +21,7 @@ overflow_add-result-2 c = let t = c.args.self.now.table.shared.table_id in
     )
 
 pub overflow_add-result-3 : goal.overflow_add-result-3
-overflow_add-result-3 c = let t = c.args.self.now.table.shared.table_id in
+overflow_add-result-3 g c = let t = c.args.self.now.table.shared.table_id in
     omega (
       arith,
       row_sum t c.args.chunk c.args.self.now.row c.args.self.now.row_is,
@@ -30,11 +30,11 @@ overflow_add-result-3 c = let t = c.args.self.now.table.shared.table_id in
     )
 
 pub returns-clause-is : goal.returns-clause-is
-returns-clause-is c = let t = c.args.self.now.table.shared.table_id in
+returns-clause-is g c = let t = c.args.self.now.table.shared.table_id in
     omega (arith, row_sum t c.args.chunk c.args.self.now.row c.args.self.now.row_is)
 
 pub returns-clause-near : goal.returns-clause-near
-returns-clause-near c = let t = c.args.self.now.table.shared.table_id in
+returns-clause-near g c = let t = c.args.self.now.table.shared.table_id in
     omega (
       arith,
       row_sum t c.args.chunk c.args.self.now.row c.args.self.now.row_is,
