@@ -6,20 +6,21 @@ ghost use Rattle.bump_steps.specs.Words.{words_id, config_of};
 
 use crate::names::Name;
 use bump_rules::Config;
-use bump_steps::Words;
+use bump_steps::{AnyRow, RowLaw, Words};
 use bump_word::Limit;
 use std::marker::{Model, PhantomData};
 
-/// The words of all chunks of a store: head, time, label and further words. All threads share them, and seats alone change them.
+/// The words of all chunks of a store: head, time, label and further words. All threads share them, and seats alone
+/// change them. L is the law that the label and the further words of each linked chunk obey.
 #[derive(Drop)]
-pub struct ReaderHeads<N: Name> {
-    pub(crate) words: Words,
+pub struct ReaderHeads<N: Name, L: RowLaw = AnyRow> {
+    pub(crate) words: Words<L>,
     pub(crate) limit: Limit,
     chunks: u32,
     of: PhantomData<N>,
 }
 
-impl<N: Name> Model for ReaderHeads<N> {
+impl<N: Name, L: RowLaw> Model for ReaderHeads<N, L> {
     ghost Value = { TheConfig };
 
     ghost view = { λ h. config_of h.words };
@@ -28,9 +29,9 @@ impl<N: Name> Model for ReaderHeads<N> {
         × (h.limit ≡ (config_of h.words).refs_limit) × (h.chunks ≡ all_chunks (config_of h.words)) };
 }
 
-impl<N: Name> ReaderHeads<N> {
+impl<N: Name, L: RowLaw> ReaderHeads<N, L> {
     /// Words under the name that their table has, of a store with this configuration.
-    pub fn new(words: Words, config: &Config) -> ReaderHeads<N>
+    pub fn new(words: Words<L>, config: &Config) -> ReaderHeads<N, L>
         requires name { words_id words ≡ N.table }
         requires config { config_of words ≡ config.now }
         requires some { 0 < N.table.words }
@@ -45,7 +46,7 @@ impl<N: Name> ReaderHeads<N> {
     }
 
     /// The words without their name, on which the seats of classes and lanes make their steps.
-    pub fn words(&self) -> &Words
+    pub fn words(&self) -> &Words<L>
         ensures name { words_id result.now ≡ N.table }
         ensures config { config_of result.now ≡ self.now }
         ensures some { 0 < N.table.words }

@@ -13,10 +13,10 @@ use crate::names::Name;
 use crate::riders::Rider;
 use crate::workers::WorkerSeat;
 use bump_rules::{Head, ItemId};
-use bump_steps::{RideRefusal, head_of};
+use bump_steps::{RideRefusal, RowLaw, head_of};
 use std::marker::PhantomData;
 
-impl<N: Name> ReaderHeads<N> {
+impl<N: Name, L: RowLaw> ReaderHeads<N, L> {
     /// Takes the reference of a bump, and sends it off as a rider, as memcached's `lru_bump_async`, which counts the
     /// item's reference up before it queues the bump. The worker tries to bump the life, and has a whole hold of it
     /// joined to its seat. The rider's number is that of its bumps that were accepted before, below

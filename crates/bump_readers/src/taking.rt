@@ -6,14 +6,14 @@ ghost use Rattle.bump_word.specs.Words.{Fits, word_of};
 ghost use Rattle.bump_readers.specs.Seats.{spent_me, row_in};
 ghost use Rattle.bump_steps.specs.Rule.{chunks as all_chunks};
 ghost use Rattle.bump_readers.specs.Taking.{Took, TookAny, IsTakenBy, whole_hold};
-ghost use Rattle.bump_steps.specs.References.{IsRow, hold_after_look, seen_me};
+ghost use Rattle.bump_steps.specs.References.{IsRow, words_in, hold_after_look, seen_me};
 
 use crate::heads::ReaderHeads;
 use crate::holds::Hold;
 use crate::names::Name;
 use crate::workers::WorkerSeat;
 use bump_rules::{Head, ItemId};
-use bump_steps::{AnyRefusal, Seat, TakeRefusal, head_of};
+use bump_steps::{AnyRefusal, RowLaw, Seat, TakeRefusal, head_of};
 use std::marker::PhantomData;
 
 impl<N: Name> Hold<N> {
@@ -34,7 +34,7 @@ impl<N: Name> Hold<N> {
     }
 }
 
-impl<N: Name> ReaderHeads<N> {
+impl<N: Name, L: RowLaw> ReaderHeads<N, L> {
     /// Takes a reference to the life, as memcached's `refcount_incr` in `do_item_get`. The worker's seat has no hold
     /// joined, and the chunk is one of the store's.
     ///
@@ -48,7 +48,7 @@ impl<N: Name> ReaderHeads<N> {
     /// that is new to the worker is the list of its steps, of which none changed a word.
     ///
     /// The hold has the life's words, its label and its further ones, which were stored before it began: each read of one
-    /// tells the same.
+    /// tells the same, and the law of the table holds of them.
     #[inline(always)]
     pub fn take(&self, worker: &mut WorkerSeat<N>, life: ItemId) -> Result<Hold<N>, TakeRefusal>
         requires alone { worker.old.hold ≡ None }
@@ -58,6 +58,7 @@ impl<N: Name> ReaderHeads<N> {
         ensures alone { worker.new.hold ≡ None }
         ensures hold { IfOk result (λ h. h ≡ whole_hold life (row_in h.part)) }
         ensures row { IfOk result (λ h. IsRow N.table.slots (row_in h.part)) }
+        ensures law { IfOk result (λ h. L.law (words_in (row_in h.part))) }
     {
         let place = self.words.head_at(life.chunk);
         if let Some(refusal) = self.words.take(&mut worker.seat, life, place, &self.limit) {
@@ -99,6 +100,7 @@ impl<N: Name> ReaderHeads<N> {
         ensures found { IfOk result (λ told. IsTakenBy self.now.refs_limit told.0.life told.1) }
         ensures hold { IfOk result (λ told. told.0 ≡ whole_hold told.0.life (row_in told.0.part)) }
         ensures row { IfOk result (λ told. IsRow N.table.slots (row_in told.0.part)) }
+        ensures law { IfOk result (λ told. L.law (words_in (row_in told.0.part))) }
     {
         let at = self.words.head_at(chunk);
         let word = match self

@@ -18,9 +18,9 @@ use crate::holds::Hold;
 use crate::names::Name;
 use crate::workers::WorkerSeat;
 use bump_rules::{Head, ItemId};
-use bump_steps::head_of;
+use bump_steps::{RowLaw, head_of};
 
-impl<N: Name> ReaderHeads<N> {
+impl<N: Name, L: RowLaw> ReaderHeads<N, L> {
     /// Joins the hold to the worker's seat, for a touch: the worker must be Idle and have no other hold. From then on
     /// the worker makes the steps of the touch, and the hold is hollow until `hold_out`.
     pub fn hold_in(&self, worker: &mut WorkerSeat<N>, hold: &mut Hold<N>)

@@ -8,7 +8,7 @@ ghost use Rattle.bump_readers.specs.Workers.{worker_seen, AreNewWorkers};
 
 use crate::heads::ReaderHeads;
 use crate::names::Name;
-use bump_steps::Seat;
+use bump_steps::{RowLaw, Seat};
 use std::alloc::{AllocError, Global};
 use std::marker::{Model, PhantomData};
 
@@ -49,7 +49,7 @@ impl<N: Name> WorkerSeat<N> {
     }
 }
 
-impl<N: Name> ReaderHeads<N> {
+impl<N: Name, L: RowLaw> ReaderHeads<N, L> {
     /// Cuts the parts of all workers off a seat of the store's table, which has so many new ones: a seat for each, by
     /// number. Nothing else of the seat changes. It is refused only for want of memory, and parts that were cut off
     /// by then are gone.
