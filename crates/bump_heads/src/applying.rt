@@ -19,14 +19,14 @@ use crate::seats::{ClassSeat, LaneSeat};
 use atomic_table::Badge;
 use bump_readers::Name;
 use bump_rules::{Bump, Head, Outcome, Segment};
-use bump_steps::head_of;
+use bump_steps::{RowLaw, head_of};
 
-impl<N: Name> ClassSeat<N> {
+impl<N: Name, L: RowLaw> ClassSeat<N, L> {
     /// Joins the lane's seat, and looks at the head of the item of the bump that it carries, which is this one, and
     /// whose chunk is the class's: the first step of memcached's `lru_bump_async` drain for a bump. No other lane may
     /// be joined. The lane is hollow from then on, until `alight`. Answers the head that was found.
     #[inline(always)]
-    pub fn try_front(&mut self, lane: &mut LaneSeat<N>, bump: Bump, place: usize) -> Head
+    pub fn try_front(&mut self, lane: &mut LaneSeat<N, L>, bump: Bump, place: usize) -> Head
         requires alone { self.old.lane ≡ None }
         requires carries { carried_by lane.old ≡ Some bump }
         requires own { owns (life_aboard lane.old).chunk self.old.part ≡ true }
@@ -121,7 +121,7 @@ impl<N: Name> ClassSeat<N> {
     #[inline(always)]
     pub fn alight(
         &mut self,
-        lane: &mut LaneSeat<N>,
+        lane: &mut LaneSeat<N, L>,
         bump: Bump,
         place: usize,
         outcome: Outcome,

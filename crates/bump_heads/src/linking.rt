@@ -7,7 +7,7 @@ ghost use Rattle.bump_rules.specs.Lawful.{bit, Shows};
 ghost use Rattle.bump_rules.specs.Lives.{life};
 ghost use Rattle.bump_word.specs.Words.{Fits, word_of};
 ghost use Rattle.bump_steps.specs.Places.{head_place};
-ghost use Rattle.bump_steps.specs.Views.{owns, last_label, last_word, of_word};
+ghost use Rattle.bump_steps.specs.Views.{owns, last_label, last_word, last_words, of_word};
 ghost use Rattle.bump_steps.specs.Lives.{class_after_load, class_after_see_time, class_after_put_label, class_after_put_word};
 ghost use Rattle.bump_steps.specs.Lives.{class_after_sweep_or_load, class_after_unlink, IsInSegment};
 ghost use Rattle.bump_heads.specs.Linking.{place_of_chunk, generation_of_chunk, class_after_open_life};
@@ -15,9 +15,9 @@ ghost use Rattle.bump_heads.specs.Linking.{place_of_chunk, generation_of_chunk, 
 use crate::seats::ClassSeat;
 use bump_readers::Name;
 use bump_rules::{Head, ItemId, Start};
-use bump_steps::head_of;
+use bump_steps::{RowLaw, head_of};
 
-impl<N: Name> ClassSeat<N> {
+impl<N: Name, L: RowLaw> ClassSeat<N, L> {
     /// Looks at the head of a chunk of the class, by one load. It agrees with the list in which the class has the
     /// chunk: in HOT, WARM, COLD and TEMP it is linked and has this segment, elsewhere it is not linked; and it has the
     /// chunk's generation.
@@ -72,13 +72,14 @@ impl<N: Name> ClassSeat<N> {
 
     /// Begins the next life of a chunk, in HOT or in TEMP, by one store of its head: linked, with the one reference of
     /// the link, and without marks (memcached's `do_item_link`). The chunk must be in UNUSED, so it has a generation to
-    /// come. Its label is the last one that was stored for the chunk. Answers the life. A load before the store finds
+    /// come. Its label and its further words are the last that were stored for the chunk, of which the table's law holds. Answers the life. A load before the store finds
     /// the generation, which is noted as a step.
     pub fn open_life_in(&mut self, chunk: u32, place: usize, start: Start) -> ItemId
         requires alone { self.old.lane ≡ None }
         requires own { owns chunk self.old.part ≡ true }
         requires place { place ≡ head_place N.table.slots chunk }
         requires unused { place_of_chunk self.old.part chunk ≡ Unused }
+        requires law { L.law (last_words self.old.part chunk) }
         ensures next { result ≡ life chunk (generation_of_chunk self.old.part chunk + 1) }
         ensures opened { self.new ≡ record self.old { part = class_after_open_life start result self.old.part } }
         ensures label { label_of_life result 0 self.new.part.labels ≡ Some (last_label self.old.part chunk) }
@@ -98,6 +99,7 @@ impl<N: Name> ClassSeat<N> {
         requires own { owns chunk self.old.part ≡ true }
         requires place { place ≡ head_place N.table.slots chunk }
         requires unused { place_of_chunk self.old.part chunk ≡ Unused }
+        requires law { L.law (last_words self.old.part chunk) }
         ensures next { result ≡ life chunk (generation_of_chunk self.old.part chunk + 1) }
         ensures opened { self.new ≡ record self.old { part = class_after_open_life start.Hot result self.old.part } }
         ensures label { label_of_life result 0 self.new.part.labels ≡ Some (last_label self.old.part chunk) }

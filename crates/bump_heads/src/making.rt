@@ -12,19 +12,19 @@ use crate::heads::Heads;
 use crate::seats::{ClassSeat, LaneSeat};
 use bump_readers::{Name, ReaderHeads, WorkerSeat};
 use bump_rules::Config;
-use bump_steps::{Seat, Words};
+use bump_steps::{AnyRow, RowLaw, Seat, Words};
 use std::alloc::{AllocError, Global};
 use std::marker::{Model, PhantomData};
 use std::sync::Arc;
 
 /// The words of a store that has no name yet, and the one seat that has every part. Its chunks had no life.
 #[derive(Drop)]
-pub struct Blank {
-    words: Words,
+pub struct Blank<L: RowLaw = AnyRow> {
+    words: Words<L>,
     seat: Seat,
 }
 
-impl Model for Blank {
+impl<L: RowLaw> Model for Blank<L> {
     ghost Value = { TheBlankView };
 
     ghost view = { λ b. record { config = config_of b.words; table = words_id b.words } };
@@ -35,24 +35,31 @@ impl Model for Blank {
 
 /// What a store's heads are made of: the heads, and a seat for each class, worker and lane, by number.
 #[derive(Drop)]
-pub struct HeadParts<N: Name> {
-    pub heads: Arc<Heads<N>, Global>,
-    pub classes: Vec<ClassSeat<N>>,
+pub struct HeadParts<N: Name, L: RowLaw = AnyRow> {
+    pub heads: Arc<Heads<N, L>, Global>,
+    pub classes: Vec<ClassSeat<N, L>>,
     pub workers: Vec<WorkerSeat<N>>,
-    pub lanes: Vec<LaneSeat<N>>,
+    pub lanes: Vec<LaneSeat<N, L>>,
 }
 
 impl Blank {
-    /// A table whose chunks had no life yet.
+    /// A table whose chunks had no life yet, whose rows may have any label, and no further words.
     pub fn new(alloc: Global, config: &Config) -> Result<Blank, AllocError>
         ensures config { IfOk result (λ b. b.config ≡ config.now) }
         ensures further { IfOk result (λ b. b.table.slots ≡ 0) }
     {
         Blank::with_words(alloc, config, 0)
     }
+}
 
-    /// The same, and each chunk has so many further words beside its label.
-    pub fn with_words(alloc: Global, config: &Config, further: u32) -> Result<Blank, AllocError>
+impl<L: RowLaw> Blank<L> {
+    /// The same, where each chunk has so many further words beside its label, and L is the law of them that each chunk in
+    /// use obeys.
+    pub fn with_words(
+        alloc: Global,
+        config: &Config,
+        further: u32,
+    ) -> Result<Blank<L>, AllocError>
         ensures config { IfOk result (λ b. b.config ≡ config.now) }
         ensures further { IfOk result (λ b. b.table.slots ≡ further) }
     {
@@ -61,12 +68,12 @@ impl Blank {
     }
 }
 
-fn part_classes<N: Name>(
+fn part_classes<N: Name, L: RowLaw>(
     alloc: Global,
-    heads: &Arc<Heads<N>, Global>,
+    heads: &Arc<Heads<N, L>, Global>,
     seat: &mut Seat,
     count: u32,
-) -> Result<Vec<ClassSeat<N>>, AllocError>
+) -> Result<Vec<ClassSeat<N, L>>, AllocError>
     requires seat { (seat.old.table_id ≡ N.table) × (seat.old.me.1 ≡ []) }
     requires parts { (length seat.old.me.0.classes ≡ count) × AreNewClasses (rows N.table) 0 seat.old.me.0.classes }
     ensures rest { IfOk result (λ v. (seat.new.table_id ≡ N.table)
@@ -86,12 +93,12 @@ fn part_classes<N: Name>(
     Ok(seats)
 }
 
-fn part_lanes<N: Name>(
+fn part_lanes<N: Name, L: RowLaw>(
     alloc: Global,
-    heads: &Arc<Heads<N>, Global>,
+    heads: &Arc<Heads<N, L>, Global>,
     seat: &mut Seat,
     count: u32,
-) -> Result<Vec<LaneSeat<N>>, AllocError>
+) -> Result<Vec<LaneSeat<N, L>>, AllocError>
     requires seat { (seat.old.table_id ≡ N.table) × (seat.old.me.1 ≡ []) }
     requires parts { (length seat.old.me.0.lanes ≡ count) × AreNewLanes 0 seat.old.me.0.lanes }
     requires few { count ≤ most_workers }
@@ -112,9 +119,13 @@ fn part_lanes<N: Name>(
     Ok(seats)
 }
 
-impl<N: Name> Heads<N> {
+impl<N: Name, L: RowLaw> Heads<N, L> {
     /// The heads of the blank, under the name that its table has, and the seats of its classes, workers and lanes.
-    pub fn new(alloc: Global, blank: Blank, config: &Config) -> Result<HeadParts<N>, AllocError>
+    pub fn new(
+        alloc: Global,
+        blank: Blank<L>,
+        config: &Config,
+    ) -> Result<HeadParts<N, L>, AllocError>
         requires name { blank.table ≡ N.table }
         requires config { blank.config ≡ config.now }
         ensures heads { IfOk result (λ p. arc_value p.heads ≡ config.now) }

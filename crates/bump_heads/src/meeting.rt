@@ -8,11 +8,12 @@ ghost use Rattle.bump_heads.specs.Applying.{NamesNoBumpTwice, TellsMoves, NamesW
 ghost use Rattle.bump_rules.specs.Totals.{total};
 ghost use Rattle.bump_steps.specs.Meetings.{class_after_meet};
 
+use bump_steps::RowLaw;
 use crate::seats::{ClassSeat, LaneSeat};
 use atomic_table::Badge;
 use bump_readers::{Hold, Name, ReaderHeads};
 
-impl<N: Name> ClassSeat<N> {
+impl<N: Name, L: RowLaw> ClassSeat<N, L> {
     /// Shows a hold and its class each other: joins the hold's part to the class's seat, loads the label word, and
     /// splits the hold off again. The hold must be whole, and its chunk of this class. Answers the label: it is the
     /// one that the class stored for the hold's life before that life began, and the first word of the hold's row. So is
@@ -42,7 +43,7 @@ impl<N: Name> ClassSeat<N> {
     /// notes, and splits the lane off again. The lane must be whole, and no other one joined. From then on it is known
     /// that the class's history names no bump twice, and that the moves that it has for bumps of the lane's worker are
     /// those that the lane tells of items of the class. Nothing else changes.
-    pub fn meet_lane(&mut self, lane: &mut LaneSeat<N>)
+    pub fn meet_lane(&mut self, lane: &mut LaneSeat<N, L>)
         requires alone { self.old.lane ≡ None }
         requires whole { IsSome lane.old }
         ensures class { self.new ≡ record self.old { part = class_after_meet self.old.part } }
@@ -60,7 +61,7 @@ impl<N: Name> ClassSeat<N> {
     /// Shows a class and the workers of its store each other, by one load, which the class notes. No lane is joined. From
     /// then on it is known that the class's history names no bump twice, and that each move for a bump that it has is of
     /// one of these workers. Nothing else changes.
-    pub fn meet_workers(&mut self, heads: &ReaderHeads<N>)
+    pub fn meet_workers(&mut self, heads: &ReaderHeads<N, L>)
         requires alone { self.old.lane ≡ None }
         ensures class { self.new ≡ record self.old { part = class_after_meet self.old.part } }
         ensures once { NamesNoBumpTwice self.old.part }

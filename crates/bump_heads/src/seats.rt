@@ -13,21 +13,21 @@ ghost use Rattle.bump_heads.specs.Seats.{aboard_lane, most_workers, IsInRange, I
 use crate::heads::Heads;
 use atomic_table::Badge;
 use bump_readers::Name;
-use bump_steps::{Seat, View};
+use bump_steps::{AnyRow, RowLaw, Seat, View};
 use std::alloc::Global;
 use std::marker::{Model, PhantomData};
 use std::sync::Arc;
 
 /// A class's seat: its part, and that of the lane that is joined to it for an application.
 #[derive(Drop)]
-pub struct ClassSeat<N: Name> {
+pub struct ClassSeat<N: Name, L: RowLaw = AnyRow> {
     pub(crate) seat: Seat,
     pub(crate) class: u32,
-    pub(crate) heads: Arc<Heads<N>, Global>,
+    pub(crate) heads: Arc<Heads<N, L>, Global>,
     pub(crate) of: PhantomData<N>,
 }
 
-impl<N: Name> Model for ClassSeat<N> {
+impl<N: Name, L: RowLaw> Model for ClassSeat<N, L> {
     ghost Value = { TheClassView };
 
     ghost view = { λ s. class_in s.seat.me.0 };
@@ -38,7 +38,7 @@ impl<N: Name> Model for ClassSeat<N> {
         × KeepsJoined (class_in s.seat.me.0).part (class_in s.seat.me.0).lane };
 }
 
-impl<N: Name> ClassSeat<N> {
+impl<N: Name, L: RowLaw> ClassSeat<N, L> {
     /// What every class's seat keeps: each move in its class's history is one that the tail table or the update table
     /// has.
     pub fn promise(&self)
@@ -68,14 +68,14 @@ impl<N: Name> ClassSeat<N> {
 /// A lane's seat: its part, or none while it is hollow, joined to a class's seat. While it is whole no application is
 /// in progress: a bump aboard is one at which nobody looked yet.
 #[derive(Drop)]
-pub struct LaneSeat<N: Name> {
+pub struct LaneSeat<N: Name, L: RowLaw = AnyRow> {
     pub(crate) badge: Badge<View>,
     pub(crate) worker: u32,
-    pub(crate) heads: Arc<Heads<N>, Global>,
+    pub(crate) heads: Arc<Heads<N, L>, Global>,
     pub(crate) of: PhantomData<N>,
 }
 
-impl<N: Name> Model for LaneSeat<N> {
+impl<N: Name, L: RowLaw> Model for LaneSeat<N, L> {
     ghost Value = { TheOption TheLanePart };
 
     ghost view = { λ l. lane_in_views l.badge.views };
@@ -86,7 +86,7 @@ impl<N: Name> Model for LaneSeat<N> {
         × IsOfWorker l.worker (lane_in_views l.badge.views) × (l.worker < most_workers) };
 }
 
-impl<N: Name> LaneSeat<N> {
+impl<N: Name, L: RowLaw> LaneSeat<N, L> {
     /// What every lane's seat keeps: no bump is half applied.
     pub fn promise(&self)
         ensures at_rest { is_half_made (stage_of self.now) ≡ false }

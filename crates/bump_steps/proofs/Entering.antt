@@ -50,7 +50,7 @@ use Rattle.bump_steps.specs.Views.{Measure, held, named, saw, owners, strays, mi
 use Rattle.bump_steps.specs.Rule.{Law, Sound, chunks, Kept}
 use Rattle.bump_steps.specs.Places.{head_place}
 use Rattle.bump_steps.specs.Plays.{Sat, on_chunk, step_of, Stands}
-use Rattle.bump_steps.specs.Lives.{Obeys, alone, class_after_load, class_after_link, class_after_sweep, IsInSegment, IsLinked, IsDying, MayLink, on_class, start_in, link_tells, unlink_tells, sweep_or_load_tells}
+use Rattle.bump_steps.specs.Lives.{alone, class_after_load, class_after_link, class_after_sweep, IsInSegment, IsLinked, IsDying, MayLink, on_class, start_in, link_tells, unlink_tells, sweep_or_load_tells}
 use Rattle.bump_steps.specs.Lives as lives
 use Rattle.bump_steps.proofs.Frame.{Same, Amid, Reaches, same_sound}
 use Rattle.bump_steps.proofs.LabelLists.{word_linked, labels_begun}
@@ -365,13 +365,13 @@ module _ (key : Config) (slots id c : ℕ) (near : c < chunks key) (sl : List (�
 -- ---- For the contracts.
 
 -- a life may begin by the store of its head
-pub may_link : {law : Law} (key : Config) (slots id c g : ℕ) (m : Sat) → c < chunks key → (a : Start) → MayLink c g m.0
-    → Obeys law c m.0 → (new : ℕ) → new ≡ word_of (linked_head a g) → Allows (Kept law key) slots id m (head_place slots c) (λ _. new)
+pub may_link : {law : Law} (key : Config) (slots id c g : ℕ) (m : Sat) → c < chunks key → (a : Start) → MayLink law c g m.0
+    → (new : ℕ) → new ≡ word_of (linked_head a g) → Allows (Kept law key) slots id m (head_place slots c) (λ _. new)
     (λ _. on_chunk link_tells (step slots (head_place slots c) new 0 none) m new)
-may_link {law = law} key slots id c g m near a may obeys new is = let k : ClassPart = may.0 in let o = may.1 in
+may_link {law = law} key slots id c g m near a may new is = let k : ClassPart = may.0 in let o = may.1 in
     subst (λ (v : View). Allows (Kept law key) slots id (v, m.1) (head_place slots c) (λ _. new)
     (λ _. on_chunk link_tells (step slots (head_place slots c) new 0 none) (v, m.1) new)) (sym o.view)
-    (links key slots id c near m.1 k o.own a new o.at (is ∙ ap (λ (j : ℕ). word_of (linked_head a j)) may.2) (obeys k o.view))
+    (links key slots id c near m.1 k o.own a new o.at (is ∙ ap (λ (j : ℕ). word_of (linked_head a j)) may.2) may.3)
 
 -- and what that tells
 pub link_told : (c g : ℕ) (a : Start) (m w : Sat) (new : ℕ) → g < 2 ^ generation_width

@@ -18,7 +18,7 @@ use Rattle.bump_steps.specs.declared.views.WordStep.TheVariants.{Put, Begun}
 use Rattle.bump_steps.specs.declared.views.Kind.TheVariants as kind
 use Rattle.bump_steps.specs.declared.views.ClassPart.{ClassPart}
 use Rattle.bump_steps.specs.declared.views.View.{View}
-use Rattle.bump_steps.specs.Views.{owns, standing, last_word}
+use Rattle.bump_steps.specs.Views.{owns, standing, last_words}
 use Rattle.bump_steps.specs.Rule.{Law, blank}
 use Rattle.bump_steps.specs.Plays.{Tells, Found, Told, on_first, step_of}
 
@@ -113,14 +113,10 @@ IsDying chunk view = (k : ClassPart) × StandsAt (λ p. p ≡ Dying) chunk view 
 abbrev pub IsLinked : ℕ → View → Type 0
 IsLinked chunk view = (k : ClassPart) × StandsAt IsInSegment chunk view k
 
--- and this is the next generation of the chunk
-abbrev pub MayLink : ℕ → ℕ → View → Type 0
-MayLink chunk generation view = (k : ClassPart) × StandsAt (λ p. p ≡ Unused) chunk view k
-    × (generation ≡ (standing k chunk).1 + 1)
-
--- and the words that the class stored last for the chunk are a row of which the law holds
-abbrev pub Obeys : Law → ℕ → View → Type 0
-Obeys law chunk view = (class : ClassPart) → view ≡ alone class → law (λ index. last_word index class chunk)
+-- and this is the next generation of the chunk, for which the class stored words last of which the law holds
+abbrev pub MayLink : Law → ℕ → ℕ → View → Type 0
+MayLink law chunk generation view = (k : ClassPart) × StandsAt (λ p. p ≡ Unused) chunk view k
+    × (generation ≡ (standing k chunk).1 + 1) × law (last_words k chunk)
 
 -- a step on the class's part
 abbrev pub on_class : (ClassPart → ClassPart) → View → View

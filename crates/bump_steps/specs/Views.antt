@@ -63,6 +63,10 @@ labels_of (suc j) labels words = of_word j words
 abbrev pub last_word : ℕ → ClassPart → ℕ → ℕ
 last_word i class chunk = label_word chunk 0 (labels_of i class.labels class.words)
 
+-- all of them by number: the label, and then the further words
+abbrev pub last_words : ClassPart → ℕ → ℕ → ℕ
+last_words class chunk index = last_word index class chunk
+
 -- the first of a list, if it has one
 abbrev pub first : {A : Type 0} → List A → Option A
 first [] = None

@@ -9,7 +9,7 @@ ghost use Rattle.bump_steps.specs.Lives.{generation_load_tells, load_tells, time
 ghost use Rattle.bump_steps.specs.Lives.{put_word_tells, class_after_put_word};
 ghost use Rattle.bump_steps.specs.Lives.{link_tells, unlink_tells, sweep_or_load_tells, class_after_see_time};
 ghost use Rattle.bump_steps.specs.Lives.{class_after_put_label, class_after_link, on_class, IsUnused, IsDying};
-ghost use Rattle.bump_steps.specs.Lives.{IsLinked, MayLink, Obeys};
+ghost use Rattle.bump_steps.specs.Lives.{IsLinked, MayLink};
 
 use crate::laws::RowLaw;
 use crate::views::{Empty, View};
@@ -144,8 +144,7 @@ impl<L: RowLaw> Words<L> {
     )
         requires seat { (seat.old.table_id ≡ words_id self.now) × HasChunk (words_id self.now) chunk }
         requires place { place ≡ head_place (words_id self.now).slots chunk }
-        requires may { MayLink chunk generation seat.old.me.0 }
-        requires law { Obeys L.law chunk seat.old.me.0 }
+        requires may { MayLink L.law chunk generation seat.old.me.0 }
         ensures same { (seat.new.table_id ≡ seat.old.table_id) × (seat.new.id ≡ seat.old.id) }
         ensures told { seat.new.me ≡ (
           on_class (class_after_link start chunk generation

@@ -42,6 +42,7 @@ open_life-requires-clause-may g c =
         at = c.requires.unused;
       },
       omega (arith, gen),
+      c.requires.law,
     )
 
 pub invariant_of-self : goal.invariant_of-self

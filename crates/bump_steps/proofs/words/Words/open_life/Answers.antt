@@ -10,7 +10,7 @@ store-requires g c = let t = c.args.self.now.table.shared in (
   rw c.head_by.ensures.is
       (may_link t.key t.table_id.slots c.args.seat.now.id
       c.args.chunk c.args.generation c.args.seat.now.me (omega (arith, c.args.self.now.sized, c.requires.seat.1))
-      c.args.start c.requires.may c.requires.law c.pack-word.result (c.pack-word.ensures ∙ ap word_of c.after_link.ensures)),
+      c.args.start c.requires.may c.pack-word.result (c.pack-word.ensures ∙ ap word_of c.after_link.ensures)),
 )
 
 pub returns-clause-told : goal.returns-clause-told
