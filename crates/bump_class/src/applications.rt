@@ -8,6 +8,7 @@ ghost use Rattle.bump_heads.specs.Applying.{carried_by, NamesNoBumpTwice};
 ghost use Rattle.bump_class.specs.Applications.{FoundHeads as TheFoundHeads, Updates, AppliesFront, EachMoveIsTold};
 ghost use Rattle.bump_class.specs.Lanes.{carries, entries, part_or};
 
+use bump_steps::RowLaw;
 use crate::books::Book;
 use crate::carriers::Carrier;
 use crate::lanes::RawLane;
@@ -16,9 +17,9 @@ use bump_rules::{Applied, Bump, Outcome, Place, Segment};
 
 // Applies the bump aboard the lane on its item's words: one look; then, where the item is linked, its time is stored;
 // in COLD, ACTIVE is cleared, and where it was set the segment is changed; last the bump's reference is given back.
-fn update<N: Name>(
-    class: &mut ClassSeat<N>,
-    lane: &mut LaneSeat<N>,
+fn update<N: Name, L: RowLaw>(
+    class: &mut ClassSeat<N, L>,
+    lane: &mut LaneSeat<N, L>,
     bump: Bump,
     now: u64,
 ) -> Outcome
@@ -62,7 +63,7 @@ fn count_move(moved: &mut [u64; 64], worker: u32)
     moved[worker as usize] += 1;
 }
 
-impl<N: Name> Book<N> {
+impl<N: Name, L: RowLaw> Book<N, L> {
     /// Applies the bump aboard the lane, whose chunk is of this class, and gives its reference back (memcached's
     /// `do_item_update` and `do_item_remove`, in `lru_maintainer_bumps`). `now` is the item's new time, in the
     /// caller's ticks. By the head that one look finds, and in COLD by the one that the clearing of ACTIVE finds, it
@@ -71,7 +72,7 @@ impl<N: Name> Book<N> {
     /// 2. Moved, where it is linked in COLD and ACTIVE was set: its time is stored, and it goes to the front of WARM.
     /// 3. TimeOnly, where it is linked, and not that: its time is stored, and it stays where it is.
     #[inline(always)]
-    pub fn apply_front(&mut self, lane: &mut RawLane<N>, now: u64) -> Applied
+    pub fn apply_front(&mut self, lane: &mut RawLane<N, L>, now: u64) -> Applied
         requires carries { IsSome (carries lane.old) }
         requires own { IfSome (carries lane.old) (λ bump. owns bump.life.chunk self.old.part ≡ true) }
         ensures applied { AppliesFront now self.old lane.old result self.new lane.new }
@@ -97,7 +98,7 @@ impl<N: Name> Book<N> {
 
     // The same for the bump aboard a carrier, which is this one.
     #[inline(always)]
-    pub(crate) fn apply_bump(&mut self, lane: &mut Carrier<N>, bump: Bump, now: u64) -> Applied
+    pub(crate) fn apply_bump(&mut self, lane: &mut Carrier<N, L>, bump: Bump, now: u64) -> Applied
         requires carries { carries lane.old ≡ Some bump }
         requires own { owns bump.life.chunk self.old.part ≡ true }
         ensures applied { AppliesFront now self.old lane.old result self.new lane.new }

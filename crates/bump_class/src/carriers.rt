@@ -11,18 +11,19 @@ ghost use Rattle.bump_class.specs.Lanes.{new_lane, Boards};
 use bump_heads::{ClassSeat, LaneSeat, Name};
 use bump_ring::{ClosedSender, Receiver};
 use bump_rules::Bump;
+use bump_steps::{AnyRow, RowLaw};
 use std::marker::Model;
 
 // The receiving end of a worker's ring, and the seat that applies what comes.
 #[derive(Drop)]
-pub struct Carrier<N: Name> {
+pub struct Carrier<N: Name, L: RowLaw = AnyRow> {
     receiver: Receiver<N>,
-    pub(crate) seat: LaneSeat<N>,
+    pub(crate) seat: LaneSeat<N, L>,
     pub(crate) worker: u32,
     pub(crate) applied: u64,
 }
 
-impl<N: Name> Model for Carrier<N> {
+impl<N: Name, L: RowLaw> Model for Carrier<N, L> {
     ghost Value = { TheLaneView };
 
     ghost view = { λ l. record {
@@ -35,9 +36,9 @@ impl<N: Name> Model for Carrier<N> {
     ghost invariant = { λ l. KeepsLane l.seat l.worker l.applied l.receiver.received };
 }
 
-impl<N: Name> Carrier<N> {
+impl<N: Name, L: RowLaw> Carrier<N, L> {
     // Nothing was taken from the ring, and nothing boarded the seat.
-    pub fn new(receiver: Receiver<N>, seat: LaneSeat<N>) -> Carrier<N>
+    pub fn new(receiver: Receiver<N>, seat: LaneSeat<N, L>) -> Carrier<N, L>
         requires untaken { receiver.received ≡ [] }
         requires whole { IsSome seat }
         requires empty { stage_of seat ≡ IsEmpty }
@@ -94,7 +95,7 @@ impl<N: Name> Carrier<N> {
     }
 
     // Shows the class and the lane each other, by one load, which the class notes.
-    pub fn meet(&mut self, class: &mut ClassSeat<N>)
+    pub fn meet(&mut self, class: &mut ClassSeat<N, L>)
         requires alone { class.old.lane ≡ None }
         ensures class { class.new ≡ record class.old { part = class_after_meet class.old.part } }
         ensures lane { self.new ≡ self.old }

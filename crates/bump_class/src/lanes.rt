@@ -7,6 +7,7 @@ ghost use Rattle.bump_heads.specs.Applying.{stage_of};
 ghost use Rattle.bump_class.specs.Lanes.{LaneView as TheLaneView, carries, entries, part_or, IsRawLane, kept_aboard};
 ghost use Rattle.bump_class.specs.Lanes.{new_lane, Boards};
 
+use bump_steps::{AnyRow, RowLaw};
 use crate::carriers::Carrier;
 use bump_heads::{LaneSeat, Name};
 use bump_ring::{ClosedSender, Receiver};
@@ -16,15 +17,15 @@ use std::marker::Model;
 /// The lane of a worker's ring: it takes the ring's bumps in order, and each is applied by the Book of its chunk's
 /// class (memcached's `lru_maintainer_bumps`, of one worker's `lru_bump_buf`).
 #[derive(Drop)]
-pub struct RawLane<N: Name> {
-    pub(crate) carrier: Carrier<N>,
+pub struct RawLane<N: Name, L: RowLaw = AnyRow> {
+    pub(crate) carrier: Carrier<N, L>,
     // Whether it keeps a bump aboard between two calls, and the life of that bump, whose number is known by the
     // carrier's count. Who applies a run has its bump in his hand.
     pub(crate) is_aboard: bool,
     pub(crate) life: ItemId,
 }
 
-impl<N: Name> Model for RawLane<N> {
+impl<N: Name, L: RowLaw> Model for RawLane<N, L> {
     ghost Value = { TheLaneView };
 
     ghost view = { λ l. l.carrier };
@@ -32,10 +33,10 @@ impl<N: Name> Model for RawLane<N> {
     ghost invariant = { λ l. carries l.carrier ≡ kept_aboard l.is_aboard (length (entries l.carrier)) l.life };
 }
 
-impl<N: Name> RawLane<N> {
+impl<N: Name, L: RowLaw> RawLane<N, L> {
     /// A lane, by the receiving end of a ring and the seat of a worker's lane. Nothing was taken from the ring, and
     /// nothing boarded the seat.
-    pub fn new(receiver: Receiver<N>, seat: LaneSeat<N>) -> RawLane<N>
+    pub fn new(receiver: Receiver<N>, seat: LaneSeat<N, L>) -> RawLane<N, L>
         requires untaken { receiver.received ≡ [] }
         requires whole { IsSome seat }
         requires empty { stage_of seat ≡ IsEmpty }

@@ -9,6 +9,7 @@ ghost use Rattle.bump_class.specs.Lanes.{LaneView as TheLaneView, carries, entri
 ghost use Rattle.bump_class.specs.Runs.{AppliesRun, FreesRun, MayHaveBoarded, IsRunOver, freed_alone, with_freed};
 ghost use Rattle.bump_class.specs.Sweeps.{told_first};
 
+use bump_steps::RowLaw;
 use crate::books::Book;
 use crate::carriers::Carrier;
 use crate::lanes::RawLane;
@@ -49,14 +50,14 @@ fn is_full(freed: &[u32], count: u32) -> bool
     !freed.is_empty() && count as usize == freed.len()
 }
 
-impl<N: Name> Book<N> {
+impl<N: Name, L: RowLaw> Book<N, L> {
     /// Applies the bump aboard the lane, whose chunk is of this class, and the next ones as long as they are of this
     /// class too, at most `limit`: each as `apply_front` does, in the order in which the lane received them. `now` is
     /// the new time of their items, in the caller's ticks. It answers how many.
     ///
     /// They are fewer than `limit` only where then no bump is aboard or known, or the bump aboard is of another class.
     /// At `limit` nothing is aboard.
-    pub fn apply_run(&mut self, lane: &mut RawLane<N>, now: u64, limit: u32) -> u32
+    pub fn apply_run(&mut self, lane: &mut RawLane<N, L>, now: u64, limit: u32) -> u32
         requires carries { IsSome (carries lane.old) }
         requires own { IfSome (carries lane.old) (λ bump. owns bump.life.chunk self.old.part ≡ true) }
         requires some { 1 ≤ limit }
@@ -95,7 +96,7 @@ impl<N: Name> Book<N> {
     /// stays.
     pub fn apply_run_into(
         &mut self,
-        lane: &mut RawLane<N>,
+        lane: &mut RawLane<N, L>,
         now: u64,
         limit: u32,
         freed: &mut [u32],
@@ -141,7 +142,7 @@ impl<N: Name> Book<N> {
     #[inline(always)]
     fn run(
         &mut self,
-        lane: &mut Carrier<N>,
+        lane: &mut Carrier<N, L>,
         first: Bump,
         now: u64,
         limit: u32,
