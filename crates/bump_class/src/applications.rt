@@ -8,12 +8,12 @@ ghost use Rattle.bump_heads.specs.Applying.{carried_by, NamesNoBumpTwice};
 ghost use Rattle.bump_class.specs.Applications.{FoundHeads as TheFoundHeads, Updates, AppliesFront, EachMoveIsTold};
 ghost use Rattle.bump_class.specs.Lanes.{carries, entries, part_or};
 
-use bump_steps::RowLaw;
 use crate::books::Book;
 use crate::carriers::Carrier;
 use crate::lanes::RawLane;
 use bump_heads::{ClassSeat, LaneSeat, Name};
 use bump_rules::{Applied, Bump, Outcome, Place, Segment};
+use bump_steps::RowLaw;
 
 // Applies the bump aboard the lane on its item's words: one look; then, where the item is linked, its time is stored;
 // in COLD, ACTIVE is cleared, and where it was set the segment is changed; last the bump's reference is given back.

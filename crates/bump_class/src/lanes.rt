@@ -7,11 +7,11 @@ ghost use Rattle.bump_heads.specs.Applying.{stage_of};
 ghost use Rattle.bump_class.specs.Lanes.{LaneView as TheLaneView, carries, entries, part_or, IsRawLane, kept_aboard};
 ghost use Rattle.bump_class.specs.Lanes.{new_lane, Boards};
 
-use bump_steps::{AnyRow, RowLaw};
 use crate::carriers::Carrier;
 use bump_heads::{LaneSeat, Name};
 use bump_ring::{ClosedSender, Receiver};
 use bump_rules::{Bump, ItemId};
+use bump_steps::{AnyRow, RowLaw};
 use std::marker::Model;
 
 /// The lane of a worker's ring: it takes the ring's bumps in order, and each is applied by the Book of its chunk's

@@ -12,10 +12,10 @@ ghost use Rattle.bump_class.specs.Ends.{is_in_segment};
 ghost use Rattle.bump_class.specs.Books.{IsBook};
 ghost use Rattle.bump_class.specs.Changes.{book_after_load, book_after_see_label, book_after_see_word};
 
-use bump_steps::RowLaw;
 use crate::books::Book;
 use bump_heads::Name;
 use bump_rules::{Head, Place};
+use bump_steps::RowLaw;
 
 impl<N: Name, L: RowLaw> Book<N, L> {
     /// The first chunk of a list, or None where it has none. It is of the class, and its history leaves it there.

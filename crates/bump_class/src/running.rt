@@ -9,13 +9,13 @@ ghost use Rattle.bump_class.specs.Lanes.{LaneView as TheLaneView, carries, entri
 ghost use Rattle.bump_class.specs.Runs.{AppliesRun, FreesRun, MayHaveBoarded, IsRunOver, freed_alone, with_freed};
 ghost use Rattle.bump_class.specs.Sweeps.{told_first};
 
-use bump_steps::RowLaw;
 use crate::books::Book;
 use crate::carriers::Carrier;
 use crate::lanes::RawLane;
 use crate::sweeping::tell;
 use bump_heads::Name;
 use bump_rules::{Applied, Bump, Ended};
+use bump_steps::RowLaw;
 
 /// What a run of applications came to that tells which chunks came free.
 #[derive(Clone, Copy, Debug, PartialEq, Eq)]

@@ -4,10 +4,10 @@ ghost use Rattle.bump_rules.specs.declared.lanes.Lane.TheVariants.{Empty as IsEm
 ghost use Rattle.bump_steps.specs.Riders.{lane_after_board, bump_of_ride, applied_by};
 ghost use Rattle.bump_heads.specs.Applying.{stage_of};
 
-use bump_steps::RowLaw;
 use crate::seats::LaneSeat;
 use atomic_table::Badge;
 use bump_readers::{Name, Rider};
+use bump_steps::RowLaw;
 
 impl<N: Name, L: RowLaw> LaneSeat<N, L> {
     /// The bump goes aboard the lane, which is whole and has nothing aboard. Its number is that of the bumps that the

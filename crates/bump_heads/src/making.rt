@@ -55,11 +55,7 @@ impl Blank {
 impl<L: RowLaw> Blank<L> {
     /// The same, where each chunk has so many further words beside its label, and L is the law of them that each chunk in
     /// use obeys.
-    pub fn with_words(
-        alloc: Global,
-        config: &Config,
-        further: u32,
-    ) -> Result<Blank<L>, AllocError>
+    pub fn with_words(alloc: Global, config: &Config, further: u32) -> Result<Blank<L>, AllocError>
         ensures config { IfOk result (λ b. b.config ≡ config.now) }
         ensures further { IfOk result (λ b. b.table.slots ≡ further) }
     {

@@ -1,17 +1,18 @@
 //! A hold meets its class, and a class a lane, and the store's workers.
-ghost use Rattle.std.specs.Prelude.{◌≡◌, ℕ, suc, Some, None, IsSome, IfSome, true, slice_index};
+ghost use Rattle.std.specs.Prelude.{◌≡◌, ℕ, suc, Some, None, IsSome, IfSome, true};
 ghost use Rattle.bump_rules.specs.Labels.{label_of_life};
 ghost use Rattle.bump_rules.specs.Lawful.{IsUsed};
 ghost use Rattle.bump_steps.specs.Views.{owns, standing, last_label, last_word, of_word};
 ghost use Rattle.bump_readers.specs.Seats.{row_in};
+ghost use Rattle.bump_steps.specs.References.{label_of_row, word_of_row};
 ghost use Rattle.bump_heads.specs.Applying.{NamesNoBumpTwice, TellsMoves, NamesWorkersBelow};
 ghost use Rattle.bump_rules.specs.Totals.{total};
 ghost use Rattle.bump_steps.specs.Meetings.{class_after_meet};
 
-use bump_steps::RowLaw;
 use crate::seats::{ClassSeat, LaneSeat};
 use atomic_table::Badge;
 use bump_readers::{Hold, Name, ReaderHeads};
+use bump_steps::RowLaw;
 
 impl<N: Name, L: RowLaw> ClassSeat<N, L> {
     /// Shows a hold and its class each other: joins the hold's part to the class's seat, loads the label word, and
@@ -25,11 +26,11 @@ impl<N: Name, L: RowLaw> ClassSeat<N, L> {
         ensures hold { hold.new ≡ hold.old }
         ensures label { result ≡ last_label self.old.part hold.old.life.chunk }
         ensures stored { label_of_life hold.old.life 0 self.old.part.labels ≡ Some result }
-        ensures read { result ≡ slice_index (row_in hold.old.part) 0 }
+        ensures read { result ≡ label_of_row (row_in hold.old.part) }
         ensures words { (j : ℕ) → label_of_life hold.old.life 0 (of_word j self.old.part.words) ≡ Some
-            (slice_index (row_in hold.old.part) (suc j)) }
-        ensures last { (j : ℕ) → last_word (suc j) self.old.part hold.old.life.chunk ≡ slice_index
-            (row_in hold.old.part) (suc j) }
+            (word_of_row (row_in hold.old.part) j) }
+        ensures last { (j : ℕ) → last_word (suc j) self.old.part hold.old.life.chunk ≡ word_of_row
+            (row_in hold.old.part) j }
         ensures in_use { IsUsed (standing self.old.part hold.old.life.chunk).0
             × ((standing self.old.part hold.old.life.chunk).1 ≡ hold.old.life.generation) }
     {

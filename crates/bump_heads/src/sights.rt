@@ -7,9 +7,9 @@ ghost use Rattle.bump_steps.specs.Sights.{class_after_see_label, class_after_see
 ghost use Rattle.bump_steps.specs.Views.{owns, last_label, last_word, of_word};
 ghost use Rattle.bump_heads.specs.Linking.{place_of_chunk, generation_of_chunk};
 
-use bump_steps::RowLaw;
 use crate::seats::ClassSeat;
 use bump_readers::Name;
+use bump_steps::RowLaw;
 
 impl<N: Name, L: RowLaw> ClassSeat<N, L> {
     /// How many further words a chunk has, beside its label.

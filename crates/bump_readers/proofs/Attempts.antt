@@ -242,10 +242,10 @@ back_kept r p idle last is = record {
 -- a bump was dropped for want of room
 pub full_kept : (l : ItemId) (h : Head) (p : WorkerPart) → p.hand ≡ hand.InHand l → IsWorkerPart p
     → IsWorkerPart (worker_after_release l h p)
-full_kept l h p in_hand is = drop_kept dropped.Full l (noted kind.Release l.chunk (word_of h) p)
+full_kept l h p in_hand is = drop_kept dropped.Full l (noted kind.GiveBackBump l.chunk (word_of h) p)
     (ap attempts_of in_hand) (record {
       accounts = is.accounts;
-      attempts = omega (arith, is.attempts, attempts_push p.steps (step_of kind.Release l.chunk (word_of h) None));
+      attempts = omega (arith, is.attempts, attempts_push p.steps (step_of kind.GiveBackBump l.chunk (word_of h) None));
     })
 
 -- ---- seats

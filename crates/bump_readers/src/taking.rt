@@ -1,12 +1,12 @@
 //! References that readers have: taken, given back, and what a hold and a caller without a seat may read.
-ghost use Rattle.std.specs.Prelude.{◌≡◌, ◌<◌, ◌≤◌, suc, IfOk, IsSome, None, List, option_map, slice_index};
+ghost use Rattle.std.specs.Prelude.{◌≡◌, ◌<◌, ◌≤◌, IfOk, IsSome, None, List, option_map};
 ghost use Rattle.bump_rules.specs.declared.items.Head.{Head as TheHead};
 ghost use Rattle.bump_rules.specs.Lawful.{bit};
 ghost use Rattle.bump_word.specs.Words.{Fits, word_of};
 ghost use Rattle.bump_readers.specs.Seats.{spent_me, row_in};
 ghost use Rattle.bump_steps.specs.Rule.{chunks as all_chunks};
 ghost use Rattle.bump_readers.specs.Taking.{Took, TookAny, IsTakenBy, whole_hold};
-ghost use Rattle.bump_steps.specs.References.{IsRow, words_in, hold_after_look, seen_me};
+ghost use Rattle.bump_steps.specs.References.{IsRow, label_of_row, word_of_row, words_in, hold_after_look, seen_me};
 
 use crate::heads::ReaderHeads;
 use crate::holds::Hold;
@@ -162,7 +162,7 @@ impl<N: Name, L: RowLaw> ReaderHeads<N, L> {
     /// value of an item are. It is the first word of the hold's row. The hold is whole, and nothing changes.
     pub fn label_of(&self, hold: &mut Hold<N>) -> u64
         requires whole { IsSome hold.old.part }
-        ensures is { result ≡ slice_index (row_in hold.old.part) 0 }
+        ensures is { result ≡ label_of_row (row_in hold.old.part) }
         ensures same { hold.new ≡ hold.old }
     {
         let mut seat = hold.seat_out();
@@ -176,7 +176,7 @@ impl<N: Name, L: RowLaw> ReaderHeads<N, L> {
     pub fn word_of(&self, hold: &mut Hold<N>, index: u32) -> u64
         requires whole { IsSome hold.old.part }
         requires index { index < N.table.slots }
-        ensures is { result ≡ slice_index (row_in hold.old.part) (suc index) }
+        ensures is { result ≡ word_of_row (row_in hold.old.part) index }
         ensures same { hold.new ≡ hold.old }
     {
         let mut seat = hold.seat_out();

@@ -207,7 +207,7 @@ module _ (key : Config) (slots id : ℕ) (p : WorkerPart) (q : HoldPart) (l : It
       (λ n. (n + (2 ^ 64 - 1)) % 2 ^ 64) (release_tells l (seat_with (hand.InHand l)))
   releases = on_head key slots id (seat_with (hand.InHand l)) l.chunk (λ n. (n + (2 ^ 64 - 1)) % 2 ^ 64)
       (release_tells l (seat_with (hand.InHand l))) near (λ n y t limits o a.
-      let x : OwnStep = step_of kind.Release l.chunk (word_of o.head) None in
+      let x : OwnStep = step_of kind.GiveBackBump l.chunk (word_of o.head) None in
       let less : Accounts = record p.accounts { full = p.accounts.full + 1 } in
       let is : IsOfHeld key.refs_limit l o.head = held_here (hand.InHand l) n y t o a in
       let both : 2 ≤ t (held l.generation) = omega (arith, a.mine (held l.generation), one_life l) in

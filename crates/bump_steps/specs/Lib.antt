@@ -1,4 +1,5 @@
 pub mod Places
+pub mod Seats
 pub mod Views
 pub mod Rule
 pub mod Words

@@ -44,7 +44,14 @@ view_after_take chunk word row view = record view {
 abbrev pub IsRow : ℕ → List ℕ → Type 0
 IsRow slots row = length row ≡ slots + 1
 
--- the words of a row by number, and 0 behind the last
+-- its label, and its further words by number
+abbrev pub label_of_row : List ℕ → ℕ
+label_of_row row = slice_index row 0
+
+abbrev pub word_of_row : List ℕ → ℕ → ℕ
+word_of_row row index = slice_index row (suc index)
+
+-- all of them by number, and 0 behind the last
 abbrev pub words_in : List ℕ → ℕ → ℕ
 words_in row index = slice_index row index
 

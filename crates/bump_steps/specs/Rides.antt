@@ -59,7 +59,7 @@ worker_after_reserve item head worker = record (noted kind.Reserve item.chunk (w
 -- it gave the reference back, for want of room
 abbrev pub worker_after_release : ItemId → Head → WorkerPart → WorkerPart
 worker_after_release item head worker = judged (Some dropped.Full) item
-    (noted kind.Release item.chunk (word_of head) worker)
+    (noted kind.GiveBackBump item.chunk (word_of head) worker)
 
 -- ---- what the steps tell
 

@@ -34,7 +34,11 @@ fn fresh_words(alloc: Global, chunks: u32, first: u32, further: u32) -> Result<V
 impl<L: RowLaw> Words<L> {
     /// A table for the chunks of the configuration, of which none had a life yet, and the one seat that has every part.
     /// A chunk has so many further words beside its label.
-    pub fn fresh(alloc: Global, config: &Config, further: u32) -> Result<(Words<L>, Seat), AllocError>
+    pub fn fresh(
+        alloc: Global,
+        config: &Config,
+        further: u32,
+    ) -> Result<(Words<L>, Seat), AllocError>
         ensures config { IfOk result (λ p. config_of p.0 ≡ config.now) }
         ensures seat { IfOk result (λ p. (p.1.table_id ≡ words_id p.0) × (p.1.me ≡ (opened (config_of p.0), []))) }
         ensures chunks { IfOk result (λ p. 0 < (words_id p.0).words) }

@@ -27,7 +27,7 @@ pub enum Kind {
     Unmark,
 
     /// The reference of a bump that found no room was given back.
-    Release,
+    GiveBackBump,
 
     /// A reader stored the time.
     StoreTime,

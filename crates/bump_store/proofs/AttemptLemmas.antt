@@ -167,7 +167,7 @@ full_part l back first more given cleared p =
     let a = p.accounts in
     let one : a.accepted + 1 - 1 ≡ a.accepted = omega arith in
     let reserved = own_step kind.Reserve l (last_found first more) in
-    let released = own_step kind.Release l given in
+    let released = own_step kind.GiveBackBump l given in
     let unmarked = own_step kind.Unmark l cleared in
     let steps = full_steps p.steps (looks l.chunk first more) reserved released unmarked in
     λ i. over p (record a { accepted = one i; full = a.full + 1 }) (steps i)
@@ -186,7 +186,7 @@ module _ (limit : ℕ) (l : ItemId) (v rode_off came_back gave : WorkerView) (fi
   full_fetched has =
       let looked = looks l.chunk first more in
       let reserved = own_step kind.Reserve l (last_found first more) in
-      let released = own_step kind.Release l given in
+      let released = own_step kind.GiveBackBump l given in
       still_fetched l v.part gave.part (looked ++ reserved ∷ released ∷ [])
       (ap (λ (y : WorkerView). y.part.steps) given_worker ∙ given_steps v.part.steps looked reserved released) has
 

@@ -73,7 +73,7 @@ second_steps false item found = []
 abbrev pub drop_steps : Dropped → ItemId → Findings → List OwnStep
 drop_steps dropped.Full item found =
     own_step kind.Reserve item (decisive found)
-    ∷ own_step kind.Release item found.back
+    ∷ own_step kind.GiveBackBump item found.back
     ∷ own_step kind.Unmark item found.cleared
     ∷ []
 drop_steps dropped.Busy item found = own_step kind.Unmark item found.cleared ∷ []

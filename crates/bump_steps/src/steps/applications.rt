@@ -2,7 +2,8 @@
 ghost use Rattle.std.specs.Prelude.{ℕ, ◌≡◌};
 ghost use Rattle.bump_rules.specs.declared.bumps.Outcome.{Outcome as TheOutcome};
 ghost use Rattle.bump_rules.specs.declared.bumps.Outcome.TheVariants.{Gone};
-ghost use Rattle.bump_steps.specs.Places.{HasChunk, head_place};
+ghost use Rattle.bump_steps.specs.Places.{head_place};
+ghost use Rattle.bump_steps.specs.Seats.{IsSeated, StaysSeated};
 ghost use Rattle.bump_steps.specs.Words.{words_id};
 ghost use Rattle.bump_steps.specs.Plays.{on_chunk, on_time, OwnsChunk};
 ghost use Rattle.bump_steps.specs.Applications.{try_tells, clear_active_tells, put_time_tells, view_after_put_time};
@@ -78,10 +79,10 @@ impl<W: Alighting> Play<Empty, View> for Alight<W> {
 impl<L: RowLaw> Words<L> {
     /// The head of the bump's item is looked at.
     pub fn try_front(&self, seat: &mut Seat, chunk: u32, place: usize) -> u64
-        requires seat { (seat.old.table_id ≡ words_id self.now) × HasChunk (words_id self.now) chunk }
+        requires seat { IsSeated (words_id self.now) seat.old chunk }
         requires place { place ≡ head_place (words_id self.now).slots chunk }
         requires may { MayTry chunk seat.old.me.0 }
-        ensures same { (seat.new.table_id ≡ seat.old.table_id) × (seat.new.id ≡ seat.old.id) }
+        ensures same { StaysSeated seat.old seat.new }
         ensures told { try_tells chunk 0 seat.old.me result seat.new.me }
     {
         self.table
@@ -91,10 +92,10 @@ impl<L: RowLaw> Words<L> {
 
     /// ACTIVE is cleared, for a pull or for the bump aboard.
     pub fn clear_active(&self, seat: &mut Seat, chunk: u32, place: usize) -> u64
-        requires seat { (seat.old.table_id ≡ words_id self.now) × HasChunk (words_id self.now) chunk }
+        requires seat { IsSeated (words_id self.now) seat.old chunk }
         requires place { place ≡ head_place (words_id self.now).slots chunk }
         requires own { OwnsChunk chunk seat.old.me.0 }
-        ensures same { (seat.new.table_id ≡ seat.old.table_id) × (seat.new.id ≡ seat.old.id) }
+        ensures same { StaysSeated seat.old seat.new }
         ensures told { clear_active_tells chunk ALL_BUT_ACTIVE seat.old.me result seat.new.me }
     {
         self.table
@@ -104,10 +105,10 @@ impl<L: RowLaw> Words<L> {
 
     /// The time is stored under the class's lock, for a link or for the bump aboard.
     pub fn put_time(&self, seat: &mut Seat, chunk: u32, place: usize, now: u64)
-        requires seat { (seat.old.table_id ≡ words_id self.now) × HasChunk (words_id self.now) chunk }
+        requires seat { IsSeated (words_id self.now) seat.old chunk }
         requires place { place ≡ head_place (words_id self.now).slots chunk }
         requires own { OwnsChunk chunk seat.old.me.0 }
-        ensures same { (seat.new.table_id ≡ seat.old.table_id) × (seat.new.id ≡ seat.old.id) }
+        ensures same { StaysSeated seat.old seat.new }
         ensures told { seat.new.me ≡ (view_after_put_time chunk now seat.old.me.0, seat.old.me.1) }
     {
         self.table
@@ -123,11 +124,11 @@ impl<L: RowLaw> Words<L> {
         from: Segment,
         to: Segment,
     ) -> u64
-        requires seat { (seat.old.table_id ≡ words_id self.now) × HasChunk (words_id self.now) chunk }
+        requires seat { IsSeated (words_id self.now) seat.old chunk }
         requires place { place ≡ head_place (words_id self.now).slots chunk }
         requires segments { (from ≡ W.from) × (to ≡ W.to) }
         requires may { MayMove from to chunk seat.old.me.0 }
-        ensures same { (seat.new.table_id ≡ seat.old.table_id) × (seat.new.id ≡ seat.old.id) }
+        ensures same { StaysSeated seat.old seat.new }
         ensures told { (x : ℕ) × move_tells from to chunk x seat.old.me result seat.new.me }
     {
         self.table
@@ -144,10 +145,10 @@ impl<L: RowLaw> Words<L> {
         from: Segment,
         to: Segment,
     ) -> u64
-        requires seat { (seat.old.table_id ≡ words_id self.now) × HasChunk (words_id self.now) chunk }
+        requires seat { IsSeated (words_id self.now) seat.old chunk }
         requires place { place ≡ head_place (words_id self.now).slots chunk }
         requires may { MayMove from to chunk seat.old.me.0 }
-        ensures same { (seat.new.table_id ≡ seat.old.table_id) × (seat.new.id ≡ seat.old.id) }
+        ensures same { StaysSeated seat.old seat.new }
         ensures told { (x : ℕ) × move_tells from to chunk x seat.old.me result seat.new.me }
     {
         self.change_segment_by::<Brand>(seat, chunk, place, from, to)
@@ -160,11 +161,11 @@ impl<L: RowLaw> Words<L> {
         place: usize,
         outcome: Outcome,
     ) -> u64
-        requires seat { (seat.old.table_id ≡ words_id self.now) × HasChunk (words_id self.now) chunk }
+        requires seat { IsSeated (words_id self.now) seat.old chunk }
         requires place { place ≡ head_place (words_id self.now).slots chunk }
         requires outcome { outcome ≡ W.outcome }
         requires may { MayAlight chunk outcome seat.old.me.0 }
-        ensures same { (seat.new.table_id ≡ seat.old.table_id) × (seat.new.id ≡ seat.old.id) }
+        ensures same { StaysSeated seat.old seat.new }
         ensures told { alight_tells outcome chunk ONE_REFERENCE seat.old.me result seat.new.me }
     {
         self.table
@@ -174,10 +175,10 @@ impl<L: RowLaw> Words<L> {
 
     /// The reference of the bump aboard is given back.
     pub fn alight(&self, seat: &mut Seat, chunk: u32, place: usize, outcome: Outcome) -> u64
-        requires seat { (seat.old.table_id ≡ words_id self.now) × HasChunk (words_id self.now) chunk }
+        requires seat { IsSeated (words_id self.now) seat.old chunk }
         requires place { place ≡ head_place (words_id self.now).slots chunk }
         requires may { MayAlight chunk outcome seat.old.me.0 }
-        ensures same { (seat.new.table_id ≡ seat.old.table_id) × (seat.new.id ≡ seat.old.id) }
+        ensures same { StaysSeated seat.old seat.new }
         ensures told { alight_tells outcome chunk ONE_REFERENCE seat.old.me result seat.new.me }
     {
         self.alight_by::<Brand>(seat, chunk, place, outcome)

@@ -3,6 +3,7 @@ ghost use Rattle.std.specs.Prelude.{◌≡◌, ◌<◌};
 ghost use Rattle.bump_rules.specs.declared.lanes.Lane.TheVariants.{Empty as IsEmpty};
 ghost use Rattle.bump_steps.specs.declared.views.LanePart.{LanePart as TheLanePart};
 ghost use Rattle.bump_steps.specs.declared.views.Ride.{Ride as TheRide};
+ghost use Rattle.bump_steps.specs.Seats.{StaysSeated};
 ghost use Rattle.bump_steps.specs.Words.{words_id};
 ghost use Rattle.bump_steps.specs.Riders.{ride_me, board_both};
 ghost use Rattle.bump_steps.specs.Riders.{lane_me};
@@ -28,7 +29,7 @@ impl<L: RowLaw> Words<L> {
             × (0 < (words_id self.now).words) }
         requires views { (l : TheLanePart) × (r : TheRide) × (seat.old.me ≡ lane_me l) × (l.stage ≡ IsEmpty)
             × (rider.me ≡ ride_me r) }
-        ensures same { (seat.new.table_id ≡ seat.old.table_id) × (seat.new.id ≡ seat.old.id) }
+        ensures same { StaysSeated seat.old seat.new }
         ensures boarded { seat.new.me ≡ (board_both seat.old.me.0 rider.me.0, seat.old.me.1) }
     {
         self.table.shared.join_seat::<Board>(seat, rider);

@@ -1,5 +1,6 @@
 //! How seats are cut in two, and joined.
 ghost use Rattle.std.specs.Prelude.{◌≡◌, ◌<◌, []};
+ghost use Rattle.bump_steps.specs.Seats.{StaysSeated};
 ghost use Rattle.bump_steps.specs.Words.{words_id};
 ghost use Rattle.bump_steps.specs.Rule.{blank};
 ghost use Rattle.bump_steps.specs.Cuts.{joined, without_lanes, lanes_only, without_holds, holds_only, without_class};
@@ -64,7 +65,7 @@ impl<L: RowLaw> Words<L> {
     pub fn join(&self, seat: &mut Seat, other: Seat)
         requires { (seat.old.table_id ≡ words_id self.now) × (other.table_id ≡ words_id self.now) × (other.me.1 ≡ [])
             × (0 < (words_id self.now).words) }
-        ensures same { (seat.new.table_id ≡ seat.old.table_id) × (seat.new.id ≡ seat.old.id) }
+        ensures same { StaysSeated seat.old seat.new }
         ensures joined { seat.new.me ≡ (joined seat.old.me.0 other.me.0, seat.old.me.1) }
     {
         self.table.shared.join_seat::<Both>(seat, other);

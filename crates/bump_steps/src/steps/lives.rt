@@ -1,6 +1,7 @@
 //! The steps of a class's seat that begin and end lives, and its looks at a chunk.
 ghost use Rattle.std.specs.Prelude.{◌≡◌, ◌<◌};
-ghost use Rattle.bump_steps.specs.Places.{HasChunk, head_place};
+ghost use Rattle.bump_steps.specs.Places.{head_place};
+ghost use Rattle.bump_steps.specs.Seats.{IsSeated, StaysSeated};
 ghost use Rattle.bump_steps.specs.Words.{words_id};
 ghost use Rattle.bump_steps.specs.Plays.{on_chunk, on_time, on_label, on_word, HasClass};
 ghost use Rattle.bump_word.specs.Words.{word_of};
@@ -70,10 +71,10 @@ impl Play<Empty, View> for SweepOrLoad {
 impl<L: RowLaw> Words<L> {
     /// A load of a head by its class, for the generation in it.
     pub fn see_generation(&self, seat: &mut Seat, chunk: u32, place: usize) -> u64
-        requires seat { (seat.old.table_id ≡ words_id self.now) × HasChunk (words_id self.now) chunk }
+        requires seat { IsSeated (words_id self.now) seat.old chunk }
         requires place { place ≡ head_place (words_id self.now).slots chunk }
         requires class { HasClass seat.old.me.0 }
-        ensures same { (seat.new.table_id ≡ seat.old.table_id) × (seat.new.id ≡ seat.old.id) }
+        ensures same { StaysSeated seat.old seat.new }
         ensures told { generation_load_tells chunk 0 seat.old.me result seat.new.me }
     {
         self.table
@@ -83,9 +84,9 @@ impl<L: RowLaw> Words<L> {
 
     /// A load of a time by its class.
     pub fn see_time(&self, seat: &mut Seat, chunk: u32) -> u64
-        requires seat { (seat.old.table_id ≡ words_id self.now) × HasChunk (words_id self.now) chunk }
+        requires seat { IsSeated (words_id self.now) seat.old chunk }
         requires class { HasClass seat.old.me.0 }
-        ensures same { (seat.new.table_id ≡ seat.old.table_id) × (seat.new.id ≡ seat.old.id) }
+        ensures same { StaysSeated seat.old seat.new }
         ensures told { seat.new.me ≡ (on_class (class_after_see_time chunk result) seat.old.me.0, seat.old.me.1) }
     {
         self.table
@@ -95,10 +96,10 @@ impl<L: RowLaw> Words<L> {
 
     /// A load of a head by its class.
     pub fn look(&self, seat: &mut Seat, chunk: u32, place: usize) -> u64
-        requires seat { (seat.old.table_id ≡ words_id self.now) × HasChunk (words_id self.now) chunk }
+        requires seat { IsSeated (words_id self.now) seat.old chunk }
         requires place { place ≡ head_place (words_id self.now).slots chunk }
         requires class { HasClass seat.old.me.0 }
-        ensures same { (seat.new.table_id ≡ seat.old.table_id) × (seat.new.id ≡ seat.old.id) }
+        ensures same { StaysSeated seat.old seat.new }
         ensures told { load_tells chunk 0 seat.old.me result seat.new.me }
     {
         self.table
@@ -108,10 +109,10 @@ impl<L: RowLaw> Words<L> {
 
     /// The store of a label.
     pub fn put_label(&self, seat: &mut Seat, chunk: u32, place: usize, label: u64)
-        requires seat { (seat.old.table_id ≡ words_id self.now) × HasChunk (words_id self.now) chunk }
+        requires seat { IsSeated (words_id self.now) seat.old chunk }
         requires place { place ≡ head_place (words_id self.now).slots chunk }
         requires may { IsUnused chunk seat.old.me.0 }
-        ensures same { (seat.new.table_id ≡ seat.old.table_id) × (seat.new.id ≡ seat.old.id) }
+        ensures same { StaysSeated seat.old seat.new }
         ensures told { seat.new.me ≡ (on_class (class_after_put_label chunk label) seat.old.me.0, seat.old.me.1) }
     {
         self.table
@@ -121,11 +122,11 @@ impl<L: RowLaw> Words<L> {
 
     /// The store of a further word.
     pub fn put_word(&self, seat: &mut Seat, chunk: u32, place: usize, index: u32, word: u64)
-        requires seat { (seat.old.table_id ≡ words_id self.now) × HasChunk (words_id self.now) chunk }
+        requires seat { IsSeated (words_id self.now) seat.old chunk }
         requires place { place ≡ head_place (words_id self.now).slots chunk }
         requires index { index < (words_id self.now).slots }
         requires may { IsUnused chunk seat.old.me.0 }
-        ensures same { (seat.new.table_id ≡ seat.old.table_id) × (seat.new.id ≡ seat.old.id) }
+        ensures same { StaysSeated seat.old seat.new }
         ensures told { seat.new.me ≡ (on_class (class_after_put_word chunk index word) seat.old.me.0, seat.old.me.1) }
     {
         self.table
@@ -142,10 +143,10 @@ impl<L: RowLaw> Words<L> {
         start: Start,
         generation: u32,
     )
-        requires seat { (seat.old.table_id ≡ words_id self.now) × HasChunk (words_id self.now) chunk }
+        requires seat { IsSeated (words_id self.now) seat.old chunk }
         requires place { place ≡ head_place (words_id self.now).slots chunk }
         requires may { MayLink L.law chunk generation seat.old.me.0 }
-        ensures same { (seat.new.table_id ≡ seat.old.table_id) × (seat.new.id ≡ seat.old.id) }
+        ensures same { StaysSeated seat.old seat.new }
         ensures told { seat.new.me ≡ (
           on_class (class_after_link start chunk generation
               (word_of (linked_head start generation))) seat.old.me.0,
@@ -160,10 +161,10 @@ impl<L: RowLaw> Words<L> {
 
     /// The subtraction of LINKED and of the link's reference.
     pub fn end_life(&self, seat: &mut Seat, chunk: u32, place: usize) -> u64
-        requires seat { (seat.old.table_id ≡ words_id self.now) × HasChunk (words_id self.now) chunk }
+        requires seat { IsSeated (words_id self.now) seat.old chunk }
         requires place { place ≡ head_place (words_id self.now).slots chunk }
         requires may { IsLinked chunk seat.old.me.0 }
-        ensures same { (seat.new.table_id ≡ seat.old.table_id) × (seat.new.id ≡ seat.old.id) }
+        ensures same { StaysSeated seat.old seat.new }
         ensures told { unlink_tells chunk LINK seat.old.me result seat.new.me }
     {
         self.table
@@ -173,10 +174,10 @@ impl<L: RowLaw> Words<L> {
 
     /// A load of the head of a DYING chunk.
     pub fn seen_unheld(&self, seat: &mut Seat, chunk: u32, place: usize) -> u64
-        requires seat { (seat.old.table_id ≡ words_id self.now) × HasChunk (words_id self.now) chunk }
+        requires seat { IsSeated (words_id self.now) seat.old chunk }
         requires place { place ≡ head_place (words_id self.now).slots chunk }
         requires may { IsDying chunk seat.old.me.0 }
-        ensures same { (seat.new.table_id ≡ seat.old.table_id) × (seat.new.id ≡ seat.old.id) }
+        ensures same { StaysSeated seat.old seat.new }
         ensures told { sweep_or_load_tells chunk 0 seat.old.me result seat.new.me }
     {
         self.table

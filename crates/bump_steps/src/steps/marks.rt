@@ -1,7 +1,8 @@
 //! The steps of a worker on the marks of a chunk, and on its time.
 ghost use Rattle.std.specs.Prelude.{◌≡◌};
 ghost use Rattle.bump_rules.specs.Lives.{life};
-ghost use Rattle.bump_steps.specs.Places.{HasChunk, head_place};
+ghost use Rattle.bump_steps.specs.Places.{head_place};
+ghost use Rattle.bump_steps.specs.Seats.{IsSeated, StaysSeated};
 ghost use Rattle.bump_steps.specs.Words.{words_id};
 ghost use Rattle.bump_steps.specs.Plays.{on_chunk, on_time, HasWorker};
 ghost use Rattle.bump_steps.specs.Marks.{fetch_tells, mark_tells, unmark_tells, store_time_tells, on_worker};
@@ -41,11 +42,11 @@ impl Play<Empty, View> for StoreTime {
 impl<L: RowLaw> Words<L> {
     /// A worker sets FETCHED of a chunk to a life of which its seat refers.
     pub fn mark_fetched(&self, seat: &mut Seat, chunk: u32, place: usize) -> u64
-        requires seat { (seat.old.table_id ≡ words_id self.now) × HasChunk (words_id self.now) chunk }
+        requires seat { IsSeated (words_id self.now) seat.old chunk }
         requires place { place ≡ head_place (words_id self.now).slots chunk }
         requires worker { HasWorker seat.old.me.0 }
         requires held { RefersTo chunk seat.old.me.0 }
-        ensures same { (seat.new.table_id ≡ seat.old.table_id) × (seat.new.id ≡ seat.old.id) }
+        ensures same { StaysSeated seat.old seat.new }
         ensures told { fetch_tells chunk FETCHED seat.old.me result seat.new.me }
     {
         self.table
@@ -55,10 +56,10 @@ impl<L: RowLaw> Words<L> {
 
     /// A worker sets ACTIVE.
     pub fn mark_active(&self, seat: &mut Seat, chunk: u32, place: usize) -> u64
-        requires seat { (seat.old.table_id ≡ words_id self.now) × HasChunk (words_id self.now) chunk }
+        requires seat { IsSeated (words_id self.now) seat.old chunk }
         requires place { place ≡ head_place (words_id self.now).slots chunk }
         requires may { MayMark chunk seat.old.me.0 }
-        ensures same { (seat.new.table_id ≡ seat.old.table_id) × (seat.new.id ≡ seat.old.id) }
+        ensures same { StaysSeated seat.old seat.new }
         ensures told { mark_tells chunk ACTIVE seat.old.me result seat.new.me }
     {
         self.table
@@ -68,11 +69,11 @@ impl<L: RowLaw> Words<L> {
 
     /// A worker clears ACTIVE of a chunk to a life of which its seat refers.
     pub fn unmark(&self, seat: &mut Seat, chunk: u32, place: usize) -> u64
-        requires seat { (seat.old.table_id ≡ words_id self.now) × HasChunk (words_id self.now) chunk }
+        requires seat { IsSeated (words_id self.now) seat.old chunk }
         requires place { place ≡ head_place (words_id self.now).slots chunk }
         requires worker { HasWorker seat.old.me.0 }
         requires held { RefersTo chunk seat.old.me.0 }
-        ensures same { (seat.new.table_id ≡ seat.old.table_id) × (seat.new.id ≡ seat.old.id) }
+        ensures same { StaysSeated seat.old seat.new }
         ensures told { unmark_tells chunk ALL_BUT_ACTIVE seat.old.me result seat.new.me }
     {
         self.table
@@ -82,11 +83,11 @@ impl<L: RowLaw> Words<L> {
 
     /// A worker stores the time of a chunk to a life of which its seat refers.
     pub fn set_time(&self, seat: &mut Seat, chunk: u32, place: usize, now: u64)
-        requires seat { (seat.old.table_id ≡ words_id self.now) × HasChunk (words_id self.now) chunk }
+        requires seat { IsSeated (words_id self.now) seat.old chunk }
         requires place { place ≡ head_place (words_id self.now).slots chunk }
         requires worker { HasWorker seat.old.me.0 }
         requires held { RefersTo chunk seat.old.me.0 }
-        ensures same { (seat.new.table_id ≡ seat.old.table_id) × (seat.new.id ≡ seat.old.id) }
+        ensures same { StaysSeated seat.old seat.new }
         ensures told { seat.new.me ≡ (
           on_worker (worker_after_store_time (life chunk 0) now) seat.old.me.0,
           seat.old.me.1,

@@ -1,6 +1,6 @@
 //! The steps by which a hold meets its class, and a class a lane, or the store's workers.
 ghost use Rattle.std.specs.Prelude.{ℕ, ◌≡◌, ◌<◌};
-ghost use Rattle.bump_steps.specs.Places.{HasChunk};
+ghost use Rattle.bump_steps.specs.Seats.{IsSeated, StaysSeated};
 ghost use Rattle.bump_steps.specs.Words.{words_id, config_of};
 ghost use Rattle.bump_steps.specs.Plays.{on_label, HasClass, TellsOfMoves};
 ghost use Rattle.bump_steps.specs.Lives.{on_class};
@@ -47,9 +47,9 @@ impl<C: Counted> Play<Empty, View> for LoadToMeetWorkers<C> {
 impl<L: RowLaw> Words<L> {
     /// A load of the label word, for `meet`.
     pub fn meet(&self, seat: &mut Seat, chunk: u32) -> u64
-        requires seat { (seat.old.table_id ≡ words_id self.now) × HasChunk (words_id self.now) chunk }
+        requires seat { IsSeated (words_id self.now) seat.old chunk }
         requires class { HasClass seat.old.me.0 }
-        ensures same { (seat.new.table_id ≡ seat.old.table_id) × (seat.new.id ≡ seat.old.id) }
+        ensures same { StaysSeated seat.old seat.new }
         ensures told { load_to_meet_tells chunk 0 seat.old.me result seat.new.me }
     {
         self.table
@@ -62,7 +62,7 @@ impl<L: RowLaw> Words<L> {
         requires seat { seat.old.table_id ≡ words_id self.now }
         requires some { 0 < (words_id self.now).words }
         requires class { HasClass seat.old.me.0 }
-        ensures same { (seat.new.table_id ≡ seat.old.table_id) × (seat.new.id ≡ seat.old.id) }
+        ensures same { StaysSeated seat.old seat.new }
         ensures noted { seat.new.me ≡ (on_class class_after_meet seat.old.me.0, seat.old.me.1) }
         ensures told { TellsOfMoves seat.old.me.0 }
     {
@@ -74,7 +74,7 @@ impl<L: RowLaw> Words<L> {
         requires some { 0 < (words_id self.now).words }
         requires class { HasClass seat.old.me.0 }
         requires workers { C.workers ≡ (config_of self.now).workers }
-        ensures same { (seat.new.table_id ≡ seat.old.table_id) × (seat.new.id ≡ seat.old.id) }
+        ensures same { StaysSeated seat.old seat.new }
         ensures noted { seat.new.me ≡ (on_class class_after_meet seat.old.me.0, seat.old.me.1) }
         ensures told { AreOfWorkers C.workers seat.old.me.0 × TellsOfMoves seat.old.me.0 }
     {
@@ -86,7 +86,7 @@ impl<L: RowLaw> Words<L> {
         requires seat { seat.old.table_id ≡ words_id self.now }
         requires some { 0 < (words_id self.now).words }
         requires class { HasClass seat.old.me.0 }
-        ensures same { (seat.new.table_id ≡ seat.old.table_id) × (seat.new.id ≡ seat.old.id) }
+        ensures same { StaysSeated seat.old seat.new }
         ensures noted { seat.new.me ≡ (on_class class_after_meet seat.old.me.0, seat.old.me.1) }
         ensures told { AreOfWorkers (config_of self.now).workers seat.old.me.0 × TellsOfMoves seat.old.me.0 }
     {

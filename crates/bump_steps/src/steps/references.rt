@@ -3,6 +3,7 @@
 ghost use Rattle.std.specs.Prelude.{ℕ, ◌≡◌, ◌<◌, List, None};
 ghost use Rattle.bump_rules.specs.declared.items.Head.{Head as TheHead};
 ghost use Rattle.bump_steps.specs.Places.{HasChunk, head_place};
+ghost use Rattle.bump_steps.specs.Seats.{IsSeated, StaysSeated};
 ghost use Rattle.bump_steps.specs.Words.{words_id, config_of};
 ghost use Rattle.bump_steps.specs.Plays.{on_chunk, on_row, on_label, on_word, Found, HasWorker};
 ghost use Rattle.bump_steps.specs.References.{load_to_take_tells, take_tells, MayTake, IsRow, words_in, HasHold, release_of_hold_tells, look_of_hold_tells, label_load_tells, word_load_tells, load_without_seat_tells, IsAnyHead, seen_me};
@@ -33,9 +34,9 @@ impl<L: RowLaw> Play<Empty, View> for Take<L> {
     ghost then = { on_row (take_tells L.law) };
 }
 
-pub struct Release;
+pub struct GiveBack;
 
-impl Play<Empty, View> for Release {
+impl Play<Empty, View> for GiveBack {
     ghost then = { on_chunk release_of_hold_tells };
 }
 
@@ -79,10 +80,10 @@ impl<B: Limited> Play<Empty, View> for LoadWithoutSeat<B> {
 impl<L: RowLaw> Words<L> {
     /// A load of a head word, by a worker.
     pub fn look_to_take(&self, seat: &mut Seat, chunk: u32, place: usize) -> u64
-        requires seat { (seat.old.table_id ≡ words_id self.now) × HasChunk (words_id self.now) chunk }
+        requires seat { IsSeated (words_id self.now) seat.old chunk }
         requires place { place ≡ head_place (words_id self.now).slots chunk }
         requires worker { HasWorker seat.old.me.0 }
-        ensures same { (seat.new.table_id ≡ seat.old.table_id) × (seat.new.id ≡ seat.old.id) }
+        ensures same { StaysSeated seat.old seat.new }
         ensures told { load_to_take_tells chunk 0 seat.old.me result seat.new.me }
     {
         self.table
@@ -92,11 +93,11 @@ impl<L: RowLaw> Words<L> {
 
     /// The exchange by which a worker takes a hold.
     pub fn try_take(&self, seat: &mut Seat, life: ItemId, place: usize, word: u64) -> u64
-        requires seat { (seat.old.table_id ≡ words_id self.now) × HasChunk (words_id self.now) life.chunk }
+        requires seat { IsSeated (words_id self.now) seat.old life.chunk }
         requires place { place ≡ head_place (words_id self.now).slots life.chunk }
         requires worker { HasWorker seat.old.me.0 }
         requires word { MayTake (config_of self.now).refs_limit life word }
-        ensures same { (seat.new.table_id ≡ seat.old.table_id) × (seat.new.id ≡ seat.old.id) }
+        ensures same { StaysSeated seat.old seat.new }
         ensures told { take_tells L.law (words_id self.now).slots life.chunk word seat.old.me result seat.new.me }
     {
         self.table.shared.compare_exchange::<Take<L>>(
@@ -117,11 +118,11 @@ impl<L: RowLaw> Words<L> {
         place: usize,
         limit: &Limit,
     ) -> Option<TakeRefusal>
-        requires seat { (seat.old.table_id ≡ words_id self.now) × HasChunk (words_id self.now) life.chunk }
+        requires seat { IsSeated (words_id self.now) seat.old life.chunk }
         requires place { place ≡ head_place (words_id self.now).slots life.chunk }
         requires worker { HasWorker seat.old.me.0 }
         requires limit { limit.now ≡ (config_of self.now).refs_limit }
-        ensures same { (seat.new.table_id ≡ seat.old.table_id) × (seat.new.id ≡ seat.old.id) }
+        ensures same { StaysSeated seat.old seat.new }
         ensures told { (first : TheHead) × (more : List TheHead) × (row : List ℕ) × IsRow (words_id self.now).slots row
             × TakeFound limit.now life first more
             × (seat.new.me ≡ (
@@ -156,11 +157,11 @@ impl<L: RowLaw> Words<L> {
         place: usize,
         limit: &Limit,
     ) -> Result<u64, AnyRefusal>
-        requires seat { (seat.old.table_id ≡ words_id self.now) × HasChunk (words_id self.now) chunk }
+        requires seat { IsSeated (words_id self.now) seat.old chunk }
         requires place { place ≡ head_place (words_id self.now).slots chunk }
         requires worker { HasWorker seat.old.me.0 }
         requires limit { limit.now ≡ (config_of self.now).refs_limit }
-        ensures same { (seat.new.table_id ≡ seat.old.table_id) × (seat.new.id ≡ seat.old.id) }
+        ensures same { StaysSeated seat.old seat.new }
         ensures told { (first : TheHead) × (more : List TheHead) × (row : List ℕ) × IsRow (words_id self.now).slots row
             × AskedFound limit.now of_any first more
             × (seat.new.me ≡ (view_after_attempt limit.now of_any chunk first more row seat.old.me.0, seat.old.me.1))
@@ -189,23 +190,23 @@ impl<L: RowLaw> Words<L> {
     /// The subtraction by which a hold gives its reference back. Its seat has no list of steps, and keeps the mark of
     /// it. `give_back_bump` is the same step of a worker, for the reference of a bump.
     pub fn give_back(&self, seat: &mut Seat, chunk: u32, place: usize) -> u64
-        requires seat { (seat.old.table_id ≡ words_id self.now) × HasChunk (words_id self.now) chunk }
+        requires seat { IsSeated (words_id self.now) seat.old chunk }
         requires place { place ≡ head_place (words_id self.now).slots chunk }
         requires hold { HasHold chunk seat.old.me.0 }
-        ensures same { (seat.new.table_id ≡ seat.old.table_id) × (seat.new.id ≡ seat.old.id) }
+        ensures same { StaysSeated seat.old seat.new }
         ensures told { release_of_hold_tells chunk ONE_REFERENCE seat.old.me result seat.new.me }
     {
         self.table
             .shared
-            .fetch_sub::<Release>(seat, self.head_by(place, chunk), ONE_REFERENCE)
+            .fetch_sub::<GiveBack>(seat, self.head_by(place, chunk), ONE_REFERENCE)
     }
 
     /// A load of a head word, by a hold, whose list of looks notes it.
     pub fn look_of_hold(&self, seat: &mut Seat, chunk: u32, place: usize) -> u64
-        requires seat { (seat.old.table_id ≡ words_id self.now) × HasChunk (words_id self.now) chunk }
+        requires seat { IsSeated (words_id self.now) seat.old chunk }
         requires place { place ≡ head_place (words_id self.now).slots chunk }
         requires hold { HasHold chunk seat.old.me.0 }
-        ensures same { (seat.new.table_id ≡ seat.old.table_id) × (seat.new.id ≡ seat.old.id) }
+        ensures same { StaysSeated seat.old seat.new }
         ensures told { look_of_hold_tells chunk 0 seat.old.me result seat.new.me }
     {
         self.table
@@ -215,10 +216,10 @@ impl<L: RowLaw> Words<L> {
 
     /// A load of a label word, by a hold.
     pub fn label_of(&self, seat: &mut Seat, chunk: u32, place: usize) -> u64
-        requires seat { (seat.old.table_id ≡ words_id self.now) × HasChunk (words_id self.now) chunk }
+        requires seat { IsSeated (words_id self.now) seat.old chunk }
         requires place { place ≡ head_place (words_id self.now).slots chunk }
         requires hold { HasHold chunk seat.old.me.0 }
-        ensures same { (seat.new.table_id ≡ seat.old.table_id) × (seat.new.id ≡ seat.old.id) }
+        ensures same { StaysSeated seat.old seat.new }
         ensures told { label_load_tells chunk 0 seat.old.me result seat.new.me }
     {
         self.table
@@ -228,11 +229,11 @@ impl<L: RowLaw> Words<L> {
 
     /// A load of a further word, by a hold.
     pub fn word_of(&self, seat: &mut Seat, chunk: u32, place: usize, index: u32) -> u64
-        requires seat { (seat.old.table_id ≡ words_id self.now) × HasChunk (words_id self.now) chunk }
+        requires seat { IsSeated (words_id self.now) seat.old chunk }
         requires place { place ≡ head_place (words_id self.now).slots chunk }
         requires index { index < (words_id self.now).slots }
         requires hold { HasHold chunk seat.old.me.0 }
-        ensures same { (seat.new.table_id ≡ seat.old.table_id) × (seat.new.id ≡ seat.old.id) }
+        ensures same { StaysSeated seat.old seat.new }
         ensures told { word_load_tells index chunk 0 seat.old.me result seat.new.me }
     {
         self.table

@@ -5,7 +5,8 @@ ghost use Rattle.bump_rules.specs.declared.items.ItemId.{ItemId as TheItemId};
 ghost use Rattle.bump_rules.specs.declared.hands.Hand.TheVariants.{Idle, Trying, InHand};
 ghost use Rattle.bump_rules.specs.Lives.{life as life_in};
 ghost use Rattle.bump_steps.specs.declared.views.Ride.{Ride as TheRide};
-ghost use Rattle.bump_steps.specs.Places.{HasChunk, head_place};
+ghost use Rattle.bump_steps.specs.Places.{head_place};
+ghost use Rattle.bump_steps.specs.Seats.{IsSeated, StaysSeated};
 ghost use Rattle.bump_steps.specs.Words.{words_id, config_of};
 ghost use Rattle.bump_steps.specs.Rule.{blank};
 ghost use Rattle.bump_steps.specs.Riders.{ride_me};
@@ -58,11 +59,11 @@ impl<W: Attempt> Play<Empty, View> for Reserve<W> {
     ghost then = { λ s m r n. try_to_ride_tells W.limit W.failed W.life s.first m r n };
 }
 
-pub struct ReleaseOfBump<W: Attempt> {
+pub struct GiveBackBump<W: Attempt> {
     of: PhantomData<W>,
 }
 
-impl<W: Attempt> Play<Empty, View> for ReleaseOfBump<W> {
+impl<W: Attempt> Play<Empty, View> for GiveBackBump<W> {
     ghost then = { λ _ m r n. release_tells W.life m r n };
 }
 
@@ -90,12 +91,12 @@ impl<L: RowLaw> Words<L> {
         life: ItemId,
         place: usize,
     ) -> u64
-        requires seat { (seat.old.table_id ≡ words_id self.now) × HasChunk (words_id self.now) life.chunk }
+        requires seat { IsSeated (words_id self.now) seat.old life.chunk }
         requires place { place ≡ head_place (words_id self.now).slots life.chunk }
         requires attempt { (W.limit ≡ limit) × (W.failed ≡ 0) × (W.life ≡ life) }
         requires limit { limit ≡ (config_of self.now).refs_limit }
         requires trying { IsOn (Trying life) life seat.old.me.0 }
-        ensures same { (seat.new.table_id ≡ seat.old.table_id) × (seat.new.id ≡ seat.old.id) }
+        ensures same { StaysSeated seat.old seat.new }
         ensures told { load_to_ride_tells limit 0 life seat.old.me result seat.new.me }
     {
         self.table
@@ -105,11 +106,11 @@ impl<L: RowLaw> Words<L> {
 
     /// A load, of a worker that looks for room for its bump's reference.
     pub fn look_to_ride(&self, seat: &mut Seat, limit: Count, life: ItemId, place: usize) -> u64
-        requires seat { (seat.old.table_id ≡ words_id self.now) × HasChunk (words_id self.now) life.chunk }
+        requires seat { IsSeated (words_id self.now) seat.old life.chunk }
         requires place { place ≡ head_place (words_id self.now).slots life.chunk }
         requires limit { limit ≡ (config_of self.now).refs_limit }
         requires trying { IsOn (Trying life) life seat.old.me.0 }
-        ensures same { (seat.new.table_id ≡ seat.old.table_id) × (seat.new.id ≡ seat.old.id) }
+        ensures same { StaysSeated seat.old seat.new }
         ensures told { load_to_ride_tells limit 0 life seat.old.me result seat.new.me }
     {
         self.look_to_ride_by::<Brand>(seat, limit, life, place)
@@ -124,13 +125,13 @@ impl<L: RowLaw> Words<L> {
         seen: u64,
         failed: u32,
     ) -> u64
-        requires seat { (seat.old.table_id ≡ words_id self.now) × HasChunk (words_id self.now) life.chunk }
+        requires seat { IsSeated (words_id self.now) seat.old life.chunk }
         requires place { place ≡ head_place (words_id self.now).slots life.chunk }
         requires attempt { (W.limit ≡ limit) × (W.failed ≡ failed) × (W.life ≡ life) }
         requires limit { limit ≡ (config_of self.now).refs_limit }
         requires trying { IsOn (Trying life) life seat.old.me.0 }
         requires room { HasRoom limit seen }
-        ensures same { (seat.new.table_id ≡ seat.old.table_id) × (seat.new.id ≡ seat.old.id) }
+        ensures same { StaysSeated seat.old seat.new }
         ensures told { try_to_ride_tells limit failed life seen seat.old.me result seat.new.me }
     {
         self.table.shared.compare_exchange::<Reserve<W>>(
@@ -152,12 +153,12 @@ impl<L: RowLaw> Words<L> {
         seen: u64,
         failed: u32,
     ) -> u64
-        requires seat { (seat.old.table_id ≡ words_id self.now) × HasChunk (words_id self.now) life.chunk }
+        requires seat { IsSeated (words_id self.now) seat.old life.chunk }
         requires place { place ≡ head_place (words_id self.now).slots life.chunk }
         requires limit { limit ≡ (config_of self.now).refs_limit }
         requires trying { IsOn (Trying life) life seat.old.me.0 }
         requires room { HasRoom limit seen }
-        ensures same { (seat.new.table_id ≡ seat.old.table_id) × (seat.new.id ≡ seat.old.id) }
+        ensures same { StaysSeated seat.old seat.new }
         ensures told { try_to_ride_tells limit failed life seen seat.old.me result seat.new.me }
     {
         self.try_to_ride_by::<Brand>(seat, limit, life, place, seen, failed)
@@ -172,11 +173,11 @@ impl<L: RowLaw> Words<L> {
         life: ItemId,
         place: usize,
     ) -> Option<RideRefusal>
-        requires seat { (seat.old.table_id ≡ words_id self.now) × HasChunk (words_id self.now) life.chunk }
+        requires seat { IsSeated (words_id self.now) seat.old life.chunk }
         requires place { place ≡ head_place (words_id self.now).slots life.chunk }
         requires limit { limit.now ≡ (config_of self.now).refs_limit }
         requires trying { IsOn (Trying life) life seat.old.me.0 }
-        ensures same { (seat.new.table_id ≡ seat.old.table_id) × (seat.new.id ≡ seat.old.id) }
+        ensures same { StaysSeated seat.old seat.new }
         ensures told { (first : TheHead) × (more : List TheHead) × RideFound limit.now life first more
             × (seat.new.me ≡ (on_worker (worker_after_attempt limit.now life first more) seat.old.me.0, seat.old.me.1))
             × (option_map dropped_as result ≡ drop_of limit.now first more) }
@@ -197,25 +198,25 @@ impl<L: RowLaw> Words<L> {
     }
 
     fn give_back_bump_by<W: Attempt>(&self, seat: &mut Seat, life: ItemId, place: usize) -> u64
-        requires seat { (seat.old.table_id ≡ words_id self.now) × HasChunk (words_id self.now) life.chunk }
+        requires seat { IsSeated (words_id self.now) seat.old life.chunk }
         requires place { place ≡ head_place (words_id self.now).slots life.chunk }
         requires attempt { W.life ≡ life }
         requires in_hand { IsOn (InHand life) life seat.old.me.0 }
-        ensures same { (seat.new.table_id ≡ seat.old.table_id) × (seat.new.id ≡ seat.old.id) }
+        ensures same { StaysSeated seat.old seat.new }
         ensures told { release_tells life seat.old.me result seat.new.me }
     {
         self.table
             .shared
-            .fetch_sub::<ReleaseOfBump<W>>(seat, self.head_by(place, life.chunk), ONE_REFERENCE)
+            .fetch_sub::<GiveBackBump<W>>(seat, self.head_by(place, life.chunk), ONE_REFERENCE)
     }
 
     /// The subtraction that gives the reference of a bump back which found no room: the same step as `give_back`,
     /// noted by the worker.
     pub fn give_back_bump(&self, seat: &mut Seat, life: ItemId, place: usize) -> u64
-        requires seat { (seat.old.table_id ≡ words_id self.now) × HasChunk (words_id self.now) life.chunk }
+        requires seat { IsSeated (words_id self.now) seat.old life.chunk }
         requires place { place ≡ head_place (words_id self.now).slots life.chunk }
         requires in_hand { IsOn (InHand life) life seat.old.me.0 }
-        ensures same { (seat.new.table_id ≡ seat.old.table_id) × (seat.new.id ≡ seat.old.id) }
+        ensures same { StaysSeated seat.old seat.new }
         ensures told { release_tells life seat.old.me result seat.new.me }
     {
         self.give_back_bump_by::<Brand>(seat, life, place)
@@ -237,7 +238,7 @@ impl<L: RowLaw> Words<L> {
         requires seats { (seat.old.table_id ≡ words_id self.now) × (rider.table_id ≡ words_id self.now)
             × (0 < (words_id self.now).words) }
         requires rider { (r : TheRide) × (rider.me ≡ ride_me r) × IsOn Idle r.life seat.old.me.0 }
-        ensures same { (seat.new.table_id ≡ seat.old.table_id) × (seat.new.id ≡ seat.old.id) }
+        ensures same { StaysSeated seat.old seat.new }
         ensures back { seat.new.me ≡ (return_both seat.old.me.0 rider.me.0, seat.old.me.1) }
     {
         self.table.shared.join_seat::<RideBack>(seat, rider);
