@@ -92,29 +92,29 @@ def chunk():
 def crates():
     at = {"bump_links": (330, 600), "bump_rules": (330, 540), "bump_state": (60, 460), "bump_core": (60, 380),
           "bump_word": (620, 480), "bump_steps": (620, 420), "bump_readers": (620, 360), "bump_heads": (520, 300),
-          "bump_ring": (720, 300), "bump_class": (620, 240), "bump_store": (620, 180), "bump_open": (620, 120),
-          "bump_c": (620, 60), "box_parts": (455, 60), "trace_lines": (330, 460), "bump_trace": (200, 300),
-          "store_trace": (330, 180), "bumpsim": (330, 110), "cache_index": (900, 240), "cache_shelf": (900, 180),
+          "bump_ring": (720, 300), "bump_class": (620, 240), "bump_parts": (620, 180), "bump_store": (475, 120),
+          "bump_handles": (620, 120), "bump_c": (620, 60), "box_parts": (455, 60), "trace_lines": (330, 460),
+          "bump_trace": (200, 300), "store_trace": (330, 180), "bumpsim": (330, 110), "cache_index": (900, 240), "cache_shelf": (900, 180),
           "bump_cache": (900, 120), "replay_cache": (900, 60), "bump_replay": (1080, 60), "access_logs": (1080, 120),
           "replay_policies": (1080, 180), "replay_trace": (1080, 240)}
     down = [("bump_rules", "bump_links"), ("bump_state", "bump_rules"), ("bump_core", "bump_state"),
             ("bump_word", "bump_rules"), ("bump_steps", "bump_word"), ("bump_readers", "bump_steps"),
             ("bump_heads", "bump_readers"), ("bump_ring", "bump_readers"), ("bump_class", "bump_heads"),
-            ("bump_class", "bump_ring"), ("bump_store", "bump_class"), ("bump_open", "bump_store"),
-            ("bump_c", "bump_open"), ("trace_lines", "bump_rules"), ("bump_trace", "trace_lines"),
-            ("bump_trace", "bump_core"), ("store_trace", "bump_trace"), ("bumpsim", "store_trace"),
+            ("bump_class", "bump_ring"), ("bump_parts", "bump_class"), ("bump_store", "bump_parts"),
+            ("bump_handles", "bump_parts"), ("bump_c", "bump_handles"), ("trace_lines", "bump_rules"),
+            ("bump_trace", "trace_lines"), ("bump_trace", "bump_core"), ("store_trace", "bump_trace"), ("bumpsim", "store_trace"),
             ("cache_shelf", "cache_index"), ("bump_cache", "cache_shelf"), ("replay_cache", "bump_cache"),
             ("bump_replay", "access_logs")]
     used = {"bump_core", "bump_store", "bump_c", "bumpsim", "bump_links", "bump_cache", "bump_replay"}
     boxes = [(x, y, 130, name, MOVE if name in used else STEP) for name, (x, y) in at.items()]
     arrows = [([(at[a][0] + 65, at[a][1] + 33), (at[b][0] + 65, at[b][1])], "", None) for a, b in down]
-    arrows += [([(460, 196), (620, 196)], "", None), ([(620, 76), (585, 76)], "", None),
-               ([(900, 136), (750, 136)], "", None), ([(900, 200), (750, 250)], "", None),
+    arrows += [([(460, 196), (500, 196), (500, 153)], "", None), ([(620, 76), (585, 76)], "", None),
+               ([(900, 136), (750, 190)], "", None), ([(900, 200), (750, 250)], "", None),
                ([(1080, 76), (1030, 76)], "", None), ([(1210, 76), (1225, 76), (1225, 196), (1210, 196)], "", None),
                ([(1225, 196), (1225, 256), (1210, 256)], "", None),
                ([(1145, 273), (1145, 650), (20, 650), (20, 290), (240, 290), (240, 300)], "", None)]
     titles = [(20, 28, "Who stands on whom: an arrow goes to what is below"), (60, 360, "the World"),
-              (765, 201, "the store"), (620, 50, "from C"), (330, 100, "the program"),
+              (475, 112, "the store"), (620, 50, "from C"), (330, 100, "the program"),
               (475, 621, "lists of indices"), (900, 50, "the cache"), (1080, 50, "access logs")]
     draw("crates", 1245, 670, titles, boxes, arrows)
 

@@ -14,8 +14,8 @@ use Rattle.std_alloc.specs.contracts.boxed.Box as B-type
 use Rattle.atomic_table.specs.Seated.{TableId}
 use Rattle.bump_c.specs.SealLane.{lane_row}
 use Rattle.bump_readers.specs.declared.names.Name.{Ghosts}
-use Rattle.bump_open.specs.contracts.drainers.Drainer as Home
-use Rattle.bump_open.proofs.drainers.Drainer.TheLaws as home
+use Rattle.bump_handles.specs.contracts.drainers.Drainer as Home
+use Rattle.bump_handles.proofs.drainers.Drainer.TheLaws as home
 use Rattle.box_parts.specs.contracts.parts.Parts as Parts
 use Rattle.bump_c.specs.contracts.lane_handle.LaneHandle as Sealed
 

@@ -14,8 +14,8 @@ use Rattle.std_alloc.specs.contracts.boxed.Box as B-type
 use Rattle.atomic_table.specs.Seated.{TableId}
 use Rattle.bump_c.specs.SealWorker.{worker_row}
 use Rattle.bump_readers.specs.declared.names.Name.{Ghosts}
-use Rattle.bump_open.specs.contracts.readers.Reader as Home
-use Rattle.bump_open.proofs.readers.Reader.TheLaws as home
+use Rattle.bump_handles.specs.contracts.readers.Reader as Home
+use Rattle.bump_handles.proofs.readers.Reader.TheLaws as home
 use Rattle.box_parts.specs.contracts.parts.Parts as Parts
 use Rattle.bump_c.specs.contracts.worker_handle.WorkerHandle as Sealed
 

@@ -18,13 +18,13 @@ use Rattle.rtrb.specs.contracts.finished.Finished as Finished
 use Rattle.rtrb.proofs.finished.Finished.TheSendSync as finished
 use Rattle.bump_class.specs.contracts.lanes.RawLane as RawLane
 use Rattle.bump_class.proofs.lanes.RawLane.TheSendSync as raw_lane
-use Rattle.bump_store.specs.contracts.closing.ClosedWorker as ClosedWorker
-use Rattle.bump_open.specs.contracts.books.TaggedBook as TaggedBook
-use Rattle.bump_open.specs.contracts.drainers.Drainer as Drainer
-use Rattle.bump_open.specs.contracts.opening.Opened as Opened
-use Rattle.bump_open.specs.contracts.readers.Reader as Reader
-use Rattle.bump_open.proofs.books.TaggedBook.TheSendSync as tagged_book
-use Rattle.bump_open.proofs.readers.Reader.TheSendSync as reader
+use Rattle.bump_parts.specs.contracts.closing.ClosedWorker as ClosedWorker
+use Rattle.bump_handles.specs.contracts.books.TaggedBook as TaggedBook
+use Rattle.bump_handles.specs.contracts.drainers.Drainer as Drainer
+use Rattle.bump_handles.specs.contracts.opening.Opened as Opened
+use Rattle.bump_handles.specs.contracts.readers.Reader as Reader
+use Rattle.bump_handles.proofs.books.TaggedBook.TheSendSync as tagged_book
+use Rattle.bump_handles.proofs.readers.Reader.TheSendSync as reader
 use Rattle.bump_c.specs.One.{any, alone}
 
 module _ (z : TableId) where

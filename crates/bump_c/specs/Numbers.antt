@@ -19,16 +19,16 @@ use Rattle.bump_rules.specs.declared.places.Tail.TheVariants as tail
 use Rattle.bump_class.specs.declared.ending.UnlinkRefusal.{UnlinkRefusal}
 use Rattle.bump_class.specs.declared.ending.UnlinkRefusal.TheVariants as unlink
 use Rattle.bump_class.specs.declared.linking.LinkRefusal.{LinkRefusal}
-use Rattle.bump_store.specs.declared.refusals.GetRefusal.{GetRefusal}
-use Rattle.bump_store.specs.declared.refusals.GetRefusal.TheVariants as refused
-use Rattle.bump_open.specs.declared.drainers.NotClosed.{NotClosed}
-use Rattle.bump_open.specs.declared.drainers.NotClosed.TheVariants as not_closed
-use Rattle.bump_open.specs.declared.drainers.Rested.{Rested}
-use Rattle.bump_open.specs.declared.drainers.RestState.{RestState}
-use Rattle.bump_open.specs.declared.drainers.RestState.TheVariants as rest
-use Rattle.bump_open.specs.declared.readers.Taken.{Taken}
-use Rattle.bump_open.specs.declared.readers.Taken.TheVariants as taken
-use Rattle.bump_open.specs.declared.readers.WholeHit.{WholeHit}
+use Rattle.bump_parts.specs.declared.refusals.GetRefusal.{GetRefusal}
+use Rattle.bump_parts.specs.declared.refusals.GetRefusal.TheVariants as refused
+use Rattle.bump_handles.specs.declared.drainers.NotClosed.{NotClosed}
+use Rattle.bump_handles.specs.declared.drainers.NotClosed.TheVariants as not_closed
+use Rattle.bump_handles.specs.declared.drainers.Rested.{Rested}
+use Rattle.bump_handles.specs.declared.drainers.RestState.{RestState}
+use Rattle.bump_handles.specs.declared.drainers.RestState.TheVariants as rest
+use Rattle.bump_handles.specs.declared.readers.Taken.{Taken}
+use Rattle.bump_handles.specs.declared.readers.Taken.TheVariants as taken
+use Rattle.bump_handles.specs.declared.readers.WholeHit.{WholeHit}
 use Rattle.bump_c.specs.declared.answers.Counts.{Counts}
 use Rattle.bump_c.specs.declared.answers.HitTold.{HitTold}
 use Rattle.bump_c.specs.declared.answers.ItemTold.{ItemTold}

@@ -5,8 +5,8 @@ use Rattle.bump_rules.specs.declared.configs.ClassConfig.{ClassConfig}
 use Rattle.bump_rules.specs.declared.configs.Config.{Config}
 use Rattle.bump_rules.specs.declared.configs.ConfigFault.{ConfigFault}
 use Rattle.bump_rules.specs.Configs.{first_fault}
-use Rattle.bump_open.specs.Opening.{IsOpened}
-use Rattle.bump_open.specs.Views.{OpenedView}
+use Rattle.bump_handles.specs.Opening.{IsOpened}
+use Rattle.bump_handles.specs.Views.{OpenedView}
 use Rattle.bump_c.specs.declared.opening.ClassNumbers.{ClassNumbers}
 use Rattle.bump_c.specs.declared.opening.StoreNumbers.{StoreNumbers}
 use Rattle.bump_c.specs.Numbers.{number_of_fault}

@@ -12,8 +12,8 @@ use Rattle.std_heap.specs.contracts.GlobalAllocator.TheImpl.{ghosts}
 use Rattle.atomic_table.specs.Seated.{TableId, table_id_coded}
 use Rattle.bump_readers.specs.declared.names.Name.{Ghosts}
 use Rattle.bump_c.specs.One.{any, alone, some_table}
-use Rattle.bump_open.specs.Views.{TaggedBookView}
-use Rattle.bump_open.specs.contracts.books.TaggedBook.{the_row}
+use Rattle.bump_handles.specs.Views.{TaggedBookView}
+use Rattle.bump_handles.specs.contracts.books.TaggedBook.{the_row}
 
 -- a book's row, where this type stands for the name of this table
 abbrev pub book_row : HProp {0} → TableId → RattleType

@@ -12,8 +12,8 @@ use Rattle.std_heap.specs.contracts.GlobalAllocator.TheImpl.{ghosts}
 use Rattle.atomic_table.specs.Seated.{TableId, table_id_coded}
 use Rattle.bump_readers.specs.declared.names.Name.{Ghosts}
 use Rattle.bump_c.specs.One.{any, alone, some_table}
-use Rattle.bump_open.specs.Views.{OpenedView}
-use Rattle.bump_open.specs.contracts.opening.Opened.{the_row}
+use Rattle.bump_handles.specs.Views.{OpenedView}
+use Rattle.bump_handles.specs.contracts.opening.Opened.{the_row}
 
 -- a store's row, where this type stands for the name of this table
 abbrev pub store_row : HProp {0} → TableId → RattleType

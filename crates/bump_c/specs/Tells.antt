@@ -13,14 +13,14 @@ use Rattle.bump_rules.specs.Lives.{life}
 use Rattle.bump_rules.specs.Places.{place_number}
 use Rattle.bump_class.specs.declared.ending.UnlinkRefusal.{UnlinkRefusal}
 use Rattle.bump_class.specs.declared.linking.LinkRefusal.{LinkRefusal}
-use Rattle.bump_store.specs.declared.refusals.GetRefusal.{GetRefusal}
-use Rattle.bump_open.specs.declared.drainers.Rested.{Rested}
-use Rattle.bump_open.specs.declared.readers.Taken.{Taken}
-use Rattle.bump_open.specs.declared.readers.WholeHit.{WholeHit}
-use Rattle.bump_open.specs.Applying.{TellsClass, DrainerRests}
-use Rattle.bump_open.specs.Booking.{BookLinks, BookUnlinks, BookPulls, BookSees, AreMoves}
-use Rattle.bump_open.specs.Reading.{ReaderGets, ReaderTouches, ReaderReads, ReaderHits}
-use Rattle.bump_open.specs.Views.{ReaderView, TaggedBookView, DrainerView}
+use Rattle.bump_parts.specs.declared.refusals.GetRefusal.{GetRefusal}
+use Rattle.bump_handles.specs.declared.drainers.Rested.{Rested}
+use Rattle.bump_handles.specs.declared.readers.Taken.{Taken}
+use Rattle.bump_handles.specs.declared.readers.WholeHit.{WholeHit}
+use Rattle.bump_handles.specs.Applying.{TellsClass, DrainerRests}
+use Rattle.bump_handles.specs.Booking.{BookLinks, BookUnlinks, BookPulls, BookSees, AreMoves}
+use Rattle.bump_handles.specs.Reading.{ReaderGets, ReaderTouches, ReaderReads, ReaderHits}
+use Rattle.bump_handles.specs.Views.{ReaderView, TaggedBookView, DrainerView}
 use Rattle.bump_c.specs.declared.answers.HitTold.{HitTold}
 use Rattle.bump_c.specs.declared.answers.ItemTold.{ItemTold}
 use Rattle.bump_c.specs.declared.answers.Labelled.{Labelled}

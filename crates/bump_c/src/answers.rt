@@ -7,11 +7,11 @@ ghost use Rattle.bump_c.specs.Numbers.{number_of_unlinked, number_of_tail, pulle
 ghost use Rattle.bump_c.specs.Numbers.{seen_of, number_of_rest, rest_of, number_of_fault};
 
 use bump_class::{LinkRefusal, UnlinkRefusal};
-use bump_open::{NotClosed, RestState, Rested, Taken, WholeHit};
+use bump_handles::{NotClosed, RestState, Rested, Taken, WholeHit};
+use bump_parts::GetRefusal;
 use bump_rules::{
     Accounts, ConfigFault, Dropped, Ended, Head, ItemId, Place, Pulled, Segment, Tail, Touch,
 };
-use bump_store::GetRefusal;
 
 /// What became of a touch.
 #[repr(C)]

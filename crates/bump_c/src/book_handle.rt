@@ -1,13 +1,13 @@
 //! The handle by which C has a book of any store, and the slot that it lies in.
 ghost use Rattle.std.specs.Prelude.{◌≡◌, List, [], ◌∷◌};
 ghost use Rattle.atomic_table.specs.Seated.{TableId, table_id_coded};
-ghost use Rattle.bump_open.specs.Views.{TaggedBookView};
+ghost use Rattle.bump_handles.specs.Views.{TaggedBookView};
 ghost use Rattle.bump_c.specs.One.{IsOne};
 ghost use Rattle.bump_c.specs.SealBook.{book_owns, book_coded, book_slot_owns, book_slot_coded};
 
 use box_parts::Parts;
+use bump_handles::TaggedBook;
 use bump_heads::Name;
-use bump_open::TaggedBook;
 use std::alloc::Global;
 use std::marker::Model;
 

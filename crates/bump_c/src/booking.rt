@@ -4,7 +4,7 @@ ghost use Rattle.bump_rules.specs.declared.places.Place.{Place as ThePlace};
 ghost use Rattle.bump_rules.specs.declared.places.Start.TheVariants as start;
 ghost use Rattle.bump_rules.specs.Lists.{list_at};
 ghost use Rattle.bump_rules.specs.Places.{place_number};
-ghost use Rattle.bump_open.specs.Booking.{BookSweeps};
+ghost use Rattle.bump_handles.specs.Booking.{BookSweeps};
 ghost use Rattle.bump_c.specs.One.{IsOne};
 ghost use Rattle.bump_c.specs.Tells.{TellsLink, TellsUnlink, TellsPull, TellsSize, TellsSeen, TellsMoves};
 
@@ -14,7 +14,7 @@ use crate::answers::{
 };
 use crate::book_handle::BookHandle;
 use box_parts::Parts;
-use bump_open::TaggedBook;
+use bump_handles::TaggedBook;
 use bump_readers::Name;
 use bump_rules::ItemId;
 use std::alloc::Global;

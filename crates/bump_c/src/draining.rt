@@ -1,7 +1,7 @@
 //! A lane's calls.
 ghost use Rattle.std.specs.Prelude.{◌≡◌, ◌≢◌, ◌<◌, IfSome, IfNone, [], ◌∷◌, None};
-ghost use Rattle.bump_open.specs.Applying.{DrainerApplies};
-ghost use Rattle.bump_open.specs.Draining.{why_not_closed};
+ghost use Rattle.bump_handles.specs.Applying.{DrainerApplies};
+ghost use Rattle.bump_handles.specs.Draining.{why_not_closed};
 ghost use Rattle.bump_c.specs.Numbers.{number_of_close};
 ghost use Rattle.bump_c.specs.One.{IsOne};
 ghost use Rattle.bump_c.specs.Tells.{TellsLaneClass, TellsRest, IsClosedBy};
@@ -11,7 +11,7 @@ use crate::book_handle::BookHandle;
 use crate::lane_handle::LaneHandle;
 use crate::worker_handle::{WorkerHandle, WorkerSlot};
 use box_parts::{Parts, replace_both};
-use bump_open::Drainer;
+use bump_handles::Drainer;
 use bump_readers::Name;
 use std::marker::Brand;
 

@@ -1,13 +1,13 @@
 //! The handle by which C has a lane of any store, and the slot that it lies in.
 ghost use Rattle.std.specs.Prelude.{◌≡◌, List, [], ◌∷◌};
 ghost use Rattle.atomic_table.specs.Seated.{TableId, table_id_coded};
-ghost use Rattle.bump_open.specs.Views.{DrainerView};
+ghost use Rattle.bump_handles.specs.Views.{DrainerView};
 ghost use Rattle.bump_c.specs.One.{IsOne};
 ghost use Rattle.bump_c.specs.SealLane.{lane_owns, lane_coded, lane_slot_owns, lane_slot_coded};
 
 use box_parts::Parts;
+use bump_handles::Drainer;
 use bump_heads::Name;
-use bump_open::Drainer;
 use std::alloc::Global;
 use std::marker::Model;
 

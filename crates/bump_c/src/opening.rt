@@ -10,10 +10,10 @@ use crate::lane_handle::LaneSlot;
 use crate::store_handle::{StoreHandle, StoreSlot};
 use crate::worker_handle::WorkerSlot;
 use box_parts::Parts;
-use bump_open::open;
+use bump_handles::open;
+use bump_parts::Blank;
 use bump_readers::Name;
 use bump_rules::{ClassConfig, Config};
-use bump_store::Blank;
 use std::alloc::Global;
 use std::marker::Brand;
 

@@ -1,6 +1,6 @@
 //! A worker's calls, of which none waits.
 ghost use Rattle.std.specs.Prelude.{◌≡◌};
-ghost use Rattle.bump_open.specs.Reading.{ReaderReleases};
+ghost use Rattle.bump_handles.specs.Reading.{ReaderReleases};
 ghost use Rattle.bump_c.specs.Numbers.{counts_of};
 ghost use Rattle.bump_c.specs.One.{IsOne};
 ghost use Rattle.bump_c.specs.Tells.{TellsGet, TellsTouch, TellsLabel, TellsHit};
@@ -10,7 +10,7 @@ use crate::answers::{
 };
 use crate::worker_handle::WorkerHandle;
 use box_parts::Parts;
-use bump_open::Reader;
+use bump_handles::Reader;
 use bump_readers::Name;
 use bump_rules::ItemId;
 use std::marker::Brand;

@@ -1,13 +1,13 @@
 //! The handle by which C has a store of any store, and the slot that it lies in.
 ghost use Rattle.std.specs.Prelude.{◌≡◌, List, [], ◌∷◌};
 ghost use Rattle.atomic_table.specs.Seated.{TableId, table_id_coded};
-ghost use Rattle.bump_open.specs.Views.{OpenedView};
+ghost use Rattle.bump_handles.specs.Views.{OpenedView};
 ghost use Rattle.bump_c.specs.One.{IsOne};
 ghost use Rattle.bump_c.specs.SealStore.{store_owns, store_coded, store_slot_owns, store_slot_coded};
 
 use box_parts::Parts;
+use bump_handles::Opened;
 use bump_heads::Name;
-use bump_open::Opened;
 use std::alloc::Global;
 use std::marker::Model;
 

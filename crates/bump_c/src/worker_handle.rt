@@ -1,13 +1,13 @@
 //! The handle by which C has a worker of any store, and the slot that it lies in.
 ghost use Rattle.std.specs.Prelude.{◌≡◌, List, [], ◌∷◌};
 ghost use Rattle.atomic_table.specs.Seated.{TableId, table_id_coded};
-ghost use Rattle.bump_open.specs.Views.{ReaderView};
+ghost use Rattle.bump_handles.specs.Views.{ReaderView};
 ghost use Rattle.bump_c.specs.One.{IsOne};
 ghost use Rattle.bump_c.specs.SealWorker.{worker_owns, worker_coded, worker_slot_owns, worker_slot_coded};
 
 use box_parts::Parts;
+use bump_handles::Reader;
 use bump_heads::Name;
-use bump_open::Reader;
 use std::alloc::Global;
 use std::marker::Model;
 

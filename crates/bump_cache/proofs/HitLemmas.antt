@@ -10,10 +10,9 @@ use Rattle.bump_steps.specs.declared.views.HoldPart.{HoldPart}
 use Rattle.bump_steps.specs.declared.views.OwnStep.{OwnStep}
 use Rattle.bump_steps.specs.References.{new_hold}
 use Rattle.bump_steps.specs.Rule.{chunks as all_chunks}
-use Rattle.bump_store.specs.Gets.{get_answer}
-use Rattle.bump_store.specs.StepCounts.{is_load, is_exchange, is_other, MakesAtMost}
-use Rattle.bump_store.specs.Workers.{WorkerState}
-use Rattle.bump_open.specs.Reading.{WorkerGets}
+use Rattle.bump_parts.specs.Gets.{get_answer, WorkerGets}
+use Rattle.bump_parts.specs.StepCounts.{is_load, is_exchange, is_other, MakesAtMost}
+use Rattle.bump_parts.specs.Workers.{WorkerState}
 use Rattle.bump_cache.specs.Hits.{CacheHits, HitsHeld}
 
 -- what two calls make one after the other is as few as both together

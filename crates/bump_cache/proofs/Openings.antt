@@ -4,9 +4,8 @@ use Rattle.bump_rules.specs.declared.configs.ClassConfig.{ClassConfig}
 use Rattle.bump_rules.specs.declared.configs.Config.{Config}
 use Rattle.bump_class.specs.Books.{BookView, new_book}
 use Rattle.bump_steps.specs.Rule.{class_parts, worker_parts}
-use Rattle.bump_store.specs.Lanes.{worker_parts_of, worker_rings}
-use Rattle.bump_store.specs.Stores.{new_books}
-use Rattle.bump_store.specs.Workers.{WorkerState}
+use Rattle.bump_parts.specs.Workers.{worker_parts_of, worker_rings, WorkerState}
+use Rattle.bump_parts.specs.Parting.{new_books}
 use Rattle.bump_cache.specs.Configs.{IsStoreOf}
 use Rattle.bump_cache.specs.Opening.{CacheBlankView, AreNewReaders, reader_rings}
 use Rattle.bump_cache.specs.Readers.{ReaderView, new_readers}

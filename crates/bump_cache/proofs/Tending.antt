@@ -3,7 +3,7 @@ use Rattle.std.proofs.Common.{◌≡◌, ℕ, zero, suc, ◌+◌, ◌<◌, List,
 use Rattle.std.proofs.Math.Seq.{take-append_seam}
 use Rattle.bump_class.specs.Books.{BookView}
 use Rattle.bump_class.specs.Lanes.{LaneView}
-use Rattle.bump_store.specs.Parting.{raw_rings}
+use Rattle.bump_parts.specs.Parting.{raw_rings}
 use Rattle.bump_cache.specs.Tending.{AppliesOnce, AppliesEach, DrainsLane, DrainsEach, BalancesTimes}
 use Rattle.cache_shelf.specs.Looking.{Balances}
 

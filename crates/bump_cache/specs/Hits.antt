@@ -5,10 +5,11 @@ use Rattle.bump_rules.specs.declared.configs.Config.{Config}
 use Rattle.bump_rules.specs.declared.items.Head.{Head}
 use Rattle.bump_rules.specs.declared.items.ItemId.{ItemId}
 use Rattle.bump_steps.specs.declared.views.HoldPart.{HoldPart}
-use Rattle.bump_store.specs.declared.refusals.GetRefusal.{GetRefusal}
-use Rattle.bump_store.specs.Holds.{SeesMarks}
-use Rattle.bump_store.specs.Workers.{WorkerState}
-use Rattle.bump_open.specs.Reading.{WorkerGets, WorkerTouches}
+use Rattle.bump_parts.specs.declared.refusals.GetRefusal.{GetRefusal}
+use Rattle.bump_parts.specs.Holds.{SeesMarks}
+use Rattle.bump_parts.specs.Workers.{WorkerState}
+use Rattle.bump_parts.specs.Gets.{WorkerGets}
+use Rattle.bump_parts.specs.Touches.{WorkerTouches}
 
 -- What the hit of an item that is held comes to: one look for its marks, and a touch where it hasn't both.
 pub record HitsHeld (config : Config) (item : ItemId) (now : ℕ) (hold : HoldPart) (before after : WorkerState) : Type 0 where

@@ -3,8 +3,7 @@ use Rattle.std.specs.Prelude.{◌≡◌, ℕ, List, map, All, None}
 use Rattle.atomic_table.specs.Seated.{TableId}
 use Rattle.bump_rules.specs.declared.configs.Config.{Config}
 use Rattle.bump_steps.specs.Rule.{worker_parts}
-use Rattle.bump_store.specs.Lanes.{worker_parts_of}
-use Rattle.bump_store.specs.Workers.{WorkerState}
+use Rattle.bump_parts.specs.Workers.{worker_parts_of, WorkerState}
 use Rattle.bump_class.specs.Lanes.{LaneView}
 use Rattle.bump_ring.specs.Ends.{Ring}
 use Rattle.bump_heads.specs.Making.{BlankView}

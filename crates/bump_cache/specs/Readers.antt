@@ -3,7 +3,7 @@ use Rattle.std.specs.Prelude.{ℕ, ◌+◌, min, List, map}
 use Rattle.bump_rules.specs.declared.configs.Config.{Config}
 use Rattle.bump_rules.specs.declared.bumps.Accounts.{Accounts}
 use Rattle.bump_rules.specs.declared.items.ItemId.{ItemId}
-use Rattle.bump_store.specs.Workers.{WorkerState}
+use Rattle.bump_parts.specs.Workers.{WorkerState}
 use Rattle.cache_index.specs.Tables.{Placed}
 
 -- the configuration of the cache's store, the worker, and how many of its gets found something, and how many nothing

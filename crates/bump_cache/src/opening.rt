@@ -3,7 +3,7 @@ ghost use Rattle.std.specs.Prelude.{◌≡◌, IfOk, Some, length, slice_get};
 ghost use Rattle.std.specs.Arc.{arc_value};
 ghost use Rattle.bump_cache.specs.Opening.{AreNewReaders, limits_of, reader_rings};
 ghost use Rattle.bump_cache.specs.Readers.{new_readers};
-ghost use Rattle.bump_store.specs.Parting.{raw_rings};
+ghost use Rattle.bump_parts.specs.Parting.{raw_rings};
 
 use crate::blanks::CacheBlank;
 use crate::caches::Cache;
@@ -11,7 +11,7 @@ use crate::readers::CacheReader;
 use crate::upkeep::Upkeep;
 use bump_class::Book;
 use bump_heads::{Heads, Name};
-use bump_store::{StoreParts, Worker};
+use bump_parts::{StoreParts, Worker};
 use cache_index::{IndexWriter, Indexed, Law};
 use cache_shelf::{CountedBook, Shelf};
 use std::alloc::{AllocError, Global};

@@ -3,13 +3,13 @@ ghost use Rattle.std.specs.Prelude.{◌≡◌, ◌+◌, min, true, length, IfSom
 ghost use Rattle.std.specs.Arc.{arc_value};
 ghost use Rattle.bump_rules.specs.declared.hands.Hand.TheVariants as hand;
 ghost use Rattle.bump_rules.specs.Rings.{IsAccounts};
-ghost use Rattle.bump_store.specs.StepCounts.{MakesAtMost};
+ghost use Rattle.bump_parts.specs.StepCounts.{MakesAtMost};
 ghost use Rattle.bump_cache.specs.Hits.{CacheHits, HitsHeld};
 ghost use Rattle.bump_cache.specs.Readers.{ReaderView as TheReaderView, one_more, new_reader, life_of, dropped_of};
 
 use bump_heads::{Heads, Name, ReaderHeads};
+use bump_parts::{Hold, Worker};
 use bump_rules::{Accounts, ItemId};
-use bump_store::{Hold, Worker};
 use cache_index::{IndexReader, Indexed, Item, Law};
 use std::alloc::Global;
 use std::hash::Hash;

@@ -15,12 +15,8 @@ use Rattle.bump_steps.specs.declared.views.Ride.{Ride}
 use Rattle.bump_class.specs.Applications.{applied_answer}
 use Rattle.bump_class.specs.Books.{BookView}
 use Rattle.bump_class.specs.Lanes.{LaneView, IsRawLane, carries, entries, lives}
+use Rattle.bump_parts.proofs.ClosingLemmas.{numbered_long}
 use Rattle.bump_store.specs.Lanes.{AppliesAboard, outcome_told, told}
-
--- a numbered list is as long as its lives
-pub numbered_long : (first : ℕ) (items : List ItemId) → length (numbered_from first items) ≡ length items
-numbered_long first [] = refl
-numbered_long first (item ∷ items) = ap suc (numbered_long (suc first) items)
 
 -- a lane at rest that carries nothing has nothing aboard
 pub none_aboard : (stage : Lane) → is_half_made stage ≡ false → carried stage ≡ None → aboard stage ≡ []

@@ -1,8 +1,3 @@
-mod GetLemmas
-mod AttemptLemmas
-mod HitLemmas
-mod StepLemmas
-mod GrowingLists
 mod Starts
 mod LaneLemmas
 mod SettlingLemmas

@@ -17,9 +17,11 @@ use Rattle.bump_steps.specs.Plays.{step_of}
 use Rattle.bump_class.specs.Applications.{FoundHeads}
 use Rattle.bump_class.specs.Lanes.{LaneView, IsRawLane, carries, entries, lives}
 use Rattle.bump_store.specs.Lanes.{AppliesNext, NothingAboard, told}
-use Rattle.bump_store.specs.Settling.{AppliedAll, MaySeeEnd, IsLater, IsAppliedBetween, AppliesEach}
-use Rattle.bump_store.proofs.GrowingLists.{grown_on}
-use Rattle.bump_store.proofs.LaneLemmas.{none_aboard, numbered_long}
+use Rattle.bump_parts.specs.Closing.{AppliedAll}
+use Rattle.bump_store.specs.Settling.{MaySeeEnd, IsLater, IsAppliedBetween, AppliesEach}
+use Rattle.bump_parts.proofs.GrowingLists.{grown_on}
+use Rattle.bump_parts.proofs.ClosingLemmas.{numbered_long}
+use Rattle.bump_store.proofs.LaneLemmas.{all_applied, none_aboard}
 
 -- where nothing is aboard, what was applied is what was received
 pub in_order : (this_lane : LaneView) → IsRawLane this_lane.part this_lane.received → NothingAboard this_lane
@@ -234,100 +236,42 @@ looked_for_end now count before between still after so_far same none lane =
       };
     }
 
--- a list without an element
-without_any : {A : Type 0} (xs : List A) → length xs ≡ 0 → xs ≡ []
-without_any [] none = refl
-without_any (x ∷ xs) none = absurd (omega (arith, none))
+-- so many are left of a ring as are known of it, where nothing is aboard
+left_is_known : (sent : List Ride) (before after : LaneView) (count : ℕ) → IsRawLane before.part before.received
+    → carries before ≡ None → after ≡ record before { known = after.known }
+    → sent ≡ after.received ++ after.known → length (entries after) + count ≡ length sent
+    → count ≡ length after.known
+left_is_known sent before after count keeps none lane end number =
+    let keeps_still = subst (λ (x : LaneView). IsRawLane x.part x.received) (sym lane) keeps in
+    omega (
+      arith,
+      number,
+      ap length end,
+      length-append after.received after.known,
+      all_applied after keeps_still (ap carries lane ∙ none),
+    )
+
+-- the same of a look for the end, which may not show it
+pub left_if_shown : (sent : List Ride) (before after : LaneView) (left : Option ℕ)
+    → IsRawLane before.part before.received → carries before ≡ None → after ≡ record before { known = after.known }
+    → IfSome left (λ count. sent ≡ after.received ++ after.known)
+    → IfSome left (λ count. length (entries after) + count ≡ length sent)
+    → IfSome left (λ count. count ≡ length after.known)
+left_if_shown sent before after None keeps none lane end number = tt
+left_if_shown sent before after (Some count) keeps none lane end number =
+    left_is_known sent before after count keeps none lane end number
 
 -- what a look for the end comes to
 pub looked_once : (sent : List Ride) (capacity : ℕ) (before after : LaneView) (left : Option ℕ)
-    → after ≡ record before { known = after.known }
+    → IsRawLane before.part before.received → carries before ≡ None → after ≡ record before { known = after.known }
     → IfSome left (λ count. sent ≡ after.received ++ after.known)
-    → IfSome left (λ count. count ≡ length after.known) → IfSome left (λ count. count ≤ capacity)
+    → IfSome left (λ count. length (entries after) + count ≡ length sent)
+    → IfSome left (λ count. count ≤ capacity + length (aboard after.part.stage))
     → IfNone left (after ≡ before) → MaySeeEnd sent capacity before after
-looked_once sent capacity before after None lane end number few same = record { lane = lane; left = inl same }
-looked_once sent capacity before after (Some count) lane end number few same =
-    record { lane = lane; left = inr (end, omega (arith, number, few)) }
-
--- where it shows that nothing is left, all was applied
-pub all_at_end : (sent : List Ride) (before after : LaneView) (left : Option ℕ) → IsRawLane before.part before.received
-    → carries before ≡ None → after ≡ record before { known = after.known }
-    → IfSome left (λ count. count ≡ length after.known)
-    → IfSome left (λ count. sent ≡ after.received ++ after.known)
-    → IfSome left (λ count. count ≡ 0 → AppliedAll sent after)
-all_at_end sent before after None keeps none lane number end = tt
-all_at_end sent before after (Some count) keeps none lane number end =
-    λ zeroed.
-    subst (λ rides. AppliedAll rides after)
-    (sym (append-nil after.received)
-    ∙ ap (λ rides. after.received ++ rides) (sym (without_any after.known (sym number ∙ zeroed))) ∙ sym end)
-    (in_order after (subst (λ (x : LaneView). IsRawLane x.part x.received) (sym lane) keeps)
-    (ap (λ (x : LaneView). carries x) lane ∙ none))
-
--- what a lane applied, and what is aboard, are as many as it received
-received_long : (this_lane : LaneView) → IsRawLane this_lane.part this_lane.received
-    → length (entries this_lane) + length (aboard this_lane.part.stage) ≡ length this_lane.received
-received_long this_lane keeps = omega (
-  arith,
-  ap length keeps.in_order,
-  length-append (map bump_applied (entries this_lane)) (aboard this_lane.part.stage),
-  length-map (entries this_lane) bump_applied,
-  numbered_long 0 (lives this_lane.received),
-  length-map this_lane.received (λ (ride : Ride). ride.life),
-)
-
--- it applied no more than was sent
-few_applied : (this_lane : LaneView) (sent : List Ride) → IsRawLane this_lane.part this_lane.received
-    → sent ≡ this_lane.received ++ this_lane.known → length (entries this_lane) ≤ length sent
-few_applied this_lane sent keeps end = omega (
-  arith,
-  received_long this_lane keeps,
-  ap length end,
-  length-append this_lane.received this_lane.known,
-)
-
--- where it applied as many as were sent, it applied all
-all_if_as_many : (this_lane : LaneView) (sent : List Ride) → IsRawLane this_lane.part this_lane.received
-    → sent ≡ this_lane.received ++ this_lane.known → length (entries this_lane) ≡ length sent
-    → AppliedAll sent this_lane
-all_if_as_many this_lane sent keeps end as_many =
-    let long = received_long this_lane keeps in
-    let sum = length-append this_lane.received this_lane.known in
-    let none_aboard = without_any (aboard this_lane.part.stage) (omega (arith, long, sum, ap length end, as_many)) in
-    let none_known = without_any this_lane.known (omega (arith, long, sum, ap length end, as_many)) in
-    sym (append-nil (map bump_applied (entries this_lane)))
-    ∙ ap (λ bumps. map bump_applied (entries this_lane) ++ bumps) (sym none_aboard)
-    ∙ keeps.in_order
-    ∙ ap (λ rides. numbered_from 0 (lives rides))
-    (sym (append-nil this_lane.received) ∙ ap (λ rides. this_lane.received ++ rides) (sym none_known) ∙ sym end)
-
--- a lane that knows more of its ring is as lawful as before
-knows_more : (before after : LaneView) → after ≡ record before { known = after.known }
-    → IsRawLane before.part before.received → IsRawLane after.part after.received
-knows_more before after same keeps = subst (λ (x : LaneView). IsRawLane x.part x.received) (sym same) keeps
-
--- so many are still to be applied, by the counts of the closed ring and of the lane
-pub left_over : (before after : LaneView) (sent : List Ride) (accepted applied : ℕ)
-    → IsRawLane before.part before.received → after ≡ record before { known = after.known }
-    → sent ≡ after.received ++ after.known → accepted ≡ length sent → applied ≡ length (entries after)
-    → applied ≤ accepted
-left_over before after sent accepted applied keeps same end is is' =
-    omega (arith, is, is', few_applied after sent (knows_more before after same keeps) end)
-
--- where none is, all was applied
-pub all_at_none_left : (before after : LaneView) (sent : List Ride) (left : ℕ) → IsRawLane before.part before.received
-    → after ≡ record before { known = after.known } → sent ≡ after.received ++ after.known
-    → length (entries after) + left ≡ length sent → left ≡ 0 → AppliedAll sent after
-all_at_none_left before after sent left keeps same end number none =
-    all_if_as_many after sent (knows_more before after same keeps) end (omega (arith, number, none))
-
--- what was sent was applied, is aboard, or is known to be left
-pub sent_in_parts : (before after : LaneView) (sent : List Ride) → IsRawLane before.part before.received
-    → after ≡ record before { known = after.known } → sent ≡ after.received ++ after.known
-    → length sent ≡ length (entries after) + length (aboard after.part.stage) + length after.known
-sent_in_parts before after sent keeps same end = omega (
-  arith,
-  received_long after (knows_more before after same keeps),
-  ap length end,
-  length-append after.received after.known,
-)
+looked_once sent capacity before after None keeps none lane end number few same =
+    record { lane = lane; left = inl same }
+looked_once sent capacity before after (Some count) keeps none lane end number few same =
+    let known = left_is_known sent before after count keeps none lane end number in
+    let idle = none_aboard before.part.stage keeps.at_rest none in
+    let same_stage = ap (λ (x : LaneView). length (aboard x.part.stage)) lane in
+    record { lane = lane; left = inr (end, omega (arith, known, few, same_stage, ap length idle)) }

@@ -1,16 +1,17 @@
--- Where classes' chunks start, and the parts of new workers and lanes.
-use Rattle.std.proofs.Common.{◌≡◌, ℕ, zero, suc, ◌+◌, ◌-◌, ◌<◌, ◌≤◌, ◌↔◌, List, [], ◌∷◌, Option, None, Some, IfSome, IfNone, IsErr, ok_or, length, refl, ap, ◌∙◌, arith}
-use Rattle.std.proofs.lemmas.List.{length-map}
+-- Where classes' chunks start, and the Books and lanes of a store that is opened.
+use Rattle.std.proofs.Common.{◌≡◌, ℕ, zero, suc, ◌+◌, ◌-◌, ◌<◌, ◌≤◌, ◌↔◌, List, [], ◌∷◌, All, drop, Option, None, Some, IfSome, IfNone, IsErr, ok_or, length, refl, ap, ◌∙◌, arith}
 use Rattle.std.specs.Prelude.{slice_index}
 use Rattle.bump_rules.specs.declared.configs.ClassConfig.{ClassConfig}
 use Rattle.bump_rules.specs.Configs.{chunks_of}
-use Rattle.bump_steps.specs.Rule.{worker_part, worker_parts, lane_part, lane_parts}
-use Rattle.bump_readers.proofs.WorkerTurns.{length_workers}
-use Rattle.bump_heads.proofs.Makings.{length_lanes}
+use Rattle.bump_rules.specs.Lanes.{carried}
+use Rattle.bump_steps.specs.declared.views.LanePart.{LanePart}
+use Rattle.bump_steps.specs.Rule.{class_parts, lane_parts}
+use Rattle.bump_readers.specs.Seats.{head_or}
 use Rattle.bump_class.specs.Books.{BookView}
-use Rattle.bump_store.specs.Lanes.{LaneState, worker_parts_of, lane_parts_of}
-use Rattle.bump_store.specs.Workers.{WorkerState}
-use Rattle.bump_store.specs.Stores.{first_chunk, starts_from, HasChunk, HasLimitsOf, IsBetweenStarts, IsOfClass, IsStore}
+use Rattle.bump_class.specs.Lanes.{LaneView}
+use Rattle.bump_parts.specs.Parting.{starts_from, new_books, raw_parts_of, IsBetweenStarts}
+use Rattle.bump_store.specs.Lanes.{NothingAboard}
+use Rattle.bump_store.specs.Stores.{first_chunk, HasChunk, HasLimitsOf, IsOfClass, IsStore}
 
 -- there is one more than there are classes
 pub length_starts : (first : ℕ) (classes : List ClassConfig) → length (starts_from first classes) ≡ length classes + 1
@@ -37,26 +38,22 @@ some_of_all zero classes = omega arith
 some_of_all (suc class) [] = omega arith
 some_of_all (suc class) (config ∷ configs) = omega (arith, some_of_all class configs)
 
--- the first of those that are still to be made
-pub next_worker : (number count : ℕ) → number < count
-    → worker_parts number (count - number) ≡ worker_part number ∷ worker_parts (number + 1) (count - (number + 1))
-next_worker number count low =
-    let more : count - number ≡ suc (count - (number + 1)) = omega (arith, low) in ap (worker_parts number) more
+-- there is a Book for each class
+pub count_of_books : (fresh class first workers : ℕ) (classes : List ClassConfig)
+    → length (new_books (class_parts fresh class first classes) classes workers) ≡ length classes
+count_of_books fresh class first workers [] = refl
+count_of_books fresh class first workers (config ∷ configs) =
+    ap suc (count_of_books fresh (class + 1) (first + config.chunks) workers configs)
 
-pub next_lane : (number count : ℕ) → number < count
-    → lane_parts number (count - number) ≡ lane_part number ∷ lane_parts (number + 1) (count - (number + 1))
-next_lane number count low =
-    let more : count - number ≡ suc (count - (number + 1)) = omega (arith, low) in ap (lane_parts number) more
-
--- so many workers have the parts of so many, and so many lanes
-pub count_of_workers : (count : ℕ) (workers : List WorkerState) → worker_parts_of workers ≡ worker_parts 0 count
-    → length workers ≡ count
-count_of_workers count workers are =
-    omega (arith, ap length are, length-map workers (λ (x : WorkerState). x.part), length_workers 0 count)
-
-pub count_of_lanes : (count : ℕ) (lanes : List LaneState) → lane_parts_of lanes ≡ lane_parts 0 count → length lanes ≡ count
-count_of_lanes count lanes are =
-    omega (arith, ap length are, length-map lanes (λ (x : LaneState). x.lane.part), length_lanes 0 count)
+-- new lanes have nothing aboard
+pub new_lanes_idle : (worker count : ℕ) (lanes : List LaneView) → raw_parts_of lanes ≡ lane_parts worker count
+    → All NothingAboard lanes
+new_lanes_idle worker count [] are k none low = absurd (omega (arith, low))
+new_lanes_idle worker zero (this_lane ∷ lanes) are k none low = absurd (cc are)
+new_lanes_idle worker (suc count) (this_lane ∷ lanes) are zero none low =
+    ap (λ (parts : List LanePart). carried (head_or this_lane.part parts).stage) are
+new_lanes_idle worker (suc count) (this_lane ∷ lanes) are (suc k) none low =
+    new_lanes_idle (worker + 1) count lanes (ap (drop 1) are) k none (omega (arith, low))
 
 -- what was made is a store
 pub made_store : (classes : List ClassConfig) (starts : List ℕ) (locks : ℕ) → starts ≡ starts_from 0 classes

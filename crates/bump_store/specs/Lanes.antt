@@ -1,4 +1,4 @@
--- What contracts see of lanes, of the rings that workers and lanes share, and what applying the next bump comes to.
+-- What contracts see of lanes, and what applying the next bump comes to.
 use Rattle.std.specs.Prelude.{◌≡◌, ℕ, zero, suc, true, Some, None, List, map}
 use Rattle.bump_rules.specs.declared.bumps.Applied.{Applied}
 use Rattle.bump_rules.specs.declared.bumps.Applied.TheVariants as applied
@@ -9,31 +9,27 @@ use Rattle.bump_rules.specs.declared.bumps.Outcome.TheVariants as outcome
 use Rattle.bump_rules.specs.Lanes.{bump_of}
 use Rattle.bump_steps.specs.declared.views.LanePart.{LanePart}
 use Rattle.bump_steps.specs.declared.views.Ride.{Ride}
-use Rattle.bump_steps.specs.declared.views.WorkerPart.{WorkerPart}
 use Rattle.bump_steps.specs.Views.{owns}
 use Rattle.bump_heads.specs.Applying.{NamesNoBumpTwice}
 use Rattle.bump_class.specs.Applications.{AppliesFront, EachMoveIsTold}
 use Rattle.bump_class.specs.Books.{BookView}
 use Rattle.bump_class.specs.Lanes.{LaneView, Boards, carries}
 use Rattle.bump_ring.specs.Ends.{Ring}
-use Rattle.bump_store.specs.Workers.{WorkerState}
 
 -- a lane of a store: its ring with what its seat knows, and how many bumps it applies in one drain
 pub record LaneState : Type 0 where
   pub lane : LaneView
   pub capacity : ℕ
 
--- which rings workers send into, and which ones lanes drain, in order
-abbrev pub worker_rings : List WorkerState → List Ring
-worker_rings workers = map (λ worker. worker.sender.ring) workers
+-- the lanes of these raw ones, each of which applies so many bumps in one drain
+abbrev pub lanes_of : ℕ → List LaneView → List LaneState
+lanes_of capacity raws = map (λ raw. record { lane = raw; capacity = capacity }) raws
 
+-- which rings lanes drain, in order
 abbrev pub lane_rings : List LaneState → List Ring
 lane_rings lanes = map (λ this_lane. this_lane.lane.ring) lanes
 
 -- what their seats know
-abbrev pub worker_parts_of : List WorkerState → List WorkerPart
-worker_parts_of workers = map (λ worker. worker.part) workers
-
 abbrev pub lane_parts_of : List LaneState → List LanePart
 lane_parts_of lanes = map (λ this_lane. this_lane.lane.part) lanes
 

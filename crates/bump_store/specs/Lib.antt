@@ -1,16 +1,7 @@
-pub mod Holds
-pub mod Workers
-pub mod Gets
-pub mod Touches
-pub mod Counts
-pub mod StepCounts
-pub mod Attempts
 pub mod Stores
 pub mod Lanes
 pub mod Meetings
 pub mod Loans
-pub mod Closing
 pub mod Settling
 pub mod Passes
 pub mod Finishing
-pub mod Parting

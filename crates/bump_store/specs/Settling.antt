@@ -1,17 +1,12 @@
 -- What lanes do with rings that are closed.
-use Rattle.std.specs.Prelude.{◌≡◌, ℕ, suc, ◌+◌, ◌*◌, ◌≤◌, ◌⊎◌, List, [], ◌∷◌, ◌++◌, length, map}
+use Rattle.std.specs.Prelude.{◌≡◌, ℕ, suc, ◌+◌, ◌*◌, ◌≤◌, ◌⊎◌, List, [], ◌∷◌, ◌++◌, length}
 use mathlib.Core.List.{IsPrefix}
 use Rattle.bump_rules.specs.declared.bumps.Entry.{Entry}
 use Rattle.bump_rules.specs.declared.lanes.Lane.TheVariants.{Empty}
-use Rattle.bump_rules.specs.Rings.{bump_applied, numbered_from}
 use Rattle.bump_steps.specs.declared.views.Ride.{Ride}
-use Rattle.bump_class.specs.Lanes.{LaneView, entries, lives}
+use Rattle.bump_class.specs.Lanes.{LaneView, entries}
+use Rattle.bump_parts.specs.Closing.{AppliedAll}
 use Rattle.bump_store.specs.Lanes.{AppliesNext, NothingAboard, told}
-
--- What a lane applied is these bumps, once each and in order, with the numbers 0, 1, 2 and so on. Of all that its ring
--- accepted it is what a World promises of each lane, where nothing is aboard and nothing is left in the ring.
-abbrev pub AppliedAll : List Ride → LaneView → Type 0
-AppliedAll bumps this_lane = map bump_applied (entries this_lane) ≡ numbered_from 0 (lives bumps)
 
 -- A lane may have been shown the end of its ring, of this room and of which this was sent: then it knows all that is
 -- left, which has room in the ring.

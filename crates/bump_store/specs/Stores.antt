@@ -1,10 +1,8 @@
 -- Which class of a store has which chunks, and what a store keeps.
-use Rattle.std.specs.Prelude.{◌≡◌, ℕ, ◌+◌, ◌≤◌, ◌<◌, List, [], ◌∷◌, length, map, take, slice_index, slice_get, Some}
-use Rattle.std.specs.List.{zip}
+use Rattle.std.specs.Prelude.{◌≡◌, ℕ, ◌+◌, ◌≤◌, ◌<◌, List, length, take, slice_index, slice_get, Some}
 use Rattle.bump_rules.specs.declared.configs.ClassConfig.{ClassConfig}
 use Rattle.bump_rules.specs.Configs.{chunks_of}
-use Rattle.bump_class.specs.Books.{BookView, new_book}
-use Rattle.bump_steps.specs.declared.views.ClassPart.{ClassPart}
+use Rattle.bump_class.specs.Books.{BookView}
 
 -- a class's first chunk: as many as the classes before it have together
 abbrev pub first_chunk : ℕ → List ClassConfig → ℕ
@@ -28,15 +26,6 @@ pub record IsOfClass (class : ℕ) (classes : List ClassConfig) (book : BookView
   pub end : book.part.first + book.part.count ≡ first_chunk (class + 1) classes
   pub limits : HasLimitsOf class classes book
 
--- the new Books of classes with these parts and these configurations, in order
-abbrev pub new_books : List ClassPart → List ClassConfig → ℕ → List BookView
-new_books parts classes workers = map (λ class. new_book class.0 class.1 workers) (zip parts classes)
-
--- the first chunk of each of these classes, of which the first begins here, and the chunk behind them all
-abbrev pub starts_from : ℕ → List ClassConfig → List ℕ
-starts_from first [] = first ∷ []
-starts_from first (config ∷ configs) = first ∷ starts_from (first + config.chunks) configs
-
 -- What every store keeps: by its configuration's classes, where its classes' chunks start, and the number of its locks.
 pub record IsStore (classes : List ClassConfig) (starts : List ℕ) (locks : ℕ) : Type 0 where
   -- where each class's chunks start, and behind them where the last one's end
@@ -46,9 +35,3 @@ pub record IsStore (classes : List ClassConfig) (starts : List ℕ) (locks : ℕ
   pub one_each : locks ≡ length classes
   pub some : 1 ≤ locks
   pub few : locks ≤ 16
-
--- The chunk is between the start at this place and the next one.
-pub record IsBetweenStarts (chunk : ℕ) (starts : List ℕ) (place : ℕ) : Type 0 where
-  pub in_range : place + 1 < length starts
-  pub behind : slice_index starts place ≤ chunk
-  pub before : chunk < slice_index starts (place + 1)

@@ -1,7 +1,8 @@
 //! Which class of a store has a chunk.
 ghost use Rattle.std.specs.Prelude.{◌≡◌, ◌≤◌, ◌<◌, ◌↔◌, ◌-◌, length, slice_index, IfOk, IfSome, IfNone, IsErr};
 ghost use Rattle.bump_rules.specs.Configs.{chunks_of};
-ghost use Rattle.bump_store.specs.Stores.{HasChunk, IsBetweenStarts};
+ghost use Rattle.bump_store.specs.Stores.{HasChunk};
+ghost use Rattle.bump_parts.specs.Parting.{IsBetweenStarts};
 
 use crate::stores::Store;
 use bump_heads::Name;

@@ -1,108 +1,18 @@
 //! A store that is opened: its locks, its workers and its lanes.
-ghost use Rattle.std.specs.Prelude.{◌≡◌, ◌≤◌, ◌<◌, ◌-◌, [], ◌∷◌, ◌++◌, IfOk, OnOk, length, map, vec_len, All};
-ghost use Rattle.bump_rules.specs.Configs.{chunks_of, HaveChunks};
-ghost use Rattle.bump_steps.specs.Rule.{class_parts, worker_parts, lane_parts};
-ghost use Rattle.bump_readers.specs.Workers.{worker_seen};
-ghost use Rattle.bump_heads.specs.Making.{class_seen, lane_seen};
-ghost use Rattle.bump_heads.specs.Seats.{most_workers};
-ghost use Rattle.bump_store.specs.Lanes.{worker_rings, lane_rings, worker_parts_of, lane_parts_of};
-ghost use Rattle.bump_store.specs.Stores.{starts_from, new_books};
+ghost use Rattle.std.specs.Prelude.{◌≡◌, IfOk, length, vec_len, All};
+ghost use Rattle.bump_steps.specs.Rule.{worker_parts, lane_parts};
+ghost use Rattle.bump_parts.specs.Workers.{worker_rings, worker_parts_of};
+ghost use Rattle.bump_store.specs.Lanes.{NothingAboard, lane_rings, lane_parts_of, lanes_of};
 
 use crate::lanes::Lane;
 use crate::maintainers::Maintainer;
 use crate::stores::Store;
-use crate::workers::Worker;
 use bump_class::{Book, RawLane};
-use bump_heads::{Blank, ClassSeat, HeadParts, Heads, LaneSeat, Name, WorkerSeat};
-use bump_ring::ring;
-use bump_rules::{ClassConfig, Config};
+use bump_heads::{Blank, Name};
+use bump_parts::{StoreParts, Worker};
+use bump_rules::Config;
 use std::alloc::{AllocError, Global};
 use std::sync::Mutex;
-
-// Puts a worker behind the others, and a lane.
-fn add<N: Name>(
-    workers: &mut Vec<Worker<N>>,
-    lanes: &mut Vec<Lane<N>>,
-    worker: Worker<N>,
-    lane: Lane<N>,
-) -> Result<(), AllocError>
-    ensures { OnOk result ((workers.new.items ≡ workers.old.items ++ worker ∷ [])
-        × (lanes.new.items ≡ lanes.old.items ++ lane ∷ [])) }
-{
-    workers.push(worker)?;
-    lanes.push(lane)?;
-    Ok(())
-}
-
-// The workers and lanes of so many new rings.
-pub(crate) fn make_rings<N: Name>(
-    alloc: Global,
-    seats: Vec<WorkerSeat<N>>,
-    lane_seats: Vec<LaneSeat<N>>,
-    count: u32,
-    capacity: u32,
-) -> Result<(Vec<Worker<N>>, Vec<Lane<N>>), AllocError>
-    requires seats { seats.items ≡ map worker_seen (worker_parts 0 count) }
-    requires lanes { lane_seats.items ≡ map lane_seen (lane_parts 0 count) }
-    requires some { 0 < capacity }
-    ensures rings { IfOk result (λ r. worker_rings r.0.items ≡ lane_rings r.1.items) }
-    ensures workers { IfOk result (λ r. worker_parts_of r.0.items ≡ worker_parts 0 count) }
-    ensures lanes { IfOk result (λ r. lane_parts_of r.1.items ≡ lane_parts 0 count) }
-    ensures capacity { IfOk result (λ r. All (λ w. w.sender.capacity ≡ capacity) r.0.items
-        × All (λ l. l.capacity ≡ capacity) r.1.items) }
-{
-    let mut workers = Vec::with_capacity(alloc, count as usize)?;
-    let mut lanes = Vec::with_capacity(alloc, count as usize)?;
-    let mut left = seats.into_iter();
-    let mut lanes_left = lane_seats.into_iter();
-    for number in 0..count {
-        let Some(seat) = left.next() else {
-            unreachable!()
-        };
-        let Some(lane_seat) = lanes_left.next() else {
-            unreachable!()
-        };
-        let (sender, receiver) = ring::<N>(alloc, capacity)?;
-        let worker = Worker::new(seat, sender);
-        let raw = RawLane::new(receiver, lane_seat);
-        add(&mut workers, &mut lanes, worker, Lane { raw, capacity })?;
-    }
-    Ok((workers, lanes))
-}
-
-// The Books of all classes, and where the classes' chunks start and the last one's end.
-pub(crate) fn make_books<N: Name>(
-    alloc: Global,
-    seats: Vec<ClassSeat<N>>,
-    classes: &[ClassConfig],
-    first_generation: u32,
-    workers: u32,
-) -> Result<(Vec<Book<N>>, Vec<u32>), AllocError>
-    requires seats { seats.items ≡ map class_seen (class_parts (first_generation - 1) 0 0 classes.now) }
-    requires chunks { HaveChunks classes.now }
-    requires few { chunks_of classes.now ≤ 1000000 }
-    requires workers { workers ≤ most_workers }
-    ensures opened_books { IfOk result (λ r. r.0.items ≡ new_books
-        (class_parts (first_generation - 1) 0 0 classes.now) classes.now workers) }
-    ensures books { IfOk result (λ r. length r.0.items ≡ length classes.now) }
-    ensures starts { IfOk result (λ r. r.1.items ≡ starts_from 0 classes.now) }
-{
-    let mut books = Vec::with_capacity(alloc, classes.len())?;
-    let mut starts = Vec::with_capacity(alloc, classes.len())?;
-    let mut left = seats.into_iter();
-    let mut first = 0;
-    for class in classes {
-        let Some(seat) = left.next() else {
-            unreachable!()
-        };
-        let book = Book::new(alloc, seat, first, *class, workers)?;
-        books.push(book)?;
-        starts.push(first)?;
-        first += class.chunks;
-    }
-    starts.push(first)?;
-    Ok((books, starts))
-}
 
 // Puts each Book under a lock of its own.
 fn put_under_locks<N: Name>(
@@ -116,6 +26,22 @@ fn put_under_locks<N: Name>(
         locks.push(Mutex::new(book))?;
     }
     Ok(locks)
+}
+
+// The lanes of so many raw ones, each of which applies at most so many bumps in a drain.
+fn make_lanes<N: Name>(
+    alloc: Global,
+    raws: Vec<RawLane<N>>,
+    capacity: u32,
+) -> Result<Vec<Lane<N>>, AllocError>
+    requires idle { All NothingAboard raws.items }
+    ensures { IfOk result (λ lanes. lanes.items ≡ lanes_of capacity raws.items) }
+{
+    let mut lanes = Vec::with_capacity(alloc, raws.len())?;
+    for raw in raws {
+        lanes.push(Lane { raw, capacity })?;
+    }
+    Ok(lanes)
 }
 
 impl<N: Name> Store<N> {
@@ -138,23 +64,16 @@ impl<N: Name> Store<N> {
         ensures capacity { IfOk result (λ r. All (λ w. w.sender.capacity ≡ config.now.capacity) r.1.items
             × All (λ l. l.capacity ≡ config.now.capacity) r.2) }
     {
-        let HeadParts {
+        let StoreParts {
             heads,
-            classes,
+            books,
+            starts,
             workers,
             lanes,
-        } = Heads::<N>::new(alloc, blank, config)?;
-        let slice = config.classes.as_slice();
-        let (books, starts) = make_books(
-            alloc,
-            classes,
-            slice,
-            config.first_generation,
-            config.workers,
-        )?;
+        } = StoreParts::<N>::open(alloc, blank, config)?;
         let locks = put_under_locks(alloc, books)?;
-        let configs = Vec::from_slice(alloc, slice)?;
-        let (workers, lanes) = make_rings(alloc, workers, lanes, config.workers, config.capacity)?;
+        let configs = Vec::from_slice(alloc, config.classes.as_slice())?;
+        let lanes = make_lanes(alloc, lanes, config.capacity)?;
         let store = Store {
             heads,
             books: locks,

@@ -5,12 +5,13 @@ ghost use mathlib.Core.List.{IsPrefix};
 ghost use Rattle.bump_rules.specs.declared.lanes.Lane.TheVariants.{Empty as IsEmpty};
 ghost use Rattle.bump_class.specs.Lanes.{LaneView as TheLaneView, entries};
 ghost use Rattle.bump_store.specs.Lanes.{told, AppliesNext};
-ghost use Rattle.bump_store.specs.Settling.{AppliedAll, MaySeeEnd, Settles};
+ghost use Rattle.bump_parts.specs.Closing.{AppliedAll};
+ghost use Rattle.bump_store.specs.Settling.{MaySeeEnd, Settles};
 
-use crate::closing::ClosedWorker;
 use crate::lanes::Lane;
 use crate::stores::Store;
 use bump_heads::Name;
+use bump_parts::ClosedWorker;
 use bump_rules::{Accounts, Entry};
 use std::sync::Wait;
 use thiserror::Error;
@@ -56,7 +57,7 @@ impl<N: Name> Lane<N> {
         ensures unchanged { IfNone result (self.new ≡ self.old) }
     {
         self.raw.promise();
-        self.raw.rest(&mut closed.sender)
+        closed.rest(&mut self.raw)
     }
 
     // Whether it applied as many bumps as its closed ring accepted.

@@ -24,12 +24,12 @@ use Rattle.bump_rules.specs.declared.places.Tail.{Tail}
 use Rattle.bump_rules.specs.Rings.{most_attempts}
 use Rattle.bump_steps.specs.Rule.{chunks as all_chunks}
 use Rattle.bump_steps.specs.declared.views.HoldPart.{HoldPart}
-use Rattle.bump_store.specs.Gets.{Got}
+use Rattle.bump_parts.specs.Gets.{Got}
 use Rattle.bump_store.specs.Stores.{HasChunk, IsOfClass}
-use Rattle.bump_store.specs.Touches.{Findings, Touched}
-use Rattle.bump_store.specs.Workers.{WorkerState}
-use Rattle.bump_store.specs.declared.refusals.GetRefusal.{GetRefusal}
-use Rattle.bump_store.specs.declared.refusals.GetRefusal.TheVariants.{NoSuchChunk}
+use Rattle.bump_parts.specs.Touches.{Findings, Touched}
+use Rattle.bump_parts.specs.Workers.{WorkerState}
+use Rattle.bump_parts.specs.declared.refusals.GetRefusal.{GetRefusal}
+use Rattle.bump_parts.specs.declared.refusals.GetRefusal.TheVariants.{NoSuchChunk}
 
 -- how a link is told
 abbrev pub link_told : Result ItemId LinkRefusal → Answer

@@ -11,7 +11,7 @@ use Rattle.bump_rules.specs.declared.history.Change.{Change}
 use Rattle.bump_rules.specs.declared.configs.Config.{Config}
 use Rattle.bump_rules.specs.declared.places.Place.TheVariants as place
 use Rattle.bump_store.specs.Finishing.{AreOfClasses, sum_of}
-use Rattle.bump_store.specs.Workers.{WorkerState}
+use Rattle.bump_parts.specs.Workers.{WorkerState}
 use Rattle.bump_steps.specs.declared.views.ClassPart.{ClassPart}
 use Rattle.bump_store.specs.Lanes.{LaneState}
 use Rattle.bump_store.specs.Stores.{IsOfClass}

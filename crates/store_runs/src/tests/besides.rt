@@ -1,7 +1,8 @@
 //! What calls of a store leave as it is, and what they hand on: they change nothing besides, times aren't lost on the
 //! way, and lanes come in order. Of these calls contracts say only what becomes of some Book of the class.
 ghost use Rattle.std.specs.Prelude.{◌≡◌};
-ghost use Rattle.bump_store.specs.Lanes.{worker_rings, lane_rings};
+ghost use Rattle.bump_parts.specs.Workers.{worker_rings};
+ghost use Rattle.bump_store.specs.Lanes.{lane_rings};
 
 use super::calls::{expect_hit, get, lock, new_cold, next};
 use super::drains::{expect_drained, hit_new};

@@ -1,7 +1,8 @@
 //! Two workers hit the items of one class while a thread for each lane applies their bumps. Once both are settled, the
 //! class's Book tells of each worker as many moves as its lane told.
 ghost use Rattle.std.specs.Prelude.{◌≡◌};
-ghost use Rattle.bump_store.specs.Lanes.{worker_rings, lane_rings};
+ghost use Rattle.bump_parts.specs.Workers.{worker_rings};
+ghost use Rattle.bump_store.specs.Lanes.{lane_rings};
 
 use super::calls::{lock, new_cold, next, pull, touch, try_get};
 use super::expecting::expect;

@@ -1,7 +1,8 @@
 //! A worker and the lane of its ring, in one value whose type says so.
 ghost use Rattle.std.specs.Prelude.{◌≡◌, IsSome};
 ghost use Rattle.std.specs.Vec.Iter.{into_iter_items};
-ghost use Rattle.bump_store.specs.Lanes.{worker_rings, lane_rings};
+ghost use Rattle.bump_parts.specs.Workers.{worker_rings};
+ghost use Rattle.bump_store.specs.Lanes.{lane_rings};
 
 use super::calls::hit_twice;
 use super::expecting::expect;

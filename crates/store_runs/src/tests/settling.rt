@@ -1,6 +1,7 @@
 //! Rings that are closed and settled, a maintainer's passes, and a store that is finished.
 ghost use Rattle.std.specs.Prelude.{◌≡◌};
-ghost use Rattle.bump_store.specs.Lanes.{worker_rings, lane_rings};
+ghost use Rattle.bump_parts.specs.Workers.{worker_rings};
+ghost use Rattle.bump_store.specs.Lanes.{lane_rings};
 
 use super::calls::{expect_size, get, lock, new_cold, touch};
 use super::expecting::expect;

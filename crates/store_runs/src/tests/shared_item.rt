@@ -1,6 +1,7 @@
 //! Two workers touch one item while a third thread applies what they queue; then both rings are settled.
 ghost use Rattle.std.specs.Prelude.{◌≡◌};
-ghost use Rattle.bump_store.specs.Lanes.{worker_rings, lane_rings};
+ghost use Rattle.bump_parts.specs.Workers.{worker_rings};
+ghost use Rattle.bump_store.specs.Lanes.{lane_rings};
 
 use super::calls::{hit, new_cold, next};
 use super::expecting::expect;

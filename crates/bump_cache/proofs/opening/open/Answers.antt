@@ -2,7 +2,7 @@ use Rattle.std.proofs.Common.{sym, ap, ◌∙◌, subst}
 use Rattle.cache_shelf.specs.Shelves.{IsShelf}
 use Rattle.bump_cache.proofs.Openings.{opened_shelf, opened_readers, rings_of_readers}
 use Rattle.bump_cache.specs.Opening.{reader_rings}
-use Rattle.bump_store.specs.Parting.{raw_rings}
+use Rattle.bump_parts.specs.Parting.{raw_rings}
 use Rattle.bump_cache.proofs.opening.open.Goals as goal
 
 pub invariant_of-shelf : goal.invariant_of-shelf

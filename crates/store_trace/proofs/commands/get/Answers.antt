@@ -8,9 +8,9 @@ use Rattle.bump_steps.specs.Rule.{chunks as all_chunks}
 use Rattle.bump_steps.specs.declared.refusals.TakeRefusal.{TakeRefusal}
 use Rattle.bump_steps.specs.declared.views.HoldPart.{HoldPart}
 use Rattle.bump_steps.specs.References.{new_hold}
-use Rattle.bump_store.specs.Gets.{Got, get_answer}
-use Rattle.bump_store.specs.Touches.{Findings, Touched}
-use Rattle.bump_store.specs.Workers.{WorkerState}
+use Rattle.bump_parts.specs.Gets.{Got, get_answer}
+use Rattle.bump_parts.specs.Touches.{Findings, Touched}
+use Rattle.bump_parts.specs.Workers.{WorkerState}
 use Rattle.store_trace.proofs.commands.get.Goals as goal
 
 -- a hold that was taken is of the item that was asked for

@@ -36,7 +36,7 @@ use Rattle.bump_c.specs.One.{as_fact, alone}
 use Rattle.bump_c.proofs.AsBoxLane.{E, FromParts, BoxAt}
 use Rattle.box_parts.specs.contracts.parts.Parts as Parts
 use Rattle.bump_c.specs.contracts.lane_handle.LaneHandle as Sealed
-use Rattle.bump_open.specs.contracts.drainers.Drainer as Home
+use Rattle.bump_handles.specs.contracts.drainers.Drainer as Home
 use Rattle.std_heap.specs.contracts.Global as Heap
 use Rattle.std_heap.specs.contracts.GlobalAllocator.TheImpl.{ghosts}
 use Rattle.bump_c.specs.contracts.lane_handle.LaneHandle.of_parts as F

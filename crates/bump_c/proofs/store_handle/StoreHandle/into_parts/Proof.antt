@@ -37,7 +37,7 @@ use Rattle.bump_c.specs.One.{as_fact, alone}
 use Rattle.bump_c.proofs.AsBoxStore.{E, FromSeal, BoxAt}
 use Rattle.box_parts.specs.contracts.parts.Parts as Parts
 use Rattle.bump_c.specs.contracts.store_handle.StoreHandle as Sealed
-use Rattle.bump_open.specs.contracts.opening.Opened as Home
+use Rattle.bump_handles.specs.contracts.opening.Opened as Home
 use Rattle.std_heap.specs.contracts.Global as Heap
 use Rattle.std_heap.specs.contracts.GlobalAllocator.TheImpl.{ghosts}
 use Rattle.bump_c.specs.contracts.store_handle.StoreHandle.into_parts as F

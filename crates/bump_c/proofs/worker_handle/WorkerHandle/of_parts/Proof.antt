@@ -36,7 +36,7 @@ use Rattle.bump_c.specs.One.{as_fact, alone}
 use Rattle.bump_c.proofs.AsBoxWorker.{E, FromParts, BoxAt}
 use Rattle.box_parts.specs.contracts.parts.Parts as Parts
 use Rattle.bump_c.specs.contracts.worker_handle.WorkerHandle as Sealed
-use Rattle.bump_open.specs.contracts.readers.Reader as Home
+use Rattle.bump_handles.specs.contracts.readers.Reader as Home
 use Rattle.std_heap.specs.contracts.Global as Heap
 use Rattle.std_heap.specs.contracts.GlobalAllocator.TheImpl.{ghosts}
 use Rattle.bump_c.specs.contracts.worker_handle.WorkerHandle.of_parts as F

@@ -1,5 +1,5 @@
 use Rattle.std.proofs.Common.{◌≡◌, ℕ}
-use Rattle.bump_store.specs.Parting.{raw_rings}
+use Rattle.bump_parts.specs.Parting.{raw_rings}
 use Rattle.bump_cache.specs.Tending.{TendsTimes}
 use Rattle.bump_cache.proofs.caches.Cache.tend_until.Given as goal
 

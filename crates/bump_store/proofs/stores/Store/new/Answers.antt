@@ -1,51 +1,75 @@
-use Rattle.std.proofs.Common.{rules, ◌≡◌, ◌≤◌, List, length, sym, ap, ◌∙◌, subst, vec_len, arith}
+use Rattle.std.proofs.Common.{rules, ◌≡◌, ◌≤◌, All, length, refl, sym, ap, ◌∙◌, subst, vec_len, arith}
+use Rattle.std.proofs.lemmas.List.{length-map}
+use Rattle.std.proofs.lemmas.List.Elements.{All-map}
+use Rattle.std.proofs.lemmas.Simd.{map-map}
 use Rattle.std.specs.Arc.{arc_value}
-use Rattle.bump_rules.specs.Configs.{HaveChunks, chunks_of}
-use Rattle.bump_rules.specs.declared.configs.ClassConfig.{ClassConfig}
 use Rattle.bump_rules.specs.declared.configs.Config.{Config}
 use Rattle.bump_rules.proofs.Bounds.{bounds}
+use Rattle.bump_class.specs.Lanes.{LaneView}
+use Rattle.bump_store.specs.Lanes.{LaneState, lane_rings, lane_parts_of}
 use Rattle.bump_store.specs.Stores.{IsStore}
-use Rattle.bump_store.proofs.Starts.{count_of_workers, count_of_lanes, made_store}
+use Rattle.bump_store.proofs.Starts.{count_of_books, new_lanes_idle, made_store}
 use Rattle.bump_store.proofs.stores.Store.new.Goals as goal
 
-pub make_books-requires-clause-chunks : goal.make_books-requires-clause-chunks
-make_books-requires-clause-chunks g c = let key = c.args.config.now in subst HaveChunks (sym c.as_slice-slice.ensures) (bounds key.workers key.capacity key.refs_limit key.first_generation key.classes key.valid).chunks_each
+pub make_lanes-requires-clause-idle : goal.make_lanes-requires-clause-idle
+make_lanes-requires-clause-idle g c =
+    new_lanes_idle 0 c.args.config.now.workers c.in_ok-heads.lanes.items c.in_ok-heads.ensures.lanes
 
 pub invariant_of-store : goal.invariant_of-store
 invariant_of-store g c =
     let key = c.args.config.now in
     let b = bounds key.workers key.capacity key.refs_limit key.first_generation key.classes key.valid in
-    let made = c.in_ok-books.ensures in
-    let same : c.as_slice-slice.result.now ≡ (arc_value c.in_ok-heads.field-0.heads).classes = c.as_slice-slice.ensures ∙ sym (ap (λ (k : Config). k.classes) c.in_ok-heads.ensures.heads) in
-    let copied : c.in_ok-configs.configs.items ≡ c.as_slice-slice.result.now = search rules in
+    let parts = c.in_ok-heads.ensures in
+    let same : key.classes ≡ (arc_value c.in_ok-heads.field-0.heads).classes = sym (ap (λ (k : Config). k.classes) parts.heads) in
+    let copied : c.in_ok-configs.configs.items ≡ c.as_slice.result.now = search rules in
     let count : vec_len c.in_ok-locks.locks ≡ length key.classes =
-    c.in_ok-locks.ensures ∙ made.books ∙ ap length c.as_slice-slice.ensures in (
-      subst (λ ks. IsStore ks c.in_ok-books.starts.items (vec_len c.in_ok-locks.locks)) same
-          (made_store _ _ _ made.starts (c.in_ok-locks.ensures ∙ made.books) (omega (arith, count, b.classes_least)) (omega (arith, count, b.classes_most))),
-      copied ∙ same,
-      sym (ap (λ (k : Config). k.workers) c.in_ok-heads.ensures.heads),
+    c.in_ok-locks.ensures ∙ ap length parts.books
+    ∙ count_of_books (key.first_generation - 1) 0 0 key.workers key.classes in (
+      subst (λ ks. IsStore ks c.in_ok-heads.field-0.starts.items (vec_len c.in_ok-locks.locks)) same
+          (made_store _ _ _ parts.starts count (omega (arith, count, b.classes_least)) (omega (arith, count, b.classes_most))),
+      copied ∙ c.as_slice.ensures ∙ same,
+      sym (ap (λ (k : Config). k.workers) parts.heads),
     )
 
 pub returns-clause-count : goal.returns-clause-count
 returns-clause-count g c =
-    (count_of_workers _ _ c.in_ok-workers.ensures.workers, count_of_lanes _ _ c.in_ok-workers.ensures.lanes)
+    let parts = c.in_ok-heads.ensures in (
+      parts.count.0,
+      ap length c.in_ok-lanes.ensures
+          ∙ length-map c.in_ok-heads.field-0.lanes.items (λ (x : LaneView). record { lane = x; capacity = c.args.config.now.capacity })
+          ∙ parts.count.1,
+    )
+
+pub returns-clause-rings : goal.returns-clause-rings
+returns-clause-rings g c = c.in_ok-heads.ensures.rings
+    ∙ sym (ap lane_rings c.in_ok-lanes.ensures
+    ∙ map-map (λ (x : LaneState). x.lane.ring) (λ (x : LaneView). record { lane = x; capacity = c.args.config.now.capacity })
+    c.in_ok-heads.field-0.lanes.items)
+
+pub returns-clause-lanes : goal.returns-clause-lanes
+returns-clause-lanes g c = ap lane_parts_of c.in_ok-lanes.ensures
+    ∙ map-map (λ (x : LaneState). x.lane.part) (λ (x : LaneView). record { lane = x; capacity = c.args.config.now.capacity })
+    c.in_ok-heads.field-0.lanes.items
+    ∙ c.in_ok-heads.ensures.lanes
+
+pub returns-clause-capacity : goal.returns-clause-capacity
+returns-clause-capacity g c =
+    let room = c.args.config.now.capacity in (
+      c.in_ok-heads.ensures.capacity,
+      subst (All (λ (x : LaneState). x.capacity ≡ room)) (sym c.in_ok-lanes.ensures)
+          (All-map (λ (x : LaneState). x.capacity ≡ room) (λ (x : LaneView). record { lane = x; capacity = room })
+          c.in_ok-heads.field-0.lanes.items (λ k none low. refl)),
+    )
 
 pub invariant_of-result : goal.invariant_of-result
 invariant_of-result g c =
     let key = c.args.config.now in
     let b = bounds key.workers key.capacity key.refs_limit key.first_generation key.classes key.valid in
-    let few : length c.in_ok-workers.lanes.items ≤ 64 = omega (
+    let few : length c.in_ok-lanes.lanes.items ≤ 64 = omega (
       arith,
-      count_of_lanes _ _ c.in_ok-workers.ensures.lanes,
+      ap length c.in_ok-lanes.ensures,
+      length-map c.in_ok-heads.field-0.lanes.items (λ (x : LaneView). record { lane = x; capacity = key.capacity }),
+      c.in_ok-heads.ensures.count.1,
       b.workers_most,
     ) in
     few
-
-pub make_books-requires-clause-workers : goal.make_books-requires-clause-workers
-make_books-requires-clause-workers g c = let key = c.args.config.now in
-    (bounds key.workers key.capacity key.refs_limit key.first_generation key.classes key.valid).workers_most
-
-pub make_books-requires-clause-few : goal.make_books-requires-clause-few
-make_books-requires-clause-few g c = let key = c.args.config.now in
-    subst (λ (ks : List ClassConfig). chunks_of ks ≤ 1000000) (sym c.as_slice-slice.ensures)
-    (bounds key.workers key.capacity key.refs_limit key.first_generation key.classes key.valid).chunks_most

@@ -1,0 +1,94 @@
+-- What lanes do, each with the closed worker of its ring at the end.
+use Rattle.std.specs.Prelude.{◌≡◌, ℕ, zero, suc, ◌+◌, ◌-◌, ◌^◌, ◌≤◌, ◌<◌, Bool, true, false, List, [], length}
+use Rattle.std.specs.Prelude.{Option, Some, None, IfSome, IfNone, IsSome}
+use Rattle.bump_rules.specs.declared.bumps.Accounts.{Accounts}
+use Rattle.bump_rules.specs.declared.bumps.Bump.{Bump}
+use Rattle.bump_class.specs.Lanes.{LaneView, carries, entries}
+use Rattle.bump_class.specs.Runs.{AppliesRun, HasNextAboard, MayHaveBoarded, IsRunOver}
+use Rattle.bump_parts.specs.Closing.{ClosedState, AppliedAll}
+use Rattle.bump_parts.specs.Parting.{IsBetweenStarts}
+use Rattle.bump_handles.specs.declared.drainers.Rested.{Rested}
+use Rattle.bump_handles.specs.declared.drainers.RestState.{RestState}
+use Rattle.bump_handles.specs.declared.drainers.RestState.TheVariants as state
+use Rattle.bump_handles.specs.Views.{TaggedBookView, DrainerView}
+
+-- no class has the chunk, by the first chunk of each
+abbrev pub HasNoClass : ℕ → List ℕ → Type 0
+HasNoClass chunk starts = (class : ℕ) → class < 2 ^ 32 → ¬ IsBetweenStarts chunk starts class
+
+-- Why no class is told, by the bump that is aboard then: none is aboard or known, and nothing is changed; or no class
+-- has its chunk.
+abbrev pub HasNoNextClass : Option Bump → DrainerView → DrainerView → Type 0
+HasNoNextClass None before after = (before.lane.known ≡ []) × (after ≡ before)
+HasNoNextClass (Some bump) before after = HasNoClass bump.life.chunk before.starts
+
+-- What asking for the class of the next bump comes to: that bump is aboard from then on.
+pub record TellsClass (before after : DrainerView) (answer : Option ℕ) : Type 0 where
+  pub class : IfSome answer (λ class. IfSome (carries after.lane) (λ bump.
+      IsBetweenStarts bump.life.chunk before.starts class))
+  pub aboard : IfSome answer (λ class. IsSome (carries after.lane))
+  pub next : IsSome (carries after.lane) → HasNextAboard (carries before.lane) before.lane after.lane
+  pub none : IfNone answer (HasNoNextClass (carries after.lane) before after)
+  pub applied : entries after.lane ≡ entries before.lane
+  pub ring : after.lane.ring ≡ before.lane.ring
+  pub kept : after ≡ record before { lane = after.lane }
+
+-- What a run of bumps that a lane applies to a Book comes to.
+pub record DrainerApplies (now limit : ℕ) (book : TaggedBookView) (before : DrainerView) (left : TaggedBookView)
+    (after : DrainerView) (count : ℕ) : Type 0 where
+  pub none : count ≡ 0 → (left ≡ book) × (entries after.lane ≡ entries before.lane)
+  -- the next bump went aboard, where none was, and it and the next ones were applied, as a Book applies a run
+  pub applied : 0 < count → (aboard : LaneView) × (last : LaneView)
+      × HasNextAboard (carries before.lane) before.lane aboard
+      × AppliesRun now book.book aboard count left.book last
+      × MayHaveBoarded (carries after.lane) last after.lane
+  pub most : count ≤ limit
+  -- it ended early only where no bump is aboard or known, or the next is of another class
+  pub over : count < limit → IsRunOver (carries after.lane) left.book after.lane
+  -- else the next one didn't go aboard
+  pub full : 0 < count → count ≡ limit → carries after.lane ≡ None
+  pub grown : length (entries after.lane) ≡ length (entries before.lane) + count
+  pub ring : after.lane.ring ≡ before.lane.ring
+  pub kept : after ≡ record before { lane = after.lane }
+  pub store : left.store ≡ book.store
+
+-- nothing is counted
+abbrev pub no_counts : Accounts
+no_counts = record { attempted = 0; accepted = 0; full = 0; busy = 0; refs = 0 }
+
+-- how far a lane is whose worker is closed, and whose ring has so many bumps left
+abbrev pub state_of_left : ℕ → RestState
+state_of_left zero = state.Settled
+state_of_left (suc others) = state.Left
+
+-- What is left of a ring whose worker is closed with these counts, where so many of its bumps were applied: the others
+-- that it accepted, where it shows its end; else it isn't known.
+abbrev pub rested_closed : Bool → Accounts → ℕ → Rested
+rested_closed true counts applied = record {
+  state = state_of_left (counts.accepted - applied);
+  left = counts.accepted - applied;
+  counts = counts;
+  applied = applied;
+}
+rested_closed false counts applied = record { state = state.Unseen; left = 0; counts = counts; applied = applied }
+
+-- What is left of a ring, by its worker if that is closed, where so many of its bumps were applied. Of one whose worker
+-- isn't closed nothing else is told.
+abbrev pub rested : Option ClosedState → ℕ → Rested
+rested None applied = record { state = state.Open; left = 0; counts = no_counts; applied = applied }
+rested (Some closed) applied = rested_closed closed.sender.shows_end closed.part.accounts applied
+
+-- What asking what is left of a lane's ring comes to.
+pub record DrainerRests (before after : DrainerView) (answer : Rested) : Type 0 where
+  pub told : answer ≡ rested before.closed (length (entries before.lane))
+  pub is_open : before.closed ≡ None → answer.state ≡ state.Open
+  pub not_closed : answer.state ≡ state.Open → before.closed ≡ None
+  -- the lane has applied all that the ring accepted, once each and in order
+  pub settled : answer.state ≡ state.Settled → IfSome before.closed (λ closed.
+      AppliedAll closed.sender.sent after.lane)
+  pub accepted : answer.state ≡ state.Settled → answer.applied ≡ answer.counts.accepted
+  pub left : answer.state ≡ state.Left → (0 < answer.left)
+      × (answer.applied + answer.left ≡ answer.counts.accepted)
+  pub counts : IfSome before.closed (λ closed. answer.counts ≡ closed.part.accounts)
+  pub applied : answer.applied ≡ length (entries after.lane)
+  pub kept : after ≡ record before { lane = record before.lane { known = after.lane.known } }

@@ -1,0 +1,42 @@
+-- What a store is in parts, once it is opened.
+use Rattle.std.specs.Prelude.{◌≡◌, ℕ, ◌+◌, List, [], ◌∷◌, map, replicate, None, ◌-◌, All}
+use Rattle.bump_rules.specs.declared.configs.Config.{Config}
+use Rattle.bump_steps.specs.Rule.{class_parts, worker_parts, lane_parts}
+use Rattle.bump_class.specs.Books.{BookView}
+use Rattle.bump_class.specs.Lanes.{LaneView}
+use Rattle.bump_parts.specs.Workers.{worker_rings, worker_parts_of, WorkerState}
+use Rattle.bump_parts.specs.Parting.{raw_rings, raw_parts_of, new_books, starts_from}
+use Rattle.bump_handles.specs.Views.{ReaderView, TaggedBookView, DrainerView, OpenedView}
+
+-- the readers of these workers, whose numbers go from this one on, each with so many places that have no hold
+abbrev pub readers_of : ℕ → Config → ℕ → ℕ → List WorkerState → List ReaderView
+readers_of store config places number [] = []
+readers_of store config places number (worker ∷ workers) = record {
+  store = store;
+  number = number;
+  config = config;
+  worker = worker;
+  holds = replicate places None;
+} ∷ readers_of store config places (number + 1) workers
+
+abbrev pub tagged : ℕ → List BookView → List TaggedBookView
+tagged store books = map (λ book. record { store = store; book = book }) books
+
+-- lanes whose workers aren't closed
+abbrev pub drainers_of : ℕ → List ℕ → List LaneView → List DrainerView
+drainers_of store starts lanes =
+    map (λ this_lane. record { store = store; lane = this_lane; closed = None; starts = starts }) lanes
+
+-- A store of this configuration was opened under this number: all its parts are there, and new.
+pub record IsOpened (store : ℕ) (config : Config) (places : ℕ) (opened : OpenedView) : Type 0 where
+  pub workers : List WorkerState
+  pub lanes : List LaneView
+  pub has_readers : opened.readers ≡ readers_of store config places 0 workers
+  pub has_lanes : opened.lanes ≡ drainers_of store (starts_from 0 config.classes) lanes
+  -- the worker and the lane of a number have one ring
+  pub rings : worker_rings workers ≡ raw_rings lanes
+  pub new_workers : worker_parts_of workers ≡ worker_parts 0 config.workers
+  pub new_lanes : raw_parts_of lanes ≡ lane_parts 0 config.workers
+  pub capacity : All (λ worker. worker.sender.capacity ≡ config.capacity) workers
+  pub books : opened.books ≡ tagged store (new_books (class_parts (config.first_generation - 1) 0 0 config.classes)
+      config.classes config.workers)

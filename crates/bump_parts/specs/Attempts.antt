@@ -1,0 +1,51 @@
+-- The parts of a touch, made while the hold is joined to the worker's seat.
+use Rattle.std.specs.Prelude.{◌≡◌, ℕ, ◌≤◌, true, ◌++◌, length}
+use Rattle.bump_rules.specs.declared.hands.Hand.TheVariants.{Idle}
+use Rattle.bump_rules.specs.declared.items.ItemId.{ItemId}
+use Rattle.bump_rules.specs.declared.commands.Dropped.{Dropped}
+use Rattle.bump_rules.specs.declared.commands.Dropped.TheVariants.{Full}
+use Rattle.bump_rules.specs.declared.commands.Room.TheVariants.{Unknown}
+use Rattle.bump_rules.specs.declared.commands.Touch.{Touch}
+use Rattle.bump_rules.specs.declared.commands.Touch.TheVariants as touch
+use Rattle.bump_rules.specs.Lives.{count_of}
+use Rattle.bump_rules.specs.Tables.{attempted_of}
+use Rattle.bump_steps.specs.declared.views.WorkerPart.{WorkerPart}
+use Rattle.bump_steps.specs.Tries.{RideFound}
+use Rattle.bump_readers.specs.declared.views.WorkerView.{WorkerView}
+use Rattle.bump_ring.specs.Ends.{SenderView}
+use Rattle.bump_parts.specs.Counts.{counted_end}
+use Rattle.bump_parts.specs.Touches.{Findings, AreFindings, IsHeadOf, why_dropped, answer_of, attempt_steps, queued}
+use Rattle.bump_parts.specs.Touches.{touched_part}
+
+-- the worker is idle again
+abbrev pub attempted_part : Touch → ItemId → Findings → WorkerPart → WorkerPart
+attempted_part answered item found part = record part {
+  hand = Idle;
+  accounts = counted_end answered part.accounts;
+  steps = part.steps ++ attempt_steps answered item found;
+}
+
+abbrev pub offered : Touch → ItemId → WorkerView → SenderView → SenderView
+offered answered item worker sender = record sender { sent = sender.sent ++ queued answered worker.part.worker item }
+
+-- an attempt, by its own findings
+pub record Attempted (limit : ℕ) (item : ItemId) (before after : WorkerView) (sender_before sender_after : SenderView)
+    (answered : Touch) (found : Findings) : Type 0 where
+  pub looks : RideFound limit item found.look found.failed
+  pub back : answered ≡ touch.Dropped Full → IsHeadOf item found.back
+  pub cleared : (why : Dropped) → answered ≡ touch.Dropped why → IsHeadOf item found.cleared
+  pub fetched : (why : Dropped) → answered ≡ touch.Dropped why → found.cleared.fetched ≡ true
+  pub room : found.room ≡ Unknown → sender_before.capacity ≤ length sender_before.sent
+  pub answer : answered ≡ attempted_of (why_dropped limit found) (length sender_before.sent)
+  pub part : after ≡ record before { part = attempted_part answered item found before.part }
+  pub sender : sender_after ≡ offered answered item before sender_before
+
+-- a hit
+pub record Hit (limit : ℕ) (item : ItemId) (now : ℕ) (before after : WorkerView)
+    (sender_before sender_after : SenderView) (answered : Touch) (found : Findings) : Type 0 where
+  pub findings : AreFindings limit item answered found
+  pub room : found.room ≡ Unknown → sender_before.capacity ≤ length sender_before.sent
+  pub answer : answered ≡ answer_of limit found (length sender_before.sent)
+  pub part : after ≡ record before { part = touched_part answered item now found before.part }
+  pub sender : sender_after ≡ offered answered item before sender_before
+  pub first : answered ≡ touch.First → count_of item before.part.hits ≡ 0

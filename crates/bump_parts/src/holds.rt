@@ -1,0 +1,71 @@
+//! Holds. Contracts see plain data.
+ghost use Rattle.std.specs.Prelude.{◌≡◌, ◌<◌, suc, slice_index};
+ghost use Rattle.bump_rules.specs.declared.items.Head.{Head as TheHead};
+ghost use Rattle.bump_steps.specs.declared.views.HoldPart.{HoldPart as TheHoldPart};
+ghost use Rattle.bump_parts.specs.Holds.{part_of, whole, SeesMarks};
+
+use bump_readers::{Hold as Held, Name, ReaderHeads};
+use bump_rules::ItemId;
+use std::marker::Model;
+
+/// A reference to an item, which a reader has. While there is one, the item's chunk isn't free and keeps its
+/// generation, whatever is unlinked meanwhile. It may go to another thread, and it must be spent, by `release`.
+pub struct Hold<N: Name> {
+    pub(crate) held: Held<N>,
+}
+
+impl<N: Name> Model for Hold<N> {
+    ghost Value = { TheHoldPart };
+
+    ghost view = { λ h. part_of h.held };
+
+    ghost invariant = { λ h. h.held ≡ whole (part_of h.held) };
+}
+
+impl<N: Name> Hold<N> {
+    /// The item that is held.
+    pub fn life(&self) -> ItemId
+        ensures { result ≡ self.now.life }
+    {
+        self.held.life()
+    }
+
+    /// The label of the item, by one load: the first word of its row. Nothing changes.
+    pub fn label(&mut self, heads: &ReaderHeads<N>) -> u64
+        ensures is { result ≡ slice_index self.old.row 0 }
+        ensures same { self.new ≡ self.old }
+    {
+        heads.label_of(&mut self.held)
+    }
+
+    /// A further word of the item, by one load: it stands in the row behind the label. Nothing changes.
+    #[inline(always)]
+    pub fn word(&mut self, heads: &ReaderHeads<N>, index: u32) -> u64
+        requires index { index < N.table.slots }
+        ensures is { result ≡ slice_index self.old.row (suc index) }
+        ensures same { self.new ≡ self.old }
+    {
+        heads.word_of(&mut self.held, index)
+    }
+
+    /// Whether the item has both marks, FETCHED and ACTIVE, by one load of its head word, which the hold's view keeps.
+    /// Nothing else changes.
+    ///
+    /// It is so for most hits of an item that is hit often. A touch would answer Already then, and change no word, but
+    /// by a locked step: a caller that asks first, and touches where the answer is no, saves it. Where the marks are
+    /// seldom set it is one load more. Another thread may clear ACTIVE just behind the load, as behind a touch.
+    #[inline(always)]
+    pub fn is_marked(&mut self, heads: &ReaderHeads<N>) -> bool
+        ensures marked { (found : TheHead) × SeesMarks self.old result self.new found }
+    {
+        let found = heads.look_of(&mut self.held);
+        found.fetched && found.active
+    }
+
+    /// Gives the reference back, by one subtraction on the head word, as memcached's `do_item_remove`. Where the item
+    /// was unlinked meanwhile, and nobody else holds it, a sweep of its class finds its chunk free from then on.
+    pub fn release(self, heads: &ReaderHeads<N>) {
+        let Hold { held } = self;
+        heads.give_back(held);
+    }
+}
