@@ -1,10 +1,11 @@
 -- What readers do with numbered holds.
-use Rattle.std.specs.Prelude.{◌≡◌, ◌≢◌, ℕ, ◌<◌, ◌≤◌, Bool, true, false, List, Option, Some, None, slice_index}
+use Rattle.std.specs.Prelude.{◌≡◌, ◌≢◌, ℕ, ◌<◌, ◌≤◌, Bool, true, false, List, Option, Some, None}
 use Rattle.std.specs.Prelude.{Result, Ok, Err}
 use Rattle.std.specs.Prelude.{IfSome, IfNone, IfOk, IfErr, slice_get, slice_set}
 use Rattle.bump_rules.specs.declared.commands.Touch.{Touch}
 use Rattle.bump_rules.specs.declared.items.ItemId.{ItemId}
 use Rattle.bump_steps.specs.declared.views.HoldPart.{HoldPart}
+use Rattle.bump_steps.specs.References.{label_of_row}
 use Rattle.bump_parts.specs.declared.refusals.GetRefusal.{GetRefusal}
 use Rattle.bump_parts.specs.declared.refusals.GetRefusal.TheVariants as refused
 use Rattle.bump_parts.specs.Gets.{WorkerGets}
@@ -62,7 +63,7 @@ pub record ReaderTouches (place : ℕ) (now : ℕ) (before after : ReaderView) (
 pub record ReaderReads (place : ℕ) (before after : ReaderView) (answer : Option ℕ) : Type 0 where
   pub no_hold : IfNone answer (HoldsNothing place before × (after ≡ before))
   pub read : IfSome answer (λ label. (hold : HoldPart) × HasHold place before hold
-      × (label ≡ slice_index hold.row 0) × (after ≡ before))
+      × (label ≡ label_of_row hold.row) × (after ≡ before))
 
 -- What giving back the hold in a place comes to.
 pub record ReaderReleases (place : ℕ) (before after : ReaderView) (answer : Bool) : Type 0 where
@@ -78,6 +79,6 @@ pub record ReaderHits (item : ItemId) (now : ℕ) (before after : ReaderView)
   pub hit : IfOk answer (λ whole. (between : WorkerState) × (hold : HoldPart)
       × WorkerGets before.config item before.worker between (Ok hold)
       × WorkerTouches before.config hold.life now between after.worker whole.touch
-      × (whole.label ≡ slice_index hold.row 0))
+      × (whole.label ≡ label_of_row hold.row))
   pub ring : after.worker.sender.ring ≡ before.worker.sender.ring
   pub kept : after ≡ record before { worker = after.worker }

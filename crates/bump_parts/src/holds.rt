@@ -1,11 +1,13 @@
 //! Holds. Contracts see plain data.
-ghost use Rattle.std.specs.Prelude.{◌≡◌, ◌<◌, suc, slice_index};
+ghost use Rattle.std.specs.Prelude.{◌≡◌, ◌<◌};
+ghost use Rattle.bump_steps.specs.References.{label_of_row, word_of_row};
 ghost use Rattle.bump_rules.specs.declared.items.Head.{Head as TheHead};
 ghost use Rattle.bump_steps.specs.declared.views.HoldPart.{HoldPart as TheHoldPart};
 ghost use Rattle.bump_parts.specs.Holds.{part_of, whole, SeesMarks};
 
 use bump_readers::{Hold as Held, Name, ReaderHeads};
 use bump_rules::ItemId;
+use bump_steps::RowLaw;
 use std::marker::Model;
 
 /// A reference to an item, which a reader has. While there is one, the item's chunk isn't free and keeps its
@@ -31,8 +33,8 @@ impl<N: Name> Hold<N> {
     }
 
     /// The label of the item, by one load: the first word of its row. Nothing changes.
-    pub fn label(&mut self, heads: &ReaderHeads<N>) -> u64
-        ensures is { result ≡ slice_index self.old.row 0 }
+    pub fn label<L: RowLaw>(&mut self, heads: &ReaderHeads<N, L>) -> u64
+        ensures is { result ≡ label_of_row self.old.row }
         ensures same { self.new ≡ self.old }
     {
         heads.label_of(&mut self.held)
@@ -40,9 +42,9 @@ impl<N: Name> Hold<N> {
 
     /// A further word of the item, by one load: it stands in the row behind the label. Nothing changes.
     #[inline(always)]
-    pub fn word(&mut self, heads: &ReaderHeads<N>, index: u32) -> u64
+    pub fn word<L: RowLaw>(&mut self, heads: &ReaderHeads<N, L>, index: u32) -> u64
         requires index { index < N.table.slots }
-        ensures is { result ≡ slice_index self.old.row (suc index) }
+        ensures is { result ≡ word_of_row self.old.row index }
         ensures same { self.new ≡ self.old }
     {
         heads.word_of(&mut self.held, index)
@@ -55,7 +57,7 @@ impl<N: Name> Hold<N> {
     /// by a locked step: a caller that asks first, and touches where the answer is no, saves it. Where the marks are
     /// seldom set it is one load more. Another thread may clear ACTIVE just behind the load, as behind a touch.
     #[inline(always)]
-    pub fn is_marked(&mut self, heads: &ReaderHeads<N>) -> bool
+    pub fn is_marked<L: RowLaw>(&mut self, heads: &ReaderHeads<N, L>) -> bool
         ensures marked { (found : TheHead) × SeesMarks self.old result self.new found }
     {
         let found = heads.look_of(&mut self.held);
@@ -64,7 +66,7 @@ impl<N: Name> Hold<N> {
 
     /// Gives the reference back, by one subtraction on the head word, as memcached's `do_item_remove`. Where the item
     /// was unlinked meanwhile, and nobody else holds it, a sweep of its class finds its chunk free from then on.
-    pub fn release(self, heads: &ReaderHeads<N>) {
+    pub fn release<L: RowLaw>(self, heads: &ReaderHeads<N, L>) {
         let Hold { held } = self;
         heads.give_back(held);
     }

@@ -13,14 +13,15 @@ use bump_class::{Book, RawLane};
 use bump_heads::{ClassSeat, LaneSeat, Name, WorkerSeat};
 use bump_ring::ring;
 use bump_rules::ClassConfig;
+use bump_steps::RowLaw;
 use std::alloc::{AllocError, Global};
 
 // Puts a worker behind the others, and a lane.
-fn add<N: Name>(
+fn add<N: Name, L: RowLaw>(
     workers: &mut Vec<Worker<N>>,
-    lanes: &mut Vec<RawLane<N>>,
+    lanes: &mut Vec<RawLane<N, L>>,
     worker: Worker<N>,
-    lane: RawLane<N>,
+    lane: RawLane<N, L>,
 ) -> Result<(), AllocError>
     ensures { OnOk result ((workers.new.items ≡ workers.old.items ++ worker ∷ [])
         × (lanes.new.items ≡ lanes.old.items ++ lane ∷ [])) }
@@ -31,13 +32,13 @@ fn add<N: Name>(
 }
 
 // The workers and lanes of so many new rings.
-pub(crate) fn make_rings<N: Name>(
+pub(crate) fn make_rings<N: Name, L: RowLaw>(
     alloc: Global,
     seats: Vec<WorkerSeat<N>>,
-    lane_seats: Vec<LaneSeat<N>>,
+    lane_seats: Vec<LaneSeat<N, L>>,
     count: u32,
     capacity: u32,
-) -> Result<(Vec<Worker<N>>, Vec<RawLane<N>>), AllocError>
+) -> Result<(Vec<Worker<N>>, Vec<RawLane<N, L>>), AllocError>
     requires seats { seats.items ≡ map worker_seen (worker_parts 0 count) }
     requires lanes { lane_seats.items ≡ map lane_seen (lane_parts 0 count) }
     requires some { 0 < capacity }
@@ -66,13 +67,13 @@ pub(crate) fn make_rings<N: Name>(
 }
 
 // The Books of all classes, and where the classes' chunks start and the last one's end.
-pub(crate) fn make_books<N: Name>(
+pub(crate) fn make_books<N: Name, L: RowLaw>(
     alloc: Global,
-    seats: Vec<ClassSeat<N>>,
+    seats: Vec<ClassSeat<N, L>>,
     classes: &[ClassConfig],
     first_generation: u32,
     workers: u32,
-) -> Result<(Vec<Book<N>>, Vec<u32>), AllocError>
+) -> Result<(Vec<Book<N, L>>, Vec<u32>), AllocError>
     requires seats { seats.items ≡ map class_seen (class_parts (first_generation - 1) 0 0 classes.now) }
     requires chunks { HaveChunks classes.now }
     requires few { chunks_of classes.now ≤ 1000000 }

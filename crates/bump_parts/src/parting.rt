@@ -14,18 +14,19 @@ use crate::workers::Worker;
 use bump_class::{Book, RawLane};
 use bump_heads::{Blank, HeadParts, Heads, Name};
 use bump_rules::Config;
+use bump_steps::{AnyRow, RowLaw};
 use std::alloc::{AllocError, Global};
 use std::sync::Arc;
 
 /// What a store is made of, without its locks: who has them takes care that one thread at a time has a Book, a worker
 /// or a lane.
 #[derive(Drop)]
-pub struct StoreParts<N: Name> {
+pub struct StoreParts<N: Name, L: RowLaw = AnyRow> {
     /// The words of all chunks, which all threads share.
-    pub heads: Arc<Heads<N>, Global>,
+    pub heads: Arc<Heads<N, L>, Global>,
 
     /// The Books of its classes, by number.
-    pub books: Vec<Book<N>>,
+    pub books: Vec<Book<N, L>>,
 
     /// The first chunk of each class, and behind them the number of all chunks.
     pub starts: Vec<u32>,
@@ -34,14 +35,18 @@ pub struct StoreParts<N: Name> {
     pub workers: Vec<Worker<N>>,
 
     /// The lanes of their rings, by number.
-    pub lanes: Vec<RawLane<N>>,
+    pub lanes: Vec<RawLane<N, L>>,
 }
 
-impl<N: Name> StoreParts<N> {
+impl<N: Name, L: RowLaw> StoreParts<N, L> {
     /// Opens a store over a blank, as `Store::new` does, in parts: the Book of each class, in which all chunks are in
     /// UNUSED, a worker and a lane for each ring, by number. No worker has made a step, no ring has accepted a bump,
     /// and no lane has applied one. It is refused only for want of memory, and the blank is gone then.
-    pub fn open(alloc: Global, blank: Blank, config: &Config) -> Result<StoreParts<N>, AllocError>
+    pub fn open(
+        alloc: Global,
+        blank: Blank<L>,
+        config: &Config,
+    ) -> Result<StoreParts<N, L>, AllocError>
         requires name { blank.table ≡ N.table }
         requires config { blank.config ≡ config.now }
         ensures heads { IfOk result (λ p. arc_value p.heads ≡ config.now) }
@@ -61,7 +66,7 @@ impl<N: Name> StoreParts<N> {
             classes,
             workers,
             lanes,
-        } = Heads::<N>::new(alloc, blank, config)?;
+        } = Heads::<N, L>::new(alloc, blank, config)?;
         let (books, starts) = make_books(
             alloc,
             classes,
@@ -87,7 +92,7 @@ impl<N: Name> ClosedWorker<N> {
     /// changed then.
     ///
     /// Where none is left, the lane has applied all that the ring accepted, once each and in order.
-    pub fn rest(&mut self, lane: &mut RawLane<N>) -> Option<u64>
+    pub fn rest<L: RowLaw>(&mut self, lane: &mut RawLane<N, L>) -> Option<u64>
         requires ring { self.old.sender.ring ≡ lane.old.ring }
         ensures closed { self.new ≡ self.old }
         ensures lane { lane.new ≡ record lane.old { known = lane.new.known } }

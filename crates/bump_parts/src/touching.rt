@@ -7,7 +7,7 @@ ghost use Rattle.bump_rules.specs.Rings.{IsAccounts, most_attempts};
 ghost use Rattle.bump_rules.specs.Tables.{is_cold};
 ghost use Rattle.bump_steps.specs.Places.{head_place};
 ghost use Rattle.bump_steps.specs.declared.views.HoldPart.{HoldPart as TheHoldPart};
-ghost use Rattle.bump_steps.specs.References.{new_hold, IsRow};
+ghost use Rattle.bump_steps.specs.References.{new_hold, IsRow, words_in};
 ghost use Rattle.bump_steps.specs.Rides.{dropped_as};
 ghost use Rattle.bump_steps.specs.Rule.{chunks as all_chunks};
 ghost use Rattle.bump_readers.specs.Taking.{IsTakenBy};
@@ -27,7 +27,7 @@ use crate::workers::Worker;
 use bump_readers::{Name, ReaderHeads, WorkerSeat};
 use bump_ring::Sender;
 use bump_rules::{Accounts, Dropped, Head, ItemId, MOST_ATTEMPTS, Segment, Touch};
-use bump_steps::{AnyRefusal, RideRefusal, TakeRefusal};
+use bump_steps::{AnyRefusal, RideRefusal, RowLaw, TakeRefusal};
 
 // A condition that proofs read as an equation.
 fn is_cold(segment: Segment) -> bool
@@ -49,8 +49,8 @@ fn dropped_as(refusal: RideRefusal) -> Dropped
 // An attempt to bump the item, which the worker tries: the bump's reference is taken, and it is offered to the ring.
 // After a drop ACTIVE is cleared.
 #[inline(always)]
-fn attempt<N: Name>(
-    heads: &ReaderHeads<N>,
+fn attempt<N: Name, L: RowLaw>(
+    heads: &ReaderHeads<N, L>,
     seat: &mut WorkerSeat<N>,
     sender: &mut Sender<N>,
     life: ItemId,
@@ -81,8 +81,8 @@ fn attempt<N: Name>(
 
 // An attempt, and what it counts. A touch that attempts no bump counts nothing, so counts are looked at here alone.
 #[inline(always)]
-fn attempt_counted<N: Name>(
-    heads: &ReaderHeads<N>,
+fn attempt_counted<N: Name, L: RowLaw>(
+    heads: &ReaderHeads<N, L>,
     seat: &mut WorkerSeat<N>,
     sender: &mut Sender<N>,
     counts: &mut Accounts,
@@ -107,8 +107,8 @@ fn attempt_counted<N: Name>(
 
 // A hit of the item, whose hold is joined to the worker's seat.
 #[inline(always)]
-fn hit<N: Name>(
-    heads: &ReaderHeads<N>,
+fn hit<N: Name, L: RowLaw>(
+    heads: &ReaderHeads<N, L>,
     seat: &mut WorkerSeat<N>,
     sender: &mut Sender<N>,
     counts: &mut Accounts,
@@ -157,14 +157,20 @@ impl<N: Name> Worker<N> {
     /// 4. Busy, where the eighth exchange failed, whatever word it found.
     ///
     /// A refusal changes nothing: all that is new to the worker is the list of its steps, of which none changed a
-    /// word. The hold has the item's row: its label, and then its further words, as they were stored for it.
+    /// word. The hold has the item's row: its label, and then its further words, as they were stored for it. The table's
+    /// law holds of them.
     #[inline(always)]
-    pub fn get(&mut self, heads: &ReaderHeads<N>, id: ItemId) -> Result<Hold<N>, GetRefusal>
+    pub fn get<L: RowLaw>(
+        &mut self,
+        heads: &ReaderHeads<N, L>,
+        id: ItemId,
+    ) -> Result<Hold<N>, GetRefusal>
         ensures missing { all_chunks heads.now ≤ id.chunk → (result ≡ Err refused.NoSuchChunk) × (self.new ≡ self.old) }
         ensures got { id.chunk < all_chunks heads.now → (first : TheHead) × (more : List TheHead)
             × Got heads.now.refs_limit id self.old self.new result first more }
         ensures hold { IfOk result (λ h. h ≡ new_hold id h.row) }
         ensures row { IfOk result (λ h. IsRow N.table.slots h.row) }
+        ensures law { IfOk result (λ h. L.law (words_in h.row)) }
         ensures few { MakesAtMost 1 8 0 self.old.part.steps self.new.part.steps }
         ensures sender { self.new.sender ≡ self.old.sender }
     {
@@ -191,9 +197,9 @@ impl<N: Name> Worker<N> {
     /// A refusal changes nothing: all that is new to the worker is the list of its steps, of which none changed a
     /// word.
     #[inline(always)]
-    pub fn get_any(
+    pub fn get_any<L: RowLaw>(
         &mut self,
-        heads: &ReaderHeads<N>,
+        heads: &ReaderHeads<N, L>,
         chunk: u32,
     ) -> Result<(Hold<N>, Head), GetAnyRefusal>
         ensures missing { all_chunks heads.now ≤ chunk → (result ≡ Err refused_any.NoSuchChunk) × (self.new ≡ self.old) }
@@ -203,6 +209,7 @@ impl<N: Name> Worker<N> {
         ensures found { IfOk result (λ told. IsTakenBy heads.now.refs_limit told.0.life told.1) }
         ensures hold { IfOk result (λ told. told.0 ≡ new_hold told.0.life told.0.row) }
         ensures row { IfOk result (λ told. IsRow N.table.slots told.0.row) }
+        ensures law { IfOk result (λ told. L.law (words_in told.0.row)) }
         ensures few { MakesAtMost 1 8 0 self.old.part.steps self.new.part.steps }
         ensures sender { self.new.sender ≡ self.old.sender }
     {
@@ -235,7 +242,12 @@ impl<N: Name> Worker<N> {
     /// Each attempt is counted, and how it ended. A worker that attempted 4,611,686,018,427,387,903 bumps makes no
     /// further step, and answers Exhausted.
     #[inline(always)]
-    pub fn touch(&mut self, heads: &ReaderHeads<N>, hold: &mut Hold<N>, now: u64) -> Touch
+    pub fn touch<L: RowLaw>(
+        &mut self,
+        heads: &ReaderHeads<N, L>,
+        hold: &mut Hold<N>,
+        now: u64,
+    ) -> Touch
         ensures exhausted { self.old.part.accounts.attempted ≡ most_attempts → (result ≡ touch.Exhausted)
             × (self.new ≡ self.old) }
         ensures touched { self.old.part.accounts.attempted < most_attempts → (found : TheFindings)

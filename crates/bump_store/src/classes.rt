@@ -6,6 +6,7 @@ ghost use Rattle.bump_parts.specs.Parting.{IsBetweenStarts};
 
 use crate::stores::Store;
 use bump_heads::Name;
+use bump_steps::RowLaw;
 use thiserror::Error;
 
 /// Why `class_of` tells no class: the store has no such chunk.
@@ -33,7 +34,7 @@ fn place_of(starts: &[u32], chunk: u32) -> Option<u32>
     Some(place as u32)
 }
 
-impl<N: Name> Store<N> {
+impl<N: Name, L: RowLaw> Store<N, L> {
     /// The number of the class that has the chunk, by at most 16 comparisons, one for each class. `chunk` is any
     /// number. It is refused as NoSuchChunk exactly where there is no such chunk.
     pub fn class_of(&self, chunk: u32) -> Result<u32, NoSuchChunk>

@@ -7,6 +7,7 @@ use crate::stores::Store;
 use bump_class::Book;
 use bump_heads::Name;
 use bump_rules::Place;
+use bump_steps::{AnyRow, RowLaw};
 use std::alloc::Global;
 use std::sync::Wait;
 
@@ -37,13 +38,13 @@ pub struct ClassSizes {
 
 /// Why `finish` told no sizes: memory was refused. The store comes back.
 #[derive(Drop)]
-pub struct Unfinished<N: Name> {
+pub struct Unfinished<N: Name, L: RowLaw = AnyRow> {
     /// The store. Its locks, and what stands behind them, were not changed.
-    pub store: Store<N>,
+    pub store: Store<N, L>,
 }
 
 // The sizes of a Book's lists.
-fn sizes_of<N: Name>(book: &Book<N>) -> ClassSizes
+fn sizes_of<N: Name, L: RowLaw>(book: &Book<N, L>) -> ClassSizes
     ensures { AreSizesOfLists result book.now.lists }
 {
     ClassSizes {
@@ -57,14 +58,14 @@ fn sizes_of<N: Name>(book: &Book<N>) -> ClassSizes
     }
 }
 
-impl<N: Name> Store<N> {
+impl<N: Name, L: RowLaw> Store<N, L> {
     // The sizes of the lists of a Book of the class.
     fn class_sizes<R: Wait>(&self, rt: &R, class: u32) -> ClassSizes
         requires { class < length self.now.classes }
         ensures { (book : TheBookView) × AreSizesOf class self.now.classes result book }
     {
         let guard = self.lock_class(rt, class);
-        let book: &Book<N> = &guard;
+        let book: &Book<N, L> = &guard;
         book.promise();
         sizes_of(book)
     }
@@ -72,7 +73,7 @@ impl<N: Name> Store<N> {
     /// Ends the store, and tells the sizes of its classes' lists, by class: it waits until no other thread has the
     /// lock of a class, for one class after the other. A class's sizes are those of the lists of some Book of the
     /// class, and add up to the number of its chunks. It is refused only for want of memory, and the store comes back.
-    pub fn finish<R: Wait>(self, alloc: Global, rt: &R) -> Result<Vec<ClassSizes>, Unfinished<N>>
+    pub fn finish<R: Wait>(self, alloc: Global, rt: &R) -> Result<Vec<ClassSizes>, Unfinished<N, L>>
         ensures books { IfOk result (λ sizes. AreOfClasses self.classes sizes.items) }
         ensures sums { IfOk result (λ sizes. map sum_of sizes.items ≡ map (λ class. class.chunks) self.classes) }
         ensures store { IfErr result (λ unfinished. unfinished.store ≡ self) }

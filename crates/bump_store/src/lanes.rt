@@ -10,19 +10,20 @@ use crate::stores::Store;
 use bump_class::{Book, RawLane};
 use bump_heads::Name;
 use bump_rules::{Bump, Entry};
+use bump_steps::{AnyRow, RowLaw};
 use std::marker::Model;
 use std::sync::Wait;
 
 /// The lane of a worker's ring: it applies the bumps that the worker queued, in order. One thread has it at a time.
 /// Between two calls no bump is aboard.
 #[derive(Drop)]
-pub struct Lane<N: Name> {
-    pub(crate) raw: RawLane<N>,
+pub struct Lane<N: Name, L: RowLaw = AnyRow> {
+    pub(crate) raw: RawLane<N, L>,
     // A drain applies at most so many bumps.
     pub(crate) capacity: u32,
 }
 
-impl<N: Name> Model for Lane<N> {
+impl<N: Name, L: RowLaw> Model for Lane<N, L> {
     ghost Value = { TheLaneState };
 
     ghost view = { λ l. record { lane = l.raw; capacity = l.capacity } };
@@ -32,7 +33,12 @@ impl<N: Name> Model for Lane<N> {
 
 // Applies the bump aboard a lane, which is this one, to a Book of its chunk's class, and tells it.
 #[inline(always)]
-fn apply_aboard<N: Name>(book: &mut Book<N>, raw: &mut RawLane<N>, bump: Bump, now: u64) -> Entry
+fn apply_aboard<N: Name, L: RowLaw>(
+    book: &mut Book<N, L>,
+    raw: &mut RawLane<N, L>,
+    bump: Bump,
+    now: u64,
+) -> Entry
     requires aboard { carries raw.old ≡ Some bump }
     requires own { owns bump.life.chunk book.old.part ≡ true }
     ensures applied { AppliesAboard now book.old raw.old result book.new raw.new }
@@ -48,7 +54,7 @@ fn apply_aboard<N: Name>(book: &mut Book<N>, raw: &mut RawLane<N>, bump: Bump, n
     }
 }
 
-impl<N: Name> Lane<N> {
+impl<N: Name, L: RowLaw> Lane<N, L> {
     /// How many bumps it applied. They are those that it took out of its ring, in order, with the numbers 0, 1, 2 and
     /// so on. None is aboard.
     pub fn applied(&self) -> u64
@@ -74,7 +80,7 @@ impl<N: Name> Lane<N> {
     ///
     /// The clauses speak of some Book that has the bump's chunk: another thread may have the lock just before, and just
     /// behind.
-    pub fn next<R: Wait>(&mut self, rt: &R, store: &Store<N>, now: u64) -> Option<Entry>
+    pub fn next<R: Wait>(&mut self, rt: &R, store: &Store<N, L>, now: u64) -> Option<Entry>
         ensures ring { (self.new.lane.ring ≡ self.old.lane.ring) × (self.new.capacity ≡ self.old.capacity) }
         ensures next { IfSome result (λ entry. AppliesNext now self.old.lane entry self.new.lane) }
         ensures number { IfSome result (λ entry. entry.number ≡ length (entries self.old.lane)) }
@@ -95,7 +101,7 @@ impl<N: Name> Lane<N> {
     /// buffer), and answers how many: at most as many as the ring's capacity, and fewer only where then none is known
     /// to be left in the ring. A lock is taken once for all bumps of its class that follow each other. Nothing is
     /// aboard then, nor before. As those of `next`, the clauses speak of some Book of each bump's class.
-    pub fn drain<R: Wait>(&mut self, rt: &R, store: &Store<N>, now: u64) -> u64
+    pub fn drain<R: Wait>(&mut self, rt: &R, store: &Store<N, L>, now: u64) -> u64
         ensures ring { (self.new.lane.ring ≡ self.old.lane.ring) × (self.new.capacity ≡ self.old.capacity) }
         ensures most { result ≤ self.old.capacity }
         ensures few { result < 4294967296 }

@@ -13,16 +13,17 @@ use crate::lanes::Lane;
 use crate::stores::Store;
 use bump_class::Book;
 use bump_heads::Name;
+use bump_steps::{AnyRow, RowLaw};
 use std::marker::Model;
 use std::sync::Wait;
 
 /// The lanes of all workers, by number, which one thread has at a time (memcached's `lru_maintainer_thread`).
 #[derive(Drop)]
-pub struct Maintainer<N: Name> {
-    pub(crate) lanes: Vec<Lane<N>>,
+pub struct Maintainer<N: Name, L: RowLaw = AnyRow> {
+    pub(crate) lanes: Vec<Lane<N, L>>,
 }
 
-impl<N: Name> Model for Maintainer<N> {
+impl<N: Name, L: RowLaw> Model for Maintainer<N, L> {
     ghost Value = { TheList TheLaneState };
 
     ghost view = { λ m. m.lanes.items };
@@ -31,13 +32,13 @@ impl<N: Name> Model for Maintainer<N> {
     ghost invariant = { λ m. length m.lanes.items ≤ 64 };
 }
 
-impl<N: Name> Maintainer<N> {
+impl<N: Name, L: RowLaw> Maintainer<N, L> {
     ghost use Rattle.std.specs.Borrow.{sem};
     ghost use Rattle.bump_store.specs.Loans.{LendsLane};
 
     /// The lane of a worker's ring. The worker's number is in range. Once the loan ends that lane is what the loan
     /// left, and all others are as they were.
-    pub fn lane(&mut self, worker: u32) -> &mut Lane<N>
+    pub fn lane(&mut self, worker: u32) -> &mut Lane<N, L>
         requires { worker < length self.old }
         ensures* lends { sem 𝓛 (LendsLane N.row N.Name self.entry worker result) }
         ensures lane { slice_get self.old worker ≡ Some result.now }
@@ -48,7 +49,7 @@ impl<N: Name> Maintainer<N> {
     /// Drains each lane once, ascending (a turn of memcached's `lru_maintainer_bumps`, which goes through all bump
     /// buffers), and answers how many bumps were applied: by so many entries all lanes grew together. `now` is the
     /// time of the applications, in the caller's ticks.
-    pub fn pass<R: Wait>(&mut self, rt: &R, store: &Store<N>, now: u64) -> u64
+    pub fn pass<R: Wait>(&mut self, rt: &R, store: &Store<N, L>, now: u64) -> u64
         ensures lanes { AllDrained now self.old self.new }
         ensures count { all_applied self.new ≡ all_applied self.old + result }
     {
@@ -65,7 +66,7 @@ impl<N: Name> Maintainer<N> {
     /// each move for its worker's bumps is its entry of that bump's number, with the same life and the outcome Moved,
     /// and there are as many; and so, where the lanes are those of all workers, that each move for a bump that the
     /// history has is such an entry of one of them.
-    pub fn meet(&mut self, store: &Store<N>, book: &mut Book<N>)
+    pub fn meet(&mut self, store: &Store<N, L>, book: &mut Book<N, L>)
         ensures lanes { self.new ≡ self.old }
         ensures book { book.new ≡ book_after_meets (length self.old + 1) book.old }
         ensures once { NamesNoBumpTwice book.old.part }
@@ -83,7 +84,7 @@ impl<N: Name> Maintainer<N> {
     }
 
     /// The lanes, by number.
-    pub fn into_lanes(self) -> Vec<Lane<N>>
+    pub fn into_lanes(self) -> Vec<Lane<N, L>>
         ensures { result.items ≡ self }
     {
         let Maintainer { lanes } = self;

@@ -9,14 +9,15 @@ ghost use Rattle.bump_class.specs.Lanes.{entries};
 use crate::lanes::Lane;
 use bump_class::Book;
 use bump_heads::Name;
+use bump_steps::RowLaw;
 
-impl<N: Name> Lane<N> {
+impl<N: Name, L: RowLaw> Lane<N, L> {
     /// Shows a lane and the Book of a class each other, by one load, which the class notes. It answers nothing, and
     /// changes nothing else: from then on it is known that the class's history names no bump twice; that each move that
     /// it has for a bump of the lane's worker is this lane's entry of that bump's number, with the same life and the
     /// outcome Moved; and that there are as many such moves as the lane has entries with the outcome Moved of items of
     /// the class. So `moves` of the Book tells how many these are.
-    pub fn meet(&mut self, book: &mut Book<N>)
+    pub fn meet(&mut self, book: &mut Book<N, L>)
         ensures lane { self.new ≡ self.old }
         ensures book { book.new ≡ book_after_meet book.old }
         ensures once { NamesNoBumpTwice book.old.part }

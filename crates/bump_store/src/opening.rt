@@ -11,14 +11,15 @@ use bump_class::{Book, RawLane};
 use bump_heads::{Blank, Name};
 use bump_parts::{StoreParts, Worker};
 use bump_rules::Config;
+use bump_steps::RowLaw;
 use std::alloc::{AllocError, Global};
 use std::sync::Mutex;
 
 // Puts each Book under a lock of its own.
-fn put_under_locks<N: Name>(
+fn put_under_locks<N: Name, L: RowLaw>(
     alloc: Global,
-    books: Vec<Book<N>>,
-) -> Result<Vec<Mutex<Book<N>>>, AllocError>
+    books: Vec<Book<N, L>>,
+) -> Result<Vec<Mutex<Book<N, L>>>, AllocError>
     ensures { IfOk result (λ locks. vec_len locks ≡ length books.items) }
 {
     let mut locks = Vec::with_capacity(alloc, books.len())?;
@@ -29,11 +30,11 @@ fn put_under_locks<N: Name>(
 }
 
 // The lanes of so many raw ones, each of which applies at most so many bumps in a drain.
-fn make_lanes<N: Name>(
+fn make_lanes<N: Name, L: RowLaw>(
     alloc: Global,
-    raws: Vec<RawLane<N>>,
+    raws: Vec<RawLane<N, L>>,
     capacity: u32,
-) -> Result<Vec<Lane<N>>, AllocError>
+) -> Result<Vec<Lane<N, L>>, AllocError>
     requires idle { All NothingAboard raws.items }
     ensures { IfOk result (λ lanes. lanes.items ≡ lanes_of capacity raws.items) }
 {
@@ -44,16 +45,16 @@ fn make_lanes<N: Name>(
     Ok(lanes)
 }
 
-impl<N: Name> Store<N> {
+impl<N: Name, L: RowLaw> Store<N, L> {
     /// Opens a store over a blank, under the name that the blank's table has: a lock for each class, with its Book, in
     /// which all chunks are in UNUSED; and a worker and a lane for each ring, both by number. No worker has made a
     /// step, no ring has accepted a bump, and no lane has applied one. It is refused only for want of memory, and the
     /// blank is gone then.
     pub fn new(
         alloc: Global,
-        blank: Blank,
+        blank: Blank<L>,
         config: &Config,
-    ) -> Result<(Store<N>, Vec<Worker<N>>, Maintainer<N>), AllocError>
+    ) -> Result<(Store<N, L>, Vec<Worker<N>>, Maintainer<N, L>), AllocError>
         requires name { blank.table ≡ N.table }
         requires config { blank.config ≡ config.now }
         ensures store { IfOk result (λ r. r.0 ≡ config.now) }
@@ -70,7 +71,7 @@ impl<N: Name> Store<N> {
             starts,
             workers,
             lanes,
-        } = StoreParts::<N>::open(alloc, blank, config)?;
+        } = StoreParts::<N, L>::open(alloc, blank, config)?;
         let locks = put_under_locks(alloc, books)?;
         let configs = Vec::from_slice(alloc, config.classes.as_slice())?;
         let lanes = make_lanes(alloc, lanes, config.capacity)?;

@@ -13,6 +13,7 @@ use crate::stores::Store;
 use bump_heads::Name;
 use bump_parts::ClosedWorker;
 use bump_rules::{Accounts, Entry};
+use bump_steps::RowLaw;
 use std::sync::Wait;
 use thiserror::Error;
 
@@ -38,7 +39,7 @@ pub struct Unsettled<N: Name> {
     pub closed: ClosedWorker<N>,
 }
 
-impl<N: Name> Lane<N> {
+impl<N: Name, L: RowLaw> Lane<N, L> {
     // How many bumps are left in its closed ring: all of them are known from then on. None where the ring can't show
     // its end.
     fn rest(&mut self, closed: &mut ClosedWorker<N>) -> Option<u64>
@@ -91,7 +92,7 @@ impl<N: Name> Lane<N> {
     pub fn next_of<R: Wait>(
         &mut self,
         rt: &R,
-        store: &Store<N>,
+        store: &Store<N, L>,
         closed: &mut ClosedWorker<N>,
         now: u64,
     ) -> Result<Option<Entry>, Unseen>
@@ -135,7 +136,7 @@ impl<N: Name> Lane<N> {
     pub fn settle<R: Wait>(
         &mut self,
         rt: &R,
-        store: &Store<N>,
+        store: &Store<N, L>,
         closed: ClosedWorker<N>,
         now: u64,
     ) -> Result<Settled, Unsettled<N>>

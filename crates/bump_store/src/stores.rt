@@ -9,6 +9,7 @@ ghost use Rattle.bump_store.specs.Stores.{IsStore, HasLimitsOf, IsOfClass};
 use bump_class::Book;
 use bump_heads::{Heads, Name, ReaderHeads};
 use bump_rules::ClassConfig;
+use bump_steps::{AnyRow, RowLaw};
 use std::alloc::Global;
 use std::marker::Model;
 use std::ops::Deref;
@@ -23,9 +24,9 @@ pub struct NoSuchClass;
 /// A store, which all threads share: the words of its chunks, and the lists of each class, each under a lock of its
 /// own. Workers get, touch and hold its items without a lock: it derefs to what their calls take.
 #[derive(Drop)]
-pub struct Store<N: Name> {
-    pub(crate) heads: Arc<Heads<N>, Global>,
-    pub(crate) books: Vec<Mutex<Book<N>>>,
+pub struct Store<N: Name, L: RowLaw = AnyRow> {
+    pub(crate) heads: Arc<Heads<N, L>, Global>,
+    pub(crate) books: Vec<Mutex<Book<N, L>>>,
     // the first chunk of each class, and behind them the number of all chunks
     pub(crate) starts: Vec<u32>,
     // the configuration of each class
@@ -33,7 +34,7 @@ pub struct Store<N: Name> {
     pub(crate) workers: u32,
 }
 
-impl<N: Name> Model for Store<N> {
+impl<N: Name, L: RowLaw> Model for Store<N, L> {
     ghost Value = { TheConfig };
 
     ghost view = { λ s. arc_value s.heads };
@@ -42,19 +43,19 @@ impl<N: Name> Model for Store<N> {
         × (s.classes.items ≡ (arc_value s.heads).classes) × (s.workers ≡ (arc_value s.heads).workers) };
 }
 
-impl<N: Name> Deref for Store<N> {
-    type Target = ReaderHeads<N>;
+impl<N: Name, L: RowLaw> Deref for Store<N, L> {
+    type Target = ReaderHeads<N, L>;
 
     ghost deref_gives = { λ s r. r ≡ s };
 
-    fn deref(&self) -> &ReaderHeads<N>
+    fn deref(&self) -> &ReaderHeads<N, L>
         ensures { result.now ≡ self.now }
     {
         &self.heads
     }
 }
 
-impl<N: Name> Store<N> {
+impl<N: Name, L: RowLaw> Store<N, L> {
     /// The Book of a class, under its lock, which is let go with the guard: it waits until no other thread has it.
     /// `class` is any number. It is refused as NoSuchClass exactly where there is no such class.
     ///
@@ -62,7 +63,11 @@ impl<N: Name> Store<N> {
     /// counts moves for as many workers as the store has. All four are compared under the lock, since a caller that has
     /// two guards could exchange their Books. Where that was done, the call goes round the locks, one at a time, until
     /// it finds the right one.
-    pub fn lock<R: Wait>(&self, rt: &R, class: u32) -> Result<MutexGuard<'_, Book<N>>, NoSuchClass>
+    pub fn lock<R: Wait>(
+        &self,
+        rt: &R,
+        class: u32,
+    ) -> Result<MutexGuard<'_, Book<N, L>>, NoSuchClass>
         ensures class { IfOk result (λ guard. IsOfClass class self.now.classes (mutex_guard_value guard)) }
         ensures workers { IfOk result (λ guard. (mutex_guard_value guard).workers ≡ self.now.workers) }
         ensures none { IsErr result ↔ (length self.now.classes ≤ class) }
@@ -74,7 +79,7 @@ impl<N: Name> Store<N> {
     }
 
     // The Book of a class that there is.
-    pub(crate) fn lock_class<R: Wait>(&self, rt: &R, class: u32) -> MutexGuard<'_, Book<N>>
+    pub(crate) fn lock_class<R: Wait>(&self, rt: &R, class: u32) -> MutexGuard<'_, Book<N, L>>
         requires { class < length self.now.classes }
         ensures class { IsOfClass class self.now.classes (mutex_guard_value result) }
         ensures workers { (mutex_guard_value result).workers ≡ self.now.workers }
@@ -91,7 +96,7 @@ impl<N: Name> Store<N> {
     }
 
     // Whether the Book is that of the class, by its number, its chunks, its limits and the number of workers.
-    fn is_of_class(&self, book: &Book<N>, class: u32) -> bool
+    fn is_of_class(&self, book: &Book<N, L>, class: u32) -> bool
         requires { class < length self.now.classes }
         ensures class { result ≡ true → IsOfClass class self.now.classes book.now }
         ensures workers { result ≡ true → book.now.workers ≡ self.now.workers }
@@ -106,7 +111,7 @@ impl<N: Name> Store<N> {
     }
 
     // Whether the Book has the limits that the class's configuration has.
-    fn has_limits_of(&self, book: &Book<N>, class: u32) -> bool
+    fn has_limits_of(&self, book: &Book<N, L>, class: u32) -> bool
         requires { class < length self.now.classes }
         ensures { result ≡ true → HasLimitsOf class self.now.classes book.now }
     {
@@ -125,7 +130,7 @@ impl<N: Name> Store<N> {
 
     // The Book that has the chunk, under its lock. It is looked for among all, from that of the chunk's class on.
     #[inline(always)]
-    pub(crate) fn lock_of_chunk<R: Wait>(&self, rt: &R, chunk: u32) -> MutexGuard<'_, Book<N>>
+    pub(crate) fn lock_of_chunk<R: Wait>(&self, rt: &R, chunk: u32) -> MutexGuard<'_, Book<N, L>>
         ensures { owns chunk (mutex_guard_value result).part ≡ true }
     {
         let mut at = self.class_or_first(chunk);
