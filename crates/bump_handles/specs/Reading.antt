@@ -1,5 +1,5 @@
 -- What readers do with numbered holds.
-use Rattle.std.specs.Prelude.{◌≡◌, ◌≢◌, ℕ, ◌<◌, ◌≤◌, Bool, true, false, List, Option, Some, None}
+use Rattle.std.specs.Prelude.{◌≡◌, ◌≢◌, ℕ, Bool, true, false, List, Option, Some, None}
 use Rattle.std.specs.Prelude.{Result, Ok, Err}
 use Rattle.std.specs.Prelude.{IfSome, IfNone, IfOk, IfErr, slice_get, slice_set}
 use Rattle.bump_rules.specs.declared.commands.Touch.{Touch}

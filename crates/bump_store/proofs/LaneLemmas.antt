@@ -1,16 +1,15 @@
 -- A lane's next bump: its number, and the entry that is kept of it.
-use Rattle.std.proofs.Common.{◌≡◌, ℕ, suc, ◌++◌, List, [], ◌∷◌, length, map, false, None, refl, sym, ap, ◌∙◌, arith, length-append}
+use Rattle.std.proofs.Common.{◌≡◌, ℕ, ◌++◌, [], ◌∷◌, length, map, false, None, refl, sym, ap, ◌∙◌, arith, length-append}
 use Rattle.std.proofs.lemmas.List.{length-map}
 use Rattle.bump_rules.specs.declared.bumps.Bump.{Bump}
 use Rattle.bump_rules.specs.declared.bumps.Entry.{Entry}
 use Rattle.bump_rules.specs.declared.bumps.Ended.{Ended}
 use Rattle.bump_rules.specs.declared.bumps.Outcome.{Outcome}
 use Rattle.bump_rules.specs.declared.bumps.Outcome.TheVariants as outcome
-use Rattle.bump_rules.specs.declared.items.ItemId.{ItemId}
 use Rattle.bump_rules.specs.declared.lanes.Lane.{Lane}
 use Rattle.bump_rules.specs.declared.lanes.Lane.TheVariants as lane
 use Rattle.bump_rules.specs.Lanes.{bump_of, carried, is_half_made}
-use Rattle.bump_rules.specs.Rings.{aboard, bump_applied, numbered_from}
+use Rattle.bump_rules.specs.Rings.{aboard, bump_applied}
 use Rattle.bump_steps.specs.declared.views.Ride.{Ride}
 use Rattle.bump_class.specs.Applications.{applied_answer}
 use Rattle.bump_class.specs.Books.{BookView}

@@ -8,7 +8,7 @@ use Rattle.bump_rules.specs.declared.bumps.Entry.{Entry}
 use Rattle.bump_rules.specs.declared.lanes.Lane.{Lane}
 use Rattle.bump_rules.specs.declared.lanes.Lane.TheVariants as lane
 use Rattle.bump_rules.specs.Lanes.{applied_bump, carried, is_half_made}
-use Rattle.bump_rules.specs.Rings.{aboard, bump_applied, numbered_from}
+use Rattle.bump_rules.specs.Rings.{aboard, bump_applied}
 use Rattle.bump_word.specs.Words.{word_of}
 use Rattle.bump_steps.specs.declared.views.Kind.TheVariants as kind
 use Rattle.bump_steps.specs.declared.views.OwnStep.{OwnStep}

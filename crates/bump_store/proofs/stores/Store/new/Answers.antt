@@ -13,7 +13,7 @@ use Rattle.bump_store.proofs.stores.Store.new.Goals as goal
 
 pub make_lanes-requires-clause-idle : goal.make_lanes-requires-clause-idle
 make_lanes-requires-clause-idle g c =
-    new_lanes_idle 0 c.args.config.now.workers c.in_ok-heads.lanes.items c.in_ok-heads.ensures.lanes
+    new_lanes_idle 0 c.args.config.now.workers c.in_ok-heads.field-0.lanes.items c.in_ok-heads.ensures.lanes
 
 pub invariant_of-store : goal.invariant_of-store
 invariant_of-store g c =
