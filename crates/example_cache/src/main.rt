@@ -1,4 +1,5 @@
-//! A cache of numbers by their keys: an example to be copied.
+//! A cache of numbers by their keys: an example to be copied. It opens a cache of 100 items with one reader, puts a
+//! number under a key, and gets it. In this folder `rt try` runs it, and `rt run` proves it first.
 #![tactic(auto)]
 
 ghost use Rattle.std.specs.Prelude.{◌≡◌};

@@ -1,5 +1,5 @@
 //! A cache that threads share: an example to be copied. Four readers get values and wait for nobody, while another
-//! thread puts them anew and tends the cache.
+//! thread puts them anew and tends the cache. In this folder `rt try` runs it, and `rt run` proves it first.
 #![tactic(auto)]
 
 ghost use Rattle.std.specs.Prelude.{◌≡◌};

@@ -1,4 +1,6 @@
-//! The slots of an LRU cache over `bump_links`: an example to be copied.
+//! The slots of an LRU cache over `bump_links`: an example to be copied. It takes all slots, touches one and takes one
+//! more, which evicts the slot that was touched longest ago. In this folder `rt try` runs it, and `rt run` proves it
+//! first.
 #![tactic(auto)]
 
 pub mod lru;

@@ -1,4 +1,6 @@
-//! A World and its commands: an example to be copied.
+//! A World, which is the model of a store, and its commands: an example to be copied. An item ages and is hit, and its
+//! bump moves it to WARM; another ends while it is held. Each command is printed with its answer. In this folder
+//! `rt try` runs it, and `rt run` proves it first.
 #![tactic(auto)]
 
 mod report;

@@ -1,5 +1,6 @@
 //! A store of items without keys, call by call: an example to be copied. To the store an item is a label alone. Which
-//! item is whose, and where its value lies, is the caller's to know.
+//! item is whose, and where its value lies, is the caller's to know. An item that is read now and then stays, while
+//! others evict each other. In this folder `rt try` runs it, and `rt run` proves it first.
 #![tactic(auto)]
 
 ghost use Rattle.std.specs.Prelude.{◌≡◌};
