@@ -28,11 +28,12 @@ item_told (pulled.Cold item) = Some item
 item_told (pulled.Freed item) = Some item
 item_told (pulled.Deferred item) = Some item
 
--- the chunk whose item is evicted next: the last of COLD; where COLD is empty, of WARM; and where that is too, of HOT
+-- the one, and where it is None the other
 abbrev pub or_else : Option ℕ → Option ℕ → Option ℕ
 or_else None other = other
 or_else (Some chunk) other = Some chunk
 
+-- the chunk whose item is evicted next: the last of COLD; where COLD is empty, of WARM; and where that is too, of HOT
 abbrev pub victim : Lists → Option ℕ
 victim lists = or_else (last_of lists.cold) (or_else (last_of lists.warm) (last_of lists.hot))
 

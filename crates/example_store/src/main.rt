@@ -1,169 +1,98 @@
-//! A cache that threads share: an example to be copied. Four readers get values and wait for nobody, while another
-//! thread puts them anew and tends the cache.
+//! A store of items without keys, call by call: an example to be copied. To the store an item is a label alone. Which
+//! item is whose, and where its value lies, is the caller's to know. An item that is read now and then stays, while
+//! others evict each other. In this folder `rt try` runs it, and `rt run` proves it first.
 #![tactic(auto)]
 
 ghost use Rattle.std.specs.Prelude.{◌≡◌};
 
 use anyhow::Result;
-use bump_cache::{Cache, CacheBlank, CacheConfig, CacheReader, Opened, Upkeep, open};
-use bump_heads::Name;
-use cache_index::{AnyPair, Index, Indexed};
-use cache_shelf::Stats;
+use bump_class::Book;
+use bump_rules::{ClassConfig, Config, ItemId, Place, Tail};
+use bump_store::{Blank, Name, Store, Worker};
 use std::alloc::{AllocError, Global};
 use std::marker::Brand;
 use std::sync::Wait;
-use std::sync::atomic::{AtomicBool, Ordering};
-use std::thread;
-use std::thread::Threads;
 
-/// Keys, from 0: more than the cache has room for, so puts evict. A value of a key is the key and some times this.
-const KEYS: u64 = 64;
-
-const READERS: u32 = 4;
-
-/// How often each reader gets.
-const GETS: u64 = 100_000;
-
-/// What readers came to: how many of their gets answered another key's value, and how many gets were counted.
-#[derive(Clone, Copy)]
-struct Gets {
-    wrong: u64,
-    counted: u64,
-}
-
-// A reader's thread: it gets the keys in turn.
-fn read<N: Name, I: Indexed<u64, u64, AnyPair> + Drop>(
-    mut reader: CacheReader<N, u64, u64, AnyPair, I>,
-) -> Gets {
-    let mut wrong = 0u64;
-    for now in 0..GETS {
-        let key = now % KEYS;
-        if let Some(item) = reader.get(&key, now) {
-            if *item.value() % KEYS != key {
-                wrong = wrong.saturating_add(1);
-            }
-        }
-    }
-    let counted = reader.hits().saturating_add(reader.misses());
-    Gets { wrong, counted }
-}
-
-// The other thread: it puts the keys in turn and tends the cache, until the readers are done.
-fn write<N: Name, I: Indexed<u64, u64, AnyPair> + Drop, R: Wait + Copy>(
-    rt: &R,
-    alloc: Global,
-    cache: &Cache<N, u64, u64, AnyPair, I, R>,
-    mut upkeep: Upkeep<N>,
-    done: &AtomicBool,
-) {
-    let mut now = 0u64;
-    for _ in rt.forever() {
-        if done.load(Ordering::SeqCst) {
-            return;
-        }
-        cache.put(alloc, rt, now % KEYS, now, now);
-        cache.tend(rt, &mut upkeep, now);
-        now = now.saturating_add(1);
+// Looks at each tail of a class, and frees what nobody holds any more. Where then no chunk is free, the last item of
+// COLD is evicted.
+fn age<N: Name>(book: &mut Book<N>) {
+    book.pull(Tail::Hot);
+    book.pull(Tail::Warm);
+    book.pull(Tail::Cold);
+    book.sweep();
+    if book.size(Place::Unused) == 0 {
+        book.pull(Tail::Evict);
     }
 }
 
-// Each reader in a thread of its own, and the one that puts in one more, until all readers are done.
-fn work<
-    N: Name + Send + Sync,
-    I: Indexed<u64, u64, AnyPair> + Drop + Send + Sync,
-    R: Threads + Wait + Copy + Send + Sync,
->(
-    rt: &R,
-    alloc: Global,
-    cache: &Cache<N, u64, u64, AnyPair, I, R>,
-    readers: Vec<CacheReader<N, u64, u64, AnyPair, I>>,
-    upkeep: Upkeep<N>,
-    done: &AtomicBool,
-) -> Result<Vec<Gets>, AllocError> {
-    let (gets, ()) = thread::join(
-        rt,
-        || {
-            let gets = thread::map_vec(rt, readers, &|reader| read(reader));
-            done.store(true, Ordering::SeqCst);
-            gets
-        },
-        || write(rt, alloc, cache, upkeep, done),
-    );
-    gets
-}
-
-// All of it under the name that the blank's table has.
-fn run<
-    N: Name + Send + Sync,
-    I: Indexed<u64, u64, AnyPair> + Drop + Send + Sync,
-    R: Threads + Wait + Copy + Send + Sync,
->(rt: &R, alloc: Global, blank: CacheBlank) -> Result<(Gets, Stats), AllocError>
-    requires name { blank.table ≡ N.table }
-{
-    let Opened {
-        cache,
-        readers,
-        upkeep,
-    } = open::<N, u64, u64, AnyPair, I, R>(alloc, rt, blank)?;
-    let done = AtomicBool::new(false);
-    let mut all = Gets {
-        wrong: 0,
-        counted: 0,
+// Stores a label under the lock of its class, where a chunk is free. Readers in other threads go on meanwhile.
+fn put<N: Name, R: Wait>(rt: &R, store: &Store<N>, label: u64, now: u64) -> Option<ItemId> {
+    let Ok(mut guard) = store.lock(rt, 0) else {
+        return None;
     };
-    for gets in &work(rt, alloc, &cache, readers, upkeep, &done)? {
-        all.wrong = all.wrong.saturating_add(gets.wrong);
-        all.counted = all.counted.saturating_add(gets.counted);
+    let book = &mut *guard;
+    age(book);
+    book.link(label, now).ok()
+}
+
+// Reads an item and hits it, or answers None where it ended. No lock is taken.
+fn read<N: Name>(worker: &mut Worker<N>, store: &Store<N>, id: ItemId, now: u64) -> Option<u64> {
+    let Ok(mut hold) = worker.get(store, id) else {
+        return None;
+    };
+    // While there is the hold its chunk isn't used for another item, even if this one is ended: here the value is read.
+    let label = hold.label(store);
+    // Most hits of an item that is hit often find both marks: to ask first saves a locked step then.
+    if !hold.is_marked(store) {
+        let _touch = worker.touch(store, &mut hold, now);
     }
-    Ok((all, cache.stats(rt)))
+    // A hold is given back: a program that lets one go in another way isn't proved.
+    hold.release(store);
+    Some(label)
 }
 
-fn sum(counts: &[u64]) -> u64 {
-    let mut sum = 0u64;
-    for count in counts {
-        sum = sum.saturating_add(*count);
+// Stores labels, and reads the first one now and then: how often it was there, and how many bumps were applied. Its
+// second hit finds it in COLD, so a bump brings it to WARM, and what is stored meanwhile is evicted before it.
+fn run<N: Name, R: Wait>(
+    rt: &R,
+    alloc: Global,
+    blank: Blank,
+    config: &Config,
+) -> Result<(u32, u64), AllocError>
+    requires name { blank.table ≡ N.table }
+    requires config { blank.config ≡ config.now }
+{
+    let (store, mut workers, maintainer) = Store::<N>::new(alloc, blank, config)?;
+    let mut lanes = maintainer.into_lanes();
+    let (Some(mut worker), Some(mut lane)) = (workers.pop(), lanes.pop()) else {
+        return Ok((0, 0));
+    };
+    let Some(first) = put(rt, &store, 7, 0) else {
+        return Ok((0, 0));
+    };
+    let mut found = 0u32;
+    for now in 1..100 {
+        put(rt, &store, now, now);
+        if now % 4 == 0 && read(&mut worker, &store, first, now) == Some(7) {
+            found = found.saturating_add(1);
+        }
+        // No lock may be held here: each bump takes the lock of its class.
+        lane.drain(rt, &store, now);
     }
-    sum
+    Ok((found, lane.applied()))
 }
 
-// Whether what came into HOT, WARM and COLD is there still or went out.
-fn add_up(stats: &Stats) -> bool {
-    let flow = stats.flow;
-    let hot = [
-        stats.number_hot.into(),
-        flow.hot_to_warm,
-        flow.hot_to_cold,
-        flow.ended_hot,
-    ];
-    let warm = [stats.number_warm.into(), flow.warm_to_cold, flow.ended_warm];
-    let cold = [stats.number_cold.into(), flow.cold_to_warm, flow.ended_cold];
-    sum(&hot) == flow.linked
-        && sum(&warm) == sum(&[flow.hot_to_warm, flow.cold_to_warm])
-        && sum(&cold) == sum(&[flow.hot_to_cold, flow.warm_to_cold])
-}
-
-// Prints what doesn't depend on which thread was faster.
 fn main(rt: HostRuntime) -> Result<()> {
     let alloc = rt.alloc();
-    let config = CacheConfig {
-        items: 48,
-        hot: 20,
-        warm: 40,
-        readers: READERS,
-        ring: 16,
+    let class = ClassConfig {
+        chunks: 10,
+        hot: 2,
+        warm: 4,
     };
-    let blank = CacheBlank::new(alloc, &config)?;
-    let (gets, stats) = run::<Brand, Index<u64, u64, AnyPair>, _>(&&rt, alloc, blank)?;
-    println!(rt;
-        "{READERS} readers got {} values of another key",
-        gets.wrong
-    )?;
-    println!(rt;
-        "each get was a hit or a miss: {}",
-        gets.counted == u64::from(READERS) * GETS
-    )?;
-    println!(rt;
-        "what came into HOT, WARM and COLD is there still or went out: {}",
-        add_up(&stats)
-    )?;
+    // One worker, a ring with room for 16 bumps, at most 64 references to an item.
+    let config = Config::new(1, 16, 64, 1, vec![in alloc; class]?)?;
+    let blank = Blank::new(alloc, &config)?;
+    let (found, applied) = run::<Brand, _>(&rt, alloc, blank, &config)?;
+    println!(rt; "the first item was found {found} times, and {applied} bump was applied")?;
     Ok(())
 }

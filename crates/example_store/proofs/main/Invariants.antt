@@ -1,5 +1,4 @@
 use Rattle.example_store.proofs.main.Given as goal
 
--- the store's name has the number of the blank's table
 abbrev pub ghosts-run : goal.ghosts-run
-ghosts-run a b = record { table = b.blank.table }
+ghosts-run g a = record { table = a.blank.table }

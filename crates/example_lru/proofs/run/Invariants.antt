@@ -1,6 +1,0 @@
-use Rattle.std.proofs.Common.{◌≡◌}
-use Rattle.example_lru.proofs.run.Given as goal
-
--- The count of slots stays, so a number that was a slot is one still.
-abbrev pub invariant-loop : goal.invariant-loop
-invariant-loop g l = l.lru.count ≡ 3

@@ -1,4 +1,0 @@
-use Rattle.head_runs.proofs.tests.fresh.a_fresh_store_has_no_life.Given as goal
-
-abbrev pub ghosts-run_in : goal.ghosts-run_in
-ghosts-run_in a b = record { table = b.blank.table }

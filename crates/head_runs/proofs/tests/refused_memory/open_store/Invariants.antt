@@ -1,4 +1,0 @@
-use Rattle.head_runs.proofs.tests.refused_memory.open_store.Given as goal
-
-abbrev pub ghosts-open_in : goal.ghosts-open_in
-ghosts-open_in a b = record { table = b.blank.table }

@@ -1,0 +1,13 @@
+//! Tests of logs that are read: lines, CSV, and readers that give little at a time, are interrupted or fail.
+#![tactic(auto)]
+
+#[cfg(test)]
+mod lines;
+#[cfg(test)]
+mod pieces;
+#[cfg(test)]
+mod records;
+#[cfg(test)]
+mod reports;
+#[cfg(test)]
+mod sizes;

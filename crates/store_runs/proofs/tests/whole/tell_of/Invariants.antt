@@ -1,4 +1,0 @@
-use Rattle.store_runs.proofs.tests.whole.tell_of.Given as goal
-
-abbrev pub ghosts-tell_in : goal.ghosts-tell_in
-ghosts-tell_in g a = record { table = a.blank.table }
