@@ -1,5 +1,4 @@
-pub mod AsBoxWorker
-pub mod AsBoxBook
-pub mod AsBoxLane
-pub mod AsBoxStore
+pub mod Steps
+pub mod AsBox
+pub mod Moved
 pub mod Crossing

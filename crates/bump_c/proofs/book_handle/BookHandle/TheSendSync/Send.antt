@@ -8,7 +8,7 @@ use Rattle.std.proofs.Crossing as heap
 use Rattle.std_alloc.proofs.SendSync.{quiet, lies}
 use Rattle.std_heap.proofs.Global.TheSendSync as handle
 use Rattle.bump_c.specs.One.{alone}
-use Rattle.bump_c.specs.SealBook.{book_row}
+use Rattle.bump_c.specs.Seals.{book_row}
 use Rattle.bump_c.specs.contracts.book_handle.BookHandle.{the_row, the_type}
 use Rattle.bump_c.proofs.Crossing.{book_sends}
 

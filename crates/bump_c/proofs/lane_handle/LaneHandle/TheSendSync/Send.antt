@@ -8,7 +8,7 @@ use Rattle.std.proofs.Crossing as heap
 use Rattle.std_alloc.proofs.SendSync.{quiet, lies}
 use Rattle.std_heap.proofs.Global.TheSendSync as handle
 use Rattle.bump_c.specs.One.{alone}
-use Rattle.bump_c.specs.SealLane.{lane_row}
+use Rattle.bump_c.specs.Seals.{lane_row}
 use Rattle.bump_c.specs.contracts.lane_handle.LaneHandle.{the_row, the_type}
 use Rattle.bump_c.proofs.Crossing.{lane_sends}
 

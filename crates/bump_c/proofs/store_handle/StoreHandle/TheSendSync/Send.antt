@@ -8,7 +8,7 @@ use Rattle.std.proofs.Crossing as heap
 use Rattle.std_alloc.proofs.SendSync.{quiet, lies}
 use Rattle.std_heap.proofs.Global.TheSendSync as handle
 use Rattle.bump_c.specs.One.{alone}
-use Rattle.bump_c.specs.SealStore.{store_row}
+use Rattle.bump_c.specs.Seals.{store_row}
 use Rattle.bump_c.specs.contracts.store_handle.StoreHandle.{the_row, the_type}
 use Rattle.bump_c.proofs.Crossing.{store_sends}
 
