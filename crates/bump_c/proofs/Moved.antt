@@ -5,8 +5,8 @@ use mathlib.Core.Path.{refl, sym, subst}
 use seplogic.Ra.Ura.{Ura}
 use mir.Syntax.{Sym, Fn, Tys, tcons, tnil, ty_ptr, ty_struct, local, value_local, seq, assign, return, rv_opd, aggregate, copy, place, field}
 use mir.Val.{Val}
-use base.Logic.{SProp, ent, emp, via}
-use base.Fml.{Fml, ftrue, fsep, flft}
+use base.Logic.{ent, emp}
+use base.Fml.{ftrue, fsep, flft}
 use prog.Wp.{WpFn, Tables}
 use types.Logic.{Logic, sem}
 use types.Kit.{Item, ‵, raw, ◌⊛◌, ◌$◌, ◌∵◌, !, qed, by, move, drop, use1, join, split, frame, fsplit, fjoin, suffices}
