@@ -1,3 +1,4 @@
+pub mod Brands
 pub mod Steps
 pub mod AsBox
 pub mod Moved
