@@ -22,7 +22,7 @@ use lanes::{Classes, Lane};
 use measure::{Measured, Tally, measure_named, one_more};
 use rings::Receiver;
 use std::time::Instant;
-use words::{ACTIVE, FETCHED, FURTHER, ItemId, lives};
+use words::{ACTIVE, FURTHER, ItemId, lives};
 use workers::{Dropped, Store, Touch, Worker};
 
 /// What each hit of a pass comes to: an answer of its touch; that it asks first, and finds both marks; or that it takes whatever item is there, and finds them by that.
@@ -144,7 +144,7 @@ fn asked_hits<const WORDS: usize>(store: &Store<WORDS>, worker: &mut Worker, ite
     Tally { refused, right, labels }
 }
 
-/// Takes whatever item is linked in each chunk, reads its label and two further words, and releases it. By the head by which it was taken it is touched only where it hasn't both marks. An item that has them is wanted. There is none where chunks haven't so many words.
+/// Takes whatever item is linked in each chunk, reads its label and two further words, and releases it. By the head by which it was taken it is touched only where it hasn't both marks: ACTIVE alone is asked, as in bump_bench. An item that has them is wanted. There is none where chunks haven't so many words.
 #[inline(never)]
 fn any_hits<const WORDS: usize>(store: &Store<WORDS>, worker: &mut Worker, items: &[ItemId], rounds: u32) -> Tally {
     let mut refused: u64 = 0;
@@ -157,7 +157,7 @@ fn any_hits<const WORDS: usize>(store: &Store<WORDS>, worker: &mut Worker, items
         for item in items {
             match worker.get_any(store, item.chunk) {
                 Ok((mut hold, found)) => {
-                    if found & (FETCHED | ACTIVE) == FETCHED | ACTIVE {
+                    if found & ACTIVE != 0 {
                         right = right.wrapping_add(1);
                     } else {
                         worker.touch(store, &mut hold, 5);

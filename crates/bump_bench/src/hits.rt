@@ -156,8 +156,8 @@ fn asked_hits<N: Name>(
 }
 
 // Takes whatever item is linked in each chunk, reads its label and two further words, and releases it. By the head by
-// which it was taken it is touched only where it hasn't both marks. An item that has them is wanted. There is none where
-// chunks haven't so many words.
+// which it was taken it is touched only where it hasn't both marks: an item that is ACTIVE is FETCHED too, so ACTIVE
+// alone is asked. An item that has them is wanted. There is none where chunks haven't so many words.
 #[inline(never)]
 fn any_hits<N: Name>(
     heads: &ReaderHeads<N>,
@@ -175,7 +175,7 @@ fn any_hits<N: Name>(
         for item in items {
             match worker.get_any(heads, item.chunk) {
                 Ok((mut hold, found)) => {
-                    if found.fetched && found.active {
+                    if found.active {
                         right = right.wrapping_add(1);
                     } else {
                         worker.touch(heads, &mut hold, 5);
