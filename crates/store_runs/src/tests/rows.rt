@@ -7,7 +7,7 @@ mod reading;
 mod telling;
 mod writing;
 
-use super::expecting::expect_of;
+use super::expecting::expect;
 use bump_heads::{Blank, Name};
 use bump_readers::ReaderHeads;
 use bump_rules::{ClassConfig, Config};
@@ -50,14 +50,15 @@ const REFS: u32 = 6;
 /// Reads that each of the four threads makes. `checks/loaded_threads` puts more in their place.
 const READS: u64 = 10_000;
 
-// The readers work until they made all their reads, and the fifth thread until the readers are done.
+// Items are linked, so that there are some to be read, whichever thread is first. Then all threads work: the readers
+// until they made all their reads, and the fifth thread until the readers are done.
 fn read_and_write<N: Name + Send + Sync, R: Threads + Abort + Wait + Sync>(
     rt: &R,
     alloc: Global,
     store: &Store<N>,
     workers: Vec<Worker<N>>,
     mut writer: Writer<N>,
-) -> Result<Counts, AllocError> {
+) -> Result<(Counts, Writer<N>), AllocError> {
     let done = AtomicBool::new(false);
     let newest = AtomicU64::new(0);
     let heads: &ReaderHeads<N> = store;
@@ -73,28 +74,39 @@ fn read_and_write<N: Name + Send + Sync, R: Threads + Abort + Wait + Sync>(
         },
         || write(rt, alloc, store, writer, &newest, &done),
     );
-    let mut all = Counts::NONE;
-    for counts in told? {
-        all = all.and(counts);
+    let mut counts = writer.counts();
+    for reader in told? {
+        counts = counts.and(reader);
     }
-    Ok(writer.end(rt, store, all))
+    Ok((counts, writer))
 }
 
-fn read_in<N: Name + Send + Sync, R: Threads + Abort + Wait + Sync>(
+// No read was wrong, and all were made.
+fn expect_right(rt: &impl Abort, counts: Counts) {
+    let Counts { wrong, fault, .. } = counts;
+    assert!(rt; wrong == 0, "{wrong} reads are wrong, one is {fault:?}");
+    expect(rt, "all reads", &counts.reads(), &(4 * READS));
+}
+
+fn read_in<N: Name + Send + Sync, R: Threads + Abort + Wait + Eprint + Sync>(
     rt: &R,
     alloc: Global,
     blank: Blank,
     config: &Config,
-) -> Result<Counts, AllocError>
+) -> Result<(), Fail>
     requires name { blank.table ≡ N.table }
     requires config { blank.config ≡ config.now }
 {
     let (store, workers, maintainer) = Store::<N>::new(alloc, blank, config)?;
     let writer = Writer::new(maintainer.into_lanes());
-    read_and_write(rt, alloc, &store, workers, writer)
+    let (counts, writer) = read_and_write(rt, alloc, &store, workers, writer)?;
+    tell(rt, store.further(), counts)?;
+    expect_right(rt, counts);
+    writer.end(rt, &store);
+    Ok(())
 }
 
-// Reads rows of so many further words, and says how many reads there were. None is wrong.
+// Reads rows of so many further words.
 fn read_rows<R: Threads + Abort + Wait + Eprint + Sync>(
     rt: &R,
     alloc: Global,
@@ -102,16 +114,7 @@ fn read_rows<R: Threads + Abort + Wait + Eprint + Sync>(
 ) -> Result<(), Fail> {
     let config = Config::new(4, CAPACITY, REFS, 1, Vec::from_array(alloc, CLASSES)?)?;
     let blank = Blank::with_words(alloc, &config, further)?;
-    let counts = read_in::<Brand, R>(rt, alloc, blank, &config)?;
-    tell(rt, further, counts)?;
-    assert!(rt;
-        counts.wrong == 0,
-        "{} reads are wrong, one is {:?}",
-        counts.wrong,
-        counts.fault
-    );
-    expect_of(rt, "reads of", &further, &counts.reads(), &(4 * READS));
-    Ok(())
+    read_in::<Brand, R>(rt, alloc, blank, &config)
 }
 
 #[test]

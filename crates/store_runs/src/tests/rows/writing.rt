@@ -180,9 +180,17 @@ impl<N: Name> Writer<N> {
         self.drain(rt, store, number / 64);
     }
 
-    /// Once all readers are done: all bumps are applied, and a sweep finds that nobody holds an item any more. The
-    /// counts, with the writer's.
-    pub fn end<R: Abort + Wait>(mut self, rt: &R, store: &Store<N>, told: Counts) -> Counts {
+    /// What it counted.
+    pub fn counts(&self) -> Counts {
+        Counts {
+            linked: self.linked,
+            applied: self.applied,
+            ..Counts::NONE
+        }
+    }
+
+    /// Once all readers are done: all bumps are applied, and a sweep finds that nobody holds an item any more.
+    pub fn end<R: Abort + Wait>(mut self, rt: &R, store: &Store<N>) {
         for lane in 0..4 {
             self.drain(rt, store, lane);
             expect(rt, "bumps that are left", &self.drain(rt, store, lane), &0);
@@ -192,11 +200,6 @@ impl<N: Name> Writer<N> {
             sweep(&mut book);
             expect_size(rt, &book, Place::Dying, 0);
         }
-        told.and(Counts {
-            linked: self.linked,
-            applied: self.applied,
-            ..Counts::NONE
-        })
     }
 }
 
