@@ -69,8 +69,8 @@ pub struct Class {
 }
 
 /// The lists of a class, and the words that it shares with the readers. Its chunks are numbered from `first` on.
-pub struct Book {
-    chunks: Arc<[Chunk]>,
+pub struct Book<const WORDS: usize = 0> {
+    chunks: Arc<[Chunk<WORDS>]>,
     lists: Lists<6>,
     first: u32,
     count: u32,
@@ -78,13 +78,13 @@ pub struct Book {
     warm_limit: u32,
 }
 
-impl Book {
-    pub fn new(chunks: Arc<[Chunk]>, first: u32, class: Class) -> Book {
+impl<const WORDS: usize> Book<WORDS> {
+    pub fn new(chunks: Arc<[Chunk<WORDS>]>, first: u32, class: Class) -> Self {
         let Class { chunks: count, hot, warm } = class;
         Book { chunks, lists: Lists::new(count, Place::Unused), first, count, hot_limit: hot, warm_limit: warm }
     }
 
-    pub fn chunk(&self, node: u32) -> &Chunk {
+    pub fn chunk(&self, node: u32) -> &Chunk<WORDS> {
         &self.chunks[(self.first + node) as usize]
     }
 
@@ -93,10 +93,23 @@ impl Book {
     }
 
     pub fn link(&mut self, label: u64, now: u64) -> Result<ItemId, NoFreeChunk> {
+        self.link_in(label, &[], now)
+    }
+
+    /// The same, and its further words are stored, which are at most as many as a chunk has.
+    pub fn link_words(&mut self, label: u64, words: &[u64], now: u64) -> Result<ItemId, NoFreeChunk> {
+        self.link_in(label, words, now)
+    }
+
+    #[inline(always)]
+    fn link_in(&mut self, label: u64, words: &[u64], now: u64) -> Result<ItemId, NoFreeChunk> {
         let Some(node) = self.lists.front(Place::Unused) else {
             return Err(NoFreeChunk);
         };
         let chunk = self.chunk(node);
+        for (place, &word) in chunk.further.iter().zip(words) {
+            place.store(word, SeqCst);
+        }
         chunk.label.store(label, SeqCst);
         chunk.time.store(now, SeqCst);
         let generation = generation_of(chunk.head.load(SeqCst)) + 1;

@@ -3,14 +3,14 @@
 use crate::books::{Book, Class, Pulled};
 use crate::places::{Ended, Place, Tail};
 use crate::measure::{Tally, one_more};
-use crate::words::{ACTIVE, COLD, Chunk, FETCHED, ItemId, SEGMENT, lives};
-use std::sync::atomic::AtomicU64;
+use crate::words::{ACTIVE, COLD, Chunk, FETCHED, FURTHER, ItemId, SEGMENT, lives};
 use std::sync::atomic::Ordering::SeqCst;
 use std::time::Instant;
 
 #[derive(Clone, Copy)]
 enum Call {
     LinkUnlink,
+    LinkUnlinkWords,
     Pull(Tail),
     Sweep,
 }
@@ -61,8 +61,9 @@ const PULL: Calls = Calls {
 const SWEEP: Calls =
     Calls { name: "sweep_freed", before: &[Before::End], call: Call::Sweep, behind: Place::Unused, ..PULL };
 
-pub const CALLS: [Calls; 17] = [
+pub const CALLS: [Calls; 18] = [
     LINKS,
+    Calls { name: "link_unlink_words", call: Call::LinkUnlinkWords, ..LINKS },
     Calls { name: "link_unlink_1000", class: Class { chunks: 1_000, ..NO_ROOM }, items: 500, ..LINKS },
     Calls { name: "link_unlink_1000000", class: Class { chunks: 1_000_000, ..NO_ROOM }, items: 500_000, ..LINKS },
     Calls { name: "pull_hot_active", before: &[Before::Hit, Before::Hit], behind: Place::Warm, ..PULL },
@@ -135,7 +136,7 @@ pub const CALLS: [Calls; 17] = [
 ];
 
 /// What the hits of all items leave, or a pull of each.
-fn prepare(book: &mut Book, items: &[ItemId], before: Before) {
+fn prepare<const WORDS: usize>(book: &mut Book<WORDS>, items: &[ItemId], before: Before) {
     for &item in items {
         let node = item.chunk;
         match before {
@@ -163,7 +164,7 @@ fn prepare(book: &mut Book, items: &[ItemId], before: Before) {
 }
 
 /// Links an item and unlinks it, so often. Right is an item that is freed.
-fn links(book: &mut Book, times: u32) -> Tally {
+fn links<const WORDS: usize>(book: &mut Book<WORDS>, times: u32) -> Tally {
     let mut refused: u64 = 0;
     let mut right: u64 = 0;
     for number in 0..times {
@@ -178,8 +179,25 @@ fn links(book: &mut Book, times: u32) -> Tally {
     Tally { refused, right, labels: 0 }
 }
 
+/// The same of items with two further words.
+fn wide_links<const WORDS: usize>(book: &mut Book<WORDS>, times: u32) -> Tally {
+    let mut refused: u64 = 0;
+    let mut right: u64 = 0;
+    for number in 0..times {
+        let label = number as u64;
+        match book.link_words(label, &[label, label], 5) {
+            Ok(item) => match book.unlink(item) {
+                Ok(Ended::Freed) => right = right.wrapping_add(1),
+                Ok(Ended::Deferred) | Err(_) => refused = one_more(refused),
+            },
+            Err(_) => refused = one_more(refused),
+        }
+    }
+    Tally { refused, right, labels: 0 }
+}
+
 /// Pulls the last item of a list, so often. Right is a pull that found one.
-fn pulls(book: &mut Book, tail: Tail, times: u32) -> Tally {
+fn pulls<const WORDS: usize>(book: &mut Book<WORDS>, tail: Tail, times: u32) -> Tally {
     let mut refused: u64 = 0;
     let mut right: u64 = 0;
     for _ in 0..times {
@@ -193,27 +211,33 @@ fn pulls(book: &mut Book, tail: Tail, times: u32) -> Tally {
 }
 
 /// Sweeps once. Right is a chunk that is freed.
-fn sweeps(book: &mut Book) -> Tally {
+fn sweeps<const WORDS: usize>(book: &mut Book<WORDS>) -> Tally {
     Tally { refused: 0, right: book.sweep() as u64, labels: 0 }
 }
 
 /// Its name is what callgrind is told to count.
 #[inline(never)]
-fn timed_calls(book: &mut Book, call: Call, times: u32) -> Tally {
+fn timed_calls<const WORDS: usize>(book: &mut Book<WORDS>, call: Call, times: u32) -> Tally {
     match call {
         Call::LinkUnlink => links(book, times),
+        Call::LinkUnlinkWords => wide_links(book, times),
         Call::Pull(tail) => pulls(book, tail, times),
         Call::Sweep => sweeps(book),
     }
 }
 
 pub fn pass(calls: Calls) -> (u64, Tally) {
-    let chunks = (0..calls.class.chunks)
-        .map(|_| Chunk { head: AtomicU64::new(0), time: AtomicU64::new(0), label: AtomicU64::new(0) })
-        .collect();
+    match calls.call {
+        Call::LinkUnlinkWords => pass_of::<FURTHER>(calls),
+        _ => pass_of::<0>(calls),
+    }
+}
+
+fn pass_of<const WORDS: usize>(calls: Calls) -> (u64, Tally) {
+    let chunks = (0..calls.class.chunks).map(|_| Chunk::<WORDS>::new(0, 0)).collect();
     let mut book = Book::new(chunks, 0, calls.class);
-    for number in 0..calls.items {
-        let _linked = book.link(number as u64, 0);
+    for number in 0..calls.items as u64 {
+        let _linked = book.link_words(number, &[number; WORDS], 0);
     }
     let items = lives(0, calls.items);
     for &before in calls.before {

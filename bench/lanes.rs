@@ -4,7 +4,6 @@ use crate::books::{Applied, Book, Class};
 use crate::places::Tail;
 use crate::rings::{Receiver, ring};
 use crate::words::{ACTIVE, Chunk, FETCHED, ItemId, lives};
-use std::sync::atomic::AtomicU64;
 use std::sync::atomic::Ordering::SeqCst;
 use std::sync::{Arc, Mutex, MutexGuard};
 
@@ -39,7 +38,7 @@ impl Classes {
     /// Classes of so many chunks each, whose items all stand in COLD and were hit, and the lanes of the rings in which these bumps wait.
     pub fn with_bumps(classes: u32, items: u32, capacity: u32, bumps: &[Vec<ItemId>]) -> (Classes, Vec<Lane>) {
         let words: Arc<[Chunk]> = (0..classes * items)
-            .map(|_| Chunk { head: AtomicU64::new(0), time: AtomicU64::new(0), label: AtomicU64::new(0) })
+            .map(|_| Chunk::new(0, 0))
             .collect();
         let starts: Vec<u32> = (0..classes).map(|class| class * items).collect();
         let books = starts.iter().map(|&first| {

@@ -22,10 +22,10 @@ use lanes::{Classes, Lane};
 use measure::{Measured, Tally, measure_named, one_more};
 use rings::Receiver;
 use std::time::Instant;
-use words::{ItemId, lives};
+use words::{ACTIVE, FURTHER, ItemId, lives};
 use workers::{Dropped, Store, Touch, Worker};
 
-/// What each hit of a pass comes to: an answer of its touch, or that it asks first, and finds both marks.
+/// What each hit of a pass comes to: an answer of its touch; that it asks first, and finds both marks; or that it takes whatever item is there, and finds them by that.
 #[derive(Clone, Copy)]
 enum Answer {
     First,
@@ -34,6 +34,7 @@ enum Answer {
     Queued,
     Full,
     Asked,
+    Any,
 }
 
 /// One of the answers: the loop that wants it is compiled for it alone, as each caller of a touch has code of its own.
@@ -81,7 +82,7 @@ impl Wanted for Full {
     }
 }
 
-fn gets(store: &Store, worker: &mut Worker, items: &[ItemId], rounds: u32) -> Tally {
+fn gets<const WORDS: usize>(store: &Store<WORDS>, worker: &mut Worker, items: &[ItemId], rounds: u32) -> Tally {
     let mut refused: u64 = 0;
     for _ in 0..rounds {
         for &item in items {
@@ -94,7 +95,7 @@ fn gets(store: &Store, worker: &mut Worker, items: &[ItemId], rounds: u32) -> Ta
     Tally { refused, right: 0, labels: 0 }
 }
 
-fn hits<W: Wanted>(store: &Store, worker: &mut Worker, items: &[ItemId], rounds: u32) -> Tally {
+fn hits<W: Wanted, const WORDS: usize>(store: &Store<WORDS>, worker: &mut Worker, items: &[ItemId], rounds: u32) -> Tally {
     let mut refused: u64 = 0;
     let mut right: u64 = 0;
     let mut labels: u64 = 0;
@@ -119,7 +120,7 @@ fn hits<W: Wanted>(store: &Store, worker: &mut Worker, items: &[ItemId], rounds:
 
 /// Each hit asks first whether the item has both marks, and touches it only where it hasn't. An item that has them is wanted.
 #[inline(never)]
-fn asked_hits(store: &Store, worker: &mut Worker, items: &[ItemId], rounds: u32) -> Tally {
+fn asked_hits<const WORDS: usize>(store: &Store<WORDS>, worker: &mut Worker, items: &[ItemId], rounds: u32) -> Tally {
     let mut refused: u64 = 0;
     let mut right: u64 = 0;
     let mut labels: u64 = 0;
@@ -143,16 +144,48 @@ fn asked_hits(store: &Store, worker: &mut Worker, items: &[ItemId], rounds: u32)
     Tally { refused, right, labels }
 }
 
+/// Takes whatever item is linked in each chunk, reads its label and two further words, and releases it. By the head by which it was taken it is touched only where it hasn't both marks: ACTIVE alone is asked, as in bump_bench. An item that has them is wanted. There is none where chunks haven't so many words.
+#[inline(never)]
+fn any_hits<const WORDS: usize>(store: &Store<WORDS>, worker: &mut Worker, items: &[ItemId], rounds: u32) -> Tally {
+    let mut refused: u64 = 0;
+    let mut right: u64 = 0;
+    let mut labels: u64 = 0;
+    if WORDS < FURTHER {
+        return Tally { refused, right, labels };
+    }
+    for _ in 0..rounds {
+        for item in items {
+            match worker.get_any(store, item.chunk) {
+                Ok((mut hold, found)) => {
+                    if found & ACTIVE != 0 {
+                        right = right.wrapping_add(1);
+                    } else {
+                        worker.touch(store, &mut hold, 5);
+                    }
+                    let label = hold.label(store);
+                    let first = hold.word(store, 0);
+                    let second = hold.word(store, 1);
+                    hold.release(store);
+                    labels = labels.wrapping_add(label).wrapping_add(first).wrapping_add(second);
+                }
+                Err(_) => refused = one_more(refused),
+            }
+        }
+    }
+    Tally { refused, right, labels }
+}
+
 /// Its name is what callgrind is told to count.
 #[inline(never)]
-fn timed_pass(store: &Store, worker: &mut Worker, items: &[ItemId], rounds: u32, wanted: Option<Answer>) -> Tally {
+fn timed_pass<const WORDS: usize>(store: &Store<WORDS>, worker: &mut Worker, items: &[ItemId], rounds: u32, wanted: Option<Answer>) -> Tally {
     match wanted {
-        Some(Answer::First) => hits::<First>(store, worker, items, rounds),
-        Some(Answer::Already) => hits::<Already>(store, worker, items, rounds),
-        Some(Answer::Marked) => hits::<Marked>(store, worker, items, rounds),
-        Some(Answer::Queued) => hits::<Queued>(store, worker, items, rounds),
-        Some(Answer::Full) => hits::<Full>(store, worker, items, rounds),
+        Some(Answer::First) => hits::<First, WORDS>(store, worker, items, rounds),
+        Some(Answer::Already) => hits::<Already, WORDS>(store, worker, items, rounds),
+        Some(Answer::Marked) => hits::<Marked, WORDS>(store, worker, items, rounds),
+        Some(Answer::Queued) => hits::<Queued, WORDS>(store, worker, items, rounds),
+        Some(Answer::Full) => hits::<Full, WORDS>(store, worker, items, rounds),
         Some(Answer::Asked) => asked_hits(store, worker, items, rounds),
+        Some(Answer::Any) => any_hits(store, worker, items, rounds),
         None => gets(store, worker, items, rounds),
     }
 }
@@ -183,6 +216,8 @@ struct Workload {
     /// Whether all threads have the same items, in place of items of their own.
     shared: bool,
     capacity: u32,
+    /// How many further words each chunk has: none, or two.
+    further: usize,
     touches: u32,
     /// Whether each ring is filled with the bumps of the items and drained before the pass.
     warm: bool,
@@ -199,6 +234,7 @@ const GET: Workload = Workload {
     cold: false,
     shared: false,
     capacity: 1,
+    further: 0,
     touches: 0,
     warm: false,
     wanted: None,
@@ -210,6 +246,9 @@ const HIT: Workload = Workload { name: "store_hit", touches: 2, wanted: Some(Ans
 
 /// Each of these hits asks first, and leaves out its touch.
 const HIT_ASKED: Workload = Workload { name: "store_hit_asked", wanted: Some(Answer::Asked), ..HIT };
+
+/// Each of these hits takes whatever item its chunk has, and reads two further words too.
+const HIT_ANY: Workload = Workload { name: "store_hit_any", further: FURTHER, wanted: Some(Answer::Any), ..HIT };
 
 /// One item, which all threads hit.
 const HOT: Workload = Workload { name: "store_hot", items: 1, shared: true, rounds: 65_536, ..HIT };
@@ -250,7 +289,7 @@ impl Workload {
 /// Each on 1, 2 and 4 threads, bumps that are applied, and hits in stores of two sizes.
 fn workloads() -> Vec<Workload> {
     let mut all = Vec::new();
-    for workload in [GET, HIT, HIT_ASKED, HOT, HOT_ASKED, FIRST, MARKED, QUEUED, FULL] {
+    for workload in [GET, HIT, HIT_ASKED, HIT_ANY, HOT, HOT_ASKED, FIRST, MARKED, QUEUED, FULL] {
         for threads in [1, 2, 4] {
             all.push(Workload { threads, ..workload });
         }
@@ -262,8 +301,8 @@ fn workloads() -> Vec<Workload> {
 }
 
 /// Fills the ring and drains it, so that its memory was in use before. Answers how many bumps that took.
-fn warm_ring(store: &Store, worker: &mut Worker, receiver: &mut Receiver, items: &[ItemId]) -> u64 {
-    hits::<First>(store, worker, items, 2);
+fn warm_ring<const WORDS: usize>(store: &Store<WORDS>, worker: &mut Worker, receiver: &mut Receiver, items: &[ItemId]) -> u64 {
+    hits::<First, WORDS>(store, worker, items, 2);
     let mut bumps = 0;
     while let Some((number, life)) = receiver.take() {
         assert_eq!(number, bumps);
@@ -275,9 +314,9 @@ fn warm_ring(store: &Store, worker: &mut Worker, receiver: &mut Receiver, items:
 }
 
 /// What one worker's thread does. It ends with the worker's ring.
-fn work(store: &Store, mut worker: Worker, mut receiver: Receiver, items: Vec<ItemId>, workload: Workload, start: &Start) -> (u64, Tally) {
+fn work<const WORDS: usize>(store: &Store<WORDS>, mut worker: Worker, mut receiver: Receiver, items: Vec<ItemId>, workload: Workload, start: &Start) -> (u64, Tally) {
     if workload.touches > 0 {
-        hits::<First>(store, &mut worker, &items, workload.touches);
+        hits::<First, WORDS>(store, &mut worker, &items, workload.touches);
     }
     let mut bumps = if workload.warm { warm_ring(store, &mut worker, &mut receiver, &items) } else { 0 };
     start.meet();
@@ -305,11 +344,16 @@ fn drained(workload: Workload) -> (u64, Tally) {
 }
 
 fn pass(workload: Workload) -> (u64, Tally) {
-    if workload.drained {
-        return drained(workload);
+    match workload.further {
+        _ if workload.drained => drained(workload),
+        0 => pass_of::<0>(workload),
+        _ => pass_of::<FURTHER>(workload),
     }
+}
+
+fn pass_of<const WORDS: usize>(workload: Workload) -> (u64, Tally) {
     let Workload { threads, cold, capacity, .. } = workload;
-    let (store, workers, receivers) = Store::new(workload.chunks(), cold, threads, capacity);
+    let (store, workers, receivers) = Store::<WORDS>::new(workload.chunks(), cold, threads, capacity);
     let ends = workers.into_iter().zip(receivers).zip(0..threads).collect();
     work_apart(ends, |((worker, receiver), number), start| {
         work(&store, worker, receiver, workload.items_of(number), workload, start)

@@ -18,10 +18,27 @@ pub struct ItemId {
     pub generation: u32,
 }
 
-pub struct Chunk {
+/// How many further words the chunks have where they have some: two, which are linked and read.
+pub const FURTHER: usize = 2;
+
+/// A chunk with so many further words.
+pub struct Chunk<const WORDS: usize = 0> {
     pub head: AtomicU64,
     pub time: AtomicU64,
     pub label: AtomicU64,
+    pub further: [AtomicU64; WORDS],
+}
+
+impl<const WORDS: usize> Chunk<WORDS> {
+    /// Its words but the head are this number, or 0.
+    pub fn new(head: u64, number: u64) -> Self {
+        Chunk {
+            head: AtomicU64::new(head),
+            time: AtomicU64::new(0),
+            label: AtomicU64::new(number),
+            further: [(); WORDS].map(|_| AtomicU64::new(number)),
+        }
+    }
 }
 
 pub fn generation_of(word: u64) -> u32 {

@@ -2,7 +2,6 @@
 
 use crate::rings::{Receiver, Sender, ring};
 use crate::words::{ACTIVE, COLD, Chunk, FETCHED, ItemId, LINKED, REFS, SEGMENT, generation_of};
-use std::sync::atomic::AtomicU64;
 use std::sync::atomic::Ordering::SeqCst;
 
 const EXCHANGES: u32 = 8;
@@ -44,8 +43,8 @@ pub struct Accounts {
     pub refs: u64,
 }
 
-pub struct Store {
-    chunks: Box<[Chunk]>,
+pub struct Store<const WORDS: usize = 0> {
+    chunks: Box<[Chunk<WORDS>]>,
     refs_limit: u64,
 }
 
@@ -60,17 +59,11 @@ pub struct Hold {
     life: ItemId,
 }
 
-impl Store {
+impl<const WORDS: usize> Store<WORDS> {
     /// A store all of whose chunks are linked, in HOT or in COLD, with a worker for each thread and the other ends of their rings.
-    pub fn new(chunks: u32, cold: bool, workers: u32, capacity: u32) -> (Store, Vec<Worker>, Vec<Receiver>) {
+    pub fn new(chunks: u32, cold: bool, workers: u32, capacity: u32) -> (Self, Vec<Worker>, Vec<Receiver>) {
         let head = 1 << 32 | if cold { COLD } else { 0 } | LINKED | 1;
-        let chunks = (0..chunks)
-            .map(|chunk| Chunk {
-                head: AtomicU64::new(head),
-                time: AtomicU64::new(0),
-                label: AtomicU64::new(chunk as u64),
-            })
-            .collect();
+        let chunks = (0..chunks).map(|chunk| Chunk::new(head, chunk as u64)).collect();
         let (workers, receivers) = (0..workers)
             .map(|_| {
                 let (sender, receiver) = ring(capacity);
@@ -80,7 +73,7 @@ impl Store {
         (Store { chunks, refs_limit: REFS }, workers, receivers)
     }
 
-    fn chunk(&self, life: ItemId) -> &Chunk {
+    fn chunk(&self, life: ItemId) -> &Chunk<WORDS> {
         &self.chunks[life.chunk as usize]
     }
 
@@ -110,7 +103,7 @@ impl Store {
 
 impl Worker {
     #[inline]
-    pub fn get(&mut self, store: &Store, id: ItemId) -> Result<Hold, GetRefusal> {
+    pub fn get<const WORDS: usize>(&mut self, store: &Store<WORDS>, id: ItemId) -> Result<Hold, GetRefusal> {
         let Some(chunk) = store.chunks.get(id.chunk as usize) else {
             return Err(GetRefusal::NoSuchChunk);
         };
@@ -130,8 +123,30 @@ impl Worker {
         Err(GetRefusal::Busy)
     }
 
+    /// A hold of whatever item is linked in the chunk, and the head word by which it was taken.
     #[inline]
-    pub fn touch(&mut self, store: &Store, hold: &mut Hold, now: u64) -> Touch {
+    pub fn get_any<const WORDS: usize>(&mut self, store: &Store<WORDS>, number: u32) -> Result<(Hold, u64), GetRefusal> {
+        let Some(chunk) = store.chunks.get(number as usize) else {
+            return Err(GetRefusal::NoSuchChunk);
+        };
+        let mut word = chunk.head.load(SeqCst);
+        for _ in 0..EXCHANGES {
+            if word & LINKED == 0 {
+                return Err(GetRefusal::Stale);
+            }
+            if word & REFS >= store.refs_limit {
+                return Err(GetRefusal::RefsFull);
+            }
+            match chunk.head.compare_exchange(word, word + 1, SeqCst, SeqCst) {
+                Ok(_) => return Ok((Hold { life: ItemId { chunk: number, generation: generation_of(word) } }, word)),
+                Err(found) => word = found,
+            }
+        }
+        Err(GetRefusal::Busy)
+    }
+
+    #[inline]
+    pub fn touch<const WORDS: usize>(&mut self, store: &Store<WORDS>, hold: &mut Hold, now: u64) -> Touch {
         if self.accounts.attempted >= MOST_ATTEMPTS {
             return Touch::Exhausted;
         }
@@ -154,7 +169,7 @@ impl Worker {
         self.attempt(store, hold.life)
     }
 
-    fn attempt(&mut self, store: &Store, life: ItemId) -> Touch {
+    fn attempt<const WORDS: usize>(&mut self, store: &Store<WORDS>, life: ItemId) -> Touch {
         self.accounts.attempted += 1;
         match self.queue(store, life) {
             Ok(number) => {
@@ -173,7 +188,7 @@ impl Worker {
         }
     }
 
-    fn queue(&mut self, store: &Store, life: ItemId) -> Result<u64, Dropped> {
+    fn queue<const WORDS: usize>(&mut self, store: &Store<WORDS>, life: ItemId) -> Result<u64, Dropped> {
         store.ride(life)?;
         self.sender.offer(life).ok_or_else(|| {
             store.chunk(life).head.fetch_sub(1, SeqCst);
@@ -189,18 +204,23 @@ impl Worker {
 impl Hold {
     /// Whether the item has both marks, by one load.
     #[inline]
-    pub fn is_marked(&mut self, store: &Store) -> bool {
+    pub fn is_marked<const WORDS: usize>(&mut self, store: &Store<WORDS>) -> bool {
         let word = store.chunk(self.life).head.load(SeqCst);
         word & (FETCHED | ACTIVE) == FETCHED | ACTIVE
     }
 
     #[inline]
-    pub fn label(&mut self, store: &Store) -> u64 {
+    pub fn label<const WORDS: usize>(&mut self, store: &Store<WORDS>) -> u64 {
         store.chunk(self.life).label.load(SeqCst)
     }
 
     #[inline]
-    pub fn release(self, store: &Store) {
+    pub fn word<const WORDS: usize>(&mut self, store: &Store<WORDS>, index: usize) -> u64 {
+        store.chunk(self.life).further[index].load(SeqCst)
+    }
+
+    #[inline]
+    pub fn release<const WORDS: usize>(self, store: &Store<WORDS>) {
         store.chunk(self.life).head.fetch_sub(1, SeqCst);
     }
 }

@@ -1,7 +1,7 @@
 //! Calls of a Book, by one thread: how a class is prepared for them, and the loops that are timed.
 use crate::calls::Calls;
 use crate::hits::touch_all;
-use crate::stores::lives;
+use crate::stores::{FURTHER, lives};
 use crate::tallies::{Spent, Tally, one_more};
 use bump_class::Book;
 use bump_readers::{Name, ReaderHeads};
@@ -17,6 +17,9 @@ use std::time::Instant;
 pub enum Call {
     /// An item is linked, and unlinked at once: nobody holds it.
     LinkUnlink,
+
+    /// The same of an item with two further words.
+    LinkUnlinkWords,
 
     /// The last item of a list is pulled.
     Pull(Tail),
@@ -93,6 +96,31 @@ fn links<N: Name>(book: &mut Book<N>, times: u32) -> Tally {
     }
 }
 
+// Links an item with two further words and unlinks it, so often. Right is an item that is freed. There is none where
+// chunks haven't so many words.
+fn wide_links<N: Name>(book: &mut Book<N>, times: u32) -> Tally {
+    if book.further() < FURTHER {
+        return Tally::NONE;
+    }
+    let mut refused: u64 = 0;
+    let mut right: u64 = 0;
+    for number in 0..times {
+        let label = u64::from(number);
+        match book.link_words(label, &[label, label], 5) {
+            Ok(item) => match book.unlink(item) {
+                Ok(Ended::Freed) => right = right.wrapping_add(1),
+                Ok(Ended::Deferred) | Err(_) => refused = one_more(refused),
+            },
+            Err(_) => refused = one_more(refused),
+        }
+    }
+    Tally {
+        refused,
+        right,
+        ..Tally::NONE
+    }
+}
+
 // Pulls the last item of a list, so often. Right is a pull that found one.
 fn pulls<N: Name>(book: &mut Book<N>, tail: Tail, times: u32) -> Tally {
     let mut refused: u64 = 0;
@@ -116,6 +144,7 @@ fn pulls<N: Name>(book: &mut Book<N>, tail: Tail, times: u32) -> Tally {
 fn timed_calls<N: Name>(book: &mut Book<N>, call: Call, times: u32) -> Tally {
     match call {
         Call::LinkUnlink => links(book, times),
+        Call::LinkUnlinkWords => wide_links(book, times),
         Call::Pull(tail) => pulls(book, tail, times),
         Call::Sweep => Tally {
             right: u64::from(book.sweep()),

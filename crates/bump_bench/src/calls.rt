@@ -1,5 +1,6 @@
 //! What is measured of a Book.
 use crate::callers::{Before, Call};
+use crate::stores::FURTHER;
 use bump_rules::{ClassConfig, Place, Tail};
 
 /// A workload of one class, which one thread has.
@@ -9,6 +10,9 @@ pub struct Calls {
 
     /// The class: 1 to 1,000,000 chunks, and the limits of HOT and of WARM.
     pub class: ClassConfig,
+
+    /// How many further words each chunk has.
+    pub further: u32,
 
     /// How many items are linked before, and what is done with all of them, one thing after another.
     pub items: u32,
@@ -30,6 +34,7 @@ const LINKS: Calls = Calls {
         hot: 0,
         warm: 0,
     },
+    further: 0,
     items: 32_768,
     before: &[],
     call: Call::LinkUnlink,
@@ -41,6 +46,7 @@ const LINKS: Calls = Calls {
 const PULL: Calls = Calls {
     name: "pull_hot_cold",
     class: NO_ROOM,
+    further: 0,
     items: 8_192,
     before: &[],
     call: Call::Pull(Tail::Hot),
@@ -71,8 +77,14 @@ const SWEEP: Calls = Calls {
 };
 
 /// The workloads, in the order of the table.
-pub const CALLS: [Calls; 17] = [
+pub const CALLS: [Calls; 18] = [
     LINKS,
+    Calls {
+        name: "link_unlink_words",
+        further: FURTHER,
+        call: Call::LinkUnlinkWords,
+        ..LINKS
+    },
     Calls {
         name: "link_unlink_1000",
         class: ClassConfig {

@@ -1,10 +1,12 @@
 //! Hits and gets of items: the loops that are timed of a worker's calls.
+use crate::stores::FURTHER;
 use crate::tallies::{Tally, one_more};
 use bump_readers::{Name, ReaderHeads};
 use bump_rules::{Dropped, ItemId, Touch};
 use bump_store::Worker;
 
-/// What each hit of a pass comes to: an answer of its touch, or that it asks first, and finds both marks.
+/// What each hit of a pass comes to: an answer of its touch; that it asks first, and finds both marks; or that it takes
+/// whatever item is there, and finds them by that.
 #[derive(Clone, Copy)]
 pub enum Answer {
     First,
@@ -13,6 +15,7 @@ pub enum Answer {
     Queued,
     Full,
     Asked,
+    Any,
 }
 
 /// One of the answers: the loop that wants it is compiled for it alone, as each caller of a touch has code of its own.
@@ -152,6 +155,51 @@ fn asked_hits<N: Name>(
     }
 }
 
+// Takes whatever item is linked in each chunk, reads its label and two further words, and releases it. By the head by
+// which it was taken it is touched only where it hasn't both marks: an item that is ACTIVE is FETCHED too, so ACTIVE
+// alone is asked. An item that has them is wanted. There is none where chunks haven't so many words.
+#[inline(never)]
+fn any_hits<N: Name>(
+    heads: &ReaderHeads<N>,
+    worker: &mut Worker<N>,
+    items: &[ItemId],
+    rounds: u32,
+) -> Tally {
+    if heads.further() < FURTHER {
+        return Tally::NONE;
+    }
+    let mut refused: u64 = 0;
+    let mut right: u64 = 0;
+    let mut labels: u64 = 0;
+    for _round in 0..rounds {
+        for item in items {
+            match worker.get_any(heads, item.chunk) {
+                Ok((mut hold, found)) => {
+                    if found.active {
+                        right = right.wrapping_add(1);
+                    } else {
+                        worker.touch(heads, &mut hold, 5);
+                    }
+                    let label = hold.label(heads);
+                    let first = hold.word(heads, 0);
+                    let second = hold.word(heads, 1);
+                    hold.release(heads);
+                    labels = labels
+                        .wrapping_add(label)
+                        .wrapping_add(first)
+                        .wrapping_add(second);
+                }
+                Err(_) => refused = one_more(refused),
+            }
+        }
+    }
+    Tally {
+        refused,
+        right,
+        labels,
+    }
+}
+
 /// Hits each item so often: the first hit sets FETCHED, and the second one in HOT sets ACTIVE.
 pub fn touch_all<N: Name>(
     heads: &ReaderHeads<N>,
@@ -178,6 +226,7 @@ pub fn timed_pass<N: Name>(
         Some(Answer::Queued) => hits::<Queued, N>(heads, worker, items, rounds),
         Some(Answer::Full) => hits::<Full, N>(heads, worker, items, rounds),
         Some(Answer::Asked) => asked_hits(heads, worker, items, rounds),
+        Some(Answer::Any) => any_hits(heads, worker, items, rounds),
         None => gets(heads, worker, items, rounds),
     }
 }

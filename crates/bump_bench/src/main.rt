@@ -58,8 +58,9 @@ fn pass<R: Threads + Clock + Wait + Sync>(rt: &R, alloc: Global, work: Work) -> 
     if let Work::Moves(moves) = work {
         return moves.pass(rt, alloc);
     }
-    let config = work.shape()?.config(alloc)?;
-    let blank = Blank::new(alloc, &config).ok()?;
+    let shape = work.shape()?;
+    let config = shape.config(alloc)?;
+    let blank = Blank::with_words(alloc, &config, shape.further).ok()?;
     pass_in::<Brand, _>(rt, alloc, blank, &config, work)
 }
 

@@ -1,6 +1,6 @@
 //! What is measured of a worker's calls.
 use crate::hits::Answer;
-use crate::stores::lives;
+use crate::stores::{FURTHER, lives};
 use bump_rules::ItemId;
 use std::alloc::{AllocError, Global};
 
@@ -24,6 +24,9 @@ pub struct Reads {
 
     /// For how many bumps each worker's ring has room, 1 or more.
     pub capacity: u32,
+
+    /// How many further words each chunk has.
+    pub further: u32,
 
     /// How often each item is hit before the pass.
     pub touches: u32,
@@ -49,6 +52,7 @@ const GET: Reads = Reads {
     cold: false,
     shared: false,
     capacity: 1,
+    further: 0,
     touches: 0,
     warm: false,
     wanted: None,
@@ -67,6 +71,14 @@ const HIT: Reads = Reads {
 const HIT_ASKED: Reads = Reads {
     name: "store_hit_asked",
     wanted: Some(Answer::Asked),
+    ..HIT
+};
+
+// Each of these hits takes whatever item its chunk has, and reads two further words too.
+const HIT_ANY: Reads = Reads {
+    name: "store_hit_any",
+    further: FURTHER,
+    wanted: Some(Answer::Any),
     ..HIT
 };
 
@@ -129,8 +141,8 @@ const DRAINED: Reads = Reads {
 };
 
 /// Those that are measured on each of these numbers of threads.
-pub const APART: [Reads; 9] = [
-    GET, HIT, HIT_ASKED, HOT, HOT_ASKED, FIRST, MARKED, QUEUED, FULL,
+pub const APART: [Reads; 10] = [
+    GET, HIT, HIT_ASKED, HIT_ANY, HOT, HOT_ASKED, FIRST, MARKED, QUEUED, FULL,
 ];
 
 pub const THREADS: [u32; 3] = [1, 2, 4];

@@ -6,12 +6,18 @@ use bump_store::Store;
 use std::alloc::{AllocError, Global};
 use std::sync::Wait;
 
+/// How many further words the chunks have where they have some: two, which are linked and read.
+pub const FURTHER: u32 = 2;
+
 /// A store as a workload wants it.
 #[derive(Clone, Copy)]
 pub struct Shape {
     /// How many classes there are, all of them alike.
     pub classes: u32,
     pub class: ClassConfig,
+
+    /// How many further words each chunk has: none, or `FURTHER`.
+    pub further: u32,
 
     /// How many workers there are, and for how many bumps the ring of each has room.
     pub workers: u32,
@@ -22,11 +28,19 @@ pub struct Shape {
     pub cold: bool,
 }
 
-// Links so many items, as far as chunks are free: the label of each is its number. Pulls as many to COLD, if that is
-// wanted.
+// Links an item, if a chunk is free: its label is this number, and so are its further words, if it has some.
+fn link<N: Name>(book: &mut Book<N>, number: u64) {
+    let _linked = if book.further() < FURTHER {
+        book.link(number, 0)
+    } else {
+        book.link_words(number, &[number, number], 0)
+    };
+}
+
+// Links so many items, as far as chunks are free, by their numbers. Pulls as many to COLD, if that is wanted.
 fn fill<N: Name>(book: &mut Book<N>, items: u32, cold: bool) {
     for number in 0..items {
-        let _linked = book.link(u64::from(number), 0);
+        link(book, u64::from(number));
     }
     if cold {
         for _number in 0..items {
@@ -45,6 +59,7 @@ impl Shape {
                 hot: 0,
                 warm: 0,
             },
+            further: 0,
             workers,
             capacity,
             items: chunks,

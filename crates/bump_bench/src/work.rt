@@ -53,13 +53,10 @@ impl Work {
     /// The store that it wants, if it wants one.
     pub fn shape(self) -> Option<Shape> {
         match self {
-            Work::Reads(reads) => Some(Shape::full(
-                1,
-                reads.chunks(),
-                reads.threads,
-                reads.capacity,
-                reads.cold,
-            )),
+            Work::Reads(reads) => Some(Shape {
+                further: reads.further,
+                ..Shape::full(1, reads.chunks(), reads.threads, reads.capacity, reads.cold)
+            }),
             Work::Runs(runs) => Some(Shape::full(
                 runs.classes,
                 runs.chunks(),
@@ -70,6 +67,7 @@ impl Work {
             Work::Calls(calls) => Some(Shape {
                 classes: 1,
                 class: calls.class,
+                further: calls.further,
                 workers: 1,
                 capacity: CAPACITY,
                 items: calls.items,

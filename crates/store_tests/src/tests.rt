@@ -14,6 +14,7 @@ mod opening;
 mod pairs;
 mod refused_memory;
 mod rings;
+mod rows;
 mod runs;
 mod settling;
 mod shared_item;
