@@ -1,6 +1,14 @@
 -- What a worker, a book, a lane and a store own names no thread: so their handles may go to another one.
+use mathlib.Core.HProp.{HProp}
+use base.Shift.{Keyless}
+use mir.Raw.{raw}
+use denote.Memory.{lone}
 use denote.Param.Send.{IsSend, sendable}
-use Rattle.std.proofs.Crossing.{crosses}
+use denote.RattleType.{RattleType}
+use denote.RawPtr.{Ptr}
+use Rattle.std.specs.Global.{Global}
+use Rattle.std.proofs.Crossing.{crosses, frees}
+use Rattle.std_alloc.proofs.SendSync.{lies}
 use Rattle.std_heap.specs.contracts.Global as Heap
 use Rattle.std_heap.specs.contracts.GlobalAllocator.TheImpl.{ghosts}
 use Rattle.std_heap.proofs.Global.TheSendSync as handle
@@ -26,6 +34,7 @@ use Rattle.bump_handles.specs.contracts.readers.Reader as Reader
 use Rattle.bump_handles.proofs.books.TaggedBook.TheSendSync as tagged_book
 use Rattle.bump_handles.proofs.readers.Reader.TheSendSync as reader
 use Rattle.bump_c.specs.One.{any, alone}
+use Rattle.bump_c.specs.Seals.{owns}
 
 module _ (z : TableId) where
   abbrev named : Ghosts (any alone).Denot
@@ -62,3 +71,7 @@ module _ (z : TableId) where
   -- what is still to be taken out of a store
   pub store_sends : IsSend (Opened.the_row (any alone) named)
   store_sends = search (sendable, crosses, worker_sends, book_sends, lane_sends) depth 20
+
+-- what a handle owns of a part whose row names no thread
+pub owned_sends : (row : HProp {0} → TableId → RattleType) → ((z : TableId) → IsSend (row alone z)) → (alloc : Global) (p : Ptr) (z : TableId) (v : (row alone z).Denot) → Keyless (owns row alloc p z v)
+owned_sends row sends alloc p z v = (lies (row alone z) (sends z) p v, frees.frees alloc (raw (lone (row alone z).mir)) p)

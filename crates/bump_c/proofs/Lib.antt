@@ -1,5 +1,5 @@
-pub mod AsBoxWorker
-pub mod AsBoxBook
-pub mod AsBoxLane
-pub mod AsBoxStore
+pub mod Brands
+pub mod Steps
+pub mod AsBox
+pub mod Moved
 pub mod Crossing

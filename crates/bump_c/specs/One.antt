@@ -12,11 +12,12 @@ use denote.Sharing.{said}
 use Rattle.atomic_table.specs.Seated.{TableId}
 
 -- there is one value
-abbrev pub IsOne : Type 0 → Type 0
-IsOne A = (x : A) × ((y : A) → x ≡ y)
+pub record IsOne (A : Type 0) : Type 0 where
+  pub value : A
+  pub no_other : (y : A) → value ≡ y
 
 abbrev pub as_fact : (A : Type 0) → IsOne A → HProp {0}
-as_fact A is = (A, λ a b. sym (is.1 a) ∙ is.1 b)
+as_fact A is = (A, λ a b. sym (is.no_other a) ∙ is.no_other b)
 
 abbrev pub alone : HProp {0}
 alone = (Unit {0}, λ a b. refl)

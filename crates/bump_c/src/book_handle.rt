@@ -3,7 +3,7 @@ ghost use Rattle.std.specs.Prelude.{◌≡◌, List, [], ◌∷◌};
 ghost use Rattle.atomic_table.specs.Seated.{TableId, table_id_coded};
 ghost use Rattle.bump_handles.specs.Views.{TaggedBookView};
 ghost use Rattle.bump_c.specs.One.{IsOne};
-ghost use Rattle.bump_c.specs.SealBook.{book_owns, book_coded, book_slot_owns, book_slot_coded};
+ghost use Rattle.bump_c.specs.Seals.{book_row, owns, part_coded, slot_owns, slot_coded};
 
 use box_parts::Parts;
 use bump_handles::TaggedBook;
@@ -17,11 +17,11 @@ pub struct BookHandle {
     ptr: *mut (),
     alloc: Global,
     pub ghost table: { TableId } by { table_id_coded },
-    pub ghost held: { TaggedBookView } by { book_coded },
+    pub ghost held: { TaggedBookView } by { part_coded book_row },
 }
 
 impl Model for BookHandle {
-    ghost also_owns = { λ h. book_owns h.alloc h.ptr h.table h.held };
+    ghost also_owns = { λ h. owns book_row h.alloc h.ptr h.table h.held };
 }
 
 impl BookHandle {
@@ -56,11 +56,11 @@ impl BookHandle {
 pub struct BookSlot {
     ptr: *mut (),
     alloc: Global,
-    pub ghost slot: { List (TableId × TaggedBookView) } by { book_slot_coded },
+    pub ghost slot: { List (TableId × TaggedBookView) } by { slot_coded (part_coded book_row) },
 }
 
 impl Model for BookSlot {
-    ghost also_owns = { λ s. book_slot_owns s.alloc s.ptr s.slot };
+    ghost also_owns = { λ s. slot_owns (owns book_row) s.alloc s.ptr s.slot };
 }
 
 impl BookSlot {

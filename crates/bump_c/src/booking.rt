@@ -14,7 +14,6 @@ use crate::answers::{
 };
 use crate::book_handle::BookHandle;
 use box_parts::Parts;
-use bump_handles::TaggedBook;
 use bump_readers::Name;
 use bump_rules::ItemId;
 use std::alloc::Global;
@@ -26,13 +25,6 @@ const NO_SUCH_TAIL: ItemTold = ItemTold {
     generation: 0,
 };
 
-#[inline(always)]
-fn tell_link<N: Name>(it: &mut TaggedBook<N>, label: u64, now: u64) -> ItemTold
-    ensures { TellsLink start.Hot label now it.old it.new result }
-{
-    linked_told(it.link(label, now))
-}
-
 fn link_named<N: Name>(h: BookHandle, label: u64, now: u64) -> (BookHandle, ItemTold)
     requires table { h.table ≡ N.table }
     requires one { IsOne N }
@@ -40,7 +32,7 @@ fn link_named<N: Name>(h: BookHandle, label: u64, now: u64) -> (BookHandle, Item
     ensures links { TellsLink start.Hot label now h.held result.0.held result.1 }
 {
     let mut it = h.into_parts::<N>().into_box();
-    let said = tell_link(&mut it, label, now);
+    let said = linked_told(it.link(label, now));
     (BookHandle::of_parts(Parts::of(it)), said)
 }
 
@@ -64,13 +56,6 @@ pub extern "C" fn bump_link(book: &mut BookHandle, label: u64, now: u64) -> Item
     )
 }
 
-#[inline(always)]
-fn tell_link_temp<N: Name>(it: &mut TaggedBook<N>, label: u64, now: u64) -> ItemTold
-    ensures { TellsLink start.Temp label now it.old it.new result }
-{
-    linked_told(it.link_temp(label, now))
-}
-
 fn link_temp_named<N: Name>(h: BookHandle, label: u64, now: u64) -> (BookHandle, ItemTold)
     requires table { h.table ≡ N.table }
     requires one { IsOne N }
@@ -78,7 +63,7 @@ fn link_temp_named<N: Name>(h: BookHandle, label: u64, now: u64) -> (BookHandle,
     ensures links { TellsLink start.Temp label now h.held result.0.held result.1 }
 {
     let mut it = h.into_parts::<N>().into_box();
-    let said = tell_link_temp(&mut it, label, now);
+    let said = linked_told(it.link_temp(label, now));
     (BookHandle::of_parts(Parts::of(it)), said)
 }
 
@@ -102,13 +87,6 @@ pub extern "C" fn bump_link_temp(book: &mut BookHandle, label: u64, now: u64) ->
     )
 }
 
-#[inline(always)]
-fn tell_unlink<N: Name>(it: &mut TaggedBook<N>, chunk: u32, generation: u32) -> u32
-    ensures { TellsUnlink chunk generation it.old it.new result }
-{
-    unlinked_number(it.unlink(ItemId { chunk, generation }))
-}
-
 fn unlink_named<N: Name>(h: BookHandle, chunk: u32, generation: u32) -> (BookHandle, u32)
     requires table { h.table ≡ N.table }
     requires one { IsOne N }
@@ -116,7 +94,7 @@ fn unlink_named<N: Name>(h: BookHandle, chunk: u32, generation: u32) -> (BookHan
     ensures unlinks { TellsUnlink chunk generation h.held result.0.held result.1 }
 {
     let mut it = h.into_parts::<N>().into_box();
-    let said = tell_unlink(&mut it, chunk, generation);
+    let said = unlinked_number(it.unlink(ItemId { chunk, generation }));
     (BookHandle::of_parts(Parts::of(it)), said)
 }
 
@@ -140,24 +118,17 @@ pub extern "C" fn bump_unlink(book: &mut BookHandle, chunk: u32, generation: u32
     )
 }
 
-#[inline(always)]
-fn tell_pull<N: Name>(it: &mut TaggedBook<N>, tail: u32) -> ItemTold
-    ensures { TellsPull tail it.old it.new result }
-{
-    let Some(list) = tail_of(tail) else {
-        return NO_SUCH_TAIL;
-    };
-    pulled_told(it.pull(list))
-}
-
 fn pull_named<N: Name>(h: BookHandle, tail: u32) -> (BookHandle, ItemTold)
     requires table { h.table ≡ N.table }
     requires one { IsOne N }
     ensures table { result.0.table ≡ h.table }
     ensures pulls { TellsPull tail h.held result.0.held result.1 }
 {
+    let Some(list) = tail_of(tail) else {
+        return (h, NO_SUCH_TAIL);
+    };
     let mut it = h.into_parts::<N>().into_box();
-    let said = tell_pull(&mut it, tail);
+    let said = pulled_told(it.pull(list));
     (BookHandle::of_parts(Parts::of(it)), said)
 }
 
@@ -210,16 +181,6 @@ pub extern "C" fn bump_sweep(book: &mut BookHandle) -> u32
     })
 }
 
-#[inline(always)]
-fn tell_size<N: Name>(it: &TaggedBook<N>, place: u32) -> u32
-    ensures { TellsSize place it.now result }
-{
-    let Some(list) = place_of(place) else {
-        return u32::MAX;
-    };
-    it.size(list)
-}
-
 fn size_named<N: Name>(h: BookHandle, place: u32) -> (BookHandle, u32)
     requires table { h.table ≡ N.table }
     requires one { IsOne N }
@@ -227,8 +188,11 @@ fn size_named<N: Name>(h: BookHandle, place: u32) -> (BookHandle, u32)
     ensures held { result.0.held ≡ h.held }
     ensures size { TellsSize place h.held result.1 }
 {
+    let Some(list) = place_of(place) else {
+        return (h, u32::MAX);
+    };
     let it = h.into_parts::<N>().into_box();
-    let said = tell_size(&it, place);
+    let said = it.size(list);
     (BookHandle::of_parts(Parts::of(it)), said)
 }
 
@@ -254,13 +218,6 @@ pub extern "C" fn bump_size(book: &mut BookHandle, place: u32) -> u32
     )
 }
 
-#[inline(always)]
-fn tell_see<N: Name>(it: &mut TaggedBook<N>, chunk: u32) -> Seen
-    ensures { TellsSeen chunk it.old it.new result }
-{
-    seen_told(it.see(chunk))
-}
-
 fn see_named<N: Name>(h: BookHandle, chunk: u32) -> (BookHandle, Seen)
     requires table { h.table ≡ N.table }
     requires one { IsOne N }
@@ -268,7 +225,7 @@ fn see_named<N: Name>(h: BookHandle, chunk: u32) -> (BookHandle, Seen)
     ensures sees { TellsSeen chunk h.held result.0.held result.1 }
 {
     let mut it = h.into_parts::<N>().into_box();
-    let said = tell_see(&mut it, chunk);
+    let said = seen_told(it.see(chunk));
     (BookHandle::of_parts(Parts::of(it)), said)
 }
 
@@ -292,13 +249,6 @@ pub extern "C" fn bump_see(book: &mut BookHandle, chunk: u32) -> Seen
     )
 }
 
-#[inline(always)]
-fn tell_moves<N: Name>(it: &TaggedBook<N>, worker: u32) -> u64
-    ensures { TellsMoves worker it.now result }
-{
-    it.moves(worker).unwrap_or(u64::MAX)
-}
-
 fn moves_named<N: Name>(h: BookHandle, worker: u32) -> (BookHandle, u64)
     requires table { h.table ≡ N.table }
     requires one { IsOne N }
@@ -307,7 +257,7 @@ fn moves_named<N: Name>(h: BookHandle, worker: u32) -> (BookHandle, u64)
     ensures moves { TellsMoves worker h.held result.1 }
 {
     let it = h.into_parts::<N>().into_box();
-    let said = tell_moves(&it, worker);
+    let said = it.moves(worker).unwrap_or(u64::MAX);
     (BookHandle::of_parts(Parts::of(it)), said)
 }
 
@@ -333,14 +283,6 @@ pub extern "C" fn bump_moves(book: &mut BookHandle, worker: u32) -> u64
     )
 }
 
-#[inline(always)]
-fn tell_limits<N: Name>(it: &TaggedBook<N>) -> LimitsTold
-    ensures { result ≡ record { hot = it.now.book.hot_limit; warm = it.now.book.warm_limit } }
-{
-    let (hot, warm) = it.limits();
-    LimitsTold { hot, warm }
-}
-
 fn limits_named<N: Name>(h: BookHandle) -> (BookHandle, LimitsTold)
     requires table { h.table ≡ N.table }
     requires one { IsOne N }
@@ -349,8 +291,11 @@ fn limits_named<N: Name>(h: BookHandle) -> (BookHandle, LimitsTold)
     ensures limits { result.1 ≡ record { hot = h.held.book.hot_limit; warm = h.held.book.warm_limit } }
 {
     let it = h.into_parts::<N>().into_box();
-    let said = tell_limits(&it);
-    (BookHandle::of_parts(Parts::of(it)), said)
+    let (hot, warm) = it.limits();
+    (
+        BookHandle::of_parts(Parts::of(it)),
+        LimitsTold { hot, warm },
+    )
 }
 
 fn limits_at(h: BookHandle) -> (BookHandle, LimitsTold)
@@ -390,20 +335,6 @@ pub extern "C" fn bump_book_free(book: BookHandle) {
 
 // The chunks of the list with this number, and how many they are; or the number of an answer: there is no such list, or
 // memory was refused.
-fn tell_walk<N: Name>(it: &TaggedBook<N>, alloc: Global, place: u32) -> Result<(Vec<u32>, u32), u32>
-    ensures walked { IfOk result (λ r. (at : ThePlace) × (place ≡ place_number at)
-        × (r.0.items ≡ list_at it.now.book.lists at) × (r.1 ≡ length (list_at it.now.book.lists at))) }
-    ensures refused { IfErr result (λ e. 0 < e) }
-{
-    let Some(list) = place_of(place) else {
-        return Err(1);
-    };
-    let Ok(chunks) = it.walk(alloc, list) else {
-        return Err(2);
-    };
-    Ok((chunks, it.size(list)))
-}
-
 fn walk_named<N: Name>(
     h: BookHandle,
     alloc: Global,
@@ -417,9 +348,15 @@ fn walk_named<N: Name>(
         × (r.0.items ≡ list_at h.held.book.lists at) × (r.1 ≡ length (list_at h.held.book.lists at))) }
     ensures refused { IfErr result.1 (λ e. 0 < e) }
 {
+    let Some(list) = place_of(place) else {
+        return (h, Err(1));
+    };
     let it = h.into_parts::<N>().into_box();
-    let said = tell_walk(&it, alloc, place);
-    (BookHandle::of_parts(Parts::of(it)), said)
+    let Ok(chunks) = it.walk(alloc, list) else {
+        return (BookHandle::of_parts(Parts::of(it)), Err(2));
+    };
+    let size = it.size(list);
+    (BookHandle::of_parts(Parts::of(it)), Ok((chunks, size)))
 }
 
 fn walk_at(h: BookHandle, alloc: Global, place: u32) -> (BookHandle, Result<(Vec<u32>, u32), u32>)

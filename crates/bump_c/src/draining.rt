@@ -11,16 +11,8 @@ use crate::book_handle::BookHandle;
 use crate::lane_handle::LaneHandle;
 use crate::worker_handle::{WorkerHandle, WorkerSlot};
 use box_parts::{Parts, replace_both};
-use bump_handles::Drainer;
 use bump_readers::Name;
 use std::marker::Brand;
-
-#[inline(always)]
-fn tell_lane_class<N: Name>(it: &mut Drainer<N>) -> u32
-    ensures { TellsLaneClass it.old it.new result }
-{
-    it.next_class().unwrap_or(u32::MAX)
-}
 
 fn lane_class_named<N: Name>(h: LaneHandle) -> (LaneHandle, u32)
     requires table { h.table ≡ N.table }
@@ -29,7 +21,7 @@ fn lane_class_named<N: Name>(h: LaneHandle) -> (LaneHandle, u32)
     ensures class { TellsLaneClass h.held result.0.held result.1 }
 {
     let mut it = h.into_parts::<N>().into_box();
-    let said = tell_lane_class(&mut it);
+    let said = it.next_class().unwrap_or(u32::MAX);
     (LaneHandle::of_parts(Parts::of(it)), said)
 }
 
@@ -51,13 +43,6 @@ pub extern "C" fn bump_lane_class(lane: &mut LaneHandle) -> u32
     })
 }
 
-#[inline(always)]
-fn tell_rest<N: Name>(it: &mut Drainer<N>) -> RestTold
-    ensures { TellsRest it.old it.new result }
-{
-    rest_told(it.rest())
-}
-
 fn rest_named<N: Name>(h: LaneHandle) -> (LaneHandle, RestTold)
     requires table { h.table ≡ N.table }
     requires one { IsOne N }
@@ -65,7 +50,7 @@ fn rest_named<N: Name>(h: LaneHandle) -> (LaneHandle, RestTold)
     ensures rests { TellsRest h.held result.0.held result.1 }
 {
     let mut it = h.into_parts::<N>().into_box();
-    let said = tell_rest(&mut it);
+    let said = rest_told(it.rest());
     (LaneHandle::of_parts(Parts::of(it)), said)
 }
 

@@ -3,7 +3,7 @@ ghost use Rattle.std.specs.Prelude.{◌≡◌, List, [], ◌∷◌};
 ghost use Rattle.atomic_table.specs.Seated.{TableId, table_id_coded};
 ghost use Rattle.bump_handles.specs.Views.{DrainerView};
 ghost use Rattle.bump_c.specs.One.{IsOne};
-ghost use Rattle.bump_c.specs.SealLane.{lane_owns, lane_coded, lane_slot_owns, lane_slot_coded};
+ghost use Rattle.bump_c.specs.Seals.{lane_row, owns, part_coded, slot_owns, slot_coded};
 
 use box_parts::Parts;
 use bump_handles::Drainer;
@@ -17,11 +17,11 @@ pub struct LaneHandle {
     ptr: *mut (),
     alloc: Global,
     pub ghost table: { TableId } by { table_id_coded },
-    pub ghost held: { DrainerView } by { lane_coded },
+    pub ghost held: { DrainerView } by { part_coded lane_row },
 }
 
 impl Model for LaneHandle {
-    ghost also_owns = { λ h. lane_owns h.alloc h.ptr h.table h.held };
+    ghost also_owns = { λ h. owns lane_row h.alloc h.ptr h.table h.held };
 }
 
 impl LaneHandle {
@@ -56,11 +56,11 @@ impl LaneHandle {
 pub struct LaneSlot {
     ptr: *mut (),
     alloc: Global,
-    pub ghost slot: { List (TableId × DrainerView) } by { lane_slot_coded },
+    pub ghost slot: { List (TableId × DrainerView) } by { slot_coded (part_coded lane_row) },
 }
 
 impl Model for LaneSlot {
-    ghost also_owns = { λ s. lane_slot_owns s.alloc s.ptr s.slot };
+    ghost also_owns = { λ s. slot_owns (owns lane_row) s.alloc s.ptr s.slot };
 }
 
 impl LaneSlot {

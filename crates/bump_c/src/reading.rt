@@ -10,17 +10,9 @@ use crate::answers::{
 };
 use crate::worker_handle::WorkerHandle;
 use box_parts::Parts;
-use bump_handles::Reader;
 use bump_readers::Name;
 use bump_rules::ItemId;
 use std::marker::Brand;
-
-#[inline(always)]
-fn tell_get<N: Name>(it: &mut Reader<N>, hold: u32, chunk: u32, generation: u32) -> u32
-    ensures { TellsGet hold chunk generation it.old it.new result }
-{
-    taken_number(it.get(hold, ItemId { chunk, generation }))
-}
 
 fn get_named<N: Name>(
     h: WorkerHandle,
@@ -34,7 +26,7 @@ fn get_named<N: Name>(
     ensures gets { TellsGet hold chunk generation h.held result.0.held result.1 }
 {
     let mut it = h.into_parts::<N>().into_box();
-    let said = tell_get(&mut it, hold, chunk, generation);
+    let said = taken_number(it.get(hold, ItemId { chunk, generation }));
     (WorkerHandle::of_parts(Parts::of(it)), said)
 }
 
@@ -58,13 +50,6 @@ pub extern "C" fn bump_get(worker: &mut WorkerHandle, hold: u32, chunk: u32, gen
     )
 }
 
-#[inline(always)]
-fn tell_touch<N: Name>(it: &mut Reader<N>, hold: u32, now: u64) -> Touched
-    ensures { TellsTouch hold now it.old it.new result }
-{
-    touch_told(it.touch(hold, now))
-}
-
 fn touch_named<N: Name>(h: WorkerHandle, hold: u32, now: u64) -> (WorkerHandle, Touched)
     requires table { h.table ≡ N.table }
     requires one { IsOne N }
@@ -72,7 +57,7 @@ fn touch_named<N: Name>(h: WorkerHandle, hold: u32, now: u64) -> (WorkerHandle, 
     ensures touches { TellsTouch hold now h.held result.0.held result.1 }
 {
     let mut it = h.into_parts::<N>().into_box();
-    let said = tell_touch(&mut it, hold, now);
+    let said = touch_told(it.touch(hold, now));
     (WorkerHandle::of_parts(Parts::of(it)), said)
 }
 
@@ -96,13 +81,6 @@ pub extern "C" fn bump_touch(worker: &mut WorkerHandle, hold: u32, now: u64) -> 
     )
 }
 
-#[inline(always)]
-fn tell_label<N: Name>(it: &mut Reader<N>, hold: u32) -> Labelled
-    ensures { TellsLabel hold it.old it.new result }
-{
-    label_told(it.label(hold))
-}
-
 fn label_named<N: Name>(h: WorkerHandle, hold: u32) -> (WorkerHandle, Labelled)
     requires table { h.table ≡ N.table }
     requires one { IsOne N }
@@ -110,7 +88,7 @@ fn label_named<N: Name>(h: WorkerHandle, hold: u32) -> (WorkerHandle, Labelled)
     ensures reads { TellsLabel hold h.held result.0.held result.1 }
 {
     let mut it = h.into_parts::<N>().into_box();
-    let said = tell_label(&mut it, hold);
+    let said = label_told(it.label(hold));
     (WorkerHandle::of_parts(Parts::of(it)), said)
 }
 
@@ -165,13 +143,6 @@ pub extern "C" fn bump_release(worker: &mut WorkerHandle, hold: u32) -> bool
     )
 }
 
-#[inline(always)]
-fn tell_hit<N: Name>(it: &mut Reader<N>, chunk: u32, generation: u32, now: u64) -> HitTold
-    ensures { TellsHit chunk generation now it.old it.new result }
-{
-    hit_told(it.hit(ItemId { chunk, generation }, now))
-}
-
 fn hit_named<N: Name>(
     h: WorkerHandle,
     chunk: u32,
@@ -184,7 +155,7 @@ fn hit_named<N: Name>(
     ensures hits { TellsHit chunk generation now h.held result.0.held result.1 }
 {
     let mut it = h.into_parts::<N>().into_box();
-    let said = tell_hit(&mut it, chunk, generation, now);
+    let said = hit_told(it.hit(ItemId { chunk, generation }, now));
     (WorkerHandle::of_parts(Parts::of(it)), said)
 }
 

@@ -3,7 +3,7 @@ ghost use Rattle.std.specs.Prelude.{◌≡◌, List, [], ◌∷◌};
 ghost use Rattle.atomic_table.specs.Seated.{TableId, table_id_coded};
 ghost use Rattle.bump_handles.specs.Views.{OpenedView};
 ghost use Rattle.bump_c.specs.One.{IsOne};
-ghost use Rattle.bump_c.specs.SealStore.{store_owns, store_coded, store_slot_owns, store_slot_coded};
+ghost use Rattle.bump_c.specs.Seals.{store_row, owns, part_coded, slot_owns, slot_coded};
 
 use box_parts::Parts;
 use bump_handles::Opened;
@@ -17,11 +17,11 @@ pub struct StoreHandle {
     ptr: *mut (),
     alloc: Global,
     pub ghost table: { TableId } by { table_id_coded },
-    pub ghost held: { OpenedView } by { store_coded },
+    pub ghost held: { OpenedView } by { part_coded store_row },
 }
 
 impl Model for StoreHandle {
-    ghost also_owns = { λ h. store_owns h.alloc h.ptr h.table h.held };
+    ghost also_owns = { λ h. owns store_row h.alloc h.ptr h.table h.held };
 }
 
 impl StoreHandle {
@@ -56,11 +56,11 @@ impl StoreHandle {
 pub struct StoreSlot {
     ptr: *mut (),
     alloc: Global,
-    pub ghost slot: { List (TableId × OpenedView) } by { store_slot_coded },
+    pub ghost slot: { List (TableId × OpenedView) } by { slot_coded (part_coded store_row) },
 }
 
 impl Model for StoreSlot {
-    ghost also_owns = { λ s. store_slot_owns s.alloc s.ptr s.slot };
+    ghost also_owns = { λ s. slot_owns (owns store_row) s.alloc s.ptr s.slot };
 }
 
 impl StoreSlot {

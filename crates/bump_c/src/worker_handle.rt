@@ -3,7 +3,7 @@ ghost use Rattle.std.specs.Prelude.{◌≡◌, List, [], ◌∷◌};
 ghost use Rattle.atomic_table.specs.Seated.{TableId, table_id_coded};
 ghost use Rattle.bump_handles.specs.Views.{ReaderView};
 ghost use Rattle.bump_c.specs.One.{IsOne};
-ghost use Rattle.bump_c.specs.SealWorker.{worker_owns, worker_coded, worker_slot_owns, worker_slot_coded};
+ghost use Rattle.bump_c.specs.Seals.{worker_row, owns, part_coded, slot_owns, slot_coded};
 
 use box_parts::Parts;
 use bump_handles::Reader;
@@ -17,11 +17,11 @@ pub struct WorkerHandle {
     ptr: *mut (),
     alloc: Global,
     pub ghost table: { TableId } by { table_id_coded },
-    pub ghost held: { ReaderView } by { worker_coded },
+    pub ghost held: { ReaderView } by { part_coded worker_row },
 }
 
 impl Model for WorkerHandle {
-    ghost also_owns = { λ h. worker_owns h.alloc h.ptr h.table h.held };
+    ghost also_owns = { λ h. owns worker_row h.alloc h.ptr h.table h.held };
 }
 
 impl WorkerHandle {
@@ -56,11 +56,11 @@ impl WorkerHandle {
 pub struct WorkerSlot {
     ptr: *mut (),
     alloc: Global,
-    pub ghost slot: { List (TableId × ReaderView) } by { worker_slot_coded },
+    pub ghost slot: { List (TableId × ReaderView) } by { slot_coded (part_coded worker_row) },
 }
 
 impl Model for WorkerSlot {
-    ghost also_owns = { λ s. worker_slot_owns s.alloc s.ptr s.slot };
+    ghost also_owns = { λ s. slot_owns (owns worker_row) s.alloc s.ptr s.slot };
 }
 
 impl WorkerSlot {

@@ -40,7 +40,7 @@ impl<N: Name, L: RowLaw> Maintainer<N, L> {
     /// left, and all others are as they were.
     pub fn lane(&mut self, worker: u32) -> &mut Lane<N, L>
         requires { worker < length self.old }
-        ensures* lends { sem 𝓛 (LendsLane N.row N.Name self.entry worker result) }
+        ensures* lends { sem 𝓛 (LendsLane N.row L.row N.Name L.RowLaw self.entry worker result) }
         ensures lane { slice_get self.old worker ≡ Some result.now }
     {
         &mut self.lanes[worker as usize]

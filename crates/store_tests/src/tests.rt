@@ -6,6 +6,7 @@ mod calls;
 mod classes;
 mod drains;
 mod expecting;
+mod laws;
 mod marks;
 mod moves;
 mod offers;

@@ -1,19 +1,15 @@
 -- A handle may go to another thread, as a box of a book may: what a book owns names no thread, whatever stands for the name.
-use mir.Raw.{raw}
-use denote.Memory.{lone}
 use denote.Struct.Struct.{exits_of}
 use denote.Struct.Owning.{shape, fields, to}
 use denote.Param.Send.{IsSend, AllSend, owning_send, struct_send, sendable}
-use Rattle.std.proofs.Crossing as heap
-use Rattle.std_alloc.proofs.SendSync.{quiet, lies}
+use Rattle.std_alloc.proofs.SendSync.{quiet}
 use Rattle.std_heap.proofs.Global.TheSendSync as handle
-use Rattle.bump_c.specs.One.{alone}
-use Rattle.bump_c.specs.SealBook.{book_row}
+use Rattle.bump_c.specs.Seals.{book_row}
 use Rattle.bump_c.specs.contracts.book_handle.BookHandle.{the_row, the_type}
-use Rattle.bump_c.proofs.Crossing.{book_sends}
+use Rattle.bump_c.proofs.Crossing.{book_sends, owned_sends}
 
 pub send : IsSend the_row
 send =
     let all : AllSend (fields the_type) = (search sendable, (handle.the_field_send, tt)) in
-    owning_send the_type all (λ d. (lies (book_row alone d.table) (book_sends d.table) d.ptr d.held, heap.frees.frees d.alloc (raw (lone (book_row alone d.table).mir)) d.ptr))
+    owning_send the_type all (λ d. owned_sends book_row book_sends d.alloc d.ptr d.table d.held)
     (λ k. quiet (to the_type) (exits_of k (fields the_type)) ((struct_send (shape the_type) all).leaving k))

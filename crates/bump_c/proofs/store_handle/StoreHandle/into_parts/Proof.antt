@@ -1,100 +1,31 @@
 -- `into_parts` moves two fields, and what they own goes with them, under the name that was picked.
-use mathlib.Core.List.{List, [], ◌∷◌, ◌++◌}
-use seplogic.Ra.Ura.{Ura}
-use mir.Syntax.{Fn, Args, Dict, a_type, dcons, dnil}
-use mir.MapTy.{inst_fn}
-use mir.Val.{Val}
-use base.Logic.{SProp, ent, id⊢}
-use base.Fml.{ftrue, fsep, flft}
-use prog.Memory.{Memory}
-use prog.Routine.{Routine}
-use prog.Wp.{WpFn, Tables}
-use types.Logic.{Logic}
-use contract.Monad.{Fun}
-use contract.Running.{tables, tables_of}
-use sound.WpLaws.{WpFn-mono}
-use types.Kit.{Item, ‵, raw, ◌⊛◌, ◌$◌, ◌∵◌, !, qed, by, move, drop, use1, join, split, rewrite, frame, fsplit, fjoin, suffices, done}
-use types.Part.{whole, sub, agg}
-use types.Run.{stop, fld, no_more, and_then, of_opd, returns, enter}
-use types.ByLocal.{alloc_all, pass_all, free_all, look_at, get, get_in, sets}
-use denote.RattleType.{RattleType}
-use denote.Exit.{yes}
-use denote.Param.{bounded, param}
-use denote.Param.Laws.{Laws, param_laws}
-use denote.Steps.{nothing}
-use denote.Triple.Clauses.{Clauses, Ended}
-use denote.Triple.Spec.{triple_of}
-use denote.Triple.Table.{entered}
-use denote.Triple.Walked.{says, Stays, stay_dropped, walk_of, ends_at, Goes-dropped, walk_Meets}
-use Rattle.core.proofs.ledger.Walks.{hears, hears_last}
-use Rattle.std_alloc.proofs.BoxSteps.Form.{Bx, D, B, word, box_typed}
-use Rattle.std_alloc.proofs.BoxSteps.Steps.{box_out, box_in}
-use Rattle.atomic_table.specs.Seated.{TableId}
-use Rattle.bump_readers.specs.declared.names.Name.{Ghosts}
-use mathlib.Core.Path.{refl, sym, subst}
-use mathlib.Core.HProp.{HProp, HProp-ext}
-use Rattle.bump_c.specs.One.{as_fact, alone}
-use Rattle.bump_c.proofs.AsBoxStore.{E, FromSeal, BoxAt}
-use Rattle.box_parts.specs.contracts.parts.Parts as Parts
-use Rattle.bump_c.specs.contracts.store_handle.StoreHandle as Sealed
+use Rattle.bump_c.proofs.Steps.{◌≡◌, [], ◌∷◌, refl, Args, a_type, dcons, dnil, inst_fn, emp, id⊢, Tables, raw, ◌∵◌, !, qed, by, fact_i, tables, tables_of, RattleType, yes, bounded, param, param_laws, triple_of, entered, hears, hears_last, IsOne}
+use Rattle.bump_c.specs.Seals.{store_row}
+use Rattle.bump_c.proofs.AsBox.{BoxOf, PartsOf, PartsName, named_again}
+use Rattle.bump_c.proofs.Moved.{moves}
 use Rattle.bump_handles.specs.contracts.opening.Opened as Home
-use Rattle.std_heap.specs.contracts.Global as Heap
-use Rattle.std_heap.specs.contracts.GlobalAllocator.TheImpl.{ghosts}
+use Rattle.bump_handles.proofs.opening.Opened.TheLaws as home
+use Rattle.bump_c.specs.contracts.store_handle.StoreHandle as Sealed
 use Rattle.bump_c.specs.contracts.store_handle.StoreHandle.into_parts as F
 use Rattle.bump_c.specs.contracts.store_handle.StoreHandle.into_parts.Key.{name as #self}
 use Rattle.bump_c.proofs.store_handle.StoreHandle.into_parts.Statement as stated
 use Rattle.bump_c.proofs.store_handle.StoreHandle.into_parts.Code as code
 
-module _ (X : RattleType) (LX : Laws X) (g : Ghosts X.Denot) (d : Dict) where
-  abbrev args : Args
-  args = bounded (a_type ∷ []) (X, tt) (dcons d dnil)
-
-  abbrev fn' : Fn
-  fn' = inst_fn args code.function
-
-  abbrev ended : Ended
-  ended = F.ended X g d
-
-  abbrev Ex : Bx
-  Ex = E (param 0 X) (param_laws 0 X LX) g
-
-  abbrev stayed : Stays ended.signature.params ended.kept
-  stayed = (stay_dropped FromSeal yes, tt)
-
-  module _ {M : Type 1} {𝓤 : Ura M} (𝓛 : Logic 𝓤) (at_mem : Memory → SProp 𝓤) (run : Routine → Fun 𝓤) (𝓣 : Tables 𝓤 𝓛.H) where
-    open 𝓛 use {H}
-
-    abbrev held : Clauses 𝓤 ended
-    held = F.clauses X g d 𝓛 at_mem run
-
-    walk : (z : (walk_of 𝓛 ended stayed held).Ghost) → ent 𝓤 ((walk_of 𝓛 ended stayed held).pre z) (WpFn 𝓤 H 𝓣.C 𝓣.Λ fn' (z.0.4.0 ++ []) ((walk_of 𝓛 ended stayed held).post z))
-    walk z =
-        let Post = (walk_of 𝓛 ended stayed held).post z in
-        let h = z.0.3.0 in
-        let v : D Ex = record { ptr = h.ptr; alloc = h.alloc; value = h.held } in
-        let ts : Item 𝓤 = ‵ (flft z.0.0.0 z.0.1.0) ⊛ ‵ ftrue in
-        let made : (Parts.the_row (Home.the_row (param 0 X) g) Heap.the_row ghosts).Denot = record { ptr = v.ptr; alloc = v.alloc; value = v.value } in
-        qed 𝓛 ((ts ⊛ ‵ (fsep ((Sealed.the_row).own_val h z.0.4.0) ftrue)) ∷ raw ((held z.0.0 z.0.3).requires z.1) ∷ []) ∵ move ! (1 ∷ []) $ hears ! (λ _. hears ! (λ same. hears_last ! (λ is.
-        split ! $ move ! (1 ∷ []) $ fsplit ! $ rewrite ! 0 (λ (t : TableId). ‵ ((Sealed.the_row).own_val (record h { table = t }) z.0.4.0)) same refl $
-        use1 𝓛 (‵ ((BoxAt alone g.table).own_val v z.0.4.0)) (id⊢ 𝓤 _) $
-        rewrite ! 0 (λ (A : HProp {0}). ‵ ((BoxAt A g.table).own_val v z.0.4.0)) (sym (HProp-ext (as_fact X.Denot is) alone (λ _. tt) (λ _. is.0))) refl $
-        use1 𝓛 (‵ ((B Ex).own_val v z.0.4.0)) (id⊢ 𝓤 _) $
-        box_out Ex ! v z.0.4.0 (λ b o hv e ws fa. box_in Ex ! v b o v.value e refl $ use1 𝓛 (‵ ((Parts.the_row (Home.the_row (param 0 X) g) Heap.the_row ghosts).own_val made (word Ex hv b o ∷ []))) (id⊢ 𝓤 _) $ move ! (1 ∷ []) $ drop ! $
-        let w = word Ex hv b o in
-        let Γ : List (Item 𝓤) = ‵ ((Parts.the_row (Home.the_row (param 0 X) g) Heap.the_row ghosts).own_val made (w ∷ [])) ∷ ts ∷ [] in
-        by ! (subst (λ (us : List Val). ent 𝓤 (types.Kit.⋆ 𝓛 Γ) (WpFn 𝓤 H 𝓣.C 𝓣.Λ fn' (us ++ []) Post)) (sym ws)
-        (qed 𝓛 Γ ∵ enter ! 𝓣.C 𝓣.Λ fn' (w ∷ []) _ $ alloc_all ! (λ ls. pass_all ! refl (box_typed Ex hv b o fa, tt) $
-        sets ! (of_opd ! (get_in ! (fld ! refl (stop !)) (sub ! 0 refl (whole !)))) refl (tt, tt) $ sets ! (of_opd ! (get_in ! (fld ! refl (stop !)) (sub ! 1 refl (whole !)))) refl fa $
-        sets ! (of_opd ! (get ! refl)) refl (tt, tt) $
-        sets ! (agg ! (and_then ! (get ! refl) (and_then ! (get ! refl) (no_more !)))) refl (box_typed Ex hv b o fa) $ returns ! (look_at ! 0 refl) $ free_all ! refl $
-        suffices ! _ (ends_at 𝓛 ended stayed held z w made (tt, tt) (tt, tt)) $ says ! refl $
-        nothing ! $ nothing ! $ fjoin ! $ join ! $ move ! (1 ∷ 0 ∷ []) $ join ! $ done !)))))))
-
 pub into_parts_spec : {M : Type 1} → stated.statement M
 unfolding tables_of
 into_parts_spec 𝓤 𝓛 𝓜 𝓡 wired X LX g d _ =
     let 𝓣 : Tables 𝓤 𝓛.H = tables_of 𝓤 𝓛.H 𝓜 (tables 𝓤 𝓛.H 𝓜 𝓡 𝓡.env) in
-    let fn = fn' X LX g d in
-    entered 𝓤 𝓛.H (triple_of 𝓛 (ended X LX g d).signature (F.spec X g d 𝓛 𝓜.mem 𝓡.returns)) 𝓣.C 𝓣.Λ (#self (args X LX g d)) fn (code.unfolded 𝓤 𝓛.H 𝓜 𝓡 wired (X, tt) d)
-    (walk_Meets 𝓛 (ended X LX g d) (stayed X LX g d) (Goes-dropped 𝓛 1 FromSeal yes (λ κs x f. refl), tt) (F.clauses X g d 𝓛 𝓜.mem 𝓡.returns) (WpFn 𝓤 𝓛.H 𝓣.C 𝓣.Λ fn) (WpFn-mono 𝓤 𝓛.H 𝓛.laws 𝓣 fn)
-    (walk X LX g d 𝓛 𝓜.mem 𝓡.returns 𝓣))
+    let R : RattleType = Home.the_row (param 0 X) g in
+    let a : Args = bounded (a_type ∷ []) (X, tt) (dcons d dnil) in
+    entered 𝓤 𝓛.H (triple_of 𝓛 (F.ended X g d).signature (F.spec X g d 𝓛 𝓜.mem 𝓡.returns)) 𝓣.C 𝓣.Λ (#self a) (inst_fn a code.function) (code.unfolded 𝓤 𝓛.H 𝓜 𝓡 wired (X, tt) d)
+    (moves Sealed.the_row (PartsOf R) yes (Sealed.the_type).name (PartsName R) 𝓛 𝓣 (F.clauses X g d 𝓛 𝓜.mem 𝓡.returns) R (home.the_row_laws (param 0 X) g (param_laws 0 X LX)) (record {
+      Holds = λ h. (h.table ≡ g.table) × IsOne X.Denot;
+      box = λ h. record { ptr = h.ptr; alloc = h.alloc; value = h.held };
+      made = λ h. record { ptr = h.ptr; alloc = h.alloc; value = h.held };
+      last = λ h. tt;
+      silent = λ κs h w. refl;
+      heeds = λ κs h y. qed 𝓛 (raw ((F.clauses X g d 𝓛 𝓜.mem 𝓡.returns κs h).requires y) ∷ []) ∵ hears ! (λ _. hears ! (λ same. hears_last ! (λ is. by ! (fact_i 𝓤 ((h.0.table ≡ g.table) × IsOne X.Denot) (emp 𝓤) (same, is)))));
+      opens = λ h vs holds. named_again 𝓛 X.Denot holds.1 (λ A z. (BoxOf (store_row A z)).own_val (record { ptr = h.ptr; alloc = h.alloc; value = h.held }) vs) holds.0;
+      shuts = λ h vs holds. id⊢ 𝓤 _;
+      says = λ κs h y holds. fact_i 𝓤 _ (emp 𝓤) refl;
+    }))

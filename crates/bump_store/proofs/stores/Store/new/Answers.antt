@@ -1,4 +1,4 @@
-use Rattle.std.proofs.Common.{rules, ◌≡◌, ◌≤◌, All, length, refl, sym, ap, ◌∙◌, subst, vec_len, arith}
+use Rattle.std.proofs.Common.{rules, ◌≡◌, ℕ, ◌-◌, ◌≤◌, All, length, refl, sym, ap, ◌∙◌, subst, vec_len, arith}
 use Rattle.std.proofs.lemmas.List.{length-map}
 use Rattle.std.proofs.lemmas.List.Elements.{All-map}
 use Rattle.std.proofs.lemmas.Simd.{map-map}
@@ -11,9 +11,10 @@ use Rattle.bump_store.specs.Stores.{IsStore}
 use Rattle.bump_store.proofs.Starts.{count_of_books, new_lanes_idle, made_store}
 use Rattle.bump_store.proofs.stores.Store.new.Goals as goal
 
-pub make_lanes-requires-clause-idle : goal.make_lanes-requires-clause-idle
-make_lanes-requires-clause-idle g c =
-    new_lanes_idle 0 c.args.config.now.workers c.in_ok-heads.field-0.lanes.items c.in_ok-heads.ensures.lanes
+pub make_lanes-requires : goal.make_lanes-requires
+make_lanes-requires g c = record {
+  idle = new_lanes_idle 0 c.args.config.now.workers c.in_ok-heads.field-0.lanes.items c.in_ok-heads.ensures.lanes;
+}
 
 pub invariant_of-store : goal.invariant_of-store
 invariant_of-store g c =
@@ -36,7 +37,7 @@ returns-clause-count g c =
     let parts = c.in_ok-heads.ensures in (
       parts.count.0,
       ap length c.in_ok-lanes.ensures
-          ∙ length-map c.in_ok-heads.field-0.lanes.items (λ (x : LaneView). record { lane = x; capacity = c.args.config.now.capacity })
+          ∙ length-map {B = LaneState} c.in_ok-heads.field-0.lanes.items (λ (x : LaneView). record { lane = x; capacity = c.args.config.now.capacity })
           ∙ parts.count.1,
     )
 
@@ -68,7 +69,8 @@ invariant_of-result g c =
     let few : length c.in_ok-lanes.lanes.items ≤ 64 = omega (
       arith,
       ap length c.in_ok-lanes.ensures,
-      length-map c.in_ok-heads.field-0.lanes.items (λ (x : LaneView). record { lane = x; capacity = key.capacity }),
+      length-map {B = LaneState} c.in_ok-heads.field-0.lanes.items
+          (λ (x : LaneView). record { lane = x; capacity = key.capacity }),
       c.in_ok-heads.ensures.count.1,
       b.workers_most,
     ) in

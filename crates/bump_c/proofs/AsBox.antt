@@ -1,0 +1,46 @@
+-- A handle and its parts own what a box at the same type owns, whatever stands for the name.
+use mir.Syntax.{Sym, impl, tnil, dnil}
+use mathlib.Core.List.{[]}
+use mathlib.Core.Path.{◌≡◌, subst}
+use mathlib.Core.HProp.{HProp, HProp-ext}
+use seplogic.Ra.Ura.{Ura}
+use base.Logic.{ent, id⊢}
+use base.Fml.{Fml}
+use types.Logic.{Logic, sem}
+use denote.RattleType.{RattleType}
+use denote.Param.{param}
+use denote.Param.Laws.{Laws}
+use Rattle.std_alloc.proofs.BoxSteps.Form.{Bx}
+use Rattle.std_alloc.specs.contracts.boxed.Box as Box
+use Rattle.std_heap.specs.contracts.Global as Heap
+use Rattle.std_heap.specs.contracts.GlobalAllocator.TheImpl.{ghosts, dict}
+use Rattle.std_heap.proofs.Global.TheLaws as heap
+use Rattle.box_parts.specs.contracts.parts.Parts as Parts
+use Rattle.atomic_table.specs.Seated.{TableId}
+use Rattle.bump_c.specs.One.{IsOne, as_fact, alone}
+
+-- a box of what has this row, with its laws
+abbrev pub boxed : (R : RattleType) → Laws R → Bx
+boxed R laws = record { row = R; laws = laws; al = record { row = Heap.the_row; laws = heap.the_row_laws; g = ghosts; d = dict; drops = impl [] tnil dnil } }
+
+-- the box itself, and its parts
+abbrev pub BoxOf : RattleType → RattleType
+BoxOf R = Box.the_row (param 0 R) (param 1 Heap.the_row) ghosts
+
+abbrev pub PartsOf : RattleType → RattleType
+PartsOf R = Parts.the_row R Heap.the_row ghosts
+
+-- the name of the struct of its parts
+abbrev pub PartsName : RattleType → Sym
+PartsName R = (Parts.the_type R Heap.the_row ghosts).name
+
+module _ {M : Type 1} {𝓤 : Ura M} (𝓛 : Logic 𝓤) (A : Type 0) (is : IsOne A) where
+  -- what is owned where a type of one value stands for the name is owned where the unit does
+  pub unnamed : (own : HProp {0} → Fml) → ent 𝓤 (sem 𝓛 (own (as_fact A is))) (sem 𝓛 (own alone))
+  unnamed own = subst (λ (B : HProp {0}). ent 𝓤 (sem 𝓛 (own (as_fact A is))) (sem 𝓛 (own B))) (HProp-ext (as_fact A is) alone (λ _. tt) (λ _. is.value)) (id⊢ 𝓤 _)
+
+  -- and the other way round, at an equal table
+  pub named_again : (own : HProp {0} → TableId → Fml) {y z : TableId} → y ≡ z → ent 𝓤 (sem 𝓛 (own alone y)) (sem 𝓛 (own (as_fact A is) z))
+  named_again own {y} same =
+      subst (λ (t : TableId). ent 𝓤 (sem 𝓛 (own alone y)) (sem 𝓛 (own (as_fact A is) t))) same
+      (subst (λ (B : HProp {0}). ent 𝓤 (sem 𝓛 (own B y)) (sem 𝓛 (own (as_fact A is) y))) (HProp-ext (as_fact A is) alone (λ _. tt) (λ _. is.value)) (id⊢ 𝓤 _))
