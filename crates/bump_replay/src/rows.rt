@@ -1,7 +1,7 @@
 //! What the runs through caches of one size came to.
 ghost use Rattle.std.specs.Prelude.{◌≡◌};
 
-use replay_cache::Outcome;
+use replay_runs::Outcome;
 use replay_policies::Tally;
 
 /// The runs through caches of one size.
