@@ -55,7 +55,8 @@ no_hits = record { first = 0; already = 0; marked = 0; queued = 0; full = 0; bus
 -- how many hits there are of all kinds together, up to the greatest number
 abbrev pub total_hits : HitCounts → ℕ
 total_hits hits =
-    min (hits.first + hits.already + hits.marked + hits.queued + hits.full + hits.busy + hits.refs + hits.exhausted) (2 ^ 64 - 1)
+    min (hits.first + hits.already + hits.marked + hits.queued + hits.full + hits.busy + hits.refs + hits.exhausted)
+    (2 ^ 64 - 1)
 
 -- with one more of a kind, up to the greatest number
 abbrev pub with_one_more : HitKind → HitCounts → HitCounts

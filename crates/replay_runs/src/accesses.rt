@@ -76,12 +76,7 @@ fn tend(scribe: &mut Scribe, plan: &Plan) -> Result<(), ReplayFault>
 }
 
 // A key is got, and put where it has no item.
-fn get_or_put(
-    scribe: &mut Scribe,
-    plan: &Plan,
-    worker: u32,
-    key: u32,
-) -> Result<(), ReplayFault>
+fn get_or_put(scribe: &mut Scribe, plan: &Plan, worker: u32, key: u32) -> Result<(), ReplayFault>
     ensures text { OnOk result (AddsAccess worker key (7 * (plan.now.config.items + 1) + 2) scribe.old.text.items
         scribe.new.text.items) }
     ensures fault { IfErr result IsOfCalls }
@@ -95,12 +90,7 @@ fn get_or_put(
 }
 
 // Writes the lines of an access, and tends the cache behind it where it is time for it.
-fn write_access(
-    scribe: &mut Scribe,
-    plan: &Plan,
-    place: usize,
-    key: u32,
-) -> Result<(), ReplayFault>
+fn write_access(scribe: &mut Scribe, plan: &Plan, place: usize, key: u32) -> Result<(), ReplayFault>
     ensures text { OnOk result (AddsAccess (place % max plan.now.config.readers 1) key (most_behind plan.now)
         scribe.old.text.items scribe.new.text.items) }
     ensures fault { IfErr result IsOfCalls }
