@@ -9,12 +9,12 @@ use bump_cache::CacheConfig;
 use bump_core::{ClassConfig, Classes, Config};
 use std::alloc::Global;
 
-// At most so many references to an item there are at once. A bump that waits has one, so a limit decides which bumps are
-// dropped: a trace drops those that the cache drops only where its limit is the cache's, whose own is this number.
+// At most so many references to an item there are at once. It decides which bumps are dropped, so a trace drops those that
+// the cache drops only with the number that the cache has, which is this one.
 pub(crate) const MOST_HOLDS: u32 = 1023;
 
-// So often an upkeep looks at the last items of HOT and WARM. Each look writes a line, so a trace has the cache's looks
-// only where it stops behind as many as the cache does, which is this number.
+// So often an upkeep looks at the last items of HOT and WARM. Each look may move an item, so a trace's lists are those of
+// the cache only with the number that the cache has, which is this one.
 pub(crate) const LOOKS: u32 = 100;
 
 /// How an access log is run.
@@ -64,11 +64,12 @@ fn store_of(alloc: Global, config: &CacheConfig) -> Result<Config, ReplayFault>
         hot: 0,
         warm: 0,
     };
+    let classes = vec![in alloc; class]?;
     Ok(Config {
         workers: config.readers,
         capacity: config.ring,
         refs_limit: MOST_HOLDS,
         first_generation: 1,
-        classes: Classes::from_vec(vec![in alloc; class]?),
+        classes: Classes::from_vec(classes),
     })
 }
