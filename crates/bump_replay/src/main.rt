@@ -13,8 +13,7 @@ mod traced;
 
 use access_logs::{Log, LogFault, read_log};
 use options::Options;
-use replay_cache::ReplayFault;
-use replay_trace::{ReplayTrace, TraceFault};
+use replay_runs::{ReplayFault, ReplayTrace};
 use rows::Row;
 use runs::Runs;
 use std::env;
@@ -31,11 +30,8 @@ enum Failure {
     /// The log isn't read.
     Log(LogFault),
 
-    /// It isn't run.
+    /// It isn't run, or its run isn't traced.
     Replay(ReplayFault),
-
-    /// Its run isn't traced.
-    Trace(TraceFault),
 
     /// The trace's hits aren't those of the run. No log is known that does this.
     Differs,
@@ -186,7 +182,6 @@ fn tell<R: Eprint>(rt: &R, failure: &Failure) {
     let _ = match failure {
         Failure::Log(fault) => eprintln!(rt; "{fault}"),
         Failure::Replay(fault) => eprintln!(rt; "{fault}"),
-        Failure::Trace(fault) => eprintln!(rt; "{fault}"),
         Failure::Differs => eprintln!(rt; "the trace's hits aren't those of the run"),
         Failure::Random => eprintln!(rt; "the system has no random bytes"),
         Failure::Write => eprintln!(rt; "what was to be told can't be written"),

@@ -3,7 +3,7 @@ use access_logs::Format;
 use bump_cache::CacheConfig;
 use clap::error::ErrorKind;
 use clap::{Arg, ArgAction, ArgMatches, Command, Error, value_parser};
-use replay_cache::Plan;
+use replay_runs::Plan;
 use std::alloc::{AllocError, Global};
 
 /// What the words ask for.

@@ -1,8 +1,8 @@
 //! What the runs through caches of one size came to.
 ghost use Rattle.std.specs.Prelude.{◌≡◌};
 
-use replay_cache::Outcome;
 use replay_policies::Tally;
+use replay_runs::Outcome;
 
 /// The runs through caches of one size.
 #[derive(Clone, Copy)]

@@ -1,11 +1,14 @@
 //! A log is run through the caches that the words ask for.
+ghost use Rattle.std.specs.Prelude.{◌≡◌};
+ghost use Rattle.replay_runs.specs.Plans.{with_items};
+
 use crate::classes::{Part, Parts, parts_of};
 use crate::options::Options;
 use crate::progress;
 use crate::rows::Row;
 use access_logs::Log;
-use replay_cache::{Plan, ReplayFault};
 use replay_policies::{Policy, Tally};
+use replay_runs::{Plan, ReplayFault};
 use std::alloc::{AllocError, Global};
 use std::rt::Files;
 use std::sync::Wait;
@@ -38,7 +41,9 @@ fn compared(
 }
 
 /// How a cache of so many items is run.
-pub fn plan_of(options: &Options<'_>, items: u32) -> Plan {
+pub fn plan_of(options: &Options<'_>, items: u32) -> Plan
+    ensures { result ≡ with_items items options.now.plan }
+{
     let mut plan: Plan = options.plan;
     plan.config.items = items;
     plan
@@ -54,7 +59,7 @@ fn row_of<R: Files + Eprint + AllocGlobal + Wait>(
 ) -> Result<Row, ReplayFault> {
     let alloc = rt.alloc();
     let plan = plan_of(options, items);
-    let bump = replay_cache::replay(&rt, alloc, &plan, accesses)?;
+    let bump = replay_runs::replay(&rt, alloc, &plan, accesses)?;
     let row = Row {
         class,
         items,

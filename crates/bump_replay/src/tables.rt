@@ -1,7 +1,7 @@
 //! What runs came to, as tables.
 use crate::rows::{Row, missed, tally_of};
 use replay_policies::Tally;
-use replay_trace::HitCounts;
+use replay_runs::HitCounts;
 use std::io;
 
 fn put_tally<R: Print>(rt: &R, row: &Row, policy: &str, tally: &Tally) -> io::Result<()> {

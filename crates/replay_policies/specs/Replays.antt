@@ -2,8 +2,8 @@
 use Rattle.std.specs.Prelude.{◌≡◌, ℕ, ◌+◌, ◌<◌, Bool, List, nat_le, ◌&&◌, if◌then◌else◌}
 use Rattle.replay_policies.specs.declared.policies.Policy.{Policy}
 use Rattle.replay_policies.specs.declared.tallies.Tally.{Tally}
-use Rattle.replay_policies.specs.declared.faults.ReplayFault.{ReplayFault}
-use Rattle.replay_policies.specs.declared.faults.ReplayFault.TheVariants.{Items, Memory}
+use Rattle.replay_policies.specs.declared.faults.PolicyFault.{PolicyFault}
+use Rattle.replay_policies.specs.declared.faults.PolicyFault.TheVariants.{Items, Memory}
 
 -- its policy, how many items it has room for, the keys that are in the cache, as `Policies` has them, and its tally
 pub record ReplayView : Type 0 where
@@ -22,5 +22,5 @@ abbrev pub is_allowed : ℕ → Bool
 is_allowed items = nat_le 1 items && nat_le items 1000000
 
 -- why a replay is refused, where it is
-abbrev pub fault_of : ℕ → ReplayFault
+abbrev pub fault_of : ℕ → PolicyFault
 fault_of items = if is_allowed items then Memory else Items

@@ -1,13 +1,13 @@
 //! Why an access log isn't run.
 ghost use Rattle.std.specs.Prelude.{◌≡◌};
-ghost use Rattle.replay_policies.specs.declared.faults.ReplayFault.TheVariants as fault;
+ghost use Rattle.replay_policies.specs.declared.faults.PolicyFault.TheVariants as fault;
 
 use std::alloc::AllocError;
 use thiserror::Error;
 
 /// Why an access log isn't run.
 #[derive(Clone, Copy, Debug, PartialEq, Eq, Error)]
-pub enum ReplayFault {
+pub enum PolicyFault {
     /// Not 1 to 1,000,000 items.
     #[error("a cache has room for 1 to 1,000,000 items")]
     Items,
@@ -17,10 +17,10 @@ pub enum ReplayFault {
     Memory,
 }
 
-impl From<AllocError> for ReplayFault {
+impl From<AllocError> for PolicyFault {
     ghost from_gives = { λ _ f. f ≡ fault.Memory };
 
     fn from(_error: AllocError) -> Self {
-        ReplayFault::Memory
+        PolicyFault::Memory
     }
 }

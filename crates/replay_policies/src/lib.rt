@@ -10,7 +10,7 @@ mod tallies;
 #[cfg(test)]
 mod tests;
 
-pub use faults::ReplayFault;
+pub use faults::PolicyFault;
 pub use logs::replay;
 pub use policies::Policy;
 pub use replays::{MAX_ITEMS, Replay};

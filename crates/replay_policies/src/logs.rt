@@ -3,7 +3,7 @@ ghost use Rattle.std.specs.Prelude.{◌≡◌, ◌+◌, true, length, IfOk, OnOk
 ghost use Rattle.replay_policies.specs.Policies.{hits_of, misses_of};
 ghost use Rattle.replay_policies.specs.Replays.{is_allowed, fault_of};
 
-use crate::faults::ReplayFault;
+use crate::faults::PolicyFault;
 use crate::policies::Policy;
 use crate::replays::Replay;
 use crate::tallies::Tally;
@@ -16,7 +16,7 @@ pub fn replay(
     policy: Policy,
     items: u32,
     accesses: &[u32],
-) -> Result<Tally, ReplayFault>
+) -> Result<Tally, PolicyFault>
     ensures accesses { IfOk result (λ tally. tally.accesses ≡ length accesses.now) }
     ensures hits { IfOk result (λ tally. tally.hits ≡ hits_of policy items accesses.now) }
     ensures misses { IfOk result (λ tally. tally.misses ≡ misses_of policy items accesses.now) }

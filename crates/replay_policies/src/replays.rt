@@ -6,7 +6,7 @@ ghost use Rattle.replay_policies.specs.Replays.{ReplayView as TheReplayView, is_
 ghost use Rattle.replay_policies.specs.Tallies.{no_accesses, counted};
 ghost use Rattle.std.specs.Map.{keys_of};
 
-use crate::faults::ReplayFault;
+use crate::faults::PolicyFault;
 use crate::policies::Policy;
 use crate::tallies::Tally;
 use lru::LruCache;
@@ -42,7 +42,7 @@ impl Model for Replay {
 impl Replay {
     /// A cache without keys, which has room for so many items: 1 to 1,000,000. It is refused as `Items` exactly where that
     /// isn't so, and else only for want of memory.
-    pub fn new(alloc: Global, policy: Policy, items: u32) -> Result<Replay, ReplayFault>
+    pub fn new(alloc: Global, policy: Policy, items: u32) -> Result<Replay, PolicyFault>
         ensures empty { IfOk result (λ r. r ≡ record {
           policy = policy;
           items = items;
@@ -53,10 +53,10 @@ impl Replay {
         ensures fault { IfErr result (λ fault. fault ≡ fault_of items) }
     {
         if items > MAX_ITEMS {
-            return Err(ReplayFault::Items);
+            return Err(PolicyFault::Items);
         }
         let Some(room) = NonZeroUsize::new(items as usize) else {
-            return Err(ReplayFault::Items);
+            return Err(PolicyFault::Items);
         };
         Ok(Replay {
             policy,

@@ -1,4 +1,4 @@
-use crate::{MAX_ITEMS, Policy, Replay, ReplayFault, Tally, replay};
+use crate::{MAX_ITEMS, Policy, PolicyFault, Replay, Tally, replay};
 use std::alloc::{AllocError, Global};
 use std::process::Abort;
 use std::test::*;
@@ -137,7 +137,7 @@ fn one_key(rt: HostRuntime) -> Result<(), Fail> {
 #[test]
 fn items_are_one_to_a_million(rt: HostRuntime) -> Result<(), Fail> {
     let accesses = [1, 2, 1];
-    let fault = Err(ReplayFault::Items);
+    let fault = Err(PolicyFault::Items);
     assert_eq!(rt; replay(rt.alloc(), Policy::Lru, 0, &accesses), fault);
     assert_eq!(rt;
         replay(rt.alloc(), Policy::Fifo, MAX_ITEMS + 1, &accesses),

@@ -1,0 +1,3 @@
+mod CountedLines
+mod FaultLemmas
+mod WritingLemmas

@@ -1,0 +1,12 @@
+use Rattle.std.proofs.Common.{◌++◌, ◌∷◌, [], ◌∙◌, List, ℕ, ap, codes, decimal, refl, vec_items}
+use Rattle.replay_runs.specs.Writing.{IsUpkeep}
+use Rattle.replay_runs.proofs.WritingLemmas.{adds_one, adds_both, line_of_parts}
+use Rattle.replay_runs.proofs.scribes.Scribe.end_last_of.Goals as goal
+
+pub returns-clause-text : goal.returns-clause-text
+returns-clause-text c =
+    let del = codes "del k" in
+    let key = decimal c.from.result in
+    let wrote = ap vec_items (c.forget.ensures ∙ c.make.ensures.text) ∙ c.in_ok-end_line.ensures.text
+    ∙ ap (λ (t : List ℕ). t ++ 10 ∷ []) c.in_ok-put_word.ensures ∙ line_of_parts c.pull.new.self.text.items del key in
+    adds_both c.in_ok-id.ensures.text (adds_one IsUpkeep (del ++ key) _ _ refl wrote)

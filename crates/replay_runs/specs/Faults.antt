@@ -1,0 +1,62 @@
+-- Which plans and runs are refused, and why.
+use Rattle.std.specs.Prelude.{ℕ, ◌≡◌, ◌<◌, ◌⊎◌, ⊤, true, List, [], ◌∷◌, length, Option, None, Some}
+use Rattle.bump_cache.specs.declared.config.CacheFault.{CacheFault}
+use Rattle.bump_trace.specs.Meaning.{verdict_of}
+use Rattle.bump_trace.specs.Runs.{most_bytes}
+use Rattle.bump_trace.specs.declared.runs.SimFault.{SimFault}
+use Rattle.bump_trace.specs.declared.runs.SimFault.TheVariants as sim
+use Rattle.replay_runs.specs.Writing.{IsTraceOf, HasTooLong}
+use Rattle.replay_runs.specs.declared.plans.Plan.{Plan}
+use Rattle.replay_runs.specs.declared.faults.ReplayFault.{ReplayFault}
+use Rattle.replay_runs.specs.declared.faults.ReplayFault.TheVariants.{Config, Memory, Long, Refused, Run}
+
+-- why no store is made of a plan: for the fault that its configuration has, if it has one, and else for want of memory
+abbrev pub RefusesStore : Option CacheFault → ReplayFault → Type 0
+RefusesStore None fault = fault ≡ Memory
+RefusesStore (Some own) fault = fault ≡ Config own
+
+-- why no text is written: memory was refused, or the World refused a call, or the text would be too long
+abbrev pub IsOfWriting : Plan → List ℕ → ReplayFault → Type 0
+IsOfWriting plan accesses (Config own) = ⊥
+IsOfWriting plan accesses Long = HasTooLong plan accesses
+IsOfWriting plan accesses Memory = ⊤
+IsOfWriting plan accesses Refused = ⊤
+IsOfWriting plan accesses (Run own) = ⊥
+
+-- The fault of a text's run, as one of a trace that is written. What the run tells is kept in memory, so only for want of
+-- it can that not be written.
+abbrev pub fault_of : SimFault → ReplayFault
+fault_of sim.Trace = Run sim.Trace
+fault_of sim.Read = Run sim.Read
+fault_of sim.Size = Long
+fault_of sim.Write = Memory
+fault_of sim.Memory = Memory
+fault_of sim.Threads = Run sim.Threads
+fault_of sim.Ring = Run sim.Ring
+fault_of sim.Gate = Run sim.Gate
+
+-- why a text doesn't run: it has a fault, it couldn't be read, it is too long, or memory was refused
+abbrev pub IsOfText : List ℕ → ReplayFault → Type 0
+IsOfText text (Config own) = ⊥
+IsOfText text Long = most_bytes < length text
+IsOfText text Memory = ⊤
+IsOfText text Refused = ⊥
+IsOfText text (Run sim.Trace) = (verdict_of text).is_fault ≡ true
+IsOfText text (Run sim.Read) = ⊤
+IsOfText text (Run sim.Size) = ⊥
+IsOfText text (Run sim.Write) = ⊥
+IsOfText text (Run sim.Memory) = ⊥
+IsOfText text (Run sim.Threads) = ⊥
+IsOfText text (Run sim.Ring) = ⊥
+IsOfText text (Run sim.Gate) = ⊥
+
+-- why a run of these accesses isn't traced: no text is written, or the one that is written doesn't run
+abbrev pub IsOfTracing : Plan → List ℕ → ReplayFault → Type 0
+IsOfTracing plan accesses fault = IsOfWriting plan accesses fault
+    ⊎ ((text : List ℕ) × IsTraceOf plan accesses text × IsOfText text fault)
+
+-- A plan whose configuration has a fault is refused by it, and one whose configuration has none is traced, but for those
+-- reasons.
+abbrev pub Refuses : Option CacheFault → Plan → List ℕ → ReplayFault → Type 0
+Refuses None plan accesses fault = IsOfTracing plan accesses fault
+Refuses (Some own) plan accesses fault = fault ≡ Config own

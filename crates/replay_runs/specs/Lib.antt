@@ -1,0 +1,4 @@
+pub mod Counting
+pub mod Faults
+pub mod Plans
+pub mod Writing

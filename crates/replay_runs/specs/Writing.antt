@@ -1,0 +1,88 @@
+-- What the trace of a log's run has in its text: the lines of each access, in turn.
+use Rattle.std.specs.Prelude.{ℕ, ◌+◌, ◌*◌, ◌%◌, ◌≡◌, ◌≤◌, ◌<◌, ◌⊎◌, max, ⊤, Bool, true, not, ◌||◌, List, [], ◌∷◌, ◌++◌, All}
+use Rattle.std.specs.Prelude.{length, take, codes, decimal, nat_eq}
+use Rattle.std.specs.List.{flat_map, starts_with}
+use Rattle.bump_trace.specs.Runs.{most_bytes}
+use Rattle.replay_runs.specs.declared.faults.ReplayFault.{ReplayFault}
+use Rattle.replay_runs.specs.declared.faults.ReplayFault.TheVariants as fault
+use Rattle.replay_runs.specs.declared.plans.Plan.{Plan}
+
+-- a line with its end
+abbrev pub with_end : List ℕ → List ℕ
+with_end line = line ++ 10 ∷ []
+
+-- lines, each with its end
+abbrev pub text_of : List (List ℕ) → List ℕ
+text_of lines = flat_map with_end lines
+
+-- the line of a get by a worker: a key's item has the name k and the key's number
+abbrev pub get_line : ℕ → ℕ → List ℕ
+get_line worker key = codes "get " ++ decimal worker ++ codes " k" ++ decimal key
+
+-- the line that puts an item for a key, whose label is 0
+abbrev pub set_line : ℕ → List ℕ
+set_line key = codes "set k" ++ decimal key ++ codes " 0 0"
+
+-- a line that gets no item and puts none
+abbrev pub is_upkeep : List ℕ → Bool
+is_upkeep line = not (starts_with nat_eq line (codes "get ") || starts_with nat_eq line (codes "set "))
+
+abbrev pub IsUpkeep : List ℕ → Type 0
+IsUpkeep line = is_upkeep line ≡ true
+
+-- a line that puts an item for the key, or that gets none and puts none
+abbrev pub IsPutOrUpkeep : ℕ → List ℕ → Type 0
+IsPutOrUpkeep key line = (line ≡ set_line key) ⊎ IsUpkeep line
+
+-- Behind a text some lines of a kind were written, at most so many.
+pub record Adds (Kind : List ℕ → Type 0) (most : ℕ) (old new : List ℕ) : Type 0 where
+  pub lines : List (List ℕ)
+  pub text : new ≡ old ++ text_of lines
+  pub kind : All Kind lines
+  pub few : length lines ≤ most
+
+-- Behind a text the lines of an access were written: it is a get of its key by this worker, or an item is put for the
+-- key, at once or behind tries to make room. At most so many other lines are behind that.
+abbrev pub AddsAccess : ℕ → ℕ → ℕ → List ℕ → List ℕ → Type 0
+AddsAccess worker key most old new = Adds IsUpkeep most (old ++ with_end (get_line worker key)) new
+    ⊎ Adds (IsPutOrUpkeep key) most (old ++ with_end (set_line key)) new
+
+-- Behind a text the lines of these accesses were written, in order. The workers take turns, and it is the turn of the
+-- one of this place.
+abbrev pub AddsRun : ℕ → ℕ → ℕ → List ℕ → List ℕ → List ℕ → Type 0
+AddsRun workers most place [] old new = new ≡ old
+AddsRun workers most place (key ∷ keys) old new = (between : List ℕ)
+    × AddsAccess (place % workers) key most old between × AddsRun workers most (place + 1) keys between new
+
+-- At most so many lines are written behind the first one of an access: for each item that there may be, and once more,
+-- room is made and the put tried again by at most 7, and the cache is balanced and tended by at most 204.
+abbrev pub most_behind : Plan → ℕ
+most_behind plan = 7 * (plan.config.items + 1) + 204
+
+-- the first lines of a plan's trace: what the store is
+abbrev pub header : Plan → List ℕ
+header plan =
+    codes "store " ++ decimal plan.config.readers ++ codes " " ++ decimal plan.config.ring ++ codes " " ++ decimal 1023
+    ++ codes " 1\nclass " ++ decimal plan.config.items ++ codes " 0 0\n"
+
+-- a text that tells what the store of a plan is, and then the first so many accesses
+abbrev pub TellsFirst : Plan → ℕ → List ℕ → List ℕ → Type 0
+TellsFirst plan count accesses text = AddsRun (max plan.config.readers 1) (most_behind plan) 0 (take count accesses) (header plan) text
+
+-- the text of a whole run: what the store is, all accesses, and at last all that the store has
+abbrev pub IsTraceOf : Plan → List ℕ → List ℕ → Type 0
+IsTraceOf plan accesses text = (run : List ℕ) × TellsFirst plan (length accesses) accesses run
+    × (text ≡ run ++ with_end (codes "show"))
+
+-- some of the first accesses have more lines than a trace may have, with what stands around them
+abbrev pub HasTooLong : Plan → List ℕ → Type 0
+HasTooLong plan accesses = (count : ℕ) × (run : List ℕ) × TellsFirst plan count accesses run
+    × (most_bytes < length (run ++ with_end (codes "show")))
+
+-- a fault of the calls that are made: memory was refused, or the World refused a call
+abbrev pub IsOfCalls : ReplayFault → Type 0
+IsOfCalls (fault.Config own) = ⊥
+IsOfCalls fault.Long = ⊥
+IsOfCalls fault.Memory = ⊤
+IsOfCalls fault.Refused = ⊤
+IsOfCalls (fault.Run own) = ⊥

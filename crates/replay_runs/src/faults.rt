@@ -1,0 +1,48 @@
+//! Why an access log isn't run to its end, or its run isn't traced.
+ghost use Rattle.std.specs.Prelude.{◌≡◌};
+ghost use Rattle.replay_runs.specs.declared.faults.ReplayFault.TheVariants as fault;
+
+use bump_cache::CacheFault;
+use bump_trace::SimFault;
+use std::alloc::{AllocError, AllocFailed};
+use thiserror::Error;
+
+/// Why an access log isn't run to its end, or its run isn't traced.
+#[derive(Clone, Copy, Debug, PartialEq, Eq, Error)]
+pub enum ReplayFault {
+    /// The cache can't be made from these numbers.
+    #[error("{0}")]
+    Config(CacheFault),
+
+    /// Memory was refused.
+    #[error("memory was refused")]
+    Memory,
+
+    /// The trace would have more than 16,777,216 bytes.
+    #[error("the trace would have more than 16777216 bytes")]
+    Long,
+
+    /// The World refused a call that was written. No log is known that does this.
+    #[error("a call that was written can't be made")]
+    Refused,
+
+    /// The trace that was written doesn't run to its end. No log is known that does this.
+    #[error("the trace that was written can't be run: {0}")]
+    Run(SimFault),
+}
+
+impl From<AllocError> for ReplayFault {
+    ghost from_gives = { λ _ f. f ≡ fault.Memory };
+
+    fn from(_error: AllocError) -> Self {
+        ReplayFault::Memory
+    }
+}
+
+impl<T: Drop> From<AllocFailed<T>> for ReplayFault {
+    ghost from_gives = { λ _ f. f ≡ fault.Memory };
+
+    fn from(_error: AllocFailed<T>) -> Self {
+        ReplayFault::Memory
+    }
+}

@@ -1,0 +1,22 @@
+//! An access log's runs through a cache. Each access is a get of its key, and what isn't there is put: `replay` counts
+//! what that comes to, and `trace_of` writes it as a trace, whose lines make the calls that the cache makes where one
+//! thread has it. What is written is run on a World before it is given to anybody.
+#![tactic(auto)]
+
+mod accesses;
+mod counting;
+mod faults;
+mod outcomes;
+mod plans;
+mod replays;
+mod scribes;
+#[cfg(test)]
+mod tests;
+mod traces;
+
+pub use counting::HitCounts;
+pub use faults::ReplayFault;
+pub use outcomes::Outcome;
+pub use plans::Plan;
+pub use replays::replay;
+pub use traces::{ReplayTrace, trace_of};

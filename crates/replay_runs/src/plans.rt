@@ -1,0 +1,75 @@
+//! How an access log is run.
+ghost use Rattle.std.specs.Prelude.{◌≡◌, ◌%◌, ◌<◌, None, IfOk, OnOk, IfErr, length, max};
+ghost use Rattle.bump_cache.specs.Configs.{first_cache_fault};
+ghost use Rattle.replay_runs.specs.Faults.{RefusesStore};
+ghost use Rattle.replay_runs.specs.declared.faults.ReplayFault.TheVariants.{Memory};
+
+use crate::faults::ReplayFault;
+use bump_cache::CacheConfig;
+use bump_core::{ClassConfig, Classes, Config};
+use std::alloc::Global;
+
+// At most so many references to an item there are at once. It decides which bumps are dropped, so a trace drops those that
+// the cache drops only with the number that the cache has, which is this one.
+pub(crate) const MOST_HOLDS: u32 = 1023;
+
+// So often an upkeep looks at the last items of HOT and WARM. Each look may move an item, so a trace's lists are those of
+// the cache only with the number that the cache has, which is this one.
+pub(crate) const LOOKS: u32 = 100;
+
+/// How an access log is run.
+#[derive(Clone, Copy, Debug, PartialEq, Eq)]
+pub struct Plan {
+    /// What the cache is made from. Its readers get in turn.
+    pub config: CacheConfig,
+
+    /// The cache is tended behind the first access, and then behind each so many; 0 is taken as 1.
+    pub tend_every: u32,
+}
+
+impl Plan {
+    // Whether the cache is tended behind the access with this place.
+    pub(crate) fn is_time(&self, place: usize) -> bool {
+        place % self.tend_every.max(1) as usize == 0
+    }
+
+    // Whose turn an access is: a reader's place.
+    pub(crate) fn reader_at(&self, place: usize) -> u32
+        ensures { result ≡ place % max self.now.config.readers 1 }
+    {
+        (place % self.config.readers.max(1) as usize) as u32
+    }
+
+    // The store of the plan's cache: one class, whose lists have no limits of their own.
+    pub(crate) fn store(&self, alloc: Global) -> Result<Config, ReplayFault>
+        ensures some { IfOk result (λ store. 0 < length store.classes) }
+        ensures allowed { OnOk result (first_cache_fault self.now.config ≡ None) }
+        ensures refused { IfErr result (RefusesStore (first_cache_fault self.now.config)) }
+    {
+        match self.config.fault() {
+            Some(fault) => Err(ReplayFault::Config(fault)),
+            None => store_of(alloc, &self.config),
+        }
+    }
+}
+
+// The store of a cache of this configuration.
+fn store_of(alloc: Global, config: &CacheConfig) -> Result<Config, ReplayFault>
+    requires none { first_cache_fault config.now ≡ None }
+    ensures some { IfOk result (λ store. 0 < length store.classes) }
+    ensures fault { IfErr result (λ fault. fault ≡ Memory) }
+{
+    let class = ClassConfig {
+        chunks: config.items,
+        hot: 0,
+        warm: 0,
+    };
+    let classes = vec![in alloc; class]?;
+    Ok(Config {
+        workers: config.readers,
+        capacity: config.ring,
+        refs_limit: MOST_HOLDS,
+        first_generation: 1,
+        classes: Classes::from_vec(classes),
+    })
+}

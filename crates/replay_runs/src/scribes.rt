@@ -1,0 +1,316 @@
+//! A trace that is written line by line, each of which is made on a World at once.
+ghost use Rattle.std.specs.Prelude.{◌≡◌, ◌<◌, ◌∷◌, ◌++◌, [], true, false, length, codes, IfOk, IfErr, OnOk};
+ghost use Rattle.replay_runs.specs.Writing.{with_end, get_line, set_line, header, is_upkeep, IsUpkeep, Adds, IsOfCalls};
+
+use crate::faults::ReplayFault;
+use crate::plans::{MOST_HOLDS, Plan};
+use bump_core::{Answer, Command, Config, ItemId, Pulled, Refused, Tail, World};
+use std::alloc::Global;
+use std::collections::HashMap;
+use std::hash::RandomState;
+use trace_lines::put_word;
+
+/// So many bytes a trace has at most.
+const MOST_BYTES: usize = 16_777_216;
+
+/// A trace that is written: each line is made on a World, whose answer tells what to write next.
+#[derive(Drop)]
+pub(crate) struct Scribe {
+    world: World,
+    text: Vec<u8>,
+    // so many lines were written: a line's number is its time
+    lines: u64,
+    // the key of the item that each chunk had last, by chunk
+    keys: Vec<u32>,
+    // the item of each key that has one
+    items: HashMap<u32, ItemId, RandomState>,
+    ring: u32,
+    ghost class: { 0 < length world.classes },
+}
+
+// The first lines of a trace: what the store is.
+fn header_of(alloc: Global, plan: &Plan) -> Result<Vec<u8>, ReplayFault>
+    ensures text { IfOk result (λ text. text.items ≡ header plan.now) }
+    ensures fault { IfErr result IsOfCalls }
+{
+    let mut text = Vec::new(alloc);
+    put_word(&mut text, b"store ", u64::from(plan.config.readers))?;
+    put_word(&mut text, b" ", u64::from(plan.config.ring))?;
+    put_word(&mut text, b" ", u64::from(MOST_HOLDS))?;
+    put_word(&mut text, b" 1\nclass ", u64::from(plan.config.items))?;
+    text.extend_from_slice(b" 0 0\n")?;
+    Ok(text)
+}
+
+// The line of a pull.
+fn pull_line(tail: Tail) -> &'static str
+    ensures { is_upkeep result.now ≡ true }
+{
+    match tail {
+        Tail::Hot => "pull 0 hot",
+        Tail::Warm => "pull 0 warm",
+        Tail::Cold => "pull 0 cold",
+        Tail::Evict => "pull 0 evict",
+    }
+}
+
+// The item that a pull found.
+fn item_of(pulled: Pulled) -> Option<ItemId> {
+    match pulled {
+        Pulled::Empty => None,
+        Pulled::Stay(id)
+        | Pulled::Warm(id)
+        | Pulled::Again(id)
+        | Pulled::Cold(id)
+        | Pulled::Freed(id)
+        | Pulled::Deferred(id) => Some(id),
+    }
+}
+
+impl Scribe {
+    /// The first lines of a plan's trace, and its store, which is of this configuration, and in which no key has an item.
+    /// The keys that have one are hashed with `keys`.
+    pub(crate) fn new(
+        alloc: Global,
+        keys: RandomState,
+        plan: &Plan,
+        config: &Config,
+    ) -> Result<Scribe, ReplayFault>
+        requires some { 0 < length config.now.classes }
+        ensures text { IfOk result (λ scribe. scribe.text.items ≡ header plan.now) }
+        ensures fault { IfErr result IsOfCalls }
+    {
+        let mut chunks = Vec::new(alloc);
+        chunks.resize(plan.config.items as usize, 0)?;
+        Ok(Scribe {
+            world: World::new(alloc, config)?,
+            text: header_of(alloc, plan)?,
+            lines: 2,
+            keys: chunks,
+            items: HashMap::with_hasher(alloc, keys),
+            ring: plan.config.ring,
+        })
+    }
+
+    /// The trace that was written.
+    pub(crate) fn into_text(self) -> Vec<u8>
+        ensures { result ≡ self.text }
+    {
+        let Scribe { text, .. } = self;
+        text
+    }
+
+    // Makes a command on the World.
+    fn make(&mut self, command: Command) -> Result<Answer, ReplayFault>
+        ensures text { self.new.text ≡ self.old.text }
+        ensures fault { IfErr result IsOfCalls }
+    {
+        match self.world.command(command) {
+            Ok(answer) => Ok(answer),
+            Err(Refused::OutOfMemory) => Err(ReplayFault::Memory),
+            Err(Refused::NotEnabled) => Err(ReplayFault::Refused),
+        }
+    }
+
+    /// Whether the text has more bytes than a trace may have.
+    pub(crate) fn is_long(&self) -> bool
+        ensures { result ≡ true → 16777216 < length self.now.text.items }
+    {
+        self.text.len() > MOST_BYTES
+    }
+
+    // Ends a line.
+    fn end_line(&mut self) -> Result<(), ReplayFault>
+        ensures text { OnOk result (self.new.text.items ≡ self.old.text.items ++ 10 ∷ []) }
+        ensures fault { IfErr result IsOfCalls }
+    {
+        self.text.push(b'\n')?;
+        self.lines = self.lines.saturating_add(1);
+        Ok(())
+    }
+
+    // Writes a line.
+    fn write(&mut self, line: &str) -> Result<(), ReplayFault>
+        ensures text { OnOk result (self.new.text.items ≡ self.old.text.items ++ with_end line.now) }
+        ensures fault { IfErr result IsOfCalls }
+    {
+        self.text.extend_from_slice(line.as_bytes())?;
+        self.end_line()
+    }
+
+    // Whether the key has an item. It is got by the worker then.
+    pub(crate) fn get(&mut self, worker: u32, key: u32) -> Result<bool, ReplayFault>
+        ensures got { IfOk result (λ got. got ≡ true
+            → self.new.text.items ≡ self.old.text.items ++ with_end (get_line worker key)) }
+        ensures none { IfOk result (λ got. got ≡ false → self.new.text.items ≡ self.old.text.items) }
+        ensures fault { IfErr result IsOfCalls }
+    {
+        let Some(id) = self.items.get(&key).copied() else {
+            return Ok(false);
+        };
+        put_word(&mut self.text, b"get ", u64::from(worker))?;
+        put_word(&mut self.text, b" k", u64::from(key))?;
+        self.end_line()?;
+        self.hit(worker, id)?;
+        Ok(true)
+    }
+
+    // What the line of a get does.
+    fn hit(&mut self, worker: u32, id: ItemId) -> Result<(), ReplayFault>
+        ensures text { OnOk result (self.new.text ≡ self.old.text) }
+        ensures fault { IfErr result IsOfCalls }
+    {
+        if let Answer::Held = self.make(Command::Take { worker, id })? {
+            let now = self.lines;
+            self.make(Command::Touch { worker, id, now })?;
+            self.make(Command::Release { id })?;
+        }
+        Ok(())
+    }
+
+    /// Links an item for the key; whether a chunk was free for it.
+    pub(crate) fn link(&mut self, key: u32) -> Result<bool, ReplayFault>
+        ensures text { OnOk result (self.new.text.items ≡ self.old.text.items ++ with_end (set_line key)) }
+        ensures fault { IfErr result IsOfCalls }
+    {
+        put_word(&mut self.text, b"set k", u64::from(key))?;
+        self.write(" 0 0")?;
+        let link = Command::Link {
+            class: 0,
+            label: 0,
+            now: self.lines,
+        };
+        match self.make(link)? {
+            Answer::Linked(id) => {
+                self.bind(key, id)?;
+                Ok(true)
+            }
+            _ => Ok(false),
+        }
+    }
+
+    // The key has the item.
+    fn bind(&mut self, key: u32, id: ItemId) -> Result<(), ReplayFault>
+        ensures text { OnOk result (self.new.text ≡ self.old.text) }
+        ensures fault { IfErr result IsOfCalls }
+    {
+        self.items.insert(key, id)?;
+        if let Some(chunk) = self.keys.get_mut(id.chunk as usize) {
+            *chunk = key;
+        }
+        Ok(())
+    }
+
+    // The key of an item.
+    fn key_of(&self, id: ItemId) -> u32 {
+        self.keys.get(id.chunk as usize).copied().unwrap_or(0)
+    }
+
+    // The item ended.
+    fn forget(&mut self, id: ItemId)
+        ensures { self.new.text ≡ self.old.text }
+    {
+        let key = self.key_of(id);
+        let _ = self.items.remove(&key);
+    }
+
+    /// Frees the chunks of ended items that nobody holds; whether there were any.
+    pub(crate) fn sweep(&mut self) -> Result<bool, ReplayFault>
+        ensures text { OnOk result (Adds IsUpkeep 1 self.old.text.items self.new.text.items) }
+        ensures fault { IfErr result IsOfCalls }
+    {
+        self.write("sweep 0")?;
+        match self.make(Command::Sweep { class: 0 })? {
+            Answer::Swept(count) => Ok(count > 0),
+            _ => Ok(false),
+        }
+    }
+
+    // Looks at the last item of a list; which one that is.
+    fn pull(&mut self, tail: Tail) -> Result<Option<ItemId>, ReplayFault>
+        ensures text { OnOk result (Adds IsUpkeep 1 self.old.text.items self.new.text.items) }
+        ensures fault { IfErr result IsOfCalls }
+    {
+        self.write(pull_line(tail))?;
+        match self.make(Command::Pull { class: 0, tail })? {
+            Answer::Pulled(pulled) => Ok(item_of(pulled)),
+            _ => Ok(None),
+        }
+    }
+
+    /// Ends the last item of COLD; whether there was one.
+    pub(crate) fn evict(&mut self) -> Result<bool, ReplayFault>
+        ensures text { OnOk result (Adds IsUpkeep 1 self.old.text.items self.new.text.items) }
+        ensures fault { IfErr result IsOfCalls }
+    {
+        match self.pull(Tail::Evict)? {
+            Some(id) => {
+                self.forget(id);
+                Ok(true)
+            }
+            None => Ok(false),
+        }
+    }
+
+    /// Looks at the last item of HOT or WARM, and ends it; whether there was one.
+    pub(crate) fn end_last_of(&mut self, tail: Tail) -> Result<bool, ReplayFault>
+        ensures text { OnOk result (Adds IsUpkeep 2 self.old.text.items self.new.text.items) }
+        ensures fault { IfErr result IsOfCalls }
+    {
+        let Some(id) = self.pull(tail)? else {
+            return Ok(false);
+        };
+        let key = self.key_of(id);
+        put_word(&mut self.text, b"del k", u64::from(key))?;
+        self.end_line()?;
+        self.make(Command::Unlink { id })?;
+        self.forget(id);
+        Ok(true)
+    }
+
+    /// Looks at the last item of HOT or WARM, where it has more items than so many; whether it has.
+    pub(crate) fn look_over(&mut self, tail: Tail, most: u32) -> Result<bool, ReplayFault>
+        ensures text { OnOk result (Adds IsUpkeep 1 self.old.text.items self.new.text.items) }
+        ensures fault { IfErr result IsOfCalls }
+    {
+        if self.world.list_len(0, tail.segment().place()) <= most {
+            return Ok(false);
+        }
+        self.pull(tail)?;
+        Ok(true)
+    }
+
+    /// Applies the bumps that wait, at most a ring's room of each worker.
+    pub(crate) fn drain(&mut self) -> Result<(), ReplayFault>
+        ensures text { OnOk result (Adds IsUpkeep 1 self.old.text.items self.new.text.items) }
+        ensures fault { IfErr result IsOfCalls }
+    {
+        self.write("drain")?;
+        for worker in 0..self.world.workers() {
+            self.drain_worker(worker)?;
+        }
+        Ok(())
+    }
+
+    // Applies the bumps of a worker that wait, at most a ring's room.
+    fn drain_worker(&mut self, worker: u32) -> Result<(), ReplayFault>
+        ensures text { OnOk result (self.new.text ≡ self.old.text) }
+        ensures fault { IfErr result IsOfCalls }
+    {
+        for _ in 0..self.ring {
+            let now = self.lines;
+            if let Answer::Nothing = self.make(Command::Next { worker, now })? {
+                return Ok(());
+            }
+        }
+        Ok(())
+    }
+
+    /// Tells of the whole store.
+    pub(crate) fn show(&mut self) -> Result<(), ReplayFault>
+        ensures text { OnOk result (self.new.text.items ≡ self.old.text.items ++ with_end (codes "show")) }
+        ensures fault { IfErr result IsOfCalls }
+    {
+        self.write("show")
+    }
+}

@@ -1,0 +1,130 @@
+use crate::{Plan, ReplayFault, ReplayTrace, replay, trace_of};
+use bump_cache::{CacheConfig, CacheFault};
+use std::alloc::{AllocError, Global};
+use std::hash::RandomState;
+use std::process::Abort;
+use std::test::*;
+
+// A plan of so many items, so many percent of them in HOT and in WARM, by one reader with room for 4 bumps.
+fn plan(items: u32, hot: u32, warm: u32, tend_every: u32) -> Plan {
+    Plan {
+        config: CacheConfig {
+            items,
+            hot,
+            warm,
+            readers: 1,
+            ring: 4,
+        },
+        tend_every,
+    }
+}
+
+// So many hits are told, and this was written.
+fn expect(rt: &impl Abort, trace: &ReplayTrace, hits: u64, text: &str) {
+    assert!(rt; trace.hits.total() == hits, "the hits");
+    assert!(rt; trace.text.as_slice() == text.as_bytes(), "the text");
+}
+
+const ONE_KEY: &str =
+    "store 2 4 1023 1\nclass 1 0 0\nset k5 0 0\npull 0 hot\ndrain\nsweep 0\nget 1 k5\nget 0 k5\nshow\n";
+
+const THREE_KEYS: &str =
+    "store 1 4 1023 1\nclass 2 0 0\nset k1 0 0\ndrain\nsweep 0\nset k2 0 0\npull 0 hot\nget 0 k1\nset k3 0 0\nsweep 0\npull 0 evict\nset k3 0 0\npull 0 hot\ndrain\nsweep 0\nset k1 0 0\nsweep 0\npull 0 evict\nset k1 0 0\npull 0 hot\nset k2 0 0\nsweep 0\npull 0 evict\nset k2 0 0\npull 0 hot\nshow\n";
+
+const WITHOUT_COLD: &str =
+    "store 1 4 1023 1\nclass 1 0 0\nset k1 0 0\ndrain\nsweep 0\nset k2 0 0\nsweep 0\npull 0 evict\npull 0 warm\npull 0 hot\ndel k1\nset k2 0 0\nshow\n";
+
+#[test]
+fn one_key(rt: HostRuntime) -> Result<(), Fail> {
+    let keys = RandomState::new(&rt)?;
+    let mut two = plan(1, 0, 0, 100);
+    two.config.readers = 2;
+    let trace = trace_of(rt.alloc(), keys, &two, &[5, 5, 5])?;
+    expect(&rt, &trace, 2, ONE_KEY);
+    assert!(rt; trace.hits.first == 1 && trace.hits.queued == 1);
+    Ok(())
+}
+
+#[test]
+fn three_keys_through_two_items(rt: HostRuntime) -> Result<(), Fail> {
+    let keys = RandomState::new(&rt)?;
+    let trace = trace_of(rt.alloc(), keys, &plan(2, 50, 50, 3), &[1, 2, 1, 3, 1, 2])?;
+    expect(&rt, &trace, 1, THREE_KEYS);
+    assert!(rt; trace.hits.first == 1);
+    Ok(())
+}
+
+#[test]
+fn last_of_hot_ends_where_cold_and_warm_are_empty(rt: HostRuntime) -> Result<(), Fail> {
+    let keys = RandomState::new(&rt)?;
+    let trace = trace_of(rt.alloc(), keys, &plan(1, 100, 0, 9), &[1, 2])?;
+    expect(&rt, &trace, 0, WITHOUT_COLD);
+    Ok(())
+}
+
+#[test]
+fn plan_of_no_items_is_refused(rt: HostRuntime) -> Result<(), Fail> {
+    let keys = RandomState::new(&rt)?;
+    let refused = trace_of(rt.alloc(), keys, &plan(0, 0, 0, 1), &[1]).err();
+    assert!(rt; refused == Some(ReplayFault::Config(CacheFault::Items)));
+    Ok(())
+}
+
+// A log of so many keys below the bound, in an order that looks random, small ones most.
+fn shuffled(alloc: Global, count: u32, bound: u32) -> Result<Vec<u32>, AllocError> {
+    let mut state = 88_172_645_463_325_252u64;
+    let mut keys = Vec::new(alloc);
+    for _ in 0..count {
+        state = state
+            .wrapping_mul(6_364_136_223_846_793_005)
+            .wrapping_add(1_442_695_040_888_963_407);
+        let key = (state >> 33) as u32 % bound.max(1);
+        keys.push(key & (state >> 50) as u32)?;
+    }
+    Ok(keys)
+}
+
+// How many lines `get` a text has.
+fn gets_in(text: &[u8]) -> u64 {
+    let mut count = 0u64;
+    for line in text.split(|byte| *byte == b'\n') {
+        if line.starts_with(b"get ") {
+            count = count.saturating_add(1);
+        }
+    }
+    count
+}
+
+#[test]
+fn each_get_tells_a_hit(rt: HostRuntime) -> Result<(), Fail> {
+    let keys = RandomState::new(&rt)?;
+    let accesses = shuffled(rt.alloc(), 600, 64)?;
+    let trace = trace_of(rt.alloc(), keys, &plan(20, 20, 40, 7), &accesses)?;
+    assert!(rt; trace.hits.total() == gets_in(&trace.text));
+    assert!(rt; trace.hits.marked > 0 && trace.hits.queued > 0 && trace.hits.full == 0);
+    Ok(())
+}
+
+#[test]
+fn trace_tells_the_hits_and_bumps_that_the_replay_counts(rt: HostRuntime) -> Result<(), Fail> {
+    let accesses = shuffled(rt.alloc(), 600, 64)?;
+    let mut plan = plan(40, 20, 40, 100);
+    plan.config.readers = 3;
+    plan.config.ring = 1;
+    let outcome = replay(&&rt, rt.alloc(), &plan, &accesses)?;
+    let hits = trace_of(rt.alloc(), RandomState::new(&rt)?, &plan, &accesses)?.hits;
+    assert!(rt; outcome.hits == hits.total() && outcome.hits + outcome.misses == 600);
+    assert!(rt; outcome.bumps.accepted == hits.queued && outcome.bumps.full == hits.full);
+    assert!(rt; hits.queued > 0 && hits.full > 0);
+    Ok(())
+}
+
+#[test]
+fn plan_whose_shares_are_too_large_is_refused(rt: HostRuntime) -> Result<(), Fail> {
+    let fault = Some(ReplayFault::Config(CacheFault::Shares));
+    let plan = plan(10, 60, 50, 1);
+    assert!(rt; replay(&&rt, rt.alloc(), &plan, &[1]).err() == fault);
+    let keys = RandomState::new(&rt)?;
+    assert!(rt; trace_of(rt.alloc(), keys, &plan, &[1]).err() == fault);
+    Ok(())
+}

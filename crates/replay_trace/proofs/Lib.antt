@@ -1,3 +1,0 @@
-mod CountedLines
-mod RefusalLemmas
-mod WritingLemmas

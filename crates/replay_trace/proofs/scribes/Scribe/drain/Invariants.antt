@@ -1,7 +1,0 @@
-use Rattle.std.proofs.Common.{◌≡◌, ◌++◌, codes}
-use Rattle.replay_trace.specs.Writing.{with_end}
-use Rattle.replay_trace.proofs.scribes.Scribe.drain.Given as goal
-
--- its line is written
-abbrev pub invariant-loop-worker : goal.invariant-loop-worker
-invariant-loop-worker l = l.self.text.items ≡ l.fn.self.text.items ++ with_end (codes "drain")
