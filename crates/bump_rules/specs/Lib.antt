@@ -1,5 +1,6 @@
 pub mod Accounts
 pub mod ClassLists
+pub mod Commands
 pub mod Configs
 pub mod Entries
 pub mod Hands
