@@ -1,4 +1,5 @@
 pub mod Accounts
+pub mod Caches
 pub mod ClassLists
 pub mod Commands
 pub mod Configs
