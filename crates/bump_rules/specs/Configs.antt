@@ -57,3 +57,11 @@ pub record Bounds (workers capacity limit generation : ℕ) (classes : List Clas
   pub classes_most : length classes ≤ 16
   pub chunks_each : HaveChunks classes
   pub chunks_most : chunks_of classes ≤ 1000000
+
+-- the greatest number of chunks of all classes together
+abbrev pub most_chunks : ℕ
+most_chunks = 1000000
+
+-- the greatest room of a worker's ring
+abbrev pub most_capacity : ℕ
+most_capacity = 65536

@@ -1,5 +1,7 @@
 pub mod Accounts
+pub mod Caches
 pub mod ClassLists
+pub mod Commands
 pub mod Configs
 pub mod Entries
 pub mod Hands

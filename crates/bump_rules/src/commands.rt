@@ -1,5 +1,6 @@
 //! Commands: each is a call of the running store as its events, with nothing between them.
 ghost use Rattle.std.specs.Prelude.{◌≡◌};
+ghost use Rattle.bump_rules.specs.Commands.{item_told};
 ghost use Rattle.bump_rules.specs.Starts.{link_command};
 
 use crate::bumps::{Ended, Entry};
@@ -141,6 +142,23 @@ pub enum Pulled {
 
     /// It was evicted; others still hold its chunk, which is DYING.
     Deferred(ItemId),
+}
+
+impl Pulled {
+    /// The item at which the pull looked, if there was one.
+    pub fn item(self) -> Option<ItemId>
+        ensures { result ≡ item_told self }
+    {
+        match self {
+            Pulled::Empty => None,
+            Pulled::Stay(id)
+            | Pulled::Warm(id)
+            | Pulled::Again(id)
+            | Pulled::Cold(id)
+            | Pulled::Freed(id)
+            | Pulled::Deferred(id) => Some(id),
+        }
+    }
 }
 
 /// What a command answers.

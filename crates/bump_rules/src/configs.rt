@@ -6,11 +6,15 @@ ghost use Rattle.bump_rules.specs.Configs.{first_fault, have_wrong_chunks, chunk
 use std::marker::Model;
 use thiserror::Error;
 
-/// The greatest number of chunks of all classes together.
+/// The greatest number of chunks of all classes together: the lists of a class are of as many nodes at most
+/// (`bump_links::NODES_MAX`).
 pub const MAX_CHUNKS: u32 = 1_000_000;
 
 /// The greatest limit of a reference count: as much as the count of a head word holds.
 pub const MAX_REFS: u32 = 1_048_575;
+
+/// The greatest room of a worker's ring: eight times the bumps of memcached's buffer, which has 8,192 (`LRU_BUMP_BUF_SIZE`).
+pub const MAX_CAPACITY: u32 = 65_536;
 
 /// What a class is made from. Where its limits of HOT and WARM together aren't below its chunks, COLD may stay empty:
 /// then no evict finds an item, and no chunk comes free but by an unlink.
@@ -144,7 +148,7 @@ impl Config {
     {
         let fault = if workers < 1 || workers > 64 {
             ConfigFault::Workers
-        } else if capacity < 1 || capacity > 65_536 {
+        } else if capacity < 1 || capacity > MAX_CAPACITY {
             ConfigFault::Capacity
         } else if refs_limit < 2 || refs_limit > MAX_REFS {
             ConfigFault::RefsLimit

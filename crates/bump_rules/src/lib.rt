@@ -3,6 +3,7 @@
 #![tactic(auto)]
 
 mod bumps;
+mod caches;
 mod class_lists;
 mod commands;
 mod configs;
@@ -16,9 +17,10 @@ mod places;
 mod tables;
 
 pub use bumps::{Accounts, Applied, AppliedBump, Bump, Ended, Entry, MOST_ATTEMPTS, Outcome};
+pub use caches::{CACHE_REFS, LOOKS};
 pub use class_lists::{ClassLists, ListedChunks};
 pub use commands::{Answer, Command, Dropped, Hit, Pulled, Room, Touch};
-pub use configs::{ClassConfig, Classes, Config, ConfigFault, MAX_CHUNKS, MAX_REFS};
+pub use configs::{ClassConfig, Classes, Config, ConfigFault, MAX_CAPACITY, MAX_CHUNKS, MAX_REFS};
 pub use events::{Event, Refused, Reply};
 pub use hands::Hand;
 pub use history::{Cause, Change};
