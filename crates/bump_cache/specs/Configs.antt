@@ -2,7 +2,8 @@
 use Rattle.std.specs.Prelude.{◌≡◌, ℕ, ◌+◌, ◌*◌, ◌/◌, min, Bool, not, nat_lt, [], ◌∷◌, Option, None, Some, find}
 use Rattle.bump_rules.specs.declared.configs.ClassConfig.{ClassConfig}
 use Rattle.bump_rules.specs.declared.configs.Config.{Config}
-use Rattle.bump_rules.specs.Configs.{is_within}
+use Rattle.bump_rules.specs.Caches.{cache_refs}
+use Rattle.bump_rules.specs.Configs.{is_within, most_chunks, most_capacity}
 use Rattle.bump_cache.specs.declared.config.CacheConfig.{CacheConfig}
 use Rattle.bump_cache.specs.declared.config.CacheFault.{CacheFault}
 use Rattle.bump_cache.specs.declared.config.CacheFault.TheVariants.{Items, Shares, Readers, Ring}
@@ -11,10 +12,10 @@ use Rattle.bump_cache.specs.declared.config.CacheRefusal.TheVariants.{Fault, Mem
 
 -- whether a configuration has this fault
 abbrev pub has_cache_fault : CacheConfig → CacheFault → Bool
-has_cache_fault config Items = not (is_within 1 1000000 config.items)
+has_cache_fault config Items = not (is_within 1 most_chunks config.items)
 has_cache_fault config Shares = nat_lt 100 (config.hot + config.warm)
 has_cache_fault config Readers = not (is_within 1 64 config.readers)
-has_cache_fault config Ring = not (is_within 1 65536 config.ring)
+has_cache_fault config Ring = not (is_within 1 most_capacity config.ring)
 
 -- the first fault that it has, in the order in which they are looked for
 abbrev pub first_cache_fault : CacheConfig → Option CacheFault
@@ -38,6 +39,6 @@ class_of config = record { chunks = config.items; hot = 0; warm = 0 }
 pub record IsStoreOf (config : CacheConfig) (store : Config) : Type 0 where
   pub workers : store.workers ≡ config.readers
   pub capacity : store.capacity ≡ config.ring
-  pub limit : store.refs_limit ≡ 1023
+  pub limit : store.refs_limit ≡ cache_refs
   pub generation : store.first_generation ≡ 1
   pub classes : store.classes ≡ class_of config ∷ []

@@ -1,5 +1,6 @@
 -- What a tend does to some state of the cache, the one in which it found it, and to the lanes of its upkeep.
 use Rattle.std.specs.Prelude.{◌≡◌, ℕ, zero, suc, ◌+◌, ◌≤◌, ◌⊎◌, Bool, List, [], ◌∷◌, length}
+use Rattle.bump_rules.specs.Caches.{looks}
 use Rattle.bump_rules.specs.declared.bumps.Applied.{Applied}
 use Rattle.bump_rules.specs.declared.items.Head.{Head}
 use Rattle.bump_class.specs.Applications.{AppliesFront}
@@ -10,10 +11,6 @@ use Rattle.bump_cache.specs.Opening.{UpkeepView}
 use Rattle.cache_shelf.specs.Items.{KeepsItems, HasNoBumpFor}
 use Rattle.cache_shelf.specs.Looking.{Balances}
 use Rattle.cache_shelf.specs.Shelves.{ShelfView, IsShelf}
-
--- so often a tend looks at the last items of HOT and WARM
-abbrev pub looks : ℕ
-looks = 100
 
 -- One bump of a lane was applied at this time: the lane has one entry more, and what the items stand for stays.
 pub record AppliesOnce (now : ℕ) (book : BookView) (from : LaneView) (left : BookView) (to : LaneView) : Type 0 where

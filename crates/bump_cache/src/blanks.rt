@@ -5,7 +5,7 @@ ghost use Rattle.bump_cache.specs.Configs.{first_cache_fault, told_fault, IsStor
 
 use crate::config::{CacheConfig, CacheRefusal};
 use bump_heads::Blank;
-use bump_rules::{ClassConfig, Classes, Config};
+use bump_rules::{CACHE_REFS, ClassConfig, Classes, Config};
 use std::alloc::{AllocError, Global};
 use std::marker::Model;
 
@@ -28,9 +28,6 @@ impl Model for CacheBlank {
     ghost invariant = { λ b. IsCacheBlank b.words b.store b.config };
 }
 
-// At most so many references to an item there are at once.
-const MOST_HOLDS: u32 = 1023;
-
 // The store of a cache of this configuration: one class, whose lists have no limits of their own, since the cache looks
 // at their sizes itself.
 fn store_of(alloc: Global, config: &CacheConfig) -> Result<Config, AllocError>
@@ -46,7 +43,7 @@ fn store_of(alloc: Global, config: &CacheConfig) -> Result<Config, AllocError>
     Ok(Config {
         workers: config.readers,
         capacity: config.ring,
-        refs_limit: MOST_HOLDS,
+        refs_limit: CACHE_REFS,
         first_generation: 1,
         classes: Classes::from_vec(classes),
     })

@@ -2,6 +2,7 @@
 ghost use Rattle.std.specs.Prelude.{◌≡◌, ◌≤◌};
 ghost use Rattle.bump_cache.specs.Configs.{first_cache_fault, share_of};
 
+use bump_rules::{MAX_CAPACITY, MAX_CHUNKS};
 use thiserror::Error;
 
 /// Why a cache can't be made from these numbers.
@@ -83,7 +84,7 @@ impl CacheConfig {
     pub fn fault(&self) -> Option<CacheFault>
         ensures { result ≡ first_cache_fault self.now }
     {
-        if self.items < 1 || self.items > 1_000_000 {
+        if self.items < 1 || self.items > MAX_CHUNKS {
             return Some(CacheFault::Items);
         }
         if self.hot > 100 || self.warm > 100 || self.hot + self.warm > 100 {
@@ -92,7 +93,7 @@ impl CacheConfig {
         if self.readers < 1 || self.readers > 64 {
             return Some(CacheFault::Readers);
         }
-        if self.ring < 1 || self.ring > 65_536 {
+        if self.ring < 1 || self.ring > MAX_CAPACITY {
             return Some(CacheFault::Ring);
         }
         None

@@ -5,14 +5,12 @@ ghost use Rattle.bump_cache.specs.Tending.{BalancesOften, DrainsEach, DrainsLane
 
 use bump_class::RawLane;
 use bump_heads::Name;
+use bump_rules::LOOKS;
 use cache_index::{Indexed, Law};
 use cache_shelf::Shelf;
 use std::hash::Hash;
 use std::marker::Model;
 use std::sync::Wait;
-
-/// So often an upkeep looks at the last items of HOT and WARM.
-const LOOKS: u32 = 100;
 
 /// What the upkeep of a cache works through, which one thread has at a time: the bumps that the readers queued.
 #[derive(Drop)]

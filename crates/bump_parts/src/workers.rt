@@ -40,13 +40,7 @@ impl<N: Name> Worker<N> {
         Worker {
             seat,
             sender,
-            counts: Accounts {
-                attempted: 0,
-                accepted: 0,
-                full: 0,
-                busy: 0,
-                refs: 0,
-            },
+            counts: Accounts::none(),
         }
     }
 

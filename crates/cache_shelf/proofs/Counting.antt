@@ -20,7 +20,8 @@ use Rattle.bump_rules.specs.declared.places.Tail.TheVariants as tail
 use Rattle.bump_rules.specs.Places.{place_of}
 use Rattle.bump_rules.specs.Tables.{segment_of, pulled_to}
 use Rattle.cache_shelf.specs.declared.evictions.Evictions.{Evictions}
-use Rattle.cache_shelf.specs.Items.{may_tell, item_told}
+use Rattle.bump_rules.specs.Commands.{item_told}
+use Rattle.cache_shelf.specs.Items.{may_tell}
 use Rattle.cache_shelf.specs.Flows.{Way, is_way, crossings, crossings_behind, Flows, FlowsTwice, AddsUp, way_to, way_of_applied}
 use Rattle.cache_shelf.specs.Counts.{capped, more, noted, no_flow, is_ours, are_ours, IsFlow, SegmentsAddUp, CountedView}
 

@@ -45,7 +45,8 @@ use Rattle.bump_steps.specs.Lives.{class_after_sweep, class_after_load}
 use Rattle.bump_word.specs.Words.{word_of}
 use Rattle.bump_class.specs.Ends.{EndsItem, book_after_end, unlink_refusal, is_linked, is_in_segment, Unlinks}
 use Rattle.cache_shelf.specs.Shelves.{linked_standing, linked_at}
-use Rattle.cache_shelf.specs.Items.{item_told, IsSameClass, KeepsItems, EndsAt, BeginsAt}
+use Rattle.cache_shelf.specs.Items.{IsSameClass, KeepsItems, EndsAt, BeginsAt}
+use Rattle.bump_rules.specs.Commands.{item_told}
 
 -- where one more entry of a history leaves the items
 pub linked_push : (fresh : ℕ) (history : List Change) (e : Change) (c : ℕ)

@@ -47,7 +47,8 @@ use Rattle.bump_class.specs.Links.{linked_item, item_of, next_life}
 use Rattle.bump_class.specs.Pulls.{PullsAt, MovesItem, book_after_pull_to, limits_of_book}
 use Rattle.bump_class.specs.Sweeps.{Sweeps}
 use Rattle.cache_shelf.specs.Flows.{crosses, crossings_behind, crossings, Way, is_way, Flows, FlowsTwice, way_of_pull, way_of_applied, way_to}
-use Rattle.cache_shelf.specs.Items.{item_told, may_tell}
+use Rattle.bump_rules.specs.Commands.{item_told}
+use Rattle.cache_shelf.specs.Items.{may_tell}
 use Rattle.cache_shelf.specs.Shelves.{linked_standing, linked_at}
 use Rattle.cache_shelf.proofs.Bumping.{shows_cold, shows_elsewhere, moved_found, gone_found}
 use Rattle.cache_shelf.proofs.Flowing.{crossings_push, place_turned}

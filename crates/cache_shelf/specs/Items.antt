@@ -18,16 +18,6 @@ use Rattle.cache_shelf.specs.declared.victims.Victim.{Victim}
 use Rattle.bump_steps.specs.Views.{owns, standing}
 use Rattle.cache_shelf.specs.Linked.{linked_at}
 
--- the item that a pull tells, if it found one
-abbrev pub item_told : Pulled → Option ItemId
-item_told Empty = None
-item_told (pulled.Stay item) = Some item
-item_told (pulled.Warm item) = Some item
-item_told (pulled.Again item) = Some item
-item_told (pulled.Cold item) = Some item
-item_told (pulled.Freed item) = Some item
-item_told (pulled.Deferred item) = Some item
-
 -- the one, and where it is None the other
 abbrev pub or_else : Option ℕ → Option ℕ → Option ℕ
 or_else None other = other

@@ -10,12 +10,13 @@ ghost use Rattle.bump_rules.specs.declared.items.Head.{Head as TheHead};
 ghost use Rattle.bump_rules.specs.declared.places.Start.TheVariants as start;
 ghost use Rattle.cache_shelf.specs.Looking.{LooksOver};
 ghost use Rattle.bump_links.specs.Lists.{first_of};
+ghost use Rattle.bump_rules.specs.Commands.{item_told};
 ghost use Rattle.bump_rules.specs.Lists.{list_at, all_without};
 ghost use Rattle.bump_rules.specs.declared.places.Tail.TheVariants as tail;
 ghost use Rattle.bump_steps.specs.Views.{owns};
 ghost use Rattle.cache_shelf.specs.Counts.{CountedView as TheCountedView, IsFlow, SegmentsAddUp, CountsEviction};
 ghost use Rattle.cache_shelf.specs.Counts.{no_flow, no_evictions};
-ghost use Rattle.cache_shelf.specs.Items.{item_told, victim, KeepsItems, EndsAt, BeginsAt, HasNoBumpFor};
+ghost use Rattle.cache_shelf.specs.Items.{victim, KeepsItems, EndsAt, BeginsAt, HasNoBumpFor};
 ghost use Rattle.cache_shelf.specs.Shelves.{linked_at};
 ghost use Rattle.cache_shelf.specs.Turns.{SameSegments};
 

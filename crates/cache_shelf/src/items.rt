@@ -1,13 +1,14 @@
 //! What is done with a Book's items.
 ghost use Rattle.std.specs.Prelude.{◌≡◌, ◌≢◌, ℕ, ◌+◌, true, length, IfSome, IfNone, option_map, None, Some};
 ghost use Rattle.bump_links.specs.Lists.{last_of, first_of};
+ghost use Rattle.bump_rules.specs.Commands.{item_told};
 ghost use Rattle.bump_rules.specs.Lists.{list_at, all_without};
 ghost use Rattle.bump_rules.specs.Places.{place_of};
 ghost use Rattle.bump_rules.specs.declared.places.Place.TheVariants.{Hot, Dying, Unused};
 ghost use Rattle.bump_rules.specs.declared.places.Tail.TheVariants as tail;
 ghost use Rattle.bump_steps.specs.Views.{owns};
 ghost use Rattle.cache_shelf.specs.Shelves.{linked_at};
-ghost use Rattle.cache_shelf.specs.Items.{item_told, may_tell, chunk_told, victim, KeepsItems, EndsAt, BeginsAt};
+ghost use Rattle.cache_shelf.specs.Items.{may_tell, chunk_told, victim, KeepsItems, EndsAt, BeginsAt};
 ghost use Rattle.cache_shelf.specs.Items.{ShowsMarks, HasNoBumpFor};
 ghost use Rattle.bump_class.specs.Applications.{AppliesFront};
 ghost use Rattle.bump_class.specs.Books.{BookView as TheBookView};
@@ -27,21 +28,6 @@ use crate::victims::Victim;
 use bump_class::{Book, RawLane};
 use bump_heads::Name;
 use bump_rules::{Applied, ItemId, Pulled, Segment, Tail};
-
-// The item that a pull tells.
-fn item_told(pulled: Pulled) -> Option<ItemId>
-    ensures { result ≡ item_told pulled }
-{
-    match pulled {
-        Pulled::Empty => None,
-        Pulled::Stay(id)
-        | Pulled::Warm(id)
-        | Pulled::Again(id)
-        | Pulled::Cold(id)
-        | Pulled::Freed(id)
-        | Pulled::Deferred(id) => Some(id),
-    }
-}
 
 // The last item of HOT, WARM or COLD is looked at, and moved by the tail table.
 pub(crate) fn look_at<N: Name>(book: &mut Book<N>, from: Tail) -> Pulled
@@ -75,7 +61,7 @@ fn end_last_of<N: Name>(book: &mut Book<N>, from: Tail) -> Option<Victim>
     ensures others { IfSome result (λ it. SameSegments (all_without it.chunk book.old.lists) book.new.lists) }
 {
     let pulled = look_at(book, from);
-    let Some(id) = item_told(pulled) else {
+    let Some(id) = pulled.item() else {
         return None;
     };
     let Some(segment) = end(book, id) else {
@@ -126,7 +112,7 @@ fn end_last<N: Name>(book: &mut Book<N>) -> Option<Victim>
     ensures others { IfSome result (λ it. SameSegments (all_without it.chunk book.old.lists) book.new.lists) }
 {
     book.promise();
-    let Some(id) = item_told(book.pull(Tail::Evict)) else {
+    let Some(id) = book.pull(Tail::Evict).item() else {
         return None;
     };
     let (head, _) = book.see(id.chunk);

@@ -7,13 +7,13 @@ use Rattle.cache_shelf.proofs.Turning.{evict_others, seen_others}
 
 pub see-requires : goal.see-requires
 see-requires g c =
-    let ends = (evict_told c.args.book.now c.pull.new.self c.pull.result c.in-Some.id c.promise.ensures.stands _ refl c.pull.ensures (sym c.item_told.ensures ∙ c.in-Some.is)).1 in
+    let ends = (evict_told c.args.book.now c.pull.new.self c.pull.result c.in-Some.id c.promise.ensures.stands _ refl c.pull.ensures (sym c.item.ensures ∙ c.in-Some.is)).1 in
     record { own = owns_same c.args.book.now c.pull.new.self ends.class c.in-Some.id.chunk ∙ ends.own }
 
 pub returns-clause-ends : goal.returns-clause-ends
 returns-clause-ends g c =
     ends_kept c.args.book.now c.pull.new.self c.see.new.self c.in-Some.id.chunk
-    (evict_told c.args.book.now c.pull.new.self c.pull.result c.in-Some.id c.promise.ensures.stands _ refl c.pull.ensures (sym c.item_told.ensures ∙ c.in-Some.is)).1
+    (evict_told c.args.book.now c.pull.new.self c.pull.result c.in-Some.id c.promise.ensures.stands _ refl c.pull.ensures (sym c.item.ensures ∙ c.in-Some.is)).1
     (see_keeps c.pull.new.self c.see.new.self c.in-Some.id.chunk c.see.result.1 c.see.result.0 c.see.ensures.seen)
 
 pub returns-clause-flows : goal.returns-clause-flows
@@ -21,13 +21,13 @@ returns-clause-flows g c = record {
   between = c.args.book.now;
   one = still c.args.book.now c.args.book.now refl refl;
   other = before_none c.args.book.now c.pull.new.self c.see.new.self _
-      (evicts_flow c.args.book.now c.pull.new.self c.pull.result c.in-Some.id c.promise.ensures.stands c.pull.ensures (sym c.item_told.ensures ∙ c.in-Some.is))
+      (evicts_flow c.args.book.now c.pull.new.self c.pull.result c.in-Some.id c.promise.ensures.stands c.pull.ensures (sym c.item.ensures ∙ c.in-Some.is))
       (seen_flows c.pull.new.self c.see.new.self c.in-Some.id.chunk c.see.result.1 c.see.result.0 c.see.ensures.seen);
 }
 
 pub returns-clause-marks : goal.returns-clause-marks
 returns-clause-marks g c =
-    let ends = (evict_told c.args.book.now c.pull.new.self c.pull.result c.in-Some.id c.promise.ensures.stands _ refl c.pull.ensures (sym c.item_told.ensures ∙ c.in-Some.is)).1 in
+    let ends = (evict_told c.args.book.now c.pull.new.self c.pull.result c.in-Some.id c.promise.ensures.stands _ refl c.pull.ensures (sym c.item.ensures ∙ c.in-Some.is)).1 in
     record {
       head = c.see.result.0;
       time = c.see.result.1;
@@ -41,6 +41,6 @@ returns-clause-marks g c =
 
 pub returns-clause-others : goal.returns-clause-others
 returns-clause-others g c =
-    let told = evict_told c.args.book.now c.pull.new.self c.pull.result c.in-Some.id c.promise.ensures.stands _ refl c.pull.ensures (sym c.item_told.ensures ∙ c.in-Some.is) in
+    let told = evict_told c.args.book.now c.pull.new.self c.pull.result c.in-Some.id c.promise.ensures.stands _ refl c.pull.ensures (sym c.item.ensures ∙ c.in-Some.is) in
     seen_others (all_without c.in-Some.id.chunk c.args.book.now.lists) c.pull.new.self c.see.new.self c.in-Some.id.chunk c.see.result.1 c.see.result.0
     c.see.ensures.seen (evict_others c.args.book.now c.pull.new.self c.pull.result c.in-Some.id _ c.pull.ensures told.0)

@@ -44,4 +44,4 @@ returns-clause-others g c =
     seen_others (all_without chunk book.lists) c.end.new.book c.see.new.self chunk c.see.result.1 c.see.result.0 c.see.ensures.seen
     (same_then (all_without chunk book.lists) (all_without chunk looked.lists) c.end.new.book.lists
     (subst (λ t. IfSome t (λ id. SameSegments (all_without id.chunk book.lists) (all_without id.chunk looked.lists)))
-    (sym c.item_told.ensures ∙ c.in-Some.is) c.look_at-pulled.ensures.others) c.in-Some-end.ensures.others)
+    (sym c.item.ensures ∙ c.in-Some.is) c.look_at-pulled.ensures.others) c.in-Some-end.ensures.others)

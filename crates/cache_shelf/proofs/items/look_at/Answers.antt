@@ -1,6 +1,6 @@
 use Rattle.std.proofs.Common.{refl, ap, ◌∙◌, option_map}
 use Rattle.bump_rules.specs.Tables.{last_pulled}
-use Rattle.cache_shelf.specs.Items.{item_told}
+use Rattle.bump_rules.specs.Commands.{item_told}
 use Rattle.cache_shelf.proofs.Standings.{pulls_keep, pull_tells, told_chunk, told_linked, told_own, told_none}
 use Rattle.cache_shelf.proofs.Ways.{pulls_told, pulls_flow}
 use Rattle.cache_shelf.proofs.items.look_at.Goals as goal

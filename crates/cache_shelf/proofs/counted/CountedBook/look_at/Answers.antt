@@ -1,8 +1,8 @@
 use Rattle.std.proofs.Common.{◌≡◌, sym, ap₂, ◌∙◌, subst, IfNone, refl}
+use Rattle.bump_rules.specs.Commands.{item_told}
 use Rattle.bump_rules.specs.Tables.{segment_of, pulled_to}
 use Rattle.cache_shelf.specs.Counts.{IsFlow, noted}
 use Rattle.cache_shelf.specs.Flows.{Flows, way_to}
-use Rattle.cache_shelf.specs.Items.{item_told}
 use Rattle.cache_shelf.proofs.Counting.{flow_goes_on, told_ours, nothing_told}
 use Rattle.cache_shelf.proofs.Ways.{told_way}
 use Rattle.cache_shelf.proofs.counted.CountedBook.look_at.Goals as goal
