@@ -1,8 +1,8 @@
 -- What lanes do, each with the closed worker of its ring at the end.
 use Rattle.std.specs.Prelude.{◌≡◌, ℕ, zero, suc, ◌+◌, ◌-◌, ◌^◌, ◌≤◌, ◌<◌, Bool, true, false, List, [], length}
 use Rattle.std.specs.Prelude.{Option, Some, None, IfSome, IfNone, IsSome}
-use Rattle.bump_rules.specs.declared.bumps.Accounts.{Accounts}
 use Rattle.bump_rules.specs.declared.bumps.Bump.{Bump}
+use Rattle.bump_rules.specs.Rings.{no_accounts}
 use Rattle.bump_class.specs.Lanes.{LaneView, carries, entries}
 use Rattle.bump_class.specs.Runs.{AppliesRun, HasNextAboard, MayHaveBoarded, IsRunOver}
 use Rattle.bump_parts.specs.Closing.{ClosedState, AppliedAll}
@@ -52,10 +52,6 @@ pub record DrainerApplies (now limit : ℕ) (book : TaggedBookView) (before : Dr
   pub kept : after ≡ record before { lane = after.lane }
   pub store : left.store ≡ book.store
 
--- nothing is counted
-abbrev pub no_counts : Accounts
-no_counts = record { attempted = 0; accepted = 0; full = 0; busy = 0; refs = 0 }
-
 -- how far a lane is whose worker is closed, and whose ring has so many bumps left
 abbrev pub state_of_left : ℕ → RestState
 state_of_left zero = state.Settled
@@ -75,7 +71,7 @@ rested_closed false counts applied = record { state = state.Unseen; left = 0; co
 -- What is left of a ring, by its worker if that is closed, where so many of its bumps were applied. Of one whose worker
 -- isn't closed nothing else is told.
 abbrev pub rested : Option ClosedState → ℕ → Rested
-rested None applied = record { state = state.Open; left = 0; counts = no_counts; applied = applied }
+rested None applied = record { state = state.Open; left = 0; counts = no_accounts; applied = applied }
 rested (Some closed) applied = rested_closed closed.sender.shows_end closed.part.accounts applied
 
 -- What asking what is left of a lane's ring comes to.

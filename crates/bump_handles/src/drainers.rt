@@ -62,14 +62,6 @@ pub struct Rested {
     pub applied: u64,
 }
 
-const NO_COUNTS: Accounts = Accounts {
-    attempted: 0,
-    accepted: 0,
-    full: 0,
-    busy: 0,
-    refs: 0,
-};
-
 // How far a lane is whose worker is closed, and whose ring has so many bumps left.
 #[tactic(auto, using(crate::proofs::RestLemmas::left_is_left, crate::proofs::RestLemmas::none_is_settled,))]
 fn state_of(left: u64) -> RestState
@@ -200,7 +192,7 @@ impl<N: Name> Drainer<N> {
             return Rested {
                 state: RestState::Open,
                 left: 0,
-                counts: NO_COUNTS,
+                counts: Accounts::none(),
                 applied,
             };
         };

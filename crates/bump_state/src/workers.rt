@@ -74,13 +74,7 @@ impl Worker {
         Worker {
             hand: Hand::Idle,
             is_open: true,
-            accounts: Accounts {
-                attempted: 0,
-                accepted: 0,
-                full: 0,
-                busy: 0,
-                refs: 0,
-            },
+            accounts: Accounts::none(),
             first_hits: Vec::new(alloc),
             sent: Vec::new(alloc),
             received: 0,

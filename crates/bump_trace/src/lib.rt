@@ -16,6 +16,6 @@ pub use gathering::{ROOM, flush, gather, stop};
 pub use names::Names;
 pub use open_store::PLACES;
 pub use openings::{Opening, configure, declare};
-pub use reading::read_all;
+pub use reading::{MAX_BYTES, read_all};
 pub use runs::{SimFault, run_model};
 pub use trace_lines::Counted;

@@ -10,8 +10,9 @@ use crate::runs::SimFault;
 use std::alloc::Global;
 use trace_lines::{Counted, Source, is_interruption};
 
-/// The most bytes of a trace.
-const MAX_BYTES: usize = 16_777_216;
+/// The most bytes of a trace, 2^24: it is read whole before its first line is run, so what it takes of memory has to
+/// have a bound.
+pub const MAX_BYTES: usize = 16_777_216;
 
 /// The most reads that are made.
 const MAX_READS: u32 = 20_000_000;

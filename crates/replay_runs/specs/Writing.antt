@@ -2,6 +2,7 @@
 use Rattle.std.specs.Prelude.{ℕ, ◌+◌, ◌*◌, ◌%◌, ◌≡◌, ◌≤◌, ◌<◌, ◌⊎◌, max, ⊤, Bool, true, not, ◌||◌, List, [], ◌∷◌, ◌++◌, All}
 use Rattle.std.specs.Prelude.{length, take, codes, decimal, nat_eq}
 use Rattle.std.specs.List.{flat_map, starts_with}
+use Rattle.bump_rules.specs.Caches.{cache_refs}
 use Rattle.bump_trace.specs.Runs.{most_bytes}
 use Rattle.replay_runs.specs.declared.faults.ReplayFault.{ReplayFault}
 use Rattle.replay_runs.specs.declared.faults.ReplayFault.TheVariants as fault
@@ -62,7 +63,7 @@ most_behind plan = 7 * (plan.config.items + 1) + 204
 -- the first lines of a plan's trace: what the store is
 abbrev pub header : Plan → List ℕ
 header plan =
-    codes "store " ++ decimal plan.config.readers ++ codes " " ++ decimal plan.config.ring ++ codes " " ++ decimal 1023
+    codes "store " ++ decimal plan.config.readers ++ codes " " ++ decimal plan.config.ring ++ codes " " ++ decimal cache_refs
     ++ codes " 1\nclass " ++ decimal plan.config.items ++ codes " 0 0\n"
 
 -- a text that tells what the store of a plan is, and then the first so many accesses

@@ -5,9 +5,10 @@ ghost use Rattle.replay_runs.specs.Writing.{IsOfCalls, most_behind};
 ghost use Rattle.replay_runs.specs.Faults.{IsOfWriting};
 
 use crate::faults::ReplayFault;
-use crate::plans::{LOOKS, Plan};
+use crate::plans::Plan;
 use crate::scribes::Scribe;
 use bump_core::{Config, Tail};
+use bump_rules::LOOKS;
 use std::alloc::Global;
 use std::hash::RandomState;
 

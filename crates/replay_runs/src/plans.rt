@@ -7,15 +7,8 @@ ghost use Rattle.replay_runs.specs.declared.faults.ReplayFault.TheVariants.{Memo
 use crate::faults::ReplayFault;
 use bump_cache::CacheConfig;
 use bump_core::{ClassConfig, Classes, Config};
+use bump_rules::CACHE_REFS;
 use std::alloc::Global;
-
-// At most so many references to an item there are at once. It decides which bumps are dropped, so a trace drops those that
-// the cache drops only with the number that the cache has, which is this one.
-pub(crate) const MOST_HOLDS: u32 = 1023;
-
-// So often an upkeep looks at the last items of HOT and WARM. Each look may move an item, so a trace's lists are those of
-// the cache only with the number that the cache has, which is this one.
-pub(crate) const LOOKS: u32 = 100;
 
 /// How an access log is run.
 #[derive(Clone, Copy, Debug, PartialEq, Eq)]
@@ -68,7 +61,8 @@ fn store_of(alloc: Global, config: &CacheConfig) -> Result<Config, ReplayFault>
     Ok(Config {
         workers: config.readers,
         capacity: config.ring,
-        refs_limit: MOST_HOLDS,
+        // It decides which bumps are dropped, so it is the cache's number.
+        refs_limit: CACHE_REFS,
         first_generation: 1,
         classes: Classes::from_vec(classes),
     })

@@ -1,17 +1,17 @@
 //! A trace that is written line by line, each of which is made on a World at once.
 ghost use Rattle.std.specs.Prelude.{◌≡◌, ◌<◌, ◌∷◌, ◌++◌, [], true, false, length, codes, IfOk, IfErr, OnOk};
+ghost use Rattle.bump_trace.specs.Runs.{most_bytes};
 ghost use Rattle.replay_runs.specs.Writing.{with_end, get_line, set_line, header, is_upkeep, IsUpkeep, Adds, IsOfCalls};
 
 use crate::faults::ReplayFault;
-use crate::plans::{MOST_HOLDS, Plan};
-use bump_core::{Answer, Command, Config, ItemId, Pulled, Refused, Tail, World};
+use crate::plans::Plan;
+use bump_core::{Answer, Command, Config, ItemId, Refused, Tail, World};
+use bump_rules::CACHE_REFS;
+use bump_trace::MAX_BYTES;
 use std::alloc::Global;
 use std::collections::HashMap;
 use std::hash::RandomState;
 use trace_lines::put_word;
-
-/// So many bytes a trace has at most.
-const MOST_BYTES: usize = 16_777_216;
 
 /// A trace that is written: each line is made on a World, whose answer tells what to write next.
 #[derive(Drop)]
@@ -36,7 +36,7 @@ fn header_of(alloc: Global, plan: &Plan) -> Result<Vec<u8>, ReplayFault>
     let mut text = Vec::new(alloc);
     put_word(&mut text, b"store ", u64::from(plan.config.readers))?;
     put_word(&mut text, b" ", u64::from(plan.config.ring))?;
-    put_word(&mut text, b" ", u64::from(MOST_HOLDS))?;
+    put_word(&mut text, b" ", u64::from(CACHE_REFS))?;
     put_word(&mut text, b" 1\nclass ", u64::from(plan.config.items))?;
     text.extend_from_slice(b" 0 0\n")?;
     Ok(text)
@@ -51,19 +51,6 @@ fn pull_line(tail: Tail) -> &'static str
         Tail::Warm => "pull 0 warm",
         Tail::Cold => "pull 0 cold",
         Tail::Evict => "pull 0 evict",
-    }
-}
-
-// The item that a pull found.
-fn item_of(pulled: Pulled) -> Option<ItemId> {
-    match pulled {
-        Pulled::Empty => None,
-        Pulled::Stay(id)
-        | Pulled::Warm(id)
-        | Pulled::Again(id)
-        | Pulled::Cold(id)
-        | Pulled::Freed(id)
-        | Pulled::Deferred(id) => Some(id),
     }
 }
 
@@ -114,9 +101,9 @@ impl Scribe {
 
     /// Whether the text has more bytes than a trace may have.
     pub(crate) fn is_long(&self) -> bool
-        ensures { result ≡ true → 16777216 < length self.now.text.items }
+        ensures { result ≡ true → most_bytes < length self.now.text.items }
     {
-        self.text.len() > MOST_BYTES
+        self.text.len() > MAX_BYTES
     }
 
     // Ends a line.
@@ -233,7 +220,7 @@ impl Scribe {
     {
         self.write(pull_line(tail))?;
         match self.make(Command::Pull { class: 0, tail })? {
-            Answer::Pulled(pulled) => Ok(item_of(pulled)),
+            Answer::Pulled(pulled) => Ok(pulled.item()),
             _ => Ok(None),
         }
     }
