@@ -1,5 +1,5 @@
 -- Which plans and runs are refused, and why.
-use Rattle.std.specs.Prelude.{ℕ, ◌≡◌, ◌<◌, ◌⊎◌, ⊤, true, List, [], ◌∷◌, length, Option, None, Some}
+use Rattle.std.specs.Prelude.{ℕ, ◌≡◌, ◌<◌, ◌⊎◌, ⊤, true, List, length, Option, None, Some}
 use Rattle.bump_cache.specs.declared.config.CacheFault.{CacheFault}
 use Rattle.bump_trace.specs.Meaning.{verdict_of}
 use Rattle.bump_trace.specs.Runs.{most_bytes}

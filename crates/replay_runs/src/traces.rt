@@ -1,9 +1,9 @@
 //! The trace of an access log's run.
 ghost use Rattle.std.specs.Prelude.{◌≡◌, ◌<◌, ◌≤◌, false, length, None, IfOk, OnOk, IfErr};
+ghost use Rattle.bump_cache.specs.Configs.{first_cache_fault};
 ghost use Rattle.bump_trace.specs.Meaning.{verdict_of};
 ghost use Rattle.bump_trace.specs.Runs.{most_bytes};
 ghost use Rattle.replay_runs.specs.Counting.{hits_told};
-ghost use Rattle.bump_cache.specs.Configs.{first_cache_fault};
 ghost use Rattle.replay_runs.specs.Faults.{fault_of, IsOfText, IsOfTracing, Refuses};
 ghost use Rattle.replay_runs.specs.Writing.{IsTraceOf};
 
