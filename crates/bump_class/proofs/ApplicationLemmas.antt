@@ -1,5 +1,6 @@
 -- What an application comes to on a Book and a lane.
-use Rattle.std.proofs.Common.{◌≡◌, ℕ, ◌&&◌, ◌==◌, not, Bool, true, false, List, Option, Some, IfSome, if◌then◌else◌, refl, sym, ap, ◌∙◌, subst, arith}
+use Rattle.std.proofs.Common.{◌≡◌, ℕ, ◌&&◌, ◌==◌, not, Bool, true, false, List, Option, Some, IfSome, if◌then◌else◌, length, [], ◌∷◌, refl, sym, ap, ◌∙◌, subst, arith}
+use Rattle.std.proofs.lemmas.List.{length-append}
 use Rattle.bump_rules.specs.declared.bumps.Applied.{Applied}
 use Rattle.bump_rules.specs.declared.bumps.Bump.{Bump}
 use Rattle.bump_rules.specs.declared.bumps.Outcome.{Outcome}
@@ -9,7 +10,7 @@ use Rattle.bump_rules.specs.declared.items.ItemId.{ItemId}
 use Rattle.bump_rules.specs.declared.places.Place.TheVariants.{Dying}
 use Rattle.bump_rules.specs.Entries.{is_unlink_of, is_move_for, moves_told}
 use Rattle.bump_rules.specs.History.{freed_change}
-use Rattle.bump_rules.specs.Lanes.{carried}
+use Rattle.bump_rules.specs.Lanes.{carried, applied_bump}
 use Rattle.bump_rules.specs.Lists.{Lists}
 use Rattle.bump_rules.specs.Lawful.{bit}
 use Rattle.bump_rules.specs.Tables.{is_cold, outcome_of, ended_of}
@@ -28,9 +29,9 @@ use Rattle.bump_steps.proofs.Entering.{freed_quiet}
 use Rattle.bump_heads.specs.declared.views.ClassView.{ClassView}
 use Rattle.bump_heads.specs.Applying.{IsShown, FoundOfBump, NamesNoBumpTwice, TellsMoves, is_own}
 use Rattle.bump_ring.specs.Ends.{Ring}
-use Rattle.bump_class.specs.Applications.{FoundHeads, Updates, Applies, AppliesFront, with_time, with_clearing, class_after_update, book_after_update, applied_answer}
+use Rattle.bump_class.specs.Applications.{FoundHeads, Updates, Applies, AppliesFront, AppliesBump, EachMoveIsTold, with_time, with_clearing, class_after_update, book_after_update, applied_answer}
 use Rattle.bump_class.specs.Books.{BookView, KeepsBook}
-use Rattle.bump_class.specs.Lanes.{LaneView, carries, part_or}
+use Rattle.bump_class.specs.Lanes.{LaneView, carries, entries, part_or}
 
 -- where the update table says Gone, the item isn't linked
 not_linked : (h a : Head) → Gone ≡ outcome_of h a → h.linked ≡ false
@@ -170,6 +171,27 @@ same_class Gone w b now f k = by (f.behind.refs == 0)
         class_after_load b.life.chunk (word_of f.behind) k.part) k.part
     by true = (refl, refl, refl)
     by false = (refl, refl, refl)
+
+-- all that an application comes to follows from the update table, and from what history and entries say of each other
+pub bump_applied : (now : ℕ) (book : BookView) (from : LaneView) (answer : Applied) (left : BookView) (to : LaneView)
+    → AppliesFront now book from answer left to → NamesNoBumpTwice left.part → EachMoveIsTold left.part to.part
+    → AppliesBump now book from answer left to
+bump_applied now book from answer left to front once told =
+    let lane = front.4.lane_after in record {
+      front = front;
+      ring = ap (λ (x : LaneView). x.ring) lane;
+      known = ap (λ (x : LaneView). x.known) lane;
+      empty = ap carries lane;
+      count = omega (
+        arith,
+        ap (λ (x : LaneView). length (entries x)) lane,
+        length-append (entries from) (applied_bump front.0 front.1 ∷ []),
+      );
+      class = subst (λ (z : BookView). IsSameClass z.part book.part) (sym front.4.book_after)
+          (same_class front.1 from.part.worker front.0 now front.2 book);
+      once = once;
+      told = told;
+    }
 
 -- what the type of a Book keeps, it keeps by an application that moves nothing
 pub time_only_keeps : (v w : ClassView) (first end hot warm workers : ℕ) (counts : List ℕ) (lists : Lists) (worker : ℕ) (b : Bump)

@@ -21,7 +21,7 @@ use Rattle.bump_steps.specs.Riders.{lane_after_board, bump_of_ride, applied_by}
 use Rattle.bump_steps.specs.Views.{bump_aboard, owns}
 use Rattle.bump_heads.specs.Applying.{carried_by, TellsMoves, is_own}
 use Rattle.bump_heads.specs.Seats.{aboard_lane}
-use Rattle.bump_class.specs.Lanes.{KeepsLane, IsRawLane, part_or, lives, kept_aboard}
+use Rattle.bump_class.specs.Lanes.{KeepsLane, LaneView, IsRawLane, Boards, TellsAboard, carries, entries, part_or, lives, kept_aboard}
 use Rattle.bump_class.specs.Applications.{FoundHeads, lane_after_update, EachMoveIsTold}
 
 -- a numbered list is as long as its lives
@@ -189,3 +189,14 @@ each_told k l rs is tells item n some = by (told_shows item (is_own k (is_same i
         (applied_bump (bump_of n item) outcome.Moved)
     by (inl told) = told
     by (inr moving) = absurd (let e : true ≡ false = sym (ap is_half_made moving) ∙ is.at_rest in cc e)
+
+-- the bump that went aboard is told
+pub boarded_told : {before after : LaneView} {bump : Bump} {ride : Ride} → Boards before bump after ride
+    → TellsAboard before (Some bump) after
+boarded_told boards = record {
+  ring = ap (λ (x : LaneView). x.ring) boards.lane;
+  kept = ap entries boards.lane;
+  told = ap carries boards.lane;
+  none = tt;
+  unchanged = tt;
+}

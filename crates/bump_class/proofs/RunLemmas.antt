@@ -1,5 +1,6 @@
 -- A run of applications that goes on, and how it ends.
-use Rattle.std.proofs.Common.{◌≡◌, ℕ, suc, ◌+◌, ◌∷◌, [], ◌++◌, List, Option, None, Some, IsSome, refl, sym, ap, ◌∙◌, subst, arith}
+use Rattle.std.proofs.Common.{◌≡◌, ◌≢◌, ℕ, ◌+◌, ◌<◌, ◌≤◌, ◌∷◌, [], ◌++◌, true, List, length, Option, None, Some, IsSome, IfSome}
+use Rattle.std.proofs.Common.{refl, sym, ap, ◌∙◌, subst, arith}
 use Rattle.std.proofs.lemmas.List.{append_assoc}
 use mathlib.Core.List.{IsPrefix}
 use Rattle.bump_rules.specs.declared.bumps.Applied.{Applied}
@@ -8,10 +9,14 @@ use Rattle.bump_rules.specs.declared.bumps.Bump.{Bump}
 use Rattle.bump_rules.specs.Lanes.{applied_bump}
 use Rattle.bump_steps.specs.declared.views.ClassPart.{ClassPart}
 use Rattle.bump_steps.specs.declared.views.Ride.{Ride}
-use Rattle.bump_class.specs.Applications.{AppliesFront, EachMoveIsTold}
+use Rattle.bump_steps.specs.Views.{owns}
+use Rattle.bump_class.specs.Applications.{AppliesBump, AppliesFront, EachMoveIsTold}
 use Rattle.bump_class.specs.Books.{BookView}
 use Rattle.bump_class.specs.Lanes.{LaneView, carries, entries, Boards}
-use Rattle.bump_class.specs.Runs.{HasNextAboard, MayHaveBoarded}
+use Rattle.bump_class.specs.Runs.{AppliesUpTo, FreesRun, HasNextAboard, MayHaveBoarded, freed_alone, with_freed}
+use Rattle.bump_class.specs.Sweeps.{told_first}
+use Rattle.bump_class.proofs.ApplicationLemmas.{IsSameClass}
+use Rattle.bump_class.proofs.FreeRuns.{RunSoFar, Ran, applied_more, runs_of, one_at_most}
 
 -- a bump that is aboard already is the next
 pub is_aboard : (o : Option Bump) (this_lane : LaneView) → IsSome o → HasNextAboard o this_lane this_lane
@@ -52,3 +57,111 @@ pub told_aboard : (class : ClassPart) (from to : LaneView) (bump : Bump) (ride :
     → EachMoveIsTold class from.part → EachMoveIsTold class to.part
 told_aboard class from to bump ride boards told =
     subst (λ (x : LaneView). EachMoveIsTold class x.part) (sym boards.lane) told
+
+-- What stays of a lane behind its last application, whether the next bump went aboard or not.
+pub record StaysBehind (last to : LaneView) : Type 0 where
+  pub ring : to.ring ≡ last.ring
+  pub kept : entries to ≡ entries last
+  pub told : (class : ClassPart) → EachMoveIsTold class last.part → EachMoveIsTold class to.part
+
+stays_behind : (o : Option Bump) (last to : LaneView) → MayHaveBoarded o last to → StaysBehind last to
+stays_behind None last to same = record {
+  ring = ap (λ (x : LaneView). x.ring) same;
+  kept = ap entries same;
+  told = λ class told. subst (λ (x : LaneView). EachMoveIsTold class x.part) (sym same) told;
+}
+stays_behind (Some bump) last to boarded = record {
+  ring = ap (λ (x : LaneView). x.ring) boarded.1.lane;
+  kept = ap entries boarded.1.lane;
+  told = λ class told. told_aboard class last to bump boarded.0 boarded.1 told;
+}
+
+-- A run whose next bump, which is of the class, is aboard, by what it came to so far.
+pub record GoesOn (limit now : ℕ) (book : BookView) (from : LaneView) (slice : List ℕ) (done n : ℕ) (written : List ℕ)
+    (between : BookView) (at : LaneView) (bump : Bump) : Type 0 where
+  pub runs : RunSoFar now book from slice done n written between at
+  pub few : n ≤ done
+  pub aboard : carries at ≡ Some bump
+  pub own : owns bump.life.chunk between.part ≡ true
+  pub below : done < limit
+  pub ring : at.ring ≡ from.ring
+  pub count : length (entries at) ≡ length (entries from) + done
+  pub grown : IsPrefix (entries from) (entries at)
+  pub class : IsSameClass between.part book.part
+
+-- What such a run came to when that bump was applied, and its chunk was told where it came free.
+module _ {limit now : ℕ} {book : BookView} {from : LaneView} {slice : List ℕ} {done n m : ℕ}
+    {written now_written : List ℕ} {between left : BookView} {at last : LaneView} {bump : Bump} {answer : Applied}
+    (so_far : GoesOn limit now book from slice done n written between at bump)
+    (one : AppliesBump now between at answer left last)
+    (writes : n < length written → now_written ≡ with_freed n (freed_alone bump.life.chunk answer) written)
+    (many : m ≡ n + length (freed_alone bump.life.chunk answer)) where
+  ran : Ran now book from slice (done + 1) m now_written left last
+  ran = applied_more now book from slice written now_written done (done + 1) n m between at bump answer left last refl
+      so_far.runs so_far.aboard (record {
+        own = subst (λ (o : Option Bump). IfSome o (λ b. owns b.life.chunk between.part ≡ true)) (sym so_far.aboard)
+            so_far.own;
+        front = one.front;
+        once = one.once;
+        told = one.told;
+      }) writes many
+
+  grown_by_one : IsPrefix (entries from) (entries last)
+  grown_by_one = grown_on (entries from) (entries at) (entries last) so_far.grown
+      (front_grown now between at answer left last one.front)
+
+  class_is : IsSameClass left.part book.part
+  class_is = (
+    one.class.0 ∙ so_far.class.0,
+    one.class.1 ∙ so_far.class.1,
+    one.class.2 ∙ so_far.class.2,
+  )
+
+  -- it ends there, where the next bump may have gone aboard
+  pub ends : (to : LaneView) → MayHaveBoarded (carries to) last to → (done + 1 ≡ limit → carries to ≡ None)
+      → AppliesUpTo limit now book from (done + 1) left to
+  ends to behind empty =
+      let stays = stays_behind (carries to) last to behind in record {
+        run = (last, runs_of now (length slice) book from (done + 1) ran.0 left last ran.1, behind);
+        some = omega arith;
+        most = omega (arith, so_far.below);
+        empty = empty;
+        ring = stays.ring ∙ one.ring ∙ so_far.ring;
+        count = omega (arith, ap length stays.kept, one.count, so_far.count);
+        grown = subst (λ xs. IsPrefix (entries from) xs) (sym stays.kept) grown_by_one;
+        class = class_is;
+        once = one.once;
+        told = stays.told left.part one.told;
+      }
+
+  -- and these chunks came free
+  pub frees : (to : LaneView) → MayHaveBoarded (carries to) last to → (end : LaneView) × (chunks : List ℕ)
+      × FreesRun now (length slice) book from (done + 1) chunks left end × MayHaveBoarded (carries to) end to
+      × (0 < length slice → (now_written ≡ told_first chunks slice) × (m ≡ length chunks) × (m ≤ length slice))
+  frees to behind = (last, ran.0, ran.1, behind, ran.2)
+
+  -- or it goes on, where there is room to tell one more
+  pub goes_on : (to : LaneView) (next : Bump) (ride : Ride) → Boards last next to ride → carries to ≡ Some next
+      → owns next.life.chunk left.part ≡ true → done + 1 ≢ limit → length now_written ≡ length written
+      → (0 < length now_written → m ≢ length now_written)
+      → GoesOn limit now book from slice (done + 1) m now_written left to next
+  goes_on to next ride boards carried own below same room =
+      let long : length now_written ≡ length slice = omega (arith, so_far.runs.6, same) in record {
+        runs = (
+          last,
+          ran.0,
+          ran.1,
+          goes_aboard (carries last) last to next ride one.empty boards,
+          ran.2,
+          λ some. omega (arith, (ran.2 some).2, long, room (omega (arith, some, long))),
+          long,
+        );
+        few = omega (arith, so_far.few, many, one_at_most bump.life.chunk answer);
+        aboard = carried;
+        own = own;
+        below = omega (arith, so_far.below, below);
+        ring = ap (λ (x : LaneView). x.ring) boards.lane ∙ one.ring ∙ so_far.ring;
+        count = omega (arith, ap (λ (x : LaneView). length (entries x)) boards.lane, one.count, so_far.count);
+        grown = subst (λ (x : LaneView). IsPrefix (entries from) (entries x)) (sym boards.lane) grown_by_one;
+        class = class_is;
+      }

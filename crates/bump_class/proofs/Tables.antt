@@ -1,5 +1,5 @@
 -- Moves that no table has: those from TEMP and to TEMP are among them.
-use Rattle.std.proofs.Common.{◌≡◌, ℕ, ◌≤◌, ◌||◌, not, List, arith}
+use Rattle.std.proofs.Common.{◌≡◌, ◌≤◌, ◌||◌, not, List, arith}
 use Rattle.bump_rules.specs.declared.history.Change.{Change}
 use Rattle.bump_rules.specs.declared.history.Change.TheVariants as change
 use Rattle.bump_rules.specs.declared.places.Segment.{Segment}

@@ -9,7 +9,7 @@ use Rattle.bump_rules.specs.declared.items.Head.{Head}
 use Rattle.bump_rules.specs.declared.lanes.Lane.TheVariants as lane
 use Rattle.bump_rules.specs.Tables.{is_cold, outcome_of}
 use Rattle.bump_rules.proofs.Counted.{how_many_push}
-use Rattle.bump_word.specs.Words.{word_of}
+use Rattle.bump_word.specs.Words.{word_of, Fits}
 use Rattle.bump_steps.specs.declared.views.ClassPart.{ClassPart}
 use Rattle.bump_steps.specs.declared.views.Kind.TheVariants as kind
 use Rattle.bump_steps.specs.declared.views.LanePart.{LanePart}
@@ -57,21 +57,34 @@ shown_on k l b TimeOnly c n is = omega (
 pub rests : (k : ClassPart) → k.applying ≡ None → class_at_rest k ≡ k
 rests k idle = λ i. record k { applying = sym idle i }
 
+-- The heads that the steps of an application found, each of which a word spells.
+pub record FittingHeads : Type 0 where
+  pub heads : FoundHeads
+  pub fit : AllFit heads
+
+-- of a step that wasn't made the first is told again, as of the look behind the end
+abbrev pub found_by : (tried cleared moved last : Head) → Fits tried → Fits cleared → Fits moved → Fits last
+    → FittingHeads
+found_by tried cleared moved last tried_fits cleared_fits moved_fits last_fits = record {
+  heads = record { tried = tried; cleared = cleared; moved = moved; last = last; behind = tried };
+  fit = record { tried = tried_fits; cleared = cleared_fits; moved = moved_fits; last = last_fits };
+}
+
 -- What the class's seat and the lane are once the bump has alighted, by what they were just before.
 module _ (v : ClassView) (o : Option LanePart) (l : LanePart) (b : Bump) (now : ℕ) (alone : v.lane ≡ None)
-    (carries : o ≡ Some (record l { stage = lane.Carrying b })) (out : Outcome) (f : FoundHeads) (fit : AllFit f)
-    (sight : FoundOfBump v.part (life_aboard o) f.tried) (table : out ≡ outcome_of f.tried f.cleared)
+    (carries : o ≡ Some (record l { stage = lane.Carrying b })) (out : Outcome) (found : FittingHeads)
+    (sight : FoundOfBump v.part (life_aboard o) found.heads.tried) (table : out ≡ outcome_of found.heads.tried found.heads.cleared)
     (w a : ClassView) (x : Option LanePart) (p : ClassPart) (m : LanePart)
     (is : w ≡ record { part = p; lane = Some m })
-    (part : class_at_rest p ≡ class_after_update out l.worker b now f v.part) (aboard : bump_aboard m.stage ≡ Some b)
-    (same : lane_after_alight out b.life.chunk (word_of f.last) m ≡ lane_after_update out b f
+    (part : class_at_rest p ≡ class_after_update out l.worker b now found.heads v.part) (aboard : bump_aboard m.stage ≡ Some b)
+    (same : lane_after_alight out b.life.chunk (word_of found.heads.last) m ≡ lane_after_update out b found.heads
     (record l { stage = lane.Carrying b }))
     (class : a ≡ record { part = class_at_rest w.part; lane = None })
-    (left : x ≡ option_map (lane_after_alight out (life_aboard w.lane).chunk (word_of f.last)) w.lane)
+    (left : x ≡ option_map (lane_after_alight out (life_aboard w.lane).chunk (word_of found.heads.last)) w.lane)
     (entry : IfSome w.lane (λ y. IfSome (bump_aboard y.stage) (λ d. IsShown a.part y d out)))
     (once : NamesNoBumpTwice a.part) (told : IfSome x (TellsMoves a.part)) where
   abbrev lane_left : LanePart
-  lane_left = lane_after_update out b f (record l { stage = lane.Carrying b })
+  lane_left = lane_after_update out b found.heads (record l { stage = lane.Carrying b })
 
   life_is : (life_aboard w.lane).chunk ≡ b.life.chunk
   life_is = ap (λ (y : ClassView). (life_aboard y.lane).chunk) is
@@ -79,32 +92,35 @@ module _ (v : ClassView) (o : Option LanePart) (l : LanePart) (b : Bump) (now : 
 
   left_is : x ≡ Some lane_left
   left_is = left
-      ∙ (λ i. option_map (lane_after_alight out (life_is i) (word_of f.last)) ((is i).lane))
+      ∙ (λ i. option_map (lane_after_alight out (life_is i) (word_of found.heads.last)) ((is i).lane))
       ∙ ap (λ (y : LanePart). Some y) same
 
   entry_is : IsShown a.part lane_left b out
   entry_is = subst (λ (y : LanePart). IsShown a.part y b out) same (shown_on a.part m b out b.life.chunk
-      (word_of f.last) (subst (λ (d : Option Bump). IfSome d (λ e. IsShown a.part m e out)) aboard
+      (word_of found.heads.last) (subst (λ (d : Option Bump). IfSome d (λ e. IsShown a.part m e out)) aboard
       (subst (λ (y : ClassView). IfSome y.lane (λ z. IfSome (bump_aboard z.stage) (λ d. IsShown a.part z d out))) is
       entry)))
 
   told_is : TellsMoves a.part lane_left
   told_is = subst (λ (y : Option LanePart). IfSome y (TellsMoves a.part)) left_is told
 
-  pub updates : (x ≡ Some (part_or x)) × Updates v (part_or o) b now out a (part_or x) f
+  pub updates : (x ≡ Some (part_or x)) × ((heads : FoundHeads) × Updates v (part_or o) b now out a (part_or x) heads)
   updates = (
     left_is ∙ sym (ap (λ (y : Option LanePart). Some (part_or y)) left_is),
-    subst (λ (y : Option LanePart). Updates v (part_or y) b now out a (part_or x) f) (sym carries)
-        (subst (λ (y : Option LanePart). Updates v (record l { stage = lane.Carrying b }) b now out a (part_or y) f)
-        (sym left_is) (record {
-          fit = fit;
-          sight = subst (λ (y : Option LanePart). FoundOfBump v.part (life_aboard y) f.tried) carries sight;
-          table = table;
-          class = class ∙ ap (λ (y : ClassView). record { part = class_at_rest y.part; lane = None }) is
-              ∙ (λ i. record { part = part i; lane = sym alone i });
-          lane = refl;
-          entry = entry_is;
-          once = once;
-          told = told_is;
-        })),
+    (
+      found.heads,
+      subst (λ (y : Option LanePart). Updates v (part_or y) b now out a (part_or x) found.heads) (sym carries)
+          (subst (λ (y : Option LanePart). Updates v (record l { stage = lane.Carrying b }) b now out a (part_or y) found.heads)
+          (sym left_is) (record {
+            fit = found.fit;
+            sight = subst (λ (y : Option LanePart). FoundOfBump v.part (life_aboard y) found.heads.tried) carries sight;
+            table = table;
+            class = class ∙ ap (λ (y : ClassView). record { part = class_at_rest y.part; lane = None }) is
+                ∙ (λ i. record { part = part i; lane = sym alone i });
+            lane = refl;
+            entry = entry_is;
+            once = once;
+            told = told_is;
+          })),
+    ),
   )

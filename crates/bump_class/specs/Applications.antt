@@ -1,5 +1,5 @@
 -- What applying the bump aboard a lane answers and leaves: the update table, by the heads that its steps found.
-use Rattle.std.specs.Prelude.{◌≡◌, ℕ, ◌<◌, List, [], ◌∷◌, ◌++◌, Some, slice_get, if◌then◌else◌}
+use Rattle.std.specs.Prelude.{◌≡◌, ℕ, ◌+◌, ◌<◌, List, [], ◌∷◌, ◌++◌, length, None, Some, slice_get, if◌then◌else◌}
 use Rattle.bump_rules.specs.declared.bumps.Applied.{Applied}
 use Rattle.bump_rules.specs.declared.bumps.Applied.TheVariants as applied
 use Rattle.bump_rules.specs.declared.bumps.Bump.{Bump}
@@ -33,7 +33,7 @@ use Rattle.bump_heads.specs.Applying.{IsShown, FoundOfBump, NamesNoBumpTwice, Te
 use Rattle.bump_heads.specs.Linking.{place_of_chunk}
 use Rattle.bump_class.specs.Books.{BookView}
 use Rattle.bump_class.specs.Changes.{book_after_sweep_or_load}
-use Rattle.bump_class.specs.Lanes.{LaneView, carries}
+use Rattle.bump_class.specs.Lanes.{LaneView, carries, entries}
 
 -- The heads that the steps of one application found. Of a step that wasn't made it says nothing.
 pub record FoundHeads : Type 0 where
@@ -161,3 +161,24 @@ abbrev pub EachMoveIsTold : ClassPart → LanePart → Type 0
 EachMoveIsTold class this_lane = (item : ItemId) (number : ℕ)
     → 0 < how_many (is_move_for (is_same item) this_lane.worker number) class.history
     → slice_get this_lane.applied number ≡ Some (applied_bump (bump_of number item) outcome.Moved)
+
+-- What the application of the bump aboard a lane comes to, on its class's Book and on the lane.
+pub record AppliesBump (now : ℕ) (book : BookView) (from : LaneView) (answer : Applied) (left : BookView)
+    (to : LaneView) : Type 0 where
+  -- it is done and told by the update table
+  pub front : AppliesFront now book from answer left to
+  -- the lane drains the same ring
+  pub ring : to.ring ≡ from.ring
+  -- and knows the same bumps of it
+  pub known : to.known ≡ from.known
+  -- nothing is aboard
+  pub empty : carries to ≡ None
+  -- the lane has one entry more
+  pub count : length (entries to) ≡ length (entries from) + 1
+  -- the Book is of the same class, which has the same chunks
+  pub class : (left.part.class ≡ book.part.class) × (left.part.first ≡ book.part.first)
+      × (left.part.count ≡ book.part.count)
+  -- no bump is named twice by the class's history
+  pub once : NamesNoBumpTwice left.part
+  -- each move that it has for a bump of the lane's worker is this lane's entry
+  pub told : EachMoveIsTold left.part to.part

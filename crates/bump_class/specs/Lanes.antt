@@ -1,5 +1,6 @@
 -- What contracts see of a lane: the ring that it drains, and its part. And what every lane keeps.
-use Rattle.std.specs.Prelude.{◌≡◌, ℕ, ◌<◌, ◌++◌, List, [], ◌∷◌, length, map, Option, Some, None, IfSome, Bool, true, false}
+use Rattle.std.specs.Prelude.{◌≡◌, ℕ, ◌<◌, ◌≤◌, ◌↔◌, ◌++◌, List, [], ◌∷◌, length, map, Option, Some, None}
+use Rattle.std.specs.Prelude.{IsNone, IfSome, IfNone, Bool, true, false}
 use Rattle.bump_rules.specs.declared.bumps.AppliedBump.{AppliedBump}
 use Rattle.bump_rules.specs.declared.bumps.Bump.{Bump}
 use Rattle.bump_rules.specs.declared.items.ItemId.{ItemId}
@@ -9,7 +10,7 @@ use Rattle.bump_steps.specs.declared.views.LanePart.{LanePart}
 use Rattle.bump_steps.specs.declared.views.Ride.{Ride}
 use Rattle.bump_steps.specs.Riders.{lane_after_board, bump_of_ride}
 use Rattle.bump_heads.specs.Seats.{no_lane, most_workers}
-use Rattle.bump_ring.specs.Ends.{Ring}
+use Rattle.bump_ring.specs.Ends.{Ring, ClosedView}
 
 -- What contracts see of a lane.
 pub record LaneView : Type 0 where
@@ -82,3 +83,34 @@ pub record Boards (before : LaneView) (bump : Bump) (after : LaneView) (ride : R
     known = after.known;
     part = lane_after_board bump before.part;
   }
+
+-- What a lane tells and leaves that is to have its next bump aboard.
+pub record TellsAboard (before : LaneView) (answer : Option Bump) (after : LaneView) : Type 0 where
+  -- it drains the same ring
+  pub ring : after.ring ≡ before.ring
+  -- and has the same entries
+  pub kept : entries after ≡ entries before
+  -- what is aboard is told
+  pub told : carries after ≡ answer
+  -- where nothing is, no bump is known
+  pub none : IfNone answer (before.known ≡ [])
+  -- and nothing is changed
+  pub unchanged : IfNone answer (after ≡ before)
+
+-- What a lane tells and leaves that is asked how many bumps are left, by the closed sender of its ring.
+pub record TellsLeft (sender : ClosedView) (before : LaneView) (answer : Option ℕ) (sender_after : ClosedView)
+    (after : LaneView) : Type 0 where
+  -- the sender stays
+  pub closed : sender_after ≡ sender
+  -- the lane knows of more bumps, and nothing else is changed
+  pub lane : after ≡ record before { known = after.known }
+  -- so many are known
+  pub number : IfSome answer (λ left. left ≡ length after.known)
+  -- all that was sent is what was received, and what is known
+  pub rest : IfSome answer (λ left. sender.sent ≡ after.received ++ after.known)
+  -- they are not more than the ring has room for
+  pub few : IfSome answer (λ left. left ≤ sender.capacity)
+  -- none is told exactly where the sender can't show the ring's end
+  pub none : IsNone answer ↔ (sender.shows_end ≡ false)
+  -- and nothing is changed then
+  pub unchanged : IfNone answer (after ≡ before)

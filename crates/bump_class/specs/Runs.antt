@@ -1,5 +1,7 @@
 -- What a run of applications comes to: the bump aboard, and the next ones of its class, one after the other.
-use Rattle.std.specs.Prelude.{◌≡◌, ℕ, zero, suc, ◌<◌, Option, None, Some, IfSome, List, [], ◌∷◌, ◌++◌, length, slice_set, true, false}
+use Rattle.std.specs.Prelude.{◌≡◌, ℕ, zero, suc, ◌+◌, ◌<◌, ◌≤◌, Option, None, Some, IfSome, List, [], ◌∷◌, ◌++◌, length}
+use Rattle.std.specs.Prelude.{slice_set, true, false}
+use mathlib.Core.List.{IsPrefix}
 use Rattle.bump_rules.specs.declared.bumps.Applied.{Applied}
 use Rattle.bump_rules.specs.declared.bumps.Applied.TheVariants as applied
 use Rattle.bump_rules.specs.declared.bumps.Ended.TheVariants as ended
@@ -9,7 +11,7 @@ use Rattle.bump_steps.specs.Views.{owns}
 use Rattle.bump_heads.specs.Applying.{NamesNoBumpTwice}
 use Rattle.bump_class.specs.Applications.{AppliesFront, EachMoveIsTold}
 use Rattle.bump_class.specs.Books.{BookView}
-use Rattle.bump_class.specs.Lanes.{LaneView, carries, Boards}
+use Rattle.bump_class.specs.Lanes.{LaneView, carries, entries, Boards}
 
 -- One application of a run: the bump aboard is of the class, and what is done and told is what the application of a
 -- single bump tells.
@@ -36,6 +38,31 @@ AppliesRun now book from (suc count) left to = (between : BookView) × (last : L
 abbrev pub MayHaveBoarded : Option Bump → LaneView → LaneView → Type 0
 MayHaveBoarded None last to = to ≡ last
 MayHaveBoarded (Some bump) last to = (ride : Ride) × Boards last bump to ride
+
+-- What a run comes to that may apply so many bumps, on its class's Book and on the lane.
+pub record AppliesUpTo (limit now : ℕ) (book : BookView) (from : LaneView) (done : ℕ) (left : BookView)
+    (to : LaneView) : Type 0 where
+  -- so many were applied in order, and behind the last one the next may have gone aboard
+  pub run : (last : LaneView) × AppliesRun now book from done left last × MayHaveBoarded (carries to) last to
+  -- they are not none
+  pub some : 1 ≤ done
+  -- nor more than it may apply
+  pub most : done ≤ limit
+  -- at the limit nothing is aboard
+  pub empty : done ≡ limit → carries to ≡ None
+  -- the lane drains the same ring
+  pub ring : to.ring ≡ from.ring
+  -- and has so many entries more
+  pub count : length (entries to) ≡ length (entries from) + done
+  -- behind those that it had
+  pub grown : IsPrefix (entries from) (entries to)
+  -- the Book is of the same class, which has the same chunks
+  pub class : (left.part.class ≡ book.part.class) × (left.part.first ≡ book.part.first)
+      × (left.part.count ≡ book.part.count)
+  -- no bump is named twice by the class's history
+  pub once : NamesNoBumpTwice left.part
+  -- each move that it has for a bump of the lane's worker is this lane's entry
+  pub told : EachMoveIsTold left.part to.part
 
 -- Why a run ended before its limit: no bump is aboard or known, or the bump aboard is of another class.
 abbrev pub IsRunOver : Option Bump → BookView → LaneView → Type 0

@@ -1,12 +1,12 @@
 //! The bump aboard a lane is applied.
-ghost use Rattle.std.specs.Prelude.{◌≡◌, ◌==◌, ◌<◌, ℕ, ◌+◌, length, slice_index, None, Some, IsSome, IfSome, true};
+ghost use Rattle.std.specs.Prelude.{◌≡◌, ◌==◌, ◌<◌, ℕ, ◌+◌, slice_index, None, Some, IsSome, IfSome, true};
 ghost use Rattle.bump_rules.specs.Lawful.{bit};
 ghost use Rattle.bump_rules.specs.Rings.{most_attempts};
 ghost use Rattle.bump_steps.specs.Views.{owns};
 ghost use Rattle.bump_heads.specs.Seats.{most_workers};
-ghost use Rattle.bump_heads.specs.Applying.{carried_by, NamesNoBumpTwice};
-ghost use Rattle.bump_class.specs.Applications.{FoundHeads as TheFoundHeads, Updates, AppliesFront, EachMoveIsTold};
-ghost use Rattle.bump_class.specs.Lanes.{carries, entries, part_or};
+ghost use Rattle.bump_heads.specs.Applying.{carried_by};
+ghost use Rattle.bump_class.specs.Applications.{FoundHeads as TheFoundHeads, Updates, AppliesBump};
+ghost use Rattle.bump_class.specs.Lanes.{carries, part_or};
 
 use crate::books::Book;
 use crate::carriers::Carrier;
@@ -75,18 +75,7 @@ impl<N: Name, L: RowLaw> Book<N, L> {
     pub fn apply_front(&mut self, lane: &mut RawLane<N, L>, now: u64) -> Applied
         requires carries { IsSome (carries lane.old) }
         requires own { IfSome (carries lane.old) (λ bump. owns bump.life.chunk self.old.part ≡ true) }
-        ensures applied { AppliesFront now self.old lane.old result self.new lane.new }
-        ensures ring { lane.new.ring ≡ lane.old.ring }
-        ensures known { lane.new.known ≡ lane.old.known }
-        ensures empty { carries lane.new ≡ None }
-        ensures count { length (entries lane.new) ≡ length (entries lane.old) + 1 }
-        ensures class { (self.new.part.class ≡ self.old.part.class) × (self.new.part.first ≡ self.old.part.first)
-            × (self.new.part.count ≡ self.old.part.count) }
-
-        // No bump is named twice by the class's history, and each move that it has for a bump of the lane's worker is
-        // this lane's entry.
-        ensures once { NamesNoBumpTwice self.new.part }
-        ensures told { EachMoveIsTold self.new.part lane.new.part }
+        ensures applied { AppliesBump now self.old lane.old result self.new lane.new }
     {
         let bump = Bump {
             number: lane.carrier.applied(),
@@ -101,15 +90,7 @@ impl<N: Name, L: RowLaw> Book<N, L> {
     pub(crate) fn apply_bump(&mut self, lane: &mut Carrier<N, L>, bump: Bump, now: u64) -> Applied
         requires carries { carries lane.old ≡ Some bump }
         requires own { owns bump.life.chunk self.old.part ≡ true }
-        ensures applied { AppliesFront now self.old lane.old result self.new lane.new }
-        ensures ring { lane.new.ring ≡ lane.old.ring }
-        ensures known { lane.new.known ≡ lane.old.known }
-        ensures empty { carries lane.new ≡ None }
-        ensures count { length (entries lane.new) ≡ length (entries lane.old) + 1 }
-        ensures class { (self.new.part.class ≡ self.old.part.class) × (self.new.part.first ≡ self.old.part.first)
-            × (self.new.part.count ≡ self.old.part.count) }
-        ensures once { NamesNoBumpTwice self.new.part }
-        ensures told { EachMoveIsTold self.new.part lane.new.part }
+        ensures applied { AppliesBump now self.old lane.old result self.new lane.new }
     {
         let chunk = bump.life.chunk;
         let outcome = update(&mut self.seat, &mut lane.seat, bump, now);

@@ -1,12 +1,12 @@
 //! A lane but for the bump aboard: who applies bumps has that one in his hand.
-ghost use Rattle.std.specs.Prelude.{◌≡◌, ◌≤◌, ◌↔◌, [], ◌++◌, length, None, Some, IsSome, IsNone, IfSome, IfNone, false};
+ghost use Rattle.std.specs.Prelude.{◌≡◌, [], length, None, Some, IsSome, IfSome};
 ghost use Rattle.bump_rules.specs.declared.lanes.Lane.TheVariants.{Empty as IsEmpty};
 ghost use Rattle.bump_steps.specs.declared.views.Ride.{Ride as TheRide};
 ghost use Rattle.bump_steps.specs.Meetings.{class_after_meet};
 ghost use Rattle.bump_steps.specs.Riders.{applied_by};
 ghost use Rattle.bump_heads.specs.Applying.{stage_of, NamesNoBumpTwice, TellsMoves};
 ghost use Rattle.bump_class.specs.Lanes.{LaneView as TheLaneView, carries, entries, part_or, IsRawLane, KeepsLane};
-ghost use Rattle.bump_class.specs.Lanes.{new_lane, Boards};
+ghost use Rattle.bump_class.specs.Lanes.{new_lane, Boards, TellsAboard, TellsLeft};
 
 use bump_heads::{ClassSeat, LaneSeat, Name};
 use bump_ring::{ClosedSender, Receiver};
@@ -76,13 +76,9 @@ impl<N: Name, L: RowLaw> Carrier<N, L> {
     #[inline(always)]
     pub fn take(&mut self) -> Option<Bump>
         requires idle { carries self.old ≡ None }
-        ensures ring { self.new.ring ≡ self.old.ring }
-        ensures entries { entries self.new ≡ entries self.old }
-        ensures aboard { carries self.new ≡ result }
+        ensures aboard { TellsAboard self.old result self.new }
         ensures next { IfSome result (λ bump. (ride : TheRide) × Boards self.old bump self.new ride) }
-        ensures none { IfNone result (self.old.known ≡ []) }
         ensures number { IfSome result (λ bump. bump.number ≡ length (entries self.old)) }
-        ensures unchanged { IfNone result (self.new ≡ self.old) }
     {
         let rider = self.receiver.take()?;
         rider.promise();
@@ -108,13 +104,7 @@ impl<N: Name, L: RowLaw> Carrier<N, L> {
 
     pub fn rest(&mut self, closed: &mut ClosedSender<N>) -> Option<u64>
         requires ring { closed.old.ring ≡ self.old.ring }
-        ensures closed { closed.new ≡ closed.old }
-        ensures lane { self.new ≡ record self.old { known = self.new.known } }
-        ensures number { IfSome result (λ left. left ≡ length self.new.known) }
-        ensures rest { IfSome result (λ left. closed.old.sent ≡ self.new.received ++ self.new.known) }
-        ensures few { IfSome result (λ left. left ≤ closed.old.capacity) }
-        ensures none { IsNone result ↔ (closed.old.shows_end ≡ false) }
-        ensures unchanged { IfNone result (self.new ≡ self.old) }
+        ensures left { TellsLeft closed.old self.old result closed.new self.new }
     {
         self.receiver.rest(closed)
     }

@@ -1,11 +1,11 @@
 //! A lane: the receiving end of a worker's ring, and the seat that applies what comes.
-ghost use Rattle.std.specs.Prelude.{◌≡◌, ◌≤◌, ◌↔◌, length, [], ◌++◌, None, IsSome, IsNone, IfSome, IfNone, false};
+ghost use Rattle.std.specs.Prelude.{◌≡◌, length, [], None, IsSome, IfSome};
 ghost use Rattle.bump_rules.specs.declared.lanes.Lane.TheVariants.{Empty as IsEmpty};
 ghost use Rattle.bump_steps.specs.declared.views.Ride.{Ride as TheRide};
 ghost use Rattle.bump_steps.specs.Riders.{applied_by};
 ghost use Rattle.bump_heads.specs.Applying.{stage_of};
 ghost use Rattle.bump_class.specs.Lanes.{LaneView as TheLaneView, carries, entries, part_or, IsRawLane, kept_aboard};
-ghost use Rattle.bump_class.specs.Lanes.{new_lane, Boards};
+ghost use Rattle.bump_class.specs.Lanes.{new_lane, Boards, TellsAboard, TellsLeft};
 
 use crate::carriers::Carrier;
 use bump_heads::{LaneSeat, Name};
@@ -79,14 +79,10 @@ impl<N: Name, L: RowLaw> RawLane<N, L> {
     /// None only where none is aboard or known, and nothing is changed then.
     #[inline(always)]
     pub fn fetch(&mut self) -> Option<Bump>
-        ensures ring { self.new.ring ≡ self.old.ring }
-        ensures entries { entries self.new ≡ entries self.old }
-        ensures aboard { carries self.new ≡ result }
+        ensures aboard { TellsAboard self.old result self.new }
         ensures kept { IsSome (carries self.old) → self.new ≡ self.old }
         ensures next { IfSome result (λ bump. carries self.old ≡ None → (ride : TheRide)
             × Boards self.old bump self.new ride) }
-        ensures none { IfNone result (self.old.known ≡ []) }
-        ensures unchanged { IfNone result (self.new ≡ self.old) }
     {
         if self.is_aboard {
             return Some(Bump {
@@ -102,12 +98,8 @@ impl<N: Name, L: RowLaw> RawLane<N, L> {
     #[inline(always)]
     pub fn take(&mut self) -> Option<Bump>
         requires idle { carries self.old ≡ None }
-        ensures ring { self.new.ring ≡ self.old.ring }
-        ensures entries { entries self.new ≡ entries self.old }
-        ensures aboard { carries self.new ≡ result }
+        ensures aboard { TellsAboard self.old result self.new }
         ensures next { IfSome result (λ bump. (ride : TheRide) × Boards self.old bump self.new ride) }
-        ensures none { IfNone result (self.old.known ≡ []) }
-        ensures unchanged { IfNone result (self.new ≡ self.old) }
     {
         let bump = self.carrier.take()?;
         self.is_aboard = true;
@@ -120,13 +112,7 @@ impl<N: Name, L: RowLaw> RawLane<N, L> {
     /// closed sender can't show the ring's end, and nothing is changed then.
     pub fn rest(&mut self, closed: &mut ClosedSender<N>) -> Option<u64>
         requires ring { closed.old.ring ≡ self.old.ring }
-        ensures closed { closed.new ≡ closed.old }
-        ensures lane { self.new ≡ record self.old { known = self.new.known } }
-        ensures number { IfSome result (λ left. left ≡ length self.new.known) }
-        ensures rest { IfSome result (λ left. closed.old.sent ≡ self.new.received ++ self.new.known) }
-        ensures few { IfSome result (λ left. left ≤ closed.old.capacity) }
-        ensures none { IsNone result ↔ (closed.old.shows_end ≡ false) }
-        ensures unchanged { IfNone result (self.new ≡ self.old) }
+        ensures left { TellsLeft closed.old self.old result closed.new self.new }
     {
         self.carrier.rest(closed)
     }

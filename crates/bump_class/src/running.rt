@@ -1,12 +1,9 @@
 //! A run of bumps of one class is applied by one call.
 ghost use Rattle.std.specs.Prelude.{◌≡◌, ◌≢◌, ℕ, ◌+◌, ◌-◌, ◌^◌, ◌≤◌, ◌<◌, List as TheList, length, slice_set};
 ghost use Rattle.std.specs.Prelude.{T, None, Some, IsSome, IfSome, true, false};
-ghost use mathlib.Core.List.{IsPrefix};
 ghost use Rattle.bump_steps.specs.Views.{owns};
-ghost use Rattle.bump_heads.specs.Applying.{NamesNoBumpTwice};
-ghost use Rattle.bump_class.specs.Applications.{EachMoveIsTold};
 ghost use Rattle.bump_class.specs.Lanes.{LaneView as TheLaneView, carries, entries};
-ghost use Rattle.bump_class.specs.Runs.{AppliesRun, FreesRun, MayHaveBoarded, IsRunOver, freed_alone, with_freed};
+ghost use Rattle.bump_class.specs.Runs.{AppliesUpTo, FreesRun, MayHaveBoarded, IsRunOver, freed_alone, with_freed};
 ghost use Rattle.bump_class.specs.Sweeps.{told_first};
 
 use crate::books::Book;
@@ -61,22 +58,8 @@ impl<N: Name, L: RowLaw> Book<N, L> {
         requires carries { IsSome (carries lane.old) }
         requires own { IfSome (carries lane.old) (λ bump. owns bump.life.chunk self.old.part ≡ true) }
         requires some { 1 ≤ limit }
-        ensures applied { (last : TheLaneView) × AppliesRun now self.old lane.old result self.new last
-            × MayHaveBoarded (carries lane.new) last lane.new }
-        ensures some { 1 ≤ result }
-        ensures most { result ≤ limit }
+        ensures applied { AppliesUpTo limit now self.old lane.old result self.new lane.new }
         ensures over { result < limit → IsRunOver (carries lane.new) self.new lane.new }
-        ensures empty { result ≡ limit → carries lane.new ≡ None }
-        ensures ring { lane.new.ring ≡ lane.old.ring }
-        ensures count { length (entries lane.new) ≡ length (entries lane.old) + result }
-        ensures grown { IsPrefix (entries lane.old) (entries lane.new) }
-        ensures class { (self.new.part.class ≡ self.old.part.class) × (self.new.part.first ≡ self.old.part.first)
-            × (self.new.part.count ≡ self.old.part.count) }
-
-        // No bump is named twice by the class's history, and each move that it has for a bump of the lane's worker is
-        // this lane's entry.
-        ensures once { NamesNoBumpTwice self.new.part }
-        ensures told { EachMoveIsTold self.new.part lane.new.part }
     {
         let first = Bump {
             number: lane.carrier.applied(),
@@ -105,24 +88,15 @@ impl<N: Name, L: RowLaw> Book<N, L> {
         requires own { IfSome (carries lane.old) (λ bump. owns bump.life.chunk self.old.part ≡ true) }
         requires some { 1 ≤ limit }
         requires room { 1 ≤ length freed.old }
-        ensures applied { (last : TheLaneView) × (chunks : TheList ℕ)
+        ensures applied { AppliesUpTo limit now self.old lane.old result.applied self.new lane.new }
+        ensures freed { (last : TheLaneView) × (chunks : TheList ℕ)
             × FreesRun now (length freed.old) self.old lane.old result.applied chunks self.new last
             × MayHaveBoarded (carries lane.new) last lane.new
             × (freed.new ≡ told_first chunks freed.old) × (result.freed ≡ length chunks) }
-        ensures some { 1 ≤ result.applied }
-        ensures most { result.applied ≤ limit }
         ensures few { result.freed ≤ length freed.old }
         ensures over { result.applied < limit → result.freed < length freed.old
             → IsRunOver (carries lane.new) self.new lane.new }
-        ensures empty { result.applied ≡ limit → carries lane.new ≡ None }
         ensures full { result.freed ≡ length freed.old → carries lane.new ≡ None }
-        ensures ring { lane.new.ring ≡ lane.old.ring }
-        ensures count { length (entries lane.new) ≡ length (entries lane.old) + result.applied }
-        ensures grown { IsPrefix (entries lane.old) (entries lane.new) }
-        ensures class { (self.new.part.class ≡ self.old.part.class) × (self.new.part.first ≡ self.old.part.first)
-            × (self.new.part.count ≡ self.old.part.count) }
-        ensures once { NamesNoBumpTwice self.new.part }
-        ensures told { EachMoveIsTold self.new.part lane.new.part }
     {
         let first = Bump {
             number: lane.carrier.applied(),
@@ -151,28 +125,17 @@ impl<N: Name, L: RowLaw> Book<N, L> {
         requires carries { carries lane.old ≡ Some first }
         requires own { owns first.life.chunk self.old.part ≡ true }
         requires some { 1 ≤ limit }
-        ensures applied { (last : TheLaneView) × AppliesRun now self.old lane.old result.0.applied self.new last
-            × MayHaveBoarded (carries lane.new) last lane.new }
+        ensures applied { AppliesUpTo limit now self.old lane.old result.0.applied self.new lane.new }
         ensures freed { (last : TheLaneView) × (chunks : TheList ℕ)
             × FreesRun now (length freed.old) self.old lane.old result.0.applied chunks self.new last
             × MayHaveBoarded (carries lane.new) last lane.new
             × (0 < length freed.old → (freed.new ≡ told_first chunks freed.old)
             × (result.0.freed ≡ length chunks) × (result.0.freed ≤ length freed.old)) }
-        ensures some { 1 ≤ result.0.applied }
-        ensures most { result.0.applied ≤ limit }
         ensures over { result.0.applied < limit → (0 < length freed.old → result.0.freed < length freed.old)
             → IsRunOver (carries lane.new) self.new lane.new }
-        ensures empty { result.0.applied ≡ limit → carries lane.new ≡ None }
         ensures full { 0 < length freed.old → result.0.freed ≡ length freed.old → carries lane.new ≡ None }
         ensures aboard { carries lane.new ≡ result.1 }
         ensures number { IfSome result.1 (λ bump. bump.number ≡ length (entries lane.new)) }
-        ensures ring { lane.new.ring ≡ lane.old.ring }
-        ensures count { length (entries lane.new) ≡ length (entries lane.old) + result.0.applied }
-        ensures grown { IsPrefix (entries lane.old) (entries lane.new) }
-        ensures class { (self.new.part.class ≡ self.old.part.class) × (self.new.part.first ≡ self.old.part.first)
-            × (self.new.part.count ≡ self.old.part.count) }
-        ensures once { NamesNoBumpTwice self.new.part }
-        ensures told { EachMoveIsTold self.new.part lane.new.part }
     {
         let mut bump = first;
         let mut done = 0;

@@ -4,8 +4,8 @@ use Rattle.bump_rules.specs.declared.bumps.Outcome.TheVariants.{Moved, TimeOnly,
 use Rattle.bump_rules.specs.declared.places.Segment.TheVariants.{Cold}
 use Rattle.bump_rules.specs.Tables.{is_cold}
 use Rattle.bump_heads.proofs.Endings as on
-use Rattle.bump_class.specs.Applications.{FoundHeads, AllFit, with_time, with_clearing, with_move}
-use Rattle.bump_class.proofs.UpdateLemmas.{not_cold, gone_by, elsewhere_by, clear_by, moved_by, rests, updates}
+use Rattle.bump_class.specs.Applications.{with_time, with_clearing, with_move}
+use Rattle.bump_class.proofs.UpdateLemmas.{not_cold, gone_by, elsewhere_by, clear_by, moved_by, rests, FittingHeads, found_by, updates}
 use Rattle.bump_class.proofs.applications.update.Goals as goal
 use Rattle.bump_class.proofs.applications.update.Goals.{in-Cold, in_default}
 
@@ -66,25 +66,13 @@ returns-then-not-tried g c =
     let a = c.alight in
     let v = c.args.class.now in
     let o = c.args.lane.now in
-    let f : FoundHeads = record {
-      tried = t.result;
-      cleared = t.result;
-      moved = t.result;
-      last = a.result;
-      behind = t.result;
-    } in
-    let fit : AllFit f = record {
-      tried = t.ensures.fits;
-      cleared = t.ensures.fits;
-      moved = t.ensures.fits;
-      last = a.ensures.fits;
-    } in
+    let found : FittingHeads = found_by t.result t.result t.result a.result t.ensures.fits t.ensures.fits t.ensures.fits a.ensures.fits in
     let is = on.tried_is v t.new.self o m.0 b b.life.chunk t.result m.1 refl t.ensures.tried t.ensures.found
     t.ensures.fits c.requires.own in
-    let all = updates v o m.0 b c.args.now c.requires.alone m.1 Gone f fit t.ensures.found
+    let all = updates v o m.0 b c.args.now c.requires.alone m.1 Gone found t.ensures.found
     (sym (gone_by t.result t.result c.if-not-tried.true)) t.new.self a.new.self a.new.lane _ _ is
     (rests v.part c.requires.idle) refl refl a.ensures.class a.ensures.lane a.ensures.entry a.ensures.once a.ensures.moves in
-    record { whole = all.0; updates = (f, all.1) }
+    record { whole = all.0; updates = all.1 }
 
 pub returns-then-not-matches : goal.returns-then-not-matches
 returns-then-not-matches g c =
@@ -94,19 +82,7 @@ returns-then-not-matches g c =
     let a = c.alight-then-not-matches in
     let v = c.args.class.now in
     let o = c.args.lane.now in
-    let f : FoundHeads = record {
-      tried = t.result;
-      cleared = t.result;
-      moved = t.result;
-      last = a.result;
-      behind = t.result;
-    } in
-    let fit : AllFit f = record {
-      tried = t.ensures.fits;
-      cleared = t.ensures.fits;
-      moved = t.ensures.fits;
-      last = a.ensures.fits;
-    } in
+    let found : FittingHeads = found_by t.result t.result t.result a.result t.ensures.fits t.ensures.fits t.ensures.fits a.ensures.fits in
     let other : t.result.segment ≢ Cold = elim c.match-matches.branch [
       | in-Cold w ↦ (λ e. false≢true (sym c.if-not-matches.true ∙ w.matches-is))
       | in_default w ↦ w.in_default.not-Cold
@@ -117,10 +93,10 @@ returns-then-not-matches g c =
     t.ensures.fits c.requires.own c.args.now p.new.self p.ensures.timed in
     let timed = with_time m.0.worker b c.args.now v.part in
     let part = sym (ap (λ (x : Bool). if x then with_clearing m.0.worker b t.result timed else timed) elsewhere) in
-    let all = updates v o m.0 b c.args.now c.requires.alone m.1 TimeOnly f fit t.ensures.found
+    let all = updates v o m.0 b c.args.now c.requires.alone m.1 TimeOnly found t.ensures.found
     (sym (elsewhere_by t.result t.result c.if-not-tried.false elsewhere)) p.new.self a.new.self a.new.lane _ _ is
     (rests timed c.requires.idle ∙ part) refl refl a.ensures.class a.ensures.lane a.ensures.entry a.ensures.once a.ensures.moves in
-    record { whole = all.0; updates = (f, all.1) }
+    record { whole = all.0; updates = all.1 }
 
 pub returns-then-not-cleared : goal.returns-then-not-cleared
 returns-then-not-cleared g c =
@@ -131,19 +107,7 @@ returns-then-not-cleared g c =
     let a = c.alight-then-not-cleared in
     let v = c.args.class.now in
     let o = c.args.lane.now in
-    let f : FoundHeads = record {
-      tried = t.result;
-      cleared = d.result;
-      moved = t.result;
-      last = a.result;
-      behind = t.result;
-    } in
-    let fit : AllFit f = record {
-      tried = t.ensures.fits;
-      cleared = d.ensures.fits;
-      moved = t.ensures.fits;
-      last = a.ensures.fits;
-    } in
+    let found : FittingHeads = found_by t.result d.result t.result a.result t.ensures.fits d.ensures.fits t.ensures.fits a.ensures.fits in
     let cold : is_cold t.result.segment ≡ true = ap is_cold (elim c.match-matches.branch [
       | in-Cold w ↦ w.in-Cold.is
       | in_default w ↦ absurd (false≢true (sym w.matches-is ∙ c.if-not-matches.false))
@@ -153,11 +117,11 @@ returns-then-not-cleared g c =
     t.ensures.fits c.requires.own c.args.now p.new.self p.ensures.timed d.result d.new.self d.ensures.cleared in
     let timed = with_time m.0.worker b c.args.now v.part in
     let part = sym (ap (λ (x : Bool). if x then with_clearing m.0.worker b d.result timed else timed) cold) in
-    let all = updates v o m.0 b c.args.now c.requires.alone m.1 TimeOnly f fit t.ensures.found
+    let all = updates v o m.0 b c.args.now c.requires.alone m.1 TimeOnly found t.ensures.found
     (sym (clear_by t.result d.result c.if-not-tried.false cold c.if-not-cleared.true)) d.new.self a.new.self
     a.new.lane _ _ is (rests (with_clearing m.0.worker b d.result timed) c.requires.idle ∙ part) refl refl a.ensures.class a.ensures.lane a.ensures.entry a.ensures.once
     a.ensures.moves in
-    record { whole = all.0; updates = (f, all.1) }
+    record { whole = all.0; updates = all.1 }
 
 pub returns : goal.returns
 returns g c =
@@ -169,19 +133,7 @@ returns g c =
     let a = c.alight-2 in
     let v = c.args.class.now in
     let o = c.args.lane.now in
-    let f : FoundHeads = record {
-      tried = t.result;
-      cleared = d.result;
-      moved = s.result;
-      last = a.result;
-      behind = t.result;
-    } in
-    let fit : AllFit f = record {
-      tried = t.ensures.fits;
-      cleared = d.ensures.fits;
-      moved = s.ensures.fits;
-      last = a.ensures.fits;
-    } in
+    let found : FittingHeads = found_by t.result d.result s.result a.result t.ensures.fits d.ensures.fits s.ensures.fits a.ensures.fits in
     let cold : is_cold t.result.segment ≡ true = ap is_cold (elim c.match-matches.branch [
       | in-Cold w ↦ w.in-Cold.is
       | in_default w ↦ absurd (false≢true (sym w.matches-is ∙ c.if-not-matches.false))
@@ -190,9 +142,9 @@ returns g c =
     let is = on.moved_is v t.new.self o m.0 b b.life.chunk t.result m.1 refl t.ensures.tried t.ensures.found
     t.ensures.fits c.requires.own c.args.now p.new.self p.ensures.timed d.result d.new.self d.ensures.cleared s.result
     s.new.self s.ensures.moved in
-    let all = updates v o m.0 b c.args.now c.requires.alone m.1 Moved f fit t.ensures.found
+    let all = updates v o m.0 b c.args.now c.requires.alone m.1 Moved found t.ensures.found
     (sym (moved_by t.result d.result c.if-not-tried.false cold c.if-not-cleared.false)) s.new.self a.new.self
     a.new.lane _ _ is (rests (with_move m.0.worker b s.result (with_clearing m.0.worker b d.result
     (with_time m.0.worker b c.args.now v.part))) c.requires.idle) refl refl a.ensures.class a.ensures.lane a.ensures.entry a.ensures.once
     a.ensures.moves in
-    record { whole = all.0; updates = (f, all.1) }
+    record { whole = all.0; updates = all.1 }

@@ -8,16 +8,17 @@ use Rattle.bump_heads.specs.declared.views.ClassView.{ClassView}
 use Rattle.bump_heads.specs.Applying.{IsShown, NamesNoBumpTwice, TellsMoves}
 use Rattle.bump_heads.specs.Linking.{place_of_chunk}
 use Rattle.bump_heads.specs.Seats.{most_workers}
+use Rattle.bump_class.specs.Applications.{AppliesFront}
 use Rattle.bump_class.specs.Books.{BookView}
 use Rattle.bump_class.specs.Changes.{book_after_sweep_or_load}
-use Rattle.bump_class.specs.Lanes.{part_or, carries}
+use Rattle.bump_class.specs.Lanes.{LaneView, part_or, carries}
 use Rattle.bump_steps.specs.Views.{owns}
 use Rattle.bump_rules.specs.Entries.{moves_of}
 use Rattle.bump_rules.specs.Lawful.{bit}
 use Rattle.bump_class.proofs.Keeping.{listed, entered_with}
 use Rattle.bump_class.proofs.MoveLemmas.{counts_bump, few_before}
 use Rattle.bump_class.proofs.LaneLemmas.{few_aboard, applied_keeps, carried_part, carried_seat, each_told}
-use Rattle.bump_class.proofs.ApplicationLemmas.{gone_dies, shown_behind, once_behind, told_behind, fronts, time_only_keeps, IsSameClass, same_class}
+use Rattle.bump_class.proofs.ApplicationLemmas.{gone_dies, shown_behind, once_behind, told_behind, fronts, time_only_keeps, bump_applied}
 use Rattle.bump_class.proofs.books.Book.apply_bump.Goals as goal
 use Rattle.bump_class.proofs.books.Book.apply_bump.Goals.{in-Moved, in-TimeOnly, in-Gone}
 
@@ -123,8 +124,8 @@ invariant_of-lane g c =
     c.update-outcome.result u.0 c.lane.invariant (carried_seat y.seat y.worker y.applied y.receiver.received c.args.bump c.lane.invariant (ap carries c.lane.view_is ∙ c.requires.carries))
     c.update-outcome.ensures.whole u.1.lane
 
-pub returns-clause-applied : goal.returns-clause-applied
-returns-clause-applied g c =
+pub returns : goal.returns
+returns g c =
     let i = c.self.inside in
     let y = c.lane.inside in
     let b = c.args.bump in
@@ -133,18 +134,17 @@ returns-clause-applied g c =
     let after = c.update-outcome.new.class in
     let old = c.args.self.now in
     let from = c.args.lane.now in
-    let k : BookView = record {
-      part = i.seat.part;
-      lists = i.lists;
-      hot_limit = i.hot_limit;
-      warm_limit = i.warm_limit;
-      workers = i.workers;
-    } in
     let carried = carried_part y.seat b (carried_seat y.seat y.worker y.applied y.receiver.received c.args.bump c.lane.invariant (ap carries c.lane.view_is ∙ c.requires.carries)) in
     let own = subst (λ (z : BookView). owns b.life.chunk z.part ≡ true) (sym c.self.view_is) c.requires.own in
     let made = fronts i.seat i.lists i.hot_limit i.warm_limit i.workers y.receiver.ring y.receiver.received y.receiver.known
     y.seat x b c.args.now in
-    elim c.match-outcome.branch [
+    let to : LaneView = record {
+      ring = y.receiver.ring;
+      received = y.receiver.received;
+      known = y.receiver.known;
+      part = part_or x;
+    } in
+    let front : AppliesFront c.args.now old from m.result m.self to = elim c.match-outcome.branch [
       | in-Moved w ↦ let u = w.in-Moved.ensures.updates in
           made Moved u.0 after u.1 own old from c.self.view_is c.lane.view_is carried u.0.tried m.result m.self
           u.1.fit.tried w.result-is (w.self-is ∙ (λ j. record {
@@ -176,33 +176,15 @@ returns-clause-applied g c =
             workers = i.workers;
           })) u.1.class) (subst (λ (z : BookView). IsShown z.part (part_or x) b Gone) (sym left)
           (shown_behind after.part b.life.chunk h (part_or x) b u.1.entry))
-    ]
-
-pub returns-clause-class : goal.returns-clause-class
-returns-clause-class g c =
-    let all = returns-clause-applied g c in
-    subst (λ (z : BookView). IsSameClass z.part c.args.self.now.part) (sym all.4.book_after)
-    (same_class all.1 c.args.lane.now.part.worker all.0 c.args.now all.2 c.args.self.now)
-
-pub returns-clause-once : goal.returns-clause-once
-returns-clause-once g c =
-    let after = c.update-outcome.new.class in
-    elim c.match-outcome.branch [
+    ] in
+    let once : NamesNoBumpTwice m.self.part = elim c.match-outcome.branch [
       | in-Moved w ↦ subst (λ (z : BookView). NamesNoBumpTwice z.part) (sym w.self-is)
           w.in-Moved.ensures.updates.1.once
       | in-TimeOnly w ↦ subst (λ (z : BookView). NamesNoBumpTwice z.part) (sym w.self-is)
           w.in-TimeOnly.ensures.updates.1.once
       | in-Gone w ↦ subst (λ (z : BookView). NamesNoBumpTwice z.part) (sym (w.self-is ∙ w.seen_unheld.ensures.seen))
-          (once_behind after.part c.args.bump.life.chunk w.seen_unheld.result w.in-Gone.ensures.updates.1.once)
-    ]
-
-pub returns-clause-told : goal.returns-clause-told
-returns-clause-told g c =
-    let y = c.lane.inside in
-    let x = c.update-outcome.new.lane in
-    let after = c.update-outcome.new.class in
-    let m = c.match-outcome in
-    let b = c.args.bump in
+          (once_behind after.part b.life.chunk w.seen_unheld.result w.in-Gone.ensures.updates.1.once)
+    ] in
     let u = c.update-outcome.ensures.updates in
     let keeps = applied_keeps y.seat x y.worker y.applied y.receiver.received b c.update-outcome.result u.0 c.lane.invariant
     (carried_seat y.seat y.worker y.applied y.receiver.received c.args.bump c.lane.invariant (ap carries c.lane.view_is ∙ c.requires.carries)) c.update-outcome.ensures.whole u.1.lane in
@@ -215,4 +197,5 @@ returns-clause-told g c =
           (sym (w.self-is ∙ w.seen_unheld.ensures.seen))
           (told_behind after.part b.life.chunk w.seen_unheld.result (part_or x) w.in-Gone.ensures.updates.1.told)
     ] in
-    each_told m.self.part (part_or x) y.receiver.received keeps.lane tells
+    let told = each_told m.self.part (part_or x) y.receiver.received keeps.lane tells in
+    record { applied = bump_applied c.args.now old from m.result m.self to front once told }

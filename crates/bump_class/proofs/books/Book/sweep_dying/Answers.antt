@@ -1,6 +1,6 @@
 use Rattle.std.proofs.Common.{refl, arith}
 use Rattle.bump_class.proofs.Sights.{none_swept, next_dying, moved_on, some_ahead}
-use Rattle.bump_class.proofs.Freeing.{none_told, all_swept, held_more, free_more, free_full}
+use Rattle.bump_class.proofs.Freeing.{none_told, held_more, free_more, free_full}
 use Rattle.bump_class.proofs.books.Book.sweep_dying.Goals as goal
 
 pub loop-looked-init : goal.loop-looked-init

@@ -4,7 +4,7 @@ use Rattle.bump_rules.specs.Rings.{most_attempts}
 use Rattle.bump_steps.specs.Riders.{bump_of_ride, lane_after_board}
 use Rattle.bump_heads.specs.Seats.{aboard_lane}
 use Rattle.bump_class.specs.Lanes.{LaneView, KeepsLane, carries, part_or, entries}
-use Rattle.bump_class.proofs.LaneLemmas.{next_number, boarded_keeps, none_carried, count_is, part_boarded}
+use Rattle.bump_class.proofs.LaneLemmas.{next_number, boarded_keeps, none_carried, count_is, part_boarded, boarded_told}
 use Rattle.bump_class.proofs.carriers.Carrier.take.Goals as goal
 
 pub board-requires-clause-next : goal.board-requires-clause-next
@@ -25,21 +25,6 @@ invariant_of-self-2 g c =
     c.in_ok-rider.ensures.number few in
     subst (λ x. KeepsLane c.board.new.self i.worker i.applied x) (sym c.in_ok-rider.ensures.received)
     (subst (λ x. KeepsLane x i.worker i.applied (i.receiver.received ++ r ∷ [])) (sym c.board.ensures.boarded) kept)
-
-pub returns-clause-aboard : goal.returns-clause-aboard
-returns-clause-aboard g c =
-    let i = c.self.inside in
-    let r = c.in_ok-rider.rider in
-    let none : aboard_lane i.seat ≡ None = none_carried i.seat i.worker i.applied i.receiver.received c.self.invariant
-    (ap carries c.self.view_is ∙ c.requires.idle) in
-    let number = count_is i.seat i.worker i.applied i.receiver.received r c.self.invariant none
-    c.in_ok-rider.ensures.number in
-    let bump : bump_of_ride r ≡ record { number = i.applied; life = c.life.result } =
-    λ j. record { number = sym number j; life = sym c.life.ensures j } in
-    ap (λ o. Rattle.bump_rules.specs.Lanes.carried (part_or o).stage) c.board.ensures.boarded
-    ∙ ap (λ p. Rattle.bump_rules.specs.Lanes.carried p.stage)
-    (part_boarded i.seat (bump_of_ride r) c.self.invariant.whole)
-    ∙ ap (λ (b : Bump). Some b) bump
 
 pub returns-clause-next : goal.returns-clause-next
 returns-clause-next g c =
@@ -67,6 +52,9 @@ returns-clause-next g c =
         };
       },
     )
+
+pub returns-clause-aboard : goal.returns-clause-aboard
+returns-clause-aboard g c = let boards = returns-clause-next g c in boarded_told boards.1
 
 pub returns-clause-number : goal.returns-clause-number
 returns-clause-number g c = c.self.invariant.counted
