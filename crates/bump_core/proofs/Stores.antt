@@ -4,7 +4,7 @@ use Rattle.bump_rules.specs.declared.places.Start.{Start}
 use Rattle.bump_rules.specs.declared.places.Start.TheVariants.{Hot, Temp}
 use Rattle.bump_rules.specs.Starts.{link_command}
 use Rattle.bump_state.specs.State.{State}
-use Rattle.bump_core.specs.Commands.{may_store, store_item, store_answer, is_allowed, command_after, answer_of}
+use Rattle.bump_core.specs.Commands.{may_store, is_allowed}
 
 -- when it is allowed
 pub store_allowed : (s : State) (a : Start) (k x now : ℕ) → is_allowed s (link_command a k x now) ≡ may_store s k

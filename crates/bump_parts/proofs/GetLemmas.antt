@@ -1,5 +1,5 @@
 -- What a get answers, by what the take under it answered.
-use Rattle.std.proofs.Common.{◌≡◌, ℕ, List, Option, Some, None, Result, Ok, Err, ap}
+use Rattle.std.proofs.Common.{◌≡◌, ℕ, List, Option, Some, None, Ok, Err, ap}
 use Rattle.bump_rules.specs.declared.items.Head.{Head}
 use Rattle.bump_rules.specs.declared.items.ItemId.{ItemId}
 use Rattle.bump_steps.specs.declared.refusals.AnyRefusal.{AnyRefusal}
@@ -7,7 +7,6 @@ use Rattle.bump_steps.specs.declared.refusals.TakeRefusal.{TakeRefusal}
 use Rattle.bump_steps.specs.Tries.{any_refusal}
 use Rattle.bump_readers.specs.declared.views.HoldView.{HoldView}
 use Rattle.bump_readers.specs.Taking.{take_answer, take_any_answer, whole_hold}
-use Rattle.bump_parts.specs.declared.refusals.GetAnyRefusal.{GetAnyRefusal}
 use Rattle.bump_parts.specs.Gets.{get_refusal, get_answer, get_any_refusal, get_any_answer}
 use Rattle.bump_parts.specs.Holds.{part_of}
 

@@ -3,7 +3,7 @@ use Rattle.std.proofs.Common.{◌≡◌, false, refl}
 use Rattle.bump_rules.specs.declared.items.ItemId.{ItemId}
 use Rattle.bump_rules.specs.declared.places.Start.{Start}
 use Rattle.bump_rules.specs.declared.places.Start.TheVariants as start
-use Rattle.bump_rules.specs.Entries.{names_bump, is_stray}
+use Rattle.bump_rules.specs.Entries.{names_bump}
 use Rattle.bump_rules.specs.History.{subject, target}
 use Rattle.bump_rules.specs.Places.{place_of, first_segment}
 use Rattle.bump_rules.specs.Starts.{begun_change}

@@ -19,7 +19,7 @@ use Rattle.bump_rules.specs.declared.hands.Hand.{Hand}
 use Rattle.bump_rules.specs.declared.hands.Hand.TheVariants as hand
 use Rattle.bump_rules.specs.declared.places.Segment.{Segment}
 use Rattle.bump_rules.specs.Rings.{bump_applied}
-use Rattle.bump_rules.specs.Tables.{is_cold, is_unheld, may_move}
+use Rattle.bump_rules.specs.Tables.{is_unheld, may_move}
 use Rattle.bump_state.specs.Events.{is_enabled, is_class_at_rest, is_dying, next_chunk, may_hit}
 use Rattle.bump_rules.specs.Lanes.{applied_bump, outcome_tried, ending_at, carried, tried, applied_now, cleared_active, is_empty, applied_life}
 use Rattle.bump_state.specs.State.{is_class, State, ClassState, WorkerState, no_chunk, no_class, chunk_at, head_at, class_at, worker_at, is_chunk, is_current, is_linked, has_free_hold, is_open, is_worker, workers_on, some_and, applies_in, class_of, is_under_application, new_worker}

@@ -10,7 +10,7 @@ use Rattle.bump_steps.specs.declared.views.HoldPart.{HoldPart}
 use Rattle.bump_steps.specs.declared.views.ClassPart.{ClassPart}
 use Rattle.bump_steps.specs.declared.views.View.{View}
 use Rattle.bump_rules.specs.Lives.{life, one_if}
-use Rattle.bump_steps.specs.Views.{Measure, held, mislabels, owns, standing, last_word, weight, misreads, moves}
+use Rattle.bump_steps.specs.Views.{Measure, held, mislabels, owns, standing, last_word, weight, moves}
 use Rattle.bump_steps.specs.Rule.{Law, Sound, chunks, Kept}
 use Rattle.bump_steps.specs.Places.{head_place}
 use Rattle.bump_steps.specs.Plays.{Sat, behind, on_label, Told, Stands}

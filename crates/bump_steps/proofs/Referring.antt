@@ -34,7 +34,7 @@ use Rattle.bump_steps.specs.Places.{head_place}
 use Rattle.bump_steps.specs.Plays.{Sat, Found, on_chunk, on_row, on_label, on_word, behind, on_first, step_of}
 use Rattle.bump_steps.specs.Marks.{noted, on_worker}
 use Rattle.bump_steps.specs.References.{load_to_take_tells, new_hold, view_after_take, take_tells, HasHold, view_after_release, release_of_hold_tells, hold_after_look, view_after_look_of_hold, look_of_hold_tells, IsRow, IsOfRow, label_load_tells, word_load_tells, IsAnyHead, load_without_seat_tells, seen_me}
-use Rattle.bump_steps.specs.Rule.{Law, Sound, chunks, Kept, blank, HasFittingLimit}
+use Rattle.bump_steps.specs.Rule.{Law, Sound, chunks, Kept, HasFittingLimit}
 use Rattle.bump_steps.specs.Views.{Measure, held, named, saw, owners, strays, mislabels, misreads, is_fetch, is_fetch_of, in_hand, misread, weight, tally, claims, evidence, shown_by, moves, settled, in_progress, underway, foreign, workers_of, lanes_of, untidy, IsBacked}
 use Rattle.bump_steps.proofs.LifeLabels.{labelled_push}
 use Rattle.bump_steps.proofs.Frame.{Same, Amid, Reaches, on_words_load, same_sound}

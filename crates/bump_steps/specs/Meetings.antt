@@ -1,5 +1,5 @@
 -- A hold meets its class, and a lane meets a class.
-use Rattle.std.specs.Prelude.{◌≡◌, ℕ, true, [], ◌∷◌, slice_index, suc, ◌≤◌, ◌++◌, None}
+use Rattle.std.specs.Prelude.{◌≡◌, ℕ, true, [], ◌∷◌, slice_index, ◌≤◌, ◌++◌, None}
 use Rattle.bump_rules.specs.Lawful.{IsUsed}
 use Rattle.bump_steps.specs.declared.views.ClassPart.{ClassPart}
 use Rattle.bump_steps.specs.declared.views.HoldPart.{HoldPart}

@@ -18,12 +18,11 @@ use Rattle.bump_rules.specs.Totals.{how_many}
 use Rattle.bump_rules.proofs.Updates.{total_below}
 use Rattle.bump_steps.specs.declared.views.ClassPart.{ClassPart}
 use Rattle.bump_steps.specs.declared.views.LanePart.{LanePart}
-use Rattle.bump_steps.specs.declared.views.OwnStep.{OwnStep}
 use Rattle.bump_steps.specs.Meetings.{class_after_meet}
 use Rattle.bump_heads.specs.Applying.{NamesNoBumpTwice, NamesWorkersBelow}
 use Rattle.bump_class.specs.Applications.{EachMoveIsTold, moved_in}
 use Rattle.bump_class.specs.Books.{BookView}
-use Rattle.bump_class.specs.Changes.{book_after_meet, book_after_meets}
+use Rattle.bump_class.specs.Changes.{book_after_meets}
 use Rattle.bump_store.specs.Lanes.{LaneState}
 use Rattle.bump_store.specs.Meetings.{HasLaneOf, AreAllLanes, IsTold, EachIsTold}
 

@@ -1,5 +1,5 @@
 -- What came back of threads, taken together.
-use Rattle.std.proofs.Common.{◌≡◌, ℕ, zero, suc, ◌≤◌, Bool, true, false, ◌||◌, List, [], ◌∷◌, ◌++◌, length, map, Option, Some, None, refl, sym, ap, ◌∙◌, subst, arith}
+use Rattle.std.proofs.Common.{◌≡◌, ℕ, zero, suc, ◌≤◌, Bool, true, false, ◌||◌, List, [], ◌∷◌, ◌++◌, length, map, Option, Some, refl, sym, ap, ◌∙◌, subst, arith}
 use Rattle.std.specs.List.{AllZip, All, fold, list_any}
 use Rattle.std.proofs.lemmas.List.{map-append}
 use Rattle.std.proofs.lemmas.List.Elements.{All-head, All-tail}
@@ -7,7 +7,7 @@ use Rattle.bump_rules.specs.declared.configs.Config.{Config}
 use Rattle.bump_store.specs.Lanes.{LaneState}
 use Rattle.bump_store.specs.Passes.{IsDrained}
 use Rattle.bump_parts.specs.Workers.{WorkerState}
-use Rattle.store_trace.specs.Jobs.{WorkerMade, IsJobOf, Came, AreJobsOf, with_lines, totals_of, IsSumOf, AllCame, WorkersMade, DrainerMade, drainer_lanes, drainer_shares, shares_of}
+use Rattle.store_trace.specs.Jobs.{WorkerMade, IsJobOf, Came, AreJobsOf, with_lines, IsSumOf, AllCame, WorkersMade, DrainerMade, drainer_lanes, drainer_shares, shares_of}
 use Rattle.store_trace.specs.Making.{WereMade}
 use Rattle.store_trace.specs.Tasks.{MakesEach, drain_times, lines_of}
 use Rattle.store_trace.specs.Totals.{both, no_lines}

@@ -1,5 +1,5 @@
 -- Which share each drainer has.
-use Rattle.std.proofs.Common.{◌≡◌, ℕ, zero, suc, List, [], ◌∷◌, ◌++◌, refl, ap}
+use Rattle.std.proofs.Common.{◌≡◌, ℕ, zero, suc, [], ◌∷◌, ◌++◌, refl, ap}
 use Rattle.std.specs.Prelude.{replicate}
 use Rattle.store_trace.specs.Jobs.{shares_of}
 use Rattle.store_trace.specs.declared.tasks.Share.{Share}

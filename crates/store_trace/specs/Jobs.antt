@@ -15,7 +15,6 @@ use Rattle.store_trace.specs.declared.jobs.Job.{Job}
 use Rattle.store_trace.specs.declared.jobs.Job.TheVariants.{Runs, Done}
 use Rattle.store_trace.specs.declared.jobs.Joined.{Joined}
 use Rattle.store_trace.specs.declared.slots.Slot.{Slot}
-use Rattle.store_trace.specs.declared.tasks.ChoreTask.{ChoreTask}
 use Rattle.store_trace.specs.declared.tasks.GetTask.{GetTask}
 use Rattle.store_trace.specs.declared.tasks.Share.{Share}
 use Rattle.store_trace.specs.declared.tasks.Share.TheVariants as shares

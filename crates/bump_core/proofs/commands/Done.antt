@@ -26,7 +26,7 @@ use Rattle.bump_rules.specs.Tables.{Get, IsStale, IsRefsFull, IsHeld, hit_of, ou
 use Rattle.bump_state.specs.State.{State, chunk_at, head_at, worker_at, class_of, is_chunk, is_class, is_linked, is_current, is_open, with_chunk, with_head, with_worker, with_change}
 use Rattle.bump_state.specs.Events.{is_at_rest, next_chunk, next_life, asks_for_memory, after}
 use Rattle.bump_core.specs.Runs.{one_asks}
-use Rattle.bump_core.specs.Commands.{Commands, Stores, store_events, get_at, get_answer, held_by_get, unlink_item, unlinked_as, link_labelled, hit, hit_at, bumped_chunk, bumped_worker, bumped_lists, apply_bump}
+use Rattle.bump_core.specs.Commands.{Commands, Stores, get_at, get_answer, held_by_get, unlink_item, unlinked_as, link_labelled, hit, hit_at, bumped_chunk, bumped_worker, bumped_lists, apply_bump}
 
 -- A get.
 module _ (s : State) (w : ℕ) (l : ItemId) (may : is_open s w ≡ true) where

@@ -1,35 +1,24 @@
 -- Which commands ask for memory: those of which an event does.
-use Rattle.std.proofs.Common.{◌≡◌, ◌≢◌, ℕ, ◌<◌, Bool, true, false, not, ◌||◌, List, [], ◌∷◌, ◌++◌, length, Option, Some, None, Result, Ok, Err, if◌then◌else◌, refl, sym, ap, ◌∙◌, arith}
-use Rattle.std.proofs.lemmas.Bool.{both_ways, cond-true}
+use Rattle.std.proofs.Common.{◌≡◌, ◌≢◌, ℕ, ◌<◌, Bool, true, false, not, ◌||◌, List, [], ◌∷◌, length, Result, Ok, Err, if◌then◌else◌, refl, sym, ap, ◌∙◌, arith}
+use Rattle.std.proofs.lemmas.Bool.{both_ways}
 use Rattle.std.specs.Prelude.{IfErr}
 use Rattle.std.specs.List.{list_any}
-use Rattle.bump_rules.specs.declared.places.Segment.{Segment}
-use Rattle.bump_rules.specs.declared.places.Tail.{Tail}
-use Rattle.bump_rules.specs.declared.places.Tail.TheVariants as tail
 use Rattle.bump_rules.specs.declared.items.Head.{Head}
-use Rattle.bump_rules.specs.declared.items.ItemId.{ItemId}
 use Rattle.bump_rules.specs.declared.bumps.Ended.{Ended}
 use Rattle.bump_rules.specs.declared.bumps.Ended.TheVariants.{Freed, Deferred}
-use Rattle.bump_rules.specs.declared.lanes.Lane.{Lane}
-use Rattle.bump_rules.specs.declared.lanes.Lane.TheVariants as lane
 use Rattle.bump_rules.specs.declared.commands.Answer.{Answer}
 use Rattle.bump_rules.specs.declared.commands.Answer.TheVariants as answer
 use Rattle.bump_rules.specs.declared.commands.Command.{Command}
 use Rattle.bump_rules.specs.declared.commands.Command.TheVariants as command
 use Rattle.bump_rules.specs.declared.history.Change.{Change}
-use Rattle.bump_rules.specs.declared.commands.Dropped.{Dropped}
-use Rattle.bump_rules.specs.declared.commands.Hit.{Hit}
-use Rattle.bump_rules.specs.declared.commands.Hit.TheVariants.{First as IsFirst, Attempts}
 use Rattle.bump_rules.specs.declared.events.Event.TheVariants as event
 use Rattle.bump_rules.specs.declared.events.Refused.{Refused}
 use Rattle.bump_rules.specs.declared.events.Refused.TheVariants.{NotEnabled, OutOfMemory}
-use Rattle.bump_rules.specs.Tables.{is_unheld, is_cold, ended_of, pulled_to}
-use Rattle.bump_rules.specs.Heads.{one_fewer}
+use Rattle.bump_rules.specs.Tables.{is_unheld}
 use Rattle.bump_state.specs.State.{State, head_at, class_at, with_changes, is_under_application}
 use Rattle.bump_state.specs.Sweeps.{sweep_of}
-use Rattle.bump_state.specs.Events.{after}
 use Rattle.bump_core.specs.Runs.{one_asks}
-use Rattle.bump_core.specs.Commands.{Commands, command_asks_for_memory, look_of, looks_at, pulled_at, move_events, pull_events, hit_at, hit_events, dropped_at, attempt_events, take_events, apply_events}
+use Rattle.bump_core.specs.Commands.{Commands, command_asks_for_memory, look_of, looks_at}
 use Rattle.bump_core.proofs.commands.ChangedLists.{no_changes}
 use Rattle.bump_core.proofs.commands.UnheldChunks.{sweep_idle, sweep_waits, some_unheld}
 

@@ -1,4 +1,4 @@
-use Rattle.std.proofs.Common.{◌≡◌, suc, ◌<◌, All, List, [], ◌∷◌, ◌++◌, sym, ap, ◌∙◌, subst, arith, append_assoc}
+use Rattle.std.proofs.Common.{suc, All, List, ◌++◌, sym, ap, ◌∙◌, subst, arith, append_assoc}
 use Rattle.std.specs.Vec.Iter.{into_iter_items}
 use Rattle.bump_class.specs.Lanes.{LaneView}
 use Rattle.bump_store.specs.Lanes.{LaneState, NothingAboard, lanes_of}

@@ -1,16 +1,13 @@
-use Rattle.std.proofs.Common.{◌≡◌, ◌⊎◌, ℕ, ◌≤◌, ◌<◌, List, Option, None, Some, Ok, Err, inl, inr, sym, ap, ◌∙◌, subst}
+use Rattle.std.proofs.Common.{◌≡◌, ◌⊎◌, ℕ, ◌≤◌, ◌<◌, List, Option, None, Some, Ok, inl, inr, ap, ◌∙◌, subst}
 use Rattle.std.proofs.lemmas.Bool.{cases_lt}
 use Rattle.bump_rules.specs.declared.configs.Config.{Config}
-use Rattle.bump_rules.specs.declared.items.Head.{Head}
 use Rattle.bump_rules.specs.declared.items.ItemId.{ItemId}
-use Rattle.bump_rules.specs.declared.commands.Touch.{Touch}
 use Rattle.bump_steps.specs.Rule.{chunks as all_chunks}
 use Rattle.bump_steps.specs.declared.refusals.TakeRefusal.{TakeRefusal}
 use Rattle.bump_steps.specs.declared.views.HoldPart.{HoldPart}
 use Rattle.bump_steps.specs.References.{new_hold}
 use Rattle.bump_parts.specs.Gets.{Got, get_answer}
-use Rattle.bump_parts.specs.Touches.{Findings, Touched}
-use Rattle.bump_parts.specs.Workers.{WorkerState}
+use Rattle.bump_parts.specs.Touches.{Touched}
 use Rattle.store_trace.proofs.commands.get.Goals as goal
 
 -- a hold that was taken is of the item that was asked for

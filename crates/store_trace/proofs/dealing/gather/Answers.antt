@@ -1,4 +1,3 @@
-use Rattle.std.proofs.Common.{ap}
 use Rattle.store_trace.specs.Dealing.{in_turn, group_lanes}
 use Rattle.store_trace.proofs.DealtLanes.{gathered_more}
 use Rattle.store_trace.proofs.dealing.gather.Goals as goal

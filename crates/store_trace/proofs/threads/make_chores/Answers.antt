@@ -1,4 +1,4 @@
-use Rattle.std.proofs.Common.{sym, ◌∙◌, subst, arith}
+use Rattle.std.proofs.Common.{sym, ◌∙◌, subst}
 use Rattle.std.proofs.lemmas.List.{take_more}
 use Rattle.store_trace.specs.Tasks.{MakesChore}
 use Rattle.store_trace.proofs.MadeLines.{shared_made, shared_left}

@@ -1,4 +1,4 @@
-use Rattle.std.proofs.Common.{◌≡◌, not, List, sym, ap, ◌∙◌, subst}
+use Rattle.std.proofs.Common.{not, List, ap, subst}
 use Rattle.store_trace.specs.Making.{Counted, MakesGet}
 use Rattle.store_trace.specs.Tasks.{MakesTurns}
 use Rattle.store_trace.specs.Totals.{no_lines}

@@ -1,4 +1,4 @@
-use Rattle.std.proofs.Common.{◌≡◌, ◌<◌, ◌++◌, ◌∷◌, [], None, Some, sym, ap, ◌∙◌, subst, arith}
+use Rattle.std.proofs.Common.{◌≡◌, ◌<◌, ◌++◌, ◌∷◌, [], None, sym, ap, ◌∙◌, subst, arith}
 use Rattle.bump_rules.specs.declared.bumps.Bump.{Bump}
 use Rattle.bump_rules.specs.Rings.{most_attempts}
 use Rattle.bump_steps.specs.Riders.{bump_of_ride, lane_after_board}

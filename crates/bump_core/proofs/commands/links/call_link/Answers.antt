@@ -9,7 +9,7 @@ use Rattle.bump_rules.specs.History.{subject}
 use Rattle.bump_rules.specs.Lists.{IsListed}
 use Rattle.bump_rules.proofs.Beginnings.{begun_subject}
 use Rattle.bump_rules.proofs.PlainLists.{first_there}
-use Rattle.bump_state.specs.State.{State, class_at, with_change}
+use Rattle.bump_state.specs.State.{class_at, with_change}
 use Rattle.bump_state.specs.Views.{state_of}
 use Rattle.bump_core.specs.Commands.{Stores}
 use Rattle.bump_core.proofs.commands.Done.{life_begun, store_wants}

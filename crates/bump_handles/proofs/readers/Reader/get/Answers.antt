@@ -1,4 +1,4 @@
-use Rattle.std.proofs.Common.{rules, ◌≡◌, refl, Option, Some, slice_get}
+use Rattle.std.proofs.Common.{rules, ◌≡◌, refl}
 use Rattle.std.proofs.lemmas.Option.{slice_get_read}
 use Rattle.std.specs.Arc.{arc_value}
 use Rattle.bump_handles.proofs.PlaceLemmas.{gets_busy, gets_held, gets_refused, worker_gets}

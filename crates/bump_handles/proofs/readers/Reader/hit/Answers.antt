@@ -1,8 +1,6 @@
-use Rattle.std.proofs.Common.{rules, ◌≡◌, ◌∙◌, ap, get_or, refl, Ok, sym, subst}
+use Rattle.std.proofs.Common.{rules, ◌≡◌, ◌∙◌, ap, get_or, refl}
 use Rattle.std.specs.Arc.{arc_value}
-use Rattle.bump_handles.specs.Reading.{ReaderHits}
 use Rattle.bump_steps.specs.declared.views.HoldPart.{HoldPart}
-use Rattle.bump_handles.specs.Views.{ReaderView}
 use Rattle.bump_handles.proofs.PlaceLemmas.{hits_there, worker_gets, worker_touches}
 use Rattle.bump_handles.proofs.readers.Reader.hit.Goals as goal
 

@@ -1,4 +1,4 @@
-use Rattle.std.proofs.Common.{rules, ◌≡◌, refl, Some, None, sym, ◌∙◌}
+use Rattle.std.proofs.Common.{◌≡◌, refl, Some, None, sym}
 use Rattle.std.proofs.lemmas.Option.{slice_get_read}
 use Rattle.bump_handles.proofs.PlaceLemmas.{releases_nothing, releases_there}
 use Rattle.bump_handles.proofs.readers.Reader.release.Goals as goal

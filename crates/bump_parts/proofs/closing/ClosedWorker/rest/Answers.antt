@@ -1,4 +1,4 @@
-use Rattle.std.proofs.Common.{◌≡◌, length, ap, ◌∙◌, subst, arith}
+use Rattle.std.proofs.Common.{length, ap, ◌∙◌, subst, arith}
 use Rattle.bump_rules.specs.declared.bumps.Accounts.{Accounts}
 use Rattle.bump_parts.specs.Closing.{ClosedState, AppliedAll}
 use Rattle.bump_parts.proofs.ClosingLemmas.{left_over, sent_in_parts, all_at_none_left}
