@@ -23,23 +23,24 @@ loop-done-preserved g c =
     let i = c.loop-done.invariant in
     let e = c.in-Some.ensures in
     let run = c.apply_run-done in
+    let all = run.ensures.applied in
     let raw = c.loop-done.self-inside.raw in
     let fetched = c.fetch.new.self in
     let boarded = boarded_by_fetch (carries raw) i.drained.0 raw fetched c.in-Some.bump refl i.drained.2 e.kept e.next
-    e.aboard in record {
+    e.aboard.told in record {
       most = search rules;
       same = i.same;
-      ring = run.ensures.ring ∙ e.ring ∙ i.ring;
-      count = omega (arith, run.ensures.count, ap length e.entries, i.count);
+      ring = all.ring ∙ e.aboard.ring ∙ i.ring;
+      count = omega (arith, all.count, ap length e.aboard.kept, i.count);
       grown = grown_on (entries c.args.self.now.lane) (entries raw) _ i.grown
-          (subst (λ xs. IsPrefix xs (entries run.new.lane)) e.entries run.ensures.grown);
+          (subst (λ xs. IsPrefix xs (entries run.new.lane)) e.aboard.kept all.grown);
       drained = (
-        run.ensures.applied.0,
+        all.run.0,
         run_behind c.args.now c.args.self.now.lane c.loop-done.done i.drained.0 c.deref_mut.result.now fetched
-            i.drained.1 boarded run.result run.new.self run.ensures.applied.0 run.ensures.some run.ensures.applied.1,
-        run.ensures.applied.2,
+            i.drained.1 boarded run.result run.new.self all.run.0 all.some all.run.1,
+        all.run.2,
       );
-      empty = λ full. run.ensures.empty (omega (arith, full, c.loop-done-test.true));
+      empty = λ full. all.empty (omega (arith, full, c.loop-done-test.true));
     }
 
 pub returns-clause-none : goal.returns-clause-none

@@ -34,7 +34,7 @@ returns-clause-entry g c =
     entry_kept c.args.now c.deref_mut-book.result.now c.apply_aboard.new.book c.take.new.self
     c.apply_aboard.new.raw c.apply_aboard.result c.apply_aboard.ensures.applied
     ∙ ap (λ xs. xs ++ told c.apply_aboard.result ∷ [])
-    (c.in_ok-bump.ensures.entries ∙ ap (λ (s : LaneState). entries s.lane) c.self.view_is)
+    (c.in_ok-bump.ensures.aboard.kept ∙ ap (λ (s : LaneState). entries s.lane) c.self.view_is)
 
 pub apply_aboard-requires-clause-own : goal.apply_aboard-requires-clause-own
 apply_aboard-requires-clause-own g c = search rules
