@@ -1,6 +1,7 @@
 -- What lanes do, each with the closed worker of its ring at the end.
 use Rattle.std.specs.Prelude.{◌≡◌, ℕ, zero, suc, ◌+◌, ◌-◌, ◌^◌, ◌≤◌, ◌<◌, Bool, true, false, List, [], length}
 use Rattle.std.specs.Prelude.{Option, Some, None, IfSome, IfNone, IsSome}
+use Rattle.bump_rules.specs.declared.bumps.Accounts.{Accounts}
 use Rattle.bump_rules.specs.declared.bumps.Bump.{Bump}
 use Rattle.bump_rules.specs.Rings.{no_accounts}
 use Rattle.bump_class.specs.Lanes.{LaneView, carries, entries}
