@@ -24,6 +24,8 @@ use Rattle.bump_ring.specs.contracts.numbered.NumberedProtocolRider.TheImpl as p
 use Rattle.bump_ring.specs.contracts.ends.ClosedSender as ClosedSender
 use Rattle.rtrb.specs.contracts.finished.Finished as Finished
 use Rattle.rtrb.proofs.finished.Finished.TheSendSync as finished
+use Rattle.bump_steps.specs.contracts.laws.AnyRow as AnyRow
+use Rattle.bump_steps.specs.contracts.laws.AnyRowRowLaw.TheImpl as any_row
 use Rattle.bump_class.specs.contracts.lanes.RawLane as RawLane
 use Rattle.bump_class.proofs.lanes.RawLane.TheSendSync as raw_lane
 use Rattle.bump_parts.specs.contracts.closing.ClosedWorker as ClosedWorker
@@ -53,8 +55,8 @@ module _ (z : TableId) where
   closed_worker : IsSend (ClosedWorker.the_row (any alone) named)
   closed_worker = search (sendable, crosses, seat_sends, closed_sender) depth 20
 
-  raw_lane_sends : IsSend (RawLane.the_row (any alone) named)
-  raw_lane_sends = raw_lane.the_send (any alone) named
+  raw_lane_sends : IsSend (RawLane.the_row (any alone) AnyRow.the_row named any_row.ghosts)
+  raw_lane_sends = raw_lane.the_send (any alone) AnyRow.the_row named any_row.ghosts
 
   -- a lane
   pub lane_sends : IsSend (Drainer.the_row (any alone) named)
