@@ -171,7 +171,8 @@ fn an_item_ends_beside_its_hits(rt: HostRuntime) -> Result<(), Fail> {
     Ok(())
 }
 
-/// Lets a worker's first line pass once both workers came to theirs, and gives up after so many turns.
+/// Lets a worker's first line pass once both workers came to theirs, and gives up after so many turns, which are seconds: a
+/// busy machine may let one thread wait long for the other.
 #[derive(Drop)]
 struct Meeting {
     came: AtomicU64,
@@ -185,7 +186,7 @@ impl Gate for Meeting {
             return true;
         }
         self.came.fetch_add(1, Ordering::SeqCst);
-        for _ in 0..10_000_000u32 {
+        for _ in 0..1_000_000_000u32 {
             if self.came.load(Ordering::SeqCst) >= 2 {
                 return true;
             }
