@@ -1,6 +1,6 @@
 -- Places for holds: what stands there, and what calls of a reader with a place come to. The view `v` is that of the
 -- reader's fields.
-use Rattle.std.proofs.Common.{◌≡◌, ◌≢◌, ℕ, ◌≤◌, ◌<◌, List, get_or, true, false, Option, Some, None, is_some, Result, Ok, Err, refl, sym, ap, ◌∙◌, subst, arith}
+use Rattle.std.proofs.Common.{◌≡◌, ◌≢◌, ℕ, ◌≤◌, ◌<◌, List, true, false, Option, Some, None, is_some, Result, Ok, Err, refl, sym, ap, ◌∙◌, subst, arith}
 use Rattle.std.proofs.lemmas.Grind.{common_steps}
 use Rattle.std.proofs.lemmas.List.{set-get_or}
 use Rattle.std.specs.Prelude.{slice_get, slice_set, slice_index_or}
@@ -10,6 +10,7 @@ use Rattle.bump_rules.specs.declared.items.ItemId.{ItemId}
 use Rattle.bump_rules.specs.declared.configs.Config.{Config}
 use Rattle.bump_rules.specs.Rings.{most_attempts}
 use Rattle.bump_steps.specs.declared.views.HoldPart.{HoldPart}
+use Rattle.bump_steps.specs.References.{label_of_row}
 use Rattle.bump_steps.specs.Rule.{chunks as all_chunks}
 use Rattle.bump_parts.specs.declared.refusals.GetRefusal.{GetRefusal}
 use Rattle.bump_parts.specs.declared.refusals.GetRefusal.TheVariants as refused
@@ -162,7 +163,7 @@ reads_nothing place v before after x same there none read left =
 -- and of an item that is held
 pub reads_there : (place label : ℕ) (v before after : ReaderView) (x : Option HoldPart) (hold left_hold : HoldPart)
     → v ≡ before → slice_get v.holds place ≡ Some x → x ≡ Some hold → x ≡ slice_index_or v.holds place x
-    → left_hold ≡ hold → label ≡ get_or hold.row 0 0
+    → left_hold ≡ hold → label ≡ label_of_row hold.row
     → after ≡ record v { holds = slice_set v.holds place (Some left_hold) }
     → ReaderReads place before after (Some label)
 reads_there place label v before after x hold left_hold same there is read stays in_row left =
@@ -203,7 +204,7 @@ releases_there place v before after x y hold same there is none left =
 -- a whole hit
 pub hits_there : (item : ItemId) (now : ℕ) (v before after : ReaderView) (between : WorkerState) (hold : HoldPart)
     (touch : Touch) (label : ℕ) → v ≡ before → WorkerGets v.config item v.worker between (Ok hold)
-    → WorkerTouches v.config hold.life now between after.worker touch → label ≡ get_or hold.row 0 0
+    → WorkerTouches v.config hold.life now between after.worker touch → label ≡ label_of_row hold.row
     → after.worker.sender.ring ≡ v.worker.sender.ring → after ≡ record v { worker = after.worker }
     → ReaderHits item now before after (Ok (record { touch = touch; label = label }))
 hits_there item now v before after between hold touch label same gets touches in_row ring left =

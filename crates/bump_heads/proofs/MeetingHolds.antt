@@ -1,5 +1,5 @@
 -- A hold that is joined to the seat of its class: what both know of the words of its life.
-use Rattle.std.proofs.Common.{◌≡◌, ℕ, suc, true, get_or, Option, Some, None, IsSome, refl, sym, ap, ap₂, ◌∙◌, subst}
+use Rattle.std.proofs.Common.{◌≡◌, ℕ, zero, suc, true, get_or, Option, Some, None, IsSome, refl, sym, ap, ap₂, ◌∙◌, subst}
 use Rattle.bump_rules.specs.declared.items.ItemId.{ItemId}
 use Rattle.bump_rules.specs.Labels.{label_of_life}
 use Rattle.bump_rules.specs.Lives.{life}
@@ -56,7 +56,7 @@ module _ (m s q : Sat) (v w : ClassView) (o : Option HoldPart) (l held : ItemId)
   met_last i = ap (λ (x : ItemId). last_word i w.part x.chunk) (sym h_life) ∙ met.row i ∙ row_is i
 
   pub met_read : word ≡ get_or (row_in o) 0 0
-  met_read = sym met.label ∙ met.row 0 ∙ row_is 0
+  met_read = sym met.label ∙ met.row zero ∙ row_is zero
 
   pub met_words : (j : ℕ) → label_of_life l 0 (of_word j w.part.words) ≡ Some (get_or (row_in o) (suc j) 0)
   met_words j = met_word (suc j) ∙ ap (λ (y : ℕ). Some y) (met_last (suc j))

@@ -19,13 +19,3 @@ counted_end (Some dropped) accounts = counted_drop (Some dropped) accounts
 -- an attempt is counted, and how it ended
 abbrev pub counted : Option Dropped → Accounts → Accounts
 counted dropped accounts = counted_end dropped (record accounts { attempted = accounts.attempted + 1 })
-
--- the counts of two together, each with the other's of its kind
-abbrev pub both : Accounts → Accounts → Accounts
-both one other = record {
-  attempted = one.attempted + other.attempted;
-  accepted = one.accepted + other.accepted;
-  full = one.full + other.full;
-  busy = one.busy + other.busy;
-  refs = one.refs + other.refs;
-}

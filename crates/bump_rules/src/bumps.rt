@@ -1,6 +1,5 @@
 //! Bumps: on their way, what became of each, and how many there were.
-ghost use Rattle.std.specs.Prelude.{◌≡◌, ◌+◌, ◌<◌, ◌^◌};
-ghost use Rattle.bump_rules.specs.Accounts.{both};
+ghost use Rattle.std.specs.Prelude.{◌≡◌};
 ghost use Rattle.bump_rules.specs.Rings.{no_accounts};
 
 use crate::items::ItemId;
@@ -112,24 +111,6 @@ impl Accounts {
             full: 0,
             busy: 0,
             refs: 0,
-        }
-    }
-
-    /// The counts of two together, each with the other's of its kind. Each sum has to fit in a u64.
-    pub fn plus(self, other: Accounts) -> Accounts
-        requires attempted { self.attempted + other.attempted < 2 ^ 64 }
-        requires accepted { self.accepted + other.accepted < 2 ^ 64 }
-        requires full { self.full + other.full < 2 ^ 64 }
-        requires busy { self.busy + other.busy < 2 ^ 64 }
-        requires refs { self.refs + other.refs < 2 ^ 64 }
-        ensures { result ≡ both self other }
-    {
-        Accounts {
-            attempted: self.attempted + other.attempted,
-            accepted: self.accepted + other.accepted,
-            full: self.full + other.full,
-            busy: self.busy + other.busy,
-            refs: self.refs + other.refs,
         }
     }
 }

@@ -46,14 +46,14 @@ IsRow slots row = length row ≡ slots + 1
 
 -- its label, and its further words by number
 abbrev pub label_of_row : List ℕ → ℕ
-label_of_row row = slice_index row 0
+label_of_row words = slice_index words 0
 
 abbrev pub word_of_row : List ℕ → ℕ → ℕ
-word_of_row row index = slice_index row (suc index)
+word_of_row words index = slice_index words (suc index)
 
 -- all of them by number, and 0 behind the last
 abbrev pub words_in : List ℕ → ℕ → ℕ
-words_in row index = slice_index row index
+words_in words index = slice_index words index
 
 -- an exchange that finds the word that it expects puts the life's row into the hold's part, of which the law holds, and one that finds another
 -- word failed
