@@ -34,10 +34,12 @@ pub new-raw-requires : goal.new-raw-requires
 new-raw-requires g c = let w = c.loop-number.number in
     let first = lane_seen (lane_part w) in
     let is : c.in-Some-next.lane_seat ≡ first = ap (head_or first) (sym c.in-Some-next.ensures.items ∙ c.loop-number.invariant.lane_seats ∙ ap (map lane_seen) (next_lane w c.args.count c.loop-number-test.true)) in record {
-      untaken = search rules;
-      whole = subst (λ (x : Option LanePart). IsSome x) (sym is) refl;
-      empty = ap stage_of is;
-      fresh = ap applied_by is;
+      unused = record {
+        untaken = search rules;
+        whole = subst (λ (x : Option LanePart). IsSome x) (sym is) refl;
+        empty = ap stage_of is;
+        fresh = ap applied_by is;
+      };
     }
 
 pub loop-number-preserved : goal.loop-number-preserved
