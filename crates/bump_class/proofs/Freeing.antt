@@ -1,6 +1,6 @@
 -- A sweep that tells which chunks came free, and stops where its slice is full.
-use Rattle.std.proofs.Common.{◌≡◌, ◌≢◌, ℕ, zero, suc, ◌+◌, ◌<◌, ◌≤◌, cond, get_or, set, Bool, true, false, List, [], ◌∷◌, ◌++◌, length, take, drop, Option, Some, if◌then◌else◌, refl, sym, ap, ap₂, ◌∙◌, subst, arith, eq-eqb, ne_eqb}
-use Rattle.std.proofs.lemmas.List.{append-nil, append_assoc, drop_more, take_more, take_all, take-append-drop, length-append, length-map}
+use Rattle.std.proofs.Common.{◌≡◌, ◌≢◌, ℕ, zero, suc, ◌+◌, ◌<◌, ◌≤◌, cond, get_or, set, Bool, true, false, List, [], ◌∷◌, ◌++◌, length, take, drop, Option, Some, if◌then◌else◌, refl, sym, ap, ap₂, ◌∙◌, arith, eq-eqb, ne_eqb}
+use Rattle.std.proofs.lemmas.List.{append-nil, append_assoc, drop_more, take_more, take-append-drop, length-append, length-map}
 use Rattle.std.proofs.Math.Seq.{set-append_seam}
 use mathlib.Core.Logic.{dite}
 use native.Mathlib.Decide.{ℕ_discrete}
@@ -152,25 +152,6 @@ these_swept b now i n ahead heads kept so = record {
   after = so.after;
   freed = so.counted ∙ as_many heads (take i b.lists.dying);
 }
-
--- all were looked at
-pub all_swept : (b now : BookView) (i n : ℕ) (ahead : Option ℕ) (slice told : List ℕ) (heads : ℕ → Head) (kept : List ℕ)
-    → length b.lists.dying ≤ i → SweptSoFar b i now ahead n heads kept
-    → (0 < length slice → ToldSoFar b.lists.dying i n slice told heads)
-    → (looked : List ℕ) × SweepsFor b slice n now told heads looked
-all_swept b now i n ahead slice told heads kept past so tells =
-    let all : take i b.lists.dying ≡ b.lists.dying = take_all i b.lists.dying past in (
-      take i b.lists.dying,
-      (
-        these_swept b now i n ahead heads kept so,
-        λ none. all,
-        λ some. let t = tells some in (
-          sym t.ahead ∙ ap (up_to (length slice) heads) all,
-          t.told,
-          omega (arith, t.room),
-        ),
-      ),
-    )
 
 module _ (b now : BookView) (i n : ℕ) (ahead : Option ℕ) (heads : ℕ → Head) (kept : List ℕ) (c : ℕ) (h : Head)
     (o : IsBook b) (within : i < length b.lists.dying) (is : ahead ≡ Some c)
@@ -331,15 +312,6 @@ module _ (b now new : BookView) (i n : ℕ) (ahead behind : Option ℕ) (slice t
         )
 
 -- ---- what callers are told
-
--- a sweep for a slice that has room is one into it
-pub swept_into : (b : BookView) (slice : List ℕ) (n : ℕ) (left : BookView) (told : List ℕ) (heads : ℕ → Head)
-    (looked : List ℕ) → 0 < length slice → SweepsFor b slice n left told heads looked
-    → SweepsInto b slice n left told heads
-swept_into b slice n left told heads looked some all = record {
-  sweeps = subst (λ (l : List ℕ). SweepsThese l b n left heads) (all.2 some).0 all.0;
-  tells = (all.2 some).1 ∙ ap (λ (l : List ℕ). told_first (unheld heads l) slice) (all.2 some).0;
-}
 
 -- and one for a slice that has none looks at nothing
 pub swept_none : (b : BookView) (slice : List ℕ) → length slice ≡ 0

@@ -1,5 +1,5 @@
 -- What a lane keeps when the next bump goes aboard, and when the bump aboard is applied.
-use Rattle.std.proofs.Common.{◌≡◌, ℕ, suc, ◌+◌, ◌<◌, ◌==◌, Bool, true, false, List, [], ◌∷◌, ◌++◌, length, map, slice_get, inl, inr, Option, None, Some, IfSome, IsSome, refl, sym, ap, ◌∙◌, subst, arith, eqb-true}
+use Rattle.std.proofs.Common.{◌≡◌, ℕ, suc, ◌+◌, ◌<◌, ◌==◌, true, false, List, [], ◌∷◌, ◌++◌, length, map, slice_get, inl, inr, Option, None, Some, IfSome, refl, sym, ap, ◌∙◌, subst, arith, eqb-true}
 use Rattle.std.specs.Prelude.{option_map}
 use Rattle.std.proofs.lemmas.Bool.{and_parts}
 use Rattle.std.proofs.lemmas.List.{append-nil, map-append, length-append, length-map}
@@ -21,7 +21,7 @@ use Rattle.bump_steps.specs.Riders.{lane_after_board, bump_of_ride, applied_by}
 use Rattle.bump_steps.specs.Views.{bump_aboard, owns}
 use Rattle.bump_heads.specs.Applying.{carried_by, TellsMoves, is_own}
 use Rattle.bump_heads.specs.Seats.{aboard_lane}
-use Rattle.bump_class.specs.Lanes.{KeepsLane, LaneView, IsRawLane, Boards, TellsAboard, carries, entries, part_or, lives, kept_aboard}
+use Rattle.bump_class.specs.Lanes.{KeepsLane, LaneView, IsRawLane, Boards, TellsAboard, carries, entries, part_or, lives}
 use Rattle.bump_class.specs.Applications.{FoundHeads, lane_after_update, EachMoveIsTold}
 
 -- a numbered list is as long as its lives
@@ -55,12 +55,6 @@ pub carried_seat : (o : Option LanePart) (v n : ℕ) (rs : List Ride) (b : Bump)
     → carried (part_or o).stage ≡ Some b → carried_by o ≡ Some b
 carried_seat None v n rs b keeps is = absurd (cc keeps.whole)
 carried_seat (Some l) v n rs b keeps is = is
-
--- a lane that keeps a bump aboard says so, and keeps this one
-pub kept_where : (o : Option Bump) (b : Bool) (n : ℕ) (l : ItemId) → o ≡ kept_aboard b n l → IsSome o
-    → (b ≡ true) × (o ≡ Some (record { number = n; life = l }))
-kept_where o true n l is some = (refl, is)
-kept_where o false n l is some = absurd (cc (subst IsSome is some))
 
 -- one more bump than a lane applied has a number
 pub few_aboard : (o : Option LanePart) (v n : ℕ) (rs : List Ride) (b : Bump) → KeepsLane o v n rs

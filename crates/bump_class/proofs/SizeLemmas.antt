@@ -19,7 +19,7 @@ use Rattle.bump_class.specs.Books.{BookView, IsBook}
 use Rattle.bump_class.specs.Sizes.{all_sizes}
 
 -- a list without a chunk is shorter by the times that it had it
-shorter : (c : ℕ) (xs : List ℕ) → length (without c xs) + times c xs ≡ length xs
+pub shorter : (c : ℕ) (xs : List ℕ) → length (without c xs) + times c xs ≡ length xs
 shorter c [] = refl
 shorter c (x ∷ xs) = by (x == c) refl (shorter c xs)
   where
@@ -29,7 +29,7 @@ shorter c (x ∷ xs) = by (x == c) refl (shorter c xs)
     by false is rest = rw is (omega (arith, rest))
 
 -- a list with one more in front, or without
-longer : (b : Bool) (c : ℕ) (xs : List ℕ) → length (cond b (c ∷ xs) xs) ≡ length xs + bit b
+pub longer : (b : Bool) (c : ℕ) (xs : List ℕ) → length (cond b (c ∷ xs) xs) ≡ length xs + bit b
 longer true c xs = omega arith
 longer false c xs = omega arith
 

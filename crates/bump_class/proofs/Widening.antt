@@ -1,15 +1,19 @@
 -- Further words of a chunk: those that are stored one by one, and what the life that begins then has.
-use Rattle.std.proofs.Common.{◌≡◌, ℕ, zero, suc, ◌+◌, ◌<◌, ◌≤◌, Bool, List, [], ◌∷◌, ◌++◌, get_or, drop, length, None, if◌then◌else◌, refl, sym, ap, ◌∙◌, arith, append_assoc, append-nil, eq-eqb, ne_eqb}
+use Rattle.std.proofs.Common.{◌≡◌, ℕ, zero, suc, ◌+◌, ◌<◌, Bool, List, [], ◌∷◌, ◌++◌, get_or, drop, length, if◌then◌else◌, refl, sym, ap, ◌∙◌, arith, append_assoc, append-nil, eq-eqb, ne_eqb}
+use Rattle.bump_rules.specs.declared.labels.LabelStep.{LabelStep}
 use Rattle.bump_rules.specs.declared.labels.LabelStep.TheVariants.{Stored}
 use Rattle.bump_rules.specs.Labels.{label_word}
 use Rattle.bump_steps.specs.declared.views.ClassPart.{ClassPart}
 use Rattle.bump_steps.specs.declared.views.WordStep.{WordStep}
 use Rattle.bump_steps.specs.declared.views.WordStep.TheVariants.{Put}
 use Rattle.bump_steps.specs.declared.views.Kind.TheVariants as kind
-use Rattle.bump_steps.specs.Plays.{step_of}
 use Rattle.bump_steps.specs.Views.{of_word}
 use Rattle.bump_steps.proofs.LabelLists.{of_word_put, word_stored}
 use Rattle.bump_class.specs.Changes.{puts, put_steps}
+
+-- the word that was stored last is the one that a chunk has
+pub just_stored : (c : ℕ) (ls : List LabelStep) (x : ℕ) → label_word c 0 (ls ++ Stored c x ∷ []) ≡ x
+just_stored c ls x = word_stored c 0 ls c x ∙ ap (λ (b : Bool). if b then x else label_word c 0 ls) (eq-eqb c c refl)
 
 -- those below i stay
 stays : (c i j : ℕ) (xs : List ℕ) (ws : List WordStep) → j < i
@@ -32,8 +36,7 @@ last_put c i zero (x ∷ xs) ws low = ap (λ (l : List WordStep). label_word c 0
     ∙ ap (label_word c 0) (of_word_put (i + 0) ws c i x
     ∙ ap (λ (b : Bool). if b then of_word (i + 0) ws ++ Stored c x ∷ [] else of_word (i + 0) ws)
     (eq-eqb i (i + 0) (omega arith)))
-    ∙ word_stored c 0 (of_word (i + 0) ws) c x
-    ∙ ap (λ (b : Bool). if b then x else label_word c 0 (of_word (i + 0) ws)) (eq-eqb c c refl)
+    ∙ just_stored c (of_word (i + 0) ws) x
 last_put c i (suc j) (x ∷ xs) ws low = ap (λ (l : List WordStep). label_word c 0 (of_word (i + suc j) l))
     (sym (append_assoc ws (Put c i x ∷ []) (puts c (suc i) xs)))
     ∙ ap (λ (n : ℕ). label_word c 0 (of_word n ((ws ++ Put c i x ∷ []) ++ puts c (suc i) xs))) (omega arith)
@@ -45,44 +48,5 @@ pub record Putting (chunk index : ℕ) (xs : List ℕ) (from now : ClassPart) : 
   pub steps : now.steps ++ put_steps chunk (drop index xs) ≡ from.steps ++ put_steps chunk xs
   pub rest : now ≡ record from { words = now.words; steps = now.steps }
 
--- the list from a place within it on
-drop_at : (i : ℕ) (xs : List ℕ) → i < length xs → drop i xs ≡ get_or xs i 0 ∷ drop (suc i) xs
-drop_at i [] h = absurd (omega (arith, h))
-drop_at zero (x ∷ xs) h = refl
-drop_at (suc i) (x ∷ xs) h = drop_at i xs (omega (arith, h))
-
-drop_all : (i : ℕ) (xs : List ℕ) → length xs ≤ i → drop i xs ≡ []
-drop_all zero [] h = refl
-drop_all (suc i) [] h = refl
-drop_all zero (x ∷ xs) h = absurd (omega (arith, h))
-drop_all (suc i) (x ∷ xs) h = drop_all i xs (omega (arith, h))
-
 pub putting_starts : (chunk : ℕ) (xs : List ℕ) (k : ClassPart) → Putting chunk 0 xs k k
 putting_starts chunk xs k = record { words = refl; steps = refl; rest = refl }
-
-pub putting_goes_on : (chunk i : ℕ) (xs : List ℕ) (from now : ClassPart) → i < length xs → Putting chunk i xs from now
-    → Putting chunk (suc i) xs from (record now {
-      words = now.words ++ Put chunk i (get_or xs i 0) ∷ [];
-      steps = now.steps ++ step_of kind.PutWord chunk (get_or xs i 0) None ∷ [];
-    })
-putting_goes_on chunk i xs from now near o = record {
-  words = append_assoc now.words (Put chunk i (get_or xs i 0) ∷ []) (puts chunk (suc i) (drop (suc i) xs))
-      ∙ ap (λ (l : List ℕ). now.words ++ puts chunk i l) (sym (drop_at i xs near)) ∙ o.words;
-  steps = append_assoc now.steps (step_of kind.PutWord chunk (get_or xs i 0) None ∷ [])
-      (put_steps chunk (drop (suc i) xs))
-      ∙ ap (λ (l : List ℕ). now.steps ++ put_steps chunk l) (sym (drop_at i xs near)) ∙ o.steps;
-  rest = ap (λ (k : ClassPart). record k {
-    words = now.words ++ Put chunk i (get_or xs i 0) ∷ [];
-    steps = now.steps ++ step_of kind.PutWord chunk (get_or xs i 0) None ∷ [];
-  }) o.rest;
-}
-
-pub putting_ends : (chunk i : ℕ) (xs : List ℕ) (from now : ClassPart) → length xs ≤ i → Putting chunk i xs from now
-    → now ≡ record from { words = from.words ++ puts chunk 0 xs; steps = from.steps ++ put_steps chunk xs }
-putting_ends chunk i xs from now past o = o.rest
-    ∙ (λ k. record from {
-      words = (sym (append-nil now.words)
-          ∙ ap (λ (l : List ℕ). now.words ++ puts chunk i l) (sym (drop_all i xs past)) ∙ o.words) k;
-      steps = (sym (append-nil now.steps)
-          ∙ ap (λ (l : List ℕ). now.steps ++ put_steps chunk l) (sym (drop_all i xs past)) ∙ o.steps) k;
-    })

@@ -1,14 +1,16 @@
 -- What contracts see of a lane: the ring that it drains, and its part. And what every lane keeps.
 use Rattle.std.specs.Prelude.{◌≡◌, ℕ, ◌<◌, ◌≤◌, ◌↔◌, ◌++◌, List, [], ◌∷◌, length, map, Option, Some, None}
-use Rattle.std.specs.Prelude.{IsNone, IfSome, IfNone, Bool, true, false}
+use Rattle.std.specs.Prelude.{IsNone, IsSome, IfSome, IfNone, Bool, true, false}
 use Rattle.bump_rules.specs.declared.bumps.AppliedBump.{AppliedBump}
 use Rattle.bump_rules.specs.declared.bumps.Bump.{Bump}
 use Rattle.bump_rules.specs.declared.items.ItemId.{ItemId}
+use Rattle.bump_rules.specs.declared.lanes.Lane.TheVariants.{Empty}
 use Rattle.bump_rules.specs.Lanes.{carried, is_half_made}
 use Rattle.bump_rules.specs.Rings.{aboard, bump_applied, numbered_from, most_attempts}
 use Rattle.bump_steps.specs.declared.views.LanePart.{LanePart}
 use Rattle.bump_steps.specs.declared.views.Ride.{Ride}
-use Rattle.bump_steps.specs.Riders.{lane_after_board, bump_of_ride}
+use Rattle.bump_steps.specs.Riders.{applied_by, lane_after_board, bump_of_ride}
+use Rattle.bump_heads.specs.Applying.{stage_of}
 use Rattle.bump_heads.specs.Seats.{no_lane, most_workers}
 use Rattle.bump_ring.specs.Ends.{Ring, ClosedView}
 
@@ -59,6 +61,13 @@ pub record KeepsLane (seat : Option LanePart) (worker count : ℕ) (received : L
   pub lane : IsRawLane (part_or seat) received
   -- and one more has a number too
   pub few : IfSome (carried (part_or seat).stage) (λ bump. count < most_attempts)
+
+-- What a new lane is made of: nothing was taken from the ring, and nothing boarded the seat.
+pub record AreUnused (received : List Ride) (seat : Option LanePart) : Type 0 where
+  pub untaken : received ≡ []
+  pub whole : IsSome seat
+  pub empty : stage_of seat ≡ Empty
+  pub fresh : applied_by seat ≡ []
 
 -- a lane whose bumps wait in this ring, with nothing aboard
 abbrev pub new_lane : Ring → List Ride → LanePart → LaneView

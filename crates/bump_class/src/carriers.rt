@@ -1,12 +1,10 @@
 //! A lane but for the bump aboard: who applies bumps has that one in his hand.
-ghost use Rattle.std.specs.Prelude.{◌≡◌, [], length, None, Some, IsSome, IfSome};
-ghost use Rattle.bump_rules.specs.declared.lanes.Lane.TheVariants.{Empty as IsEmpty};
+ghost use Rattle.std.specs.Prelude.{◌≡◌, length, None, Some, IfSome};
 ghost use Rattle.bump_steps.specs.declared.views.Ride.{Ride as TheRide};
 ghost use Rattle.bump_steps.specs.Meetings.{class_after_meet};
-ghost use Rattle.bump_steps.specs.Riders.{applied_by};
-ghost use Rattle.bump_heads.specs.Applying.{stage_of, NamesNoBumpTwice, TellsMoves};
+ghost use Rattle.bump_heads.specs.Applying.{NamesNoBumpTwice, TellsMoves};
 ghost use Rattle.bump_class.specs.Lanes.{LaneView as TheLaneView, carries, entries, part_or, IsRawLane, KeepsLane};
-ghost use Rattle.bump_class.specs.Lanes.{new_lane, Boards, TellsAboard, TellsLeft};
+ghost use Rattle.bump_class.specs.Lanes.{new_lane, AreUnused, Boards, TellsAboard, TellsLeft};
 
 use bump_heads::{ClassSeat, LaneSeat, Name};
 use bump_ring::{ClosedSender, Receiver};
@@ -39,10 +37,7 @@ impl<N: Name, L: RowLaw> Model for Carrier<N, L> {
 impl<N: Name, L: RowLaw> Carrier<N, L> {
     // Nothing was taken from the ring, and nothing boarded the seat.
     pub fn new(receiver: Receiver<N>, seat: LaneSeat<N, L>) -> Carrier<N, L>
-        requires untaken { receiver.received ≡ [] }
-        requires whole { IsSome seat }
-        requires empty { stage_of seat ≡ IsEmpty }
-        requires fresh { applied_by seat ≡ [] }
+        requires unused { AreUnused receiver.received seat }
         ensures { result ≡ new_lane receiver.ring receiver.known (part_or seat) }
     {
         let worker = seat.worker();

@@ -1,11 +1,8 @@
 //! A lane: the receiving end of a worker's ring, and the seat that applies what comes.
-ghost use Rattle.std.specs.Prelude.{◌≡◌, length, [], None, IsSome, IfSome};
-ghost use Rattle.bump_rules.specs.declared.lanes.Lane.TheVariants.{Empty as IsEmpty};
+ghost use Rattle.std.specs.Prelude.{◌≡◌, length, None, IsSome, IfSome};
 ghost use Rattle.bump_steps.specs.declared.views.Ride.{Ride as TheRide};
-ghost use Rattle.bump_steps.specs.Riders.{applied_by};
-ghost use Rattle.bump_heads.specs.Applying.{stage_of};
 ghost use Rattle.bump_class.specs.Lanes.{LaneView as TheLaneView, carries, entries, part_or, IsRawLane, kept_aboard};
-ghost use Rattle.bump_class.specs.Lanes.{new_lane, Boards, TellsAboard, TellsLeft};
+ghost use Rattle.bump_class.specs.Lanes.{new_lane, AreUnused, Boards, TellsAboard, TellsLeft};
 
 use crate::carriers::Carrier;
 use bump_heads::{LaneSeat, Name};
@@ -37,10 +34,7 @@ impl<N: Name, L: RowLaw> RawLane<N, L> {
     /// A lane, by the receiving end of a ring and the seat of a worker's lane. Nothing was taken from the ring, and
     /// nothing boarded the seat.
     pub fn new(receiver: Receiver<N>, seat: LaneSeat<N, L>) -> RawLane<N, L>
-        requires untaken { receiver.received ≡ [] }
-        requires whole { IsSome seat }
-        requires empty { stage_of seat ≡ IsEmpty }
-        requires fresh { applied_by seat ≡ [] }
+        requires unused { AreUnused receiver.received seat }
         ensures { result ≡ new_lane receiver.ring receiver.known (part_or seat) }
     {
         RawLane {

@@ -23,7 +23,7 @@ use Rattle.bump_steps.specs.declared.views.LanePart.{LanePart}
 use Rattle.bump_steps.specs.Views.{owns, standing}
 use Rattle.bump_steps.specs.Plays.{step_of}
 use Rattle.bump_steps.specs.Applications.{lane_after_try, noted_class, class_after_move}
-use Rattle.bump_heads.specs.Applying.{carried_by, life_aboard, MayClearActive, MayPutTime, MayChangeSegment, TryFound, MayEndAs, seat_after_clear_active, seat_after_put_time, seat_after_move, FoundOfBump}
+use Rattle.bump_heads.specs.Applying.{carried_by, life_aboard, MayClearActive, MayPutTime, TryFound, MayEndAs, seat_after_clear_active, seat_after_put_time, seat_after_move, FoundOfBump}
 use Rattle.bump_steps.specs.Lives.{IsInSegment}
 
 -- a lane that carries this bump
@@ -164,18 +164,6 @@ module _ (v v₁ : ClassView) (o : Option LanePart) (l : LanePart) (b : Bump) (c
 
       pub ends_clear : found.active ≡ false → (x : LanePart) × (g : Head) × MayEndAs v₂ x b g TimeOnly
       ends_clear off = (record lane_tried { stage = lane.Cleared b found.active }, h, clear_as off)
-
-      -- one with ACTIVE may be moved
-      pub may_move_on : h.linked ≡ true → h.segment ≡ Cold → found.active ≡ true → (owns c v₂.part ≡ true)
-          × ((standing v₂.part c).0 ≡ place_of Cold) × MayChangeSegment c Cold Warm v₂.lane
-      may_move_on on cold some =
-          subst (λ (x : ClassView). (owns c x.part ≡ true) × ((standing x.part c).0 ≡ place_of Cold)
-          × MayChangeSegment c Cold Warm x.lane) (sym clear_active_is) (
-            own,
-            placed_where_linked h (standing v.part c).0 stood.0 on ∙ ap place_of cold,
-            subst (λ (f : Bool). MayChangeSegment c Cold Warm
-                (Some (record lane_tried { stage = lane.Cleared b f }))) (sym some) (refl, refl, of),
-          )
 
       -- the class after the move
       pub moved_is : (last : Head) (v₃ : ClassView) → v₃ ≡ seat_after_move c Cold Warm last v₂

@@ -668,12 +668,6 @@ module _ (m q n r p : Sat) (v w : ClassView) (o : Option (Seat Empty View)) (s :
       ∙ ap (λ (x : Option LanePart). class_me (record { part = class_after_meet w.part; lane = x })) (sym alone)
       ∙ ap (λ (x : Sat). (on_class class_after_meet x.0, x.1)) (sym (is ∙ ap class_me same))
 
-  -- and the lane's is as before
-  pub met_back : p ≡ s.me
-  met_back = parts ∙ ap (λ (x : Sat). (lanes_only x.0, [])) met_noted
-      ∙ ap (λ (x : Option LanePart). (lanes_only (class_me (record w { lane = x })).0, [])) met_some
-      ∙ sym (subst (IsLane table) some whole).0
-
   -- what both have of moves agrees
   pub met_told : TellsOfMoves q.0 → NamesNoBumpTwice w.part × IfSome lane (TellsMoves w.part)
   met_told told = let t : TellsOfMoves (applying w.part (head_or no_lane s.me.0.lanes)) =

@@ -136,15 +136,6 @@ Each-at P n (x ∷ xs) a h =
       | inr f ↦ Each-at P n xs a.1 (rw f.0 at h)
     ]
 
--- what holds of each element holds of each that is left
-pub Each-without : (P : ℕ → Type 0) (n : ℕ) (xs : List ℕ) → AllByRecursion P xs → AllByRecursion P (without n xs)
-Each-without P n [] a = tt
-Each-without P n (x ∷ xs) a =
-    elim (eqb_tells x n) [
-      | inl t ↦ rw t.0 (Each-without P n xs a.1)
-      | inr f ↦ rw f.0 (a.0, Each-without P n xs a.1)
-    ]
-
 -- what differs from each element is not found among them
 differ_unequal : (x : ℕ) (xs : List ℕ) → AllByRecursion (λ y. y ≢ x) xs → AllByRecursion (λ y. eqb x y ≡ false) xs
 differ_unequal x xs a = Each-weaker (λ y. y ≢ x) (λ y. eqb x y ≡ false) (λ y h. ne_eqb x y (λ e. h (sym e))) xs a

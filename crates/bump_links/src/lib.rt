@@ -16,7 +16,7 @@ use chain::{Header, Node, put_front, unlink};
 use std::alloc::{AllocError, Global};
 use std::marker::Model;
 
-/// The greatest count of nodes.
+/// The greatest count of nodes: as many as the lists are measured with. Any count below `NONE` would do.
 pub const NODES_MAX: u32 = 1_000_000;
 
 /// The greatest count of lists.

@@ -1,6 +1,6 @@
 //! The rings of new workers, and the Books of new classes.
 ghost use Rattle.std.specs.Prelude.{◌≡◌, ◌≤◌, ◌<◌, ◌-◌, [], ◌∷◌, ◌++◌, IfOk, OnOk, length, map, All};
-ghost use Rattle.bump_rules.specs.Configs.{chunks_of, HaveChunks};
+ghost use Rattle.bump_rules.specs.Configs.{chunks_of, HaveChunks, most_chunks};
 ghost use Rattle.bump_steps.specs.Rule.{class_parts, worker_parts, lane_parts};
 ghost use Rattle.bump_readers.specs.Workers.{worker_seen};
 ghost use Rattle.bump_heads.specs.Making.{class_seen, lane_seen};
@@ -76,7 +76,7 @@ pub(crate) fn make_books<N: Name, L: RowLaw>(
 ) -> Result<(Vec<Book<N, L>>, Vec<u32>), AllocError>
     requires seats { seats.items ≡ map class_seen (class_parts (first_generation - 1) 0 0 classes.now) }
     requires chunks { HaveChunks classes.now }
-    requires few { chunks_of classes.now ≤ 1000000 }
+    requires few { chunks_of classes.now ≤ most_chunks }
     requires workers { workers ≤ most_workers }
     ensures opened_books { IfOk result (λ r. r.0.items ≡ new_books
         (class_parts (first_generation - 1) 0 0 classes.now) classes.now workers) }

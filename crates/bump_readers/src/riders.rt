@@ -1,5 +1,6 @@
 //! Bumps' references that travel.
 ghost use Rattle.std.specs.Prelude.{◌≡◌, ◌<◌};
+ghost use Rattle.bump_rules.specs.Rings.{most_attempts};
 ghost use Rattle.bump_steps.specs.Places.{HasChunk};
 ghost use Rattle.bump_steps.specs.declared.views.Ride.{Ride as TheRide};
 ghost use Rattle.bump_steps.specs.Riders.{ride_me};
@@ -25,14 +26,14 @@ impl<N: Name> Model for Rider<N> {
     ghost view = { λ r. ride_in r.seat.me.0 };
 
     ghost invariant = { λ r. (r.seat.me ≡ ride_me (ride_in r.seat.me.0)) × (r.seat.table_id ≡ N.table)
-        × HasChunk N.table (ride_in r.seat.me.0).life.chunk × ((ride_in r.seat.me.0).number < 4611686018427387903)
+        × HasChunk N.table (ride_in r.seat.me.0).life.chunk × ((ride_in r.seat.me.0).number < most_attempts)
         × (r.life ≡ (ride_in r.seat.me.0).life) };
 }
 
 impl<N: Name> Rider<N> {
-    /// What every rider keeps: its number is below 4,611,686,018,427,387,903.
+    /// What every rider keeps: its number is below `MOST_ATTEMPTS` of `bump_rules`.
     pub fn promise(&self)
-        ensures few { self.now.number < 4611686018427387903 }
+        ensures few { self.now.number < most_attempts }
     {
         let _life = &self.life;
     }
@@ -50,7 +51,7 @@ impl<N: Name> Rider<N> {
         ensures seat { result.0.me ≡ ride_me self }
         ensures table { result.0.table_id ≡ N.table }
         ensures chunk { HasChunk N.table self.life.chunk }
-        ensures number { self.number < 4611686018427387903 }
+        ensures number { self.number < most_attempts }
     {
         let Rider { seat, life, of: _ } = self;
         (seat, life)

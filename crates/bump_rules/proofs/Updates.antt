@@ -72,13 +72,6 @@ module _ {A : Type 0} (f : A → ℕ) where
   pub total_push : (xs : List A) (y : A) → total f (xs ++ y ∷ []) ≡ total f xs + f y
   total_push xs y = omega (arith, total_append xs (y ∷ []))
 
-  -- the sum from a number on is at most the sum
-  pub total_drop : (xs : List A) (n : ℕ) → total f (drop n xs) ≤ total f xs
-  total_drop [] zero = omega arith
-  total_drop [] (suc n) = omega arith
-  total_drop (x ∷ xs) zero = omega arith
-  total_drop (x ∷ xs) (suc n) = omega (arith, total_drop xs n)
-
   -- where each term is 0 the sum is
   pub total_none : ((x : A) → f x ≡ 0) → (xs : List A) → total f xs ≡ 0
   total_none none [] = refl

@@ -16,9 +16,17 @@ is_within least most number = nat_le least number && nat_le number most
 abbrev pub chunks_of : List ClassConfig → ℕ
 chunks_of classes = total (λ config. config.chunks) classes
 
+-- the greatest number of chunks of all classes together
+abbrev pub most_chunks : ℕ
+most_chunks = 1000000
+
 -- a class has no chunks, or all together have too many
 abbrev pub have_wrong_chunks : List ClassConfig → Bool
-have_wrong_chunks classes = list_any (λ config. config.chunks == 0) classes || nat_lt 1000000 (chunks_of classes)
+have_wrong_chunks classes = list_any (λ config. config.chunks == 0) classes || nat_lt most_chunks (chunks_of classes)
+
+-- the greatest room of a worker's ring
+abbrev pub most_capacity : ℕ
+most_capacity = 65536
 
 -- the greatest limit of references: the greatest reference count of a head word
 abbrev pub most_refs : ℕ
@@ -27,7 +35,7 @@ most_refs = 1048575
 -- whether a configuration has this fault
 abbrev pub has_fault : ℕ → ℕ → ℕ → ℕ → List ClassConfig → ConfigFault → Bool
 has_fault workers capacity limit generation classes Workers = not (is_within 1 64 workers)
-has_fault workers capacity limit generation classes Capacity = not (is_within 1 65536 capacity)
+has_fault workers capacity limit generation classes Capacity = not (is_within 1 most_capacity capacity)
 has_fault workers capacity limit generation classes RefsLimit = not (is_within 2 most_refs limit)
 has_fault workers capacity limit generation classes Generation = generation == 0
 has_fault workers capacity limit generation classes Classes = not (is_within 1 16 (length classes))
@@ -49,19 +57,11 @@ pub record Bounds (workers capacity limit generation : ℕ) (classes : List Clas
   pub workers_least : 1 ≤ workers
   pub workers_most : workers ≤ 64
   pub capacity_least : 1 ≤ capacity
-  pub capacity_most : capacity ≤ 65536
+  pub capacity_most : capacity ≤ most_capacity
   pub limit_least : 2 ≤ limit
   pub limit_most : limit ≤ most_refs
   pub generation_least : 1 ≤ generation
   pub classes_least : 1 ≤ length classes
   pub classes_most : length classes ≤ 16
   pub chunks_each : HaveChunks classes
-  pub chunks_most : chunks_of classes ≤ 1000000
-
--- the greatest number of chunks of all classes together
-abbrev pub most_chunks : ℕ
-most_chunks = 1000000
-
--- the greatest room of a worker's ring
-abbrev pub most_capacity : ℕ
-most_capacity = 65536
+  pub chunks_most : chunks_of classes ≤ most_chunks

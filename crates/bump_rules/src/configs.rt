@@ -3,12 +3,12 @@ ghost use Rattle.std.specs.Prelude.{◌≡◌, ◌≤◌, IsTrue, IfOk, is_none}
 ghost use Rattle.std.specs.Result.{result_err};
 ghost use Rattle.bump_rules.specs.Configs.{first_fault, have_wrong_chunks, chunks_of};
 
+use bump_links::NODES_MAX;
 use std::marker::Model;
 use thiserror::Error;
 
-/// The greatest number of chunks of all classes together: the lists of a class are of as many nodes at most
-/// (`bump_links::NODES_MAX`).
-pub const MAX_CHUNKS: u32 = 1_000_000;
+/// The greatest number of chunks of all classes together: 1,000,000, since the lists of a class have no more nodes.
+pub const MAX_CHUNKS: u32 = NODES_MAX;
 
 /// The greatest limit of a reference count: as much as the count of a head word holds.
 pub const MAX_REFS: u32 = 1_048_575;

@@ -7,6 +7,7 @@ use Rattle.bump_rules.specs.declared.lanes.Lane.{Lane}
 use Rattle.bump_rules.specs.declared.lanes.Lane.TheVariants as lane
 use Rattle.bump_rules.specs.declared.hands.Hand.{Hand}
 use Rattle.bump_rules.specs.declared.hands.Hand.TheVariants as hand
+use Rattle.bump_rules.specs.Configs.{most_chunks}
 use Rattle.bump_rules.specs.Totals.{total, how_many}
 use Rattle.bump_rules.specs.Lives.{life, one_if, count_of}
 use Rattle.bump_rules.specs.Lawful.{Lawful}
@@ -126,5 +127,5 @@ pub record IsLawful (state : State) : Type 0 where
 -- no more classes, chunks and workers than a configuration may have
 pub record IsSized (state : State) : Type 0 where
   pub classes : length state.classes ≤ 16
-  pub chunks : length state.chunks ≤ 1000000
+  pub chunks : length state.chunks ≤ most_chunks
   pub workers : length state.workers ≤ 64

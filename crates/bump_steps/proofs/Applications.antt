@@ -663,9 +663,6 @@ order_ends b a e (x ∷ xs) i = ap (λ (y : Bool). (x.number == i) && y) (order_
 module _ (key : Config) (slots id : ℕ) (k : ClassPart) (l : LanePart) (b : Bump) (out : Outcome)
     (near : b.life.chunk < chunks key) (sl : List (ℕ × Empty)) (aboard : bump_aboard l.stage ≡ Some b)
     (past : is_past_move l.stage ≡ is_moved out) (names : k.applying ≡ application_of l.worker l.stage) where
-  the_entry : AppliedBump
-  the_entry = record { number = b.number; life = b.life; outcome = out }
-
   refers_is : (d g : ℕ) → refers d g (bump_aboard l.stage) ≡ one_if (life d g) b.life
   refers_is d g = ap (refers d g) aboard
 

@@ -1,5 +1,5 @@
 -- The start: the rule holds of fresh words and the first seat.
-use Rattle.std.proofs.Common.{◌≡◌, ℕ, zero, suc, cond, map, get_or, set, length-set, get_or-set_same, get_or-set_other, mul-le-mul_right, ◌*◌, ◌+◌, ◌-◌, ◌^◌, ◌<◌, ◌≤◌, ◌&&◌, eqb, ltb, leb, not, Bool, true, false, List, [], ◌∷◌, length, None, refl, sym, ap, ap₂, ◌∙◌, subst, arith, eq-eqb, ne_eqb, lt-ltb, le-ltb}
+use Rattle.std.proofs.Common.{◌≡◌, ℕ, zero, suc, cond, map, get_or, set, length-set, get_or-set_same, get_or-set_other, mul-le-mul_right, ◌+◌, ◌-◌, ◌^◌, ◌<◌, ◌≤◌, ◌&&◌, eqb, ltb, leb, not, Bool, true, false, List, [], ◌∷◌, length, None, refl, sym, ap, ap₂, ◌∙◌, subst, arith, eq-eqb, ne_eqb, lt-ltb, le-ltb}
 use Rattle.std.proofs.lemmas.Bool.{le-leb, lt-leb}
 use mathlib.Core.Bool.{false≢true}
 use mathlib.Core.Logic.{dite}
@@ -16,7 +16,7 @@ use Rattle.bump_rules.specs.declared.places.Place.TheVariants.{Unused}
 use Rattle.bump_rules.specs.Lawful.{bit}
 use Rattle.bump_rules.specs.Heads.{fresh_head}
 use Rattle.bump_rules.specs.Totals.{total}
-use Rattle.bump_rules.specs.Configs.{chunks_of, HaveChunks}
+use Rattle.bump_rules.specs.Configs.{chunks_of, most_chunks}
 use Rattle.bump_rules.specs.declared.configs.ClassConfig.{ClassConfig}
 use Rattle.bump_rules.specs.declared.configs.Config.{Config}
 use Rattle.bump_steps.specs.declared.views.ClassPart.{ClassPart}
@@ -27,14 +27,9 @@ use Rattle.bump_rules.specs.Lives.{life, count_of}
 use Rattle.bump_rules.specs.History.{is_standing}
 use Rattle.bump_rules.specs.Entries.{is_move_for}
 use Rattle.bump_rules.proofs.Standings.{standing_same}
-use Rattle.bump_word.specs.Layout.{generation_width, generation_first}
+use Rattle.bump_word.specs.Layout.{generation_width}
 use Rattle.bump_steps.specs.Views.{owns, standing, labels_of, last_word, held, named, saw, weight, refers, in_hand, is_fetch_of, bump_aboard, claimed_in, settled_in, names_move, underway_in, foreign_in, HaveLabels, untidy_in}
 use Rattle.bump_steps.specs.Rule.{Law, chunks, Kept, class_parts, worker_part, worker_parts, lane_part, lane_parts, opened, AreFresh, HasFittingLimit}
-
--- there are chunks where there are classes
-pub some_chunks : (ks : List ClassConfig) → 1 ≤ length ks → HaveChunks ks → 0 < chunks_of ks
-some_chunks [] one have = absurd (omega (arith, one))
-some_chunks (k ∷ ks) one have = omega (arith, have.0)
 
 -- the part of a class to which nothing happened
 abbrev new_class : ℕ → ℕ → ℕ → ClassConfig → ClassPart
@@ -340,11 +335,7 @@ heads_go_on s chunks n word ws near o = record {
     two_places s c n j low e = let one : (c ≡ n) × (2 + j ≡ 0) =
         place_apart s c n (2 + j) 0 (omega (arith, low)) (omega arith) e in omega (arith, one.1)
 
-pub heads_fresh : (s chunks g word : ℕ) (ws : List ℕ) → word ≡ 2 ^ generation_first * g → Heads s chunks chunks word ws
-    → AreFresh s chunks g ws
-heads_fresh s chunks g word ws is o = (o.wide, λ c near. (o.heads c near ∙ is, λ i. o.others c i))
-
--- the table of 1,000,000 chunks is small
-pub place_small : (s c : ℕ) → c ≤ 1000000 → s < 2 ^ 32 → head_place s c < 2 ^ 60
+-- the table of the most chunks is small
+pub place_small : (s c : ℕ) → c ≤ most_chunks → s < 2 ^ 32 → head_place s c < 2 ^ 60
 unfolding head_place
 place_small s c h low = omega (arith, mul-le-mul_right (s + 3) h, low)

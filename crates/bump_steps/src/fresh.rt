@@ -1,5 +1,6 @@
 //! The words of chunks that had no life yet.
 ghost use Rattle.std.specs.Prelude.{◌≡◌, ◌≤◌, ◌<◌, ◌-◌, ◌*◌, ◌^◌, [], IfOk};
+ghost use Rattle.bump_rules.specs.Configs.{most_chunks};
 ghost use Rattle.bump_word.specs.Layout.{generation_width};
 ghost use Rattle.bump_steps.specs.Rule.{AreFresh, opened};
 ghost use Rattle.bump_steps.specs.Places.{rows};
@@ -15,7 +16,7 @@ use bump_word::laws::ONE_GENERATION;
 use std::alloc::{AllocError, Global};
 
 fn fresh_words(alloc: Global, chunks: u32, first: u32, further: u32) -> Result<Vec<u64>, AllocError>
-    requires { (chunks ≤ 1000000) × (0 < first) }
+    requires { (chunks ≤ most_chunks) × (0 < first) }
     ensures words { IfOk result (λ v. AreFresh further chunks (first - 1) v.items) }
     ensures fits { first < 2 ^ generation_width }
 {

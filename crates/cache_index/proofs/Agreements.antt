@@ -1,6 +1,6 @@
 -- What keeps names and chunks in agreement.
 use Rattle.std.proofs.Common.{◌≡◌, ◌≢◌, ℕ, zero, suc, pred, ◌⊎◌, Bool, true, false, cond, List, [], ◌∷◌, Option, Some, None, option_map, slice_get, get_or, slice_set, replicate, length, ◌<◌, if◌then◌else◌, refl, sym, ap, ap₂, ◌∙◌, subst, eqb, eqb-true, eq-eqb, arith}
-use Rattle.std.proofs.lemmas.Option.{slice_get-map, slice_get_within, slice_get_read}
+use Rattle.std.proofs.lemmas.Option.{slice_get-map, slice_get_read}
 use Rattle.std.specs.Cmp.{IsEquivalence}
 use mathlib.Core.Logic.{inl, inr}
 use Rattle.cache_index.specs.Tables.{Placed, Table, is_of_key, without_key, without_chunk, found_in}
@@ -33,12 +33,6 @@ module _ {X : Type 0} where
   got_elsewhere (z ∷ xs) zero (suc j) y ne = refl
   got_elsewhere (z ∷ xs) (suc i) zero y ne = refl
   got_elsewhere (z ∷ xs) (suc i) (suc j) y ne = got_elsewhere xs i j y (λ e. ne (ap suc e))
-
-  -- what is set to itself stays
-  pub set_to_itself : (xs : List X) (i : ℕ) (x : X) → slice_get xs i ≡ Some x → slice_set xs i x ≡ xs
-  set_to_itself [] i x e = refl
-  set_to_itself (z ∷ xs) zero x e = ap (λ y. y ∷ xs) (cc e)
-  set_to_itself (z ∷ xs) (suc i) x e = ap (λ ys. z ∷ ys) (set_to_itself xs i x e)
 
   -- behind its end nothing is set
   pub set_past : (xs : List X) (i : ℕ) (x : X) → slice_get xs i ≡ None → slice_set xs i x ≡ xs
@@ -235,14 +229,6 @@ not_found same key (Some p ∷ rest) none =
 
 module _ {K V : Type 0} {same : K → K → Bool} (leads : K → Option ℕ) (table : Table K V)
     (agrees : Agrees same leads table) (key : K) where
-  -- what is found under a key that leads to a chunk
-  pub found_where_led : (chunk : ℕ) (home : Option (Placed K V)) → leads key ≡ Some chunk
-      → slice_get table chunk ≡ Some home → found_in same key table ≡ home
-  found_where_led chunk home led at =
-      let there = agrees.leads_home key chunk led in
-      found_at same key table chunk there.0 there.1 there.2
-      (λ d p is its. cc (sym (agrees.is_led_to d p key is its) ∙ led)) ∙ cc (sym there.1 ∙ at)
-
   -- nothing is found under a key that leads nowhere
   pub not_found_where_unknown : leads key ≡ None → found_in same key table ≡ None
   not_found_where_unknown none = not_found same key table (λ d p at. by d p at (same key p.key) refl)
@@ -274,13 +260,6 @@ nothing_agrees same leads n none = record {
   is_led_to = λ d p q at its. absurd (nothing_at n d p at);
 }
 
--- where a key leads to a chunk, the chunk is one of the table's
-pub in_table : {K V : Type 0} {same : K → K → Bool} (leads : K → Option ℕ) (table : Table K V) (agrees : Agrees same leads table)
-    (key : K) (chunk : ℕ) → leads key ≡ Some chunk → chunk < length table
-in_table leads table agrees key chunk led =
-    let home = agrees.leads_home key chunk led in
-    slice_get_within table chunk (Some home.0) home.1
-
 -- a chunk is emptied, and its key is taken out
 pub empties : {K V : Type 0} {same : K → K → Bool} (laws : IsEquivalence same) (leads next : K → Option ℕ)
     (table : Table K V) (agrees : Agrees same leads table) (chunk : ℕ) (home left : Option (Placed K V))
@@ -294,14 +273,6 @@ empties {same = same} laws leads next table agrees chunk home left placed key wi
     (ap (λ k. same k placed.key) its ∙ laws.refl placed.key) in
     subst (λ home. Agrees same next (slice_set table chunk home)) (sym none)
     (forgets laws leads next table agrees key chunk led nexts)
-
--- what is found under a key that leads to a chunk, by a read of its place
-pub found_by_read : {K V : Type 0} {same : K → K → Bool} (leads : K → Option ℕ) (table : Table K V)
-    (agrees : Agrees same leads table) (key : K) (chunk : ℕ) (home : Option (Placed K V)) → leads key ≡ Some chunk
-    → home ≡ get_or table chunk home → home ≡ found_in same key table
-found_by_read leads table agrees key chunk home led read =
-    sym (found_where_led leads table agrees key chunk home led
-    (slice_get_read table _ chunk home refl (in_table leads table agrees key chunk led) read))
 
 -- what is left once a key was taken out has another key
 pub left_apart : {K V : Type 0} (same : K → K → Bool) (key : K) (table : Table K V) (d : ℕ) (p : Placed K V)

@@ -41,14 +41,6 @@ module _ {T C : Type 0} (changed : T → C → T) where
       ap₂ (λ cs os. fold changed t (cs ++ os)) is none ∙ (ap (fold changed t) (append-nil (before ++ c ∷ []))
       ∙ (fold_both t before (c ∷ []) ∙ ap (λ u. changed u c) so_far))
 
-  -- one more change is owed
-  pub owed_more : (t : T) (before after owed more : List C) (slots : T) (c : C) → fold changed t (before ++ owed) ≡ slots
-      → owed ≡ [] → after ≡ before → more ≡ c ∷ [] → fold changed t (after ++ more) ≡ changed slots c
-  owed_more t before after owed more slots c keeps none is so =
-      let so_far : fold changed t before ≡ slots =
-      ap (fold changed t) (sym (append-nil before) ∙ ap (λ o. before ++ o) (sym none)) ∙ keeps in
-      ap₂ (λ cs os. fold changed t (cs ++ os)) is so ∙ (fold_both t before (c ∷ []) ∙ ap (λ u. changed u c) so_far)
-
 -- nothing is owed where no chunk is
 pub nothing_owed : {X C : Type 0} (owed : Option X) (changes : Option X → List C) → changes None ≡ []
     → is_some owed ≡ false → changes owed ≡ []

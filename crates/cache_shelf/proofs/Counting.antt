@@ -1,12 +1,11 @@
 -- What the counts of a Shelf keep.
-use Rattle.std.proofs.Common.{◌≡◌, ℕ, ◌+◌, Bool, true, false, ◌||◌, [], length, Option, Some, None, ◌≢◌, IfNone, refl, sym, ap, ap₂, ◌∙◌, arith}
+use Rattle.std.proofs.Common.{◌≡◌, ℕ, ◌+◌, Bool, true, false, ◌||◌, length, Option, Some, None, ◌≢◌, IfNone, refl, sym, ap, ap₂, ◌∙◌, arith}
 use Rattle.std.proofs.lemmas.Bool.{and_parts}
 use Rattle.bump_rules.specs.declared.places.Place.{Place}
 use Rattle.bump_rules.specs.declared.places.Place.TheVariants.{Hot, Warm, Cold, Temp, Dying, Unused, Retired}
 use Rattle.bump_rules.specs.Lawful.{bit}
 use Rattle.bump_rules.specs.Places.{is_place, is_segment_place}
 use Rattle.bump_rules.proofs.Standings.{same_place}
-use Rattle.bump_steps.specs.declared.views.ClassPart.{ClassPart}
 use Rattle.bump_class.specs.Books.{BookView}
 use Rattle.cache_shelf.specs.declared.flow.Flow.{Flow}
 use Rattle.bump_rules.specs.declared.bumps.Applied.{Applied}
@@ -22,8 +21,8 @@ use Rattle.bump_rules.specs.Tables.{segment_of, pulled_to}
 use Rattle.cache_shelf.specs.declared.evictions.Evictions.{Evictions}
 use Rattle.bump_rules.specs.Commands.{item_told}
 use Rattle.cache_shelf.specs.Items.{may_tell}
-use Rattle.cache_shelf.specs.Flows.{Way, is_way, crossings, crossings_behind, Flows, FlowsTwice, AddsUp, way_to, way_of_applied}
-use Rattle.cache_shelf.specs.Counts.{capped, more, noted, no_flow, is_ours, are_ours, IsFlow, SegmentsAddUp, CountedView}
+use Rattle.cache_shelf.specs.Flows.{Way, is_way, crossings, Flows, FlowsTwice, AddsUp, way_to, way_of_applied}
+use Rattle.cache_shelf.specs.Counts.{capped, more, noted, is_ours, are_ours, IsFlow, SegmentsAddUp, CountedView}
 
 -- one more of a count that stops is the count of one more
 pub more_capped : (b : Bool) (n : ℕ) → more b (capped n) ≡ capped (n + bit b)
@@ -77,11 +76,6 @@ flow_goes_twice first second before after flow ours_first ours_second flows is =
     flow_goes_on second flows.between after (noted first flow) ours_second flows.other
     (flow_goes_on first before flows.between flow ours_first flows.one is)
 
--- a way that counts nothing changes no count
-pub flow_stays : (before after : BookView) (flow : Flow) → Flows None before after → IsFlow flow before.part
-    → IsFlow flow after.part
-flow_stays before after flow flows is = flow_goes_on None before after flow tt flows is
-
 -- the ways of a pull that isn't an evict
 pub told_ours : (from : Tail) (answer : Pulled) → from ≢ tail.Evict → may_tell from answer ≡ true
     → are_ours (way_to (segment_of from) (pulled_to answer))
@@ -132,24 +126,6 @@ bump_is_ours None = tt
 bump_is_ours (Some applied.Moved) = refl
 bump_is_ours (Some applied.TimeOnly) = tt
 bump_is_ours (Some (applied.Gone ended)) = tt
-
--- nothing went anywhere where the history has nothing
-pub flow_begins : (class : ClassPart) → class.history ≡ [] → IsFlow no_flow class
-flow_begins class none = record {
-  linked = sym (ap capped (nothing Unused Hot));
-  hot_to_warm = sym (ap capped (nothing Hot Warm));
-  hot_to_cold = sym (ap capped (nothing Hot Cold));
-  warm_to_warm = sym (ap capped (nothing Warm Warm));
-  warm_to_cold = sym (ap capped (nothing Warm Cold));
-  cold_to_warm = sym (ap capped (nothing Cold Warm));
-  ended_hot = sym (ap capped (nothing Hot Dying));
-  ended_warm = sym (ap capped (nothing Warm Dying));
-  ended_cold = sym (ap capped (nothing Cold Dying));
-  no_other = λ from to segment other. nothing from to;
-}
-  where
-    nothing : (from to : Place) → crossings from to class ≡ 0
-    nothing from to = ap (crossings_behind class.fresh from to []) none
 
 -- what came in is there still, or went out, by the ways that there are
 pub segments_add_up : (book : BookView) (flow : Flow) → AddsUp book → IsFlow flow book.part

@@ -1,5 +1,5 @@
 -- How the history of a class counts the ways of its items, and what changes of a Book do to them.
-use Rattle.std.proofs.Common.{◌≡◌, ℕ, ◌+◌, ◌-◌, Bool, true, false, ◌==◌, ◌&&◌, cond, List, [], ◌∷◌, ◌++◌, length, refl, sym, ap, ap₂, ◌∙◌, subst, arith, append-nil, append_assoc, eq-eqb, ne_eqb}
+use Rattle.std.proofs.Common.{◌≡◌, ℕ, ◌+◌, ◌-◌, Bool, true, false, ◌&&◌, List, [], ◌∷◌, ◌++◌, length, refl, sym, ap, ap₂, ◌∙◌, subst, arith, append-nil, append_assoc, eq-eqb, ne_eqb}
 use native.Mathlib.Decide.{ℕ_discrete}
 use Rattle.bump_links.specs.Lists.{times, without}
 use Rattle.bump_rules.specs.declared.history.Change.{Change}
@@ -14,6 +14,7 @@ use Rattle.bump_rules.proofs.Replay.{replayed_lists, replay_push, are_between_pu
 use Rattle.bump_rules.proofs.SixLists.{list_at_front}
 use Rattle.bump_rules.proofs.Updates.{total_both}
 use Rattle.bump_class.specs.Books.{BookView, IsBook}
+use Rattle.bump_class.proofs.SizeLemmas.{shorter, longer}
 use Rattle.cache_shelf.specs.Flows.{crosses, crossings_behind, into, out_of, AddsUp}
 
 -- one more entry of a history is one more way where it is this way
@@ -29,21 +30,6 @@ crossings_push fresh from to so_far (d ∷ rest) e = omega (
 )
 
 -- ---- what came in is there still, or went out
-
--- a list without a chunk is shorter by the times that it had it
-shorter : (c : ℕ) (xs : List ℕ) → length (without c xs) + times c xs ≡ length xs
-shorter c [] = refl
-shorter c (x ∷ xs) = by (x == c) refl (shorter c xs)
-  where
-    by : (b : Bool) → (x == c) ≡ b → length (without c xs) + times c xs ≡ length xs
-        → length (without c (x ∷ xs)) + times c (x ∷ xs) ≡ length (x ∷ xs)
-    by true is rest = rw is (omega (arith, rest))
-    by false is rest = rw is (omega (arith, rest))
-
--- a list with one more in front, or without
-longer : (b : Bool) (c : ℕ) (xs : List ℕ) → length (cond b (c ∷ xs) xs) ≡ length xs + bit b
-longer true c xs = omega arith
-longer false c xs = omega arith
 
 -- a move to the front takes a chunk from where it stood, and puts it where it stands then
 size_moved : (c : ℕ) (p q : Place) (l : Lists) → length (list_at (to_front c p l) q) + times c (list_at l q)

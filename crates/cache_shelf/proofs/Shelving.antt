@@ -130,14 +130,6 @@ module _ {K V : Type 0} {same : K → K → Bool} (book left : BookView) (table 
       let lt = slice_get_within table chunk (Some placed) at in
       (lt, sym (is.linked chunk lt) ∙ ap (option_map (λ (p : Placed K V). p.generation)) (get_or_from_slice_get table chunk (Some placed) None at))
 
-  -- where no item is linked, the table has nothing
-  pub unlinked_free : (chunk : ℕ) → chunk < length table → linked_at book.part chunk ≡ None → at_chunk chunk table ≡ None
-  unlinked_free chunk lt none = by (at_chunk chunk table) refl
-    where
-      by : (home : Option (Placed K V)) → at_chunk chunk table ≡ home → at_chunk chunk table ≡ None
-      by None e = e
-      by (Some p) e = absurd (cc (sym (ap (option_map (λ (p : Placed K V). p.generation)) e) ∙ (is.linked chunk lt ∙ none)))
-
   module _ (laws : IsEquivalence same) (key : K) (chunk : ℕ) (placed : Placed K V)
       (at : slice_get table chunk ≡ Some (Some placed)) (its : same key placed.key ≡ true) where
     -- no other chunk has the key

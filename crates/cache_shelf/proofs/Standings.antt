@@ -438,12 +438,6 @@ pull_tells book left tail.Cold answer stands ne (Some chunk) is pulls =
     )
 pull_tells book left tail.Evict answer stands ne (Some chunk) is pulls = absurd (ne refl)
 
--- nothing happens where the list is empty
-pub pull_of_nothing : (book left : BookView) (from : Tail) (answer : Pulled) (at : Option ℕ) → at ≡ None
-    → PullsAt book from at answer left → left ≡ book
-pull_of_nothing book left from answer None e pulls = pulls.1
-pull_of_nothing book left from answer (Some chunk) e pulls = absurd (cc e)
-
 -- the chunk of the item that a pull tells
 pub told_chunk : (class : ClassPart) (at : Option ℕ)
     → option_map (λ (item : ItemId). item.chunk) (option_map (life_in class) at) ≡ at

@@ -68,10 +68,6 @@ front_elsewhere c p q lists other = list_at_front c p q lists
 
 -- ---- the same segments
 
--- they are where nothing changed
-pub same_still : (before after : Lists) → after ≡ before → SameSegments before after
-same_still before after is place segment = ap (λ (l : Lists). list_at l place) is
-
 -- and where one change comes behind the other
 pub same_then : (before between after : Lists) → SameSegments before between → SameSegments between after
     → SameSegments before after

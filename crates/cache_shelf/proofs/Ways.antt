@@ -46,7 +46,7 @@ use Rattle.bump_class.specs.Lanes.{LaneView}
 use Rattle.bump_class.specs.Links.{linked_item, item_of, next_life}
 use Rattle.bump_class.specs.Pulls.{PullsAt, MovesItem, book_after_pull_to, limits_of_book}
 use Rattle.bump_class.specs.Sweeps.{Sweeps}
-use Rattle.cache_shelf.specs.Flows.{crosses, crossings_behind, crossings, Way, is_way, Flows, FlowsTwice, way_of_pull, way_of_applied, way_to}
+use Rattle.cache_shelf.specs.Flows.{crosses, crossings_behind, crossings, Way, is_way, Flows, way_of_pull, way_of_applied, way_to}
 use Rattle.bump_rules.specs.Commands.{item_told}
 use Rattle.cache_shelf.specs.Items.{may_tell}
 use Rattle.cache_shelf.specs.Shelves.{linked_standing, linked_at}
@@ -113,14 +113,6 @@ pub before_none : (first second third : BookView) (way : Option Way) → Flows w
 before_none first second third way flows none = record {
   counts = λ from to some. omega (arith, flows.counts from to some, none.counts from to some);
 }
-
--- two ways count together
-pub twice_counts : (before after : BookView) (first second : Option Way) → FlowsTwice first second before after
-    → (from to : Place) → (is_segment_place from || is_segment_place to) ≡ true
-    → crossings from to after.part
-    ≡ crossings from to before.part + (bit (is_way first from to) + bit (is_way second from to))
-twice_counts before after first second flows from to some =
-    omega (arith, flows.one.counts from to some, flows.other.counts from to some)
 
 -- a look at a chunk counts nothing
 pub seen_flows : (book seen : BookView) (chunk time : ℕ) (head : Head) → seen ≡ book_after_see chunk head time book

@@ -11,6 +11,7 @@ mod fresh;
 mod lives;
 mod refusals;
 mod refused_memory;
+mod scenes;
 mod stores;
 mod whichever;
 mod words;

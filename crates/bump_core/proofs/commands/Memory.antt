@@ -4,7 +4,6 @@ use Rattle.std.proofs.lemmas.Bool.{both_ways}
 use Rattle.std.specs.Prelude.{IfErr}
 use Rattle.std.specs.List.{list_any}
 use Rattle.bump_rules.specs.declared.items.Head.{Head}
-use Rattle.bump_rules.specs.declared.bumps.Ended.{Ended}
 use Rattle.bump_rules.specs.declared.bumps.Ended.TheVariants.{Freed, Deferred}
 use Rattle.bump_rules.specs.declared.commands.Answer.{Answer}
 use Rattle.bump_rules.specs.declared.commands.Answer.TheVariants as answer
@@ -40,22 +39,6 @@ looks_ask heads (c ∷ cs) s some = by (is_unheld (heads c)) some (looks_ask hea
         → one_asks s (look_of c (if b then Freed else Deferred) ∷ looks_at heads cs) ≡ true
     by true some others = refl
     by false some others = others some
-
--- whatever is asked before, an event that asks makes the events ask
-or_asks : (b : Bool) → (b || true) ≡ true
-or_asks true = refl
-or_asks false = refl
-
--- to apply a bump asks, whatever it comes to
-applied_asks : (s : State) (w now c : ℕ) (linked cold active : Bool) (e : Ended) → one_asks s
-    (if not linked then event.Try w ∷ event.Alight w ∷ look_of c e ∷ []
-    else (if not cold then event.Try w ∷ event.BumpTime w now ∷ event.Alight w ∷ []
-    else (if active then event.Try w ∷ event.BumpTime w now ∷ event.ClearFor w ∷ event.MoveFor w ∷ event.Alight w ∷ []
-    else event.Try w ∷ event.BumpTime w now ∷ event.ClearFor w ∷ event.Alight w ∷ []))) ≡ true
-applied_asks s w now c false cold active e = refl
-applied_asks s w now c true false active e = refl
-applied_asks s w now c true true true e = refl
-applied_asks s w now c true true false e = refl
 
 -- A sweep.
 module _ (s : State) (k : ℕ) (within : k < length s.classes) where

@@ -9,7 +9,7 @@ use Rattle.bump_state.specs.declared.chunks.Chunk.{Chunk}
 use Rattle.bump_rules.specs.declared.places.Place.TheVariants.{Unused}
 use Rattle.bump_rules.specs.Totals.{total, how_many}
 use Rattle.bump_rules.specs.Entries.{is_move_for, is_told_gone, moves_told}
-use Rattle.bump_rules.specs.Configs.{chunks_of, first_fault, HaveChunks}
+use Rattle.bump_rules.specs.Configs.{chunks_of, first_fault, HaveChunks, most_chunks}
 use Rattle.bump_rules.proofs.Bounds.{bounds}
 use Rattle.bump_core.proofs.NewClasses.{classes_long}
 use Rattle.bump_rules.specs.Lists.{opening}
@@ -116,7 +116,7 @@ new_is_worker capacity = record {
 
 module _ (config : Config) (early : config.first_generation < 4294967296) (two : 2 ≤ config.refs_limit)
     (all : HaveChunks config.classes)
-    (few_classes : length config.classes ≤ 16) (few_chunks : chunks_of config.classes ≤ 1000000)
+    (few_classes : length config.classes ≤ 16) (few_chunks : chunks_of config.classes ≤ most_chunks)
     (few_workers : config.workers ≤ 64) where
   -- the new World
   abbrev s : State

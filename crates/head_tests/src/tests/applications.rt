@@ -1,23 +1,21 @@
 //! One life in COLD whose bump is applied: its item is moved.
-ghost use Rattle.std.specs.Prelude.{◌≡◌, ◌∷◌, [], IfOk, IsSome, None, Some, true, false};
-ghost use Rattle.std.specs.Arc.{arc_value};
-ghost use Rattle.bump_rules.specs.declared.places.Place.TheVariants as place;
+ghost use Rattle.std.specs.Prelude.{◌≡◌, IsSome, None, Some, true, false};
 ghost use Rattle.bump_rules.specs.Lives.{life as life_of};
 ghost use Rattle.bump_heads.specs.Applying.{carried_by};
-ghost use Rattle.bump_heads.specs.Linking.{place_of_chunk};
 ghost use Rattle.bump_steps.specs.Applications.{class_at_rest};
-ghost use Rattle.bump_steps.specs.Rule.{chunks as all_chunks};
+ghost use Rattle.bump_steps.specs.Rule.{lane_part};
 ghost use Rattle.bump_readers.specs.Seats.{row_in};
 ghost use Rattle.bump_readers.specs.Taking.{whole_hold};
-ghost use Rattle.bump_steps.specs.Views.{owns, standing};
+ghost use Rattle.bump_heads.specs.Making.{lane_seen};
+ghost use Rattle.bump_steps.specs.Views.{owns};
+ghost use Rattle.head_tests.specs.Stores.{IsNew};
 
 use super::bumps::{begin_in_cold, send_off};
 use super::expecting::{expect, expect_seen};
-use super::stores::{Small, config_of, head, open};
+use super::scenes::{Scene, play};
+use super::stores::head;
 use super::*;
-use bump_rules::{Bump, Config, Head, Outcome, Segment};
-use std::alloc::{AllocError, Global};
-use std::marker::Brand;
+use bump_rules::{Bump, Head, Outcome, Segment};
 use std::process::Abort;
 use std::test::Fail;
 
@@ -87,45 +85,30 @@ fn apply_front<N: Name>(
     }
 }
 
-// A store whose lane carries a bump of chunk 0's first life, which is in COLD, and the hold under which it was hit.
+// The lane carries a bump of chunk 0's first life, which is in COLD. It gives the hold under which it was hit.
 fn carry<N: Name>(
     rt: &impl Abort,
-    alloc: Global,
-    blank: Blank,
-    config: &Config,
-) -> Result<(Small<N>, Hold<N>), AllocError>
-    requires name { blank.table ≡ N.table }
-    requires config { blank.config ≡ config.now }
-    requires small { (config.now.workers ≡ 1) × (config.now.first_generation ≡ 1)
-        × (config.now.classes ≡ record { chunks = 2; hot = 1; warm = 1 } ∷ []) }
-    ensures chunks { IfOk result (λ r. all_chunks (arc_value r.0.heads) ≡ 2) }
-    ensures alone { IfOk result (λ r. r.0.class.lane ≡ None) }
-    ensures own { IfOk result (λ r. owns 0 r.0.class.part ≡ true) }
-    ensures stands { IfOk result (λ r. standing r.0.class.part 0 ≡ (place.Cold, 1)) }
-    ensures carries { IfOk result (λ r. carried_by r.0.lane ≡ Some (record { number = 0; life = life_of 0 1 })) }
-    ensures hold { IfOk result (λ r. r.1 ≡ whole_hold (life_of 0 1) (row_in r.1.part)) }
+    heads: &Heads<N>,
+    class: &mut ClassSeat<N>,
+    worker: &mut WorkerSeat<N>,
+    lane: &mut LaneSeat<N>,
+) -> Hold<N>
+    requires new { IsNew heads.now class.old worker.old }
+    requires lane { lane.old ≡ lane_seen (lane_part 0) }
+    ensures alone { class.new.lane ≡ None }
+    ensures own { owns 0 class.new.part ≡ true }
+    ensures carries { carried_by lane.new ≡ Some (record { number = 0; life = life_of 0 1 }) }
+    ensures hold { result ≡ whole_hold (life_of 0 1) (row_in result.part) }
 {
-    let Small {
-        heads,
-        mut class,
-        mut worker,
-        mut lane,
-    } = open::<N>(alloc, blank, config)?;
-    let life = begin_in_cold(&mut class);
-    expect_seen(rt, &heads, 0, (head(1, "l", Segment::Cold, 1), 1));
-    let mut hold = heads.take(&mut worker, life).expect(rt, "there is room");
-    let rider = send_off(rt, &heads, &mut worker, &mut hold);
+    let life = begin_in_cold(class);
+    expect_seen(rt, heads, 0, (head(1, "l", Segment::Cold, 1), 1));
+    let mut hold = heads.take(worker, life).expect(rt, "there is room");
+    let rider = send_off(rt, heads, worker, &mut hold);
     let before = (head(3, "lfa", Segment::Cold, 1), 1);
-    expect_seen(rt, &heads, 0, before);
+    expect_seen(rt, heads, 0, before);
     lane.board(rider);
-    expect_seen(rt, &heads, 0, before);
-    let store = Small {
-        heads,
-        class,
-        worker,
-        lane,
-    };
-    Ok((store, hold))
+    expect_seen(rt, heads, 0, before);
+    hold
 }
 
 // The steps found the item in COLD and ACTIVE, and moved it.
@@ -140,34 +123,29 @@ fn expect_moved(rt: &impl Abort, applied: &Applied) {
     expect(rt, "the outcome", &applied.outcome, &Outcome::Moved);
 }
 
-fn move_in<N: Name>(
+/// The bump that the lane carries moves its item.
+pub fn move_item<N: Name>(
     rt: &impl Abort,
-    alloc: Global,
-    blank: Blank,
-    config: &Config,
-) -> Result<(), AllocError>
-    requires name { blank.table ≡ N.table }
-    requires config { blank.config ≡ config.now }
-    requires small { (config.now.workers ≡ 1) × (config.now.first_generation ≡ 1)
-        × (config.now.classes ≡ record { chunks = 2; hot = 1; warm = 1 } ∷ []) }
+    heads: &Heads<N>,
+    class: &mut ClassSeat<N>,
+    worker: &mut WorkerSeat<N>,
+    lane: &mut LaneSeat<N>,
+)
+    requires new { IsNew heads.now class.old worker.old }
+    requires lane { lane.old ≡ lane_seen (lane_part 0) }
 {
-    let (mut store, hold) = carry::<N>(rt, alloc, blank, config)?;
+    let hold = carry(rt, heads, class, worker, lane);
     let bump = Bump {
         number: 0,
         life: hold.life(),
     };
-    let applied = apply_front(&mut store.class, &mut store.lane, bump, 9);
+    let applied = apply_front(class, lane, bump, 9);
     expect_moved(rt, &applied);
-    let wanted = (head(2, "lf", Segment::Warm, 1), 9);
-    expect_seen(rt, &store.heads, 0, wanted);
-    store.heads.give_back(hold);
-    Ok(())
+    expect_seen(rt, heads, 0, (head(2, "lf", Segment::Warm, 1), 9));
+    heads.give_back(hold);
 }
 
 #[test]
 fn a_bump_moves_its_item(rt: HostRuntime) -> Result<(), Fail> {
-    let alloc = rt.alloc();
-    let config = config_of(alloc, 4).ok_or("no memory")?;
-    let blank = Blank::new(alloc, &config)?;
-    Ok(move_in::<Brand>(&rt, alloc, blank, &config)?)
+    play(&rt, rt.alloc(), 4, Scene::Move)
 }

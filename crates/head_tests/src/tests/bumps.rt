@@ -1,37 +1,25 @@
 //! Bumps of one worker: how they come to be, and those that find no room.
-ghost use Rattle.std.specs.Prelude.{◌≡◌, ◌<◌, ◌∷◌, [], None, Some, true};
-ghost use Rattle.bump_rules.specs.declared.hands.Hand.TheVariants.{Idle, Trying};
+ghost use Rattle.std.specs.Prelude.{◌≡◌, None, Some, true};
+ghost use Rattle.bump_rules.specs.declared.hands.Hand.TheVariants.{Trying};
 ghost use Rattle.bump_rules.specs.declared.places.Place.TheVariants as place;
 ghost use Rattle.bump_rules.specs.Lives.{life as life_of};
 ghost use Rattle.bump_steps.specs.References.{new_hold};
-ghost use Rattle.bump_steps.specs.Rule.{chunks as all_chunks, no_accounts};
 ghost use Rattle.bump_readers.specs.Seats.{row_in};
-ghost use Rattle.bump_readers.specs.Taking.{whole_hold};
 ghost use Rattle.bump_steps.specs.Views.{owns, standing};
+ghost use Rattle.head_tests.specs.Stores.{fresh_class, IsNew, MayHit};
 
 use super::expecting::{expect, expect_head, expect_head_of};
-use super::stores::{Small, config_of, head, let_out, open};
+use super::scenes::{Scene, play};
+use super::stores::{head, let_out};
 use super::*;
-use bump_rules::{Config, ItemId, Segment};
-use std::alloc::{AllocError, Global};
-use std::marker::Brand;
+use bump_rules::{ItemId, Segment};
 use std::process::Abort;
 use std::test::Fail;
 
 /// The first life of chunk 0 begins, at time 1, and goes to COLD.
 pub fn begin_in_cold<N: Name>(class: &mut ClassSeat<N>) -> ItemId
     requires alone { class.old.lane ≡ None }
-    requires first { class.old.part ≡ record {
-      class = 0;
-      first = 0;
-      count = 2;
-      fresh = 0;
-      history = [];
-      labels = [];
-      words = [];
-      applying = None;
-      steps = [];
-    } }
+    requires first { class.old.part ≡ fresh_class }
     ensures alone { class.new.lane ≡ None }
     ensures own { owns 0 class.new.part ≡ true }
     ensures stands { standing class.new.part 0 ≡ (place.Cold, 1) }
@@ -52,11 +40,7 @@ pub fn attempt<N: Name>(
     worker: &mut WorkerSeat<N>,
     hold: &mut Hold<N>,
 )
-    requires idle { worker.old.part.hand ≡ Idle }
-    requires alone { worker.old.hold ≡ None }
-    requires fresh { worker.old.part.accounts ≡ no_accounts }
-    requires hold { hold.old ≡ whole_hold hold.old.life (row_in hold.old.part) }
-    requires chunk { hold.old.life.chunk < all_chunks heads.now }
+    requires ready { MayHit heads.now worker.old hold.old }
     ensures trying { worker.new.part.hand ≡ Trying hold.old.life }
     ensures joined { worker.new.hold ≡ Some (new_hold hold.old.life (row_in hold.old.part)) }
     ensures accepted { worker.new.part.accounts.accepted ≡ 0 }
@@ -85,11 +69,7 @@ pub fn send_off<N: Name>(
     worker: &mut WorkerSeat<N>,
     hold: &mut Hold<N>,
 ) -> Rider<N>
-    requires idle { worker.old.part.hand ≡ Idle }
-    requires alone { worker.old.hold ≡ None }
-    requires fresh { worker.old.part.accounts ≡ no_accounts }
-    requires hold { hold.old ≡ whole_hold hold.old.life (row_in hold.old.part) }
-    requires chunk { hold.old.life.chunk < all_chunks heads.now }
+    requires ready { MayHit heads.now worker.old hold.old }
     ensures rider { result ≡ record { worker = worker.old.part.worker; number = 0; life = hold.old.life } }
     ensures hold { hold.new ≡ hold.old }
 {
@@ -108,11 +88,7 @@ fn drop_full<N: Name>(
     worker: &mut WorkerSeat<N>,
     hold: &mut Hold<N>,
 )
-    requires idle { worker.old.part.hand ≡ Idle }
-    requires alone { worker.old.hold ≡ None }
-    requires fresh { worker.old.part.accounts ≡ no_accounts }
-    requires hold { hold.old ≡ whole_hold hold.old.life (row_in hold.old.part) }
-    requires chunk { hold.old.life.chunk < all_chunks heads.now }
+    requires ready { MayHit heads.now worker.old hold.old }
     ensures alone { worker.new.hold ≡ None }
     ensures hold { hold.new ≡ hold.old }
 {
@@ -139,11 +115,7 @@ fn drop_at_limit<N: Name>(
     worker: &mut WorkerSeat<N>,
     hold: &mut Hold<N>,
 )
-    requires idle { worker.old.part.hand ≡ Idle }
-    requires alone { worker.old.hold ≡ None }
-    requires fresh { worker.old.part.accounts ≡ no_accounts }
-    requires hold { hold.old ≡ whole_hold hold.old.life (row_in hold.old.part) }
-    requires chunk { hold.old.life.chunk < all_chunks heads.now }
+    requires ready { MayHit heads.now worker.old hold.old }
     ensures alone { worker.new.hold ≡ None }
     ensures hold { hold.new ≡ hold.old }
 {
@@ -161,43 +133,28 @@ fn drop_at_limit<N: Name>(
     let_out(heads, worker, hold);
 }
 
-// The bump finds no room in its ring, or, where the limit is 2, no room among the references.
-fn drop_in<N: Name>(
+/// The bump finds no room in its ring, or, where the limit is 2, no room among the references.
+pub fn drop_bump<N: Name>(
     rt: &impl Abort,
-    alloc: Global,
-    blank: Blank,
-    config: &Config,
-) -> Result<(), AllocError>
-    requires name { blank.table ≡ N.table }
-    requires config { blank.config ≡ config.now }
-    requires small { (config.now.workers ≡ 1) × (config.now.first_generation ≡ 1)
-        × (config.now.classes ≡ record { chunks = 2; hot = 1; warm = 1 } ∷ []) }
+    heads: &Heads<N>,
+    class: &mut ClassSeat<N>,
+    worker: &mut WorkerSeat<N>,
+)
+    requires new { IsNew heads.now class.old worker.old }
 {
-    let Small {
-        heads,
-        mut class,
-        mut worker,
-        lane: _,
-    } = open::<N>(alloc, blank, config)?;
-    let life = begin_in_cold(&mut class);
-    let mut hold = heads.take(&mut worker, life).expect(rt, "there is room");
+    let life = begin_in_cold(class);
+    let mut hold = heads.take(worker, life).expect(rt, "there is room");
     if heads.refs_limit() == 2 {
-        drop_at_limit(rt, &heads, &mut worker, &mut hold);
+        drop_at_limit(rt, heads, worker, &mut hold);
     } else {
-        drop_full(rt, &heads, &mut worker, &mut hold);
+        drop_full(rt, heads, worker, &mut hold);
     }
     expect_head(rt, heads.give_back(hold).0, head(2, "lf", Segment::Cold, 1));
-    expect_head_of(rt, &heads, 0, head(1, "lf", Segment::Cold, 1));
-    Ok(())
+    expect_head_of(rt, heads, 0, head(1, "lf", Segment::Cold, 1));
 }
 
 #[test]
 fn a_bump_without_room_is_dropped(rt: HostRuntime) -> Result<(), Fail> {
-    let alloc = rt.alloc();
-    for limit in [2, 4] {
-        let config = config_of(alloc, limit).ok_or("no memory")?;
-        let blank = Blank::new(alloc, &config)?;
-        drop_in::<Brand>(&rt, alloc, blank, &config)?;
-    }
-    Ok(())
+    play(&rt, rt.alloc(), 2, Scene::Drop)?;
+    play(&rt, rt.alloc(), 4, Scene::Drop)
 }

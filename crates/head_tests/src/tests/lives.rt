@@ -1,17 +1,14 @@
 //! A life of a chunk, from its label to its end, with what a reader sees of it.
-ghost use Rattle.std.specs.Prelude.{◌≡◌, ◌<◌, None, [], ◌∷◌};
+ghost use Rattle.std.specs.Prelude.{◌≡◌, ◌<◌, None};
 ghost use Rattle.bump_rules.specs.declared.hands.Hand.TheVariants.{Idle};
-ghost use Rattle.bump_readers.specs.Workers.{worker_seen};
-ghost use Rattle.bump_steps.specs.Rule.{no_accounts, worker_part, chunks as all_chunks};
-ghost use Rattle.bump_readers.specs.Seats.{row_in};
-ghost use Rattle.bump_readers.specs.Taking.{whole_hold};
+ghost use Rattle.bump_steps.specs.Rule.{chunks as all_chunks};
+ghost use Rattle.head_tests.specs.Stores.{IsNew, MayHit};
 
 use super::expecting::{expect, expect_head, expect_head_of, expect_seen};
-use super::stores::{Small, config_of, head, let_out, life_of, open, refusal};
+use super::scenes::{Scene, play};
+use super::stores::{head, let_out, life_of, refusal};
 use super::*;
-use bump_rules::{Config, ItemId, Segment};
-use std::alloc::{AllocError, Global};
-use std::marker::Brand;
+use bump_rules::{ItemId, Segment};
 use std::process::Abort;
 use std::test::Fail;
 
@@ -22,11 +19,7 @@ pub fn mark_in_hot<N: Name>(
     worker: &mut WorkerSeat<N>,
     hold: &mut Hold<N>,
 )
-    requires idle { worker.old.part.hand ≡ Idle }
-    requires alone { worker.old.hold ≡ None }
-    requires fresh { worker.old.part.accounts ≡ no_accounts }
-    requires hold { hold.old ≡ whole_hold hold.old.life (row_in hold.old.part) }
-    requires chunk { hold.old.life.chunk < all_chunks heads.now }
+    requires ready { MayHit heads.now worker.old hold.old }
     ensures idle { worker.new.part.hand ≡ Idle }
     ensures alone { worker.new.hold ≡ None }
     ensures hold { hold.new ≡ hold.old }
@@ -61,27 +54,14 @@ fn expect_stale<N: Name>(
     expect(rt, "why", &why, &Some(TakeRefusal::Stale));
 }
 
-// The first life of chunk 0, and the beginning of its second.
-fn live<N: Name>(
+/// The first life of chunk 0, and the beginning of its second.
+pub fn live<N: Name>(
     rt: &impl Abort,
     heads: &Heads<N>,
     class: &mut ClassSeat<N>,
     worker: &mut WorkerSeat<N>,
 )
-    requires chunks { all_chunks heads.now ≡ 2 }
-    requires alone { class.old.lane ≡ None }
-    requires first { class.old.part ≡ record {
-      class = 0;
-      first = 0;
-      count = 2;
-      fresh = 0;
-      history = [];
-      labels = [];
-      words = [];
-      applying = None;
-      steps = [];
-    } }
-    requires worker { worker.old ≡ worker_seen (worker_part 0) }
+    requires new { IsNew heads.now class.old worker.old }
 {
     let place = class.head_at(0);
     class.put_label(0, place, 7);
@@ -118,31 +98,7 @@ fn live<N: Name>(
     expect_stale(rt, heads, worker, life);
 }
 
-fn live_in<N: Name>(
-    rt: &impl Abort,
-    alloc: Global,
-    blank: Blank,
-    config: &Config,
-) -> Result<(), AllocError>
-    requires name { blank.table ≡ N.table }
-    requires config { blank.config ≡ config.now }
-    requires small { (config.now.workers ≡ 1) × (config.now.first_generation ≡ 1)
-        × (config.now.classes ≡ record { chunks = 2; hot = 1; warm = 1 } ∷ []) }
-{
-    let Small {
-        heads,
-        mut class,
-        mut worker,
-        lane: _,
-    } = open::<N>(alloc, blank, config)?;
-    live(rt, &heads, &mut class, &mut worker);
-    Ok(())
-}
-
 #[test]
 fn a_life_is_held_marked_and_freed(rt: HostRuntime) -> Result<(), Fail> {
-    let alloc = rt.alloc();
-    let config = config_of(alloc, 4).ok_or("no memory")?;
-    let blank = Blank::new(alloc, &config)?;
-    Ok(live_in::<Brand>(&rt, alloc, blank, &config)?)
+    play(&rt, rt.alloc(), 4, Scene::Life)
 }

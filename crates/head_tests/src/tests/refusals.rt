@@ -1,13 +1,13 @@
 //! Why a worker gets no hold and no rider, where no other thread is at work.
-ghost use Rattle.std.specs.Prelude.{◌≡◌, ◌<◌, None, [], ◌∷◌};
+ghost use Rattle.std.specs.Prelude.{◌≡◌, ◌<◌, None};
 ghost use Rattle.bump_steps.specs.Rule.{chunks as all_chunks};
+ghost use Rattle.head_tests.specs.Stores.{IsNew};
 
 use super::expecting::expect;
-use super::stores::{Small, config_of, life_of, open, refusal};
+use super::scenes::{Scene, play};
+use super::stores::{life_of, refusal};
 use super::*;
-use bump_rules::{Config, ItemId};
-use std::alloc::{AllocError, Global};
-use std::marker::Brand;
+use bump_rules::ItemId;
 use std::process::Abort;
 use std::test::Fail;
 
@@ -60,29 +60,18 @@ fn miss<N: Name>(rt: &impl Abort, heads: &Heads<N>, worker: &mut WorkerSeat<N>)
     );
 }
 
-// The first life of chunk 0 is held by as many as may hold it.
-fn fill<N: Name>(
+/// The first life of chunk 0 is held by as many as may hold it, and taken neither before it nor behind it.
+pub fn refuse<N: Name>(
     rt: &impl Abort,
     heads: &Heads<N>,
     class: &mut ClassSeat<N>,
     worker: &mut WorkerSeat<N>,
 )
-    requires chunks { all_chunks heads.now ≡ 2 }
-    requires free { class.old.lane ≡ None }
-    requires first { class.old.part ≡ record {
-      class = 0;
-      first = 0;
-      count = 2;
-      fresh = 0;
-      history = [];
-      labels = [];
-      words = [];
-      applying = None;
-      steps = [];
-    } }
-    requires alone { worker.old.hold ≡ None }
+    requires new { IsNew heads.now class.old worker.old }
 {
     let first = life_of(0, 1);
+    let stale = Some(TakeRefusal::Stale);
+    expect_refusal(rt, heads, worker, first, stale, "before it");
     let place = class.head_at(0);
     class.put_label(0, place, 7);
     expect(rt, "the first life", &class.open_life(0, place), &first);
@@ -109,34 +98,7 @@ fn fill<N: Name>(
     heads.give_back(hold);
 }
 
-fn refuse_in<N: Name>(
-    rt: &impl Abort,
-    alloc: Global,
-    blank: Blank,
-    config: &Config,
-) -> Result<(), AllocError>
-    requires name { blank.table ≡ N.table }
-    requires config { blank.config ≡ config.now }
-    requires small { (config.now.workers ≡ 1) × (config.now.first_generation ≡ 1)
-        × (config.now.classes ≡ record { chunks = 2; hot = 1; warm = 1 } ∷ []) }
-{
-    let Small {
-        heads,
-        mut class,
-        mut worker,
-        lane: _,
-    } = open::<N>(alloc, blank, config)?;
-    let first = life_of(0, 1);
-    let stale = Some(TakeRefusal::Stale);
-    expect_refusal(rt, &heads, &mut worker, first, stale, "before it");
-    fill(rt, &heads, &mut class, &mut worker);
-    Ok(())
-}
-
 #[test]
 fn takes_are_refused(rt: HostRuntime) -> Result<(), Fail> {
-    let alloc = rt.alloc();
-    let config = config_of(alloc, 2).ok_or("no memory")?;
-    let blank = Blank::new(alloc, &config)?;
-    Ok(refuse_in::<Brand>(&rt, alloc, blank, &config)?)
+    play(&rt, rt.alloc(), 2, Scene::Refusals)
 }

@@ -1,13 +1,13 @@
 //! Small stores that tests open, and heads as tests write them.
-ghost use Rattle.std.specs.Prelude.{◌≡◌, ◌<◌, None, Some, IfOk, IfSome, [], ◌∷◌};
+ghost use Rattle.std.specs.Prelude.{◌≡◌, ◌<◌, None, Some, IfOk, IfSome};
 ghost use Rattle.std.specs.Arc.{arc_value};
 ghost use Rattle.bump_rules.specs.declared.hands.Hand.TheVariants.{Idle};
 ghost use Rattle.bump_steps.specs.References.{new_hold};
-ghost use Rattle.bump_steps.specs.Rule.{chunks as all_chunks, worker_part, lane_part};
-ghost use Rattle.bump_readers.specs.Workers.{worker_seen};
-ghost use Rattle.bump_heads.specs.Making.{class_seen, lane_seen};
+ghost use Rattle.bump_steps.specs.Rule.{chunks as all_chunks, lane_part};
+ghost use Rattle.bump_heads.specs.Making.{lane_seen};
 ghost use Rattle.bump_readers.specs.Seats.{row_in};
 ghost use Rattle.bump_readers.specs.Taking.{whole_hold};
+ghost use Rattle.head_tests.specs.Stores.{IsNew, IsSmall};
 
 use super::*;
 use bump_rules::{ClassConfig, Config, Head, ItemId, Segment};
@@ -27,8 +27,7 @@ pub struct Small<N: Name> {
 /// None where memory is refused.
 pub fn config_of(alloc: Global, limit: u32) -> Option<Config>
     ensures limit { IfSome result (λ c. c.refs_limit ≡ limit) }
-    ensures small { IfSome result (λ c. (c.workers ≡ 1) × (c.first_generation ≡ 1)
-        × (c.classes ≡ record { chunks = 2; hot = 1; warm = 1 } ∷ [])) }
+    ensures small { IfSome result IsSmall }
 {
     let class = ClassConfig {
         chunks: 2,
@@ -42,21 +41,8 @@ pub fn config_of(alloc: Global, limit: u32) -> Option<Config>
 pub fn open<N: Name>(alloc: Global, blank: Blank, config: &Config) -> Result<Small<N>, AllocError>
     requires name { blank.table ≡ N.table }
     requires config { blank.config ≡ config.now }
-    requires small { (config.now.workers ≡ 1) × (config.now.first_generation ≡ 1)
-        × (config.now.classes ≡ record { chunks = 2; hot = 1; warm = 1 } ∷ []) }
-    ensures chunks { IfOk result (λ s. all_chunks (arc_value s.heads) ≡ 2) }
-    ensures class { IfOk result (λ s. s.class ≡ class_seen (record {
-      class = 0;
-      first = 0;
-      count = 2;
-      fresh = 0;
-      history = [];
-      labels = [];
-      words = [];
-      applying = None;
-      steps = [];
-    })) }
-    ensures worker { IfOk result (λ s. s.worker ≡ worker_seen (worker_part 0)) }
+    requires small { IsSmall config.now }
+    ensures new { IfOk result (λ s. IsNew (arc_value s.heads) s.class s.worker) }
     ensures lane { IfOk result (λ s. s.lane ≡ lane_seen (lane_part 0)) }
 {
     let HeadParts {

@@ -1,15 +1,14 @@
 //! A hold of whichever life is linked in a chunk, and the head by which it was taken.
-ghost use Rattle.std.specs.Prelude.{◌≡◌, ◌<◌, None, [], ◌∷◌};
-ghost use Rattle.bump_readers.specs.Workers.{worker_seen};
-ghost use Rattle.bump_steps.specs.Rule.{worker_part, chunks as all_chunks};
+ghost use Rattle.std.specs.Prelude.{◌≡◌, ◌<◌, None};
+ghost use Rattle.bump_steps.specs.Rule.{chunks as all_chunks};
+ghost use Rattle.head_tests.specs.Stores.{IsNew};
 
 use super::expecting::{expect, expect_head};
 use super::lives::mark_in_hot;
-use super::stores::{Small, config_of, head, life_of, open};
+use super::scenes::{Scene, play};
+use super::stores::{head, life_of};
 use super::*;
-use bump_rules::{Config, Segment};
-use std::alloc::{AllocError, Global};
-use std::marker::Brand;
+use bump_rules::Segment;
 use std::process::Abort;
 use std::test::Fail;
 
@@ -34,27 +33,14 @@ fn expect_none<N: Name>(
     }
 }
 
-// The chunk's first life, marked by its first hold, and held by as many as may hold it.
-fn take_whichever<N: Name>(
+/// The chunk's first life, marked by its first hold, and held by as many as may hold it.
+pub fn take_whichever<N: Name>(
     rt: &impl Abort,
     heads: &Heads<N>,
     class: &mut ClassSeat<N>,
     worker: &mut WorkerSeat<N>,
 )
-    requires chunks { all_chunks heads.now ≡ 2 }
-    requires alone { class.old.lane ≡ None }
-    requires first { class.old.part ≡ record {
-      class = 0;
-      first = 0;
-      count = 2;
-      fresh = 0;
-      history = [];
-      labels = [];
-      words = [];
-      applying = None;
-      steps = [];
-    } }
-    requires worker { worker.old ≡ worker_seen (worker_part 0) }
+    requires new { IsNew heads.now class.old worker.old }
 {
     let place = class.head_at(0);
     class.put_label(0, place, 7);
@@ -72,31 +58,7 @@ fn take_whichever<N: Name>(
     heads.give_back(hold);
 }
 
-fn whichever_in<N: Name>(
-    rt: &impl Abort,
-    alloc: Global,
-    blank: Blank,
-    config: &Config,
-) -> Result<(), AllocError>
-    requires name { blank.table ≡ N.table }
-    requires config { blank.config ≡ config.now }
-    requires small { (config.now.workers ≡ 1) × (config.now.first_generation ≡ 1)
-        × (config.now.classes ≡ record { chunks = 2; hot = 1; warm = 1 } ∷ []) }
-{
-    let Small {
-        heads,
-        mut class,
-        mut worker,
-        lane: _,
-    } = open::<N>(alloc, blank, config)?;
-    take_whichever(rt, &heads, &mut class, &mut worker);
-    Ok(())
-}
-
 #[test]
 fn whichever_life_is_linked_is_held(rt: HostRuntime) -> Result<(), Fail> {
-    let alloc = rt.alloc();
-    let config = config_of(alloc, 2).ok_or("no memory")?;
-    let blank = Blank::new(alloc, &config)?;
-    Ok(whichever_in::<Brand>(&rt, alloc, blank, &config)?)
+    play(&rt, rt.alloc(), 2, Scene::Whichever)
 }

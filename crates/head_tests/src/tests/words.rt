@@ -1,7 +1,6 @@
 //! Further words of chunks, as a reader sees them.
-ghost use Rattle.std.specs.Prelude.{◌≡◌, ◌≤◌, None, [], ◌∷◌};
-ghost use Rattle.bump_readers.specs.Workers.{worker_seen};
-ghost use Rattle.bump_steps.specs.Rule.{worker_part, chunks as all_chunks};
+ghost use Rattle.std.specs.Prelude.{◌≡◌, ◌≤◌};
+ghost use Rattle.head_tests.specs.Stores.{IsNew, IsSmall};
 
 use super::expecting::{expect, expect_head, expect_seen};
 use super::stores::{Small, config_of, head, life_of, open};
@@ -18,21 +17,8 @@ fn live_wide<N: Name>(
     class: &mut ClassSeat<N>,
     worker: &mut WorkerSeat<N>,
 )
-    requires chunks { all_chunks heads.now ≡ 2 }
     requires wide { 2 ≤ N.table.slots }
-    requires alone { class.old.lane ≡ None }
-    requires first { class.old.part ≡ record {
-      class = 0;
-      first = 0;
-      count = 2;
-      fresh = 0;
-      history = [];
-      labels = [];
-      words = [];
-      applying = None;
-      steps = [];
-    } }
-    requires worker { worker.old ≡ worker_seen (worker_part 0) }
+    requires new { IsNew heads.now class.old worker.old }
 {
     let place = class.head_at(0);
     let place_of_other = class.head_at(1);
@@ -77,8 +63,7 @@ fn wide_in<N: Name>(
     requires name { blank.table ≡ N.table }
     requires wide { 2 ≤ blank.table.slots }
     requires config { blank.config ≡ config.now }
-    requires small { (config.now.workers ≡ 1) × (config.now.first_generation ≡ 1)
-        × (config.now.classes ≡ record { chunks = 2; hot = 1; warm = 1 } ∷ []) }
+    requires small { IsSmall config.now }
 {
     let Small {
         heads,

@@ -1,8 +1,8 @@
-use Rattle.std.proofs.Common.{◌≡◌, ℕ, suc, Bool, Some, if◌then◌else◌, refl, ap, ◌∙◌, eq-eqb}
+use Rattle.std.proofs.Common.{◌≡◌, ℕ, suc, Some, ap, ◌∙◌}
 use Rattle.bump_steps.specs.Views.{last_label, last_word, last_words}
-use Rattle.bump_steps.proofs.LabelLists.{word_stored}
 use Rattle.bump_heads.specs.declared.views.ClassView.{ClassView}
 use Rattle.bump_heads.specs.Applying.{seat_after_put_time}
+use Rattle.bump_class.proofs.Widening.{just_stored}
 use Rattle.bump_class.proofs.linking.open_item.Goals as goal
 
 -- the label and the further words before the life begins
@@ -14,8 +14,7 @@ open_life_in-requires-clause-law g c =
     λ i. ap (word i) c.put_time.ensures.timed in
     let stored : (i : ℕ) → word i (seat_after_put_time at c.args.now c.put_label.new.self) ≡ _ =
     λ i. ap (λ v. word i (seat_after_put_time at c.args.now v)) c.put_label.ensures.labelled in
-    let last = word_stored at 0 c.args.seat.now.part.labels at c.args.label
-    ∙ ap (λ (b : Bool). if b then c.args.label else last_label c.args.seat.now.part at) (eq-eqb at at refl) in
+    let last = just_stored at c.args.seat.now.part.labels c.args.label in
     c.requires.law (last_words c.put_time.new.self.part at) (same 0 ∙ (stored 0 ∙ last))
     (λ j. same (suc j) ∙ stored (suc j))
 
@@ -25,8 +24,7 @@ returns-clause-label g c =
     let word : ClassView → ℕ = λ v. last_label v.part at in
     let timed = ap word c.put_time.ensures.timed in
     let stored = ap (λ v. word (seat_after_put_time at c.args.now v)) c.put_label.ensures.labelled in
-    let last = word_stored at 0 c.args.seat.now.part.labels at c.args.label
-    ∙ ap (λ (b : Bool). if b then c.args.label else last_label c.args.seat.now.part at) (eq-eqb at at refl) in
+    let last = just_stored at c.args.seat.now.part.labels c.args.label in
     c.open_life_in.ensures.label ∙ ap (λ (x : ℕ). Some x) (timed ∙ (stored ∙ last))
 
 pub returns-clause-words : goal.returns-clause-words

@@ -1,7 +1,7 @@
 use Rattle.std.proofs.Common.{◌≡◌, ◌≤◌, ◌++◌, ◌+◌, ◌-◌, map, drop, vec_len}
 use Rattle.std.specs.Vec.Iter.{into_iter_items}
 use Rattle.bump_heads.specs.Making.{class_seen}
-use Rattle.bump_rules.specs.Configs.{chunks_of, HaveChunks}
+use Rattle.bump_rules.specs.Configs.{chunks_of, HaveChunks, most_chunks}
 use Rattle.bump_steps.specs.Rule.{class_parts}
 use Rattle.bump_parts.specs.Parting.{starts_from, new_books}
 use Rattle.bump_parts.proofs.making.make_books.Given as goal
@@ -14,5 +14,5 @@ invariant-loop-class g l = record {
       ≡ new_books (class_parts (l.fn.first_generation - 1) 0 0 l.classes) l.classes l.fn.workers;
   books : vec_len l.books ≡ l.class-index;
   chunks : HaveChunks (drop l.class-index l.classes);
-  few : l.first + chunks_of (drop l.class-index l.classes) ≤ 1000000;
+  few : l.first + chunks_of (drop l.class-index l.classes) ≤ most_chunks;
 }

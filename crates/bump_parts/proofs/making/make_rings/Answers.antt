@@ -30,23 +30,17 @@ new-worker-requires-clause-seat g c = let w = c.loop-number.number in
     let is : c.in-Some.seat ≡ first = ap (head_or first) (sym c.in-Some.ensures.items ∙ c.loop-number.invariant.seats ∙ ap (map worker_seen) (next_worker w c.args.count c.loop-number-test.true)) in
     is ∙ ap (λ (x : WorkerView). worker_seen (worker_part x.part.worker)) (sym is)
 
-pub new-raw-requires-clause-whole : goal.new-raw-requires-clause-whole
-new-raw-requires-clause-whole g c = let w = c.loop-number.number in
+pub new-raw-requires : goal.new-raw-requires
+new-raw-requires g c = let w = c.loop-number.number in
     let first = lane_seen (lane_part w) in
-    let is : c.in-Some-next.lane_seat ≡ first = ap (head_or first) (sym c.in-Some-next.ensures.items ∙ c.loop-number.invariant.lane_seats ∙ ap (map lane_seen) (next_lane w c.args.count c.loop-number-test.true)) in
-    subst (λ (x : Option LanePart). IsSome x) (sym is) refl
-
-pub new-raw-requires-clause-empty : goal.new-raw-requires-clause-empty
-new-raw-requires-clause-empty g c = let w = c.loop-number.number in
-    let first = lane_seen (lane_part w) in
-    let is : c.in-Some-next.lane_seat ≡ first = ap (head_or first) (sym c.in-Some-next.ensures.items ∙ c.loop-number.invariant.lane_seats ∙ ap (map lane_seen) (next_lane w c.args.count c.loop-number-test.true)) in
-    ap stage_of is
-
-pub new-raw-requires-clause-fresh : goal.new-raw-requires-clause-fresh
-new-raw-requires-clause-fresh g c = let w = c.loop-number.number in
-    let first = lane_seen (lane_part w) in
-    let is : c.in-Some-next.lane_seat ≡ first = ap (head_or first) (sym c.in-Some-next.ensures.items ∙ c.loop-number.invariant.lane_seats ∙ ap (map lane_seen) (next_lane w c.args.count c.loop-number-test.true)) in
-    ap applied_by is
+    let is : c.in-Some-next.lane_seat ≡ first = ap (head_or first) (sym c.in-Some-next.ensures.items ∙ c.loop-number.invariant.lane_seats ∙ ap (map lane_seen) (next_lane w c.args.count c.loop-number-test.true)) in record {
+      unused = record {
+        untaken = search rules;
+        whole = subst (λ (x : Option LanePart). IsSome x) (sym is) refl;
+        empty = ap stage_of is;
+        fresh = ap applied_by is;
+      };
+    }
 
 pub loop-number-preserved : goal.loop-number-preserved
 loop-number-preserved g c =

@@ -15,7 +15,7 @@ use Rattle.bump_class.specs.Lanes.{LaneView, part_or, carries}
 use Rattle.bump_steps.specs.Views.{owns}
 use Rattle.bump_rules.specs.Entries.{moves_of}
 use Rattle.bump_rules.specs.Lawful.{bit}
-use Rattle.bump_class.proofs.Keeping.{listed, entered_with}
+use Rattle.bump_class.proofs.Keeping.{listed_seen, entered_with}
 use Rattle.bump_class.proofs.MoveLemmas.{counts_bump, few_before}
 use Rattle.bump_class.proofs.LaneLemmas.{few_aboard, applied_keeps, carried_part, carried_seat, each_told}
 use Rattle.bump_class.proofs.ApplicationLemmas.{gone_dies, shown_behind, once_behind, told_behind, fronts, time_only_keeps, bump_applied}
@@ -32,33 +32,13 @@ overflow_add-lane g c =
     )
 
 pub to_front-requires : goal.to_front-requires
-to_front-requires g c =
-    let i = c.self.inside in
-    let y = c.lane.inside in
-    let b = c.args.bump in
-    let k : BookView = record {
-      part = i.seat.part;
-      lists = i.lists;
-      hot_limit = i.hot_limit;
-      warm_limit = i.warm_limit;
-      workers = i.workers;
-    } in
-    let carried = carried_part y.seat b (carried_seat y.seat y.worker y.applied y.receiver.received c.args.bump c.lane.invariant (ap carries c.lane.view_is ∙ c.requires.carries)) in
-    listed k b.life.chunk c.self.invariant.3 (subst (λ (z : BookView). owns b.life.chunk z.part ≡ true) (sym c.self.view_is) c.requires.own)
+to_front-requires g c = listed_seen _ _ c.args.bump.life.chunk c.self.view_is c.self.invariant.3 c.requires.own
 
 pub invariant_of-self : goal.invariant_of-self
 invariant_of-self g c =
     let i = c.self.inside in
     let y = c.lane.inside in
     let b = c.args.bump in
-    let k : BookView = record {
-      part = i.seat.part;
-      lists = i.lists;
-      hot_limit = i.hot_limit;
-      warm_limit = i.warm_limit;
-      workers = i.workers;
-    } in
-    let carried = carried_part y.seat b (carried_seat y.seat y.worker y.applied y.receiver.received c.args.bump c.lane.invariant (ap carries c.lane.view_is ∙ c.requires.carries)) in
     let own = subst (λ (z : BookView). owns b.life.chunk z.part ≡ true) (sym c.self.view_is) c.requires.own in
     let e = change.Moved b.life Cold Warm (cause.Bump (part_or y.seat).worker b.number) in
     let more = c.count_move.new.moved in

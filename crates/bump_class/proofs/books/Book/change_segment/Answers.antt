@@ -6,21 +6,11 @@ use Rattle.bump_steps.specs.Applications.{life_in}
 use Rattle.bump_heads.specs.Applying.{seat_after_move}
 use Rattle.bump_steps.specs.Views.{owns}
 use Rattle.bump_class.specs.Books.{BookView}
-use Rattle.bump_class.proofs.Keeping.{entered, listed, move_alone}
+use Rattle.bump_class.proofs.Keeping.{entered, listed_seen, move_alone}
 use Rattle.bump_class.proofs.books.Book.change_segment.Goals as goal
 
 pub to_front-requires : goal.to_front-requires
-to_front-requires g c =
-    let i = c.self.inside in
-    let b : BookView = record {
-      part = i.seat.part;
-      lists = i.lists;
-      hot_limit = i.hot_limit;
-      warm_limit = i.warm_limit;
-      workers = i.workers;
-    } in
-    listed b c.args.chunk c.self.invariant.3
-    (subst (λ (x : BookView). owns c.args.chunk x.part ≡ true) (sym c.self.view_is) c.requires.own)
+to_front-requires g c = listed_seen _ _ c.args.chunk c.self.view_is c.self.invariant.3 c.requires.own
 
 pub invariant_of-self : goal.invariant_of-self
 invariant_of-self g c =

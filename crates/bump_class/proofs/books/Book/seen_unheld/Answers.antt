@@ -10,21 +10,11 @@ use Rattle.bump_steps.specs.Lives.{class_after_sweep_or_load}
 use Rattle.bump_steps.specs.Views.{owns}
 use Rattle.bump_class.specs.Books.{BookView}
 use Rattle.bump_steps.proofs.Entering.{freed_subject, freed_quiet}
-use Rattle.bump_class.proofs.Keeping.{entered, listed, sweep_where_unheld}
+use Rattle.bump_class.proofs.Keeping.{entered, listed_seen, sweep_where_unheld}
 use Rattle.bump_class.proofs.books.Book.seen_unheld.Goals as goal
 
 pub to_front-requires : goal.to_front-requires
-to_front-requires g c =
-    let i = c.self.inside in
-    let b : BookView = record {
-      part = i.seat.part;
-      lists = i.lists;
-      hot_limit = i.hot_limit;
-      warm_limit = i.warm_limit;
-      workers = i.workers;
-    } in
-    listed b c.args.chunk c.self.invariant.3
-    (subst (λ (x : BookView). owns c.args.chunk x.part ≡ true) (sym c.self.view_is) c.requires.own)
+to_front-requires g c = listed_seen _ _ c.args.chunk c.self.view_is c.self.invariant.3 c.requires.own
 
 pub invariant_of-self : goal.invariant_of-self
 invariant_of-self g c =

@@ -1,5 +1,5 @@
 use Rattle.std.proofs.Common.{◌≤◌, List, subst, sym}
-use Rattle.bump_rules.specs.Configs.{HaveChunks, chunks_of}
+use Rattle.bump_rules.specs.Configs.{HaveChunks, chunks_of, most_chunks}
 use Rattle.bump_rules.specs.declared.configs.ClassConfig.{ClassConfig}
 use Rattle.bump_rules.proofs.Bounds.{bounds}
 use Rattle.bump_parts.proofs.NewParts.{count_of_workers, count_of_lanes}
@@ -18,5 +18,5 @@ returns-clause-count g c =
 
 pub make_books-requires-clause-few : goal.make_books-requires-clause-few
 make_books-requires-clause-few g c = let key = c.args.config.now in
-    subst (λ (ks : List ClassConfig). chunks_of ks ≤ 1000000) (sym c.as_slice.ensures)
+    subst (λ (ks : List ClassConfig). chunks_of ks ≤ most_chunks) (sym c.as_slice.ensures)
     (bounds key.workers key.capacity key.refs_limit key.first_generation key.classes key.valid).chunks_most

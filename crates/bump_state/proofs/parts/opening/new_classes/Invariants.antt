@@ -1,5 +1,5 @@
 use Rattle.std.proofs.Common.{◌≡◌, ◌+◌, ◌≤◌, ◌++◌, drop, map}
-use Rattle.bump_rules.specs.Configs.{chunks_of, HaveChunks}
+use Rattle.bump_rules.specs.Configs.{chunks_of, HaveChunks, most_chunks}
 use Rattle.bump_state.specs.Opening.{classes_from}
 use Rattle.bump_state.specs.Views.{class_view}
 use Rattle.bump_state.proofs.parts.opening.new_classes.Given as goal
@@ -10,5 +10,5 @@ invariant-loop-config l = record {
   all : map class_view l.classes.items ++ classes_from l.fresh l.first (drop l.config-index l.configs)
       ≡ classes_from l.fresh 0 l.configs;
   some : HaveChunks (drop l.config-index l.configs);
-  few : l.first + chunks_of (drop l.config-index l.configs) ≤ 1000000;
+  few : l.first + chunks_of (drop l.config-index l.configs) ≤ most_chunks;
 }
