@@ -1,11 +1,11 @@
 //! What a cache is opened from.
 ghost use Rattle.std.specs.Prelude.{◌≡◌, IfOk, None};
 ghost use Rattle.std.specs.Result.{result_err};
-ghost use Rattle.bump_cache.specs.Configs.{first_cache_fault, told_fault, IsStoreOf};
+ghost use Rattle.bump_cache.specs.Configs.{first_cache_fault, told_fault};
 
 use crate::config::{CacheConfig, CacheRefusal};
 use bump_heads::Blank;
-use bump_rules::{CACHE_REFS, ClassConfig, Classes, Config};
+use bump_rules::Config;
 use std::alloc::{AllocError, Global};
 use std::marker::Model;
 
@@ -28,33 +28,12 @@ impl Model for CacheBlank {
     ghost invariant = { λ b. IsCacheBlank b.words b.store b.config };
 }
 
-// The store of a cache of this configuration: one class, whose lists have no limits of their own, since the cache looks
-// at their sizes itself.
-fn store_of(alloc: Global, config: &CacheConfig) -> Result<Config, AllocError>
-    requires { first_cache_fault config.now ≡ None }
-    ensures { IfOk result (λ store. IsStoreOf config.now store) }
-{
-    let class = ClassConfig {
-        chunks: config.items,
-        hot: 0,
-        warm: 0,
-    };
-    let classes = vec![in alloc; class]?;
-    Ok(Config {
-        workers: config.readers,
-        capacity: config.ring,
-        refs_limit: CACHE_REFS,
-        first_generation: 1,
-        classes: Classes::from_vec(classes),
-    })
-}
-
 // What a cache of this configuration is opened from.
 fn make(alloc: Global, config: &CacheConfig) -> Result<CacheBlank, AllocError>
     requires { first_cache_fault config.now ≡ None }
     ensures { IfOk result (λ blank. blank.config ≡ config.now) }
 {
-    let store = store_of(alloc, config)?;
+    let store = config.store(alloc)?;
     let words = Blank::new(alloc, &store)?;
     Ok(CacheBlank {
         words,

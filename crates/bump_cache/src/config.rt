@@ -1,8 +1,9 @@
 //! What a cache is made from.
-ghost use Rattle.std.specs.Prelude.{◌≡◌, ◌≤◌};
-ghost use Rattle.bump_cache.specs.Configs.{first_cache_fault, share_of};
+ghost use Rattle.std.specs.Prelude.{◌≡◌, ◌≤◌, IfOk, None};
+ghost use Rattle.bump_cache.specs.Configs.{first_cache_fault, share_of, IsStoreOf};
 
-use bump_rules::{MAX_CAPACITY, MAX_CHUNKS};
+use bump_rules::{CACHE_REFS, ClassConfig, Classes, Config, MAX_CAPACITY, MAX_CHUNKS};
+use std::alloc::{AllocError, Global};
 use thiserror::Error;
 
 /// Why a cache can't be made from these numbers.
@@ -111,5 +112,27 @@ impl CacheConfig {
         ensures { result ≡ share_of self.now.items self.now.warm }
     {
         share(self.items, self.warm)
+    }
+
+    /// The configuration of the store that a cache of this configuration is made over: one class, whose lists have no
+    /// limits of their own, since the cache looks at their sizes itself. This one has no fault (`fault` answers None).
+    /// It is refused for want of memory alone.
+    pub fn store(&self, alloc: Global) -> Result<Config, AllocError>
+        requires sound { first_cache_fault self.now ≡ None }
+        ensures store { IfOk result (λ store. IsStoreOf self.now store) }
+    {
+        let class = ClassConfig {
+            chunks: self.items,
+            hot: 0,
+            warm: 0,
+        };
+        let classes = vec![in alloc; class]?;
+        Ok(Config {
+            workers: self.readers,
+            capacity: self.ring,
+            refs_limit: CACHE_REFS,
+            first_generation: 1,
+            classes: Classes::from_vec(classes),
+        })
     }
 }

@@ -2,20 +2,20 @@
 ghost use Rattle.std.specs.Prelude.{◌≡◌, ◌∷◌, [], IfOk, IsSome, None, Some, true, false};
 ghost use Rattle.std.specs.Arc.{arc_value};
 ghost use Rattle.bump_rules.specs.declared.places.Place.TheVariants as place;
-ghost use Rattle.bump_rules.specs.Lives.{life as life_of};
+ghost use Rattle.bump_heads.specs.RulesLives.{life as life_of};
 ghost use Rattle.bump_heads.specs.Applying.{carried_by};
 ghost use Rattle.bump_heads.specs.Linking.{place_of_chunk};
-ghost use Rattle.bump_steps.specs.Applications.{class_at_rest};
-ghost use Rattle.bump_steps.specs.Rule.{chunks as all_chunks};
-ghost use Rattle.bump_readers.specs.Seats.{row_in};
-ghost use Rattle.bump_readers.specs.Taking.{whole_hold};
-ghost use Rattle.bump_steps.specs.Views.{owns, standing};
+ghost use Rattle.bump_heads.specs.Applications.{class_at_rest};
+ghost use Rattle.bump_heads.specs.Rule.{chunks as all_chunks};
+ghost use Rattle.bump_heads.specs.ReadersSeats.{row_in};
+ghost use Rattle.bump_heads.specs.Taking.{whole_hold};
+ghost use Rattle.bump_heads.specs.Views.{owns, standing};
 
 use super::bumps::{begin_in_cold, send_off};
 use super::expecting::{expect, expect_seen};
 use super::stores::{Small, config_of, head, open};
 use super::*;
-use bump_rules::{Bump, Config, Head, Outcome, Segment};
+use bump_heads::{Bump, Config, Head, Outcome, Segment};
 use std::alloc::{AllocError, Global};
 use std::marker::Brand;
 use std::process::Abort;

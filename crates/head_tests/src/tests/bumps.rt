@@ -2,17 +2,17 @@
 ghost use Rattle.std.specs.Prelude.{◌≡◌, ◌<◌, ◌∷◌, [], None, Some, true};
 ghost use Rattle.bump_rules.specs.declared.hands.Hand.TheVariants.{Idle, Trying};
 ghost use Rattle.bump_rules.specs.declared.places.Place.TheVariants as place;
-ghost use Rattle.bump_rules.specs.Lives.{life as life_of};
-ghost use Rattle.bump_steps.specs.References.{new_hold};
-ghost use Rattle.bump_steps.specs.Rule.{chunks as all_chunks, no_accounts};
-ghost use Rattle.bump_readers.specs.Seats.{row_in};
-ghost use Rattle.bump_readers.specs.Taking.{whole_hold};
-ghost use Rattle.bump_steps.specs.Views.{owns, standing};
+ghost use Rattle.bump_heads.specs.RulesLives.{life as life_of};
+ghost use Rattle.bump_heads.specs.References.{new_hold};
+ghost use Rattle.bump_heads.specs.Rule.{chunks as all_chunks, no_accounts};
+ghost use Rattle.bump_heads.specs.ReadersSeats.{row_in};
+ghost use Rattle.bump_heads.specs.Taking.{whole_hold};
+ghost use Rattle.bump_heads.specs.Views.{owns, standing};
 
 use super::expecting::{expect, expect_head, expect_head_of};
 use super::stores::{Small, config_of, head, let_out, open};
 use super::*;
-use bump_rules::{Config, ItemId, Segment};
+use bump_heads::{Config, ItemId, Segment};
 use std::alloc::{AllocError, Global};
 use std::marker::Brand;
 use std::process::Abort;

@@ -1,15 +1,15 @@
 //! A life of a chunk, from its label to its end, with what a reader sees of it.
 ghost use Rattle.std.specs.Prelude.{◌≡◌, ◌<◌, None, [], ◌∷◌};
 ghost use Rattle.bump_rules.specs.declared.hands.Hand.TheVariants.{Idle};
-ghost use Rattle.bump_readers.specs.Workers.{worker_seen};
-ghost use Rattle.bump_steps.specs.Rule.{no_accounts, worker_part, chunks as all_chunks};
-ghost use Rattle.bump_readers.specs.Seats.{row_in};
-ghost use Rattle.bump_readers.specs.Taking.{whole_hold};
+ghost use Rattle.bump_heads.specs.Workers.{worker_seen};
+ghost use Rattle.bump_heads.specs.Rule.{no_accounts, worker_part, chunks as all_chunks};
+ghost use Rattle.bump_heads.specs.ReadersSeats.{row_in};
+ghost use Rattle.bump_heads.specs.Taking.{whole_hold};
 
 use super::expecting::{expect, expect_head, expect_head_of, expect_seen};
 use super::stores::{Small, config_of, head, let_out, life_of, open, refusal};
 use super::*;
-use bump_rules::{Config, ItemId, Segment};
+use bump_heads::{Config, ItemId, Segment};
 use std::alloc::{AllocError, Global};
 use std::marker::Brand;
 use std::process::Abort;

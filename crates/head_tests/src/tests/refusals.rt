@@ -1,11 +1,11 @@
 //! Why a worker gets no hold and no rider, where no other thread is at work.
 ghost use Rattle.std.specs.Prelude.{◌≡◌, ◌<◌, None, [], ◌∷◌};
-ghost use Rattle.bump_steps.specs.Rule.{chunks as all_chunks};
+ghost use Rattle.bump_heads.specs.Rule.{chunks as all_chunks};
 
 use super::expecting::expect;
 use super::stores::{Small, config_of, life_of, open, refusal};
 use super::*;
-use bump_rules::{Config, ItemId};
+use bump_heads::{Config, ItemId};
 use std::alloc::{AllocError, Global};
 use std::marker::Brand;
 use std::process::Abort;

@@ -1,13 +1,13 @@
 //! A hold of whichever life is linked in a chunk, and the head by which it was taken.
 ghost use Rattle.std.specs.Prelude.{◌≡◌, ◌<◌, None, [], ◌∷◌};
-ghost use Rattle.bump_readers.specs.Workers.{worker_seen};
-ghost use Rattle.bump_steps.specs.Rule.{worker_part, chunks as all_chunks};
+ghost use Rattle.bump_heads.specs.Workers.{worker_seen};
+ghost use Rattle.bump_heads.specs.Rule.{worker_part, chunks as all_chunks};
 
 use super::expecting::{expect, expect_head};
 use super::lives::mark_in_hot;
 use super::stores::{Small, config_of, head, life_of, open};
 use super::*;
-use bump_rules::{Config, Segment};
+use bump_heads::{Config, Segment};
 use std::alloc::{AllocError, Global};
 use std::marker::Brand;
 use std::process::Abort;
