@@ -4,6 +4,7 @@ pub mod Readers
 pub mod Opening
 pub mod Putting
 pub mod Tending
+pub use Rattle.atomic_table.specs.Seated
 pub use Rattle.bump_class.specs.Applications
 pub use Rattle.bump_class.specs.Books
 pub use Rattle.bump_class.specs.Lanes

@@ -2,6 +2,8 @@ pub mod Seats
 pub mod Applying
 pub mod Linking
 pub mod Making
+pub use Rattle.atomic_table.specs.Seated
+pub use Rattle.atomic_table.specs.Table
 pub use Rattle.bump_readers.specs.Attempts
 pub use Rattle.bump_readers.specs.Naming
 pub use Rattle.bump_readers.specs.Riding

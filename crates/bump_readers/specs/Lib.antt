@@ -5,6 +5,8 @@ pub mod Workers
 pub mod Taking
 pub mod Riding
 pub mod Touching
+pub use Rattle.atomic_table.specs.Seated
+pub use Rattle.atomic_table.specs.Table
 pub use Rattle.bump_rules.specs.Lawful
 pub use Rattle.bump_rules.specs.Lives
 pub use Rattle.bump_rules.specs.Rings

@@ -14,6 +14,8 @@ pub mod Lives
 pub mod Applications
 pub mod Meetings
 pub mod Sights
+pub use Rattle.atomic_table.specs.Seated
+pub use Rattle.atomic_table.specs.Table
 pub use Rattle.bump_rules.specs.Accounts
 pub use Rattle.bump_rules.specs.Configs
 pub use Rattle.bump_rules.specs.Entries
