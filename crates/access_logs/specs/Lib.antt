@@ -6,3 +6,5 @@ pub mod Lines
 pub mod Numbering
 pub mod Records
 pub mod Sizes
+pub use Rattle.csv.specs.Reading
+pub use Rattle.csv.specs.Records as CsvRecords

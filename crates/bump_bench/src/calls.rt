@@ -1,7 +1,7 @@
 //! What is measured of a Book.
 use crate::callers::{Before, Call};
 use crate::stores::FURTHER;
-use bump_rules::{ClassConfig, Place, Tail};
+use bump_store::{ClassConfig, Place, Tail};
 
 /// A workload of one class, which one thread has.
 #[derive(Clone, Copy)]

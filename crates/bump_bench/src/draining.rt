@@ -2,9 +2,7 @@
 use crate::hits::touch_all;
 use crate::reads::Reads;
 use crate::tallies::{Spent, Tally};
-use bump_heads::Name;
-use bump_rules::{Applied, ItemId};
-use bump_store::{Lane, Store, Worker};
+use bump_store::{Applied, ItemId, Lane, Name, Store, Worker};
 use std::rt::Clock;
 use std::sync::Wait;
 use std::time::Instant;

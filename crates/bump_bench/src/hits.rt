@@ -1,9 +1,7 @@
 //! Hits and gets of items: the loops that are timed of a worker's calls.
 use crate::stores::FURTHER;
 use crate::tallies::{Tally, one_more};
-use bump_readers::{Name, ReaderHeads};
-use bump_rules::{Dropped, ItemId, Touch};
-use bump_store::Worker;
+use bump_store::{Dropped, ItemId, Name, ReaderHeads, Touch, Worker};
 
 /// What each hit of a pass comes to: an answer of its touch; that it asks first, and finds both marks; or that it takes
 /// whatever item is there, and finds them by that.

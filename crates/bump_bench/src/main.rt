@@ -22,9 +22,7 @@ mod teams;
 mod work;
 
 use asked::Asked;
-use bump_heads::{Blank, Name};
-use bump_rules::Config;
-use bump_store::Store;
+use bump_store::{Blank, Config, Name, Store};
 use lines::Line;
 use std::alloc::{AllocError, Global};
 use std::marker::Brand;

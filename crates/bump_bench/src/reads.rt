@@ -1,7 +1,7 @@
 //! What is measured of a worker's calls.
 use crate::hits::Answer;
 use crate::stores::{FURTHER, lives};
-use bump_rules::ItemId;
+use bump_store::ItemId;
 use std::alloc::{AllocError, Global};
 
 // How many chunks that nobody hits are on each side of items that all threads share: so their cache lines have nothing

@@ -3,9 +3,7 @@
 use crate::hits::touch_all;
 use crate::meeting::meet;
 use crate::tallies::{Spent, Tally};
-use bump_heads::Name;
-use bump_rules::ItemId;
-use bump_store::{Lane, Store, Worker};
+use bump_store::{ItemId, Lane, Name, Store, Worker};
 use std::alloc::{AllocError, Global};
 use std::rt::Clock;
 use std::sync::Wait;

@@ -1,8 +1,5 @@
 //! Stores that are measured: how they are configured and filled, and the lives of their items.
-use bump_class::Book;
-use bump_heads::Name;
-use bump_rules::{ClassConfig, Config, ItemId, MAX_REFS, Tail};
-use bump_store::Store;
+use bump_store::{Book, ClassConfig, Config, ItemId, MAX_REFS, Name, Store, Tail};
 use std::alloc::{AllocError, Global};
 use std::sync::Wait;
 

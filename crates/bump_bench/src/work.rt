@@ -5,7 +5,7 @@ use crate::moves::{Moves, TIMES};
 use crate::reads::Reads;
 use crate::runs::{BUMPS, Runs};
 use crate::stores::Shape;
-use bump_rules::ClassConfig;
+use bump_store::ClassConfig;
 
 /// A workload.
 #[derive(Clone, Copy)]

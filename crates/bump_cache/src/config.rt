@@ -134,4 +134,26 @@ impl CacheConfig {
     {
         share(self.items, self.warm)
     }
+
+    /// The configuration of the store that a cache of this configuration is made over: one class, whose lists have no
+    /// limits of their own, since the cache looks at their sizes itself. This one has no fault (`fault` answers None).
+    /// It is refused for want of memory alone.
+    pub fn store(&self, alloc: Global) -> Result<Config, AllocError>
+        requires sound { first_cache_fault self.now ≡ None }
+        ensures store { IfOk result (λ store. IsStoreOf self.now store) }
+    {
+        let class = ClassConfig {
+            chunks: self.items,
+            hot: 0,
+            warm: 0,
+        };
+        let classes = vec![in alloc; class]?;
+        Ok(Config {
+            workers: self.readers,
+            capacity: self.ring,
+            refs_limit: CACHE_REFS,
+            first_generation: 1,
+            classes: Classes::from_vec(classes),
+        })
+    }
 }

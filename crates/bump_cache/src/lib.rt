@@ -9,6 +9,10 @@ mod readers;
 mod upkeep;
 
 pub use blanks::CacheBlank;
+pub use bump_heads::Name;
+pub use bump_rules::{Accounts, ClassConfig, Classes, Config};
+pub use cache_index::{AnyPair, Entry, Index, Indexed, Item, Law, Slot};
+pub use cache_shelf::{Flow, NotPlaced, Put, Removed, Stats};
 pub use caches::Cache;
 pub use config::{CacheConfig, CacheFault, CacheRefusal};
 pub use opening::{Opened, open};

@@ -16,6 +16,12 @@ mod running;
 mod sweeping;
 
 pub use books::Book;
+pub use bump_heads::{ClassSeat, Hold, LaneSeat, Name, ReaderHeads};
+pub use bump_ring::{ClosedSender, Receiver};
+pub use bump_rules::{
+    Applied, Bump, ClassConfig, Ended, Head, ItemId, Outcome, Place, Pulled, Segment, Start, Tail,
+};
+pub use bump_steps::{AnyRow, ClassPart, LanePart, Ride, RowLaw, Rule};
 pub use ending::UnlinkRefusal;
 pub use lanes::RawLane;
 pub use linking::LinkRefusal;

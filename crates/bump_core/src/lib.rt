@@ -9,8 +9,8 @@ mod worlds;
 pub use bump_rules::{
     Accounts, Answer, Applied, AppliedBump, Bump, Cause, Change, ClassConfig, ClassLists, Classes,
     Command, Config, ConfigFault, Dropped, Ended, Entry, Event, Hand, Head, Hit, ItemId, Lane,
-    ListedChunks, MAX_CHUNKS, MOST_ATTEMPTS, Outcome, Place, Pulled, Refused, Reply, Segment,
-    Start, Tail, Touch,
+    ListedChunks, MAX_CAPACITY, MAX_CHUNKS, MAX_REFS, MOST_ATTEMPTS, Outcome, Place, Pulled,
+    Refused, Reply, Segment, Start, Tail, Touch,
 };
 pub use bump_state::Chunk;
 pub use worlds::{OutOfMemory, World};

@@ -8,6 +8,14 @@ mod opening;
 mod readers;
 
 pub use books::TaggedBook;
+pub use bump_class::{Book, LinkRefusal, RawLane, UnlinkRefusal};
+pub use bump_heads::{Blank, Heads, Name};
+pub use bump_parts::{GetRefusal, Worker};
+pub use bump_rules::{
+    Accounts, Bump, ClassConfig, Classes, Config, Dropped, Ended, Head, ItemId, Place, Pulled,
+    Segment, Start, Tail, Touch,
+};
+pub use bump_steps::{AnyRow, HoldPart, RowLaw, Rule};
 pub use drainers::{Drainer, NotClosed, RestState, Rested};
 pub use opening::{Opened, open};
 pub use readers::{Reader, Taken, WholeHit};

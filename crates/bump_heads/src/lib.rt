@@ -13,9 +13,13 @@ mod sights;
 mod views;
 
 pub use bump_readers::{Hold, HoldView, Name, ReaderHeads, Rider, WorkerSeat, WorkerView};
+pub use bump_rules::{
+    Accounts, AppliedBump, Bump, Cause, Change, ClassConfig, Classes, Config, Hand, Head, ItemId,
+    LabelStep, Lane, Outcome, Segment, Start,
+};
 pub use bump_steps::{
-    AnyRefusal, ClassPart, Empty, HoldPart, Kind, LanePart, OwnStep, Ride, RideRefusal, Rule,
-    TakeRefusal, View, WorkerPart,
+    AnyRefusal, AnyRow, ClassPart, Empty, HoldPart, Kind, LanePart, OwnStep, Ride, RideRefusal,
+    RowLaw, Rule, TakeRefusal, View, WordStep, WorkerPart,
 };
 pub use heads::Heads;
 pub use making::{Blank, HeadParts};

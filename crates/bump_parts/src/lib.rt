@@ -12,7 +12,13 @@ mod refusals;
 mod touching;
 mod workers;
 
-pub use bump_heads::{Blank, Name};
+pub use bump_class::{Book, RawLane};
+pub use bump_heads::{Blank, Heads, Name, ReaderHeads, WorkerSeat};
+pub use bump_ring::Sender;
+pub use bump_rules::{
+    Accounts, ClassConfig, Classes, Config, Dropped, Head, ItemId, Segment, Touch,
+};
+pub use bump_steps::{AnyRow, HoldPart, RowLaw, Rule, WorkerPart};
 pub use closing::ClosedWorker;
 pub use holds::Hold;
 pub use parting::StoreParts;

@@ -11,6 +11,14 @@ mod touching;
 mod views;
 mod workers;
 
+pub use bump_rules::{
+    Accounts, AppliedBump, Bump, Cause, Change, ClassConfig, Classes, Config, Hand, Head, ItemId,
+    LabelStep, Lane, Outcome, Segment,
+};
+pub use bump_steps::{
+    AnyRefusal, AnyRow, ClassPart, Empty, HoldPart, Kind, LanePart, OwnStep, Ride, RideRefusal,
+    RowLaw, Rule, Seat, TakeRefusal, View, WordStep, Words, WorkerPart,
+};
 pub use heads::ReaderHeads;
 pub use holds::Hold;
 pub use names::Name;

@@ -1,9 +1,8 @@
 //! What the words of the command line ask for.
 use access_logs::Format;
-use bump_cache::CacheConfig;
 use clap::error::ErrorKind;
 use clap::{Arg, ArgAction, ArgMatches, Command, Error, value_parser};
-use replay_runs::Plan;
+use replay_runs::{CacheConfig, Plan};
 use std::alloc::{AllocError, Global};
 
 /// What the words ask for.

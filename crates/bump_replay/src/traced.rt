@@ -1,6 +1,6 @@
 //! The run of a row as a trace for bumpsim.
 ghost use Rattle.std.specs.Prelude.{◌≡◌, true, false, IfOk};
-ghost use Rattle.bump_trace.specs.Meaning.{verdict_of};
+ghost use Rattle.replay_runs.specs.Meaning.{verdict_of};
 ghost use Rattle.replay_runs.specs.Counting.{total_hits};
 ghost use Rattle.replay_runs.specs.Plans.{with_items};
 ghost use Rattle.replay_runs.specs.Writing.{IsTraceOf};

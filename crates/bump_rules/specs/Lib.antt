@@ -18,3 +18,4 @@ pub mod Starts
 pub mod Sweeps
 pub mod Tables
 pub mod Totals
+pub use Rattle.bump_links.specs.Lists as LinksLists

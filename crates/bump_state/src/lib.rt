@@ -7,6 +7,11 @@ mod events;
 mod parts;
 mod workers;
 
+pub use bump_rules::{
+    Accounts, AppliedBump, Bump, Cause, Change, ClassConfig, ClassLists, Classes, Config, Ended,
+    Event, Hand, Head, ItemId, LabelStep, Lane, ListedChunks, Outcome, Place, Refused, Reply,
+    Segment, Start,
+};
 pub use chunks::Chunk;
 pub use classes::Class;
 pub use parts::Parts;

@@ -10,7 +10,7 @@ use Rattle.bump_steps.specs.declared.views.Empty.{Empty}
 use Rattle.bump_steps.specs.declared.views.LanePart.{LanePart}
 use Rattle.bump_steps.specs.declared.views.View.{View}
 use Rattle.bump_steps.specs.Views.{Query, moves, settled_in, settled, told_in, told_by, underway_in, underway, in_progress}
-use Rattle.bump_steps.specs.Rule.{Law, Kept}
+use Rattle.bump_steps.specs.Rule.{RowPredicate, Kept}
 use Rattle.bump_steps.specs.Plays.{IsOwn}
 use Rattle.bump_steps.proofs.OwnMoves.{moves_here, named_here}
 
@@ -37,7 +37,7 @@ settled_views q (v ∷ vs) = omega (arith, settled_lanes q v.lanes, settled_view
 -- Each move that the histories of a view's classes have for a bump of items of these classes is told by the lane of that
 -- bump, by an entry with its number, the same life and the outcome Moved, or is the application in progress that one of
 -- these classes names: there are as many.
-pub told_or_named : {law : Law} (key : Config) (s : State Empty View) → Kept law key s → (i : ℕ) (v : View)
+pub told_or_named : {law : RowPredicate} (key : Config) (s : State Empty View) → Kept law key s → (i : ℕ) (v : View)
     → get_elem? s.views i ≡ some v → (q : Query) → IsOwn q.test v
     → moves q v ≡ total (told_by q) s.views + in_progress q v
 told_or_named key s o i v me q own = omega (

@@ -30,7 +30,7 @@ use Rattle.bump_steps.specs.declared.views.LanePart.{LanePart}
 use Rattle.bump_steps.specs.declared.views.Ride.{Ride}
 use Rattle.bump_steps.specs.declared.views.View.{View}
 use Rattle.bump_steps.specs.Views.{refers, bump_aboard, Measure, held, named, saw, owners, strays, mislabels, misreads, owns, standing, last_word, weight, evidence, shown_by, claims, claimed_in, settled_in, names_move, underway_in, names_outside, is_entry, outcome_number, Query, in_order, untidy_in, shows_time_only, of_owner, foreign_in, foreign, active_clear, IsBacked}
-use Rattle.bump_steps.specs.Rule.{Law, Sound, chunks, Kept, HasFittingLimit, blank}
+use Rattle.bump_steps.specs.Rule.{RowPredicate, Sound, chunks, Kept, HasFittingLimit, blank}
 use Rattle.bump_steps.specs.Places.{head_place}
 use Rattle.bump_steps.specs.Plays.{Sat, Tells, on_chunk, on_time, step_of, Stands}
 use Rattle.bump_steps.specs.Applications.{for_bump, for_first, stage_after_try, lane_after_try, view_after_try, try_tells, stage_after_clear_active, view_after_clear_active, clear_active_tells, noted_class, view_after_put_time, put_time_tells, move_tells, view_after_alight, alight_tells, entries_of_alight, application_of, applying, StandsIn, life_in, lane_after_clear_active, MayMove, is_past_move, Alights, MayAlight}
@@ -251,7 +251,7 @@ module _ (c n : ℕ) (v : View) where
           (λ k. owned_push (owns e.life.chunk k) (λ x. cond (shows_time_only wk e.number e.life.chunk x) 1 0) k.steps
           (step_of kind.PutTime c n (for_first v.lanes))) v.classes in omega arith
 
-module _ {law : Law} (key : Config) (slots id : ℕ) (m : Sat) (c : ℕ) (near : c < chunks key) where
+module _ {law : RowPredicate} (key : Config) (slots id : ℕ) (m : Sat) (c : ℕ) (near : c < chunks key) where
   pub may_try : Allows (Kept law key) slots id m (head_place slots c) (λ n. n)
       (on_chunk try_tells (step slots (head_place slots c) 0 0 none) m)
   may_try = at_chunk try_tells key slots id m c 0 (λ n. n) near (λ n x t limits o a. (
@@ -367,7 +367,7 @@ module _ (c : ℕ) (k : ClassPart) (own : owns c k ≡ true) (l : ItemId) (of : 
     no_stray : weight c (strays to_be) went ≡ 0
     no_stray = ap₂ (λ (o same : Bool). bit (o && not same) + 0) own (standing_same _ _ move_stands_here)
 
-    move_sound : {law : Law} (limit p : ℕ) (label : ℕ → ℕ) (t u : Measure → ℕ) → Amid c stood t
+    move_sound : {law : RowPredicate} (limit p : ℕ) (label : ℕ → ℕ) (t u : Measure → ℕ) → Amid c stood t
         → ((y : Measure) → u y + weight c y stood ≡ t y + weight c y went) → (o : Sound law limit p label t) → (n : ℕ)
         → Spells n (record o.head { segment = to }) → o.head.generation ≡ l.generation → o.head.linked ≡ true
         → Sound law limit n label u
@@ -434,7 +434,7 @@ module _ (c : ℕ) (k : ClassPart) (own : owns c k ≡ true) (l : ItemId) (of : 
               (λ z. cond (shows_time_only wk e.number e.life.chunk z) 1 0) k.steps made,
         )
 
-    module _ {law : Law} (key : Config) (slots id : ℕ) (near : c < chunks key) (sl : List (ℕ × Empty)) where
+    module _ {law : RowPredicate} (key : Config) (slots id : ℕ) (near : c < chunks key) (sl : List (ℕ × Empty)) where
       -- the seat of the class can go on so, where the move is of the life that the chunk has, and evens out
       move_goes : (tells : Tells) (x : ℕ) (at : Standing) → standing k c ≡ at → at.0 ≡ place_of from
           → ((n : ℕ) (y : ℕ → ℕ) (t : Measure → ℕ) (o : Sound law key.refs_limit n y t) → Amid c stood t → o.head.generation ≡ at.1
@@ -458,7 +458,7 @@ module _ (c : ℕ) (k : ClassPart) (own : owns c k ≡ true) (l : ItemId) (of : 
 
 -- ---- what is asked of a move
 
-module _ {law : Law} (key : Config) (slots id c : ℕ) (near : c < chunks key) (k : ClassPart) (from to : Segment)
+module _ {law : RowPredicate} (key : Config) (slots id c : ℕ) (near : c < chunks key) (k : ClassPart) (from to : Segment)
     (st : StandsIn from c k) (sl : List (ℕ × Empty)) where
   -- a pull's
   pub moves_by_pull : (x : ℕ) → Allows (Kept law key) slots id (alone k, sl) (head_place slots c)
@@ -568,7 +568,7 @@ module _ {law : Law} (key : Config) (slots id c : ℕ) (near : c < chunks key) (
       ))
 
 -- for the contract
-pub may_move : {law : Law} (key : Config) (slots id c x : ℕ) (from to : Segment) (m : Sat) → c < chunks key
+pub may_move : {law : RowPredicate} (key : Config) (slots id c x : ℕ) (from to : Segment) (m : Sat) → c < chunks key
     → MayMove from to c m.0 → Allows (Kept law key) slots id m (head_place slots c) (λ n. bit_xor n (segment_change from to))
     (on_chunk (move_tells from to) (step slots (head_place slots c) x 0 none) m)
 may_move {law = law} key slots id c x from to m near (inl (k, p)) =
@@ -753,7 +753,7 @@ module _ (key : Config) (slots id : ℕ) (k : ClassPart) (l : LanePart) (b : Bum
             (view_after_alight out b.life.chunk n (applying k l))) (λ i. (whose i, is i))
             (omega (arith, proof, more_evidence l.worker (applied_bump b out) out))
 
-  pub alights : {law : Law} (x : ℕ) → 0 < evidence l.worker (applied_bump b out) (applying k l) → Allows (Kept law key) slots id
+  pub alights : {law : RowPredicate} (x : ℕ) → 0 < evidence l.worker (applied_bump b out) (applying k l) → Allows (Kept law key) slots id
       (applying k l, sl) (head_place slots b.life.chunk) (λ n. (n + (2 ^ 64 - 1)) % 2 ^ 64)
       (on_chunk (alight_tells out) (step slots (head_place slots b.life.chunk) x 0 none) (applying k l, sl))
   alights x proof = at_chunk (alight_tells out) key slots id (applying k l, sl) b.life.chunk x
@@ -787,7 +787,7 @@ module _ (key : Config) (slots id : ℕ) (k : ClassPart) (l : LanePart) (b : Bum
       ))
 
 -- for the contract
-pub may_alight : {law : Law} (key : Config) (slots id c x : ℕ) (out : Outcome) (m : Sat) → c < chunks key → MayAlight c out m.0
+pub may_alight : {law : RowPredicate} (key : Config) (slots id c x : ℕ) (out : Outcome) (m : Sat) → c < chunks key → MayAlight c out m.0
     → Allows (Kept law key) slots id m (head_place slots c) (λ n. (n + (2 ^ 64 - 1)) % 2 ^ 64)
     (on_chunk (alight_tells out) (step slots (head_place slots c) x 0 none) m)
 may_alight {law = law} key slots id c x out m near may = let k : ClassPart = may.0 in let l : LanePart = may.1 in let b : Bump =

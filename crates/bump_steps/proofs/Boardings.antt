@@ -12,7 +12,7 @@ use Rattle.bump_rules.specs.declared.bumps.AppliedBump.{AppliedBump}
 use Rattle.bump_steps.specs.declared.views.LanePart.{LanePart}
 use Rattle.bump_steps.specs.declared.views.View.{View}
 use Rattle.bump_steps.specs.Views.{Measure, held, named, owners, saw, strays, mislabels, misreads, weight, shown_by, in_order}
-use Rattle.bump_steps.specs.Rule.{Law, blank, Kept}
+use Rattle.bump_steps.specs.Rule.{RowPredicate, blank, Kept}
 use Rattle.bump_steps.specs.Riders.{board_both}
 use Rattle.bump_steps.proofs.Frame.{joins}
 
@@ -45,7 +45,7 @@ module _ (l : LanePart) (r : Ride) where
   same_evidence n a outcome.Gone = refl
   same_evidence n a outcome.TimeOnly = omega arith
 
-  pub boards : {law : Law} (key : Config) (id other : ℕ) → Joins (Kept law key) id waiting other riding (board_both waiting riding)
+  pub boards : {law : RowPredicate} (key : Config) (id other : ℕ) → Joins (Kept law key) id waiting other riding (board_both waiting riding)
       blank
   boards key id other = joins key id waiting other riding (board_both waiting riding) blank even
       (λ n a. (omega arith, same_evidence n a a.outcome)) (λ q. (omega arith, omega arith, refl, omega arith)) refl

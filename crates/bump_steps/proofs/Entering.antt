@@ -47,7 +47,7 @@ use Rattle.bump_steps.specs.declared.views.WordStep.TheVariants.{Begun}
 use Rattle.bump_steps.specs.declared.views.ClassPart.{ClassPart}
 use Rattle.bump_steps.specs.declared.views.View.{View}
 use Rattle.bump_steps.specs.Views.{Measure, held, named, saw, owners, strays, mislabels, misreads, owns, standing, labels_of, last_word, weight, shown_by, shows_time_only, HasLabels, IsBacked}
-use Rattle.bump_steps.specs.Rule.{Law, Sound, chunks, Kept}
+use Rattle.bump_steps.specs.Rule.{RowPredicate, Sound, chunks, Kept}
 use Rattle.bump_steps.specs.Places.{head_place}
 use Rattle.bump_steps.specs.Plays.{Sat, on_chunk, step_of, Stands}
 use Rattle.bump_steps.specs.Lives.{alone, class_after_load, class_after_link, class_after_sweep, IsInSegment, IsLinked, IsDying, MayLink, on_class, start_in, link_tells, unlink_tells, sweep_or_load_tells}
@@ -136,7 +136,7 @@ module _ (c : ℕ) (k : ClassPart) (own : owns c k ≡ true) (e : Change) (ls : 
           )
 
   -- the chunk is sound with a head that is lawful there
-  pub enter_sound : {law : Law} (limit n p : ℕ) (label : ℕ → ℕ) (t u : Measure → ℕ) → Amid c (alone k) t
+  pub enter_sound : {law : RowPredicate} (limit n p : ℕ) (label : ℕ → ℕ) (t u : Measure → ℕ) → Amid c (alone k) t
       → ((y : Measure) → u y + weight c y (alone k) ≡ t y + weight c y entering) → (o : Sound law limit n label t)
       (to : Head) → Spells p to → to.generation ≡ (subject e).generation
       → ((i : ℕ) → t (misreads i to.generation (label i)) ≡ 0) → (to.linked ≡ true → law label)
@@ -236,7 +236,7 @@ module _ (key : Config) (slots id c : ℕ) (near : c < chunks key) (sl : List (�
       (stands_alone c (alone k) k refl own)
 
   -- the head of a new life is stored
-  pub links : {law : Law} (a : Start) (new : ℕ) → (standing k c).0 ≡ Unused
+  pub links : {law : RowPredicate} (a : Start) (new : ℕ) → (standing k c).0 ≡ Unused
       → new ≡ word_of (linked_head a ((standing k c).1 + 1)) → law (λ i. last_word i k c)
       → Allows (Kept law key) slots id (alone k, sl) (head_place slots c) (λ _. new)
       (λ _. on_chunk link_tells (step slots (head_place slots c) new 0 none) (alone k, sl) new)
@@ -281,7 +281,7 @@ module _ (key : Config) (slots id c : ℕ) (near : c < chunks key) (sl : List (�
       ))
 
   -- LINKED and its reference are subtracted
-  pub unlinks : {law : Law} → IsInSegment (standing k c).0 → Allows (Kept law key) slots id (alone k, sl) (head_place slots c)
+  pub unlinks : {law : RowPredicate} → IsInSegment (standing k c).0 → Allows (Kept law key) slots id (alone k, sl) (head_place slots c)
       (λ n. (n + (2 ^ 64 - (2 ^ linked_first + 1))) % 2 ^ 64)
       (on_chunk unlink_tells (step slots (head_place slots c) (2 ^ linked_first + 1) 0 none) (alone k, sl))
   unlinks in_it = at_chunk unlink_tells key slots id (alone k, sl) c (2 ^ linked_first + 1)
@@ -307,7 +307,7 @@ module _ (key : Config) (slots id c : ℕ) (near : c < chunks key) (sl : List (�
       ))
 
   -- a DYING chunk is looked at, and freed where no reference is found
-  pub sweeps : {law : Law} → (standing k c).0 ≡ Dying → Allows (Kept law key) slots id (alone k, sl) (head_place slots c) (λ n. n)
+  pub sweeps : {law : RowPredicate} → (standing k c).0 ≡ Dying → Allows (Kept law key) slots id (alone k, sl) (head_place slots c) (λ n. n)
       (on_chunk sweep_or_load_tells (step slots (head_place slots c) 0 0 none) (alone k, sl))
   sweeps {law = law} dying = at_chunk sweep_or_load_tells key slots id (alone k, sl) c 0 (λ n. n) near
       (λ n label t limits o a. by n label t o a (n % 2 ^ refs_width == 0) refl)
@@ -365,7 +365,7 @@ module _ (key : Config) (slots id c : ℕ) (near : c < chunks key) (sl : List (�
 -- ---- For the contracts.
 
 -- a life may begin by the store of its head
-pub may_link : {law : Law} (key : Config) (slots id c g : ℕ) (m : Sat) → c < chunks key → (a : Start) → MayLink law c g m.0
+pub may_link : {law : RowPredicate} (key : Config) (slots id c g : ℕ) (m : Sat) → c < chunks key → (a : Start) → MayLink law c g m.0
     → (new : ℕ) → new ≡ word_of (linked_head a g) → Allows (Kept law key) slots id m (head_place slots c) (λ _. new)
     (λ _. on_chunk link_tells (step slots (head_place slots c) new 0 none) m new)
 may_link {law = law} key slots id c g m near a may new is = let k : ClassPart = may.0 in let o = may.1 in
@@ -390,7 +390,7 @@ link_told c g a m w new fits is told =
     ∙ ap (λ (j : ℕ). (on_class (class_after_link a c j n) m.0, m.1)) (fields n h spells).generation))
 
 -- a linked chunk may be unlinked
-pub may_unlink : {law : Law} (key : Config) (slots id c : ℕ) (m : Sat) → c < chunks key → IsLinked c m.0
+pub may_unlink : {law : RowPredicate} (key : Config) (slots id c : ℕ) (m : Sat) → c < chunks key → IsLinked c m.0
     → Allows (Kept law key) slots id m (head_place slots c) (λ n. (n + (2 ^ 64 - (2 ^ linked_first + 1))) % 2 ^ 64)
     (on_chunk unlink_tells (step slots (head_place slots c) (2 ^ linked_first + 1) 0 none) m)
 may_unlink {law = law} key slots id c m near may =
@@ -400,7 +400,7 @@ may_unlink {law = law} key slots id c m near may =
     (unlinks key slots id c near m.1 may.0 may.1.own may.1.at)
 
 -- a DYING chunk may be seen, and freed
-pub may_sweep : {law : Law} (key : Config) (slots id c : ℕ) (m : Sat) → c < chunks key → IsDying c m.0
+pub may_sweep : {law : RowPredicate} (key : Config) (slots id c : ℕ) (m : Sat) → c < chunks key → IsDying c m.0
     → Allows (Kept law key) slots id m (head_place slots c) (λ n. n)
     (on_chunk sweep_or_load_tells (step slots (head_place slots c) 0 0 none) m)
 may_sweep {law = law} key slots id c m near may =

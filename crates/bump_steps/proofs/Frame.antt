@@ -18,7 +18,7 @@ use Rattle.bump_steps.specs.Views.{Measure, held, owners, strays, mislabels, mis
 use Rattle.bump_steps.specs.Places.{head_place, row_at, words_at}
 use Rattle.bump_steps.specs.References.{IsRow}
 use Rattle.bump_steps.proofs.Places.{place_apart, place_near, place_behind, row_long, words_beside, words_written, word_found, with_word, with_same}
-use Rattle.bump_steps.specs.Rule.{Law, Sound, SoundAt, chunks, Kept, HasFittingLimit}
+use Rattle.bump_steps.specs.Rule.{RowPredicate, Sound, SoundAt, chunks, Kept, HasFittingLimit}
 use Rattle.bump_steps.specs.Plays.{every, IsOwn}
 use Rattle.bump_steps.proofs.Once.{settled_once, settled_here}
 use Rattle.bump_steps.proofs.OwnMoves.{moves_here}
@@ -50,12 +50,12 @@ pub record Amid (c : ℕ) (v : View) (t : Measure → ℕ) : Type 0 where
   pub readers : (i g x : ℕ) → t (held g) ≡ 0 → t (misreads i g x) ≡ 0
 
 -- the seat can go on to some view w, so that the chunk stays sound at the head word n, and the label and words x
-abbrev pub Reaches : Law → Config → ℕ → Sat → (Sat → Type 0) → ℕ → (ℕ → ℕ) → (Measure → ℕ) → Type 0
+abbrev pub Reaches : RowPredicate → Config → ℕ → Sat → (Sat → Type 0) → ℕ → (ℕ → ℕ) → (Measure → ℕ) → Type 0
 Reaches law key c m then n x t = (w : View)
     × ((u : Measure → ℕ) → ((y : Measure) → u y + weight c y m.0 ≡ t y + weight c y w) → Sound law key.refs_limit n x u)
     × ((b : ℕ) → b ≢ c → Same b m.0 w) × IsBacked m.0 w × then (w, m.1)
 
-abbrev pub From : Law → Config → ℕ → Sat → (ℕ → (ℕ → ℕ) → (Measure → ℕ) → Type 0) → Type 0
+abbrev pub From : RowPredicate → Config → ℕ → Sat → (ℕ → (ℕ → ℕ) → (Measure → ℕ) → Type 0) → Type 0
 From law key c m goes = (n : ℕ) (x : ℕ → ℕ) (t : Measure → ℕ) → HasFittingLimit key → Sound law key.refs_limit n x t → Amid c m.0 t
     → goes n x t
 
@@ -86,7 +86,7 @@ reader_holds c i g x v e = none_where_none (λ h. one_if (life c g) h.life) (mis
     (omega arith)
 
 -- what the rule says of one of the views
-pub amid : {law : Law} (key : Config) (s : State Empty View) → Kept law key s → (c i : ℕ) (v : View) → get_elem? s.views i ≡ some v
+pub amid : {law : RowPredicate} (key : Config) (s : State Empty View) → Kept law key s → (c i : ℕ) (v : View) → get_elem? s.views i ≡ some v
     → Amid c v (tally s.views c)
 amid key s o c i v me = record {
   once = λ w n. omega (
@@ -129,7 +129,7 @@ beside_words : (slots b c i word : ℕ) → word ≡ head_place slots c + i → 
 beside_words slots b c i word at small ne j low e =
     ne (place_apart slots b c (2 + j) i (omega (arith, low)) small (omega (arith, e, at))).0
 
-module _ {law : Law} (key : Config) (s : State Empty View) (o : Kept law key s) (i c word j p : ℕ)
+module _ {law : RowPredicate} (key : Config) (s : State Empty View) (o : Kept law key s) (i c word j p : ℕ)
     (v w : View) (me : get_elem? s.views i ≡ some v) (near : c < chunks key)
     (at : word ≡ head_place (length s.homes) c + j) (small : j < length s.homes + 3) where
   stepped_kept : ((b : ℕ) → b ≢ c → Same b v w) → IsBacked v w
@@ -176,13 +176,13 @@ module _ {law : Law} (key : Config) (s : State Empty View) (o : Kept law key s) 
   }
 
 -- what a step that changes no slot has to show of a state
-abbrev Goes : Law → Config → ℕ → Sat → ℕ → (ℕ → ℕ) → (ℕ → Sat → Type 0) → State Empty View → Type 0
+abbrev Goes : RowPredicate → Config → ℕ → Sat → ℕ → (ℕ → ℕ) → (ℕ → Sat → Type 0) → State Empty View → Type 0
 Goes law key id m word f then s = (w : View) × (a : Act Empty) × Valid s.homes m.1 a
     × Kept law key (stepped s word (f (get_or s.words word 0)) id m.1 w a)
     × then (get_or s.words word 0) (w, carried_after m.1 a)
 
 -- a step on a head word is allowed where it can go on, whatever sound words it finds, which are the chunk's row
-pub on_head_row : {law : Law} (key : Config) (slots id : ℕ) (m : Sat) (c : ℕ) (f : ℕ → ℕ) (then : ℕ → Sat → Type 0) → c < chunks key
+pub on_head_row : {law : RowPredicate} (key : Config) (slots id : ℕ) (m : Sat) (c : ℕ) (f : ℕ → ℕ) (then : ℕ → Sat → Type 0) → c < chunks key
     → ((row : List ℕ) → IsRow slots row → (n : ℕ) (t : Measure → ℕ) → HasFittingLimit key
     → Sound law key.refs_limit n (λ i. get_or row i 0) t → Amid c m.0 t
     → Reaches law key c m (then n) (f n) (λ i. get_or row i 0) t)
@@ -216,14 +216,14 @@ on_head_row {law = law} key slots id m c f then near goes s o count me small =
           g.4,
         )
 
-pub on_head : {law : Law} (key : Config) (slots id : ℕ) (m : Sat) (c : ℕ) (f : ℕ → ℕ) (then : ℕ → Sat → Type 0) → c < chunks key
+pub on_head : {law : RowPredicate} (key : Config) (slots id : ℕ) (m : Sat) (c : ℕ) (f : ℕ → ℕ) (then : ℕ → Sat → Type 0) → c < chunks key
     → From law key c m (λ n x t. Reaches law key c m (then n) (f n) x t)
     → Allows (Kept law key) slots id m (head_place slots c) f then
 on_head key slots id m c f then near goes =
     on_head_row key slots id m c f then near (λ row long n t. goes n (λ i. get_or row i 0) t)
 
 -- on its label, which is word 0, or on a further word
-pub on_words : {law : Law} (key : Config) (slots id : ℕ) (m : Sat) (c i : ℕ) (f : ℕ → ℕ) (then : ℕ → Sat → Type 0) → i ≤ slots
+pub on_words : {law : RowPredicate} (key : Config) (slots id : ℕ) (m : Sat) (c i : ℕ) (f : ℕ → ℕ) (then : ℕ → Sat → Type 0) → i ≤ slots
     → c < chunks key → From law key c m (λ n x t. Reaches law key c m (then (x i)) n (with_word x i (f (x i))) t)
     → Allows (Kept law key) slots id m (head_place slots c + (2 + i)) f then
 on_words {law = law} key slots id m c i f then low near goes s o count me small =
@@ -268,7 +268,7 @@ on_words {law = law} key slots id m c i f then low near goes s o count me small 
         )
 
 -- a load of one of them
-pub on_words_load : {law : Law} (key : Config) (slots id : ℕ) (m : Sat) (c i : ℕ) (then : ℕ → Sat → Type 0) → i ≤ slots
+pub on_words_load : {law : RowPredicate} (key : Config) (slots id : ℕ) (m : Sat) (c i : ℕ) (then : ℕ → Sat → Type 0) → i ≤ slots
     → c < chunks key → From law key c m (λ n x t. Reaches law key c m (then (x i)) n x t)
     → Allows (Kept law key) slots id m (head_place slots c + (2 + i)) (λ x. x) then
 on_words_load {law = law} key slots id m c i then low near goes =
@@ -277,7 +277,7 @@ on_words_load {law = law} key slots id m c i then low near goes =
     (goes n x t limits o a))
 
 -- on a time word, of which the rule says nothing
-pub time_step : {law : Law} (key : Config) (slots id : ℕ) (m : Sat) (c : ℕ) (f : ℕ → ℕ) (then : ℕ → Sat → Type 0) → c < chunks key
+pub time_step : {law : RowPredicate} (key : Config) (slots id : ℕ) (m : Sat) (c : ℕ) (f : ℕ → ℕ) (then : ℕ → Sat → Type 0) → c < chunks key
     → ((y : ℕ) → From law key c m (λ n x t. Reaches law key c m (then y) n x t))
     → Allows (Kept law key) slots id m (head_place slots c + 1) f then
 time_step {law = law} key slots id m c f then near goes s o count me small =
@@ -310,7 +310,7 @@ time_step {law = law} key slots id m c f then near goes s o count me small =
         )
 
 -- a load of a spare word, which leaves all words as they are, where the seat goes on to a view that counts the same
-pub on_spare : {law : Law} (key : Config) (slots id : ℕ) (m : Sat) (w : View) (then : ℕ → Sat → Type 0)
+pub on_spare : {law : RowPredicate} (key : Config) (slots id : ℕ) (m : Sat) (w : View) (then : ℕ → Sat → Type 0)
     → ((b : ℕ) → Same b m.0 w) → IsBacked m.0 w
     → ((n : ℕ) (s : State Empty View) → Kept law key s → get_elem? s.views id ≡ some m.0 → then n (w, m.1))
     → Allows (Kept law key) slots id m 0 (λ n. n) then
@@ -355,14 +355,14 @@ on_spare {law = law} key slots id m w then same back goes s o count me small = l
   goes n s o me,
 )
 
-pub same_sound : {law : Law} (limit n : ℕ) (x : ℕ → ℕ) (t u : Measure → ℕ) → ((y : Measure) → u y ≡ t y) → Sound law limit n x t
+pub same_sound : {law : RowPredicate} (limit n : ℕ) (x : ℕ → ℕ) (t u : Measure → ℕ) → ((y : Measure) → u y ≡ t y) → Sound law limit n x t
     → Sound law limit n x u
 same_sound {law = law} limit n x t u e o = subst (Sound law limit n x) (λ i y. sym (e y) i) o
 
 abbrev pub AddsUp : (View → ℕ) → View → View → View → Type 0
 AddsUp f v left right = f left + f right ≡ f v
 
-pub splits : {law : Law} (key : Config) (id : ℕ) (v left right : View)
+pub splits : {law : RowPredicate} (key : Config) (id : ℕ) (v left right : View)
     → ((c : ℕ) (x : Measure) → AddsUp (weight c x) v left right)
     → ((n : ℕ) (e : AppliedBump) → AddsUp (claims n e) v left right × AddsUp (evidence n e) v left right)
     → ((q : Query) → AddsUp (moves q) v left right × AddsUp (settled q) v left right
@@ -399,7 +399,7 @@ splits key id v left right even entries rides owned labels workers lanes tidy s 
     keep : (f : View → ℕ) → AddsUp f v left right → total f (set s.views id left ++ right ∷ []) ≡ total f s.views
     keep f h = omega (arith, total_append f (set s.views id left) (right ∷ []), total-set f s.views id v left me)
 
-pub joins : {law : Law} (key : Config) (id : ℕ) (v : View) (other : ℕ) (w both spent : View)
+pub joins : {law : RowPredicate} (key : Config) (id : ℕ) (v : View) (other : ℕ) (w both spent : View)
     → ((c : ℕ) (x : Measure) → weight c x both + weight c x spent ≡ weight c x v + weight c x w)
     → ((n : ℕ) (e : AppliedBump) → (claims n e both + claims n e spent ≡ claims n e v + claims n e w)
     × (evidence n e both + evidence n e spent ≡ evidence n e v + evidence n e w))

@@ -24,7 +24,7 @@ use Rattle.bump_steps.specs.declared.views.OwnStep.{OwnStep}
 use Rattle.bump_steps.specs.declared.views.ClassPart.{ClassPart}
 use Rattle.bump_steps.specs.declared.views.View.{View}
 use Rattle.bump_steps.specs.Views.{held, named, saw, owners, strays, mislabels, misreads, owns, standing, labels_of, last_word, weight, shown_by, shows_time_only, HasLabels, IsBacked}
-use Rattle.bump_steps.specs.Rule.{Law, chunks, Kept}
+use Rattle.bump_steps.specs.Rule.{RowPredicate, chunks, Kept}
 use Rattle.bump_steps.specs.Places.{head_place}
 use Rattle.bump_steps.specs.Plays.{Sat, on_label, on_word, step_of, Stands}
 use Rattle.bump_steps.specs.Lives.{alone, class_after_put_label, class_after_put_word, IsUnused, put_label_tells, put_word_tells}
@@ -101,7 +101,7 @@ module _ (c i y : ℕ) (k : ClassPart) (own : owns c k ≡ true) (ls : List Labe
           )
 
   -- a word of a free chunk is stored: nobody has read another
-  pub puts : {law : Law} (key : Config) (slots id : ℕ) (sl : List (ℕ × Empty)) → i ≤ slots → c < chunks key
+  pub puts : {law : RowPredicate} (key : Config) (slots id : ℕ) (sl : List (ℕ × Empty)) → i ≤ slots → c < chunks key
       → (standing k c).0 ≡ Unused → (HasLabels k → HasLabels stored)
       → Allows (Kept law key) slots id (alone k, sl) (head_place slots c + (2 + i)) (λ _. y)
       (λ _ w. w ≡ (alone stored, sl))
@@ -151,7 +151,7 @@ module _ (c i y : ℕ) (k : ClassPart) (own : owns c k ≡ true) (ls : List Labe
       ))
 
 -- for the contract: the label of a chunk of UNUSED may be stored
-pub may_put_label : {law : Law} (key : Config) (slots id c y : ℕ) (m : Sat) → c < chunks key → IsUnused c m.0
+pub may_put_label : {law : RowPredicate} (key : Config) (slots id c y : ℕ) (m : Sat) → c < chunks key → IsUnused c m.0
     → Allows (Kept law key) slots id m (head_place slots c + (2 + 0)) (λ _. y)
     (λ _. on_label put_label_tells (step slots (head_place slots c + (2 + 0)) y 0 none) m y)
 may_put_label {law = law} key slots id c y m near may =
@@ -166,7 +166,7 @@ may_put_label {law = law} key slots id c y m near may =
     k = may.0
 
 -- and a further word
-pub may_put_word : {law : Law} (key : Config) (slots id c j y : ℕ) (m : Sat) → c < chunks key → j < slots → IsUnused c m.0
+pub may_put_word : {law : RowPredicate} (key : Config) (slots id c j y : ℕ) (m : Sat) → c < chunks key → j < slots → IsUnused c m.0
     → Allows (Kept law key) slots id m (head_place slots c + (2 + suc j)) (λ _. y)
     (λ _. on_word put_word_tells (step slots (head_place slots c + (2 + suc j)) y 0 none) m y)
 may_put_word {law = law} key slots id c j y m near low may =

@@ -16,7 +16,7 @@ use Rattle.bump_steps.specs.declared.views.Kind.TheVariants as kind
 use Rattle.bump_steps.specs.declared.views.ClassPart.{ClassPart}
 use Rattle.bump_steps.specs.declared.views.View.{View}
 use Rattle.bump_steps.specs.Views.{Measure, held, named, saw, owners, strays, mislabels, misreads, owns, standing, last_word, shown_by, shows_time_only, of_owner, names_move, foreign_in, IsBacked}
-use Rattle.bump_steps.specs.Rule.{Law, Sound, chunks, Kept}
+use Rattle.bump_steps.specs.Rule.{RowPredicate, Sound, chunks, Kept}
 use Rattle.bump_steps.specs.Places.{head_place}
 use Rattle.bump_steps.specs.Plays.{Sat, on_chunk, on_time, step_of}
 use Rattle.bump_steps.specs.Lives.{on_class, generation_load_tells, load_tells, time_load_tells}
@@ -76,7 +76,7 @@ module _ (kind : Kind) (c n : ℕ) (v : View) where
           (λ x. cond (shows_time_only wk e.number e.life.chunk x) 1 0) k.steps (step_of kind c n None)) v.classes
           in omega arith
 
-module _ {law : Law} (key : Config) (slots id : ℕ) (m : Sat) (c : ℕ) (near : c < chunks key) where
+module _ {law : RowPredicate} (key : Config) (slots id : ℕ) (m : Sat) (c : ℕ) (near : c < chunks key) where
   -- whatever is noted of the word that was found
   pub reaches_by_look : (kind : Kind) (y n : ℕ) (x : ℕ → ℕ) (t : Measure → ℕ) (tell : Sat → Type 0) → Sound law key.refs_limit n x t
       → tell (on_class (noted_by kind c y) m.0, m.1) → Reaches law key c m tell n x t

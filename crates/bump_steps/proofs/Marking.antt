@@ -28,7 +28,7 @@ use Rattle.bump_steps.specs.declared.views.Kind.TheVariants as kind
 use Rattle.bump_steps.specs.declared.views.WorkerPart.{WorkerPart}
 use Rattle.bump_steps.specs.declared.views.View.{View}
 use Rattle.bump_steps.specs.Views.{Measure, held, named, saw, owners, strays, mislabels, misreads, in_hand, is_fetch, is_fetch_of, weight, shown_by, IsBacked}
-use Rattle.bump_steps.specs.Rule.{Law, Sound, chunks, Kept}
+use Rattle.bump_steps.specs.Rule.{RowPredicate, Sound, chunks, Kept}
 use Rattle.bump_steps.specs.Places.{head_place}
 use Rattle.bump_steps.specs.Plays.{Sat, on_chunk, on_time, on_first, step_of}
 use Rattle.bump_steps.specs.Marks.{on_worker, noted, hits_after, worker_after_fetch, trying, attempting, worker_after_mark, done, worker_after_unmark, worker_after_store_time, fetch_tells, mark_tells, unmark_tells, store_time_tells, MayMark}
@@ -155,7 +155,7 @@ is_its_fetch c n g e j = ap {B = ℕ} (λ (a : Bool). cond ((c == c) && a) 1 0) 
     eqb_turn x y = dite (ℕ_discrete x y) (λ e. eq-eqb x y e ∙ sym (eq-eqb y x (sym e)))
         (λ ne. ne_eqb x y ne ∙ sym (ne_eqb y x (λ e. ne (sym e))))
 
-module _ {law : Law} (key : Config) (slots id : ℕ) (m : Sat) (c : ℕ) (near : c < chunks key) where
+module _ {law : RowPredicate} (key : Config) (slots id : ℕ) (m : Sat) (c : ℕ) (near : c < chunks key) where
   -- the seat has a worker's part, and its step finds this word
   module _ (has : 0 < length m.0.workers) (n : ℕ) (x : ℕ → ℕ) (t : Measure → ℕ) (o : Sound law key.refs_limit n x t) where
     abbrev pub found : Head

@@ -11,7 +11,7 @@ use Rattle.bump_steps.specs.declared.views.ClassPart.{ClassPart}
 use Rattle.bump_steps.specs.declared.views.View.{View}
 use Rattle.bump_rules.specs.Lives.{life, one_if}
 use Rattle.bump_steps.specs.Views.{Measure, held, mislabels, owns, standing, last_word, weight, moves}
-use Rattle.bump_steps.specs.Rule.{Law, Sound, chunks, Kept}
+use Rattle.bump_steps.specs.Rule.{RowPredicate, Sound, chunks, Kept}
 use Rattle.bump_steps.specs.Places.{head_place}
 use Rattle.bump_steps.specs.Plays.{Sat, behind, on_label, Told, Stands}
 use Rattle.bump_steps.proofs.Referring.{first_life, first_row}
@@ -31,7 +31,7 @@ equal_where true false o e = absurd (omega arith)
 equal_where false b o e = absurd (cc o)
 
 -- where the rule holds, the label word is what both know
-pub met_labels : {law : Law} (c limit n : ℕ) (x : ℕ → ℕ) (v : View) (t : Measure → ℕ) (o : Sound law limit n x t) → Amid c v t
+pub met_labels : {law : RowPredicate} (c limit n : ℕ) (x : ℕ → ℕ) (v : View) (t : Measure → ℕ) (o : Sound law limit n x t) → Amid c v t
     → Meets c v (x 0)
 met_labels c limit n x v t o a k h ks hs mine of = record {
   label = last 0;
@@ -71,7 +71,7 @@ met_labels c limit n x v t o a k h ks hs mine of = record {
     first : v.holds ≡ h ∷ behind v.holds
     first = hs ∙ ap (λ (l : List HoldPart). h ∷ behind l) (sym hs)
 
-pub may_load_to_meet : {law : Law} (key : Config) (slots id : ℕ) (m : Sat) (c : ℕ) → c < chunks key → Allows (Kept law key) slots id m
+pub may_load_to_meet : {law : RowPredicate} (key : Config) (slots id : ℕ) (m : Sat) (c : ℕ) → c < chunks key → Allows (Kept law key) slots id m
     (head_place slots c + (2 + 0)) (λ x. x)
     (on_label load_to_meet_tells (step slots (head_place slots c + (2 + 0)) 0 0 none) m)
 may_load_to_meet key slots id m c near = at_label load_to_meet_tells key slots id m c 0 (λ x. x) (λ x. x)
@@ -93,14 +93,14 @@ may_load_to_meet key slots id m c near = at_label load_to_meet_tells key slots i
     )))
 
 -- a lane that is joined to a class's seat
-pub may_load_to_meet_lane : {law : Law} (key : Config) (slots id : ℕ) (m : Sat) → Allows (Kept law key) slots id m 0 (λ x. x)
+pub may_load_to_meet_lane : {law : RowPredicate} (key : Config) (slots id : ℕ) (m : Sat) → Allows (Kept law key) slots id m 0 (λ x. x)
     (load_to_meet_lane_tells (step slots 0 0 0 none) m)
 may_load_to_meet_lane key slots id m = on_spare key slots id m (on_class class_after_meet m.0)
     (load_to_meet_lane_tells (step slots 0 0 0 none) m) (look_same kind.Meet 0 0 m.0) (look_backed kind.Meet 0 0 m.0)
     (λ n s o me. let a = amid key s o 0 id m.0 me in (refl, record { once = a.once; own = a.own; told = a.told }))
 
 -- a class's seat alone: a worker that the store hasn't has no lane, and so no move
-pub may_load_to_meet_workers : {law : Law} (key : Config) (slots id : ℕ) (m : Sat) → Allows (Kept law key) slots id m 0 (λ x. x)
+pub may_load_to_meet_workers : {law : RowPredicate} (key : Config) (slots id : ℕ) (m : Sat) → Allows (Kept law key) slots id m 0 (λ x. x)
     (load_to_meet_workers_tells key.workers (step slots 0 0 0 none) m)
 may_load_to_meet_workers key slots id m = on_spare key slots id m (on_class class_after_meet m.0)
     (load_to_meet_workers_tells key.workers (step slots 0 0 0 none) m) (look_same kind.Meet 0 0 m.0)

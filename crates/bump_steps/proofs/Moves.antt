@@ -12,7 +12,7 @@ use Rattle.bump_rules.specs.Entries.{is_move_for, is_unlink_of}
 use Rattle.bump_rules.proofs.Updates.{total_append}
 use Rattle.bump_steps.specs.declared.views.View.{View}
 use Rattle.bump_steps.specs.Views.{Measure, held, named, saw, owners, strays, mislabels, misreads, misread, refers, in_hand, is_fetch_of, bump_aboard, owns, standing, last_word, weight, shown_by, claimed_in, settled_in, names_move, underway_in, untidy_in, shows_time_only, of_owner, foreign_in, HaveLabels}
-use Rattle.bump_steps.specs.Rule.{Law, blank, Kept}
+use Rattle.bump_steps.specs.Rule.{RowPredicate, blank, Kept}
 use Rattle.bump_steps.specs.Cuts.{joined, without_lanes, lanes_only, without_holds, holds_only, without_class, class_only, without_worker, worker_only, without_lane, lane_only}
 use Rattle.bump_steps.specs.Plays.{behind, first_of}
 use Rattle.bump_steps.proofs.Frame.{AddsUp, splits, joins}
@@ -63,7 +63,7 @@ module _ (v left right : View) (p : Parted v left right) where
       )
 
   -- the rule doesn't notice that a view is cut in two
-  pub parts : {law : Law} (key : Config) (id : ℕ) → (HaveLabels v.classes → HaveLabels left.classes × HaveLabels right.classes)
+  pub parts : {law : RowPredicate} (key : Config) (id : ℕ) → (HaveLabels v.classes → HaveLabels left.classes × HaveLabels right.classes)
       → Splits (Kept law key) id v left right
   parts key id labels = splits key id v left right parted_counts
       (λ n a. (p.lanes (claimed_in n a), parted_evidence n a a.outcome))
@@ -87,7 +87,7 @@ there xs f = omega arith
 split_first : {A : Type 0} (xs : List A) → Shared xs (behind xs) (first_of xs)
 split_first xs f = cut f xs
 
-pub lanes_split : {law : Law} (key : Config) (id : ℕ) (v : View) → Splits (Kept law key) id v (without_lanes v) (lanes_only v)
+pub lanes_split : {law : RowPredicate} (key : Config) (id : ℕ) (v : View) → Splits (Kept law key) id v (without_lanes v) (lanes_only v)
 lanes_split key id v = parts v (without_lanes v) (lanes_only v)
     (record {
       workers = here v.workers;
@@ -97,7 +97,7 @@ lanes_split key id v = parts v (without_lanes v) (lanes_only v)
       lanes = there v.lanes;
     }) key id (λ have. (have, tt))
 
-pub holds_split : {law : Law} (key : Config) (id : ℕ) (v : View) → Splits (Kept law key) id v (without_holds v) (holds_only v)
+pub holds_split : {law : RowPredicate} (key : Config) (id : ℕ) (v : View) → Splits (Kept law key) id v (without_holds v) (holds_only v)
 holds_split key id v = parts v (without_holds v) (holds_only v)
     (record {
       workers = here v.workers;
@@ -107,7 +107,7 @@ holds_split key id v = parts v (without_holds v) (holds_only v)
       lanes = here v.lanes;
     }) key id (λ have. (have, tt))
 
-pub class_split : {law : Law} (key : Config) (id : ℕ) (v : View) → Splits (Kept law key) id v (without_class v) (class_only v)
+pub class_split : {law : RowPredicate} (key : Config) (id : ℕ) (v : View) → Splits (Kept law key) id v (without_class v) (class_only v)
 class_split key id v = parts v (without_class v) (class_only v)
     (record {
       workers = here v.workers;
@@ -117,7 +117,7 @@ class_split key id v = parts v (without_class v) (class_only v)
       lanes = here v.lanes;
     }) key id (have_cut v.classes)
 
-pub worker_split : {law : Law} (key : Config) (id : ℕ) (v : View) → Splits (Kept law key) id v (without_worker v) (worker_only v)
+pub worker_split : {law : RowPredicate} (key : Config) (id : ℕ) (v : View) → Splits (Kept law key) id v (without_worker v) (worker_only v)
 worker_split key id v = parts v (without_worker v) (worker_only v)
     (record {
       workers = split_first v.workers;
@@ -127,7 +127,7 @@ worker_split key id v = parts v (without_worker v) (worker_only v)
       lanes = here v.lanes;
     }) key id (λ have. (have, tt))
 
-pub lane_split : {law : Law} (key : Config) (id : ℕ) (v : View) → Splits (Kept law key) id v (without_lane v) (lane_only v)
+pub lane_split : {law : RowPredicate} (key : Config) (id : ℕ) (v : View) → Splits (Kept law key) id v (without_lane v) (lane_only v)
 lane_split key id v = parts v (without_lane v) (lane_only v)
     (record {
       workers = here v.workers;
@@ -138,7 +138,7 @@ lane_split key id v = parts v (without_lane v) (lane_only v)
     }) key id (λ have. (have, tt))
 
 -- the rule doesn't notice that two views are put together
-pub both_join : {law : Law} (key : Config) (id : ℕ) (v : View) (other : ℕ) (w : View) → Joins (Kept law key) id v other w (joined v w)
+pub both_join : {law : RowPredicate} (key : Config) (id : ℕ) (v : View) (other : ℕ) (w : View) → Joins (Kept law key) id v other w (joined v w)
     blank
 both_join key id v other w = joins key id v other w (joined v w) blank
     (λ c x. omega (arith, counts c x, nothing c x))

@@ -34,7 +34,7 @@ use Rattle.bump_steps.specs.Places.{head_place}
 use Rattle.bump_steps.specs.Plays.{Sat, Found, on_chunk, on_row, on_label, on_word, behind, on_first, step_of}
 use Rattle.bump_steps.specs.Marks.{noted, on_worker}
 use Rattle.bump_steps.specs.References.{load_to_take_tells, new_hold, view_after_take, take_tells, HasHold, view_after_release, release_of_hold_tells, hold_after_look, view_after_look_of_hold, look_of_hold_tells, IsRow, IsOfRow, label_load_tells, word_load_tells, IsAnyHead, load_without_seat_tells, seen_me}
-use Rattle.bump_steps.specs.Rule.{Law, Sound, chunks, Kept, HasFittingLimit}
+use Rattle.bump_steps.specs.Rule.{RowPredicate, Sound, chunks, Kept, HasFittingLimit}
 use Rattle.bump_steps.specs.Views.{Measure, held, named, saw, owners, strays, mislabels, misreads, is_fetch, is_fetch_of, in_hand, misread, weight, tally, claims, evidence, shown_by, moves, settled, in_progress, underway, foreign, workers_of, lanes_of, untidy, IsBacked}
 use Rattle.bump_steps.proofs.LifeLabels.{labelled_push}
 use Rattle.bump_steps.proofs.Frame.{Same, Amid, Reaches, on_words_load, same_sound}
@@ -56,7 +56,7 @@ same_where : (p q a b : ℕ) → q + a ≡ p + b → b ≡ a → p ≡ q
 same_where p q a b moved same = omega arith
 
 -- where only the count of references changes, and with it the references of the views, the chunk stays sound
-refs_sound : {law : Law} (limit n p : ℕ) (x : ℕ → ℕ) (c r : ℕ) (v w : View) (t u : Measure → ℕ)
+refs_sound : {law : RowPredicate} (limit n p : ℕ) (x : ℕ → ℕ) (c r : ℕ) (v w : View) (t u : Measure → ℕ)
     → ((y : Measure) → u y + weight c y v ≡ t y + weight c y w) → (o : Sound law limit n x t)
     → Spells p (record o.head { refs = r })
     → Lawful limit (record o.head { refs = r }) o.at (λ g. u (held g)) (λ g. t (named g)) → Beside c x v w
@@ -168,7 +168,7 @@ same_row i b j l row = ap (λ (z : Bool). one_if (life b j) l * cond z 0 1) (eq-
     ∙ mul-zero (one_if (life b j) l)
 
 -- of the first hold, of this chunk, it is known that
-module _ {law : Law} (c limit n : ℕ) (x : ℕ → ℕ) (v : View) (t : Measure → ℕ) (o : Sound law limit n x t) (a : Amid c v t) (h : HoldPart)
+module _ {law : RowPredicate} (c limit n : ℕ) (x : ℕ → ℕ) (v : View) (t : Measure → ℕ) (o : Sound law limit n x t) (a : Amid c v t) (h : HoldPart)
     (is : v.holds ≡ h ∷ behind v.holds) (of : h.life.chunk ≡ c) where
   one_first : one_if (life c h.life.generation) h.life ≡ 1
   one_first = ap (λ (d : ℕ). one_if (life d h.life.generation) h.life) (sym of) ∙ one_life h.life
@@ -203,7 +203,7 @@ module _ {law : Law} (c limit n : ℕ) (x : ℕ → ℕ) (v : View) (t : Measure
 
 module _ (key : Config) (slots id : ℕ) (m : Sat) (c : ℕ) (near : c < chunks key) where
   -- a load by a worker, or its exchange that failed, changes no word, and nothing that counts
-  reaches_by_look : {law : Law} (kind : Kind) → is_fetch kind ≡ false → (n : ℕ) (x : ℕ → ℕ) (t : Measure → ℕ) (tell : Sat → Type 0)
+  reaches_by_look : {law : RowPredicate} (kind : Kind) → is_fetch kind ≡ false → (n : ℕ) (x : ℕ → ℕ) (t : Measure → ℕ) (tell : Sat → Type 0)
       → Sound law key.refs_limit n x t
       → tell (on_worker (noted kind c n) m.0, m.1) → Reaches law key c m tell n x t
   reaches_by_look kind plain n x t tell o told = (
@@ -216,14 +216,14 @@ module _ (key : Config) (slots id : ℕ) (m : Sat) (c : ℕ) (near : c < chunks 
   )
 
   -- a load by a worker
-  pub may_load_to_take : {law : Law} → Allows (Kept law key) slots id m (head_place slots c) (λ n. n)
+  pub may_load_to_take : {law : RowPredicate} → Allows (Kept law key) slots id m (head_place slots c) (λ n. n)
       (on_chunk load_to_take_tells (step slots (head_place slots c) 0 0 none) m)
   may_load_to_take = at_chunk load_to_take_tells key slots id m c 0 (λ n. n) near
       (λ n x t limits o a. reaches_by_look kind.Load refl n x t (load_to_take_tells c 0 m n) o
       (refl, (o.head, o.spells, tells c key.refs_limit n x m.0 t o a)))
 
   -- a load by a hold changes no word, and nothing that counts
-  pub may_look_of_hold : {law : Law} → Allows (Kept law key) slots id m (head_place slots c) (λ n. n)
+  pub may_look_of_hold : {law : RowPredicate} → Allows (Kept law key) slots id m (head_place slots c) (λ n. n)
       (on_chunk look_of_hold_tells (step slots (head_place slots c) 0 0 none) m)
   may_look_of_hold = at_chunk look_of_hold_tells key slots id m c 0 (λ n. n) near (λ n x t limits o a. (
     view_after_look_of_hold n m.0,
@@ -235,7 +235,7 @@ module _ (key : Config) (slots id : ℕ) (m : Sat) (c : ℕ) (near : c < chunks 
   ))
 
   -- a reference is taken where the word is the one that the exchange expects
-  won : {law : Law} (g old : ℕ) (h : Head) → Spells old h → get_of key.refs_limit g h ≡ IsHeld → (row : List ℕ) → IsRow slots row
+  won : {law : RowPredicate} (g old : ℕ) (h : Head) → Spells old h → get_of key.refs_limit g h ≡ IsHeld → (row : List ℕ) → IsRow slots row
       → (n : ℕ) (t : Measure → ℕ)
       → HasFittingLimit key → Sound law key.refs_limit n (λ i. get_or row i 0) t → Amid c m.0 t → n ≡ old
       → Reaches law key c m (take_tells law slots c old m n) (old + 1) (λ i. get_or row i 0) t
@@ -297,7 +297,7 @@ module _ (key : Config) (slots id : ℕ) (m : Sat) (c : ℕ) (near : c < chunks 
       )
 
   -- the exchange that takes a hold
-  pub may_take : {law : Law} (g old : ℕ) (h : Head) → Spells old h → get_of key.refs_limit g h ≡ IsHeld
+  pub may_take : {law : RowPredicate} (g old : ℕ) (h : Head) → Spells old h → get_of key.refs_limit g h ≡ IsHeld
       → Allows (Kept law key) slots id m (head_place slots c) (λ n. either (eqb n old) (old + 1) n)
       (on_row (take_tells law) (step slots (head_place slots c) old (old + 1) none) m)
   may_take {law = law} g old h is may = at_row (take_tells law) key slots id m c old (λ n. either (eqb n old) (old + 1) n) near
@@ -344,7 +344,7 @@ module _ (key : Config) (slots id : ℕ) (m : Sat) (c : ℕ) (near : c < chunks 
         )
 
     -- a hold gives its reference back
-    releases : {law : Law} → Allows (Kept law key) slots id m (head_place slots c) (λ n. (n + (2 ^ 64 - 1)) % 2 ^ 64)
+    releases : {law : RowPredicate} → Allows (Kept law key) slots id m (head_place slots c) (λ n. (n + (2 ^ 64 - 1)) % 2 ^ 64)
         (on_chunk release_of_hold_tells (step slots (head_place slots c) 1 0 none) m)
     releases = at_chunk release_of_hold_tells key slots id m c 1 (λ n. (n + (2 ^ 64 - 1)) % 2 ^ 64) near
         (λ n x t limits o a.
@@ -380,12 +380,12 @@ module _ (key : Config) (slots id : ℕ) (m : Sat) (c : ℕ) (near : c < chunks 
         ))
 
   -- for the contract
-  pub may_release : {law : Law} → HasHold c m.0 → Allows (Kept law key) slots id m (head_place slots c) (λ n. (n + (2 ^ 64 - 1)) % 2 ^ 64)
+  pub may_release : {law : RowPredicate} → HasHold c m.0 → Allows (Kept law key) slots id m (head_place slots c) (λ n. (n + (2 ^ 64 - 1)) % 2 ^ 64)
       (on_chunk release_of_hold_tells (step slots (head_place slots c) 1 0 none) m)
   may_release has = releases has.0 has.1 has.2
 
   -- A load of word i by a hold changes nothing: it finds the word of the hold's row.
-  may_read : {law : Law} (i : ℕ) → i ≤ slots → Allows (Kept law key) slots id m (head_place slots c + (2 + i)) (λ x. x)
+  may_read : {law : RowPredicate} (i : ℕ) → i ≤ slots → Allows (Kept law key) slots id m (head_place slots c + (2 + i)) (λ x. x)
       (λ y w. (w ≡ m) × IsOfRow i c m.0 y)
   may_read i low = on_words_load key slots id m c i (λ y w. (w ≡ m) × IsOfRow i c m.0 y) low near
       (λ n x t limits o a. (
@@ -397,12 +397,12 @@ module _ (key : Config) (slots id : ℕ) (m : Sat) (c : ℕ) (near : c < chunks 
       ))
 
   -- a load of a label word, by a hold
-  pub may_load_label : {law : Law} → Allows (Kept law key) slots id m (head_place slots c + (2 + 0)) (λ x. x)
+  pub may_load_label : {law : RowPredicate} → Allows (Kept law key) slots id m (head_place slots c + (2 + 0)) (λ x. x)
       (on_label label_load_tells (step slots (head_place slots c + (2 + 0)) 0 0 none) m)
   may_load_label = at_label label_load_tells key slots id m c 0 (λ x. x) (λ x. x) (may_read 0 (omega arith))
 
   -- and of a further word
-  pub may_load_word : {law : Law} (j : ℕ) → j < slots → Allows (Kept law key) slots id m (head_place slots c + (2 + suc j)) (λ x. x)
+  pub may_load_word : {law : RowPredicate} (j : ℕ) → j < slots → Allows (Kept law key) slots id m (head_place slots c + (2 + suc j)) (λ x. x)
       (on_word word_load_tells (step slots (head_place slots c + (2 + suc j)) 0 0 none) m)
   may_load_word j low = at_word word_load_tells key slots id m c j 0 (λ x. x) (λ x. x) low
       (may_read (suc j) (omega (arith, low)))
@@ -418,7 +418,7 @@ nothing b c n (mislabels i x) = refl
 nothing b c n (misreads i g x) = refl
 
 -- a load of a head word, without a seat
-pub may_load_without_seat : {law : Law} (key : Config) (slots c : ℕ) (first : View) → c < chunks key → Enters (Kept law key) slots
+pub may_load_without_seat : {law : RowPredicate} (key : Config) (slots c : ℕ) (first : View) → c < chunks key → Enters (Kept law key) slots
     (head_place slots c) (λ n w. on_chunk (load_without_seat_tells key.refs_limit) (step slots (head_place slots c) 0 0 none)
     (first, []) n (w, []))
 may_load_without_seat key slots c first near s o count small =

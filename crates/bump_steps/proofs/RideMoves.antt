@@ -14,7 +14,7 @@ use Rattle.bump_steps.specs.declared.views.WorkerPart.{WorkerPart}
 use Rattle.bump_steps.specs.declared.views.HoldPart.{HoldPart}
 use Rattle.bump_steps.specs.declared.views.View.{View}
 use Rattle.bump_steps.specs.Views.{Measure, held, named, saw, owners, strays, mislabels, misreads, weight, in_hand, is_fetch_of, shown_by}
-use Rattle.bump_steps.specs.Rule.{Law, Kept, blank}
+use Rattle.bump_steps.specs.Rule.{RowPredicate, Kept, blank}
 use Rattle.bump_steps.specs.Plays.{on_first}
 use Rattle.bump_steps.specs.Rides.{touching, rides_by, rides_in, sent, sent_hand, without_ride, ride_only, return_both}
 use Rattle.bump_steps.proofs.Frame.{AddsUp, splits, joins}
@@ -53,7 +53,7 @@ parted_evidence v n a outcome.Gone = omega arith
 parted_evidence v n a outcome.TimeOnly = omega arith
 
 -- the rule doesn't notice that a bump is sent off
-pub ride_splits : {law : Law} (key : Config) (id : ℕ) (v : View) → Splits (Kept law key) id v (without_ride v) (ride_only v)
+pub ride_splits : {law : RowPredicate} (key : Config) (id : ℕ) (v : View) → Splits (Kept law key) id v (without_ride v) (ride_only v)
 ride_splits key id v = splits key id v (without_ride v) (ride_only v) (parted v)
     (λ n a. (omega arith, parted_evidence v n a a.outcome)) (λ q. (omega arith, omega arith, omega arith, omega arith)) (omega arith)
     (λ have. (have, tt)) (λ n. omega (
@@ -86,7 +86,7 @@ module _ (p : WorkerPart) (h : HoldPart) (r : Ride) where
   same_evidence n a outcome.TimeOnly = refl
 
   -- nor that one comes back
-  pub ride_joins : {law : Law} (key : Config) (id other : ℕ) → Joins (Kept law key) id idle other travels (return_both idle travels)
+  pub ride_joins : {law : RowPredicate} (key : Config) (id other : ℕ) → Joins (Kept law key) id idle other travels (return_both idle travels)
       blank
   ride_joins key id other = joins key id idle other travels (return_both idle travels) blank even
       (λ n a. (refl, same_evidence n a a.outcome)) (λ q. (refl, refl, refl, refl)) refl (λ have more. (tt, tt)) (λ n. refl)

@@ -30,7 +30,7 @@ use Rattle.bump_steps.specs.declared.views.WorkerPart.{WorkerPart}
 use Rattle.bump_steps.specs.declared.views.HoldPart.{HoldPart}
 use Rattle.bump_steps.specs.declared.views.View.{View}
 use Rattle.bump_steps.specs.Views.{Measure, held, named, saw, owners, strays, mislabels, misreads, weight, in_hand, is_fetch, is_fetch_of, shown_by, IsBacked}
-use Rattle.bump_steps.specs.Rule.{Law, Sound, chunks, Kept, HasFittingLimit}
+use Rattle.bump_steps.specs.Rule.{RowPredicate, Sound, chunks, Kept, HasFittingLimit}
 use Rattle.bump_steps.specs.Places.{head_place}
 use Rattle.bump_steps.specs.Plays.{Sat, step_of}
 use Rattle.bump_rules.specs.Accounts.{counted_drop}
@@ -95,7 +95,7 @@ module _ (p : WorkerPart) (q : HoldPart) (l : ItemId) where
         by w e outcome.TimeOnly = omega arith
 
     -- the chunk stays sound where its head's count goes with its references
-    refs_sound : {law : Law} (limit n m : ℕ) (y : ℕ → ℕ) (t u : Measure → ℕ)
+    refs_sound : {law : RowPredicate} (limit n m : ℕ) (y : ℕ → ℕ) (t u : Measure → ℕ)
         → ((g : Measure) → u g + weight l.chunk g (with_hold s p.accounts p.steps) ≡ t g + weight l.chunk g
         (with_hold z a (p.steps ++ x ∷ []))) → (o : Sound law limit n y t) → (r : ℕ)
         → Spells m (record o.head { refs = r })
@@ -126,7 +126,7 @@ module _ (key : Config) (slots id : ℕ) (p : WorkerPart) (q : HoldPart) (l : It
   seat_with s = (with_hold p q l s p.accounts p.steps, sl)
 
   -- the hold's life is the chunk's, and has a reference
-  held_here : {law : Law} (s : Hand) (n : ℕ) (y : ℕ → ℕ) (t : Measure → ℕ) (o : Sound law key.refs_limit n y t) → Amid l.chunk (seat_with s).0 t
+  held_here : {law : RowPredicate} (s : Hand) (n : ℕ) (y : ℕ → ℕ) (t : Measure → ℕ) (o : Sound law key.refs_limit n y t) → Amid l.chunk (seat_with s).0 t
       → IsOfHeld key.refs_limit l o.head
   held_here s n y t o a =
       let mine : 0 < t (held l.generation) = omega (arith, a.mine (held l.generation), one_life l) in
@@ -134,7 +134,7 @@ module _ (key : Config) (slots id : ℕ) (p : WorkerPart) (q : HoldPart) (l : It
       (sym gen, omega (arith, o.lawful.counted, ap (λ (j : ℕ). t (held j)) gen, mine), o.lawful.within)
 
   -- a load, or an exchange that failed: the attempt ends here or goes on
-  look_reaches : {law : Law} (kind : Kind) → is_fetch kind ≡ false → (failed n : ℕ) (y : ℕ → ℕ) (t : Measure → ℕ)
+  look_reaches : {law : RowPredicate} (kind : Kind) → is_fetch kind ≡ false → (failed n : ℕ) (y : ℕ → ℕ) (t : Measure → ℕ)
       (o : Sound law key.refs_limit n y t)
       → Amid l.chunk (seat_with (hand.Trying l)).0 t → Reaches law key l.chunk (seat_with (hand.Trying l))
       (look_to_ride_tells kind key.refs_limit failed l (seat_with (hand.Trying l)) n) n y t
@@ -152,14 +152,14 @@ module _ (key : Config) (slots id : ℕ) (p : WorkerPart) (q : HoldPart) (l : It
         (o.head, o.spells, held_here (hand.Trying l) n y t o a, refl),
       )
 
-  loads_to_ride : {law : Law} (failed : ℕ) → Allows (Kept law key) slots id (seat_with (hand.Trying l)) (head_place slots l.chunk) (λ n. n)
+  loads_to_ride : {law : RowPredicate} (failed : ℕ) → Allows (Kept law key) slots id (seat_with (hand.Trying l)) (head_place slots l.chunk) (λ n. n)
       (load_to_ride_tells key.refs_limit failed l (seat_with (hand.Trying l)))
   loads_to_ride failed = on_head key slots id (seat_with (hand.Trying l)) l.chunk (λ n. n)
       (load_to_ride_tells key.refs_limit failed l (seat_with (hand.Trying l))) near
       (λ n y t limits o a. look_reaches kind.Load refl failed n y t o a)
 
   -- an exchange that found the word that it expects
-  reserve_reaches : {law : Law} (old : ℕ) → HasRoom key.refs_limit old → (n : ℕ) (y : ℕ → ℕ) (t : Measure → ℕ) → HasFittingLimit key
+  reserve_reaches : {law : RowPredicate} (old : ℕ) → HasRoom key.refs_limit old → (n : ℕ) (y : ℕ → ℕ) (t : Measure → ℕ) → HasFittingLimit key
       → (o : Sound law key.refs_limit n y t) → Amid l.chunk (seat_with (hand.Trying l)).0 t → n ≡ old
       → Reaches law key l.chunk (seat_with (hand.Trying l)) (reserve_tells key.refs_limit l (seat_with (hand.Trying l)) n)
       (old + 1) y t
@@ -188,7 +188,7 @@ module _ (key : Config) (slots id : ℕ) (p : WorkerPart) (q : HoldPart) (l : It
           → Same b (seat_with s).0 (with_hold p q l z a (p.steps ++ x ∷ []))
       away s z a x plain b ne none nothing = elsewhere p q l s z a x plain b (λ j. nothing j ∙ sym (none j))
 
-  reserves : {law : Law} (failed old : ℕ) → HasRoom key.refs_limit old → Allows (Kept law key) slots id (seat_with (hand.Trying l))
+  reserves : {law : RowPredicate} (failed old : ℕ) → HasRoom key.refs_limit old → Allows (Kept law key) slots id (seat_with (hand.Trying l))
       (head_place slots l.chunk) (λ n. either (n == old) (old + 1) n)
       (try_to_ride_tells key.refs_limit failed l old (seat_with (hand.Trying l)))
   reserves {law = law} failed old room = on_head key slots id (seat_with (hand.Trying l)) l.chunk
@@ -203,7 +203,7 @@ module _ (key : Config) (slots id : ℕ) (p : WorkerPart) (q : HoldPart) (l : It
       (r.0, r.1, r.2, r.3, ((λ hit. absurd (miss hit)), (λ _. r.4)))))
 
   -- a bump's reference is given back
-  releases : {law : Law} → Allows (Kept law key) slots id (seat_with (hand.InHand l)) (head_place slots l.chunk)
+  releases : {law : RowPredicate} → Allows (Kept law key) slots id (seat_with (hand.InHand l)) (head_place slots l.chunk)
       (λ n. (n + (2 ^ 64 - 1)) % 2 ^ 64) (release_tells l (seat_with (hand.InHand l)))
   releases = on_head key slots id (seat_with (hand.InHand l)) l.chunk (λ n. (n + (2 ^ 64 - 1)) % 2 ^ 64)
       (release_tells l (seat_with (hand.InHand l))) near (λ n y t limits o a.
@@ -238,7 +238,7 @@ seat_is s l m on = λ i. (
   m.1,
 )
 
-pub may_load_to_ride : {law : Law} (key : Config) (slots id : ℕ) (m : Sat) (l : ItemId) (limit failed : ℕ) → l.chunk < chunks key
+pub may_load_to_ride : {law : RowPredicate} (key : Config) (slots id : ℕ) (m : Sat) (l : ItemId) (limit failed : ℕ) → l.chunk < chunks key
     → limit ≡ key.refs_limit → IsOn (hand.Trying l) l m.0 → Allows (Kept law key) slots id m (head_place slots l.chunk) (λ n. n)
     (load_to_ride_tells limit failed l m)
 may_load_to_ride {law = law} key slots id m l limit failed near is on =
@@ -246,7 +246,7 @@ may_load_to_ride {law = law} key slots id m l limit failed near is on =
     (load_to_ride_tells z.0 failed l z.1)) (λ i. (sym is i, sym (seat_is (hand.Trying l) l m on) i))
     (loads_to_ride key slots id on.part on.hold l near m.1 failed)
 
-pub may_reserve : {law : Law} (key : Config) (slots id : ℕ) (m : Sat) (l : ItemId) (limit failed old : ℕ) → l.chunk < chunks key
+pub may_reserve : {law : RowPredicate} (key : Config) (slots id : ℕ) (m : Sat) (l : ItemId) (limit failed old : ℕ) → l.chunk < chunks key
     → limit ≡ key.refs_limit → IsOn (hand.Trying l) l m.0 → HasRoom limit old → Allows (Kept law key) slots id m
     (head_place slots l.chunk) (λ n. either (n == old) (old + 1) n) (try_to_ride_tells limit failed l old m)
 may_reserve {law = law} key slots id m l limit failed old near is on room =
@@ -254,7 +254,7 @@ may_reserve {law = law} key slots id m l limit failed old near is on room =
     (try_to_ride_tells z.0 failed l old z.1)) (λ i. (sym is i, sym (seat_is (hand.Trying l) l m on) i))
     (reserves key slots id on.part on.hold l near m.1 failed old (subst (λ (k : ℕ). HasRoom k old) is room))
 
-pub may_release_bump : {law : Law} (key : Config) (slots id : ℕ) (m : Sat) (l : ItemId) → l.chunk < chunks key
+pub may_release_bump : {law : RowPredicate} (key : Config) (slots id : ℕ) (m : Sat) (l : ItemId) → l.chunk < chunks key
     → IsOn (hand.InHand l) l m.0 → Allows (Kept law key) slots id m (head_place slots l.chunk) (λ n. (n + (2 ^ 64 - 1)) % 2 ^ 64)
     (release_tells l m)
 may_release_bump {law = law} key slots id m l near on =

@@ -9,7 +9,7 @@ use Rattle.bump_steps.specs.declared.views.Kind.TheVariants as kind
 use Rattle.bump_steps.specs.declared.views.ClassPart.{ClassPart}
 use Rattle.bump_steps.specs.declared.views.View.{View}
 use Rattle.bump_steps.specs.Views.{Measure, mislabels, owns, last_word}
-use Rattle.bump_steps.specs.Rule.{Law, Sound, chunks, Kept}
+use Rattle.bump_steps.specs.Rule.{RowPredicate, Sound, chunks, Kept}
 use Rattle.bump_steps.specs.Places.{head_place}
 use Rattle.bump_steps.specs.Plays.{Sat, on_label, on_word}
 use Rattle.bump_steps.specs.Sights.{IsStoredLast, label_sight_tells, word_sight_tells}
@@ -24,7 +24,7 @@ equal_where true false o e = absurd (omega arith)
 equal_where false b o e = absurd (cc o)
 
 -- where the rule holds, the class that has the chunk stored its word i last
-pub stored_last : {law : Law} (c i limit n : ℕ) (x : ℕ → ℕ) (v : View) (t : Measure → ℕ) → Sound law limit n x t → Amid c v t
+pub stored_last : {law : RowPredicate} (c i limit n : ℕ) (x : ℕ → ℕ) (v : View) (t : Measure → ℕ) → Sound law limit n x t → Amid c v t
     → IsStoredLast i c v (x i)
 stored_last c i limit n x v t o a k ks mine =
     eqb-true _ _ (equal_where (owns c k) (eqb (last_word i k c) (x i)) mine (omega (
@@ -34,7 +34,7 @@ stored_last c i limit n x v t o a k ks mine =
       ap (total (λ (k : ClassPart). bit (owns c k && not (eqb (last_word i k c) (x i))))) ks,
     )))
 
-module _ {law : Law} (key : Config) (slots id : ℕ) (m : Sat) (c : ℕ) (near : c < chunks key) where
+module _ {law : RowPredicate} (key : Config) (slots id : ℕ) (m : Sat) (c : ℕ) (near : c < chunks key) where
   -- any class may look at any label
   pub may_see_label : Allows (Kept law key) slots id m (head_place slots c + (2 + 0)) (λ y. y)
       (on_label label_sight_tells (step slots (head_place slots c + (2 + 0)) 0 0 none) m)

@@ -29,7 +29,7 @@ use Rattle.bump_rules.specs.Entries.{is_move_for}
 use Rattle.bump_rules.proofs.Standings.{standing_same}
 use Rattle.bump_word.specs.Layout.{generation_width}
 use Rattle.bump_steps.specs.Views.{owns, standing, labels_of, last_word, held, named, saw, weight, refers, in_hand, is_fetch_of, bump_aboard, claimed_in, settled_in, names_move, underway_in, foreign_in, HaveLabels, untidy_in}
-use Rattle.bump_steps.specs.Rule.{Law, chunks, Kept, class_parts, worker_part, worker_parts, lane_part, lane_parts, opened, AreFresh, HasFittingLimit}
+use Rattle.bump_steps.specs.Rule.{RowPredicate, chunks, Kept, class_parts, worker_part, worker_parts, lane_part, lane_parts, opened, AreFresh, HasFittingLimit}
 
 -- the part of a class to which nothing happened
 abbrev new_class : ℕ → ℕ → ℕ → ClassConfig → ClassPart
@@ -230,7 +230,7 @@ one_worker_of n w (suc m) = dite (ℕ_discrete w n)
     (λ e. omega (arith, ap {B = ℕ} (λ (b : Bool). cond b 1 0) (eq-eqb w n e), no_worker_of n (w + 1) m (omega arith)))
     (λ ne. omega (arith, ap {B = ℕ} (λ (b : Bool). cond b 1 0) (ne_eqb w n ne), one_worker_of n (w + 1) m))
 
-pub starts : {law : Law} (key : Config) (words : List ℕ) (slots : List Empty)
+pub starts : {law : RowPredicate} (key : Config) (words : List ℕ) (slots : List Empty)
     → AreFresh (length slots) (chunks key) (key.first_generation - 1) words
     → HasFittingLimit key → (0 < key.first_generation) × (key.first_generation < 2 ^ generation_width)
     → Kept law key (opening words slots (opened key))

@@ -9,7 +9,7 @@ use Rattle.bump_rules.specs.Lives.{life, one_if}
 use Rattle.bump_rules.proofs.Updates.{total_push}
 use Rattle.bump_steps.specs.declared.views.View.{View}
 use Rattle.bump_steps.specs.Views.{Measure, weight}
-use Rattle.bump_steps.specs.Rule.{Law, Sound, chunks, Kept, HasFittingLimit}
+use Rattle.bump_steps.specs.Rule.{RowPredicate, Sound, chunks, Kept, HasFittingLimit}
 use Rattle.bump_steps.specs.Places.{head_place}
 use Rattle.bump_steps.specs.Plays.{Sat, Tells, on_chunk, on_row, on_time, on_label, on_word, on_first}
 use Rattle.bump_steps.specs.References.{IsRow}
@@ -17,7 +17,7 @@ use Rattle.bump_steps.proofs.Places.{place_apart}
 use Rattle.bump_steps.proofs.Frame.{Same, Amid, From, Reaches, on_head_row, on_head, time_step}
 
 -- a step that tells more tells less
-pub allows_less : {law : Law} (key : Config) (slots id : ℕ) (m : Sat) (word : ℕ) (f : ℕ → ℕ) (then less : ℕ → Sat → Type 0)
+pub allows_less : {law : RowPredicate} (key : Config) (slots id : ℕ) (m : Sat) (word : ℕ) (f : ℕ → ℕ) (then less : ℕ → Sat → Type 0)
     → ((n : ℕ) (w : Sat) → then n w → less n w) → Allows (Kept law key) slots id m word f then
     → Allows (Kept law key) slots id m word f less
 allows_less key slots id m word f then less fewer may s o count me small = let g = may s o count me small in (
@@ -33,7 +33,7 @@ pub chunk_is : (s c d i : ℕ) → i < s + 3 → head_place s c + i ≡ head_pla
 chunk_is s c d i small e = (place_apart s c d i i small small e).0
 
 -- a step on a head word is allowed where it can go on, whatever sound words it finds
-pub at_chunk_by : {law : Law} (tells : Tells) (key : Config) (slots id : ℕ) (m : Sat) (c x : ℕ) (f v : ℕ → ℕ) → c < chunks key
+pub at_chunk_by : {law : RowPredicate} (tells : Tells) (key : Config) (slots id : ℕ) (m : Sat) (c x : ℕ) (f v : ℕ → ℕ) → c < chunks key
     → From law key c m (λ n z t. Reaches law key c m (tells c x m (v n)) (f n) z t)
     → Allows (Kept law key) slots id m (head_place slots c) f
     (λ n. on_chunk tells (step slots (head_place slots c) x 0 none) m (v n))
@@ -44,13 +44,13 @@ at_chunk_by tells key slots id m c x f v near goes =
     (chunk_is slots c d 0 (omega arith) (omega (arith, e))) told)
     (on_head key slots id m c f (λ n. tells c x m (v n)) near goes)
 
-pub at_chunk : {law : Law} (tells : Tells) (key : Config) (slots id : ℕ) (m : Sat) (c x : ℕ) (f : ℕ → ℕ) → c < chunks key
+pub at_chunk : {law : RowPredicate} (tells : Tells) (key : Config) (slots id : ℕ) (m : Sat) (c x : ℕ) (f : ℕ → ℕ) → c < chunks key
     → From law key c m (λ n z t. Reaches law key c m (tells c x m n) (f n) z t)
     → Allows (Kept law key) slots id m (head_place slots c) f (on_chunk tells (step slots (head_place slots c) x 0 none) m)
 at_chunk tells key slots id m c x f near goes = at_chunk_by tells key slots id m c x f (λ n. n) near goes
 
 -- or where it can go on by the chunk's row
-pub at_row : {law : Law} (tells : ℕ → Tells) (key : Config) (slots id : ℕ) (m : Sat) (c x : ℕ) (f : ℕ → ℕ) → c < chunks key
+pub at_row : {law : RowPredicate} (tells : ℕ → Tells) (key : Config) (slots id : ℕ) (m : Sat) (c x : ℕ) (f : ℕ → ℕ) → c < chunks key
     → ((row : List ℕ) → IsRow slots row → (n : ℕ) (t : Measure → ℕ) → HasFittingLimit key
     → Sound law key.refs_limit n (λ i. get_or row i 0) t → Amid c m.0 t
     → Reaches law key c m (tells slots c x m n) (f n) (λ i. get_or row i 0) t)
@@ -63,7 +63,7 @@ at_row tells key slots id m c x f near goes =
     (on_head_row key slots id m c f (λ n. tells slots c x m n) near goes)
 
 -- on a time word, of which v tells
-pub at_time : {law : Law} (tells : Tells) (key : Config) (slots id : ℕ) (m : Sat) (c x : ℕ) (f v : ℕ → ℕ) → c < chunks key
+pub at_time : {law : RowPredicate} (tells : Tells) (key : Config) (slots id : ℕ) (m : Sat) (c x : ℕ) (f v : ℕ → ℕ) → c < chunks key
     → ((y : ℕ) → From law key c m (λ n z t. Reaches law key c m (tells c x m (v y)) n z t))
     → Allows (Kept law key) slots id m (head_place slots c + 1) f
     (λ n. on_time tells (step slots (head_place slots c + 1) x 0 none) m (v n))
@@ -74,7 +74,7 @@ at_time tells key slots id m c x f v near goes =
     (time_step key slots id m c f (λ n. tells c x m (v n)) near goes)
 
 -- on a label word
-pub at_label : {law : Law} (tells : Tells) (key : Config) (slots id : ℕ) (m : Sat) (c x : ℕ) (f v : ℕ → ℕ)
+pub at_label : {law : RowPredicate} (tells : Tells) (key : Config) (slots id : ℕ) (m : Sat) (c x : ℕ) (f v : ℕ → ℕ)
     → Allows (Kept law key) slots id m (head_place slots c + (2 + 0)) f (λ n. tells c x m (v n))
     → Allows (Kept law key) slots id m (head_place slots c + (2 + 0)) f
     (λ n. on_label tells (step slots (head_place slots c + (2 + 0)) x 0 none) m (v n))
@@ -84,7 +84,7 @@ at_label tells key slots id m c x f v may =
     (λ n w told d e. subst (λ (b : ℕ). tells b x m (v n) w) (chunk_is slots c d (2 + 0) (omega arith) e) told) may
 
 -- on a further word
-pub at_word : {law : Law} (tells : ℕ → Tells) (key : Config) (slots id : ℕ) (m : Sat) (c j x : ℕ) (f v : ℕ → ℕ) → j < slots
+pub at_word : {law : RowPredicate} (tells : ℕ → Tells) (key : Config) (slots id : ℕ) (m : Sat) (c j x : ℕ) (f v : ℕ → ℕ) → j < slots
     → Allows (Kept law key) slots id m (head_place slots c + (2 + suc j)) f (λ n. tells j c x m (v n))
     → Allows (Kept law key) slots id m (head_place slots c + (2 + suc j)) f
     (λ n. on_word tells (step slots (head_place slots c + (2 + suc j)) x 0 none) m (v n))

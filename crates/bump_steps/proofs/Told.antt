@@ -10,7 +10,7 @@ use mathlib.Core.Logic.{dite}
 use native.Mathlib.Decide.{ℕ_discrete}
 use Rattle.bump_rules.proofs.Standings.{same_standing, standing_same}
 use Rattle.bump_rules.specs.Lawful.{bit, Shows, IsUsed}
-use Rattle.bump_steps.specs.Rule.{Law, Sound}
+use Rattle.bump_steps.specs.Rule.{RowPredicate, Sound}
 use Rattle.bump_steps.specs.Plays.{Stands, Told}
 use Rattle.bump_steps.proofs.Frame.{Amid}
 
@@ -37,7 +37,7 @@ one_standing c a b (k ∷ ks) o x y = by (owns c k) refl (one_standing c a b ks)
     by false e more = more (omega (arith, ap bit e)) (omega arith) (omega arith)
 
 -- a seat of the chunk's class knows how it stands
-pub at_standing : {law : Law} (c limit n : ℕ) (x : ℕ → ℕ) (v : View) (t : Measure → ℕ) (o : Sound law limit n x t) → Amid c v t → (s : Standing)
+pub at_standing : {law : RowPredicate} (c limit n : ℕ) (x : ℕ → ℕ) (v : View) (t : Measure → ℕ) (o : Sound law limit n x t) → Amid c v t → (s : Standing)
     → Stands c v s → (o.at, o.head.generation) ≡ s
 at_standing c limit n x v t o a s st = one_standing c (o.at, o.head.generation) s v.classes (omega (arith, st.0))
     (omega (arith, a.mine (strays (o.at, o.head.generation)), o.agreed)) st.1
@@ -48,7 +48,7 @@ set_where true some = refl
 set_where false some = absurd (omega (arith, some))
 
 -- what a view tells of the head that is found
-pub tells : {law : Law} (c limit n : ℕ) (x : ℕ → ℕ) (v : View) (t : Measure → ℕ) (o : Sound law limit n x t) → Amid c v t → Told c v o.head
+pub tells : {law : RowPredicate} (c limit n : ℕ) (x : ℕ → ℕ) (v : View) (t : Measure → ℕ) (o : Sound law limit n x t) → Amid c v t → Told c v o.head
 tells c limit n x v t o a = record {
   held = λ g some. (o.lawful.used g (omega (arith, a.mine (held g)))).0;
   many = λ g. dite (ℕ_discrete (weight c (held g) v) 0) (λ none. omega (arith, none))

@@ -15,7 +15,7 @@ use Rattle.bump_steps.specs.declared.views.OwnStep.{OwnStep}
 use Rattle.bump_steps.specs.declared.views.View.{View}
 use Rattle.bump_steps.specs.declared.views.WorkerPart.{WorkerPart}
 use Rattle.bump_steps.specs.Marks.{on_worker}
-use Rattle.bump_steps.specs.Rule.{Law}
+use Rattle.bump_steps.specs.Rule.{RowPredicate}
 use Rattle.bump_steps.specs.Plays.{Sat, HasWorker, on_first, step_of}
 use Rattle.bump_steps.specs.References.{new_hold, view_after_load, view_after_failed, load_to_take_tells, view_after_take, IsRow, words_in, take_tells}
 use Rattle.bump_steps.specs.Tries.{last_found, AreAll, AreTries, AttemptFound, AskedFound, refused_by, take_refused, asked_refusal, failures, looks, takes, with_more, held_by, asked_life, view_after_attempt, any_refusal}
@@ -169,7 +169,7 @@ TryingToTake limit asked c before now word failed first more =
     word failed first more
 
 -- what the call comes to
-pub record TakesSo (law : Law) (limit slots : ℕ) (asked : Head → ℕ) (c : ℕ) (before after : Sat) (answered : Option TakeRefusal)
+pub record TakesSo (law : RowPredicate) (limit slots : ℕ) (asked : Head → ℕ) (c : ℕ) (before after : Sat) (answered : Option TakeRefusal)
     (first : Head) (more : List Head)
     : Type 0 where
   pub row : List ℕ
@@ -188,7 +188,7 @@ zeros_long : (n : ℕ) → length (row_of_zeros n) ≡ n
 zeros_long zero = refl
 zeros_long (suc n) = ap suc (zeros_long n)
 
-module _ (law : Law) (limit slots : ℕ) (asked : Head → ℕ) (c : ℕ) (before : Sat) where
+module _ (law : RowPredicate) (limit slots : ℕ) (asked : Head → ℕ) (c : ℕ) (before : Sat) where
   abbrev open_to_take : Head → Type 0
   open_to_take h = get_of limit (asked h) h ≡ IsHeld
 

@@ -19,7 +19,7 @@ use Rattle.bump_steps.specs.declared.views.Kind.TheVariants as kind
 use Rattle.bump_steps.specs.declared.views.ClassPart.{ClassPart}
 use Rattle.bump_steps.specs.declared.views.View.{View}
 use Rattle.bump_steps.specs.Views.{owns, standing, last_words}
-use Rattle.bump_steps.specs.Rule.{Law, blank}
+use Rattle.bump_steps.specs.Rule.{RowPredicate, blank}
 use Rattle.bump_steps.specs.Plays.{Tells, Found, Told, on_first, step_of}
 
 -- the view of a class's seat to which nothing is joined
@@ -114,7 +114,7 @@ abbrev pub IsLinked : ℕ → View → Type 0
 IsLinked chunk view = (k : ClassPart) × StandsAt IsInSegment chunk view k
 
 -- and this is the next generation of the chunk, for which the class stored words last of which the law holds
-abbrev pub MayLink : Law → ℕ → ℕ → View → Type 0
+abbrev pub MayLink : RowPredicate → ℕ → ℕ → View → Type 0
 MayLink law chunk generation view = (k : ClassPart) × StandsAt (λ p. p ≡ Unused) chunk view k
     × (generation ≡ (standing k chunk).1 + 1) × law (last_words k chunk)
 

@@ -14,7 +14,7 @@ use Rattle.bump_steps.specs.declared.views.Kind.TheVariants as kind
 use Rattle.bump_steps.specs.declared.views.View.{View}
 use Rattle.bump_steps.specs.Plays.{Sat, Tells, Found, Told, behind, on_first, step_of}
 use Rattle.bump_steps.specs.Marks.{noted, on_worker}
-use Rattle.bump_steps.specs.Rule.{Law, blank}
+use Rattle.bump_steps.specs.Rule.{RowPredicate, blank}
 
 -- the worker loaded the chunk's head word, and found n
 abbrev pub view_after_load : ℕ → ℕ → View → View
@@ -57,7 +57,7 @@ words_in words index = slice_index words index
 
 -- an exchange that finds the word that it expects puts the life's row into the hold's part, of which the law holds, and one that finds another
 -- word failed
-abbrev pub take_tells : Law → ℕ → Tells
+abbrev pub take_tells : RowPredicate → ℕ → Tells
 take_tells law slots chunk operand before word after =
     (word ≡ operand → (row : List ℕ) × IsRow slots row × law (words_in row)
     × (after ≡ (view_after_take chunk word row before.0, before.1)))

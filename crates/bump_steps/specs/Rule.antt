@@ -24,13 +24,13 @@ use Rattle.bump_steps.specs.Views.{Measure, held, named, saw, owners, strays, mi
 use Rattle.bump_steps.specs.Views.{claims, evidence, Query, moves, settled, in_progress, underway, foreign, AreLabelled}
 use Rattle.bump_steps.specs.Views.{workers_of, lanes_of, untidy}
 
--- A law of rows: what holds of a row's words by number, of its label, which is number 0, and of its further words.
--- Behind the last one all are 0.
-abbrev pub Law : Type 1
-Law = (ℕ → ℕ) → Type 0
+-- What a law of rows says: what holds of a row's words by number, of its label, which is number 0, and of its further
+-- words. Behind the last one all are 0.
+abbrev pub RowPredicate : Type 1
+RowPredicate = (ℕ → ℕ) → Type 0
 
 -- A chunk is sound: n is its head word, x its label and its further words, and t what all views together count of it.
-pub record Sound (law : Law) (limit word : ℕ) (label : ℕ → ℕ) (tally_of : Measure → ℕ) : Type 0 where
+pub record Sound (law : RowPredicate) (limit word : ℕ) (label : ℕ → ℕ) (tally_of : Measure → ℕ) : Type 0 where
   -- the head word is that of a Head, and the chunk stands in some list, so that it is lawful by the references and
   -- first hits of all views
   pub head : Head
@@ -54,7 +54,7 @@ chunks key = chunks_of key.classes
 
 -- The words of chunk c stand side by side: its head, its time, of which nothing is said, its label, and its further
 -- words.
-abbrev pub SoundAt : Law → Config → State Empty View → ℕ → Type 0
+abbrev pub SoundAt : RowPredicate → Config → State Empty View → ℕ → Type 0
 SoundAt law key state chunk = Sound law key.refs_limit (slice_index state.words (head_place (length state.homes) chunk))
     (words_at (length state.homes) state.words chunk) (tally state.views chunk)
 
@@ -62,7 +62,7 @@ SoundAt law key state chunk = Sound law key.refs_limit (slice_index state.words 
 abbrev pub HasFittingLimit : Config → Type 0
 HasFittingLimit key = (0 < key.refs_limit) × (key.refs_limit < 2 ^ refs_width)
 
-pub record Kept (law : Law) (key : Config) (state : State Empty View) : Type 0 where
+pub record Kept (law : RowPredicate) (key : Config) (state : State Empty View) : Type 0 where
   pub wide : length state.words ≡ head_place (length state.homes) (chunks key)
   pub small : HasFittingLimit key
   pub each : (c : ℕ) → c < chunks key → SoundAt law key state c

@@ -3,10 +3,10 @@
 /// A law of rows. Of each chunk that is linked the law of its table holds: who begins a life shows it of the label and
 /// the words that the life has, and who takes a hold of the life is told it of the words that he reads.
 pub trait RowLaw {
-    ghost use Rattle.bump_steps.specs.Rule.{Law};
+    ghost use Rattle.bump_steps.specs.Rule.{RowPredicate};
 
     // Of the words by number: the label is number 0, behind it the further words come, and then 0 for ever.
-    ghost law: { Law };
+    ghost law: { RowPredicate };
 }
 
 /// The law of a table whose rows may have any words.

@@ -12,6 +12,11 @@ mod steps;
 mod views;
 mod words;
 
+pub use bump_rules::{
+    Accounts, AppliedBump, Bump, Cause, Change, ClassConfig, Classes, Config, Hand, Head, ItemId,
+    LabelStep, Lane, Outcome, Segment, Start,
+};
+pub use bump_word::{Count, Limit};
 pub use decoding::head_of;
 pub use laws::{AnyRow, RowLaw};
 pub use refusals::{AnyRefusal, RideRefusal, TakeRefusal};

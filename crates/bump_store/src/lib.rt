@@ -11,8 +11,15 @@ mod opening;
 mod settling;
 mod stores;
 
-pub use bump_heads::{Blank, Name};
+pub use bump_class::{Book, LinkRefusal, UnlinkRefusal};
+pub use bump_heads::{Blank, Name, ReaderHeads};
 pub use bump_parts::{ClosedWorker, GetAnyRefusal, GetRefusal, Hold, Worker};
+pub use bump_rules::{
+    Accounts, Applied, ClassConfig, Classes, Config, ConfigFault, Dropped, Ended, Entry, Head,
+    ItemId, MAX_CAPACITY, MAX_CHUNKS, MAX_REFS, Outcome, Place, Pulled, Segment, Start, Tail,
+    Touch,
+};
+pub use bump_steps::{AnyRow, ClassPart, HoldPart, LanePart, Ride, RowLaw, Rule};
 pub use classes::NoSuchChunk;
 pub use finishing::{ClassSizes, Unfinished};
 pub use lanes::Lane;

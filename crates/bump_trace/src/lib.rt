@@ -11,6 +11,7 @@ mod reading;
 mod runs;
 mod stages;
 
+pub use bump_core::{ClassConfig, Classes, Config, ItemId, Start, Tail};
 pub use cutting::cut;
 pub use gathering::{ROOM, flush, gather, stop};
 pub use names::Names;
@@ -18,4 +19,4 @@ pub use open_store::PLACES;
 pub use openings::{Opening, configure, declare};
 pub use reading::{MAX_BYTES, read_all};
 pub use runs::{SimFault, run_model};
-pub use trace_lines::Counted;
+pub use trace_lines::{Counted, Declaration, Fault, Instruction, LineError, Shape, Sink, Source};

@@ -18,6 +18,7 @@ mod limits;
 mod segment;
 mod word;
 
+pub use bump_rules::{Head, Segment};
 pub use layout::{ACTIVE, Count, FETCHED, LINKED, REFS_MAX};
 pub use limits::Limit;
 pub use segment::segment_xor;

@@ -9,7 +9,6 @@ mod runs;
 mod ways;
 pub mod worked_command_lines;
 
-use bump_trace::SimFault;
 use command_line::Refusal;
 use runs::Run;
 use std::env;
@@ -18,6 +17,7 @@ use std::random::RandomSource;
 use std::rt::{Env, Files};
 use std::sync::Wait;
 use std::thread::Threads;
+use store_trace::SimFault;
 use ways::{ToOutput, Ways, run_as};
 
 /// Why the program ends with another status than 0.

@@ -6,7 +6,7 @@ ghost use Rattle.bump_trace.specs.declared.runs.SimFault.TheVariants.{Read};
 ghost use Rattle.bumpsim.specs.Ways.{RanAs, RanModel, RanSerial, RanPar, HaveBegun};
 
 use crate::runs::{Mode, Run};
-use bump_trace::{Counted, SimFault, run_model};
+use bump_trace::run_model;
 use std::fs::File;
 use std::hash::RandomState;
 use std::io;
@@ -14,7 +14,7 @@ use std::random::RandomSource;
 use std::rt::Files;
 use std::sync::Wait;
 use std::thread::Threads;
-use store_trace::{Gate, run_par, run_serial};
+use store_trace::{Counted, Gate, SimFault, run_par, run_serial};
 
 /// The three runs of the trace of a file, each with a relation between the file's name and the answer. Where nothing
 /// more is known of the runs, a relation holds by the call alone: so a clause that says `serials` says that `serial`

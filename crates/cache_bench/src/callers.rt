@@ -2,9 +2,9 @@
 ghost use Rattle.std.specs.Prelude.{◌≡◌};
 
 use crate::passes::{Caller, Calls, Times};
-use bump_cache::{Cache, CacheBlank, CacheConfig, CacheReader, Opened, open};
-use bump_heads::Name;
-use cache_index::{AnyPair, Index, Indexed};
+use bump_cache::{
+    AnyPair, Cache, CacheBlank, CacheConfig, CacheReader, Index, Indexed, Name, Opened, open,
+};
 use lru::LruCache;
 use std::alloc::AllocError;
 use std::marker::Brand;

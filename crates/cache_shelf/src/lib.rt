@@ -13,6 +13,10 @@ mod shelves;
 mod stats;
 mod victims;
 
+pub use bump_class::{Book, RawLane};
+pub use bump_heads::Name;
+pub use bump_rules::{Applied, Ended, Place, Segment};
+pub use cache_index::{Change, Entry, Home, IndexWriter, Indexed, Item, Law, Slot};
 pub use counted::CountedBook;
 pub use evictions::Evictions;
 pub use flow::Flow;

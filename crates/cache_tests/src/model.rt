@@ -1,5 +1,5 @@
 //! A model of a cache: a plain map, and what the calls came to.
-use cache_shelf::Stats;
+use bump_cache::Stats;
 use std::alloc::Global;
 use std::collections::HashMap;
 

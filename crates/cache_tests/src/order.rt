@@ -2,10 +2,9 @@
 ghost use Rattle.std.specs.Prelude.{◌≡◌};
 
 use crate::random_calls::{config_of, next};
-use bump_cache::{Cache, CacheBlank, CacheReader, Opened, Upkeep, open};
-use bump_heads::Name;
-use cache_index::{AnyPair, Index, Indexed};
-use cache_shelf::Put;
+use bump_cache::{
+    AnyPair, Cache, CacheBlank, CacheReader, Index, Indexed, Name, Opened, Put, Upkeep, open,
+};
 use std::alloc::{AllocError, Global};
 use std::marker::Brand;
 use std::sync::Wait;

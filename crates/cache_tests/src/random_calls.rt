@@ -3,9 +3,9 @@ ghost use Rattle.std.specs.Prelude.{◌≡◌};
 
 use crate::keys::{Alike, Key};
 use crate::model::Model;
-use bump_cache::{Cache, CacheBlank, CacheConfig, CacheReader, Opened, open};
-use bump_heads::Name;
-use cache_index::{AnyPair, Index, Indexed};
+use bump_cache::{
+    AnyPair, Cache, CacheBlank, CacheConfig, CacheReader, Index, Indexed, Name, Opened, open,
+};
 use std::alloc::{AllocError, Global};
 use std::marker::Brand;
 use std::sync::Wait;

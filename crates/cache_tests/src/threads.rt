@@ -1,9 +1,10 @@
 //! Readers on threads, while a writer ends keys and puts them again.
 ghost use Rattle.std.specs.Prelude.{◌≡◌};
 
-use bump_cache::{Cache, CacheBlank, CacheConfig, CacheReader, Opened, Upkeep, open};
-use bump_heads::Name;
-use cache_index::{AnyPair, Index, Indexed};
+use bump_cache::{
+    AnyPair, Cache, CacheBlank, CacheConfig, CacheReader, Index, Indexed, Name, Opened, Upkeep,
+    open,
+};
 use std::alloc::{AllocError, Global};
 use std::marker::Brand;
 use std::sync::Wait;

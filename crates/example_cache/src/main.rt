@@ -5,9 +5,7 @@
 ghost use Rattle.std.specs.Prelude.{◌≡◌};
 
 use anyhow::Result;
-use bump_cache::{CacheBlank, CacheConfig, open};
-use bump_heads::Name;
-use cache_index::{AnyPair, Index};
+use bump_cache::{AnyPair, CacheBlank, CacheConfig, Index, Name, open};
 use std::alloc::{AllocError, Global};
 use std::marker::Brand;
 use std::sync::Wait;

@@ -5,10 +5,10 @@
 ghost use Rattle.std.specs.Prelude.{◌≡◌};
 
 use anyhow::Result;
-use bump_cache::{Cache, CacheBlank, CacheConfig, CacheReader, Opened, Upkeep, open};
-use bump_heads::Name;
-use cache_index::{AnyPair, Index, Indexed};
-use cache_shelf::Stats;
+use bump_cache::{
+    AnyPair, Cache, CacheBlank, CacheConfig, CacheReader, Index, Indexed, Name, Opened, Stats,
+    Upkeep, open,
+};
 use std::alloc::{AllocError, Global};
 use std::marker::Brand;
 use std::sync::Wait;

@@ -6,9 +6,7 @@
 ghost use Rattle.std.specs.Prelude.{◌≡◌};
 
 use anyhow::Result;
-use bump_class::Book;
-use bump_rules::{ClassConfig, Config, ItemId, Place, Tail};
-use bump_store::{Blank, Name, Store, Worker};
+use bump_store::{Blank, Book, ClassConfig, Config, ItemId, Name, Place, Store, Tail, Worker};
 use std::alloc::{AllocError, Global};
 use std::marker::Brand;
 use std::sync::Wait;

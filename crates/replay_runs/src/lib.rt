@@ -14,6 +14,8 @@ mod scribes;
 mod tests;
 mod traces;
 
+pub use bump_cache::{Accounts, CacheConfig, CacheFault, Flow, Stats};
+pub use bump_trace::SimFault;
 pub use counting::HitCounts;
 pub use faults::ReplayFault;
 pub use outcomes::Outcome;

@@ -1,6 +1,5 @@
 //! What a run of an access log came to.
-use bump_rules::Accounts;
-use cache_shelf::Stats;
+use bump_cache::{Accounts, Stats};
 
 /// What a run came to.
 #[derive(Clone, Copy, Debug, PartialEq, Eq)]

@@ -6,11 +6,10 @@ ghost use Rattle.replay_runs.specs.declared.faults.ReplayFault.TheVariants.{Conf
 use crate::faults::ReplayFault;
 use crate::outcomes::Outcome;
 use crate::plans::Plan;
-use bump_cache::{CacheBlank, CacheReader, CacheRefusal, Opened, open};
-use bump_heads::Name;
-use bump_rules::Accounts;
-use cache_index::{AnyPair, Index, Indexed};
-use cache_shelf::NotPlaced;
+use bump_cache::{
+    Accounts, AnyPair, CacheBlank, CacheReader, CacheRefusal, Index, Indexed, Name, NotPlaced,
+    Opened, open,
+};
 use std::alloc::{AllocError, Global};
 use std::marker::Brand;
 use std::sync::Wait;

@@ -16,3 +16,35 @@ pub mod Commands
 pub mod Tasks
 pub mod Making
 pub mod Reading
+pub use Rattle.bump_class.specs.Applications
+pub use Rattle.bump_class.specs.Books
+pub use Rattle.bump_class.specs.Changes
+pub use Rattle.bump_class.specs.Ends as ClassEnds
+pub use Rattle.bump_class.specs.Lanes as ClassLanes
+pub use Rattle.bump_class.specs.Links
+pub use Rattle.bump_class.specs.Pulls
+pub use Rattle.bump_class.specs.Sweeps
+pub use Rattle.bump_parts.specs.Gets
+pub use Rattle.bump_parts.specs.Touches
+pub use Rattle.bump_parts.specs.Workers
+pub use Rattle.bump_ring.specs.Ends
+pub use Rattle.bump_rules.specs.Configs
+pub use Rattle.bump_rules.specs.Entries
+pub use Rattle.bump_rules.specs.Rings
+pub use Rattle.bump_state.specs.Opening
+pub use Rattle.bump_steps.specs.Rule
+pub use Rattle.bump_store.specs.Finishing
+pub use Rattle.bump_store.specs.Lanes
+pub use Rattle.bump_store.specs.Passes
+pub use Rattle.bump_store.specs.Stores
+pub use Rattle.bump_trace.specs.Gathering
+pub use Rattle.bump_trace.specs.Meaning
+pub use Rattle.bump_trace.specs.Names
+pub use Rattle.bump_trace.specs.OpenStore
+pub use Rattle.bump_trace.specs.Runs as TraceRuns
+pub use Rattle.bump_trace.specs.Stages
+pub use Rattle.bump_trace.specs.Views
+pub use Rattle.trace_lines.specs.Counted
+pub use Rattle.trace_lines.specs.Lines
+pub use Rattle.trace_lines.specs.Seen
+pub use Rattle.trace_lines.specs.Text

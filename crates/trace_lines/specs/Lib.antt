@@ -5,3 +5,4 @@ pub mod Text
 pub mod Seen
 pub mod Counted
 pub mod Keywords
+pub use Rattle.bump_rules.specs.Lives

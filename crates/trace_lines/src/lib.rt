@@ -11,6 +11,10 @@ mod lines;
 mod text;
 mod words;
 
+pub use bump_rules::{
+    Accounts, Answer, Applied, ClassConfig, ConfigFault, Dropped, Ended, Entry, Head, ItemId,
+    Outcome, Place, Pulled, Segment, Start, Tail, Touch,
+};
 pub use calls::{Sink, Source};
 pub use counted::{Counted, is_interruption};
 pub use faults::{Fault, LineError};

@@ -1,7 +1,7 @@
 //! What no clause says of the types that a World is made of: known answers, and that calls succeed.
 use crate::expecting::{expect, expect_text};
 use crate::opening::{Numbers, Sizes, config_of};
-use bump_rules::{ClassLists, ConfigFault, Place, Refused};
+use bump_core::{ClassLists, ConfigFault, Place, Refused};
 use std::alloc::{AllocError, Global};
 use std::process::Abort;
 use std::test::Fail;

@@ -1,6 +1,6 @@
 //! What no clause says: known answers, and that calls succeed.
 ghost use Rattle.bump_core.specs.Headline.{Headline};
-ghost use Rattle.bump_state.specs.Worlds.{IsLawful};
+ghost use Rattle.bump_core.specs.Worlds.{IsLawful};
 
 use crate::expecting::expect;
 use crate::opening::{store, world};

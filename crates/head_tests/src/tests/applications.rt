@@ -1,13 +1,13 @@
 //! One life in COLD whose bump is applied: its item is moved.
 ghost use Rattle.std.specs.Prelude.{◌≡◌, IsSome, None, Some, true, false};
-ghost use Rattle.bump_rules.specs.Lives.{life as life_of};
+ghost use Rattle.bump_heads.specs.RulesLives.{life as life_of};
 ghost use Rattle.bump_heads.specs.Applying.{carried_by};
-ghost use Rattle.bump_steps.specs.Applications.{class_at_rest};
-ghost use Rattle.bump_steps.specs.Rule.{lane_part};
-ghost use Rattle.bump_readers.specs.Seats.{row_in};
-ghost use Rattle.bump_readers.specs.Taking.{whole_hold};
+ghost use Rattle.bump_heads.specs.Applications.{class_at_rest};
+ghost use Rattle.bump_heads.specs.Rule.{lane_part};
+ghost use Rattle.bump_heads.specs.ReadersSeats.{row_in};
+ghost use Rattle.bump_heads.specs.Taking.{whole_hold};
 ghost use Rattle.bump_heads.specs.Making.{lane_seen};
-ghost use Rattle.bump_steps.specs.Views.{owns};
+ghost use Rattle.bump_heads.specs.Views.{owns};
 ghost use Rattle.head_tests.specs.Stores.{IsNew};
 
 use super::bumps::{begin_in_cold, send_off};
@@ -15,7 +15,7 @@ use super::expecting::{expect, expect_seen};
 use super::scenes::{Scene, play};
 use super::stores::head;
 use super::*;
-use bump_rules::{Bump, Head, Outcome, Segment};
+use bump_heads::{Bump, Head, Outcome, Segment};
 use std::process::Abort;
 use std::test::Fail;
 

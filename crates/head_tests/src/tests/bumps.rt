@@ -2,17 +2,17 @@
 ghost use Rattle.std.specs.Prelude.{◌≡◌, None, Some, true};
 ghost use Rattle.bump_rules.specs.declared.hands.Hand.TheVariants.{Trying};
 ghost use Rattle.bump_rules.specs.declared.places.Place.TheVariants as place;
-ghost use Rattle.bump_rules.specs.Lives.{life as life_of};
-ghost use Rattle.bump_steps.specs.References.{new_hold};
-ghost use Rattle.bump_readers.specs.Seats.{row_in};
-ghost use Rattle.bump_steps.specs.Views.{owns, standing};
+ghost use Rattle.bump_heads.specs.RulesLives.{life as life_of};
+ghost use Rattle.bump_heads.specs.References.{new_hold};
+ghost use Rattle.bump_heads.specs.ReadersSeats.{row_in};
+ghost use Rattle.bump_heads.specs.Views.{owns, standing};
 ghost use Rattle.head_tests.specs.Stores.{fresh_class, IsNew, MayHit};
 
 use super::expecting::{expect, expect_head, expect_head_of};
 use super::scenes::{Scene, play};
 use super::stores::{head, let_out};
 use super::*;
-use bump_rules::{ItemId, Segment};
+use bump_heads::{ItemId, Segment};
 use std::process::Abort;
 use std::test::Fail;
 

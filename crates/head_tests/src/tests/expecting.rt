@@ -1,7 +1,7 @@
 //! What tests compare. Each comparison is proved here, once, and not where it is made: so a failure names this file,
 //! and says what was compared.
 use super::*;
-use bump_rules::Head;
+use bump_heads::Head;
 use std::fmt::Debug;
 use std::process::Abort;
 

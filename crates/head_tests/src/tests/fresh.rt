@@ -1,11 +1,11 @@
 //! A store of which no chunk had a life.
 ghost use Rattle.std.specs.Prelude.{◌≡◌, ◌<◌, None, IfSome, [], ◌∷◌};
-ghost use Rattle.bump_steps.specs.Rule.{chunks as all_chunks};
+ghost use Rattle.bump_heads.specs.Rule.{chunks as all_chunks};
 
 use super::expecting::{expect, expect_seen};
 use super::stores::{head, life_of, refusal};
 use super::*;
-use bump_rules::{ClassConfig, Config, Segment};
+use bump_heads::{ClassConfig, Config, Segment};
 use std::alloc::{AllocError, Global};
 use std::marker::Brand;
 use std::process::Abort;

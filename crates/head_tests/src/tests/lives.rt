@@ -1,14 +1,14 @@
 //! A life of a chunk, from its label to its end, with what a reader sees of it.
 ghost use Rattle.std.specs.Prelude.{◌≡◌, ◌<◌, None};
 ghost use Rattle.bump_rules.specs.declared.hands.Hand.TheVariants.{Idle};
-ghost use Rattle.bump_steps.specs.Rule.{chunks as all_chunks};
+ghost use Rattle.bump_heads.specs.Rule.{chunks as all_chunks};
 ghost use Rattle.head_tests.specs.Stores.{IsNew, MayHit};
 
 use super::expecting::{expect, expect_head, expect_head_of, expect_seen};
 use super::scenes::{Scene, play};
 use super::stores::{head, let_out, life_of, refusal};
 use super::*;
-use bump_rules::{ItemId, Segment};
+use bump_heads::{ItemId, Segment};
 use std::process::Abort;
 use std::test::Fail;
 

@@ -1,13 +1,13 @@
 //! Why a worker gets no hold and no rider, where no other thread is at work.
 ghost use Rattle.std.specs.Prelude.{◌≡◌, ◌<◌, None};
-ghost use Rattle.bump_steps.specs.Rule.{chunks as all_chunks};
+ghost use Rattle.bump_heads.specs.Rule.{chunks as all_chunks};
 ghost use Rattle.head_tests.specs.Stores.{IsNew};
 
 use super::expecting::expect;
 use super::scenes::{Scene, play};
 use super::stores::{life_of, refusal};
 use super::*;
-use bump_rules::ItemId;
+use bump_heads::ItemId;
 use std::process::Abort;
 use std::test::Fail;
 

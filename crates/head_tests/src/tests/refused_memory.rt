@@ -4,7 +4,7 @@ ghost use Rattle.std.specs.Prelude.{◌≡◌};
 use super::expecting::{expect, expect_seen};
 use super::stores::{config_of, head};
 use super::*;
-use bump_rules::{Config, Segment};
+use bump_heads::{Config, Segment};
 use std::alloc::Global;
 use std::marker::Brand;
 use std::process::Abort;

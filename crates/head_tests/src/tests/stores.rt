@@ -2,15 +2,15 @@
 ghost use Rattle.std.specs.Prelude.{◌≡◌, ◌<◌, None, Some, IfOk, IfSome};
 ghost use Rattle.std.specs.Arc.{arc_value};
 ghost use Rattle.bump_rules.specs.declared.hands.Hand.TheVariants.{Idle};
-ghost use Rattle.bump_steps.specs.References.{new_hold};
-ghost use Rattle.bump_steps.specs.Rule.{chunks as all_chunks, lane_part};
+ghost use Rattle.bump_heads.specs.References.{new_hold};
+ghost use Rattle.bump_heads.specs.Rule.{chunks as all_chunks, lane_part};
 ghost use Rattle.bump_heads.specs.Making.{lane_seen};
-ghost use Rattle.bump_readers.specs.Seats.{row_in};
-ghost use Rattle.bump_readers.specs.Taking.{whole_hold};
+ghost use Rattle.bump_heads.specs.ReadersSeats.{row_in};
+ghost use Rattle.bump_heads.specs.Taking.{whole_hold};
 ghost use Rattle.head_tests.specs.Stores.{IsNew, IsSmall};
 
 use super::*;
-use bump_rules::{ClassConfig, Config, Head, ItemId, Segment};
+use bump_heads::{ClassConfig, Config, Head, ItemId, Segment};
 use std::alloc::{AllocError, Global};
 use std::sync::Arc;
 

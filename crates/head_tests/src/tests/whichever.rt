@@ -1,6 +1,6 @@
 //! A hold of whichever life is linked in a chunk, and the head by which it was taken.
 ghost use Rattle.std.specs.Prelude.{◌≡◌, ◌<◌, None};
-ghost use Rattle.bump_steps.specs.Rule.{chunks as all_chunks};
+ghost use Rattle.bump_heads.specs.Rule.{chunks as all_chunks};
 ghost use Rattle.head_tests.specs.Stores.{IsNew};
 
 use super::expecting::{expect, expect_head};
@@ -8,7 +8,7 @@ use super::lives::mark_in_hot;
 use super::scenes::{Scene, play};
 use super::stores::{head, life_of};
 use super::*;
-use bump_rules::Segment;
+use bump_heads::Segment;
 use std::process::Abort;
 use std::test::Fail;
 

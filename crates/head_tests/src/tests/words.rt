@@ -5,7 +5,7 @@ ghost use Rattle.head_tests.specs.Stores.{IsNew, IsSmall};
 use super::expecting::{expect, expect_head, expect_seen};
 use super::stores::{Small, config_of, head, life_of, open};
 use super::*;
-use bump_rules::{Config, Segment};
+use bump_heads::{Config, Segment};
 use std::alloc::{AllocError, Global};
 use std::marker::Brand;
 use std::process::Abort;

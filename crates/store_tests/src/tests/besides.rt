@@ -1,7 +1,7 @@
 //! What calls of a store leave as it is, and what they hand on: they change nothing besides, times aren't lost on the
 //! way, and lanes come in order. Of these calls contracts say only what becomes of some Book of the class.
 ghost use Rattle.std.specs.Prelude.{◌≡◌};
-ghost use Rattle.bump_parts.specs.Workers.{worker_rings};
+ghost use Rattle.bump_store.specs.Workers.{worker_rings};
 ghost use Rattle.bump_store.specs.Lanes.{lane_rings};
 
 use super::calls::{expect_hit, get, lock, new_cold, next};
@@ -10,10 +10,10 @@ use super::expecting::{expect, expect_of};
 use super::pairs::{Pair, two_pairs};
 use super::settling::{end, moved, sizes};
 use super::whole::{Story, class, tell};
-use bump_class::Book;
-use bump_heads::{Name, ReaderHeads};
-use bump_rules::{Ended, ItemId, Place, Touch};
-use bump_store::{ClassSizes, Lane, Maintainer, Store, Worker};
+use bump_store::{
+    Book, ClassSizes, Ended, ItemId, Lane, Maintainer, Name, Place, ReaderHeads, Store, Touch,
+    Worker,
+};
 use std::alloc::Global;
 use std::process::Abort;
 use std::sync::Wait;

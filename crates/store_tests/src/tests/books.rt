@@ -2,10 +2,9 @@
 use super::calls::{lock, pull, sweep};
 use super::expecting::expect;
 use super::whole::{Story, class, id, tell};
-use bump_class::{Book, LinkRefusal, UnlinkRefusal};
-use bump_heads::Name;
-use bump_rules::{Ended, ItemId, Place, Pulled, Tail};
-use bump_store::Store;
+use bump_store::{
+    Book, Ended, ItemId, LinkRefusal, Name, Place, Pulled, Store, Tail, UnlinkRefusal,
+};
 use std::alloc::Global;
 use std::process::Abort;
 use std::sync::Wait;

@@ -3,10 +3,10 @@
 ghost use Rattle.std.specs.Prelude.{◌≡◌};
 
 use super::expecting::{expect, expect_of};
-use bump_class::Book;
-use bump_heads::{Name, ReaderHeads};
-use bump_rules::{Entry, ItemId, Place, Pulled, Tail, Touch};
-use bump_store::{GetRefusal, Hold, Lane, Store, Worker};
+use bump_store::{
+    Book, Entry, GetRefusal, Hold, ItemId, Lane, Name, Place, Pulled, ReaderHeads, Store, Tail,
+    Touch, Worker,
+};
 use std::process::Abort;
 use std::sync::{MutexGuard, Wait};
 

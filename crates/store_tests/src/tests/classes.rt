@@ -3,10 +3,10 @@ use super::calls::{lock, next, refusal};
 use super::drains::hit_new;
 use super::expecting::{expect, expect_of};
 use super::whole::{Story, class, id, tell};
-use bump_class::{Book, UnlinkRefusal};
-use bump_heads::Name;
-use bump_rules::{Applied, Entry, ItemId, Place, Touch};
-use bump_store::{GetRefusal, Lane, NoSuchChunk, NoSuchClass, Store, Worker};
+use bump_store::{
+    Applied, Book, Entry, GetRefusal, ItemId, Lane, Name, NoSuchChunk, NoSuchClass, Place, Store,
+    Touch, UnlinkRefusal, Worker,
+};
 use std::alloc::Global;
 use std::process::Abort;
 use std::sync::Wait;

@@ -2,9 +2,7 @@
 use super::calls::{expect_hit, hit_twice, lock, new_cold};
 use super::expecting::expect;
 use super::whole::{Story, class, tell};
-use bump_heads::Name;
-use bump_rules::{Dropped, ItemId, Place, Touch};
-use bump_store::{Lane, Store, Worker};
+use bump_store::{Dropped, ItemId, Lane, Name, Place, Store, Touch, Worker};
 use std::process::Abort;
 use std::sync::Wait;
 use std::test::Fail;

@@ -2,11 +2,10 @@
 ghost use Rattle.std.specs.Prelude.{◌≡◌, [], ◌∷◌, IfSome};
 
 use super::expecting::expect;
-use bump_class::{Book, LinkRefusal};
-use bump_heads::{Blank, Name, ReaderHeads};
-use bump_parts::{StoreParts, Worker};
-use bump_rules::{ClassConfig, Config, ItemId};
-use bump_steps::RowLaw;
+use bump_parts::StoreParts;
+use bump_store::{
+    Blank, Book, ClassConfig, Config, ItemId, LinkRefusal, Name, ReaderHeads, RowLaw, Worker,
+};
 use std::alloc::Global;
 use std::marker::Brand;
 use std::process::Abort;

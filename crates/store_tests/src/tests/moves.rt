@@ -1,16 +1,14 @@
 //! Two workers hit the items of one class while a thread for each lane applies their bumps. Once both are settled, the
 //! class's Book tells of each worker as many moves as its lane told.
 ghost use Rattle.std.specs.Prelude.{◌≡◌};
-ghost use Rattle.bump_parts.specs.Workers.{worker_rings};
+ghost use Rattle.bump_store.specs.Workers.{worker_rings};
 ghost use Rattle.bump_store.specs.Lanes.{lane_rings};
 
 use super::calls::{lock, new_cold, next, pull, touch, try_get};
 use super::expecting::expect;
 use super::pairs::{ClosedPair, Pair, two_pairs};
 use super::whole::{Story, class, tell};
-use bump_heads::Name;
-use bump_rules::{Applied, Entry, ItemId, Tail};
-use bump_store::{Lane, Maintainer, Store, Worker};
+use bump_store::{Applied, Entry, ItemId, Lane, Maintainer, Name, Store, Tail, Worker};
 use std::process::Abort;
 use std::sync::Wait;
 use std::test::Fail;

@@ -3,17 +3,16 @@ ghost use Rattle.std.specs.Prelude.{◌≡◌, ◌+◌, ◌<◌, Some, length, I
 ghost use Rattle.bump_rules.specs.declared.hands.Hand.TheVariants.{Idle, Trying};
 ghost use Rattle.bump_rules.specs.Rings.{most_attempts};
 ghost use Rattle.bump_steps.specs.Places.{head_place};
-ghost use Rattle.bump_steps.specs.Rule.{chunks as all_chunks, worker_part, no_accounts};
+ghost use Rattle.bump_store.specs.Rule.{chunks as all_chunks, worker_part, no_accounts};
 ghost use Rattle.bump_steps.specs.declared.views.HoldPart.{HoldPart as TheHoldPart};
 ghost use Rattle.bump_readers.specs.Riding.{ride_of};
 ghost use Rattle.bump_readers.specs.Workers.{worker_seen};
 
 use super::calls::{link_cold, pull_round};
 use super::expecting::expect;
-use bump_class::Book;
-use bump_heads::{Blank, HeadParts, Heads, Name, ReaderHeads, Rider, WorkerSeat};
+use bump_heads::{HeadParts, Heads, Rider, WorkerSeat};
 use bump_ring::{Receiver, Sender, ring};
-use bump_rules::{ClassConfig, Config, ItemId, Segment};
+use bump_store::{Blank, Book, ClassConfig, Config, ItemId, Name, ReaderHeads, Segment};
 use std::alloc::{AllocError, Global};
 use std::marker::Brand;
 use std::process::Abort;

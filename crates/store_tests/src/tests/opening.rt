@@ -1,17 +1,16 @@
 //! Small stores of two classes and one worker, whose ring has a raw lane or a bare end, and what is played in them.
 ghost use Rattle.std.specs.Prelude.{◌≡◌, IfSome, [], ◌∷◌};
 ghost use Rattle.bump_readers.specs.Workers.{worker_seen};
-ghost use Rattle.bump_heads.specs.Making.{lane_seen};
-ghost use Rattle.bump_steps.specs.Rule.{worker_part, lane_part};
+ghost use Rattle.bump_store.specs.Making.{lane_seen};
+ghost use Rattle.bump_store.specs.Rule.{worker_part, lane_part};
 
 use super::refused_memory::{Call, make_again, walk_again};
 use super::rings::{close_ring, cross};
 use super::runs::{end_at_the_limit, end_at_the_other_class, move_in_cold};
-use bump_class::{Book, RawLane};
-use bump_heads::{Blank, HeadParts, Heads, LaneSeat, Name, WorkerSeat};
+use bump_class::RawLane;
+use bump_heads::{HeadParts, Heads, LaneSeat, WorkerSeat};
 use bump_ring::{Receiver, ring};
-use bump_rules::{ClassConfig, Config};
-use bump_store::Worker;
+use bump_store::{Blank, Book, ClassConfig, Config, Name, Worker};
 use std::alloc::{AllocError, Global};
 use std::marker::Brand;
 use std::process::Abort;

@@ -1,14 +1,12 @@
 //! A worker and the lane of its ring, in one value whose type says so.
 ghost use Rattle.std.specs.Prelude.{◌≡◌, IsSome};
 ghost use Rattle.std.specs.Vec.Iter.{into_iter_items};
-ghost use Rattle.bump_parts.specs.Workers.{worker_rings};
+ghost use Rattle.bump_store.specs.Workers.{worker_rings};
 ghost use Rattle.bump_store.specs.Lanes.{lane_rings};
 
 use super::calls::hit_twice;
 use super::expecting::expect;
-use bump_heads::Name;
-use bump_rules::{Entry, ItemId, Touch};
-use bump_store::{ClosedWorker, Lane, Settled, Store, Unseen, Worker};
+use bump_store::{ClosedWorker, Entry, ItemId, Lane, Name, Settled, Store, Touch, Unseen, Worker};
 use std::alloc::Global;
 use std::process::Abort;
 use std::sync::Wait;

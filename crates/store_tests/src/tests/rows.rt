@@ -8,10 +8,7 @@ mod telling;
 mod writing;
 
 use super::expecting::expect;
-use bump_heads::{Blank, Name};
-use bump_readers::ReaderHeads;
-use bump_rules::{ClassConfig, Config};
-use bump_store::{Maintainer, Store, Worker};
+use bump_store::{Blank, ClassConfig, Config, Maintainer, Name, ReaderHeads, Store, Worker};
 use reading::read_apart;
 use std::alloc::{AllocError, Global};
 use std::marker::Brand;

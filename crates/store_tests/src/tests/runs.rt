@@ -4,10 +4,10 @@ ghost use Rattle.std.specs.Prelude.{◌≤◌};
 use super::calls::{hit_twice, link_cold};
 use super::expecting::expect;
 use super::opening::{Scene, Small, play};
-use bump_class::{Book, RawLane};
-use bump_heads::{Heads, Name};
-use bump_rules::{Applied, Bump, Head, ItemId, Place, Segment, Touch};
-use bump_store::Worker;
+use bump_class::RawLane;
+use bump_heads::Heads;
+use bump_rules::Bump;
+use bump_store::{Applied, Book, Head, ItemId, Name, Place, Segment, Touch, Worker};
 use std::process::Abort;
 use std::test::Fail;
 

@@ -1,15 +1,16 @@
 //! Rings that are closed and settled, a maintainer's passes, and a store that is finished.
 ghost use Rattle.std.specs.Prelude.{◌≡◌};
-ghost use Rattle.bump_parts.specs.Workers.{worker_rings};
+ghost use Rattle.bump_store.specs.Workers.{worker_rings};
 ghost use Rattle.bump_store.specs.Lanes.{lane_rings};
 
 use super::calls::{expect_size, get, lock, new_cold, touch};
 use super::expecting::expect;
 use super::pairs::{Pair, two_pairs};
 use super::whole::{Story, class, tell};
-use bump_heads::Name;
-use bump_rules::{Accounts, Applied, Entry, ItemId, Place, Touch};
-use bump_store::{ClassSizes, Hold, Maintainer, Settled, Store, Unfinished, Worker};
+use bump_store::{
+    Accounts, Applied, ClassSizes, Entry, Hold, ItemId, Maintainer, Name, Place, Settled, Store,
+    Touch, Unfinished, Worker,
+};
 use std::alloc::Global;
 use std::process::Abort;
 use std::sync::Wait;

@@ -1,15 +1,13 @@
 //! Two workers touch one item while a third thread applies what they queue; then both rings are settled.
 ghost use Rattle.std.specs.Prelude.{◌≡◌};
-ghost use Rattle.bump_parts.specs.Workers.{worker_rings};
+ghost use Rattle.bump_store.specs.Workers.{worker_rings};
 ghost use Rattle.bump_store.specs.Lanes.{lane_rings};
 
 use super::calls::{hit, new_cold, next};
 use super::expecting::expect;
 use super::pairs::{ClosedPair, Pair, two_pairs};
 use super::whole::{Story, class, tell};
-use bump_heads::Name;
-use bump_rules::{Applied, Entry, ItemId};
-use bump_store::{Lane, Maintainer, Store, Worker};
+use bump_store::{Applied, Entry, ItemId, Lane, Maintainer, Name, Store, Worker};
 use std::process::Abort;
 use std::sync::Wait;
 use std::test::Fail;

@@ -4,10 +4,7 @@ mod keeping;
 mod reading;
 
 use super::whole::{Story, tell_of};
-use bump_heads::Name;
-use bump_readers::ReaderHeads;
-use bump_rules::{ClassConfig, Config};
-use bump_store::{Maintainer, Store, Worker};
+use bump_store::{ClassConfig, Config, Maintainer, Name, ReaderHeads, Store, Worker};
 use ends::expect_told;
 use keeping::{Keeper, keep};
 use reading::touch_apart;

@@ -3,11 +3,11 @@
 ghost use Rattle.std.specs.Prelude.{◌≡◌, IfSome, [], ◌∷◌};
 
 use super::expecting::expect_of;
-use bump_class::Book;
-use bump_heads::{Blank, HeadParts, Heads, Name};
+use bump_heads::{HeadParts, Heads};
 use bump_ring::ring;
-use bump_rules::{ClassConfig, Config, Ended, ItemId, Place, Pulled, Tail};
-use bump_store::{Hold, Worker};
+use bump_store::{
+    Blank, Book, ClassConfig, Config, Ended, Hold, ItemId, Name, Place, Pulled, Tail, Worker,
+};
 use std::alloc::{AllocError, Global};
 use std::marker::Brand;
 use std::process::Abort;

@@ -2,11 +2,9 @@
 use super::super::calls::{lock, pull, sweep};
 use super::super::expecting::expect_of;
 use super::sides::{Sides, told};
-use bump_class::{Book, LinkRefusal, UnlinkRefusal};
 use bump_core::World;
-use bump_heads::Name;
-use bump_rules::{Answer, Command, ItemId, Place, Tail};
-use bump_store::{NoSuchChunk, Store};
+use bump_rules::{Answer, Command};
+use bump_store::{Book, ItemId, LinkRefusal, Name, NoSuchChunk, Place, Store, Tail, UnlinkRefusal};
 use std::process::Abort;
 use std::sync::Wait;
 

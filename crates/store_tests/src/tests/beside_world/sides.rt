@@ -1,11 +1,9 @@
 //! A Store and a World of the same configuration, and what both tell.
 use super::super::calls::lock;
 use super::super::expecting::{expect, expect_of};
-use bump_class::Book;
 use bump_core::World;
-use bump_heads::Name;
-use bump_rules::{Accounts, Answer, Command, Head, Place};
-use bump_store::{Lane, Store, Worker};
+use bump_rules::{Answer, Command};
+use bump_store::{Accounts, Book, Head, Lane, Name, Place, Store, Worker};
 use std::alloc::Global;
 use std::process::Abort;
 use std::sync::Wait;

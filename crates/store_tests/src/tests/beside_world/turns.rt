@@ -1,9 +1,8 @@
 //! Readers' commands, and those of lanes.
 use super::super::expecting::expect;
 use super::sides::{Sides, told};
-use bump_heads::Name;
-use bump_rules::{Answer, Command, Entry, ItemId, Touch};
-use bump_store::{GetRefusal, Hold};
+use bump_rules::{Answer, Command};
+use bump_store::{Entry, GetRefusal, Hold, ItemId, Name, Touch};
 use std::process::Abort;
 use std::sync::Wait;
 

@@ -1,9 +1,6 @@
 //! The row of an item: its label is worked out from the item, and each further word from its label. So a row tells
 //! whether it is whole, and whose it is.
-use bump_heads::Name;
-use bump_readers::ReaderHeads;
-use bump_rules::ItemId;
-use bump_store::Hold;
+use bump_store::{Hold, ItemId, Name, ReaderHeads};
 use std::alloc::{AllocError, Global};
 
 /// A word that isn't what was stored for the item: its label has the index 0, and its further words the next ones.

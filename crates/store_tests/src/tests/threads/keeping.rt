@@ -1,9 +1,6 @@
 //! What the fifth thread does: it stores, ages, ends and sweeps the items of both classes, and drains all lanes.
 use super::super::calls::{lock, pull, sweep};
-use bump_class::Book;
-use bump_heads::Name;
-use bump_rules::{ItemId, Pulled, Tail};
-use bump_store::{Lane, Store};
+use bump_store::{Book, ItemId, Lane, Name, Pulled, Store, Tail};
 use std::process::Abort;
 use std::sync::Wait;
 use std::sync::atomic::{AtomicBool, Ordering};

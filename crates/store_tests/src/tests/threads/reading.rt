@@ -1,10 +1,7 @@
 //! What a reader's thread does, and what it was told.
 use super::super::calls::{label, touch, try_get};
 use super::super::expecting::expect;
-use bump_heads::Name;
-use bump_readers::ReaderHeads;
-use bump_rules::{Accounts, Dropped, ItemId, Touch};
-use bump_store::Worker;
+use bump_store::{Accounts, Dropped, ItemId, Name, ReaderHeads, Touch, Worker};
 use std::alloc::{AllocError, Global};
 use std::process::Abort;
 use std::thread;

@@ -1,8 +1,8 @@
 use Rattle.std.proofs.Common.{sym, ap, ◌∙◌}
 use Rattle.bump_readers.specs.declared.views.HoldView.{HoldView}
 use Rattle.bump_readers.specs.declared.views.WorkerView.{WorkerView}
-use Rattle.bump_steps.specs.References.{new_hold}
-use Rattle.bump_readers.specs.Seats.{row_in}
+use Rattle.bump_heads.specs.References.{new_hold}
+use Rattle.bump_heads.specs.ReadersSeats.{row_in}
 use Rattle.head_tests.proofs.tests.bumps.drop_full.Goals as goal
 
 pub give_back_bump-requires-clause-held : goal.give_back_bump-requires-clause-held

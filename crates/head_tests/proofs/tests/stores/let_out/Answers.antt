@@ -1,6 +1,6 @@
 use Rattle.std.proofs.Common.{refl}
-use Rattle.bump_steps.specs.References.{new_hold}
-use Rattle.bump_readers.specs.Seats.{row_in}
+use Rattle.bump_heads.specs.References.{new_hold}
+use Rattle.bump_heads.specs.ReadersSeats.{row_in}
 use Rattle.head_tests.proofs.tests.stores.let_out.Goals as goal
 
 pub hold_out-requires-clause-joined : goal.hold_out-requires-clause-joined
