@@ -1,12 +1,6 @@
-pub mod Linked
 pub mod Shelves
-pub mod Items
 pub mod Turns
 pub mod Links
 pub mod Refusals
 pub mod Tries
-pub mod Flows
-pub mod Ours
-pub mod Counts
 pub mod Stats
-pub mod Looking

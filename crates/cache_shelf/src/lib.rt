@@ -2,22 +2,13 @@
 #![tactic(auto)]
 
 mod changing;
-mod counted;
 mod draining;
-mod evictions;
-mod flow;
-mod items;
 mod putting;
 mod refusals;
 mod shelves;
 mod stats;
-mod victims;
 
-pub use counted::CountedBook;
-pub use evictions::Evictions;
-pub use flow::Flow;
 pub use putting::{Put, Removed};
 pub use refusals::NotPlaced;
 pub use shelves::Shelf;
 pub use stats::Stats;
-pub use victims::Victim;
