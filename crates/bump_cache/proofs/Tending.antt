@@ -5,7 +5,7 @@ use Rattle.bump_class.specs.Books.{BookView}
 use Rattle.bump_class.specs.Lanes.{LaneView}
 use Rattle.bump_parts.specs.Parting.{raw_rings}
 use Rattle.bump_cache.specs.Tending.{AppliesOnce, AppliesEach, DrainsLane, DrainsEach, BalancesTimes}
-use Rattle.cache_shelf.specs.Looking.{Balances}
+use Rattle.cache_lists.specs.Looking.{Balances}
 
 -- one bump more was applied
 pub applies_more : (count now : ℕ) (book between left : BookView) (from half to : LaneView)

@@ -23,10 +23,10 @@ pub use Rattle.bump_rules.specs.Lists
 pub use Rattle.bump_rules.specs.Rings
 pub use Rattle.bump_steps.specs.Rule
 pub use Rattle.cache_index.specs.Tables
-pub use Rattle.cache_shelf.specs.Counts
-pub use Rattle.cache_shelf.specs.Items
+pub use Rattle.cache_lists.specs.Counts
+pub use Rattle.cache_lists.specs.Items
 pub use Rattle.cache_shelf.specs.Links
-pub use Rattle.cache_shelf.specs.Looking
+pub use Rattle.cache_lists.specs.Looking
 pub use Rattle.cache_shelf.specs.Refusals
 pub use Rattle.cache_shelf.specs.Shelves
 pub use Rattle.cache_shelf.specs.Turns

@@ -8,8 +8,8 @@ use Rattle.bump_class.specs.Books.{BookView}
 use Rattle.bump_class.specs.Lanes.{LaneView, entries}
 use Rattle.bump_class.specs.Sweeps.{Sweeps}
 use Rattle.bump_cache.specs.Opening.{UpkeepView}
-use Rattle.cache_shelf.specs.Items.{KeepsItems, HasNoBumpFor}
-use Rattle.cache_shelf.specs.Looking.{Balances}
+use Rattle.cache_lists.specs.Items.{KeepsItems, HasNoBumpFor}
+use Rattle.cache_lists.specs.Looking.{Balances}
 use Rattle.cache_shelf.specs.Shelves.{ShelfView, IsShelf}
 
 -- One bump of a lane was applied at this time: the lane has one entry more, and what the items stand for stays.

@@ -5,7 +5,7 @@ ghost use Rattle.bump_cache.specs.Opening.{Limits as TheLimits};
 ghost use Rattle.bump_cache.specs.Putting.{PutsOnce, RemovesOnce};
 ghost use Rattle.bump_cache.specs.Tending.{TendsOnce, TendsTimes};
 ghost use Rattle.bump_parts.specs.Parting.{raw_rings};
-ghost use Rattle.cache_shelf.specs.Counts.{IsFlow, SegmentsAddUp};
+ghost use Rattle.cache_lists.specs.Counts.{IsFlow, SegmentsAddUp};
 ghost use Rattle.cache_shelf.specs.Refusals.{left_of};
 
 use crate::upkeep::{Upkeep, balance_often, drain};

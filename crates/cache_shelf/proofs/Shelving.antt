@@ -1,5 +1,5 @@
 -- What a Shelf keeps.
-use Rattle.std.proofs.Common.{◌≡◌, ◌≢◌, ◌⊎◌, ℕ, zero, suc, replicate, ◌+◌, ◌<◌, Bool, true, false, ◌==◌, ◌&&◌, nat_le, nat_lt, [], length, Option, Some, None, option_map, slice_get, slice_set, get_or, if◌then◌else◌, refl, sym, ap, ap₂, ◌∙◌, subst, eqb-true, eq-eqb, ne_eqb, le-leb, lt-ltb, arith, IsSome, IfNone, IfSome}
+use Rattle.std.proofs.Common.{◌≡◌, ◌≢◌, ◌⊎◌, ℕ, zero, suc, replicate, ◌+◌, ◌<◌, Bool, true, false, ◌&&◌, nat_le, nat_lt, [], length, Option, Some, None, option_map, slice_get, slice_set, get_or, if◌then◌else◌, refl, sym, ap, ap₂, ◌∙◌, subst, eq-eqb, ne_eqb, le-leb, lt-ltb, arith, IsSome, IfNone, IfSome}
 use mathlib.Core.Logic.{inl, inr}
 use Rattle.std.proofs.lemmas.Bool.{and_parts}
 use Rattle.std.proofs.lemmas.List.{get_or-set_same, get_or-set_other, length-set, length-replicate}
@@ -10,8 +10,9 @@ use Rattle.bump_class.specs.Books.{BookView}
 use Rattle.bump_steps.specs.Views.{owns}
 use Rattle.cache_index.specs.Tables.{Placed, Table, at_chunk, without_chunk, without_key, found_in}
 use Rattle.cache_index.proofs.Agreements.{one_or_two, set_past, slice_get_at, same_both, got_where_set, got_elsewhere, found_at, found_none, without_its_chunk, not_found, left_apart, nothing_at}
-use Rattle.cache_shelf.specs.Shelves.{linked_standing, linked_at, generation_at, IsShelf}
-use Rattle.cache_shelf.specs.Items.{KeepsItems, EndsAt, BeginsAt}
+use Rattle.cache_shelf.specs.Shelves.{generation_at, IsShelf}
+use Rattle.cache_lists.specs.Linked.{linked_standing, linked_at}
+use Rattle.cache_lists.specs.Items.{KeepsItems, EndsAt, BeginsAt}
 use Rattle.cache_shelf.specs.Links.{entry_of}
 use Rattle.bump_rules.specs.History.{standing_in}
 
@@ -144,29 +145,10 @@ module _ {K V : Type 0} {same : K → K → Bool} (book left : BookView) (table 
     pub left_without : without_chunk chunk table ≡ without_key same key table
     left_without = without_its_chunk same key table chunk placed at its only_there
 
--- an item that began and ended at once left the items as they were
-pub unbegun : (book between left : BookView) (item : ItemId) → BeginsAt item book between → EndsAt item.chunk between left
-    → KeepsItems book left
-unbegun book between left item begins ends = record {
-  class = record { first = ends.class.first ∙ begins.class.first; count = ends.class.count ∙ begins.class.count };
-  linked = λ c. ends.linked c ∙ (ap (λ l. if item.chunk == c then None else l) (begins.linked c) ∙ at c (item.chunk == c) refl);
-}
-  where
-    at : (c : ℕ) (b : Bool) → (item.chunk == c) ≡ b
-        → (if item.chunk == c then None else (if item.chunk == c then Some item.generation else linked_at book.part c)) ≡ linked_at book.part c
-    at c true e = ap (λ b. if b then None else (if b then Some item.generation else linked_at book.part c)) e
-        ∙ (sym begins.free ∙ ap (linked_at book.part) (eqb-true item.chunk c e))
-    at c false e = ap (λ b. if b then None else (if b then Some item.generation else linked_at book.part c)) e
-
 -- what answers nothing only where a fact doesn't hold answers something where it does
 pub where_linked : {X : Type 0} (P E : Type 0) (it : Option X) → P → IfNone it (P → ⊥) → IfSome it (λ x. E) → E
 where_linked P E None holds none some = absurd (none holds)
 where_linked P E (Some x) holds none some = some
-
--- an item that began is linked
-pub begun_linked : (book left : BookView) (item : ItemId) → BeginsAt item book left → linked_at left.part item.chunk ≡ Some item.generation
-begun_linked book left item begins = begins.linked item.chunk
-    ∙ ap (λ b. if b then Some item.generation else linked_at book.part item.chunk) (eq-eqb item.chunk item.chunk refl)
 
 -- what is something isn't nothing
 pub not_none : {X : Type 0} (P : Type 0) (it : Option X) (x : X) → it ≡ Some x → IfNone it P

@@ -1,15 +1,9 @@
-pub mod Linked
 pub mod Shelves
-pub mod Items
 pub mod Turns
 pub mod Links
 pub mod Refusals
 pub mod Tries
-pub mod Flows
-pub mod Ours
-pub mod Counts
 pub mod Stats
-pub mod Looking
 pub use Rattle.bump_class.specs.Applications
 pub use Rattle.bump_class.specs.Books
 pub use Rattle.bump_class.specs.Changes
@@ -27,3 +21,10 @@ pub use Rattle.bump_steps.specs.Views
 pub use Rattle.bump_word.specs.Words
 pub use Rattle.cache_index.specs.Tables
 pub use Rattle.cache_index.specs.Writing
+pub use Rattle.cache_lists.specs.Counts
+pub use Rattle.cache_lists.specs.Flows
+pub use Rattle.cache_lists.specs.Items
+pub use Rattle.cache_lists.specs.Linked
+pub use Rattle.cache_lists.specs.Looking
+pub use Rattle.cache_lists.specs.Ours
+pub use Rattle.cache_lists.specs.Segments

@@ -7,8 +7,9 @@ use Rattle.bump_class.specs.Changes.{book_with_item}
 use Rattle.cache_index.specs.Tables.{Placed, Table, at_chunk, without_key, found_in}
 use Rattle.cache_shelf.specs.Shelves.{ShelfView}
 use Rattle.bump_rules.specs.Lists.{Lists}
-use Rattle.cache_shelf.specs.Items.{BeginsAt}
-use Rattle.cache_shelf.specs.Turns.{SameSegments, EvictsInTurn, ListsWithout}
+use Rattle.cache_lists.specs.Items.{BeginsAt}
+use Rattle.cache_shelf.specs.Turns.{EvictsInTurn, ListsWithout}
+use Rattle.cache_lists.specs.Segments.{SameSegments}
 
 -- a key and its value, for which this life stands
 abbrev pub entry_of : {K V : Type 0} → ItemId → K × V → Placed K V

@@ -3,10 +3,10 @@ use Rattle.std.specs.Prelude.{◌≡◌, ℕ, ◌<◌, Bool, true, length, Optio
 use Rattle.bump_class.specs.Books.{BookView}
 use Rattle.cache_index.specs.Tables.{Placed, Table, at_chunk}
 use Rattle.cache_index.specs.Writing.{Written}
-pub use Rattle.cache_shelf.specs.Linked.{linked_standing, linked_at}
-use Rattle.cache_shelf.specs.Counts.{CountedView}
-use Rattle.cache_shelf.specs.declared.flow.Flow.{Flow}
-use Rattle.cache_shelf.specs.declared.evictions.Evictions.{Evictions}
+use Rattle.cache_lists.specs.Linked.{linked_at}
+use Rattle.cache_lists.specs.Counts.{CountedView}
+use Rattle.cache_lists.specs.declared.flow.Flow.{Flow}
+use Rattle.cache_lists.specs.declared.evictions.Evictions.{Evictions}
 
 -- the Book, the index of its items, how they went from list to list, and what was evicted
 pub record ShelfView (K V : Type 0) : Type 0 where

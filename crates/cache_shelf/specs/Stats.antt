@@ -1,7 +1,7 @@
 -- The statistics of a Shelf.
 use Rattle.std.specs.Prelude.{◌+◌, length}
 use Rattle.cache_shelf.specs.declared.stats.Stats.{Stats}
-use Rattle.cache_shelf.specs.Counts.{capped}
+use Rattle.cache_lists.specs.Counts.{capped}
 use Rattle.cache_shelf.specs.Shelves.{ShelfView}
 
 -- each by its name

@@ -8,10 +8,11 @@ use Rattle.cache_index.specs.Tables.{Placed, Table, at_chunk}
 use Rattle.cache_shelf.specs.Refusals.{left_of, is_no_room}
 use Rattle.cache_shelf.specs.declared.putting.Tried.{Tried}
 use Rattle.cache_shelf.specs.declared.putting.Tried.TheVariants as tried
-use Rattle.cache_shelf.specs.Items.{victim}
+use Rattle.cache_lists.specs.Items.{victim}
 use Rattle.bump_rules.specs.Lists.{Lists}
 use Rattle.cache_shelf.specs.Links.{entry_of}
-use Rattle.cache_shelf.specs.Turns.{SameSegments, MayEvict}
+use Rattle.cache_shelf.specs.Turns.{MayEvict}
+use Rattle.cache_lists.specs.Segments.{SameSegments}
 
 -- by its answer
 abbrev pub Tries : {K V L : Type 0} → K × V → ℕ → List (Placed K V) → Lists → Table K V → Tried K V L

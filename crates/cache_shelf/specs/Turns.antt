@@ -1,16 +1,10 @@
 -- Whose turn it was, where items were evicted one after the other.
 use Rattle.std.specs.Prelude.{◌≡◌, ℕ, true, Option, Some, None, List, [], ◌∷◌, ◌++◌, ◌⊎◌}
-use Rattle.bump_rules.specs.declared.places.Place.{Place}
-use Rattle.bump_rules.specs.Lists.{Lists, list_at, all_without}
-use Rattle.bump_rules.specs.Places.{is_segment_place}
+use Rattle.bump_rules.specs.Lists.{Lists, all_without}
 use Rattle.cache_index.specs.Tables.{Placed, Table, at_chunk, without_chunk}
-use Rattle.cache_shelf.specs.Counts.{more}
-use Rattle.cache_shelf.specs.Items.{victim}
-
--- HOT, WARM, COLD and TEMP have the same items in the same order
-abbrev pub SameSegments : Lists → Lists → Type 0
-SameSegments before after = (place : Place) → is_segment_place place ≡ true
-    → list_at after place ≡ list_at before place
+use Rattle.cache_lists.specs.Counts.{more}
+use Rattle.cache_lists.specs.Items.{victim}
+use Rattle.cache_lists.specs.Segments.{SameSegments}
 
 -- These were evicted, one after the other: each was the one whose turn it was. What its chunk had is told; the chunk
 -- has nothing then, and stands in none of the segments. Nothing else in them is moved.

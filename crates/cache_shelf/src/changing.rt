@@ -5,13 +5,14 @@ ghost use Rattle.bump_rules.specs.Lists.{all_without};
 ghost use Rattle.cache_index.specs.Tables.{at_chunk, without_chunk, without_key, found_in, with_placed};
 ghost use Rattle.bump_class.specs.Sweeps.{Sweeps};
 ghost use Rattle.bump_rules.specs.declared.items.Head.{Head as TheHead};
-ghost use Rattle.cache_shelf.specs.Counts.{CountsEviction};
-ghost use Rattle.cache_shelf.specs.Looking.{Balances};
-ghost use Rattle.cache_shelf.specs.Items.{victim, EndsAt, KeepsItems};
+ghost use Rattle.cache_lists.specs.Counts.{CountsEviction};
+ghost use Rattle.cache_lists.specs.Looking.{Balances};
+ghost use Rattle.cache_lists.specs.Items.{victim, EndsAt, KeepsItems};
 ghost use Rattle.cache_shelf.specs.Shelves.{counted};
 ghost use Rattle.cache_shelf.specs.Links.{Begins, entry_of};
 ghost use Rattle.cache_shelf.specs.Refusals.{left_of, is_no_room};
-ghost use Rattle.cache_shelf.specs.Turns.{SameSegments, ListsWithout};
+ghost use Rattle.cache_shelf.specs.Turns.{ListsWithout};
+ghost use Rattle.cache_lists.specs.Segments.{SameSegments};
 
 use crate::refusals::NotPlaced;
 use crate::shelves::Shelf;
@@ -113,7 +114,7 @@ impl<
         ensures owes { self.new.index.owes ≡ false }
         ensures evictions { self.new.evictions ≡ self.old.evictions }
     {
-        let Some(id) = self.class.begin(now) else {
+        let Some(id) = self.class.begin(0, &[], now) else {
             return Err(NotPlaced::NoRoom(entry));
         };
         match slot_of(alloc, id, entry) {

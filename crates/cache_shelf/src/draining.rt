@@ -3,7 +3,7 @@ ghost use Rattle.std.specs.Prelude.{◌≡◌, ◌+◌, length, IfSome, IfNone};
 ghost use Rattle.bump_class.specs.Applications.{AppliesFront};
 ghost use Rattle.bump_class.specs.Books.{BookView as TheBookView};
 ghost use Rattle.bump_class.specs.Lanes.{entries, LaneView as TheLaneView};
-ghost use Rattle.cache_shelf.specs.Items.{KeepsItems, HasNoBumpFor};
+ghost use Rattle.cache_lists.specs.Items.{KeepsItems, HasNoBumpFor};
 
 use crate::shelves::Shelf;
 use bump_class::RawLane;

@@ -2,26 +2,18 @@
 #![tactic(auto)]
 
 mod changing;
-mod counted;
 mod draining;
-mod evictions;
-mod flow;
-mod items;
 mod putting;
 mod refusals;
 mod shelves;
 mod stats;
-mod victims;
 
 pub use bump_class::{Book, RawLane};
 pub use bump_heads::Name;
 pub use bump_rules::{Applied, Ended, Place, Segment};
 pub use cache_index::{Change, Entry, Home, IndexWriter, Indexed, Item, Law, Slot};
-pub use counted::CountedBook;
-pub use evictions::Evictions;
-pub use flow::Flow;
+pub use cache_lists::{CountedBook, Evictions, Flow};
 pub use putting::{Put, Removed};
 pub use refusals::NotPlaced;
 pub use shelves::Shelf;
 pub use stats::Stats;
-pub use victims::Victim;

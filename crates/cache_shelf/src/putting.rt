@@ -3,10 +3,11 @@ ghost use Rattle.std.specs.Prelude.{◌≡◌, ◌⊎◌, ℕ, false, true, IfSo
 ghost use Rattle.cache_index.specs.Tables.{found_in, without_key};
 ghost use Rattle.bump_rules.specs.Lists.{Lists};
 ghost use Rattle.cache_shelf.specs.Links.{Puts, Refuses};
-ghost use Rattle.cache_shelf.specs.Turns.{SameSegments, EvictsInTurn, MayEvict, ListsWithout};
+ghost use Rattle.cache_shelf.specs.Turns.{EvictsInTurn, MayEvict, ListsWithout};
+ghost use Rattle.cache_lists.specs.Segments.{SameSegments};
 ghost use Rattle.cache_shelf.specs.Turns.{counted_each, CountsTold};
 ghost use Rattle.cache_shelf.specs.Tries.{Tries};
-ghost use Rattle.cache_shelf.specs.Items.{victim};
+ghost use Rattle.cache_lists.specs.Items.{victim};
 ghost use Rattle.cache_shelf.specs.Refusals.{left_of, is_no_room};
 
 use crate::refusals::NotPlaced;

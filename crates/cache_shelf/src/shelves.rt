@@ -2,14 +2,14 @@
 ghost use Rattle.std.specs.Prelude.{◌≡◌, ◌<◌, ◌^◌, true, false, IfSome, IfNone, None, Some, [], replicate, length, slice_get};
 ghost use Rattle.bump_rules.specs.Lists.{list_at};
 ghost use Rattle.cache_index.specs.Tables.{found_in};
-ghost use Rattle.cache_shelf.specs.Counts.{IsFlow, SegmentsAddUp, no_flow, no_evictions};
+ghost use Rattle.cache_lists.specs.Counts.{IsFlow, SegmentsAddUp, no_flow, no_evictions};
 ghost use Rattle.cache_shelf.specs.Shelves.{ShelfView as TheShelfView, IsShelf};
 
-use crate::counted::CountedBook;
 use bump_class::Book;
 use bump_heads::Name;
 use bump_rules::Place;
 use cache_index::{Home, IndexWriter, Indexed, Law};
+use cache_lists::CountedBook;
 use std::hash::Hash;
 use std::marker::Model;
 use std::sync::Wait;

@@ -2,11 +2,11 @@
 ghost use Rattle.std.specs.Prelude.{◌≡◌};
 ghost use Rattle.cache_shelf.specs.Stats.{stats_of};
 
-use crate::flow::Flow;
 use crate::shelves::Shelf;
 use bump_heads::Name;
 use bump_rules::Place;
 use cache_index::{Indexed, Law};
+use cache_lists::Flow;
 use std::hash::Hash;
 use std::sync::Wait;
 

@@ -1,7 +1,7 @@
 use Rattle.std.proofs.Common.{sym, ap, ◌∙◌, subst}
 use Rattle.std.proofs.Common.{IfSome, IsSome}
 use Rattle.cache_shelf.specs.Shelves.{IsShelf}
-use Rattle.cache_shelf.specs.Items.{victim}
+use Rattle.cache_lists.specs.Items.{victim}
 use Rattle.cache_shelf.proofs.Shelving.{shelf_ended, owned_within, linked_stands}
 use Rattle.cache_shelf.proofs.shelves.Shelf.evict.Goals as goal
 

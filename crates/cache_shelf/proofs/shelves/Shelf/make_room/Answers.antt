@@ -1,5 +1,5 @@
 use Rattle.std.proofs.Common.{refl, ap}
-use Rattle.cache_shelf.specs.Items.{victim}
+use Rattle.cache_lists.specs.Items.{victim}
 use Rattle.cache_shelf.specs.Shelves.{counted}
 use Rattle.cache_shelf.proofs.Turning.{evicted_one, evicted_counts}
 use Rattle.cache_shelf.proofs.shelves.Shelf.make_room.Goals as goal

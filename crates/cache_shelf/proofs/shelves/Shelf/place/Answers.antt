@@ -2,12 +2,13 @@ use Rattle.std.proofs.Common.{◌≡◌, sym, ap, ◌∙◌, subst}
 use Rattle.std.proofs.Common.{Some, None, slice_set}
 use Rattle.cache_index.specs.Tables.{found_in}
 use Rattle.cache_shelf.specs.Shelves.{IsShelf}
-use Rattle.cache_shelf.proofs.Shelving.{shelf_begun, shelf_kept, unbegun, begun_linked, where_linked}
+use Rattle.cache_shelf.proofs.Shelving.{shelf_begun, shelf_kept, where_linked}
+use Rattle.cache_lists.proofs.Standings.{unbegun, begun_linked}
 use Rattle.cache_shelf.proofs.shelves.Shelf.place.Goals as goal
 use Rattle.bump_rules.specs.declared.places.Place.TheVariants.{Hot}
 use Rattle.bump_rules.specs.Lists.{all_without}
-use Rattle.cache_shelf.specs.Turns.{SameSegments}
-use Rattle.cache_shelf.proofs.Turning.{unbegun_segments}
+use Rattle.cache_lists.specs.Segments.{SameSegments}
+use Rattle.cache_lists.proofs.Segments.{unbegun_segments}
 
 pub invariant_of-self-in-Ok-set : goal.invariant_of-self-in-Ok-set
 invariant_of-self-in-Ok-set g c =

@@ -1,0 +1,6 @@
+pub mod Standings
+pub mod Bumping
+pub mod Counting
+pub mod Flowing
+pub mod Ways
+pub mod Segments

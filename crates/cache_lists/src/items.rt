@@ -1,0 +1,218 @@
+//! What is done with a Book's items.
+ghost use Rattle.std.specs.Prelude.{◌≡◌, ◌≢◌, ℕ, ◌+◌, ◌<◌, ◌≤◌, true, length, slice_index, IfSome, IfNone, option_map, None, Some};
+ghost use Rattle.bump_links.specs.Lists.{last_of, first_of};
+ghost use Rattle.bump_rules.specs.Commands.{item_told};
+ghost use Rattle.bump_rules.specs.Lists.{list_at, all_without};
+ghost use Rattle.bump_rules.specs.Places.{place_of};
+ghost use Rattle.bump_rules.specs.declared.places.Place.TheVariants.{Hot, Dying, Unused};
+ghost use Rattle.bump_rules.specs.declared.places.Tail.TheVariants as tail;
+ghost use Rattle.bump_rules.specs.Labels.{label_of_life};
+ghost use Rattle.bump_steps.specs.Views.{owns, of_word};
+ghost use Rattle.cache_lists.specs.Linked.{linked_at};
+ghost use Rattle.cache_lists.specs.Items.{may_tell, chunk_told, victim, KeepsItems, EndsAt, BeginsAt};
+ghost use Rattle.cache_lists.specs.Items.{ShowsMarks, HasNoBumpFor};
+ghost use Rattle.bump_class.specs.Applications.{AppliesFront};
+ghost use Rattle.bump_class.specs.Books.{BookView as TheBookView};
+ghost use Rattle.bump_class.specs.Changes.{book_with_words};
+ghost use Rattle.bump_class.specs.Links.{MayHave};
+ghost use Rattle.bump_class.specs.Lanes.{entries, LaneView as TheLaneView};
+ghost use Rattle.bump_class.specs.Pulls.{Pulls};
+ghost use Rattle.bump_class.specs.Sweeps.{Sweeps};
+ghost use Rattle.bump_rules.specs.declared.items.Head.{Head as TheHead};
+ghost use Rattle.bump_rules.specs.declared.places.Start.TheVariants as start;
+ghost use Rattle.cache_lists.specs.Ours.{are_ours};
+ghost use Rattle.cache_lists.specs.Segments.{SameSegments};
+ghost use Rattle.cache_lists.specs.Flows.{Flows, FlowsTwice, way_of_pull, way_to, way_of_applied};
+ghost use Rattle.bump_rules.specs.declared.items.ItemId.{ItemId as TheItemId};
+ghost use Rattle.bump_rules.specs.Tables.{last_pulled};
+
+use crate::victims::Victim;
+use bump_class::{Book, RawLane};
+use bump_heads::Name;
+use bump_rules::{Applied, ItemId, Pulled, Segment, Tail};
+use bump_steps::RowLaw;
+
+// The last item of HOT, WARM or COLD is looked at, and moved by the tail table.
+pub(crate) fn look_at<N: Name, L: RowLaw>(book: &mut Book<N, L>, from: Tail) -> Pulled
+    requires { from ≢ tail.Evict }
+    ensures kept { KeepsItems book.old book.new }
+    ensures pulls { Pulls book.old from result book.new }
+    ensures told { may_tell from result ≡ true }
+    ensures item { option_map (λ (id : TheItemId). id.chunk) (item_told result) ≡ last_pulled from book.old.lists }
+    ensures linked { IfSome (item_told result) (λ id. linked_at book.new.part id.chunk ≡ Some id.generation) }
+    ensures own { IfSome (item_told result) (λ id. owns id.chunk book.new.part ≡ true) }
+    ensures none { IfNone (item_told result) (book.new ≡ book.old) }
+    ensures flows { Flows (way_of_pull from result) book.old book.new }
+    ensures others { IfSome (item_told result) (λ id. SameSegments (all_without id.chunk book.old.lists)
+        (all_without id.chunk book.new.lists)) }
+{
+    book.promise();
+    book.pull(from)
+}
+
+// The last item of HOT or WARM ends. It answers None where there is no such item, and changes nothing then.
+fn end_last_of<N: Name, L: RowLaw>(book: &mut Book<N, L>, from: Tail) -> Option<Victim>
+    requires { from ≢ tail.Evict }
+    ensures last { last_pulled from book.old.lists ≡ chunk_told result }
+    ensures ends { IfSome result (λ it. EndsAt it.chunk book.old book.new) }
+    ensures none { IfNone result (book.new ≡ book.old) }
+    ensures list { IfSome result (λ it. last_of (list_at book.old.lists (place_of it.last_of)) ≡ Some it.chunk) }
+    ensures flows { IfSome result (λ it. FlowsTwice (way_to it.last_of it.moved) (Some (place_of it.from, Dying))
+        book.old book.new) }
+    ensures ways { IfSome result (λ it. are_ours (way_to it.last_of it.moved)) }
+    ensures marks { IfSome result (λ it. ShowsMarks it.chunk it.fetched it.active book.new) }
+    ensures others { IfSome result (λ it. SameSegments (all_without it.chunk book.old.lists) book.new.lists) }
+{
+    let pulled = look_at(book, from);
+    let Some(id) = pulled.item() else {
+        return None;
+    };
+    let Some(segment) = end(book, id) else {
+        unreachable!()
+    };
+    let head = book.look(id.chunk);
+    Some(Victim {
+        chunk: id.chunk,
+        last_of: from.segment(),
+        moved: pulled.to(),
+        from: segment,
+        fetched: head.fetched,
+        active: head.active,
+    })
+}
+
+// The item whose turn it is ends: the last of COLD; where COLD is empty, of WARM; and where that is too, of HOT.
+pub(crate) fn end_next<N: Name, L: RowLaw>(book: &mut Book<N, L>) -> Option<Victim>
+    ensures next { victim book.old.lists ≡ chunk_told result }
+    ensures ends { IfSome result (λ it. EndsAt it.chunk book.old book.new) }
+    ensures none { IfNone result (book.new ≡ book.old) }
+    ensures list { IfSome result (λ it. last_of (list_at book.old.lists (place_of it.last_of)) ≡ Some it.chunk) }
+    ensures flows { IfSome result (λ it. FlowsTwice (way_to it.last_of it.moved) (Some (place_of it.from, Dying))
+        book.old book.new) }
+    ensures ways { IfSome result (λ it. are_ours (way_to it.last_of it.moved)) }
+    ensures marks { IfSome result (λ it. ShowsMarks it.chunk it.fetched it.active book.new) }
+    ensures others { IfSome result (λ it. SameSegments (all_without it.chunk book.old.lists) book.new.lists) }
+{
+    if let Some(ended) = end_last(book) {
+        return Some(ended);
+    }
+    if let Some(ended) = end_last_of(book, Tail::Warm) {
+        return Some(ended);
+    }
+    end_last_of(book, Tail::Hot)
+}
+
+// The last item of COLD ends. It answers None where there is no such item, and changes nothing then.
+fn end_last<N: Name, L: RowLaw>(book: &mut Book<N, L>) -> Option<Victim>
+    ensures last { last_of book.old.lists.cold ≡ chunk_told result }
+    ensures ends { IfSome result (λ it. EndsAt it.chunk book.old book.new) }
+    ensures none { IfNone result (book.new ≡ book.old) }
+    ensures list { IfSome result (λ it. last_of (list_at book.old.lists (place_of it.last_of)) ≡ Some it.chunk) }
+    ensures flows { IfSome result (λ it. FlowsTwice (way_to it.last_of it.moved) (Some (place_of it.from, Dying))
+        book.old book.new) }
+    ensures ways { IfSome result (λ it. are_ours (way_to it.last_of it.moved)) }
+    ensures marks { IfSome result (λ it. ShowsMarks it.chunk it.fetched it.active book.new) }
+    ensures others { IfSome result (λ it. SameSegments (all_without it.chunk book.old.lists) book.new.lists) }
+{
+    book.promise();
+    let Some(id) = book.pull(Tail::Evict).item() else {
+        return None;
+    };
+    let head = book.look(id.chunk);
+    Some(Victim {
+        chunk: id.chunk,
+        last_of: Segment::Cold,
+        moved: None,
+        from: Segment::Cold,
+        fetched: head.fetched,
+        active: head.active,
+    })
+}
+
+// An item ends, where it is linked; and tells the list in which it was, or None where it isn't.
+pub(crate) fn end<N: Name, L: RowLaw>(book: &mut Book<N, L>, id: ItemId) -> Option<Segment>
+    requires own { owns id.chunk book.old.part ≡ true }
+    ensures ends { IfSome result (λ from. EndsAt id.chunk book.old book.new) }
+    ensures linked { IfSome result (λ from. linked_at book.old.part id.chunk ≡ Some id.generation) }
+    ensures not_linked { IfNone result (linked_at book.old.part id.chunk ≢ Some id.generation) }
+    ensures kept { IfNone result (KeepsItems book.old book.new) }
+    ensures flows { IfSome result (λ from. Flows (Some (place_of from, Dying)) book.old book.new) }
+    ensures stays { IfNone result (Flows None book.old book.new) }
+    ensures others { IfSome result (λ from. SameSegments (all_without id.chunk book.old.lists) book.new.lists) }
+{
+    let head = book.look(id.chunk);
+    book.promise();
+    match book.unlink(id) {
+        Ok(_) => Some(head.segment),
+        Err(_) => None,
+    }
+}
+
+// What was unlinked and is held by nobody any more is free.
+pub(crate) fn sweep<N: Name, L: RowLaw>(book: &mut Book<N, L>) -> u32
+    ensures swept { (heads : ℕ → TheHead) × Sweeps book.old result book.new heads }
+    ensures kept { KeepsItems book.old book.new }
+    ensures flows { Flows None book.old book.new }
+    ensures segments { SameSegments book.old.lists book.new.lists }
+{
+    book.promise();
+    book.sweep()
+}
+
+// An item is linked, at a chunk that is free, with a label and further words. It answers None exactly where no chunk is
+// free, and changes nothing then.
+pub(crate) fn begin<N: Name, L: RowLaw>(
+    book: &mut Book<N, L>,
+    label: u64,
+    words: &[u64],
+    now: u64,
+) -> Option<ItemId>
+    requires few { length words.now ≤ N.table.slots }
+    requires law { MayHave L.law label words.now }
+    ensures free { IfNone result (first_of book.old.lists.unused ≡ None) }
+    ensures none { IfNone result (book.new ≡ book.old) }
+    ensures linked { IfSome result (λ id. book.new ≡ book_with_words start.Hot id label words.now now book.old) }
+    ensures label { IfSome result (λ id. label_of_life id 0 book.new.part.labels ≡ Some label) }
+    ensures words { IfSome result (λ id. (j : ℕ) → j < length words.now
+        → label_of_life id 0 (of_word j book.new.part.words) ≡ Some (slice_index words.now j)) }
+    ensures begins { IfSome result (λ id. BeginsAt id book.old book.new) }
+    ensures flows { IfSome result (λ id. Flows (Some (Unused, Hot)) book.old book.new) }
+    ensures apart { IfSome result (λ id. SameSegments (all_without id.chunk book.old.lists) book.old.lists) }
+{
+    book.promise();
+    match book.link_words(label, words, now) {
+        Ok(id) => Some(id),
+        Err(_) => None,
+    }
+}
+
+// Applies the next bump of a lane to a Book, where its chunk is one of the Book's and has the life of which it is. It
+// tells what that came to, or None where there is no such bump.
+pub(crate) fn apply_next<N: Name, L: RowLaw>(
+    book: &mut Book<N, L>,
+    lane: &mut RawLane<N, L>,
+    now: u64,
+) -> Option<Applied>
+    ensures items { KeepsItems book.old book.new }
+    ensures front { IfSome result (λ it. (seen : TheBookView) × (from : TheLaneView)
+        × AppliesFront now seen from it book.new lane.new) }
+    ensures applied { IfSome result (λ it. length (entries lane.new) ≡ length (entries lane.old) + 1) }
+    ensures kept { IfNone result (entries lane.new ≡ entries lane.old) }
+    ensures none { IfNone result (HasNoBumpFor book.old lane.new) }
+    ensures ring { lane.new.ring ≡ lane.old.ring }
+    ensures flows { Flows (way_of_applied result) book.old book.new }
+{
+    let Some(bump) = lane.fetch() else {
+        return None;
+    };
+    if !book.has_chunk(bump.life.chunk) {
+        return None;
+    }
+    // A bump holds a reference, so its chunk has this life still. What an application promises doesn't say so, and one
+    // look more shows it.
+    let head = book.look(bump.life.chunk);
+    if head.generation != bump.life.generation {
+        return None;
+    }
+    Some(book.apply_front(lane, now))
+}

@@ -1,0 +1,17 @@
+//! The lists of a cache's items: a Book that counts how its items go from list to list and how many are evicted.
+#![tactic(auto)]
+
+mod counted;
+mod evictions;
+mod flow;
+mod items;
+mod victims;
+
+pub use bump_class::{Book, RawLane};
+pub use bump_heads::Name;
+pub use bump_rules::{Applied, ItemId, Place, Pulled, Segment, Tail};
+pub use bump_steps::{AnyRow, RowLaw};
+pub use counted::CountedBook;
+pub use evictions::Evictions;
+pub use flow::Flow;
+pub use victims::Victim;
