@@ -23,7 +23,7 @@ mod work;
 
 use asked::Asked;
 use bump_store::{Blank, Config, Name, Store};
-use lines::Line;
+use lines::MeasuredLine;
 use std::alloc::{AllocError, Global};
 use std::marker::Brand;
 use std::rt::Clock;
@@ -77,7 +77,7 @@ fn measure<R: Threads + Clock + Wait + Sync + Print>(
     for _pass in 0..asked.passes {
         times.push(pass(rt, alloc, work).ok_or(AllocError)?.nanos)?;
     }
-    Line::new(work.subject(), first, times)?.print(rt)
+    MeasuredLine::new(work.subject(), first, times)?.print(rt)
 }
 
 // Measures what is asked for, in the order of the tables.

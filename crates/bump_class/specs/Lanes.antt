@@ -4,7 +4,7 @@ use Rattle.std.specs.Prelude.{IsNone, IsSome, IfSome, IfNone, Bool, true, false}
 use Rattle.bump_rules.specs.declared.bumps.AppliedBump.{AppliedBump}
 use Rattle.bump_rules.specs.declared.bumps.Bump.{Bump}
 use Rattle.bump_rules.specs.declared.items.ItemId.{ItemId}
-use Rattle.bump_rules.specs.declared.lanes.Lane.TheVariants.{Empty}
+use Rattle.bump_rules.specs.declared.lanes.LaneStage.TheVariants.{Empty}
 use Rattle.bump_rules.specs.Lanes.{carried, is_half_made}
 use Rattle.bump_rules.specs.Rings.{aboard, bump_applied, numbered_from, most_attempts}
 use Rattle.bump_steps.specs.declared.views.LanePart.{LanePart}

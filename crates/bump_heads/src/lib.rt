@@ -1,4 +1,7 @@
 //! The words of all chunks, under one rule for all threads: head, time and label, and the seats that may change them.
+//!
+//! A [`LaneSeat`] is what a lane makes its steps with; the lane itself, with the ring's end, is bump_class's `RawLane`.
+//! `load_head` is one load of a head by its class, `see_..` one of another word.
 #![tactic(auto)]
 
 mod applying;
@@ -15,7 +18,7 @@ mod views;
 pub use bump_readers::{Hold, HoldView, Name, ReaderHeads, Rider, WorkerSeat, WorkerView};
 pub use bump_rules::{
     Accounts, AppliedBump, Bump, Cause, Change, ClassConfig, Classes, Config, Hand, Head, ItemId,
-    LabelStep, Lane, Outcome, Segment, Start,
+    LabelStep, LaneStage, Outcome, Segment, Start,
 };
 pub use bump_steps::{
     AnyRefusal, AnyRow, ClassPart, Empty, HoldPart, Kind, LanePart, OwnStep, Ride, RideRefusal,

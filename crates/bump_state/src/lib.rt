@@ -9,10 +9,10 @@ mod workers;
 
 pub use bump_rules::{
     Accounts, AppliedBump, Bump, Cause, Change, ClassConfig, ClassLists, Classes, Config, Ended,
-    Event, Hand, Head, ItemId, LabelStep, Lane, ListedChunks, Outcome, Place, Refused, Reply,
+    Event, Hand, Head, ItemId, LabelStep, LaneStage, ListedChunks, Outcome, Place, Refused, Reply,
     Segment, Start,
 };
 pub use chunks::Chunk;
 pub use classes::Class;
-pub use parts::Parts;
+pub use parts::WorldParts;
 pub use workers::{Worker, Workers};

@@ -18,7 +18,7 @@ pub use bump_cache::{Accounts, CacheConfig, CacheFault, Flow, Stats};
 pub use bump_trace::SimFault;
 pub use counting::HitCounts;
 pub use faults::ReplayFault;
-pub use outcomes::Outcome;
+pub use outcomes::RunOutcome;
 pub use plans::Plan;
 pub use replays::replay;
 pub use traces::{ReplayTrace, trace_of};

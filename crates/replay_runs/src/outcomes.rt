@@ -3,7 +3,7 @@ use bump_cache::{Accounts, Stats};
 
 /// What a run came to.
 #[derive(Clone, Copy, Debug, PartialEq, Eq)]
-pub struct Outcome {
+pub struct RunOutcome {
     /// How many accesses there were.
     pub accesses: u64,
 

@@ -1,7 +1,7 @@
 //! A trace that is written line by line, each of which is made on a World at once.
 ghost use Rattle.std.specs.Prelude.{◌≡◌, ◌<◌, ◌∷◌, ◌++◌, [], true, false, length, codes, IfOk, IfErr, OnOk};
 ghost use Rattle.bump_trace.specs.Runs.{most_bytes};
-ghost use Rattle.replay_runs.specs.Writing.{with_end, get_line, set_line, header, is_upkeep, IsUpkeep, Adds, IsOfCalls};
+ghost use Rattle.replay_runs.specs.Writing.{with_end, get_instruction, set_instruction, header, is_upkeep, IsUpkeep, Adds, IsOfCalls};
 
 use crate::faults::ReplayFault;
 use crate::plans::Plan;
@@ -21,7 +21,7 @@ pub(crate) struct Scribe {
     // so many lines were written: a line's number is its time
     lines: u64,
     // the key of the item that each chunk had last, by chunk
-    keys: Vec<u32>,
+    key_of_chunk: Vec<u32>,
     // the item of each key that has one
     items: HashMap<u32, ItemId, RandomState>,
     ring: u32,
@@ -56,10 +56,10 @@ fn pull_line(tail: Tail) -> &'static str
 
 impl Scribe {
     /// The first lines of a plan's trace, and its store, which is of this configuration, and in which no key has an item.
-    /// The keys that have one are hashed with `keys`.
+    /// The keys that have one are hashed with `hasher`.
     pub(crate) fn new(
         alloc: Global,
-        keys: RandomState,
+        hasher: RandomState,
         plan: &Plan,
         config: &Config,
     ) -> Result<Scribe, ReplayFault>
@@ -67,14 +67,14 @@ impl Scribe {
         ensures text { IfOk result (λ scribe. scribe.text.items ≡ header plan.now) }
         ensures fault { IfErr result IsOfCalls }
     {
-        let mut chunks = Vec::new(alloc);
-        chunks.resize(plan.config.items as usize, 0)?;
+        let mut key_of_chunk = Vec::new(alloc);
+        key_of_chunk.resize(plan.config.items as usize, 0)?;
         Ok(Scribe {
             world: World::new(alloc, config)?,
             text: header_of(alloc, plan)?,
             lines: 2,
-            keys: chunks,
-            items: HashMap::with_hasher(alloc, keys),
+            key_of_chunk,
+            items: HashMap::with_hasher(alloc, hasher),
             ring: plan.config.ring,
         })
     }
@@ -128,7 +128,7 @@ impl Scribe {
     // Whether the key has an item. It is got by the worker then.
     pub(crate) fn get(&mut self, worker: u32, key: u32) -> Result<bool, ReplayFault>
         ensures got { IfOk result (λ got. got ≡ true
-            → self.new.text.items ≡ self.old.text.items ++ with_end (get_line worker key)) }
+            → self.new.text.items ≡ self.old.text.items ++ with_end (get_instruction worker key)) }
         ensures none { IfOk result (λ got. got ≡ false → self.new.text.items ≡ self.old.text.items) }
         ensures fault { IfErr result IsOfCalls }
     {
@@ -157,7 +157,7 @@ impl Scribe {
 
     /// Links an item for the key; whether a chunk was free for it.
     pub(crate) fn link(&mut self, key: u32) -> Result<bool, ReplayFault>
-        ensures text { OnOk result (self.new.text.items ≡ self.old.text.items ++ with_end (set_line key)) }
+        ensures text { OnOk result (self.new.text.items ≡ self.old.text.items ++ with_end (set_instruction key)) }
         ensures fault { IfErr result IsOfCalls }
     {
         put_word(&mut self.text, b"set k", u64::from(key))?;
@@ -182,15 +182,18 @@ impl Scribe {
         ensures fault { IfErr result IsOfCalls }
     {
         self.items.insert(key, id)?;
-        if let Some(chunk) = self.keys.get_mut(id.chunk as usize) {
-            *chunk = key;
+        if let Some(last) = self.key_of_chunk.get_mut(id.chunk as usize) {
+            *last = key;
         }
         Ok(())
     }
 
     // The key of an item.
     fn key_of(&self, id: ItemId) -> u32 {
-        self.keys.get(id.chunk as usize).copied().unwrap_or(0)
+        self.key_of_chunk
+            .get(id.chunk as usize)
+            .copied()
+            .unwrap_or(0)
     }
 
     // The item ended.
@@ -256,7 +259,7 @@ impl Scribe {
     }
 
     /// Looks at the last item of HOT or WARM, where it has more items than so many; whether it has.
-    pub(crate) fn look_over(&mut self, tail: Tail, most: u32) -> Result<bool, ReplayFault>
+    pub(crate) fn pull_if_over(&mut self, tail: Tail, most: u32) -> Result<bool, ReplayFault>
         ensures text { OnOk result (Adds IsUpkeep 1 self.old.text.items self.new.text.items) }
         ensures fault { IfErr result IsOfCalls }
     {
