@@ -2,7 +2,7 @@
 use Rattle.std.specs.Prelude.{ℕ, ◌+◌, ◌<◌, ◌≡◌, Bool, true, List, [], ◌∷◌, Option, Some, None, is_none}
 use Rattle.std.specs.Prelude.{filter_map, option_map, option_and_then, count_by, length, ⊤}
 use Rattle.access_logs.specs.Keys.{distinct}
-use Rattle.access_logs.specs.declared.entries.Entry.{Entry}
+use Rattle.access_logs.specs.declared.entries.LogEntry.{LogEntry}
 use Rattle.access_logs.specs.declared.log.LogFault.{LogFault}
 use Rattle.access_logs.specs.declared.log.LogFault.TheVariants as fault
 
@@ -12,7 +12,7 @@ pub record Access : Type 0 where
   pub size : Option ℕ
 
 -- the access that an entry says
-abbrev pub access_of : Entry → Access
+abbrev pub access_of : LogEntry → Access
 access_of entry = record { key = entry.key.now; size = entry.size }
 
 -- the access of a key where no size is asked for

@@ -12,9 +12,9 @@ entries_of format.Lines bytes = entries_of_lines bytes
 entries_of (format.Csv column header size) bytes = entries_of_records (record { key = column; size = size }) header bytes
 
 -- the number of the first line or record that has a key
-abbrev pub first_of : Format → ℕ
-first_of format.Lines = 1
-first_of (format.Csv column header size) = first_record header
+abbrev pub first_number : Format → ℕ
+first_number format.Lines = 1
+first_number (format.Csv column header size) = first_record header
 
 -- the format has a column of sizes
 abbrev pub has_sizes : Format → Bool

@@ -5,7 +5,7 @@ ghost use Rattle.std.specs.Prelude.{None, IfErr, OnOk, length, option_map};
 ghost use Rattle.access_logs.specs.Drafts.{IsDraftOf, IsLogOf};
 ghost use Rattle.access_logs.specs.Entries.{Access, RefusesLog, access_of};
 
-use crate::entries::Entry;
+use crate::entries::LogEntry;
 use crate::log::{Log, LogFault};
 use crate::numbering::Numbering;
 use std::alloc::Global;
@@ -37,7 +37,7 @@ impl Draft {
     }
 
     /// One more access. `TooManyKeys`, `Memory`.
-    pub fn take_entry(&mut self, entry: Entry<'_>) -> Result<(), LogFault>
+    pub fn take_entry(&mut self, entry: LogEntry<'_>) -> Result<(), LogFault>
         ensures taken { (strict : Bool) (first : ℕ) (entries : List (Option Access))
             → IsDraftOf strict first entries self.old
             → OnOk result (IsDraftOf strict first (entries ++ Some (access_of entry.entry) ∷ []) self.new) }
@@ -78,7 +78,7 @@ impl Draft {
     }
 
     /// One more line or record, with its number: what it says, or nothing where it can't be read.
-    pub fn take(&mut self, entry: Option<Entry<'_>>, number: u64) -> Result<(), LogFault>
+    pub fn take(&mut self, entry: Option<LogEntry<'_>>, number: u64) -> Result<(), LogFault>
         requires { self.old.unreadable < 2 ^ 64 - 1 }
         ensures taken { (strict : Bool) (first : ℕ) (entries : List (Option Access))
             → IsDraftOf strict first entries self.old

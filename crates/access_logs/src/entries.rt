@@ -2,7 +2,7 @@
 
 /// An access, as a line or record says it.
 #[derive(Clone, Copy)]
-pub struct Entry<'a> {
+pub struct LogEntry<'a> {
     /// The item's key.
     pub key: &'a [u8],
 

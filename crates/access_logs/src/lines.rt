@@ -8,7 +8,7 @@ ghost use Rattle.std.specs.Io.KnownBytes.{Consumes, IsAtEnd};
 ghost use Rattle.access_logs.specs.Entries.{access_of};
 ghost use Rattle.access_logs.specs.Lines.{content_of, entry_of_line, IsReadOrMemory};
 
-use crate::entries::Entry;
+use crate::entries::LogEntry;
 use crate::log::LogFault;
 use memchr::memchr;
 use std::io::{BufRead, ErrorKind};
@@ -19,7 +19,7 @@ pub const LONGEST_KEY: usize = 65_536;
 /// How many bytes of a line are kept at most. They tell that it is too long even where two of them are its end.
 const KEPT: usize = 65_539;
 
-/// Whether the last byte is this one.
+// Whether the last byte is this one.
 fn ends_with(bytes: &[u8], byte: u8) -> bool
     ensures { result ≡ ends_with_byte byte bytes.now }
 {
@@ -29,7 +29,7 @@ fn ends_with(bytes: &[u8], byte: u8) -> bool
     }
 }
 
-/// A line without its end.
+// A line without its end.
 fn content_of(line: &[u8]) -> &[u8]
     ensures { result.now ≡ content_of line.now }
 {
@@ -46,21 +46,21 @@ fn content_of(line: &[u8]) -> &[u8]
 
 /// What a line with its end says, or nothing where it can't be read.
 #[tactic(auto, unfolding(crate::specs::Lines::entry_of_line))]
-pub fn entry_of_line(line: &[u8]) -> Option<Entry<'_>>
+pub fn entry_of_line(line: &[u8]) -> Option<LogEntry<'_>>
     ensures { option_map access_of result ≡ entry_of_line line.now }
 {
     let content = content_of(line);
     if content.is_empty() || content.len() > LONGEST_KEY {
         None
     } else {
-        Some(Entry {
+        Some(LogEntry {
             key: content,
             size: None,
         })
     }
 }
 
-/// The length up to and including the first line feed, or the whole length.
+// The length up to and including the first line feed, or the whole length.
 fn len_through(bytes: &[u8]) -> usize
     ensures bound { result ≤ length bytes.now }
     ensures some { 0 < length bytes.now → 0 < result }
@@ -72,8 +72,8 @@ fn len_through(bytes: &[u8]) -> usize
     }
 }
 
-/// Reads on in a line, up to its end or as far as the reader has bytes at hand. Whether the line is at its end, or the
-/// input.
+// Reads on in a line, up to its end or as far as the reader has bytes at hand. Whether the line is at its end, or the
+// input.
 fn read_piece<B: BufRead>(source: &mut B, line: &mut Vec<u8>) -> Result<bool, LogFault>
     requires { vec_len line.old ≤ 65539 }
     ensures piece { IfOk result (λ done. (piece : List ℕ) × (line.new.items ≡ take 65539 (line.old.items ++ piece))

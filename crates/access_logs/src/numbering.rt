@@ -53,7 +53,7 @@ impl Numbering {
         self.add(key)
     }
 
-    /// The next number, for a new key.
+    // The next number, for a new key.
     fn add(&mut self, key: &[u8]) -> Result<u32, LogFault>
         requires { is_among (keys_of self.old) key.now ≡ false }
         ensures number { IfOk result (λ number. number ≡ length (keys_of self.old)) }

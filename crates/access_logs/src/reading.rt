@@ -3,7 +3,7 @@
 ghost use Rattle.std.specs.Prelude.{◌≡◌, ◌<◌, List, [], Option, ℕ, true, false, None, All, length, IfOk, IfErr, IfSome};
 ghost use Rattle.access_logs.specs.Drafts.{IsLogOf};
 ghost use Rattle.access_logs.specs.Entries.{Access, keys_in, sizes_in, unreadable_in, first_unreadable_in, RefusesLog};
-ghost use Rattle.access_logs.specs.Formats.{entries_of, first_of, has_sizes};
+ghost use Rattle.access_logs.specs.Formats.{entries_of, first_number, has_sizes};
 ghost use Rattle.access_logs.specs.Keys.{distinct, numbers_of};
 ghost use Rattle.access_logs.specs.Lines.{entries_of_lines};
 ghost use Rattle.access_logs.specs.Records.{entries_of_records, entries_from, first_record};
@@ -91,9 +91,9 @@ pub fn read_log<R: Read + Drop>(
     ensures unreadable { IfSome (R.remaining source) (λ bytes.
         IfOk result (λ log. log.unreadable ≡ unreadable_in (entries_of format bytes))) }
     ensures first_unreadable { IfSome (R.remaining source) (λ bytes.
-        IfOk result (λ log. log.first_unreadable ≡ first_unreadable_in (first_of format) (entries_of format bytes))) }
+        IfOk result (λ log. log.first_unreadable ≡ first_unreadable_in (first_number format) (entries_of format bytes))) }
     ensures refusal { IfSome (R.remaining source) (λ bytes.
-        IfErr result (RefusesLog strict (first_of format) (entries_of format bytes))) }
+        IfErr result (RefusesLog strict (first_number format) (entries_of format bytes))) }
 
     // At any reader.
     ensures numbered { IfOk result (λ log. (keys : List (List ℕ)) × (log.accesses.items ≡ numbers_of keys)

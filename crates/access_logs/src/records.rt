@@ -12,7 +12,7 @@ ghost use Rattle.access_logs.specs.Lines.{IsReadOrMemory};
 ghost use Rattle.access_logs.specs.Records.{key_of_record, size_of_record, entry_of_record, entries_from, first_record};
 
 use crate::drafts::Draft;
-use crate::entries::Entry;
+use crate::entries::LogEntry;
 use crate::log::LogFault;
 use crate::sizes::size_of_field;
 use csv::{ByteRecord, ErrorKind, Reader};
@@ -35,7 +35,7 @@ pub fn first_record(header: bool) -> u64
     if header { 2 } else { 1 }
 }
 
-/// The key of a record: the field in a column, counted from 0, where it has one that isn't empty.
+// The key of a record: the field in a column, counted from 0, where it has one that isn't empty.
 fn key_of_record(row: &ByteRecord, column: u32) -> Option<&[u8]>
     ensures { option_map (λ key. key.now) result ≡ key_of_record column (fields_of row.now) }
 {
@@ -45,7 +45,7 @@ fn key_of_record(row: &ByteRecord, column: u32) -> Option<&[u8]>
     }
 }
 
-/// The size of a record: the number in a column, counted from 0, where it has one.
+// The size of a record: the number in a column, counted from 0, where it has one.
 fn size_of_record(row: &ByteRecord, column: u32) -> Option<u32>
     ensures { result ≡ size_of_record column (fields_of row.now) }
 {
@@ -55,20 +55,20 @@ fn size_of_record(row: &ByteRecord, column: u32) -> Option<u32>
     }
 }
 
-/// What a record says, or nothing where its key or its size can't be read.
-fn entry_of_record(row: &ByteRecord, columns: Columns) -> Option<Entry<'_>>
+// What a record says, or nothing where its key or its size can't be read.
+fn entry_of_record(row: &ByteRecord, columns: Columns) -> Option<LogEntry<'_>>
     ensures { option_map access_of result ≡ entry_of_record columns (fields_of row.now) }
 {
     let key = key_of_record(row, columns.key)?;
     match columns.size {
         Some(column) => {
             let size = size_of_record(row, column)?;
-            Some(Entry {
+            Some(LogEntry {
                 key,
                 size: Some(size),
             })
         }
-        None => Some(Entry { key, size: None }),
+        None => Some(LogEntry { key, size: None }),
     }
 }
 

@@ -6,4 +6,4 @@ mod both;
 mod parts;
 
 pub use both::replace_both;
-pub use parts::Parts;
+pub use parts::BoxParts;

@@ -2,7 +2,7 @@
 use crate::calls::Calls;
 use crate::hits::touch_all;
 use crate::stores::{FURTHER, lives};
-use crate::tallies::{Spent, Tally, one_more};
+use crate::tallies::{PassTally, Spent, one_more};
 use bump_class::Book;
 use bump_readers::{Name, ReaderHeads};
 use bump_rules::{Ended, ItemId, Pulled, Tail};
@@ -77,7 +77,7 @@ fn prepare<N: Name>(
 }
 
 // Links an item and unlinks it, so often. Right is an item that is freed.
-fn links<N: Name>(book: &mut Book<N>, times: u32) -> Tally {
+fn links<N: Name>(book: &mut Book<N>, times: u32) -> PassTally {
     let mut refused: u64 = 0;
     let mut right: u64 = 0;
     for number in 0..times {
@@ -89,7 +89,7 @@ fn links<N: Name>(book: &mut Book<N>, times: u32) -> Tally {
             Err(_) => refused = one_more(refused),
         }
     }
-    Tally {
+    PassTally {
         refused,
         right,
         ..Tally::NONE
@@ -98,9 +98,9 @@ fn links<N: Name>(book: &mut Book<N>, times: u32) -> Tally {
 
 // Links an item with two further words and unlinks it, so often. Right is an item that is freed. There is none where
 // chunks haven't so many words.
-fn wide_links<N: Name>(book: &mut Book<N>, times: u32) -> Tally {
+fn wide_links<N: Name>(book: &mut Book<N>, times: u32) -> PassTally {
     if book.further() < FURTHER {
-        return Tally::NONE;
+        return PassTally::NONE;
     }
     let mut refused: u64 = 0;
     let mut right: u64 = 0;
@@ -114,7 +114,7 @@ fn wide_links<N: Name>(book: &mut Book<N>, times: u32) -> Tally {
             Err(_) => refused = one_more(refused),
         }
     }
-    Tally {
+    PassTally {
         refused,
         right,
         ..Tally::NONE
@@ -122,7 +122,7 @@ fn wide_links<N: Name>(book: &mut Book<N>, times: u32) -> Tally {
 }
 
 // Pulls the last item of a list, so often. Right is a pull that found one.
-fn pulls<N: Name>(book: &mut Book<N>, tail: Tail, times: u32) -> Tally {
+fn pulls<N: Name>(book: &mut Book<N>, tail: Tail, times: u32) -> PassTally {
     let mut refused: u64 = 0;
     let mut right: u64 = 0;
     for _time in 0..times {
@@ -132,7 +132,7 @@ fn pulls<N: Name>(book: &mut Book<N>, tail: Tail, times: u32) -> Tally {
             right = right.wrapping_add(1);
         }
     }
-    Tally {
+    PassTally {
         refused,
         right,
         ..Tally::NONE
@@ -141,12 +141,12 @@ fn pulls<N: Name>(book: &mut Book<N>, tail: Tail, times: u32) -> Tally {
 
 // The calls that are timed. Of a sweep, right is a chunk that is freed. Its name is what callgrind is told to count.
 #[inline(never)]
-fn timed_calls<N: Name>(book: &mut Book<N>, call: Call, times: u32) -> Tally {
+fn timed_calls<N: Name>(book: &mut Book<N>, call: Call, times: u32) -> PassTally {
     match call {
         Call::LinkUnlink => links(book, times),
         Call::LinkUnlinkWords => wide_links(book, times),
         Call::Pull(tail) => pulls(book, tail, times),
-        Call::Sweep => Tally {
+        Call::Sweep => PassTally {
             right: u64::from(book.sweep()),
             ..Tally::NONE
         },

@@ -1,7 +1,7 @@
 //! Bumps that wait in a ring, and are applied by its lane.
 use crate::hits::touch_all;
 use crate::reads::Reads;
-use crate::tallies::{Spent, Tally};
+use crate::tallies::{PassTally, Spent};
 use bump_heads::Name;
 use bump_rules::{Applied, ItemId};
 use bump_store::{Lane, Store, Worker};
@@ -12,12 +12,12 @@ use std::time::Instant;
 // The calls that are timed: bumps are applied, each under the lock of its class, until none is left in the ring. Its
 // name is what callgrind is told to count.
 #[inline(never)]
-fn timed_drain<N: Name, R: Wait>(rt: &R, store: &Store<N>, lane: &mut Lane<N>) -> Tally {
+fn timed_drain<N: Name, R: Wait>(rt: &R, store: &Store<N>, lane: &mut Lane<N>) -> PassTally {
     let mut right: u64 = 0;
     let mut labels: u64 = 0;
     for _ in rt.forever() {
         let Some(entry) = lane.next(rt, store, 5) else {
-            return Tally {
+            return PassTally {
                 refused: 0,
                 right,
                 labels,

@@ -1,6 +1,6 @@
 //! Hits and gets of items: the loops that are timed of a worker's calls.
 use crate::stores::FURTHER;
-use crate::tallies::{Tally, one_more};
+use crate::tallies::{PassTally, one_more};
 use bump_readers::{Name, ReaderHeads};
 use bump_rules::{Dropped, ItemId, Touch};
 use bump_store::Worker;
@@ -8,7 +8,7 @@ use bump_store::Worker;
 /// What each hit of a pass comes to: an answer of its touch; that it asks first, and finds both marks; or that it takes
 /// whatever item is there, and finds them by that.
 #[derive(Clone, Copy)]
-pub enum Answer {
+pub enum HitAnswer {
     First,
     Already,
     Marked,
@@ -69,7 +69,7 @@ pub fn gets<N: Name>(
     worker: &mut Worker<N>,
     items: &[ItemId],
     rounds: u32,
-) -> Tally {
+) -> PassTally {
     let mut refused: u64 = 0;
     for _round in 0..rounds {
         for item in items {
@@ -79,7 +79,7 @@ pub fn gets<N: Name>(
             }
         }
     }
-    Tally {
+    PassTally {
         refused,
         ..Tally::NONE
     }
@@ -92,7 +92,7 @@ fn hits<W: Wanted, N: Name>(
     worker: &mut Worker<N>,
     items: &[ItemId],
     rounds: u32,
-) -> Tally {
+) -> PassTally {
     let mut refused: u64 = 0;
     let mut right: u64 = 0;
     let mut labels: u64 = 0;
@@ -112,7 +112,7 @@ fn hits<W: Wanted, N: Name>(
             }
         }
     }
-    Tally {
+    PassTally {
         refused,
         right,
         labels,
@@ -127,7 +127,7 @@ fn asked_hits<N: Name>(
     worker: &mut Worker<N>,
     items: &[ItemId],
     rounds: u32,
-) -> Tally {
+) -> PassTally {
     let mut refused: u64 = 0;
     let mut right: u64 = 0;
     let mut labels: u64 = 0;
@@ -148,7 +148,7 @@ fn asked_hits<N: Name>(
             }
         }
     }
-    Tally {
+    PassTally {
         refused,
         right,
         labels,
@@ -164,9 +164,9 @@ fn any_hits<N: Name>(
     worker: &mut Worker<N>,
     items: &[ItemId],
     rounds: u32,
-) -> Tally {
+) -> PassTally {
     if heads.further() < FURTHER {
-        return Tally::NONE;
+        return PassTally::NONE;
     }
     let mut refused: u64 = 0;
     let mut right: u64 = 0;
@@ -193,7 +193,7 @@ fn any_hits<N: Name>(
             }
         }
     }
-    Tally {
+    PassTally {
         refused,
         right,
         labels,
@@ -217,16 +217,16 @@ pub fn timed_pass<N: Name>(
     worker: &mut Worker<N>,
     items: &[ItemId],
     rounds: u32,
-    wanted: Option<Answer>,
-) -> Tally {
+    wanted: Option<HitAnswer>,
+) -> PassTally {
     match wanted {
-        Some(Answer::First) => hits::<First, N>(heads, worker, items, rounds),
-        Some(Answer::Already) => hits::<Already, N>(heads, worker, items, rounds),
-        Some(Answer::Marked) => hits::<Marked, N>(heads, worker, items, rounds),
-        Some(Answer::Queued) => hits::<Queued, N>(heads, worker, items, rounds),
-        Some(Answer::Full) => hits::<Full, N>(heads, worker, items, rounds),
-        Some(Answer::Asked) => asked_hits(heads, worker, items, rounds),
-        Some(Answer::Any) => any_hits(heads, worker, items, rounds),
+        Some(HitAnswer::First) => hits::<First, N>(heads, worker, items, rounds),
+        Some(HitAnswer::Already) => hits::<Already, N>(heads, worker, items, rounds),
+        Some(HitAnswer::Marked) => hits::<Marked, N>(heads, worker, items, rounds),
+        Some(HitAnswer::Queued) => hits::<Queued, N>(heads, worker, items, rounds),
+        Some(HitAnswer::Full) => hits::<Full, N>(heads, worker, items, rounds),
+        Some(HitAnswer::Asked) => asked_hits(heads, worker, items, rounds),
+        Some(HitAnswer::Any) => any_hits(heads, worker, items, rounds),
         None => gets(heads, worker, items, rounds),
     }
 }

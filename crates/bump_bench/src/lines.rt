@@ -1,5 +1,5 @@
 //! What is printed of a workload.
-use crate::tallies::{Spent, Tally};
+use crate::tallies::{PassTally, Spent};
 use std::alloc::AllocError;
 use std::io;
 
@@ -13,7 +13,7 @@ pub struct Subject {
 
 /// What was measured of it.
 #[derive(Clone, Copy)]
-pub struct Line {
+pub struct MeasuredLine {
     subject: Subject,
     passes: usize,
 
@@ -22,7 +22,7 @@ pub struct Line {
     median: u64,
 
     // What one pass counted.
-    tally: Tally,
+    tally: PassTally,
 }
 
 // So many nanoseconds for so many operations: hundredths of one for each.
@@ -30,11 +30,15 @@ fn hundredths(nanos: u64, operations: u64) -> u128 {
     u128::from(nanos) * 100 / u128::from(operations.max(1))
 }
 
-impl Line {
+impl MeasuredLine {
     /// By a first pass, and the nanoseconds of those that were timed.
-    pub fn new(subject: Subject, first: Spent, mut times: Vec<u64>) -> Result<Line, AllocError> {
+    pub fn new(
+        subject: Subject,
+        first: Spent,
+        mut times: Vec<u64>,
+    ) -> Result<MeasuredLine, AllocError> {
         times.sort()?;
-        Ok(Line {
+        Ok(MeasuredLine {
             subject,
             passes: times.len(),
             best: times.first().copied().unwrap_or(first.nanos),
@@ -53,7 +57,7 @@ impl Line {
         let best = hundredths(self.best, operations);
         let median = hundredths(self.median, operations);
         let each_second = u128::from(operations) * 1_000_000_000 / u128::from(self.best.max(1));
-        let Tally {
+        let PassTally {
             refused,
             right,
             labels,

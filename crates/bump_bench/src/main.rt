@@ -25,7 +25,7 @@ use asked::Asked;
 use bump_heads::{Blank, Name};
 use bump_rules::Config;
 use bump_store::Store;
-use lines::Line;
+use lines::MeasuredLine;
 use std::alloc::{AllocError, Global};
 use std::marker::Brand;
 use std::rt::Clock;
@@ -79,7 +79,7 @@ fn measure<R: Threads + Clock + Wait + Sync + Print>(
     for _pass in 0..asked.passes {
         times.push(pass(rt, alloc, work).ok_or(AllocError)?.nanos)?;
     }
-    Line::new(work.subject(), first, times)?.print(rt)
+    MeasuredLine::new(work.subject(), first, times)?.print(rt)
 }
 
 // Measures what is asked for, in the order of the tables.

@@ -1,7 +1,7 @@
 //! Moves to the front among lists of `bump_links`, by one thread.
 ghost use Rattle.std.specs.Prelude.{◌≡◌, ◌<◌, ◌≤◌, length, All, IfOk};
 
-use crate::tallies::{Spent, Tally};
+use crate::tallies::{PassTally, Spent};
 use bump_links::{Links, NODES_MAX};
 use std::alloc::{AllocError, Global};
 use std::rt::Clock;
@@ -108,7 +108,7 @@ impl Moves {
         make_moves(&mut links, &moves);
         let start = Instant::now(rt).ok()?;
         timed_moves(&mut links, &moves);
-        let tally = Tally {
+        let tally = PassTally {
             refused: 0,
             right: u64::from(TIMES),
             labels: u64::from(links.len(1)),

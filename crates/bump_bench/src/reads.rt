@@ -1,5 +1,5 @@
 //! What is measured of a worker's calls.
-use crate::hits::Answer;
+use crate::hits::HitAnswer;
 use crate::stores::{FURTHER, lives};
 use bump_rules::ItemId;
 use std::alloc::{AllocError, Global};
@@ -35,7 +35,7 @@ pub struct Reads {
     pub warm: bool,
 
     /// What each hit of the pass comes to. Without one the items are got and released alone.
-    pub wanted: Option<Answer>,
+    pub wanted: Option<HitAnswer>,
 
     /// How often the items are gone through.
     pub rounds: u32,
@@ -63,14 +63,14 @@ const GET: Reads = Reads {
 const HIT: Reads = Reads {
     name: "store_hit",
     touches: 2,
-    wanted: Some(Answer::Already),
+    wanted: Some(HitAnswer::Already),
     ..GET
 };
 
 // Each of these hits asks first, and leaves out its touch.
 const HIT_ASKED: Reads = Reads {
     name: "store_hit_asked",
-    wanted: Some(Answer::Asked),
+    wanted: Some(HitAnswer::Asked),
     ..HIT
 };
 
@@ -78,7 +78,7 @@ const HIT_ASKED: Reads = Reads {
 const HIT_ANY: Reads = Reads {
     name: "store_hit_any",
     further: FURTHER,
-    wanted: Some(Answer::Any),
+    wanted: Some(HitAnswer::Any),
     ..HIT
 };
 
@@ -93,14 +93,14 @@ const HOT: Reads = Reads {
 
 const HOT_ASKED: Reads = Reads {
     name: "store_hot_asked",
-    wanted: Some(Answer::Asked),
+    wanted: Some(HitAnswer::Asked),
     ..HOT
 };
 
 const FIRST: Reads = Reads {
     name: "store_first",
     items: 8_192,
-    wanted: Some(Answer::First),
+    wanted: Some(HitAnswer::First),
     rounds: 1,
     ..GET
 };
@@ -108,7 +108,7 @@ const FIRST: Reads = Reads {
 const MARKED: Reads = Reads {
     name: "store_marked",
     touches: 1,
-    wanted: Some(Answer::Marked),
+    wanted: Some(HitAnswer::Marked),
     ..FIRST
 };
 
@@ -117,7 +117,7 @@ const QUEUED: Reads = Reads {
     cold: true,
     capacity: 8_192,
     warm: true,
-    wanted: Some(Answer::Queued),
+    wanted: Some(HitAnswer::Queued),
     ..FIRST
 };
 
@@ -127,7 +127,7 @@ const FULL: Reads = Reads {
     capacity: 1,
     touches: 1,
     warm: false,
-    wanted: Some(Answer::Full),
+    wanted: Some(HitAnswer::Full),
     ..QUEUED
 };
 

@@ -2,7 +2,7 @@
 //! drainers at once.
 use crate::hits::touch_all;
 use crate::meeting::meet;
-use crate::tallies::{Spent, Tally};
+use crate::tallies::{PassTally, Spent};
 use bump_heads::Name;
 use bump_rules::ItemId;
 use bump_store::{Lane, Store, Worker};
@@ -21,7 +21,7 @@ pub const BUMPS: u32 = 8_192;
 /// A workload: each worker's ring is full of bumps of items of its own, which are of all classes in turn, and the
 /// drainers share the lanes.
 #[derive(Clone, Copy)]
-pub struct Runs {
+pub struct DrainRuns {
     pub name: &'static str,
 
     /// How many classes, workers and drainers there are: each 1, 2 or 4.
@@ -31,14 +31,14 @@ pub struct Runs {
 }
 
 // One lane, whose runs are of two classes.
-const TWO: Runs = Runs {
+const TWO: DrainRuns = DrainRuns {
     name: "store_runs",
     classes: 2,
     workers: 1,
     drainers: 1,
 };
 
-const FOUR: Runs = Runs {
+const FOUR: DrainRuns = DrainRuns {
     name: "store_lanes",
     classes: 4,
     workers: 4,
@@ -46,20 +46,20 @@ const FOUR: Runs = Runs {
 };
 
 /// Those that are measured.
-pub const RUNS: [Runs; 4] = [
+pub const RUNS: [DrainRuns; 4] = [
     TWO,
     FOUR,
-    Runs {
+    DrainRuns {
         drainers: 2,
         ..FOUR
     },
-    Runs {
+    DrainRuns {
         drainers: 4,
         ..FOUR
     },
 ];
 
-impl Runs {
+impl DrainRuns {
     /// How many chunks each class has.
     pub fn chunks(self) -> u32 {
         (BUMPS / self.classes.max(1)).wrapping_mul(self.workers)
@@ -91,7 +91,7 @@ pub fn queue_all<N: Name>(
     alloc: Global,
     store: &Store<N>,
     workers: &mut [Worker<N>],
-    runs: Runs,
+    runs: DrainRuns,
 ) -> Result<(), AllocError> {
     let mut number = 0u32;
     for worker in workers {
@@ -104,12 +104,12 @@ pub fn queue_all<N: Name>(
 
 // The calls that are timed: each lane is drained once. Its name is what callgrind is told to count.
 #[inline(never)]
-fn timed_drains<N: Name, R: Wait>(rt: &R, store: &Store<N>, lanes: &mut [Lane<N>]) -> Tally {
+fn timed_drains<N: Name, R: Wait>(rt: &R, store: &Store<N>, lanes: &mut [Lane<N>]) -> PassTally {
     let mut right: u64 = 0;
     for lane in lanes {
         right = right.wrapping_add(lane.drain(rt, store, 5));
     }
-    Tally {
+    PassTally {
         right,
         ..Tally::NONE
     }

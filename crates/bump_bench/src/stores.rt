@@ -11,7 +11,7 @@ pub const FURTHER: u32 = 2;
 
 /// A store as a workload wants it.
 #[derive(Clone, Copy)]
-pub struct Shape {
+pub struct StoreShape {
     /// How many classes there are, all of them alike.
     pub classes: u32,
     pub class: ClassConfig,
@@ -49,10 +49,10 @@ fn fill<N: Name>(book: &mut Book<N>, items: u32, cold: bool) {
     }
 }
 
-impl Shape {
+impl StoreShape {
     /// A store in which an item is linked in each chunk. HOT and WARM may have nothing.
-    pub fn full(classes: u32, chunks: u32, workers: u32, capacity: u32, cold: bool) -> Shape {
-        Shape {
+    pub fn full(classes: u32, chunks: u32, workers: u32, capacity: u32, cold: bool) -> StoreShape {
+        StoreShape {
             classes,
             class: ClassConfig {
                 chunks,

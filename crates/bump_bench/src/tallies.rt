@@ -4,7 +4,7 @@ use std::time::Instant;
 
 /// What is counted of a pass, so that each step has a use.
 #[derive(Clone, Copy)]
-pub struct Tally {
+pub struct PassTally {
     /// Calls that were refused.
     pub refused: u64,
 
@@ -15,17 +15,17 @@ pub struct Tally {
     pub labels: u64,
 }
 
-impl Tally {
+impl PassTally {
     /// A tally of nothing.
-    pub const NONE: Tally = Tally {
+    pub const NONE: PassTally = PassTally {
         refused: 0,
         right: 0,
         labels: 0,
     };
 
     /// Both together.
-    pub fn and(self, other: Tally) -> Tally {
-        Tally {
+    pub fn and(self, other: PassTally) -> PassTally {
+        PassTally {
             refused: self.refused.wrapping_add(other.refused),
             right: self.right.wrapping_add(other.right),
             labels: self.labels.wrapping_add(other.labels),
@@ -44,18 +44,18 @@ pub fn one_more(refused: u64) -> u64 {
 #[derive(Clone, Copy)]
 pub struct Spent {
     pub nanos: u64,
-    pub tally: Tally,
+    pub tally: PassTally,
 }
 
 impl Spent {
     /// No time, and nothing counted.
     pub const NONE: Spent = Spent {
         nanos: 0,
-        tally: Tally::NONE,
+        tally: PassTally::NONE,
     };
 
     /// The time since then, and what was counted meanwhile. None where the clock is refused.
-    pub fn since<R: Clock>(rt: &R, start: Instant, tally: Tally) -> Option<Spent> {
+    pub fn since<R: Clock>(rt: &R, start: Instant, tally: PassTally) -> Option<Spent> {
         let spent = start.elapsed(rt).ok()?;
         Some(Spent {
             nanos: u64::try_from(spent.as_nanos()).unwrap_or(u64::MAX),

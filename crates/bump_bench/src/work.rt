@@ -3,8 +3,8 @@ use crate::calls::Calls;
 use crate::lines::Subject;
 use crate::moves::{Moves, TIMES};
 use crate::reads::Reads;
-use crate::runs::{BUMPS, Runs};
-use crate::stores::Shape;
+use crate::runs::{BUMPS, DrainRuns};
+use crate::stores::StoreShape;
 use bump_rules::ClassConfig;
 
 /// A workload.
@@ -14,7 +14,7 @@ pub enum Work {
     Reads(Reads),
 
     /// Bumps of several classes, which are drained in runs.
-    Runs(Runs),
+    DrainRuns(DrainRuns),
 
     /// A Book's calls.
     Calls(Calls),
@@ -51,20 +51,20 @@ impl Work {
     }
 
     /// The store that it wants, if it wants one.
-    pub fn shape(self) -> Option<Shape> {
+    pub fn shape(self) -> Option<StoreShape> {
         match self {
-            Work::Reads(reads) => Some(Shape {
+            Work::Reads(reads) => Some(StoreShape {
                 further: reads.further,
                 ..Shape::full(1, reads.chunks(), reads.threads, reads.capacity, reads.cold)
             }),
-            Work::Runs(runs) => Some(Shape::full(
+            Work::Runs(runs) => Some(StoreShape::full(
                 runs.classes,
                 runs.chunks(),
                 runs.workers,
                 BUMPS,
                 true,
             )),
-            Work::Calls(calls) => Some(Shape {
+            Work::Calls(calls) => Some(StoreShape {
                 classes: 1,
                 class: calls.class,
                 further: calls.further,

@@ -15,9 +15,9 @@ use Rattle.std_alloc.specs.contracts.boxed.Box as Box
 use Rattle.std_heap.specs.contracts.Global as Heap
 use Rattle.std_heap.specs.contracts.GlobalAllocator.TheImpl.{ghosts, dict}
 use Rattle.std_heap.proofs.Global.TheLaws as heap
-use Rattle.box_parts.specs.contracts.parts.Parts as Parts
+use Rattle.box_parts.specs.contracts.parts.BoxParts as Parts
 use Rattle.atomic_table.specs.Seated.{TableId}
-use Rattle.bump_c.specs.One.{IsOne, as_fact, alone}
+use Rattle.bump_c.specs.One.{IsOne, as_fact, trivial_proposition}
 
 -- a box of what has this row, with its laws
 abbrev pub boxed : (R : RattleType) → Laws R → Bx
@@ -36,11 +36,11 @@ PartsName R = (Parts.the_type R Heap.the_row ghosts).name
 
 module _ {M : Type 1} {𝓤 : Ura M} (𝓛 : Logic 𝓤) (A : Type 0) (is : IsOne A) where
   -- what is owned where a type of one value stands for the name is owned where the unit does
-  pub unnamed : (own : HProp {0} → Fml) → ent 𝓤 (sem 𝓛 (own (as_fact A is))) (sem 𝓛 (own alone))
-  unnamed own = subst (λ (B : HProp {0}). ent 𝓤 (sem 𝓛 (own (as_fact A is))) (sem 𝓛 (own B))) (HProp-ext (as_fact A is) alone (λ _. tt) (λ _. is.value)) (id⊢ 𝓤 _)
+  pub unnamed : (own : HProp {0} → Fml) → ent 𝓤 (sem 𝓛 (own (as_fact A is))) (sem 𝓛 (own trivial_proposition))
+  unnamed own = subst (λ (B : HProp {0}). ent 𝓤 (sem 𝓛 (own (as_fact A is))) (sem 𝓛 (own B))) (HProp-ext (as_fact A is) trivial_proposition (λ _. tt) (λ _. is.value)) (id⊢ 𝓤 _)
 
   -- and the other way round, at an equal table
-  pub named_again : (own : HProp {0} → TableId → Fml) {y z : TableId} → y ≡ z → ent 𝓤 (sem 𝓛 (own alone y)) (sem 𝓛 (own (as_fact A is) z))
+  pub named_again : (own : HProp {0} → TableId → Fml) {y z : TableId} → y ≡ z → ent 𝓤 (sem 𝓛 (own trivial_proposition y)) (sem 𝓛 (own (as_fact A is) z))
   named_again own {y} same =
-      subst (λ (t : TableId). ent 𝓤 (sem 𝓛 (own alone y)) (sem 𝓛 (own (as_fact A is) t))) same
-      (subst (λ (B : HProp {0}). ent 𝓤 (sem 𝓛 (own B y)) (sem 𝓛 (own (as_fact A is) y))) (HProp-ext (as_fact A is) alone (λ _. tt) (λ _. is.value)) (id⊢ 𝓤 _))
+      subst (λ (t : TableId). ent 𝓤 (sem 𝓛 (own trivial_proposition y)) (sem 𝓛 (own (as_fact A is) t))) same
+      (subst (λ (B : HProp {0}). ent 𝓤 (sem 𝓛 (own B y)) (sem 𝓛 (own (as_fact A is) y))) (HProp-ext (as_fact A is) trivial_proposition (λ _. tt) (λ _. is.value)) (id⊢ 𝓤 _))

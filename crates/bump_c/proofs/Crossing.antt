@@ -35,45 +35,45 @@ use Rattle.bump_handles.specs.contracts.opening.Opened as Opened
 use Rattle.bump_handles.specs.contracts.readers.Reader as Reader
 use Rattle.bump_handles.proofs.books.TaggedBook.TheSendSync as tagged_book
 use Rattle.bump_handles.proofs.readers.Reader.TheSendSync as reader
-use Rattle.bump_c.specs.One.{any, alone}
+use Rattle.bump_c.specs.One.{any, trivial_proposition}
 use Rattle.bump_c.specs.Seals.{owns}
 
 module _ (z : TableId) where
-  abbrev named : Ghosts (any alone).Denot
+  abbrev named : Ghosts (any trivial_proposition).Denot
   named = record { table = z }
 
   -- what is left of a ring's sending end
-  finished_sends : IsSend (Finished.the_row (Rider.the_row (any alone) named) Heap.the_row (Numbered.the_row (any alone)) ghosts (protocol.ghosts (any alone) named protocol.no_dict))
-  finished_sends = finished.the_send (Rider.the_row (any alone) named) Heap.the_row (Numbered.the_row (any alone)) ghosts (protocol.ghosts (any alone) named protocol.no_dict) (rider.the_send (any alone) named) handle.the_send the_frees
+  finished_sends : IsSend (Finished.the_row (Rider.the_row (any trivial_proposition) named) Heap.the_row (Numbered.the_row (any trivial_proposition)) ghosts (protocol.ghosts (any trivial_proposition) named protocol.no_dict))
+  finished_sends = finished.the_send (Rider.the_row (any trivial_proposition) named) Heap.the_row (Numbered.the_row (any trivial_proposition)) ghosts (protocol.ghosts (any trivial_proposition) named protocol.no_dict) (rider.the_send (any trivial_proposition) named) handle.the_send the_frees
 
-  closed_sender : IsSend (ClosedSender.the_row (any alone) named)
+  closed_sender : IsSend (ClosedSender.the_row (any trivial_proposition) named)
   closed_sender = search (sendable, crosses, finished_sends) depth 20
 
-  seat_sends : IsSend (Seat.the_row (any alone) named)
-  seat_sends = seat.the_send (any alone) named
+  seat_sends : IsSend (Seat.the_row (any trivial_proposition) named)
+  seat_sends = seat.the_send (any trivial_proposition) named
 
-  closed_worker : IsSend (ClosedWorker.the_row (any alone) named)
+  closed_worker : IsSend (ClosedWorker.the_row (any trivial_proposition) named)
   closed_worker = search (sendable, crosses, seat_sends, closed_sender) depth 20
 
-  raw_lane_sends : IsSend (RawLane.the_row (any alone) AnyRow.the_row named any_row.ghosts)
-  raw_lane_sends = raw_lane.the_send (any alone) AnyRow.the_row named any_row.ghosts
+  raw_lane_sends : IsSend (RawLane.the_row (any trivial_proposition) AnyRow.the_row named any_row.ghosts)
+  raw_lane_sends = raw_lane.the_send (any trivial_proposition) AnyRow.the_row named any_row.ghosts
 
   -- a lane
-  pub lane_sends : IsSend (Drainer.the_row (any alone) named)
+  pub lane_sends : IsSend (Drainer.the_row (any trivial_proposition) named)
   lane_sends = search (sendable, crosses, raw_lane_sends, closed_worker) depth 20
 
   -- a worker
-  pub worker_sends : IsSend (Reader.the_row (any alone) named)
-  worker_sends = reader.the_send (any alone) named
+  pub worker_sends : IsSend (Reader.the_row (any trivial_proposition) named)
+  worker_sends = reader.the_send (any trivial_proposition) named
 
   -- a book
-  pub book_sends : IsSend (TaggedBook.the_row (any alone) named)
-  book_sends = tagged_book.the_send (any alone) named
+  pub book_sends : IsSend (TaggedBook.the_row (any trivial_proposition) named)
+  book_sends = tagged_book.the_send (any trivial_proposition) named
 
   -- what is still to be taken out of a store
-  pub store_sends : IsSend (Opened.the_row (any alone) named)
+  pub store_sends : IsSend (Opened.the_row (any trivial_proposition) named)
   store_sends = search (sendable, crosses, worker_sends, book_sends, lane_sends) depth 20
 
 -- what a handle owns of a part whose row names no thread
-pub owned_sends : (row : HProp {0} → TableId → RattleType) → ((z : TableId) → IsSend (row alone z)) → (alloc : Global) (p : Ptr) (z : TableId) (v : (row alone z).Denot) → Keyless (owns row alloc p z v)
-owned_sends row sends alloc p z v = (lies (row alone z) (sends z) p v, frees.frees alloc (raw (lone (row alone z).mir)) p)
+pub owned_sends : (row : HProp {0} → TableId → RattleType) → ((z : TableId) → IsSend (row trivial_proposition z)) → (alloc : Global) (p : Ptr) (z : TableId) (v : (row trivial_proposition z).Denot) → Keyless (owns row alloc p z v)
+owned_sends row sends alloc p z v = (lies (row trivial_proposition z) (sends z) p v, frees.frees alloc (raw (lone (row trivial_proposition z).mir)) p)

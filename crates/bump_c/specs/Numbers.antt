@@ -81,9 +81,9 @@ abbrev pub labelled_of : Option ℕ → Labelled
 labelled_of None = record { answer = 1; label = 0 }
 labelled_of (Some label) = record { answer = 0; label = label }
 
-abbrev pub hit_of : Result WholeHit GetRefusal → HitTold
-hit_of (Ok whole) = record { got = 0; touch = number_of_touch whole.touch; label = whole.label }
-hit_of (Err refusal) = record { got = number_of_refusal refusal; touch = 8; label = 0 }
+abbrev pub told_of_hit : Result WholeHit GetRefusal → HitTold
+told_of_hit (Ok whole) = record { got = 0; touch = number_of_touch whole.touch; label = whole.label }
+told_of_hit (Err refusal) = record { got = number_of_refusal refusal; touch = 8; label = 0 }
 
 abbrev pub counts_of : Accounts → Counts
 counts_of accounts = record {
@@ -126,14 +126,14 @@ number_of_tail tail.Evict = 3
 abbrev pub pulled_as : ℕ → ItemId → ItemTold
 pulled_as number item = record { answer = number; chunk = item.chunk; generation = item.generation }
 
-abbrev pub pulled_of : Pulled → ItemTold
-pulled_of pulled.Empty = record { answer = 0; chunk = 0; generation = 0 }
-pulled_of (pulled.Stay item) = pulled_as 1 item
-pulled_of (pulled.Warm item) = pulled_as 2 item
-pulled_of (pulled.Again item) = pulled_as 3 item
-pulled_of (pulled.Cold item) = pulled_as 4 item
-pulled_of (pulled.Freed item) = pulled_as 5 item
-pulled_of (pulled.Deferred item) = pulled_as 6 item
+abbrev pub told_of_pulled : Pulled → ItemTold
+told_of_pulled pulled.Empty = record { answer = 0; chunk = 0; generation = 0 }
+told_of_pulled (pulled.Stay item) = pulled_as 1 item
+told_of_pulled (pulled.Warm item) = pulled_as 2 item
+told_of_pulled (pulled.Again item) = pulled_as 3 item
+told_of_pulled (pulled.Cold item) = pulled_as 4 item
+told_of_pulled (pulled.Freed item) = pulled_as 5 item
+told_of_pulled (pulled.Deferred item) = pulled_as 6 item
 
 abbrev pub no_such_tail : ItemTold
 no_such_tail = record { answer = 7; chunk = 0; generation = 0 }

@@ -19,8 +19,8 @@ pub record IsOne (A : Type 0) : Type 0 where
 abbrev pub as_fact : (A : Type 0) → IsOne A → HProp {0}
 as_fact A is = (A, λ a b. sym (is.no_other a) ∙ is.no_other b)
 
-abbrev pub alone : HProp {0}
-alone = (Unit {0}, λ a b. refl)
+abbrev pub trivial_proposition : HProp {0}
+trivial_proposition = (Unit {0}, λ a b. refl)
 
 -- a row with these values, and nothing else to tell
 abbrev pub any : HProp {0} → RattleType

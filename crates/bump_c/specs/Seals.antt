@@ -11,7 +11,7 @@ use Rattle.std.specs.Global.{Global}
 use Rattle.std_heap.specs.contracts.GlobalAllocator.TheImpl.{ghosts}
 use Rattle.atomic_table.specs.Seated.{TableId, table_id_coded}
 use Rattle.bump_readers.specs.declared.names.Name.{Ghosts}
-use Rattle.bump_c.specs.One.{any, alone, some_table}
+use Rattle.bump_c.specs.One.{any, trivial_proposition, some_table}
 use Rattle.bump_handles.specs.contracts.books.TaggedBook as Book
 use Rattle.bump_handles.specs.contracts.drainers.Drainer as Lane
 use Rattle.bump_handles.specs.contracts.opening.Opened as Store
@@ -36,12 +36,12 @@ worker_row A z = Worker.the_row (any A) (named A z)
 
 module _ (row : HProp {0} → TableId → RattleType) where
   -- what a handle of such a part owns
-  abbrev pub owns : Global → Ptr → (z : TableId) → (row alone z).Denot → Fml
-  owns alloc p z = box_owns (ghosts.dealloc_token alloc) (row alone z) p
+  abbrev pub owns : Global → Ptr → (z : TableId) → (row trivial_proposition z).Denot → Fml
+  owns alloc p z = box_owns (ghosts.dealloc_token alloc) (row trivial_proposition z) p
 
   -- how its value is coded
-  abbrev pub part_coded : Coded (row alone some_table).Denot
-  part_coded = (row alone some_table).coded
+  abbrev pub part_coded : Coded (row trivial_proposition some_table).Denot
+  part_coded = (row trivial_proposition some_table).coded
 
 module _ {V : Type 0} where
   -- what a slot owns: nothing while it is empty, else what a handle at its address owns

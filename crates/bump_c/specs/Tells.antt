@@ -18,7 +18,7 @@ use Rattle.bump_handles.specs.declared.drainers.Rested.{Rested}
 use Rattle.bump_handles.specs.declared.readers.Taken.{Taken}
 use Rattle.bump_handles.specs.declared.readers.WholeHit.{WholeHit}
 use Rattle.bump_handles.specs.Applying.{TellsClass, DrainerRests}
-use Rattle.bump_handles.specs.Booking.{BookLinks, BookUnlinks, BookPulls, BookSees, AreMoves}
+use Rattle.bump_handles.specs.Booking.{BookLinks, BookUnlinks, BookPulls, BookSees, AreMovesOfWorker}
 use Rattle.bump_handles.specs.Reading.{ReaderGets, ReaderTouches, ReaderReads, ReaderHits}
 use Rattle.bump_handles.specs.Views.{ReaderView, TaggedBookView, DrainerView}
 use Rattle.bump_c.specs.declared.answers.HitTold.{HitTold}
@@ -27,8 +27,8 @@ use Rattle.bump_c.specs.declared.answers.Labelled.{Labelled}
 use Rattle.bump_c.specs.declared.answers.RestTold.{RestTold}
 use Rattle.bump_c.specs.declared.answers.Seen.{Seen}
 use Rattle.bump_c.specs.declared.answers.Touched.{Touched}
-use Rattle.bump_c.specs.Numbers.{number_of_taken, touched_of, labelled_of, hit_of, linked_of, number_of_unlinked}
-use Rattle.bump_c.specs.Numbers.{number_of_tail, pulled_of, no_such_tail, seen_of, moves_of_answer, class_of_answer}
+use Rattle.bump_c.specs.Numbers.{number_of_taken, touched_of, labelled_of, told_of_hit, linked_of, number_of_unlinked}
+use Rattle.bump_c.specs.Numbers.{number_of_tail, told_of_pulled, no_such_tail, seen_of, moves_of_answer, class_of_answer}
 use Rattle.bump_c.specs.Numbers.{rest_of}
 
 -- ---- a reader's calls
@@ -46,7 +46,7 @@ TellsLabel hold before after said = (answer : Option ℕ) × (said ≡ labelled_
     × ReaderReads hold before after answer
 
 abbrev pub TellsHit : ℕ → ℕ → ℕ → ReaderView → ReaderView → HitTold → Type 0
-TellsHit chunk generation now before after said = (answer : Result WholeHit GetRefusal) × (said ≡ hit_of answer)
+TellsHit chunk generation now before after said = (answer : Result WholeHit GetRefusal) × (said ≡ told_of_hit answer)
     × ReaderHits (life chunk generation) now before after answer
 
 -- ---- a class's calls
@@ -62,7 +62,7 @@ TellsUnlink chunk generation before after said = (answer : Result Ended UnlinkRe
 -- a pull of the list with this number; or there is none, and nothing is changed
 abbrev pub TellsPull : ℕ → TaggedBookView → TaggedBookView → ItemTold → Type 0
 TellsPull tail before after said =
-    ((pull : Tail) × (answer : Pulled) × (tail ≡ number_of_tail pull) × (said ≡ pulled_of answer)
+    ((pull : Tail) × (answer : Pulled) × (tail ≡ number_of_tail pull) × (said ≡ told_of_pulled answer)
     × BookPulls pull before after answer)
     ⊎ ((3 < tail) × (said ≡ no_such_tail) × (after ≡ before))
 
@@ -76,8 +76,8 @@ abbrev pub TellsSeen : ℕ → TaggedBookView → TaggedBookView → Seen → Ty
 TellsSeen chunk before after said = (answer : Option (Head × ℕ)) × (said ≡ seen_of answer)
     × BookSees chunk before after answer
 
-abbrev pub TellsMoves : ℕ → TaggedBookView → ℕ → Type 0
-TellsMoves worker book said = (answer : Option ℕ) × (said ≡ moves_of_answer answer) × AreMoves worker book answer
+abbrev pub TellsMoveCount : ℕ → TaggedBookView → ℕ → Type 0
+TellsMoveCount worker book said = (answer : Option ℕ) × (said ≡ moves_of_answer answer) × AreMovesOfWorker worker book answer
 
 -- ---- a lane's calls
 

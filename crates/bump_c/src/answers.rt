@@ -2,8 +2,8 @@
 ghost use Rattle.std.specs.Prelude.{◌≡◌, ◌<◌, IfSome, IfNone};
 ghost use Rattle.bump_rules.specs.Places.{place_number};
 ghost use Rattle.bump_c.specs.Numbers.{number_of_taken, number_of_refusal, number_of_touch, bump_of_touch, touched_of};
-ghost use Rattle.bump_c.specs.Numbers.{labelled_of, hit_of, counts_of, number_of_not_closed, linked_of};
-ghost use Rattle.bump_c.specs.Numbers.{number_of_unlinked, number_of_tail, pulled_as, pulled_of, number_of_segment};
+ghost use Rattle.bump_c.specs.Numbers.{labelled_of, told_of_hit, counts_of, number_of_not_closed, linked_of};
+ghost use Rattle.bump_c.specs.Numbers.{number_of_unlinked, number_of_tail, pulled_as, told_of_pulled, number_of_segment};
 ghost use Rattle.bump_c.specs.Numbers.{seen_of, number_of_rest, rest_of, number_of_fault};
 
 use bump_class::{LinkRefusal, UnlinkRefusal};
@@ -248,7 +248,7 @@ pub fn label_told(answer: Option<u64>) -> Labelled
 /// A whole hit, as C reads it.
 #[inline(always)]
 pub fn hit_told(answer: Result<WholeHit, GetRefusal>) -> HitTold
-    ensures { result ≡ hit_of answer }
+    ensures { result ≡ told_of_hit answer }
 {
     match answer {
         Ok(whole) => HitTold {
@@ -362,7 +362,7 @@ fn pulled_item(number: u32, item: ItemId) -> ItemTold
 
 /// A pull's answer, as C reads it.
 pub fn pulled_told(answer: Pulled) -> ItemTold
-    ensures { result ≡ pulled_of answer }
+    ensures { result ≡ told_of_pulled answer }
 {
     match answer {
         Pulled::Empty => ItemTold {

@@ -5,7 +5,7 @@ ghost use Rattle.bump_handles.specs.Views.{TaggedBookView};
 ghost use Rattle.bump_c.specs.One.{IsOne};
 ghost use Rattle.bump_c.specs.Seals.{book_row, owns, part_coded, slot_owns, slot_coded};
 
-use box_parts::Parts;
+use box_parts::BoxParts;
 use bump_handles::TaggedBook;
 use bump_heads::Name;
 use std::alloc::Global;
@@ -25,25 +25,25 @@ impl Model for BookHandle {
 }
 
 impl BookHandle {
-    pub(crate) fn of_parts<N: Name>(parts: Parts<TaggedBook<N>, Global>) -> BookHandle
+    pub(crate) fn of_parts<N: Name>(parts: BoxParts<TaggedBook<N>, Global>) -> BookHandle
         requires one { IsOne N }
         ensures table { result.table ≡ N.table }
         ensures held { result.held ≡ parts.value }
     {
-        let Parts { ptr, alloc } = parts;
+        let BoxParts { ptr, alloc } = parts;
         BookHandle {
             ptr: ptr as *mut (),
             alloc,
         }
     }
 
-    pub(crate) fn into_parts<N: Name>(self) -> Parts<TaggedBook<N>, Global>
+    pub(crate) fn into_parts<N: Name>(self) -> BoxParts<TaggedBook<N>, Global>
         requires table { self.table ≡ N.table }
         requires one { IsOne N }
         ensures { result.value ≡ self.held }
     {
         let BookHandle { ptr, alloc } = self;
-        Parts {
+        BoxParts {
             ptr: ptr as *mut TaggedBook<N>,
             alloc,
         }
@@ -64,11 +64,11 @@ impl Model for BookSlot {
 }
 
 impl BookSlot {
-    pub(crate) fn of_parts<N: Name>(parts: Parts<TaggedBook<N>, Global>) -> BookSlot
+    pub(crate) fn of_parts<N: Name>(parts: BoxParts<TaggedBook<N>, Global>) -> BookSlot
         requires one { IsOne N }
         ensures { result.slot ≡ (N.table, parts.value) ∷ [] }
     {
-        let Parts { ptr, alloc } = parts;
+        let BoxParts { ptr, alloc } = parts;
         BookSlot {
             ptr: ptr as *mut (),
             alloc,

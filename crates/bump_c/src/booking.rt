@@ -6,14 +6,14 @@ ghost use Rattle.bump_rules.specs.Lists.{list_at};
 ghost use Rattle.bump_rules.specs.Places.{place_number};
 ghost use Rattle.bump_handles.specs.Booking.{BookSweeps};
 ghost use Rattle.bump_c.specs.One.{IsOne};
-ghost use Rattle.bump_c.specs.Tells.{TellsLink, TellsUnlink, TellsPull, TellsSize, TellsSeen, TellsMoves};
+ghost use Rattle.bump_c.specs.Tells.{TellsLink, TellsUnlink, TellsPull, TellsSize, TellsSeen, TellsMoveCount};
 
 use crate::answers::{
     ItemTold, LimitsTold, Seen, Walked, linked_told, place_of, pulled_told, seen_told, tail_of,
     unlinked_number,
 };
 use crate::book_handle::BookHandle;
-use box_parts::Parts;
+use box_parts::BoxParts;
 use bump_readers::Name;
 use bump_rules::ItemId;
 use std::alloc::Global;
@@ -33,7 +33,7 @@ fn link_named<N: Name>(h: BookHandle, label: u64, now: u64) -> (BookHandle, Item
 {
     let mut it = h.into_parts::<N>().into_box();
     let said = linked_told(it.link(label, now));
-    (BookHandle::of_parts(Parts::of(it)), said)
+    (BookHandle::of_parts(BoxParts::of(it)), said)
 }
 
 fn link_at(h: BookHandle, label: u64, now: u64) -> (BookHandle, ItemTold)
@@ -64,7 +64,7 @@ fn link_temp_named<N: Name>(h: BookHandle, label: u64, now: u64) -> (BookHandle,
 {
     let mut it = h.into_parts::<N>().into_box();
     let said = linked_told(it.link_temp(label, now));
-    (BookHandle::of_parts(Parts::of(it)), said)
+    (BookHandle::of_parts(BoxParts::of(it)), said)
 }
 
 fn link_temp_at(h: BookHandle, label: u64, now: u64) -> (BookHandle, ItemTold)
@@ -95,7 +95,7 @@ fn unlink_named<N: Name>(h: BookHandle, chunk: u32, generation: u32) -> (BookHan
 {
     let mut it = h.into_parts::<N>().into_box();
     let said = unlinked_number(it.unlink(ItemId { chunk, generation }));
-    (BookHandle::of_parts(Parts::of(it)), said)
+    (BookHandle::of_parts(BoxParts::of(it)), said)
 }
 
 fn unlink_at(h: BookHandle, chunk: u32, generation: u32) -> (BookHandle, u32)
@@ -129,7 +129,7 @@ fn pull_named<N: Name>(h: BookHandle, tail: u32) -> (BookHandle, ItemTold)
     };
     let mut it = h.into_parts::<N>().into_box();
     let said = pulled_told(it.pull(list));
-    (BookHandle::of_parts(Parts::of(it)), said)
+    (BookHandle::of_parts(BoxParts::of(it)), said)
 }
 
 fn pull_at(h: BookHandle, tail: u32) -> (BookHandle, ItemTold)
@@ -160,7 +160,7 @@ fn sweep_named<N: Name>(h: BookHandle) -> (BookHandle, u32)
 {
     let mut it = h.into_parts::<N>().into_box();
     let said = it.sweep();
-    (BookHandle::of_parts(Parts::of(it)), said)
+    (BookHandle::of_parts(BoxParts::of(it)), said)
 }
 
 fn sweep_at(h: BookHandle) -> (BookHandle, u32)
@@ -193,7 +193,7 @@ fn size_named<N: Name>(h: BookHandle, place: u32) -> (BookHandle, u32)
     };
     let it = h.into_parts::<N>().into_box();
     let said = it.size(list);
-    (BookHandle::of_parts(Parts::of(it)), said)
+    (BookHandle::of_parts(BoxParts::of(it)), said)
 }
 
 fn size_at(h: BookHandle, place: u32) -> (BookHandle, u32)
@@ -226,7 +226,7 @@ fn see_named<N: Name>(h: BookHandle, chunk: u32) -> (BookHandle, Seen)
 {
     let mut it = h.into_parts::<N>().into_box();
     let said = seen_told(it.see(chunk));
-    (BookHandle::of_parts(Parts::of(it)), said)
+    (BookHandle::of_parts(BoxParts::of(it)), said)
 }
 
 fn see_at(h: BookHandle, chunk: u32) -> (BookHandle, Seen)
@@ -254,17 +254,17 @@ fn moves_named<N: Name>(h: BookHandle, worker: u32) -> (BookHandle, u64)
     requires one { IsOne N }
     ensures table { result.0.table ≡ h.table }
     ensures held { result.0.held ≡ h.held }
-    ensures moves { TellsMoves worker h.held result.1 }
+    ensures moves { TellsMoveCount worker h.held result.1 }
 {
     let it = h.into_parts::<N>().into_box();
     let said = it.moves(worker).unwrap_or(u64::MAX);
-    (BookHandle::of_parts(Parts::of(it)), said)
+    (BookHandle::of_parts(BoxParts::of(it)), said)
 }
 
 fn moves_at(h: BookHandle, worker: u32) -> (BookHandle, u64)
     ensures table { result.0.table ≡ h.table }
     ensures held { result.0.held ≡ h.held }
-    ensures moves { TellsMoves worker h.held result.1 }
+    ensures moves { TellsMoveCount worker h.held result.1 }
 {
     moves_named::<Brand>(h, worker)
 }
@@ -274,7 +274,7 @@ fn moves_at(h: BookHandle, worker: u32) -> (BookHandle, u64)
 pub extern "C" fn bump_moves(book: &mut BookHandle, worker: u32) -> u64
     ensures table { book.new.table ≡ book.old.table }
     ensures held { book.new.held ≡ book.old.held }
-    ensures moves { TellsMoves worker book.old.held result }
+    ensures moves { TellsMoveCount worker book.old.held result }
 {
     core::mem::replace_with(
         book,
@@ -293,7 +293,7 @@ fn limits_named<N: Name>(h: BookHandle) -> (BookHandle, LimitsTold)
     let it = h.into_parts::<N>().into_box();
     let (hot, warm) = it.limits();
     (
-        BookHandle::of_parts(Parts::of(it)),
+        BookHandle::of_parts(BoxParts::of(it)),
         LimitsTold { hot, warm },
     )
 }
@@ -353,10 +353,10 @@ fn walk_named<N: Name>(
     };
     let it = h.into_parts::<N>().into_box();
     let Ok(chunks) = it.walk(alloc, list) else {
-        return (BookHandle::of_parts(Parts::of(it)), Err(2));
+        return (BookHandle::of_parts(BoxParts::of(it)), Err(2));
     };
     let size = it.size(list);
-    (BookHandle::of_parts(Parts::of(it)), Ok((chunks, size)))
+    (BookHandle::of_parts(BoxParts::of(it)), Ok((chunks, size)))
 }
 
 fn walk_at(h: BookHandle, alloc: Global, place: u32) -> (BookHandle, Result<(Vec<u32>, u32), u32>)

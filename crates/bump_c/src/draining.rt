@@ -10,7 +10,7 @@ use crate::answers::{Ran, RestTold, not_closed_number, rest_told};
 use crate::book_handle::BookHandle;
 use crate::lane_handle::LaneHandle;
 use crate::worker_handle::{WorkerHandle, WorkerSlot};
-use box_parts::{Parts, replace_both};
+use box_parts::{BoxParts, replace_both};
 use bump_readers::Name;
 use std::marker::Brand;
 
@@ -22,7 +22,7 @@ fn lane_class_named<N: Name>(h: LaneHandle) -> (LaneHandle, u32)
 {
     let mut it = h.into_parts::<N>().into_box();
     let said = it.next_class().unwrap_or(u32::MAX);
-    (LaneHandle::of_parts(Parts::of(it)), said)
+    (LaneHandle::of_parts(BoxParts::of(it)), said)
 }
 
 fn lane_class_at(h: LaneHandle) -> (LaneHandle, u32)
@@ -51,7 +51,7 @@ fn rest_named<N: Name>(h: LaneHandle) -> (LaneHandle, RestTold)
 {
     let mut it = h.into_parts::<N>().into_box();
     let said = rest_told(it.rest());
-    (LaneHandle::of_parts(Parts::of(it)), said)
+    (LaneHandle::of_parts(BoxParts::of(it)), said)
 }
 
 fn rest_at(h: LaneHandle) -> (LaneHandle, RestTold)
@@ -83,7 +83,7 @@ fn book_store_named<N: Name>(h: BookHandle) -> (BookHandle, u64)
 {
     let it = h.into_parts::<N>().into_box();
     let said = it.store();
-    (BookHandle::of_parts(Parts::of(it)), said)
+    (BookHandle::of_parts(BoxParts::of(it)), said)
 }
 
 // The number of the store of a book.
@@ -104,7 +104,7 @@ fn lane_store_named<N: Name>(h: LaneHandle) -> (LaneHandle, u64)
 {
     let it = h.into_parts::<N>().into_box();
     let said = it.store();
-    (LaneHandle::of_parts(Parts::of(it)), said)
+    (LaneHandle::of_parts(BoxParts::of(it)), said)
 }
 
 // The number of the store of a lane.
@@ -125,7 +125,7 @@ fn worker_store_named<N: Name>(h: WorkerHandle) -> (WorkerHandle, u64)
 {
     let it = h.into_parts::<N>().into_box();
     let said = it.store();
-    (WorkerHandle::of_parts(Parts::of(it)), said)
+    (WorkerHandle::of_parts(BoxParts::of(it)), said)
 }
 
 // The number of the store of a worker.
@@ -155,8 +155,8 @@ fn run_named<N: Name>(
     let mut drainer = lane.into_parts::<N>().into_box();
     let applied = drainer.apply(&mut tagged, now, limit);
     (
-        BookHandle::of_parts(Parts::of(tagged)),
-        LaneHandle::of_parts(Parts::of(drainer)),
+        BookHandle::of_parts(BoxParts::of(tagged)),
+        LaneHandle::of_parts(BoxParts::of(drainer)),
         Ran { answer: 0, applied },
     )
 }
@@ -249,14 +249,14 @@ fn close_named<N: Name>(
     let mut drainer = lane.into_parts::<N>().into_box();
     let reader = worker.into_parts::<N>().into_box();
     if let Some(why) = drainer.why_not_closed(&reader) {
-        let left = WorkerSlot::of_parts(Parts::of(reader));
+        let left = WorkerSlot::of_parts(BoxParts::of(reader));
         return (
-            LaneHandle::of_parts(Parts::of(drainer)),
+            LaneHandle::of_parts(BoxParts::of(drainer)),
             (not_closed_number(why), Some(left)),
         );
     }
     drainer.close(Box::into_inner(reader));
-    (LaneHandle::of_parts(Parts::of(drainer)), (0, None))
+    (LaneHandle::of_parts(BoxParts::of(drainer)), (0, None))
 }
 
 fn close_at(lane: LaneHandle, worker: WorkerHandle) -> (LaneHandle, (u32, Option<WorkerSlot>))

@@ -5,7 +5,7 @@ ghost use Rattle.bump_handles.specs.Views.{DrainerView};
 ghost use Rattle.bump_c.specs.One.{IsOne};
 ghost use Rattle.bump_c.specs.Seals.{lane_row, owns, part_coded, slot_owns, slot_coded};
 
-use box_parts::Parts;
+use box_parts::BoxParts;
 use bump_handles::Drainer;
 use bump_heads::Name;
 use std::alloc::Global;
@@ -25,25 +25,25 @@ impl Model for LaneHandle {
 }
 
 impl LaneHandle {
-    pub(crate) fn of_parts<N: Name>(parts: Parts<Drainer<N>, Global>) -> LaneHandle
+    pub(crate) fn of_parts<N: Name>(parts: BoxParts<Drainer<N>, Global>) -> LaneHandle
         requires one { IsOne N }
         ensures table { result.table ≡ N.table }
         ensures held { result.held ≡ parts.value }
     {
-        let Parts { ptr, alloc } = parts;
+        let BoxParts { ptr, alloc } = parts;
         LaneHandle {
             ptr: ptr as *mut (),
             alloc,
         }
     }
 
-    pub(crate) fn into_parts<N: Name>(self) -> Parts<Drainer<N>, Global>
+    pub(crate) fn into_parts<N: Name>(self) -> BoxParts<Drainer<N>, Global>
         requires table { self.table ≡ N.table }
         requires one { IsOne N }
         ensures { result.value ≡ self.held }
     {
         let LaneHandle { ptr, alloc } = self;
-        Parts {
+        BoxParts {
             ptr: ptr as *mut Drainer<N>,
             alloc,
         }
@@ -64,11 +64,11 @@ impl Model for LaneSlot {
 }
 
 impl LaneSlot {
-    pub(crate) fn of_parts<N: Name>(parts: Parts<Drainer<N>, Global>) -> LaneSlot
+    pub(crate) fn of_parts<N: Name>(parts: BoxParts<Drainer<N>, Global>) -> LaneSlot
         requires one { IsOne N }
         ensures { result.slot ≡ (N.table, parts.value) ∷ [] }
     {
-        let Parts { ptr, alloc } = parts;
+        let BoxParts { ptr, alloc } = parts;
         LaneSlot {
             ptr: ptr as *mut (),
             alloc,

@@ -9,7 +9,7 @@ use crate::book_handle::BookSlot;
 use crate::lane_handle::LaneSlot;
 use crate::store_handle::{StoreHandle, StoreSlot};
 use crate::worker_handle::WorkerSlot;
-use box_parts::Parts;
+use box_parts::BoxParts;
 use bump_handles::open;
 use bump_parts::Blank;
 use bump_readers::Name;
@@ -116,7 +116,7 @@ fn open_named<N: Name>(
     let Ok(opened) = Box::new(alloc, opened) else {
         return None;
     };
-    Some(StoreSlot::of_parts(Parts::of(opened)))
+    Some(StoreSlot::of_parts(BoxParts::of(opened)))
 }
 
 fn open_at(
@@ -174,10 +174,10 @@ fn take_worker_named<N: Name>(h: StoreHandle) -> (StoreHandle, Option<WorkerSlot
     let mut it = h.into_parts::<N>().into_box();
     match it.reader() {
         Some(taken) => (
-            StoreHandle::of_parts(Parts::of(it)),
-            Some(WorkerSlot::of_parts(Parts::of(taken))),
+            StoreHandle::of_parts(BoxParts::of(it)),
+            Some(WorkerSlot::of_parts(BoxParts::of(taken))),
         ),
-        None => (StoreHandle::of_parts(Parts::of(it)), None),
+        None => (StoreHandle::of_parts(BoxParts::of(it)), None),
     }
 }
 
@@ -227,10 +227,10 @@ fn take_book_named<N: Name>(h: StoreHandle) -> (StoreHandle, Option<BookSlot>)
     let mut it = h.into_parts::<N>().into_box();
     match it.book() {
         Some(taken) => (
-            StoreHandle::of_parts(Parts::of(it)),
-            Some(BookSlot::of_parts(Parts::of(taken))),
+            StoreHandle::of_parts(BoxParts::of(it)),
+            Some(BookSlot::of_parts(BoxParts::of(taken))),
         ),
-        None => (StoreHandle::of_parts(Parts::of(it)), None),
+        None => (StoreHandle::of_parts(BoxParts::of(it)), None),
     }
 }
 
@@ -280,10 +280,10 @@ fn take_lane_named<N: Name>(h: StoreHandle) -> (StoreHandle, Option<LaneSlot>)
     let mut it = h.into_parts::<N>().into_box();
     match it.lane() {
         Some(taken) => (
-            StoreHandle::of_parts(Parts::of(it)),
-            Some(LaneSlot::of_parts(Parts::of(taken))),
+            StoreHandle::of_parts(BoxParts::of(it)),
+            Some(LaneSlot::of_parts(BoxParts::of(taken))),
         ),
-        None => (StoreHandle::of_parts(Parts::of(it)), None),
+        None => (StoreHandle::of_parts(BoxParts::of(it)), None),
     }
 }
 

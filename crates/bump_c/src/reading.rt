@@ -9,7 +9,7 @@ use crate::answers::{
     Counts, HitTold, Labelled, Touched, counts_told, hit_told, label_told, taken_number, touch_told,
 };
 use crate::worker_handle::WorkerHandle;
-use box_parts::Parts;
+use box_parts::BoxParts;
 use bump_readers::Name;
 use bump_rules::ItemId;
 use std::marker::Brand;
@@ -27,7 +27,7 @@ fn get_named<N: Name>(
 {
     let mut it = h.into_parts::<N>().into_box();
     let said = taken_number(it.get(hold, ItemId { chunk, generation }));
-    (WorkerHandle::of_parts(Parts::of(it)), said)
+    (WorkerHandle::of_parts(BoxParts::of(it)), said)
 }
 
 fn get_at(h: WorkerHandle, hold: u32, chunk: u32, generation: u32) -> (WorkerHandle, u32)
@@ -58,7 +58,7 @@ fn touch_named<N: Name>(h: WorkerHandle, hold: u32, now: u64) -> (WorkerHandle, 
 {
     let mut it = h.into_parts::<N>().into_box();
     let said = touch_told(it.touch(hold, now));
-    (WorkerHandle::of_parts(Parts::of(it)), said)
+    (WorkerHandle::of_parts(BoxParts::of(it)), said)
 }
 
 fn touch_at(h: WorkerHandle, hold: u32, now: u64) -> (WorkerHandle, Touched)
@@ -89,7 +89,7 @@ fn label_named<N: Name>(h: WorkerHandle, hold: u32) -> (WorkerHandle, Labelled)
 {
     let mut it = h.into_parts::<N>().into_box();
     let said = label_told(it.label(hold));
-    (WorkerHandle::of_parts(Parts::of(it)), said)
+    (WorkerHandle::of_parts(BoxParts::of(it)), said)
 }
 
 fn label_at(h: WorkerHandle, hold: u32) -> (WorkerHandle, Labelled)
@@ -120,7 +120,7 @@ fn release_named<N: Name>(h: WorkerHandle, hold: u32) -> (WorkerHandle, bool)
 {
     let mut it = h.into_parts::<N>().into_box();
     let said = it.release(hold);
-    (WorkerHandle::of_parts(Parts::of(it)), said)
+    (WorkerHandle::of_parts(BoxParts::of(it)), said)
 }
 
 fn release_at(h: WorkerHandle, hold: u32) -> (WorkerHandle, bool)
@@ -156,7 +156,7 @@ fn hit_named<N: Name>(
 {
     let mut it = h.into_parts::<N>().into_box();
     let said = hit_told(it.hit(ItemId { chunk, generation }, now));
-    (WorkerHandle::of_parts(Parts::of(it)), said)
+    (WorkerHandle::of_parts(BoxParts::of(it)), said)
 }
 
 fn hit_at(h: WorkerHandle, chunk: u32, generation: u32, now: u64) -> (WorkerHandle, HitTold)
@@ -195,7 +195,7 @@ fn worker_counts_named<N: Name>(h: WorkerHandle) -> (WorkerHandle, Counts)
 {
     let it = h.into_parts::<N>().into_box();
     let said = counts_told(it.counts());
-    (WorkerHandle::of_parts(Parts::of(it)), said)
+    (WorkerHandle::of_parts(BoxParts::of(it)), said)
 }
 
 fn worker_counts_at(h: WorkerHandle) -> (WorkerHandle, Counts)

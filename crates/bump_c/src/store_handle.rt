@@ -5,7 +5,7 @@ ghost use Rattle.bump_handles.specs.Views.{OpenedView};
 ghost use Rattle.bump_c.specs.One.{IsOne};
 ghost use Rattle.bump_c.specs.Seals.{store_row, owns, part_coded, slot_owns, slot_coded};
 
-use box_parts::Parts;
+use box_parts::BoxParts;
 use bump_handles::Opened;
 use bump_heads::Name;
 use std::alloc::Global;
@@ -25,25 +25,25 @@ impl Model for StoreHandle {
 }
 
 impl StoreHandle {
-    pub(crate) fn of_parts<N: Name>(parts: Parts<Opened<N>, Global>) -> StoreHandle
+    pub(crate) fn of_parts<N: Name>(parts: BoxParts<Opened<N>, Global>) -> StoreHandle
         requires one { IsOne N }
         ensures table { result.table ≡ N.table }
         ensures held { result.held ≡ parts.value }
     {
-        let Parts { ptr, alloc } = parts;
+        let BoxParts { ptr, alloc } = parts;
         StoreHandle {
             ptr: ptr as *mut (),
             alloc,
         }
     }
 
-    pub(crate) fn into_parts<N: Name>(self) -> Parts<Opened<N>, Global>
+    pub(crate) fn into_parts<N: Name>(self) -> BoxParts<Opened<N>, Global>
         requires table { self.table ≡ N.table }
         requires one { IsOne N }
         ensures { result.value ≡ self.held }
     {
         let StoreHandle { ptr, alloc } = self;
-        Parts {
+        BoxParts {
             ptr: ptr as *mut Opened<N>,
             alloc,
         }
@@ -64,11 +64,11 @@ impl Model for StoreSlot {
 }
 
 impl StoreSlot {
-    pub(crate) fn of_parts<N: Name>(parts: Parts<Opened<N>, Global>) -> StoreSlot
+    pub(crate) fn of_parts<N: Name>(parts: BoxParts<Opened<N>, Global>) -> StoreSlot
         requires one { IsOne N }
         ensures { result.slot ≡ (N.table, parts.value) ∷ [] }
     {
-        let Parts { ptr, alloc } = parts;
+        let BoxParts { ptr, alloc } = parts;
         StoreSlot {
             ptr: ptr as *mut (),
             alloc,

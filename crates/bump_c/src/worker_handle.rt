@@ -5,7 +5,7 @@ ghost use Rattle.bump_handles.specs.Views.{ReaderView};
 ghost use Rattle.bump_c.specs.One.{IsOne};
 ghost use Rattle.bump_c.specs.Seals.{worker_row, owns, part_coded, slot_owns, slot_coded};
 
-use box_parts::Parts;
+use box_parts::BoxParts;
 use bump_handles::Reader;
 use bump_heads::Name;
 use std::alloc::Global;
@@ -25,25 +25,25 @@ impl Model for WorkerHandle {
 }
 
 impl WorkerHandle {
-    pub(crate) fn of_parts<N: Name>(parts: Parts<Reader<N>, Global>) -> WorkerHandle
+    pub(crate) fn of_parts<N: Name>(parts: BoxParts<Reader<N>, Global>) -> WorkerHandle
         requires one { IsOne N }
         ensures table { result.table ≡ N.table }
         ensures held { result.held ≡ parts.value }
     {
-        let Parts { ptr, alloc } = parts;
+        let BoxParts { ptr, alloc } = parts;
         WorkerHandle {
             ptr: ptr as *mut (),
             alloc,
         }
     }
 
-    pub(crate) fn into_parts<N: Name>(self) -> Parts<Reader<N>, Global>
+    pub(crate) fn into_parts<N: Name>(self) -> BoxParts<Reader<N>, Global>
         requires table { self.table ≡ N.table }
         requires one { IsOne N }
         ensures { result.value ≡ self.held }
     {
         let WorkerHandle { ptr, alloc } = self;
-        Parts {
+        BoxParts {
             ptr: ptr as *mut Reader<N>,
             alloc,
         }
@@ -64,11 +64,11 @@ impl Model for WorkerSlot {
 }
 
 impl WorkerSlot {
-    pub(crate) fn of_parts<N: Name>(parts: Parts<Reader<N>, Global>) -> WorkerSlot
+    pub(crate) fn of_parts<N: Name>(parts: BoxParts<Reader<N>, Global>) -> WorkerSlot
         requires one { IsOne N }
         ensures { result.slot ≡ (N.table, parts.value) ∷ [] }
     {
-        let Parts { ptr, alloc } = parts;
+        let BoxParts { ptr, alloc } = parts;
         WorkerSlot {
             ptr: ptr as *mut (),
             alloc,

@@ -10,7 +10,7 @@ use Rattle.bump_steps.specs.declared.views.HoldPart.{HoldPart}
 use Rattle.bump_steps.specs.declared.views.OwnStep.{OwnStep}
 use Rattle.bump_steps.specs.References.{new_hold}
 use Rattle.bump_steps.specs.Rule.{chunks as all_chunks}
-use Rattle.bump_parts.specs.Gets.{get_answer, WorkerGets}
+use Rattle.bump_parts.specs.Gets.{get_result, WorkerGets}
 use Rattle.bump_parts.specs.StepCounts.{is_load, is_exchange, is_other, MakesAtMost}
 use Rattle.bump_parts.specs.Workers.{WorkerState}
 use Rattle.bump_cache.specs.Hits.{CacheHits, HitsHeld}
@@ -37,7 +37,7 @@ few_together loads exchanges others more_loads more_exchanges more_others before
 
 -- a hold that is answered is of the item
 hold_answered : (item : ItemId) (hold : HoldPart) (refusal : Option TakeRefusal) (row : List ℕ)
-    → Ok hold ≡ get_answer refusal item row
+    → Ok hold ≡ get_result refusal item row
     → hold.life ≡ item
 hold_answered item hold None row answered =
     let e : hold ≡ new_hold item row = cc answered in ap (λ (h : HoldPart). h.life) e

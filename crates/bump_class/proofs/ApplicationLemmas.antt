@@ -29,7 +29,7 @@ use Rattle.bump_steps.proofs.Entering.{freed_quiet}
 use Rattle.bump_heads.specs.declared.views.ClassView.{ClassView}
 use Rattle.bump_heads.specs.Applying.{IsShown, FoundOfBump, NamesNoBumpTwice, TellsMoves, is_own}
 use Rattle.bump_ring.specs.Ends.{Ring}
-use Rattle.bump_class.specs.Applications.{FoundHeads, Updates, Applies, AppliesFront, AppliesBump, EachMoveIsTold, with_time, with_clearing, class_after_update, book_after_update, applied_answer}
+use Rattle.bump_class.specs.Applications.{FoundHeads, Updates, Applies, AppliesFront, AppliesBump, EachMoveIsTold, class_with_time, with_clearing, class_after_update, book_after_update, applied_answer}
 use Rattle.bump_class.specs.Books.{BookView, KeepsBook}
 use Rattle.bump_class.specs.Lanes.{LaneView, carries, entries, part_or}
 
@@ -161,8 +161,8 @@ pub same_class : (out : Outcome) (w : ℕ) (b : Bump) (now : ℕ) (f : FoundHead
 same_class Moved w b now f k = (refl, refl, refl)
 same_class TimeOnly w b now f k = by (is_cold f.tried.segment)
   where
-    by : (x : Bool) → IsSameClass (if x then with_clearing w b f.cleared (with_time w b now k.part) else
-        with_time w b now k.part) k.part
+    by : (x : Bool) → IsSameClass (if x then with_clearing w b f.cleared (class_with_time w b now k.part) else
+        class_with_time w b now k.part) k.part
     by true = (refl, refl, refl)
     by false = (refl, refl, refl)
 same_class Gone w b now f k = by (f.behind.refs == 0)
@@ -202,8 +202,8 @@ time_only_keeps v w first end hot warm workers counts lists worker b now f o is 
     subst (λ (x : ClassView). KeepsBook x first end lists hot warm workers counts) (sym is) (by (is_cold f.tried.segment))
   where
     by : (x : Bool) → KeepsBook (record v {
-      part = if x then with_clearing worker b f.cleared (with_time worker b now v.part) else
-          with_time worker b now v.part;
+      part = if x then with_clearing worker b f.cleared (class_with_time worker b now v.part) else
+          class_with_time worker b now v.part;
     }) first end lists hot warm workers counts
     by true = (
       o.0,

@@ -7,7 +7,7 @@ use Rattle.bump_rules.specs.declared.bumps.Bump.{Bump}
 use Rattle.bump_rules.specs.declared.bumps.Ended.TheVariants as ended
 use Rattle.bump_class.specs.Books.{BookView}
 use Rattle.bump_class.specs.Lanes.{LaneView, carries}
-use Rattle.bump_class.specs.Runs.{AppliesOwn, AppliesRun, FreesRun, HasNextAboard, HasRoom, freed_alone, freed_by, with_freed}
+use Rattle.bump_class.specs.Runs.{AppliesOwn, AppliesRun, FreesRun, HasNextAboard, HasRoomToTell, freed_alone, freed_by, with_freed}
 use Rattle.bump_class.specs.Sweeps.{told_first}
 use Rattle.bump_class.proofs.Freeing.{told_more}
 
@@ -15,7 +15,7 @@ use Rattle.bump_class.proofs.Freeing.{told_more}
 frees_more : (now size : ℕ) (book : BookView) (from : LaneView) (count more : ℕ) (between : BookView)
     (last aboard : LaneView) (answer : Applied) (left : BookView) (to : LaneView) (before after : List ℕ)
     → count + 1 ≡ more → FreesRun now size book from count before between last → HasNextAboard (carries last) last aboard
-    → AppliesOwn now between aboard answer left to → HasRoom size before
+    → AppliesOwn now between aboard answer left to → HasRoomToTell size before
     → after ≡ before ++ freed_by (carries aboard) answer → FreesRun now size book from more after left to
 frees_more now size book from count more between last aboard answer left to before after is runs next own room freed =
     let one_more : suc count ≡ more = omega (arith, is) in

@@ -7,8 +7,8 @@ use Rattle.bump_rules.specs.declared.bumps.Bump.{Bump}
 use Rattle.bump_rules.specs.declared.bumps.Outcome.{Outcome}
 use Rattle.bump_rules.specs.declared.bumps.Outcome.TheVariants as outcome
 use Rattle.bump_rules.specs.declared.items.ItemId.{ItemId}
-use Rattle.bump_rules.specs.declared.lanes.Lane.{Lane}
-use Rattle.bump_rules.specs.declared.lanes.Lane.TheVariants as lane
+use Rattle.bump_rules.specs.declared.lanes.LaneStage.{LaneStage}
+use Rattle.bump_rules.specs.declared.lanes.LaneStage.TheVariants as lane
 use Rattle.bump_rules.specs.Entries.{ShowsMove}
 use Rattle.bump_rules.specs.Lanes.{carried, bump_of, applied_bump, is_half_made}
 use Rattle.bump_rules.specs.Lives.{life, is_same}
@@ -38,7 +38,7 @@ numbered_push n (x ∷ xs) l = ap (λ (bs : List Bump). bump_of n x ∷ bs) (num
     (let same : suc n + length xs ≡ n + suc (length xs) = omega arith in same))
 
 -- the bump that is carried is the one aboard
-aboard_where_carried : (s : Lane) (b : Bump) → carried s ≡ Some b → aboard s ≡ b ∷ []
+aboard_where_carried : (s : LaneStage) (b : Bump) → carried s ≡ Some b → aboard s ≡ b ∷ []
 aboard_where_carried lane.Empty b is = absurd (cc is)
 aboard_where_carried (lane.Carrying d) b is = let e : d ≡ b = cc is in ap (λ (x : Bump). x ∷ []) e
 aboard_where_carried (lane.Tried d) b is = absurd (cc is)
@@ -69,7 +69,7 @@ few_aboard o v n rs b keeps is = subst (λ (x : Option Bump). IfSome x (λ d. n 
     keeps.few
 
 -- nothing is aboard
-none_aboard : (s : Lane) → bump_aboard s ≡ None → (s ≡ lane.Empty) × (aboard s ≡ [])
+none_aboard : (s : LaneStage) → bump_aboard s ≡ None → (s ≡ lane.Empty) × (aboard s ≡ [])
 none_aboard lane.Empty is = (refl, refl)
 none_aboard (lane.Carrying d) is = absurd (cc is)
 none_aboard (lane.Tried d) is = absurd (cc is)
@@ -82,7 +82,7 @@ pub none_carried : (o : Option LanePart) (v n : ℕ) (rs : List Ride) → KeepsL
 none_carried None v n rs keeps none = refl
 none_carried (Some l) v n rs keeps none = by l.stage keeps.lane.at_rest none
   where
-    by : (s : Lane) → is_half_made s ≡ false → carried s ≡ None → bump_aboard s ≡ None
+    by : (s : LaneStage) → is_half_made s ≡ false → carried s ≡ None → bump_aboard s ≡ None
     by lane.Empty rests none = refl
     by (lane.Carrying d) rests none = absurd (cc none)
     by (lane.Tried d) rests none = absurd (cc rests)

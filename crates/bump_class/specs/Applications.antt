@@ -10,7 +10,7 @@ use Rattle.bump_rules.specs.declared.history.Cause.TheVariants as cause
 use Rattle.bump_rules.specs.declared.history.Change.TheVariants as change
 use Rattle.bump_rules.specs.declared.items.Head.{Head}
 use Rattle.bump_rules.specs.declared.items.ItemId.{ItemId}
-use Rattle.bump_rules.specs.declared.lanes.Lane.TheVariants as lane
+use Rattle.bump_rules.specs.declared.lanes.LaneStage.TheVariants as lane
 use Rattle.bump_rules.specs.declared.places.Place.TheVariants.{Warm}
 use Rattle.bump_rules.specs.declared.places.Segment.TheVariants as segment
 use Rattle.bump_rules.specs.declared.bumps.AppliedBump.{AppliedBump}
@@ -55,8 +55,8 @@ noted_for kind worker bump word class =
     record class { steps = class.steps ++ step_of kind bump.life.chunk word (Some (worker, bump.number)) ∷ [] }
 
 -- the time of its item was stored
-abbrev pub with_time : ℕ → Bump → ℕ → ClassPart → ClassPart
-with_time worker bump now class = noted_for kind.PutTime worker bump now class
+abbrev pub class_with_time : ℕ → Bump → ℕ → ClassPart → ClassPart
+class_with_time worker bump now class = noted_for kind.PutTime worker bump now class
 
 -- ACTIVE of its item was cleared
 abbrev pub with_clearing : ℕ → Bump → Head → ClassPart → ClassPart
@@ -75,10 +75,10 @@ with_move worker bump found class = noted_for kind.Move worker bump (word_of fou
 -- in COLD cleared. Gone: nothing.
 abbrev pub class_after_update : Outcome → ℕ → Bump → ℕ → FoundHeads → ClassPart → ClassPart
 class_after_update outcome.Moved worker bump now found class =
-    with_move worker bump found.moved (with_clearing worker bump found.cleared (with_time worker bump now class))
+    with_move worker bump found.moved (with_clearing worker bump found.cleared (class_with_time worker bump now class))
 class_after_update outcome.TimeOnly worker bump now found class =
-    if is_cold found.tried.segment then with_clearing worker bump found.cleared (with_time worker bump now class)
-    else with_time worker bump now class
+    if is_cold found.tried.segment then with_clearing worker bump found.cleared (class_with_time worker bump now class)
+    else class_with_time worker bump now class
 class_after_update outcome.Gone worker bump now found class = class
 
 -- Moved: the chunk is the first of WARM. Gone: it was looked at once more, and is free where nobody holds it.

@@ -89,8 +89,8 @@ with_freed count [] slice = slice
 with_freed count (chunk ∷ chunks) slice = slice_set slice count chunk
 
 -- one more chunk can be told in a slice of this size; where it has no length nobody is told
-abbrev pub HasRoom : ℕ → List ℕ → Type 0
-HasRoom size told = 0 < size → length told < size
+abbrev pub HasRoomToTell : ℕ → List ℕ → Type 0
+HasRoomToTell size told = 0 < size → length told < size
 
 -- So many bumps were applied, as in AppliesRun, each while there was room to tell one more chunk, and these chunks came
 -- free by that, in this order.
@@ -98,5 +98,5 @@ abbrev pub FreesRun : ℕ → ℕ → BookView → LaneView → ℕ → List ℕ
 FreesRun now size book from zero freed left to = (left ≡ book) × (to ≡ from) × (freed ≡ [])
 FreesRun now size book from (suc count) freed left to = (between : BookView) × (last : LaneView) × (aboard : LaneView)
     × (answer : Applied) × (before : List ℕ) × FreesRun now size book from count before between last
-    × HasNextAboard (carries last) last aboard × AppliesOwn now between aboard answer left to × HasRoom size before
+    × HasNextAboard (carries last) last aboard × AppliesOwn now between aboard answer left to × HasRoomToTell size before
     × (freed ≡ before ++ freed_by (carries aboard) answer)

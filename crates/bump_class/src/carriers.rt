@@ -1,6 +1,6 @@
 //! A lane but for the bump aboard: who applies bumps has that one in his hand.
 ghost use Rattle.std.specs.Prelude.{◌≡◌, [], length, None, Some, IsSome, IfSome};
-ghost use Rattle.bump_rules.specs.declared.lanes.Lane.TheVariants.{Empty as IsEmpty};
+ghost use Rattle.bump_rules.specs.declared.lanes.LaneStage.TheVariants.{Empty as IsEmpty};
 ghost use Rattle.bump_steps.specs.declared.views.Ride.{Ride as TheRide};
 ghost use Rattle.bump_steps.specs.Meetings.{class_after_meet};
 ghost use Rattle.bump_steps.specs.Riders.{applied_by};

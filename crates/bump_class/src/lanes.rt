@@ -1,6 +1,6 @@
 //! A lane: the receiving end of a worker's ring, and the seat that applies what comes.
 ghost use Rattle.std.specs.Prelude.{◌≡◌, length, [], None, IsSome, IfSome};
-ghost use Rattle.bump_rules.specs.declared.lanes.Lane.TheVariants.{Empty as IsEmpty};
+ghost use Rattle.bump_rules.specs.declared.lanes.LaneStage.TheVariants.{Empty as IsEmpty};
 ghost use Rattle.bump_steps.specs.declared.views.Ride.{Ride as TheRide};
 ghost use Rattle.bump_steps.specs.Riders.{applied_by};
 ghost use Rattle.bump_heads.specs.Applying.{stage_of};

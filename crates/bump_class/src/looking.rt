@@ -38,7 +38,7 @@ impl<N: Name, L: RowLaw> Book<N, L> {
     /// The head of a chunk of the class, by one load, which is noted with what it found. It agrees with the chunk's
     /// list: it is linked, with this segment, in HOT, WARM, COLD and TEMP, and not linked elsewhere; and it has the
     /// chunk's generation.
-    pub fn look(&mut self, chunk: u32) -> Head
+    pub fn load_head(&mut self, chunk: u32) -> Head
         requires own { owns chunk self.old.part ≡ true }
         ensures looked { self.new ≡ book_after_load chunk result self.old }
         ensures fits { Fits result }
@@ -47,7 +47,7 @@ impl<N: Name, L: RowLaw> Book<N, L> {
         ensures marks { bit result.active ≤ bit result.fetched }
         ensures listed { is_in_segment chunk self.old.lists ≡ result.linked }
     {
-        self.look_at(chunk, self.head_at(chunk))
+        self.load_head_at(chunk, self.head_at(chunk))
     }
 
     /// How many further words each chunk has, beside its label: so many can be stored with an item.

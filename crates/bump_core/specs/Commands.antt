@@ -21,8 +21,8 @@ use Rattle.bump_rules.specs.declared.bumps.Entry.{Entry}
 use Rattle.bump_rules.specs.declared.history.Cause.TheVariants.{Pull, Bump as BumpOf}
 use Rattle.bump_rules.specs.declared.history.Change.TheVariants as change
 use Rattle.bump_rules.specs.declared.bumps.Bump.{Bump}
-use Rattle.bump_rules.specs.declared.lanes.Lane.{Lane}
-use Rattle.bump_rules.specs.declared.lanes.Lane.TheVariants as lane
+use Rattle.bump_rules.specs.declared.lanes.LaneStage.{LaneStage}
+use Rattle.bump_rules.specs.declared.lanes.LaneStage.TheVariants as lane
 use Rattle.bump_rules.specs.declared.bumps.Outcome.{Outcome}
 use Rattle.bump_rules.specs.declared.bumps.Outcome.TheVariants as outcome
 use Rattle.bump_rules.specs.declared.commands.Command.{Command}
@@ -69,13 +69,13 @@ abbrev pub unlinked_as : State → ItemId → Ended
 unlinked_as state item = ended_of (unlinked_head (head_at state item.chunk))
 
 -- an unlinked life's chunk is free where its end came to that
-abbrev pub freed_by : State → ItemId → Ended → State
-freed_by state item Freed = with_change state (class_of state item.chunk) (freed_change item)
-freed_by state item Deferred = state
+abbrev pub with_chunk_freed : State → ItemId → Ended → State
+with_chunk_freed state item Freed = with_change state (class_of state item.chunk) (freed_change item)
+with_chunk_freed state item Deferred = state
 
 -- a linked life ends
 abbrev pub unlink_item : State → ItemId → State
-unlink_item state item = freed_by (unlink state item) item (unlinked_as state item)
+unlink_item state item = with_chunk_freed (unlink state item) item (unlinked_as state item)
 
 -- the look behind an end: a load, which is a sweep where it finds no reference
 abbrev pub look_of : ℕ → Ended → Event
@@ -206,7 +206,7 @@ is_exhausted state worker = (worker_at state worker).accounts.attempted == most_
 abbrev pub bump_next : WorkerState → Option Bump
 bump_next worker = by worker.lane
   where
-    by : Lane → Option Bump
+    by : LaneStage → Option Bump
     by lane.Empty = option_map_or (λ item. Some (bump_of (length worker.received) item)) (next_bump worker) None
     by (lane.Carrying bump) = Some bump
     by _ = None
@@ -241,7 +241,7 @@ abbrev pub bumped_worker : WorkerState → Bump → Outcome → WorkerState
 bumped_worker old bump became =
     record old { received = by old.lane; lane = lane.Empty; applied = old.applied ++ applied_bump bump became ∷ [] }
   where
-    by : Lane → List ItemId
+    by : LaneStage → List ItemId
     by lane.Empty = old.received ++ bump.life ∷ []
     by _ = old.received
 
@@ -252,7 +252,7 @@ bumped_lists state worker bump outcome.Moved ended =
     let entry = change.Moved bump.life segment.Cold segment.Warm (BumpOf worker bump.number) in
     with_change state (class_of state bump.life.chunk) entry
 bumped_lists state worker bump outcome.TimeOnly ended = state
-bumped_lists state worker bump outcome.Gone ended = freed_by state bump.life ended
+bumped_lists state worker bump outcome.Gone ended = with_chunk_freed state bump.life ended
 
 abbrev pub apply_bump : State → ℕ → ℕ → Bump → State
 apply_bump state worker now bump =
@@ -395,7 +395,7 @@ hit_events state worker item now Attempts =
     event.Fetch worker item ∷ event.Mark worker item ∷ attempt_events worker (dropped_at state worker item)
 
 -- a lane that carries no bump takes the next one
-abbrev pub take_events : ℕ → Lane → List Event
+abbrev pub take_events : ℕ → LaneStage → List Event
 take_events worker lane.Empty = event.TakeBump worker ∷ []
 take_events worker _ = []
 

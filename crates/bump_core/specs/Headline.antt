@@ -35,7 +35,7 @@ moves_for state worker number =
     total (λ class. how_many (is_move_for (λ item. true) worker number) class.history) state.classes
 
 -- How a chunk stands to the list of a class at a place.
-pub record Stands (state : State) (class chunk : ℕ) (place : Place) : Type 0 where
+pub record StandsInList (state : State) (class chunk : ℕ) (place : Place) : Type 0 where
   -- it is there once exactly where the class has it and its history leaves it there, and not at all elsewhere
   pub listed : times chunk (list_at (class_at state class).lists place)
       ≡ bit (owns (class_at state class) chunk && is_place (stands_in (class_at state class) chunk).0 place)
@@ -60,7 +60,7 @@ pub record Headline (state : State) : Type 0 where
       → (times chunk (class_at state (class_of state chunk)).lists.unused ≡ 0)
       × (times chunk (class_at state (class_of state chunk)).lists.retired ≡ 0)
   -- the lists of a class have no repeats and no chunk of another class, and agree with its history and the heads
-  pub stands : (class chunk : ℕ) (place : Place) → class < length state.classes → Stands state class chunk place
+  pub stands : (class chunk : ℕ) (place : Place) → class < length state.classes → StandsInList state class chunk place
   -- each chunk of a class stands once in its seven lists
   pub once : (class chunk : ℕ) → class < length state.classes → owns (class_at state class) chunk ≡ true
       → times_in_all chunk (class_at state class).lists ≡ 1

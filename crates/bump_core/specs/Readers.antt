@@ -9,8 +9,8 @@ use Rattle.bump_rules.specs.Lists.{list_at}
 use Rattle.bump_state.specs.State.{State, chunk_at, class_at, worker_at}
 
 -- a list of a class
-abbrev pub list_of : State → ℕ → Place → List ℕ
-list_of state class place = list_at (class_at state class).lists place
+abbrev pub class_list : State → ℕ → Place → List ℕ
+class_list state class place = list_at (class_at state class).lists place
 
 -- the history of a class
 abbrev pub history_of : State → ℕ → List Change

@@ -8,7 +8,7 @@ mod worlds;
 
 pub use bump_rules::{
     Accounts, Answer, Applied, AppliedBump, Bump, Cause, Change, ClassConfig, ClassLists, Classes,
-    Command, Config, ConfigFault, Dropped, Ended, Entry, Event, Hand, Head, Hit, ItemId, Lane,
+    Command, Config, ConfigFault, Dropped, Ended, Entry, Event, Hand, Head, Hit, ItemId, LaneStage,
     ListedChunks, MAX_CHUNKS, MOST_ATTEMPTS, Outcome, Place, Pulled, Refused, Reply, Segment,
     Start, Tail, Touch,
 };

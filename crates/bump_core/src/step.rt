@@ -9,10 +9,10 @@ ghost use Rattle.bump_rules.specs.declared.events.Refused.TheVariants.{NotEnable
 
 use crate::commands::{ends, hits, holds, lanes, links, pulls, rings};
 use bump_rules::{Answer, Command, Event, Refused, Reply, Start};
-use bump_state::Parts;
+use bump_state::WorldParts;
 
 /// Makes an event where it is enabled.
-pub fn step(parts: &mut Parts, event: Event) -> Result<Reply, Refused>
+pub fn step(parts: &mut WorldParts, event: Event) -> Result<Reply, Refused>
     requires { IsLawful (state_of parts.old) }
     ensures step { Steps (state_of parts.old) event (state_of parts.new) result }
     ensures memory { asks_for_memory (state_of parts.old) event ≡ false → IfErr result (λ r. r ≡ NotEnabled) }
@@ -49,7 +49,7 @@ pub fn step(parts: &mut Parts, event: Event) -> Result<Reply, Refused>
 }
 
 /// Makes a command where it is allowed.
-pub fn command(parts: &mut Parts, command: Command) -> Result<Answer, Refused>
+pub fn command(parts: &mut WorldParts, command: Command) -> Result<Answer, Refused>
     requires { IsLawful (state_of parts.old) }
     ensures { Commands (state_of parts.old) command (state_of parts.new) result }
 {

@@ -3,7 +3,7 @@ mod readers;
 
 use crate::step;
 use bump_rules::{Answer, Command, Config, Event, Refused, Reply};
-use bump_state::Parts;
+use bump_state::WorldParts;
 use std::alloc::{AllocError, Global};
 use std::marker::Model;
 
@@ -13,7 +13,7 @@ pub type OutOfMemory = AllocError;
 /// A World: plain data, and a state machine in which each event is one atomic step of one thread.
 #[derive(Drop)]
 pub struct World {
-    parts: Parts,
+    parts: WorldParts,
 }
 
 impl Model for World {
@@ -38,7 +38,7 @@ impl World {
     ghost use Rattle.bump_core.specs.Runs.{Steps, Runs, run_of, made, made_by};
     ghost use Rattle.bump_state.specs.Events.{asks_for_memory};
     ghost use Rattle.bump_state.specs.State.{head_at, SameSizes};
-    ghost use Rattle.bump_core.specs.Readers.{list_of, time_of, label_of, holds_at, accounts_of, sent_of, received_of};
+    ghost use Rattle.bump_core.specs.Readers.{class_list, time_of, label_of, holds_at, accounts_of, sent_of, received_of};
     ghost use Rattle.bump_core.specs.Readers.{applied_of};
     ghost use Rattle.bump_state.specs.Worlds.{IsLawful};
 
@@ -47,7 +47,7 @@ impl World {
         ensures { IfOk result (λ w. w ≡ new_state config.now) }
     {
         Ok(World {
-            parts: Parts::new(alloc, config)?,
+            parts: WorldParts::new(alloc, config)?,
         })
     }
 

@@ -20,7 +20,7 @@ use Rattle.bump_parts.specs.Workers.{WorkerState}
 use Rattle.bump_handles.specs.declared.readers.Taken.{Taken}
 use Rattle.bump_handles.specs.declared.readers.Taken.TheVariants as taken
 use Rattle.bump_handles.specs.Reading.{ReaderGets, ReaderTouches, ReaderReads, ReaderReleases, ReaderHits}
-use Rattle.bump_handles.specs.Reading.{told, HoldsNothing}
+use Rattle.bump_handles.specs.Reading.{taken_told, HoldsNothing}
 use Rattle.bump_handles.specs.Views.{ReaderView}
 
 -- what is put back where it was read changes nothing
@@ -101,7 +101,7 @@ gets_held place item v before after x y hold same there none gets is left =
 pub gets_refused : (place : ℕ) (item : ItemId) (v before after : ReaderView) (x : Option HoldPart)
     (refusal : GetRefusal) (answer : Taken) → v ≡ before → slice_get v.holds place ≡ Some x → is_some x ≡ false
     → x ≡ slice_index_or v.holds place x
-    → WorkerGets v.config item v.worker after.worker (Err refusal) → answer ≡ told (Err refusal)
+    → WorkerGets v.config item v.worker after.worker (Err refusal) → answer ≡ taken_told (Err refusal)
     → after ≡ record v { worker = after.worker; holds = slice_set v.holds place x }
     → ReaderGets place item before after answer
 gets_refused place item v before after x refusal answer same there none read gets answered left =

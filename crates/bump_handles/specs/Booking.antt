@@ -54,7 +54,7 @@ pub record BookSees (chunk : ℕ) (before after : TaggedBookView) (answer : Opti
   pub store : after.store ≡ before.store
 
 -- how many moves for bumps of the worker the class's history has
-pub record AreMoves (worker : ℕ) (book : TaggedBookView) (answer : Option ℕ) : Type 0 where
+pub record AreMovesOfWorker (worker : ℕ) (book : TaggedBookView) (answer : Option ℕ) : Type 0 where
   pub moves : IfSome answer (λ moves. moves ≡ moves_of worker book.book.part.history)
   pub range : IfSome answer (λ moves. worker < book.book.workers)
   pub none : IfNone answer (book.book.workers ≤ worker)

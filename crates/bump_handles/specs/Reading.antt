@@ -17,12 +17,12 @@ use Rattle.bump_handles.specs.declared.readers.WholeHit.{WholeHit}
 use Rattle.bump_handles.specs.Views.{ReaderView}
 
 -- what a worker's get answered, by the names of a get into a place
-abbrev pub told : Result HoldPart GetRefusal → Taken
-told (Ok hold) = taken.Held
-told (Err refused.NoSuchChunk) = taken.NoSuchChunk
-told (Err refused.Stale) = taken.Stale
-told (Err refused.RefsFull) = taken.RefsFull
-told (Err refused.Busy) = taken.Busy
+abbrev pub taken_told : Result HoldPart GetRefusal → Taken
+taken_told (Ok hold) = taken.Held
+taken_told (Err refused.NoSuchChunk) = taken.NoSuchChunk
+taken_told (Err refused.Stale) = taken.Stale
+taken_told (Err refused.RefsFull) = taken.RefsFull
+taken_told (Err refused.Busy) = taken.Busy
 
 -- the hold that was taken stands in the place
 abbrev pub holds_with : Result HoldPart GetRefusal → ℕ → List (Option HoldPart) → List (Option HoldPart)
@@ -33,7 +33,7 @@ holds_with (Err refusal) place holds = holds
 pub record GetsInto (place : ℕ) (item : ItemId) (before after : ReaderView) (answer : Taken) : Type 0 where
   pub took : Result HoldPart GetRefusal
   pub gets : WorkerGets before.config item before.worker after.worker took
-  pub answered : answer ≡ told took
+  pub answered : answer ≡ taken_told took
   pub left : after ≡ record before { worker = after.worker; holds = holds_with took place before.holds }
 
 -- What a get into a place comes to.
@@ -43,8 +43,8 @@ pub record ReaderGets (place : ℕ) (item : ItemId) (before after : ReaderView) 
   pub free : slice_get before.holds place ≡ Some None → GetsInto place item before after answer
 
 -- this hold stands in the place
-abbrev pub HasHold : ℕ → ReaderView → HoldPart → Type 0
-HasHold place reader hold = slice_get reader.holds place ≡ Some (Some hold)
+abbrev pub IsHoldAt : ℕ → ReaderView → HoldPart → Type 0
+IsHoldAt place reader hold = slice_get reader.holds place ≡ Some (Some hold)
 
 -- no item is held in the place, or there is no such place
 abbrev pub HoldsNothing : ℕ → ReaderView → Type 0
@@ -53,7 +53,7 @@ HoldsNothing place reader = (hold : HoldPart) → slice_get reader.holds place �
 -- What a touch of the item in a place comes to.
 pub record ReaderTouches (place : ℕ) (now : ℕ) (before after : ReaderView) (answer : Option Touch) : Type 0 where
   pub no_hold : IfNone answer (HoldsNothing place before × (after ≡ before))
-  pub touched : IfSome answer (λ it. (hold : HoldPart) × HasHold place before hold
+  pub touched : IfSome answer (λ it. (hold : HoldPart) × IsHoldAt place before hold
       × WorkerTouches before.config hold.life now before.worker after.worker it)
   -- the ring stays the same one
   pub ring : after.worker.sender.ring ≡ before.worker.sender.ring
@@ -62,13 +62,13 @@ pub record ReaderTouches (place : ℕ) (now : ℕ) (before after : ReaderView) (
 -- What reading the label of the item in a place comes to: it is the first word of its hold's row.
 pub record ReaderReads (place : ℕ) (before after : ReaderView) (answer : Option ℕ) : Type 0 where
   pub no_hold : IfNone answer (HoldsNothing place before × (after ≡ before))
-  pub read : IfSome answer (λ label. (hold : HoldPart) × HasHold place before hold
+  pub read : IfSome answer (λ label. (hold : HoldPart) × IsHoldAt place before hold
       × (label ≡ label_of_row hold.row) × (after ≡ before))
 
 -- What giving back the hold in a place comes to.
 pub record ReaderReleases (place : ℕ) (before after : ReaderView) (answer : Bool) : Type 0 where
   pub no_hold : answer ≡ false → HoldsNothing place before × (after ≡ before)
-  pub released : answer ≡ true → (hold : HoldPart) × HasHold place before hold
+  pub released : answer ≡ true → (hold : HoldPart) × IsHoldAt place before hold
       × (after ≡ record before { holds = slice_set before.holds place None })
 
 -- What a whole hit comes to: a get; and where that gave a hold, a touch of it, and its label, which is the first word of

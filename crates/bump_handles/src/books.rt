@@ -2,7 +2,7 @@
 ghost use Rattle.std.specs.Prelude.{◌≡◌, IfOk, length};
 ghost use Rattle.bump_rules.specs.declared.places.Start.TheVariants as start;
 ghost use Rattle.bump_rules.specs.Lists.{list_at};
-ghost use Rattle.bump_handles.specs.Booking.{BookLinks, BookUnlinks, BookPulls, BookSweeps, BookSees, AreMoves};
+ghost use Rattle.bump_handles.specs.Booking.{BookLinks, BookUnlinks, BookPulls, BookSweeps, BookSees, AreMovesOfWorker};
 ghost use Rattle.bump_handles.specs.Views.{TaggedBookView as TheTaggedBookView};
 
 use bump_class::{Book, LinkRefusal, UnlinkRefusal};
@@ -90,7 +90,7 @@ impl<N: Name> TaggedBook<N> {
 
     /// As `Book::moves`; or None exactly where there is no such worker.
     pub fn moves(&self, worker: u32) -> Option<u64>
-        ensures { AreMoves worker self.now result }
+        ensures { AreMovesOfWorker worker self.now result }
     {
         if worker >= self.book.workers() {
             return None;

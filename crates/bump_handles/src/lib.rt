@@ -1,5 +1,8 @@
 //! A store for callers whose locks are their own: its workers with numbered holds, the Books of its classes, and its
 //! lanes, each a value that one thread has at a time, with the number of its store. No call waits.
+//!
+//! A hold stands in a numbered place of its reader: `get` fills the place, and `release` empties it. A [`Drainer`] is a
+//! `RawLane` of bump_class with the closed worker of its ring, once there is one.
 #![tactic(auto)]
 
 mod books;

@@ -6,7 +6,7 @@ ghost use Rattle.bump_rules.specs.Rings.{IsAccounts};
 ghost use Rattle.bump_readers.specs.Attempts.{attempts_in};
 ghost use Rattle.bump_parts.specs.StepCounts.{MakesAtMost};
 ghost use Rattle.bump_handles.specs.Draining.{has_hold};
-ghost use Rattle.bump_handles.specs.Reading.{told, ReaderGets, ReaderTouches, ReaderReads, ReaderReleases, ReaderHits};
+ghost use Rattle.bump_handles.specs.Reading.{taken_told, ReaderGets, ReaderTouches, ReaderReads, ReaderReleases, ReaderHits};
 ghost use Rattle.bump_handles.specs.Views.{ReaderView as TheReaderView};
 
 use bump_heads::{Heads, Name};
@@ -83,7 +83,7 @@ fn no_holds<N: Name>(alloc: Global, places: u32) -> Result<Vec<Option<Hold<N>>>,
 
 // A refusal as an answer of a get into a place.
 fn refused_as(refusal: GetRefusal) -> Taken
-    ensures { result ≡ told (Err refusal) }
+    ensures { result ≡ taken_told (Err refusal) }
 {
     match refusal {
         GetRefusal::NoSuchChunk => Taken::NoSuchChunk,

@@ -4,8 +4,8 @@ use Rattle.atomic_table.specs.Seated.{TableId}
 use Rattle.atomic_table.specs.declared.badge.Badge.{Badge}
 use Rattle.atomic_table.specs.declared.shared.Seat.{Seat}
 use Rattle.bump_rules.specs.declared.bumps.Bump.{Bump}
-use Rattle.bump_rules.specs.declared.lanes.Lane.{Lane}
-use Rattle.bump_rules.specs.declared.lanes.Lane.TheVariants as lane
+use Rattle.bump_rules.specs.declared.lanes.LaneStage.{LaneStage}
+use Rattle.bump_rules.specs.declared.lanes.LaneStage.TheVariants as lane
 use Rattle.bump_rules.specs.Lanes.{carried}
 use Rattle.bump_steps.specs.declared.views.Empty.{Empty}
 use Rattle.bump_steps.specs.declared.views.LanePart.{LanePart}
@@ -33,7 +33,7 @@ pub carries_aboard : (o : Option LanePart) (b : Bump) → carried_by o ≡ Some 
 carries_aboard None b is = absurd (cc is)
 carries_aboard (Some l) b is = by l.stage is
   where
-    by : (s : Lane) → carried s ≡ Some b → bump_aboard s ≡ Some b
+    by : (s : LaneStage) → carried s ≡ Some b → bump_aboard s ≡ Some b
     by lane.Empty is = absurd (cc is)
     by (lane.Carrying d) is = is
     by (lane.Tried d) is = absurd (cc is)

@@ -7,8 +7,8 @@ use Rattle.bump_rules.specs.declared.places.Segment.{Segment}
 use Rattle.bump_rules.specs.declared.places.Segment.TheVariants.{Hot, Warm, Cold, Temp}
 use Rattle.bump_rules.specs.declared.bumps.Bump.{Bump}
 use Rattle.bump_rules.specs.declared.bumps.Outcome.TheVariants.{Moved, TimeOnly, Gone}
-use Rattle.bump_rules.specs.declared.lanes.Lane.{Lane}
-use Rattle.bump_rules.specs.declared.lanes.Lane.TheVariants as lane
+use Rattle.bump_rules.specs.declared.lanes.LaneStage.{LaneStage}
+use Rattle.bump_rules.specs.declared.lanes.LaneStage.TheVariants as lane
 use Rattle.bump_rules.specs.History.{place_of}
 use Rattle.bump_rules.specs.Lanes.{carried, applied_bump, ending_at}
 use Rattle.bump_rules.specs.Lawful.{Shows, IsUsed}
@@ -32,11 +32,11 @@ pub carrying : (o : Option LanePart) (b : Bump) → carried_by o ≡ Some b → 
 carrying None b is = absurd (cc is)
 carrying (Some l) b is = by l.stage refl is
   where
-    by : (s : Lane) → l.stage ≡ s → carried s ≡ Some b → (m : LanePart)
+    by : (s : LaneStage) → l.stage ≡ s → carried s ≡ Some b → (m : LanePart)
         × (Some l ≡ Some (record m { stage = lane.Carrying b }))
     by lane.Empty at is = absurd (cc is)
     by (lane.Carrying d) at is = let e : d ≡ b = cc is in
-        (l, ap (λ (s : Lane). Some (record l { stage = s })) (at ∙ ap (λ (x : Bump). lane.Carrying x) e))
+        (l, ap (λ (s : LaneStage). Some (record l { stage = s })) (at ∙ ap (λ (x : Bump). lane.Carrying x) e))
     by (lane.Tried d) at is = absurd (cc is)
     by (lane.Cleared d f) at is = absurd (cc is)
     by (lane.Moved d) at is = absurd (cc is)

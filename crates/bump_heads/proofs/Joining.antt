@@ -12,8 +12,8 @@ use Rattle.bump_rules.specs.declared.bumps.AppliedBump.{AppliedBump}
 use Rattle.bump_rules.specs.declared.bumps.Bump.{Bump}
 use Rattle.bump_rules.specs.declared.bumps.Outcome.{Outcome}
 use Rattle.bump_rules.specs.declared.bumps.Outcome.TheVariants as outcome
-use Rattle.bump_rules.specs.declared.lanes.Lane.{Lane}
-use Rattle.bump_rules.specs.declared.lanes.Lane.TheVariants as lane
+use Rattle.bump_rules.specs.declared.lanes.LaneStage.{LaneStage}
+use Rattle.bump_rules.specs.declared.lanes.LaneStage.TheVariants as lane
 use Rattle.bump_rules.specs.Entries.{is_move_for, is_moved}
 use Rattle.bump_rules.specs.History.{place_of}
 use Rattle.bump_rules.specs.Lanes.{carried, tried, applied_now, cleared_active, applied_bump, ending_at}
@@ -24,7 +24,7 @@ use Rattle.bump_rules.proofs.Laws.{dying_where_unlinked}
 use Rattle.bump_rules.proofs.Unlinks.{unlinked_where_dying}
 use Rattle.bump_rules.proofs.Updates.{total_push}
 use Rattle.bump_word.specs.Layout.{linked_first, active_first}
-use Rattle.bump_word.specs.Words.{Fits, Spells, number_of, word_of, segment_bits}
+use Rattle.bump_word.specs.Words.{Fits, Spells, segment_number, word_of, segment_bits}
 use Rattle.bump_word.proofs.Words.{fields, number_one, one_head}
 use Rattle.bump_steps.specs.declared.views.Kind.TheVariants as kind
 use Rattle.bump_steps.specs.declared.views.ClassPart.{ClassPart}
@@ -46,7 +46,7 @@ elsewhere : (h : Head) → Fits h → h.linked ≡ true → h.segment ≢ Cold �
 elsewhere h fits on other = let f = fields (word_of h) h (refl, fits) in
     ap₂ (λ (a b : Bool). a && not b)
     (eq-eqb (word_of h / 2 ^ linked_first % 2) 1 (omega (arith, f.linked, ap bit on)))
-    (ne_eqb (segment_bits (word_of h)) (number_of Cold)
+    (ne_eqb (segment_bits (word_of h)) (segment_number Cold)
     (λ e. other (number_one h.segment Cold (sym f.segment ∙ e))))
 
 -- the word of a head without ACTIVE
@@ -174,7 +174,7 @@ pub tried_joined : (h : Head) (k : ClassPart) (o : Option LanePart) (b : Bump) �
 tried_joined h k None b some is idle fits seen own = absurd (cc some)
 tried_joined h k (Some l) b some is idle fits seen own = by l.stage some is seen own
   where
-    by : (s : Lane) → IsSome (carried s) → bump_aboard s ≡ Some b → FoundOfBump k (life_of (bump_aboard s)) h
+    by : (s : LaneStage) → IsSome (carried s) → bump_aboard s ≡ Some b → FoundOfBump k (life_of (bump_aboard s)) h
         → owns (life_of (bump_aboard s)).chunk k ≡ true
         → Joins k (lane_after_try (life_of (bump_aboard s)).chunk (word_of h) (record l { stage = s }))
         (joined_after_try b.life.chunk h)
@@ -276,14 +276,14 @@ moves c n k l j b of cold is = record {
     )
 
 -- how far a lane is by the condition of its step
-at_tried : (c : ℕ) (s : Lane) → IsOf c (tried s) → (b : Bump) × (s ≡ lane.Tried b) × (b.life.chunk ≡ c)
+at_tried : (c : ℕ) (s : LaneStage) → IsOf c (tried s) → (b : Bump) × (s ≡ lane.Tried b) × (b.life.chunk ≡ c)
 at_tried c lane.Empty is = absurd is
 at_tried c (lane.Carrying b) is = absurd is
 at_tried c (lane.Tried b) is = (b, refl, is)
 at_tried c (lane.Cleared b f) is = absurd is
 at_tried c (lane.Moved b) is = absurd is
 
-at_cleared : (c : ℕ) (s : Lane) → IsOf c (cleared_active s) → (b : Bump) × (s ≡ lane.Cleared b true)
+at_cleared : (c : ℕ) (s : LaneStage) → IsOf c (cleared_active s) → (b : Bump) × (s ≡ lane.Cleared b true)
     × (b.life.chunk ≡ c)
 at_cleared c lane.Empty is = absurd is
 at_cleared c (lane.Carrying b) is = absurd is
@@ -299,9 +299,9 @@ pub joined_cleared : (c : ℕ) (h : Head) (k : ClassPart) (o : Option LanePart) 
 joined_cleared c h k None j fits may is = is
 joined_cleared c h k (Some l) j fits may is =
     let t = at_tried c l.stage may.1 in
-    subst (λ (s : Lane). Joins (noted_class kind.ClearActive c (word_of h) (record l { stage = s } ∷ []) k)
+    subst (λ (s : LaneStage). Joins (noted_class kind.ClearActive c (word_of h) (record l { stage = s } ∷ []) k)
     (lane_after_clear_active h.active (record l { stage = s })) j) (sym t.1)
-    (clears c h k l j t.0 fits t.2 may.0 (subst (λ (s : Lane). Joins k (record l { stage = s }) j) t.1 is))
+    (clears c h k l j t.0 fits t.2 may.0 (subst (λ (s : LaneStage). Joins k (record l { stage = s }) j) t.1 is))
 
 pub joined_moved : (c n : ℕ) (from to : Segment) (k : ClassPart) (o : Option LanePart) (j : Joined)
     → (standing k c).0 ≡ place_of from → MayChangeSegment c from to o → IsJoined k o j
@@ -310,16 +310,16 @@ pub joined_moved : (c n : ℕ) (from to : Segment) (k : ClassPart) (o : Option L
 joined_moved c n from to k None j stands may is = is
 joined_moved c n from to k (Some l) j stands may is =
     let t = at_cleared c l.stage may.2 in
-    subst (λ (x : Segment × Segment × Lane). Joins (class_after_move x.0 x.1 c n (record l { stage = x.2 } ∷ []) k)
+    subst (λ (x : Segment × Segment × LaneStage). Joins (class_after_move x.0 x.1 c n (record l { stage = x.2 } ∷ []) k)
     (lane_after_move (record l { stage = x.2 })) (joined_after_move j))
     (λ i. (sym may.0 i, sym may.1 i, sym t.1 i))
     (moves c n k l j t.0 t.2 (stands ∙ ap place_of may.0)
-    (subst (λ (s : Lane). Joins k (record l { stage = s }) j) t.1 is))
+    (subst (λ (s : LaneStage). Joins k (record l { stage = s }) j) t.1 is))
 
 -- ---- the end
 
 -- what the bump ends with tells how far the lane is
-may_end_as : (h : Head) (s : Lane) (b : Bump) (o : Outcome) → ending_at (λ c. h) s ≡ Some (applied_bump b o)
+may_end_as : (h : Head) (s : LaneStage) (b : Bump) (o : Outcome) → ending_at (λ c. h) s ≡ Some (applied_bump b o)
     → (applied_now s ≡ Some b) × (is_past_move s ≡ is_moved o) × (outcome_by h s ≡ o)
 may_end_as h lane.Empty b o is = absurd (cc is)
 may_end_as h (lane.Carrying d) b o is = absurd (cc is)

@@ -8,8 +8,8 @@ use Rattle.bump_rules.specs.Lives.{life}
 use Rattle.bump_steps.proofs.Starts.{nothing_yet}
 use Rattle.bump_rules.specs.declared.bumps.Bump.{Bump}
 use Rattle.bump_rules.specs.declared.bumps.Outcome.TheVariants as outcome
-use Rattle.bump_rules.specs.declared.lanes.Lane.{Lane}
-use Rattle.bump_rules.specs.declared.lanes.Lane.TheVariants as lane
+use Rattle.bump_rules.specs.declared.lanes.LaneStage.{LaneStage}
+use Rattle.bump_rules.specs.declared.lanes.LaneStage.TheVariants as lane
 use Rattle.bump_rules.specs.Lanes.{is_half_made}
 use Rattle.bump_steps.specs.declared.views.Empty.{Empty}
 use Rattle.bump_steps.specs.declared.views.ClassPart.{ClassPart}
@@ -21,7 +21,7 @@ use Rattle.bump_steps.specs.Views.{bump_aboard}
 use Rattle.bump_rules.specs.declared.configs.ClassConfig.{ClassConfig}
 use Rattle.bump_steps.specs.Rule.{blank, class_parts, lane_parts}
 use Rattle.bump_steps.specs.Cuts.{without_class, class_only, without_lane, lane_only}
-use Rattle.bump_steps.specs.Plays.{behind, first_of}
+use Rattle.bump_steps.specs.Plays.{behind, first_as_list}
 use Rattle.atomic_table.specs.Seated.{TableId}
 use Rattle.bump_rules.specs.Configs.{chunks_of}
 use Rattle.bump_readers.specs.Seats.{head_or}
@@ -55,13 +55,13 @@ class_turn table m v i count made all m' p rest long more numbers so_far now par
   where
     by : (ks : List ClassPart) → m ≡ (record v { classes = ks }, []) → i + length ks ≡ count
         → AreNewClasses (rows table) i ks → made ++ map class_seen ks ≡ all → Turn table m v i count made all
-        (record m.0 { classes = behind m.0.classes }, m.1) (record blank { classes = first_of m.0.classes }, [])
+        (record m.0 { classes = behind m.0.classes }, m.1) (record blank { classes = first_as_list m.0.classes }, [])
     by [] rest long numbers so_far = absurd (omega (arith, more))
     by (k ∷ ks) rest long numbers so_far =
         subst (λ (x : Me Empty View). Turn table m v i count made all (
           record x.0 { classes = behind x.0.classes },
           x.1,
-        ) (record blank { classes = first_of x.0.classes }, [])) (sym rest) (
+        ) (record blank { classes = first_as_list x.0.classes }, [])) (sym rest) (
           refl,
           tt,
           sym numbers.0,
@@ -74,7 +74,7 @@ class_turn table m v i count made all m' p rest long more numbers so_far now par
         )
 
 -- a lane with nothing aboard is at rest
-rests_empty : (s : Lane) → ◌≡◌ {A = Option Bump} None (bump_aboard s) → is_half_made s ≡ false
+rests_empty : (s : LaneStage) → ◌≡◌ {A = Option Bump} None (bump_aboard s) → is_half_made s ≡ false
 rests_empty lane.Empty none = refl
 rests_empty (lane.Carrying b) none = absurd (cc none)
 rests_empty (lane.Tried b) none = absurd (cc none)
@@ -101,11 +101,11 @@ lane_turn m v i count made all m' p rest long more empty so_far now part =
   where
     by : (ks : List LanePart) → m ≡ (record v { lanes = ks }, []) → i + length ks ≡ count → AreNewLanes i ks
         → made ++ map lane_seen ks ≡ all → LaneTurn m v i count made all
-        (record m.0 { lanes = behind m.0.lanes }, m.1) (record blank { lanes = first_of m.0.lanes }, [])
+        (record m.0 { lanes = behind m.0.lanes }, m.1) (record blank { lanes = first_as_list m.0.lanes }, [])
     by [] rest long empty so_far = absurd (omega (arith, more))
     by (k ∷ ks) rest long empty so_far =
         subst (λ (x : Me Empty View). LaneTurn m v i count made all (record x.0 { lanes = behind x.0.lanes }, x.1)
-        (record blank { lanes = first_of x.0.lanes }, [])) (sym rest) (
+        (record blank { lanes = first_as_list x.0.lanes }, [])) (sym rest) (
           refl,
           sym empty.0,
           rests_empty k.stage (sym empty.0),

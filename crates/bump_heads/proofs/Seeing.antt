@@ -13,8 +13,8 @@ use Rattle.bump_rules.specs.declared.bumps.Bump.{Bump}
 use Rattle.bump_rules.specs.declared.bumps.AppliedBump.{AppliedBump}
 use Rattle.bump_rules.specs.declared.bumps.Outcome.{Outcome}
 use Rattle.bump_rules.specs.declared.bumps.Outcome.TheVariants as outcome
-use Rattle.bump_rules.specs.declared.lanes.Lane.{Lane}
-use Rattle.bump_rules.specs.declared.lanes.Lane.TheVariants as lane
+use Rattle.bump_rules.specs.declared.lanes.LaneStage.{LaneStage}
+use Rattle.bump_rules.specs.declared.lanes.LaneStage.TheVariants as lane
 use Rattle.bump_rules.specs.Entries.{is_bump, is_move_for, is_unlink_of, moves_told}
 use Rattle.bump_rules.specs.Tables.{is_cold, is_warm, may_move}
 use Rattle.bump_rules.specs.declared.places.Place.{Place}
@@ -108,14 +108,14 @@ module _ (m p : Sat) (v w : ClassView) (is : m ≡ class_me v) (same : v ≡ w) 
 
 module _ (c : ℕ) where
   -- a bump at one stage is aboard
-  of_tried : (s : Lane) → IsOf c (tried s) → IsOf c (bump_aboard s)
+  of_tried : (s : LaneStage) → IsOf c (tried s) → IsOf c (bump_aboard s)
   of_tried lane.Empty is = absurd is
   of_tried (lane.Carrying b) is = absurd is
   of_tried (lane.Tried b) is = is
   of_tried (lane.Cleared b f) is = absurd is
   of_tried (lane.Moved b) is = absurd is
 
-  of_active : (s : Lane) → IsOf c (cleared_active s) → (b : Bump) × (s ≡ lane.Cleared b true) × (b.life.chunk ≡ c)
+  of_active : (s : LaneStage) → IsOf c (cleared_active s) → (b : Bump) × (s ≡ lane.Cleared b true) × (b.life.chunk ≡ c)
   of_active lane.Empty is = absurd is
   of_active (lane.Carrying b) is = absurd is
   of_active (lane.Tried b) is = absurd is
@@ -131,7 +131,7 @@ module _ (c : ℕ) where
   clear_active_chunk at None may = tt
   clear_active_chunk at (Some l) may = by l.stage (of_tried l.stage may.1)
     where
-      by : (s : Lane) → IsOf c (bump_aboard s) → IfSome (bump_aboard s) (λ b. b.life.chunk ≡ c)
+      by : (s : LaneStage) → IsOf c (bump_aboard s) → IfSome (bump_aboard s) (λ b. b.life.chunk ≡ c)
       by lane.Empty is = tt
       by (lane.Carrying b) is = is
       by (lane.Tried b) is = is
@@ -141,9 +141,9 @@ module _ (c : ℕ) where
   pub change_segment_chunk : (from to : Segment) (o : Option LanePart) → MayChangeSegment c from to o → IsOfChunk o
   change_segment_chunk from to None may = tt
   change_segment_chunk from to (Some l) may = let b = of_active l.stage may.2 in
-      subst (λ (s : Lane). IfSome (bump_aboard s) (λ d. d.life.chunk ≡ c)) (sym b.1) b.2
+      subst (λ (s : LaneStage). IfSome (bump_aboard s) (λ d. d.life.chunk ≡ c)) (sym b.1) b.2
 
-aboard_now : (s : Lane) (b : Bump) → applied_now s ≡ Some b → bump_aboard s ≡ Some b
+aboard_now : (s : LaneStage) (b : Bump) → applied_now s ≡ Some b → bump_aboard s ≡ Some b
 aboard_now lane.Empty b is = absurd (cc is)
 aboard_now (lane.Carrying d) b is = absurd (cc is)
 aboard_now (lane.Tried d) b is = is
@@ -313,7 +313,7 @@ may_change_segment from to c m v w joined is same kept own stands may = subst (�
 
 -- ---- the bump aboard stays in range
 
-move_refers : (s : Lane) → bump_aboard (stage_after_move s) ≡ bump_aboard s
+move_refers : (s : LaneStage) → bump_aboard (stage_after_move s) ≡ bump_aboard s
 move_refers lane.Empty = refl
 move_refers (lane.Carrying b) = refl
 move_refers (lane.Tried b) = refl
@@ -398,7 +398,7 @@ idle_alone k None j none is = is
 idle_alone k (Some l) j none is = absurd (cc none)
 
 -- the bump that a lane carries may be looked at by the class that has its chunk
-carries_it : (k : ClassPart) (l : LanePart) (b : Bump) (s : Lane) → l.stage ≡ s → IsSome (carried s)
+carries_it : (k : ClassPart) (l : LanePart) (b : Bump) (s : LaneStage) → l.stage ≡ s → IsSome (carried s)
     → bump_aboard s ≡ Some b → owns b.life.chunk k ≡ true → MayTry b.life.chunk (applying k l)
 carries_it k l b lane.Empty is carries on own = absurd (cc carries)
 carries_it k l b (lane.Carrying d) is carries on own = let same : d ≡ b = cc on in

@@ -11,8 +11,8 @@ use Rattle.bump_rules.specs.declared.places.Segment.TheVariants as segment
 use Rattle.bump_rules.specs.declared.bumps.Bump.{Bump}
 use Rattle.bump_rules.specs.declared.bumps.Outcome.{Outcome}
 use Rattle.bump_rules.specs.declared.bumps.Outcome.TheVariants as outcome
-use Rattle.bump_rules.specs.declared.lanes.Lane.{Lane}
-use Rattle.bump_rules.specs.declared.lanes.Lane.TheVariants as lane
+use Rattle.bump_rules.specs.declared.lanes.LaneStage.{LaneStage}
+use Rattle.bump_rules.specs.declared.lanes.LaneStage.TheVariants as lane
 use Rattle.bump_rules.specs.Entries.{is_move_for, moves_told, IsTrueEntry}
 use Rattle.bump_rules.specs.Lanes.{carried, tried, applied_now, cleared_active, applied_bump, ending_at}
 use Rattle.bump_rules.specs.Lawful.{Shows, IsUsed}
@@ -49,7 +49,7 @@ life_of (Some bump) = bump.life
 abbrev pub life_aboard : Option LanePart → ItemId
 life_aboard joined = life_of (aboard_lane joined)
 
-abbrev pub stage_of : Option LanePart → Lane
+abbrev pub stage_of : Option LanePart → LaneStage
 stage_of None = lane.Empty
 stage_of (Some this_lane) = this_lane.stage
 
@@ -111,7 +111,7 @@ abbrev pub outcome_after_try : Head → Outcome
 outcome_after_try found = if not found.linked then outcome.Gone else outcome.TimeOnly
 
 -- what a bump comes out with, if it may end, by the head that its look found and how far its lane is
-abbrev pub outcome_by : Head → Lane → Outcome
+abbrev pub outcome_by : Head → LaneStage → Outcome
 outcome_by found (lane.Cleared bump active) = outcome.TimeOnly
 outcome_by found (lane.Moved bump) = outcome.Moved
 outcome_by found stage = outcome_after_try found

@@ -1,6 +1,6 @@
 //! How a bump's reference boards a lane.
 ghost use Rattle.std.specs.Prelude.{◌≡◌, IsSome, length, option_map};
-ghost use Rattle.bump_rules.specs.declared.lanes.Lane.TheVariants.{Empty as IsEmpty};
+ghost use Rattle.bump_rules.specs.declared.lanes.LaneStage.TheVariants.{Empty as IsEmpty};
 ghost use Rattle.bump_steps.specs.Riders.{lane_after_board, bump_of_ride, applied_by};
 ghost use Rattle.bump_heads.specs.Applying.{stage_of};
 

@@ -1,4 +1,7 @@
 //! The words of all chunks, under one rule for all threads: head, time and label, and the seats that may change them.
+//!
+//! A [`LaneSeat`] is what a lane makes its steps with; the lane itself, with the ring's end, is bump_class's `RawLane`.
+//! `load_head` is one load of a head by its class, `see_..` one of another word.
 #![tactic(auto)]
 
 mod applying;

@@ -21,7 +21,7 @@ impl<N: Name, L: RowLaw> ClassSeat<N, L> {
     /// Looks at the head of a chunk of the class, by one load. It agrees with the list in which the class has the
     /// chunk: in HOT, WARM, COLD and TEMP it is linked and has this segment, elsewhere it is not linked; and it has the
     /// chunk's generation.
-    pub fn look(&mut self, chunk: u32, place: usize) -> Head
+    pub fn load_head(&mut self, chunk: u32, place: usize) -> Head
         requires own { owns chunk self.old.part ≡ true }
         requires place { place ≡ head_place N.table.slots chunk }
         ensures looked { self.new ≡ record self.old { part = class_after_load chunk (word_of result) self.old.part } }
@@ -30,7 +30,7 @@ impl<N: Name, L: RowLaw> ClassSeat<N, L> {
         ensures generation { result.generation ≡ generation_of_chunk self.old.part chunk }
         ensures marks { bit result.active ≤ bit result.fetched }
     {
-        head_of(self.heads.words().look(&mut self.seat, chunk, place))
+        head_of(self.heads.words().load_head(&mut self.seat, chunk, place))
     }
 
     /// The time of a chunk of the class, by one load, which is noted with what it found.

@@ -10,7 +10,7 @@ use Rattle.bump_links.specs.declared.TheConstants.{NONE, NODES_MAX, LISTS_MAX}
 use Rattle.bump_links.specs.declared.chain.Node.{Node}
 use Rattle.bump_links.specs.declared.chain.Header.{Header}
 use Rattle.bump_links.specs.Lists.{Lists, times, all_in_first}
-use Rattle.bump_links.specs.Chain.{Spells, AllDiffer, SpellsList, IsMember, no_node, node_at, forward_of, back_of, list_of, list_under}
+use Rattle.bump_links.specs.Chain.{SpellsChain, AllDiffer, SpellsList, IsMember, no_node, node_at, forward_of, back_of, list_of, list_under}
 use Rattle.bump_links.specs.Spelled.{IsSpelled, lists_of, header_at, no_header}
 use Rattle.bump_links.specs.Ascending.{link_to, link_before, ascending_node, only_first}
 use Rattle.bump_links.proofs.ListsLemmas.{Each-weaker, times-apart}
@@ -51,7 +51,7 @@ times-range n k (suc m) low high =
 -- links to neighbours by number spell the numbers in a row
 pub range_spelled : (f b : ℕ → ℕ) (count k m : ℕ) → k + m ≡ count → 0 < count
     → ((n : ℕ) → n < count → (f n ≡ link_to count (n + 1)) × (b n ≡ link_before n))
-    → Spells f b (link_before k) (link_to count k) (range_with_len k m) (count - 1) NONE
+    → SpellsChain f b (link_before k) (link_to count k) (range_with_len k m) (count - 1) NONE
 range_spelled f b count k zero e some at =
     let past : ltb k count ≡ false = grind (arith, nat_tests) in
     let above : ltb 0 k ≡ true = grind (arith, nat_tests) in
@@ -60,12 +60,12 @@ range_spelled f b count k (suc m) e some at =
     let below : k < count = omega arith in
     let in_range : ltb k count ≡ true = grind (arith, nat_tests) in
     let here = at k below in
-    let rest : Spells f b (link_before (k + 1)) (link_to count (k + 1)) (range_with_len (k + 1) m) (count - 1) NONE =
+    let rest : SpellsChain f b (link_before (k + 1)) (link_to count (k + 1)) (range_with_len (k + 1) m) (count - 1) NONE =
     range_spelled f b count (k + 1) m (omega arith) some at in
     let above : ltb 0 (k + 1) ≡ true = grind (arith, nat_tests) in
     let before : link_before (k + 1) ≡ k = rw above (omega arith) in
-    let P : ℕ → Type 0 = λ q. Spells f b q (link_to count (k + 1)) (range_with_len (k + 1) m) (count - 1) NONE in
-    let Q : ℕ → Type 0 = λ q. Spells f b k q (range_with_len (k + 1) m) (count - 1) NONE in
+    let P : ℕ → Type 0 = λ q. SpellsChain f b q (link_to count (k + 1)) (range_with_len (k + 1) m) (count - 1) NONE in
+    let Q : ℕ → Type 0 = λ q. SpellsChain f b k q (range_with_len (k + 1) m) (count - 1) NONE in
     (rw in_range refl, here.1, subst Q (sym here.0) (subst P before rest))
 
 -- the nodes of new lists
@@ -103,7 +103,7 @@ first_spelled count first some =
     (λ n lt. (ap (λ (q : Node). q.forward) (at n lt), ap (λ (q : Node). q.back) (at n lt))) in
     let in_range : ltb 0 count ≡ true = grind (arith, nat_tests) in
     let P : Bool → Type 0 =
-    λ q. Spells (forward_of nodes) (back_of nodes) NONE (cond q 0 NONE) (range_with_len 0 count) (count - 1) NONE in
+    λ q. SpellsChain (forward_of nodes) (back_of nodes) NONE (cond q 0 NONE) (range_with_len 0 count) (count - 1) NONE in
     record {
       links = subst P in_range run;
       size = sym (length-range_with_len 0 count);

@@ -7,31 +7,31 @@ use Rattle.bump_links.specs.declared.TheConstants.{NONE, NODES_MAX}
 use Rattle.bump_links.specs.declared.chain.Node.{Node}
 use Rattle.bump_links.specs.declared.chain.Header.{Header}
 use Rattle.bump_links.specs.Lists.{times, without, first_of, last_of, next_of}
-use Rattle.bump_links.specs.Chain.{Spells, AllDiffer, SpellsList, IsMember, KeepsOthers, no_node, node_at, forward_of, back_of, list_of, node_or_none}
-use Rattle.bump_links.specs.Relink.{LinksForward, LinksBack, with_head, with_tail}
+use Rattle.bump_links.specs.Chain.{SpellsChain, AllDiffer, SpellsList, IsMember, KeepsOthers, no_node, node_at, forward_of, back_of, list_of, node_or_none}
+use Rattle.bump_links.specs.Relink.{LinksForward, LinksBack, header_with_head, with_tail}
 use Rattle.bump_links.proofs.ListsLemmas.{Each-weaker, Each-both, Each-parts, Each-append, AllDiffer-parts, AllDiffer-append, split_at, apart-from_times, length-le_from_AllDiffer, last_of-cons, next_of-split}
 use Rattle.bump_links.proofs.SpellsLemmas.{Spells-split, Spells-append, Spells-last, Spells-end, Spells-begin, or_none}
 
 -- what holds of each element, and of what stands behind them, holds of where their run begins
 pub Spells-first_has : (f b : ℕ → ℕ) (P : ℕ → Type 0) (before first : ℕ) (xs : List ℕ) (last after : ℕ)
-    → Spells f b before first xs last after → P after → AllByRecursion P xs → P first
+    → SpellsChain f b before first xs last after → P after → AllByRecursion P xs → P first
 Spells-first_has f b P before first [] last after s h a = subst P (sym s.0) h
 Spells-first_has f b P before first (x ∷ xs) last after s h a = subst P (sym s.0) a.0
 
 -- what holds of each element, and of what stands before them, holds of where their run ends
 pub Spells-last_has : (f b : ℕ → ℕ) (P : ℕ → Type 0) (before first : ℕ) (xs : List ℕ) (last after : ℕ)
-    → Spells f b before first xs last after → P before → AllByRecursion P xs → P last
+    → SpellsChain f b before first xs last after → P before → AllByRecursion P xs → P last
 Spells-last_has f b P before first [] last after s h a = subst P (sym s.1) h
 Spells-last_has f b P before first (x ∷ xs) last after s h a = Spells-last f b P before first x xs last after s a
 
 -- the links round n, made to pass it by, spell the list without n
 pub Spells-removed : (f b f' b' : ℕ → ℕ) (none head tail n : ℕ) (xs ys : List ℕ)
-    → Spells f b none head (xs ++ n ∷ ys) tail none
+    → SpellsChain f b none head (xs ++ n ∷ ys) tail none
     → AllDiffer (xs ++ n ∷ ys)
     → AllByRecursion (λ m. m ≢ none) (xs ++ n ∷ ys)
     → ((m : ℕ) → m ≢ b n → f' m ≡ f m) → (b n ≢ none → f' (b n) ≡ f n)
     → ((m : ℕ) → m ≢ f n → b' m ≡ b m) → (f n ≢ none → b' (f n) ≡ b n)
-    → Spells f' b' none (or_none xs head (f n)) (xs ++ ys) (or_none ys tail (b n)) none
+    → SpellsChain f' b' none (or_none xs head (f n)) (xs ++ ys) (or_none ys tail (b n)) none
 Spells-removed f b f' b' none head tail n xs ys s d a fo fh bo bh =
     let parts = Spells-split f b none head xs n ys tail none s in
     let differ = AllDiffer-parts xs (n ∷ ys) d in
@@ -73,7 +73,7 @@ with_tail-is false h p = refl
 
 -- the head is set exactly where no element stands before
 head_choice : (f b : ℕ → ℕ) (none head : ℕ) (xs : List ℕ) (p n s : ℕ)
-    → Spells f b none head xs p n → AllByRecursion (λ m. m ≢ none) xs
+    → SpellsChain f b none head xs p n → AllByRecursion (λ m. m ≢ none) xs
     → or_none xs head s ≡ cond (eqb p none) s head
 head_choice f b none head [] p n s r a = rw (eq-eqb p none r.1) refl
 head_choice f b none head (x ∷ xs) p n s r a =
@@ -81,7 +81,7 @@ head_choice f b none head (x ∷ xs) p n s r a =
 
 -- the tail is set exactly where no element stands behind
 tail_choice : (f b : ℕ → ℕ) (none q s : ℕ) (ys : List ℕ) (tail p : ℕ)
-    → Spells f b q s ys tail none → AllByRecursion (λ m. m ≢ none) ys
+    → SpellsChain f b q s ys tail none → AllByRecursion (λ m. m ≢ none) ys
     → or_none ys tail p ≡ cond (eqb s none) p tail
 tail_choice f b none q s [] tail p r a = rw (eq-eqb s none r.0) refl
 tail_choice f b none q s (y ∷ ys) tail p r a = rw (ne_eqb s none (λ e. a.0 (sym r.0 ∙ e))) refl
@@ -103,7 +103,7 @@ pub record PassesBy (nodes nodes1 nodes2 : List Node) (h h2 : Header) (n : ℕ) 
   pub len2 : length nodes2 ≡ length nodes1
   pub forward : LinksForward nodes nodes1 (back_of nodes n) (forward_of nodes n)
   pub back : LinksBack nodes1 nodes2 (forward_of nodes n) (back_of nodes n)
-  pub header : h2 ≡ with_tail (with_head h (back_of nodes n) (forward_of nodes n)) (forward_of nodes n)
+  pub header : h2 ≡ with_tail (header_with_head h (back_of nodes n) (forward_of nodes n)) (forward_of nodes n)
       (back_of nodes n)
 
 -- what is spelled once the links pass n by, for a list that is split at n
@@ -140,8 +140,8 @@ removed_parts nodes nodes1 nodes2 l h h2 n xs ys c s =
     (λ e. c.back.forward (b n) ∙ c.forward.here e)
     (λ m e. c.back.back m e ∙ c.forward.back m)
     (λ e. c.back.here e) in
-    let P : ℕ → Type 0 = λ q. Spells (forward_of nodes2) (back_of nodes2) NONE q (xs ++ ys) h2.tail NONE in
-    let Q : ℕ → Type 0 = λ q. Spells (forward_of nodes2) (back_of nodes2) NONE (or_none xs h.head (f n))
+    let P : ℕ → Type 0 = λ q. SpellsChain (forward_of nodes2) (back_of nodes2) NONE q (xs ++ ys) h2.tail NONE in
+    let Q : ℕ → Type 0 = λ q. SpellsChain (forward_of nodes2) (back_of nodes2) NONE (or_none xs h.head (f n))
     (xs ++ ys) q NONE in
     let size_is : h2.size ≡ h.size = ap (λ (q : Header). q.size) header in
     let size_was : h.size ≡ length (xs ++ n ∷ ys) = s.size in
@@ -298,8 +298,8 @@ SpellsList-put nodes nodes1 nodes2 l h h2 n xs p s free =
     let run = Spells-begin f b f2 b2 NONE h.head xs h.tail NONE n s.distinct around s.links in
     let tail_is : or_none xs h.tail n ≡ h2.tail =
     tail_choice f b NONE NONE h.head xs h.tail n s.links exist ∙ sym (ap (λ (q : Header). q.tail) header) in
-    let P : ℕ → Type 0 = λ q. Spells f2 b2 n q xs h2.tail NONE in
-    let Q : ℕ → Type 0 = λ q. Spells f2 b2 n h.head xs q NONE in
+    let P : ℕ → Type 0 = λ q. SpellsChain f2 b2 n q xs h2.tail NONE in
+    let Q : ℕ → Type 0 = λ q. SpellsChain f2 b2 n h.head xs q NONE in
     let size_is : h2.size ≡ h.size = ap (λ (q : Header). q.size) header in
     let size_was : h.size ≡ length xs = s.size in
     record {
@@ -351,7 +351,7 @@ put_room nodes nodes1 nodes2 l h h2 n xs p s free =
     omega (arith, long, few, size_is, size_was)
 
 -- the first node of a run is what its first link leads to
-pub first_of-run : (f b : ℕ → ℕ) (before first : ℕ) (xs : List ℕ) (last : ℕ) → Spells f b before first xs last NONE
+pub first_of-run : (f b : ℕ → ℕ) (before first : ℕ) (xs : List ℕ) (last : ℕ) → SpellsChain f b before first xs last NONE
     → AllByRecursion (λ m. m ≢ NONE) xs → node_or_none first ≡ first_of xs
 first_of-run f b before first [] last s a = rw (eq-eqb first NONE s.0) refl
 first_of-run f b before first (x ∷ xs) last s a =
@@ -359,13 +359,13 @@ first_of-run f b before first (x ∷ xs) last s a =
 
 -- a run that is not empty ends in its last node
 last_is : (f b : ℕ → ℕ) (before first x : ℕ) (xs : List ℕ) (last after : ℕ)
-    → Spells f b before first (x ∷ xs) last after → Some last ≡ last_of (x ∷ xs)
+    → SpellsChain f b before first (x ∷ xs) last after → Some last ≡ last_of (x ∷ xs)
 last_is f b before first x [] last after s = ap (λ (q : ℕ). Some q) s.2.1
 last_is f b before first x (y ∷ ys) last after s = last_is f b x (f x) y ys last after s.2 ∙ sym (last_of-cons x y ys)
 
 -- the last node of a run is what its last link leads to
 pub last_of-run : (f b : ℕ → ℕ) (before first : ℕ) (xs : List ℕ) (last : ℕ) → before ≡ NONE
-    → Spells f b before first xs last NONE → AllByRecursion (λ m. m ≢ NONE) xs → node_or_none last ≡ last_of xs
+    → SpellsChain f b before first xs last NONE → AllByRecursion (λ m. m ≢ NONE) xs → node_or_none last ≡ last_of xs
 last_of-run f b before first [] last e s a = rw (eq-eqb last NONE (s.1 ∙ e)) refl
 last_of-run f b before first (x ∷ xs) last e s a =
     rw (ne_eqb last NONE (Spells-last f b (λ m. m ≢ NONE) before first x xs last NONE s a))

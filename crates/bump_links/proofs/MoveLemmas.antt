@@ -9,7 +9,7 @@ use Rattle.bump_links.specs.declared.TheConstants.{NONE, NODES_MAX, LISTS_MAX}
 use Rattle.bump_links.specs.declared.chain.Node.{Node}
 use Rattle.bump_links.specs.declared.chain.Header.{Header}
 use Rattle.bump_links.specs.Lists.{Lists, list_at, times, without, put_before, moved_to_front, IsHeldBy, HoldsEachOnce}
-use Rattle.bump_links.specs.Chain.{Spells, AllDiffer, SpellsList, IsMember, KeepsOthers, IsKept, forward_of, back_of, list_of, list_under, followed}
+use Rattle.bump_links.specs.Chain.{SpellsChain, AllDiffer, SpellsList, IsMember, KeepsOthers, IsKept, forward_of, back_of, list_of, list_under, followed}
 use Rattle.bump_links.specs.Spelled.{IsSpelled, lists_of, header_at, no_header}
 use Rattle.bump_links.proofs.ListsLemmas.{Each-weaker, Each-both, Each-at, apart-from_times, times-apart, without-absent, times-without_other, times-without_same}
 use Rattle.bump_links.proofs.SpellsLemmas.{Spells-kept, followed-Spells}
@@ -277,7 +277,7 @@ holds_each_once nodes headers inv = record {
 
 -- a list of this length that is followed from a node begins with it, and its other elements differ
 begins : (k : ℕ) (f b : ℕ → ℕ) (head tail n : ℕ) (nodes : List Node) (l : ℕ)
-    → Spells f b NONE head (followed f k head) tail NONE → AllDiffer (followed f k head)
+    → SpellsChain f b NONE head (followed f k head) tail NONE → AllDiffer (followed f k head)
     → AllByRecursion (IsMember nodes l) (followed f k head) → n ≢ NONE → head ≡ n
     → (followed f k head ≡ n ∷ without n (followed f k head)) × (list_of nodes n ≡ l)
 begins zero f b head tail n nodes l s d a ne at = absurd (ne (sym at ∙ s.0))

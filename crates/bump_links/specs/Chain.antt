@@ -38,10 +38,10 @@ list_under nodes h = followed (forward_of nodes) h.size h.head
 -- From `first` to `last` the links run through this list: `first` is its first element, each back link
 -- names the element before it, each forward link the next, and `last` is its last. `before` stands in
 -- front of the list and `after` behind it.
-abbrev pub Spells : (ℕ → ℕ) → (ℕ → ℕ) → ℕ → ℕ → List ℕ → ℕ → ℕ → Type 0
-Spells forward back before first [] last after = (first ≡ after) × (last ≡ before)
-Spells forward back before first (x ∷ xs) last after =
-    (first ≡ x) × (back x ≡ before) × Spells forward back x (forward x) xs last after
+abbrev pub SpellsChain : (ℕ → ℕ) → (ℕ → ℕ) → ℕ → ℕ → List ℕ → ℕ → ℕ → Type 0
+SpellsChain forward back before first [] last after = (first ≡ after) × (last ≡ before)
+SpellsChain forward back before first (x ∷ xs) last after =
+    (first ≡ x) × (back x ≡ before) × SpellsChain forward back x (forward x) xs last after
 
 -- no element stands twice in a list
 abbrev pub AllDiffer : List ℕ → Type 0
@@ -54,7 +54,7 @@ IsMember nodes l n = (n < length nodes) × (list_of nodes n ≡ l)
 
 -- the header and the links spell this list, and each node of it names it as its own
 pub record SpellsList (nodes : List Node) (l : ℕ) (h : Header) (xs : List ℕ) : Type 0 where
-  pub links : Spells (forward_of nodes) (back_of nodes) NONE h.head xs h.tail NONE
+  pub links : SpellsChain (forward_of nodes) (back_of nodes) NONE h.head xs h.tail NONE
   pub size : h.size ≡ length xs
   pub distinct : AllDiffer xs
   pub members : AllByRecursion (IsMember nodes l) xs

@@ -20,8 +20,8 @@ pub record LinksBack (old new : List Node) (after to : ℕ) : Type 0 where
   pub list : (m : ℕ) → list_of new m ≡ list_of old m
 
 -- the header with this head, where nothing stands before
-abbrev pub with_head : Header → ℕ → ℕ → Header
-with_head h before to = if before == NONE then record h { head = to } else h
+abbrev pub header_with_head : Header → ℕ → ℕ → Header
+header_with_head h before to = if before == NONE then record h { head = to } else h
 
 -- the header with this tail, where nothing stands after
 abbrev pub with_tail : Header → ℕ → ℕ → Header

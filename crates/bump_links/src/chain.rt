@@ -3,7 +3,7 @@
 ghost use Rattle.std.specs.Prelude.{◌≡◌, ◌≢◌, ◌<◌, ◌≤◌, ◌∷◌, length};
 ghost use Rattle.bump_links.specs.Chain.{list_of, list_under, SpellsList, KeepsOthers};
 ghost use Rattle.bump_links.specs.Lists.{times, without};
-ghost use Rattle.bump_links.specs.Relink.{LinksForward, LinksBack, with_head, with_tail};
+ghost use Rattle.bump_links.specs.Relink.{LinksForward, LinksBack, header_with_head, with_tail};
 
 use super::{NODES_MAX, NONE};
 
@@ -38,7 +38,7 @@ fn link_forward(nodes: &mut [Node], header: &mut Header, before: u32, to: u32)
     requires { before ≢ NONE → before < length nodes.old }
     ensures len { length nodes.new ≡ length nodes.old }
     ensures nodes { LinksForward nodes.old nodes.new before to }
-    ensures header { header.new ≡ with_head header.old before to }
+    ensures header { header.new ≡ header_with_head header.old before to }
 {
     if before == NONE {
         header.head = to;

@@ -21,7 +21,7 @@ use Rattle.bump_steps.specs.declared.views.Ride.{Ride}
 use Rattle.bump_steps.specs.declared.views.WorkerPart.{WorkerPart}
 use Rattle.bump_steps.specs.Marks.{worker_after_unmark}
 use Rattle.bump_steps.specs.Rides.{dropped_as, returned, worker_after_release}
-use Rattle.bump_steps.specs.Tries.{drop_of, last_found, looks, reserved_or_dropped, with_more}
+use Rattle.bump_steps.specs.Tries.{drop_of, last_found, load_and_failures, reserved_or_dropped, with_more}
 use Rattle.bump_steps.specs.Views.{is_fetch_of}
 use Rattle.bump_readers.specs.declared.views.WorkerView.{WorkerView}
 use Rattle.bump_readers.specs.Riding.{Rode, ride_of, sent_unless}
@@ -52,7 +52,7 @@ found_by h more room back cleared =
 -- the worker after a ride, by why its bump is dropped, if it is
 abbrev after_ride : Option Dropped → ItemId → Head → List Head → WorkerPart → WorkerPart
 after_ride o l first more p =
-    sent_unless o (reserved_or_dropped o l (last_found first more) (with_more (looks l.chunk first more) p))
+    sent_unless o (reserved_or_dropped o l (last_found first more) (with_more (load_and_failures l.chunk first more) p))
 
 ridden : (limit : ℕ) (l : ItemId) (v w : WorkerView) (first : Head) (more : List Head) (o : Option Dropped)
     → drop_of limit first more ≡ o → w ≡ with_part v (after_ride (drop_of limit first more) l first more v.part)
@@ -74,7 +74,7 @@ queued limit l v w s t number n first more r rode rider is at grown =
     let f : Findings = found_by first more Known first first in
     let why : drop_of limit first more ≡ None = sym rode.answer in
     let p = v.part in
-    let ls = looks l.chunk first more in
+    let ls = load_and_failures l.chunk first more in
     let ride : r ≡ ride_of v n l = rider ∙ ap (λ (k : ℕ). ride_of v k l) (is ∙ sym at) in
     let accounts : Accounts = record p.accounts { accepted = p.accounts.accepted + 1 } in (
       f,
@@ -101,9 +101,9 @@ refused_part : (r : RideRefusal) (l : ItemId) (first : Head) (more : List Head) 
     ≡ attempted_part (touch.Dropped (dropped_as r)) l (found_by first more Known first cleared) p
 refused_part r l first more cleared p = by r
   where
-    steps : (p.steps ++ looks l.chunk first more) ++ own_step kind.Unmark l cleared ∷ []
-        ≡ p.steps ++ (looks l.chunk first more ++ own_step kind.Unmark l cleared ∷ [])
-    steps = append_assoc p.steps (looks l.chunk first more) (own_step kind.Unmark l cleared ∷ [])
+    steps : (p.steps ++ load_and_failures l.chunk first more) ++ own_step kind.Unmark l cleared ∷ []
+        ≡ p.steps ++ (load_and_failures l.chunk first more ++ own_step kind.Unmark l cleared ∷ [])
+    steps = append_assoc p.steps (load_and_failures l.chunk first more) (own_step kind.Unmark l cleared ∷ [])
 
     by : (r : RideRefusal) → worker_after_unmark l cleared (after_ride (Some (dropped_as r)) l first more p)
         ≡ attempted_part (touch.Dropped (dropped_as r)) l (found_by first more Known first cleared) p
@@ -125,7 +125,7 @@ module _ (limit : ℕ) (l : ItemId) (v w : WorkerView) (first : Head) (more : Li
 
   pub refused_fetched : 0 < fetches_of l v.part → 0 < fetches_of l w.part
   refused_fetched has =
-      still_fetched l v.part w.part (looks l.chunk first more)
+      still_fetched l v.part w.part (load_and_failures l.chunk first more)
       (ap (λ (y : WorkerView). y.part.steps) refused_worker) has
 
   pub refused_ride : (x : WorkerView) (s t : SenderView) (cleared : Head) → IsHeadOf l cleared → cleared.fetched ≡ true
@@ -169,7 +169,7 @@ full_part l back first more given cleared p =
     let reserved = own_step kind.Reserve l (last_found first more) in
     let released = own_step kind.GiveBackBump l given in
     let unmarked = own_step kind.Unmark l cleared in
-    let steps = full_steps p.steps (looks l.chunk first more) reserved released unmarked in
+    let steps = full_steps p.steps (load_and_failures l.chunk first more) reserved released unmarked in
     λ i. over p (record a { accepted = one i; full = a.full + 1 }) (steps i)
 
 module _ (limit : ℕ) (l : ItemId) (v rode_off came_back gave : WorkerView) (first : Head) (more : List Head)
@@ -184,7 +184,7 @@ module _ (limit : ℕ) (l : ItemId) (v rode_off came_back gave : WorkerView) (fi
 
   pub full_fetched : 0 < fetches_of l v.part → 0 < fetches_of l gave.part
   full_fetched has =
-      let looked = looks l.chunk first more in
+      let looked = load_and_failures l.chunk first more in
       let reserved = own_step kind.Reserve l (last_found first more) in
       let released = own_step kind.GiveBackBump l given in
       still_fetched l v.part gave.part (looked ++ reserved ∷ released ∷ [])

@@ -7,18 +7,18 @@ use Rattle.bump_steps.specs.declared.refusals.TakeRefusal.{TakeRefusal}
 use Rattle.bump_steps.specs.Tries.{any_refusal}
 use Rattle.bump_readers.specs.declared.views.HoldView.{HoldView}
 use Rattle.bump_readers.specs.Taking.{take_answer, take_any_answer, whole_hold}
-use Rattle.bump_parts.specs.Gets.{get_refusal, get_answer, get_any_refusal, get_any_answer}
+use Rattle.bump_parts.specs.Gets.{get_refusal, get_result, get_any_refusal, get_any_answer}
 use Rattle.bump_parts.specs.Holds.{part_of}
 
 module _ (item : ItemId) (row : List ℕ) where
   -- a hold of the item, and why there is none
   pub got_hold : (o : Option TakeRefusal) (h : HoldView) → Ok h ≡ take_answer o item row
-      → Ok (part_of h) ≡ get_answer o item row
+      → Ok (part_of h) ≡ get_result o item row
   got_hold None h is = let same : h ≡ whole_hold item row = cc is in ap (λ (k : HoldView). Ok (part_of k)) same
   got_hold (Some refusal) h is = absurd (cc is)
 
   pub got_none : (o : Option TakeRefusal) (r : TakeRefusal) → Err r ≡ take_answer o item row
-      → Err (get_refusal r) ≡ get_answer o item row
+      → Err (get_refusal r) ≡ get_result o item row
   got_none None r is = absurd (cc is)
   got_none (Some refusal) r is = let same : r ≡ refusal = cc is in ap (λ (k : TakeRefusal). Err (get_refusal k)) same
 

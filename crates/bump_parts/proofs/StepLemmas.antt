@@ -19,12 +19,12 @@ use Rattle.bump_steps.specs.declared.refusals.AnyRefusal.{AnyRefusal}
 use Rattle.bump_steps.specs.declared.refusals.TakeRefusal.{TakeRefusal}
 use Rattle.bump_steps.specs.declared.refusals.TakeRefusal.TheVariants.{Busy}
 use Rattle.bump_steps.specs.declared.views.OwnStep.{OwnStep}
-use Rattle.bump_steps.specs.Tries.{failures, looks, last_found, takes, of_life, of_any, asked_steps, asked_refusal, refused_by}
+use Rattle.bump_steps.specs.Tries.{failures, load_and_failures, last_found, takes, of_life, of_any, asked_steps, asked_refusal, refused_by}
 use Rattle.bump_readers.specs.declared.views.HoldView.{HoldView}
 use Rattle.bump_readers.specs.declared.views.WorkerView.{WorkerView}
 use Rattle.bump_readers.specs.Taking.{Took, TookAny}
 use Rattle.bump_parts.specs.StepCounts.{is_load, is_exchange, is_other, MakesAtMost}
-use Rattle.bump_parts.specs.Touches.{Findings, why_dropped, answer_of, is_attempted, second_steps, end_steps}
+use Rattle.bump_parts.specs.Touches.{Findings, why_dropped, touch_answer, is_attempted, second_steps, end_steps}
 use Rattle.bump_parts.specs.Touches.{attempt_steps, touch_steps}
 
 abbrev loads : OwnStep → ℕ
@@ -83,7 +83,7 @@ found_steps : (limit : ℕ) (asked : Head → ℕ) (c : ℕ) (first : Head) (mor
     → length more ≤ 8 → after ≡ before ++ asked_steps limit asked c first more → MakesAtMost 1 8 0 before after
 found_steps limit asked c first more before after most grown =
     let decisive = last_found first more in
-    let looked = looks c first more in
+    let looked = load_and_failures c first more in
     let o = asked_refusal limit asked first more in
     let judged = refused_by (get_of limit (asked decisive) decisive) in
     let left = λ (none : o ≡ None). below (length more) most (took_left (length more == 8) judged none) in
@@ -143,7 +143,7 @@ had_full false below room e = refl
 module _ (limit : ℕ) (l : ItemId) (now : ℕ) (f : Findings) (n : ℕ) where
   -- the load and the exchanges that failed
   abbrev looked : List OwnStep
-  looked = looks l.chunk f.look f.failed
+  looked = load_and_failures l.chunk f.look f.failed
 
   -- how many loads, exchanges and others an attempt makes that ends so
   attempt_loads : (t : Touch) → total loads (attempt_steps t l f) ≡ 1 + total loads (end_steps t l f)
@@ -157,7 +157,7 @@ module _ (limit : ℕ) (l : ItemId) (now : ℕ) (f : Findings) (n : ℕ) where
   attempt_others : (t : Touch) → total others (attempt_steps t l f) ≡ total others (end_steps t l f)
   attempt_others t = omega (arith, total_append others looked (end_steps t l f), failures_others l.chunk f.failed)
 
-  few_loads : total loads (touch_steps (answer_of limit f n) l now f) ≤ 1
+  few_loads : total loads (touch_steps (touch_answer limit f n) l now f) ≤ 1
   few_loads = by (hit_of f.first f.second) (why_dropped limit f)
     where
       by : (h : Hit) (d : Option Dropped) → total loads (touch_steps (touch_of h d n) l now f) ≤ 1
@@ -169,8 +169,8 @@ module _ (limit : ℕ) (l : ItemId) (now : ℕ) (f : Findings) (n : ℕ) where
       by hit.Attempts (Some dropped.Busy) = omega (arith, attempt_loads (touch.Dropped dropped.Busy))
       by hit.Attempts (Some dropped.RefsFull) = omega (arith, attempt_loads (touch.Dropped dropped.RefsFull))
 
-  few_exchanges : (is_attempted (answer_of limit f n) ≡ true → length f.failed ≤ 8)
-      → total exchanges (touch_steps (answer_of limit f n) l now f) ≤ 8
+  few_exchanges : (is_attempted (touch_answer limit f n) ≡ true → length f.failed ≤ 8)
+      → total exchanges (touch_steps (touch_answer limit f n) l now f) ≤ 8
   few_exchanges = by (hit_of f.first f.second) (why_dropped limit f) refl
     where
       all : Bool
@@ -195,7 +195,7 @@ module _ (limit : ℕ) (l : ItemId) (now : ℕ) (f : Findings) (n : ℕ) where
       by hit.Attempts (Some dropped.RefsFull) e few =
           omega (arith, attempt_exchanges (touch.Dropped dropped.RefsFull), few refl)
 
-  few_others : total others (touch_steps (answer_of limit f n) l now f) ≤ 4
+  few_others : total others (touch_steps (touch_answer limit f n) l now f) ≤ 4
   few_others = by (hit_of f.first f.second) (why_dropped limit f)
     where
       by : (h : Hit) (d : Option Dropped) → total others (touch_steps (touch_of h d n) l now f) ≤ 4
@@ -207,7 +207,7 @@ module _ (limit : ℕ) (l : ItemId) (now : ℕ) (f : Findings) (n : ℕ) where
       by hit.Attempts (Some dropped.Busy) = omega (arith, attempt_others (touch.Dropped dropped.Busy))
       by hit.Attempts (Some dropped.RefsFull) = omega (arith, attempt_others (touch.Dropped dropped.RefsFull))
 
-  pub touch_makes : (answered : Touch) (before after : List OwnStep) → answered ≡ answer_of limit f n
+  pub touch_makes : (answered : Touch) (before after : List OwnStep) → answered ≡ touch_answer limit f n
       → (is_attempted answered ≡ true → length f.failed ≤ 8) → after ≡ before ++ touch_steps answered l now f
       → MakesAtMost 1 8 4 before after
   touch_makes answered before after is few grown =

@@ -13,15 +13,15 @@ use Rattle.bump_steps.specs.declared.views.WorkerPart.{WorkerPart}
 use Rattle.bump_steps.specs.Tries.{RideFound}
 use Rattle.bump_readers.specs.declared.views.WorkerView.{WorkerView}
 use Rattle.bump_ring.specs.Ends.{SenderView}
-use Rattle.bump_parts.specs.Counts.{counted_end}
-use Rattle.bump_parts.specs.Touches.{Findings, AreFindings, IsHeadOf, why_dropped, answer_of, attempt_steps, queued}
+use Rattle.bump_parts.specs.Counts.{counted_touch_end}
+use Rattle.bump_parts.specs.Touches.{Findings, AreFindings, IsHeadOf, why_dropped, touch_answer, attempt_steps, queued}
 use Rattle.bump_parts.specs.Touches.{touched_part}
 
 -- the worker is idle again
 abbrev pub attempted_part : Touch → ItemId → Findings → WorkerPart → WorkerPart
 attempted_part answered item found part = record part {
   hand = Idle;
-  accounts = counted_end answered part.accounts;
+  accounts = counted_touch_end answered part.accounts;
   steps = part.steps ++ attempt_steps answered item found;
 }
 
@@ -45,7 +45,7 @@ pub record Hit (limit : ℕ) (item : ItemId) (now : ℕ) (before after : WorkerV
     (sender_before sender_after : SenderView) (answered : Touch) (found : Findings) : Type 0 where
   pub findings : AreFindings limit item answered found
   pub room : found.room ≡ Unknown → sender_before.capacity ≤ length sender_before.sent
-  pub answer : answered ≡ answer_of limit found (length sender_before.sent)
+  pub answer : answered ≡ touch_answer limit found (length sender_before.sent)
   pub part : after ≡ record before { part = touched_part answered item now found before.part }
   pub sender : sender_after ≡ offered answered item before sender_before
   pub first : answered ≡ touch.First → count_of item before.part.hits ≡ 0

@@ -25,9 +25,9 @@ get_refusal take.RefsFull = RefsFull
 get_refusal take.Busy = Busy
 
 -- a hold of the item, with its words, or the refusal
-abbrev pub get_answer : Option TakeRefusal → ItemId → List ℕ → Result HoldPart GetRefusal
-get_answer None item row = Ok (new_hold item row)
-get_answer (Some refusal) item row = Err (get_refusal refusal)
+abbrev pub get_result : Option TakeRefusal → ItemId → List ℕ → Result HoldPart GetRefusal
+get_result None item row = Ok (new_hold item row)
+get_result (Some refusal) item row = Err (get_refusal refusal)
 
 -- what a get of a chunk of the store comes to that found these heads
 pub record Got (limit : ℕ) (item : ItemId) (before after : WorkerState) (answered : Result HoldPart GetRefusal)
@@ -37,7 +37,7 @@ pub record Got (limit : ℕ) (item : ItemId) (before after : WorkerState) (answe
   pub steps : after ≡ record before { part = with_more (steps_of limit item first more) before.part }
   -- the words of the item, which the hold has
   pub row : List ℕ
-  pub answer : answered ≡ get_answer (refusal_of limit item first more) item row
+  pub answer : answered ≡ get_result (refusal_of limit item first more) item row
 
 -- a worker's get of an item, by the clauses `missing` and `got` of `Worker::get`
 pub record WorkerGets (config : Config) (item : ItemId) (before after : WorkerState)

@@ -19,8 +19,8 @@ use Rattle.bump_steps.specs.declared.views.OwnStep.{OwnStep}
 use Rattle.bump_steps.specs.declared.views.Ride.{Ride}
 use Rattle.bump_steps.specs.declared.views.WorkerPart.{WorkerPart}
 use Rattle.bump_steps.specs.Plays.{step_of}
-use Rattle.bump_steps.specs.Tries.{RideFound, last_found, looks}
-use Rattle.bump_parts.specs.Counts.{counted}
+use Rattle.bump_steps.specs.Tries.{RideFound, last_found, load_and_failures}
+use Rattle.bump_parts.specs.Counts.{counted_touch}
 use Rattle.bump_parts.specs.Workers.{WorkerState}
 
 -- What the steps of a touch found. Of a step that wasn't made it says nothing.
@@ -48,8 +48,8 @@ abbrev pub why_dropped : ℕ → Findings → Option Dropped
 why_dropped limit found = dropped_of limit (length found.failed) (decisive found) found.room
 
 -- by the hit table and the rule of an attempt, where the ring accepted so many bumps before
-abbrev pub answer_of : ℕ → Findings → ℕ → Touch
-answer_of limit found accepted = touch_of (hit_of found.first found.second) (why_dropped limit found) accepted
+abbrev pub touch_answer : ℕ → Findings → ℕ → Touch
+touch_answer limit found accepted = touch_of (hit_of found.first found.second) (why_dropped limit found) accepted
 
 -- whether a touch with this answer attempted a bump
 abbrev pub is_attempted : Touch → Bool
@@ -91,7 +91,7 @@ end_steps touch.Marked item found = []
 end_steps touch.Exhausted item found = []
 
 abbrev pub attempt_steps : Touch → ItemId → Findings → List OwnStep
-attempt_steps answered item found = looks item.chunk found.look found.failed ++ end_steps answered item found
+attempt_steps answered item found = load_and_failures item.chunk found.look found.failed ++ end_steps answered item found
 
 -- what a touch makes behind its first step, by its answer
 abbrev pub later_steps : Touch → ItemId → ℕ → Findings → List OwnStep
@@ -131,7 +131,7 @@ queued touch.Exhausted worker item = []
 
 abbrev pub touched_part : Touch → ItemId → ℕ → Findings → WorkerPart → WorkerPart
 touched_part answered item now found part = record part {
-  accounts = counted answered part.accounts;
+  accounts = counted_touch answered part.accounts;
   hits = first_hits answered item part.hits;
   steps = part.steps ++ touch_steps answered item now found;
 }
@@ -167,7 +167,7 @@ pub record Touched (limit : ℕ) (item : ItemId) (now : ℕ) (before after : Wor
   pub findings : AreFindings limit item answered found
   -- the ring had no room only where it had accepted at least as many bumps as its capacity
   pub room : found.room ≡ Unknown → before.sender.capacity ≤ length before.sender.sent
-  pub answer : answered ≡ answer_of limit found (length before.sender.sent)
+  pub answer : answered ≡ touch_answer limit found (length before.sender.sent)
   pub state : after ≡ touched answered item now found before
   -- the first hit is of an item that the worker's list did not name
   pub first : answered ≡ touch.First → count_of item before.part.hits ≡ 0

@@ -2,7 +2,7 @@
 ghost use Rattle.std.specs.Prelude.{◌≡◌, ◌<◌};
 ghost use Rattle.bump_rules.specs.declared.hands.Hand.TheVariants as hand;
 ghost use Rattle.bump_rules.specs.Rings.{IsAccounts, most_attempts};
-ghost use Rattle.bump_parts.specs.Counts.{counted};
+ghost use Rattle.bump_parts.specs.Counts.{counted_touch};
 
 use bump_rules::{Accounts, Dropped, Touch};
 
@@ -11,7 +11,7 @@ use bump_rules::{Accounts, Dropped, Touch};
 pub fn count(counts: &mut Accounts, touch: Touch)
     requires add_up { IsAccounts counts.old counts.old.accepted hand.Idle }
     requires room { counts.old.attempted < most_attempts }
-    ensures { counts.new ≡ counted touch counts.old }
+    ensures { counts.new ≡ counted_touch touch counts.old }
 {
     match touch {
         Touch::Queued(_) => {

@@ -60,7 +60,7 @@ impl<N: Name> Hold<N> {
     pub fn is_marked<L: RowLaw>(&mut self, heads: &ReaderHeads<N, L>) -> bool
         ensures marked { (found : TheHead) × SeesMarks self.old result self.new found }
     {
-        let found = heads.look_of(&mut self.held);
+        let found = heads.load_head(&mut self.held);
         found.fetched && found.active
     }
 

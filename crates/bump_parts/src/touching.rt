@@ -14,7 +14,7 @@ ghost use Rattle.bump_readers.specs.Taking.{IsTakenBy};
 ghost use Rattle.bump_readers.specs.Touching.{fetches_of};
 ghost use Rattle.bump_parts.specs.declared.refusals.GetAnyRefusal.TheVariants as refused_any;
 ghost use Rattle.bump_parts.specs.declared.refusals.GetRefusal.TheVariants as refused;
-ghost use Rattle.bump_parts.specs.Counts.{counted};
+ghost use Rattle.bump_parts.specs.Counts.{counted_touch};
 ghost use Rattle.bump_parts.specs.Gets.{Got, GotAny};
 ghost use Rattle.bump_parts.specs.StepCounts.{MakesAtMost};
 ghost use Rattle.bump_parts.specs.Touches.{Findings as TheFindings, Touched};
@@ -98,7 +98,7 @@ fn attempt_counted<N: Name, L: RowLaw>(
     requires room { counts.old.attempted < most_attempts }
     ensures attempted { (found : TheFindings) × Attempted heads.now.refs_limit life seat.old seat.new sender.old
         sender.new result found }
-    ensures counted { counts.new ≡ counted result counts.old }
+    ensures counted { counts.new ≡ counted_touch result counts.old }
 {
     let touch = attempt(heads, seat, sender, life, place);
     count(counts, touch);
@@ -125,7 +125,7 @@ fn hit<N: Name, L: RowLaw>(
     requires room { counts.old.attempted < most_attempts }
     ensures hit { (found : TheFindings) × DoesHit heads.now.refs_limit life now seat.old seat.new sender.old sender.new
         result found }
-    ensures counted { counts.new ≡ counted result counts.old }
+    ensures counted { counts.new ≡ counted_touch result counts.old }
 {
     let first = heads.mark_fetched(seat, life, place);
     if !first.fetched {

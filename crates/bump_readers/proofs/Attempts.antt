@@ -16,7 +16,7 @@ use Rattle.bump_rules.specs.Rings.{attempts_of, most_attempts}
 use Rattle.bump_rules.specs.Tables.{is_cold}
 use Rattle.bump_rules.proofs.Counted.{how_many_push}
 use Rattle.bump_rules.proofs.Updates.{total_append}
-use Rattle.bump_word.specs.Words.{Fits, number_of, word_of}
+use Rattle.bump_word.specs.Words.{Fits, segment_number, word_of}
 use Rattle.bump_word.proofs.Words.{fields}
 use Rattle.bump_steps.specs.Places.{HasChunk}
 use Rattle.bump_steps.specs.declared.refusals.TakeRefusal.{TakeRefusal}
@@ -34,7 +34,7 @@ use Rattle.bump_steps.specs.Plays.{step_of}
 use Rattle.bump_steps.specs.Riders.{ride_me}
 use Rattle.bump_steps.specs.Rides.{judged, return_both, returned, sent, without_ride, worker_after_release}
 use Rattle.bump_steps.specs.Rule.{blank}
-use Rattle.bump_steps.specs.Tries.{drop_of, held_by, last_found, failures, looks, asked_refusal, asked_steps, asked_life, reserved_or_dropped, takes, view_after_attempt, with_more, worker_after_attempt}
+use Rattle.bump_steps.specs.Tries.{drop_of, held_by, last_found, failures, load_and_failures, asked_refusal, asked_steps, asked_life, reserved_or_dropped, takes, view_after_attempt, with_more, worker_after_attempt}
 use Rattle.bump_readers.specs.declared.views.WorkerView.{WorkerView}
 use Rattle.bump_readers.specs.Attempts.{is_attempt, attempts_in}
 use Rattle.bump_readers.specs.Riding.{sent_unless}
@@ -58,7 +58,7 @@ no_failure c [] = refl
 no_failure c (h ∷ hs) = omega (arith, no_failure c hs)
 
 -- nor does the load before them
-no_look : (c : ℕ) (h : Head) (hs : List Head) → attempts_in (looks c h hs) ≡ 0
+no_look : (c : ℕ) (h : Head) (hs : List Head) → attempts_in (load_and_failures c h hs) ≡ 0
 no_look c h hs = omega (arith, no_failure c hs)
 
 -- nor does an exchange that takes a reference for a hold
@@ -72,7 +72,7 @@ clear_as true = refl
 clear_as false = refl
 
 -- and whether its segment is COLD
-cold_as : (s : Segment) → (number_of s == number_of segment.Cold) ≡ is_cold s
+cold_as : (s : Segment) → (segment_number s == segment_number segment.Cold) ≡ is_cold s
 cold_as segment.Hot = refl
 cold_as segment.Warm = refl
 cold_as segment.Cold = refl
@@ -83,7 +83,7 @@ mark_attempts : (c : ℕ) (h : Head) → Fits h → is_attempt (step_of kind.Mar
     ≡ (not h.active && is_cold h.segment)
 mark_attempts c h fits = let f = fields (word_of h) h (refl, fits) in
     ap₂ (λ (p q : Bool). p && q) (ap (λ (k : ℕ). k == 0) f.active ∙ clear_as h.active)
-    (ap (λ (k : ℕ). k == number_of segment.Cold) f.segment ∙ cold_as h.segment)
+    (ap (λ (k : ℕ). k == segment_number segment.Cold) f.segment ∙ cold_as h.segment)
 
 -- ---- parts
 
@@ -98,7 +98,7 @@ pub take_kept : (limit : ℕ) (asked : Head → ℕ) (c : ℕ) (first : Head) (m
     → IsWorkerPart p → IsWorkerPart (with_more (asked_steps limit asked c first more) p)
 take_kept limit asked c first more p is = more_kept p (asked_steps limit asked c first more) (omega (
   arith,
-  attempts_append (looks c first more)
+  attempts_append (load_and_failures c first more)
       (takes c (asked_refusal limit asked first more) (last_found first more)),
   no_look c first more,
   no_take c (asked_refusal limit asked first more) (last_found first more),
@@ -208,7 +208,7 @@ drop_kept dropped.Full l p trying is = record {
 -- the reference of a bump was taken and sent off, or the bump dropped
 pub ride_kept : (o : Option Dropped) (l : ItemId) (h : Head) (c : ℕ) (first : Head) (more : List Head) (p : WorkerPart)
     → p.hand ≡ hand.Trying l
-    → IsWorkerPart p → IsWorkerPart (sent_unless o (reserved_or_dropped o l h (with_more (looks c first more) p)))
+    → IsWorkerPart p → IsWorkerPart (sent_unless o (reserved_or_dropped o l h (with_more (load_and_failures c first more) p)))
 ride_kept None l h c first more p trying is = record {
   accounts = record {
     accepted = refl;
@@ -219,13 +219,13 @@ ride_kept None l h c first more p trying is = record {
   attempts = omega (
     arith,
     is.attempts,
-    attempts_append p.steps (looks c first more),
+    attempts_append p.steps (load_and_failures c first more),
     no_look c first more,
-    attempts_push (p.steps ++ looks c first more) (step_of kind.Reserve l.chunk (word_of h) None),
+    attempts_push (p.steps ++ load_and_failures c first more) (step_of kind.Reserve l.chunk (word_of h) None),
   );
 }
-ride_kept (Some d) l h c first more p trying is = drop_kept d l (with_more (looks c first more) p) (ap attempts_of trying)
-    (more_kept p (looks c first more) (no_look c first more) is)
+ride_kept (Some d) l h c first more p trying is = drop_kept d l (with_more (load_and_failures c first more) p) (ap attempts_of trying)
+    (more_kept p (load_and_failures c first more) (no_look c first more) is)
 
 -- a bump came back
 pub back_kept : (r : Ride) (p : WorkerPart) → p.hand ≡ hand.Idle → r.number + 1 ≡ p.accounts.accepted → IsWorkerPart p
@@ -394,7 +394,7 @@ module _ (table : TableId) (number : ℕ) (id id₁ : TableId) (m m₁ : Me Empt
       → IsWhole table number id₁ m₁
   dropped_seat limit l d first more trying view is =
       let after : Option Dropped → WorkerPart = λ o. reserved_or_dropped o l (last_found first more)
-      (with_more (looks l.chunk first more) w.part) in
+      (with_more (load_and_failures l.chunk first more) w.part) in
       stepped_seat (worker_after_attempt limit l first more) view (ap (λ (o : Option Dropped). (after o).worker) is)
       (λ part. subst (λ (o : Option Dropped). IsWorkerPart (after o)) (sym is)
       (ride_kept (Some d) l (last_found first more) l.chunk first more w.part trying part))
@@ -405,7 +405,7 @@ module _ (table : TableId) (number : ℕ) (id id₁ : TableId) (m m₁ : Me Empt
       → m₁ ≡ (without_ride p.0, p.1) → IsWhole table number id₁ m₁
   sent_seat limit l first more p trying view is told =
       let after : Option Dropped → WorkerPart → WorkerPart = λ o q. reserved_or_dropped o l (last_found first more)
-      (with_more (looks l.chunk first more) q) in
+      (with_more (load_and_failures l.chunk first more) q) in
       changed_seat table number id id₁ m m₁ w (record w { part = sent (after None w.part) }) whole same other
       (told ∙ ap (λ (x : Me Empty View). (without_ride x.0, x.1)) (view
       ∙ ap (λ (x : Me Empty View). (on_worker (after (drop_of limit first more)) x.0, x.1)) before_is)

@@ -7,7 +7,7 @@ use Rattle.bump_steps.specs.declared.views.WorkerPart.{WorkerPart}
 use Rattle.bump_steps.specs.declared.views.View.{View}
 use Rattle.bump_steps.specs.Rule.{blank, worker_part, worker_parts}
 use Rattle.bump_steps.specs.Cuts.{without_worker, worker_only}
-use Rattle.bump_steps.specs.Plays.{behind, first_of}
+use Rattle.bump_steps.specs.Plays.{behind, first_as_list}
 use Rattle.bump_readers.specs.declared.views.WorkerView.{WorkerView}
 use Rattle.bump_readers.specs.Seats.{worker_me, worker_in, held_life, IsLifeInRange, IsWorkerPart}
 use Rattle.bump_readers.specs.Workers.{worker_seen, AreNewWorkers}
@@ -35,11 +35,11 @@ worker_turn table m v i count made all m' p rest long more numbers so_far now pa
   where
     by : (ks : List WorkerPart) → m ≡ (record v { workers = ks }, []) → i + length ks ≡ count → AreNewWorkers i ks
         → made ++ map worker_seen ks ≡ all → WorkerTurn table m v i count made all
-        (record m.0 { workers = behind m.0.workers }, m.1) (record blank { workers = first_of m.0.workers }, [])
+        (record m.0 { workers = behind m.0.workers }, m.1) (record blank { workers = first_as_list m.0.workers }, [])
     by [] rest long numbers so_far = absurd (omega (arith, more))
     by (k ∷ ks) rest long numbers so_far =
         subst (λ (x : Me Empty View). WorkerTurn table m v i count made all
-        (record x.0 { workers = behind x.0.workers }, x.1) (record blank { workers = first_of x.0.workers }, []))
+        (record x.0 { workers = behind x.0.workers }, x.1) (record blank { workers = first_as_list x.0.workers }, []))
         (sym rest) (
           refl,
           sym (ap (λ (w : WorkerPart). w.worker) numbers.0),

@@ -1,4 +1,8 @@
 //! What readers do with the words of all chunks: workers take references to lives, touch items and send bumps off.
+//!
+//! A reference that a reader has is a [`Hold`]: `take` makes it and `give_back` spends it, each by steps on the head.
+//! The layers above, whose callers ask for items, say `get` and `release` for the same. `load_head` loads the head of
+//! a hold's item, and `see` the head and the time of any chunk.
 #![tactic(auto)]
 
 mod heads;

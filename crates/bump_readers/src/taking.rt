@@ -6,7 +6,7 @@ ghost use Rattle.bump_word.specs.Words.{Fits, word_of};
 ghost use Rattle.bump_readers.specs.Seats.{spent_me, row_in};
 ghost use Rattle.bump_steps.specs.Rule.{chunks as all_chunks};
 ghost use Rattle.bump_readers.specs.Taking.{Took, TookAny, IsTakenBy, whole_hold};
-ghost use Rattle.bump_steps.specs.References.{IsRow, label_of_row, word_of_row, words_in, hold_after_look, seen_me};
+ghost use Rattle.bump_steps.specs.References.{IsRow, label_of_row, word_of_row, words_in, hold_after_load, seen_me};
 
 use crate::heads::ReaderHeads;
 use crate::holds::Hold;
@@ -189,10 +189,10 @@ impl<N: Name, L: RowLaw> ReaderHeads<N, L> {
 
     /// Looks at the head of the item that the hold holds, by one load, and answers it: of the hold's life, and with a
     /// count of at least 1. The hold is whole, and its view keeps the word. Nothing else changes.
-    pub fn look_of(&self, hold: &mut Hold<N>) -> Head
+    pub fn load_head(&self, hold: &mut Hold<N>) -> Head
         requires whole { IsSome hold.old.part }
         ensures looked { hold.new ≡ record hold.old {
-          part = option_map (hold_after_look (word_of result)) hold.old.part;
+          part = option_map (hold_after_load (word_of result)) hold.old.part;
         } }
         ensures generation { result.generation ≡ hold.old.life.generation }
         ensures counted { 0 < result.refs }
@@ -201,7 +201,7 @@ impl<N: Name, L: RowLaw> ReaderHeads<N, L> {
         let mut seat = hold.seat_out();
         let head = head_of(
             self.words
-                .look_of_hold(&mut seat, hold.life.chunk, hold.place),
+                .load_of_hold(&mut seat, hold.life.chunk, hold.place),
         );
         hold.seat_in(seat);
         head

@@ -4,7 +4,7 @@ use std::alloc::{AllocError, Global};
 
 /// The accesses to the keys of one class, in turn.
 #[derive(Drop)]
-pub struct Part {
+pub struct ClassAccesses {
     /// The largest size of the class in bytes.
     pub class: u32,
 
@@ -14,9 +14,9 @@ pub struct Part {
 
 /// The accesses of a log, by the class of their key.
 #[derive(Drop)]
-pub struct Parts {
+pub struct AccessesByClass {
     /// Those of each class.
-    pub parts: Vec<Part>,
+    pub parts: Vec<ClassAccesses>,
 
     /// How many are to keys that are too large for each class.
     pub too_large: u64,
@@ -44,7 +44,7 @@ fn places_of(alloc: Global, log: &Log, classes: &[u32]) -> Result<Vec<Option<usi
 }
 
 // One access more, in the part with this place.
-fn take(parts: &mut Parts, place: usize, key: u32) -> Result<(), AllocError> {
+fn take(parts: &mut AccessesByClass, place: usize, key: u32) -> Result<(), AllocError> {
     match parts.parts.get_mut(place) {
         Some(part) => Ok(part.accesses.push(key)?),
         None => {
@@ -56,15 +56,15 @@ fn take(parts: &mut Parts, place: usize, key: u32) -> Result<(), AllocError> {
 
 /// The accesses of a log by these classes, in bytes and ascending: the class of a key is the first that takes the size
 /// of its first access.
-pub fn parts_of(alloc: Global, log: &Log, classes: &[u32]) -> Result<Parts, AllocError> {
+pub fn parts_of(alloc: Global, log: &Log, classes: &[u32]) -> Result<AccessesByClass, AllocError> {
     let places = places_of(alloc, log, classes)?;
-    let mut parts = Parts {
+    let mut parts = AccessesByClass {
         parts: Vec::new(alloc),
         too_large: 0,
     };
     for class in classes {
         let accesses = Vec::new(alloc);
-        parts.parts.push(Part {
+        parts.parts.push(ClassAccesses {
             class: *class,
             accesses,
         })?;

@@ -2,7 +2,7 @@
 ghost use Rattle.std.specs.Prelude.{◌≡◌};
 
 use replay_policies::Tally;
-use replay_runs::Outcome;
+use replay_runs::RunOutcome;
 
 /// The runs through caches of one size.
 #[derive(Clone, Copy)]
@@ -14,7 +14,7 @@ pub struct Row {
     pub items: u32,
 
     /// What the cache came to.
-    pub bump: Outcome,
+    pub bump: RunOutcome,
 
     /// What an LRU came to, where it is compared.
     pub lru: Option<Tally>,
@@ -24,7 +24,7 @@ pub struct Row {
 }
 
 /// The hits and misses of the cache alone.
-pub fn tally_of(outcome: &Outcome) -> Tally
+pub fn tally_of(outcome: &RunOutcome) -> Tally
     ensures accesses { result.accesses ≡ outcome.now.accesses }
     ensures hits { result.hits ≡ outcome.now.hits }
     ensures misses { result.misses ≡ outcome.now.misses }

@@ -2,7 +2,7 @@
 ghost use Rattle.std.specs.Prelude.{◌≡◌};
 ghost use Rattle.replay_runs.specs.Plans.{with_items};
 
-use crate::classes::{Part, Parts, parts_of};
+use crate::classes::{AccessesByClass, ClassAccesses, parts_of};
 use crate::options::Options;
 use crate::progress;
 use crate::rows::Row;
@@ -79,7 +79,7 @@ fn put_rows_of<R: Files + Eprint + AllocGlobal + Wait>(
     options: &Options<'_>,
     items: u32,
     log: &Log,
-    parts: &[Part],
+    parts: &[ClassAccesses],
     rows: &mut Vec<Row>,
 ) -> Result<(), ReplayFault> {
     if options.classes.is_empty() {
@@ -102,7 +102,11 @@ fn push(rows: &mut Vec<Row>, row: Row) -> Result<(), ReplayFault> {
 }
 
 // The parts of a log by class; none where there are no classes.
-fn parts_of_log(alloc: Global, log: &Log, options: &Options<'_>) -> Result<Parts, ReplayFault> {
+fn parts_of_log(
+    alloc: Global,
+    log: &Log,
+    options: &Options<'_>,
+) -> Result<AccessesByClass, ReplayFault> {
     match parts_of(alloc, log, &options.classes) {
         Ok(parts) => Ok(parts),
         Err(AllocError) => Err(ReplayFault::Memory),

@@ -8,8 +8,8 @@ use Rattle.bump_rules.specs.declared.bumps.AppliedBump.{AppliedBump}
 use Rattle.bump_rules.specs.declared.bumps.Bump.{Bump}
 use Rattle.bump_rules.specs.declared.bumps.Outcome.{Outcome}
 use Rattle.bump_rules.specs.declared.bumps.Outcome.TheVariants as outcome
-use Rattle.bump_rules.specs.declared.lanes.Lane.{Lane}
-use Rattle.bump_rules.specs.declared.lanes.Lane.TheVariants as lane
+use Rattle.bump_rules.specs.declared.lanes.LaneStage.{LaneStage}
+use Rattle.bump_rules.specs.declared.lanes.LaneStage.TheVariants as lane
 use Rattle.bump_rules.specs.Tables.{is_cold}
 use Rattle.bump_rules.specs.Lanes.{applied_bump, outcome_tried, ending_at}
 use Rattle.bump_rules.specs.Entries.{is_gone, is_told_moved, moving}
@@ -39,7 +39,7 @@ tried_end b found a is = let entry = tried_entry b (outcome_tried found) a is in
     ]
 
 -- an entry tells of a move where the lane had moved the item
-pub told_by_ending : (heads : ℕ → Head) (x : Lane) (a : AppliedBump) → ending_at heads x ≡ Some a → (test : ItemId
+pub told_by_ending : (heads : ℕ → Head) (x : LaneStage) (a : AppliedBump) → ending_at heads x ≡ Some a → (test : ItemId
     → Bool) (n : ℕ) → bit (is_told_moved test n a) ≡ moving test n x
 told_by_ending heads lane.Empty a is test n = absurd (let u : ⊥ = cc in u)
 told_by_ending heads (lane.Carrying b) a is test n = absurd (let u : ⊥ = cc in u)
@@ -54,7 +54,7 @@ told_by_ending heads (lane.Moved b) a is test n = ap (λ (e : AppliedBump). bit 
     ≡ applied_bump b outcome.Moved = cc in same)
 
 -- an entry tells that an item was gone where the lane saw that it wasn't linked
-pub gone_by_ending : (heads : ℕ → Head) (x : Lane) (a : AppliedBump) → ending_at heads x ≡ Some a → is_gone a.outcome
+pub gone_by_ending : (heads : ℕ → Head) (x : LaneStage) (a : AppliedBump) → ending_at heads x ≡ Some a → is_gone a.outcome
     ≡ true → (heads a.life.chunk).linked ≡ false
 gone_by_ending heads lane.Empty a is gone = absurd (let u : ⊥ = cc in u)
 gone_by_ending heads (lane.Carrying b) a is gone = absurd (let u : ⊥ = cc in u)

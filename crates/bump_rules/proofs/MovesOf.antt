@@ -10,8 +10,8 @@ use Rattle.bump_rules.specs.declared.history.Cause.TheVariants.{Pull, Bump as Bu
 use Rattle.bump_rules.specs.declared.history.Change.{Change}
 use Rattle.bump_rules.specs.declared.history.Change.TheVariants as change
 use Rattle.bump_rules.specs.declared.items.ItemId.{ItemId}
-use Rattle.bump_rules.specs.declared.lanes.Lane.{Lane}
-use Rattle.bump_rules.specs.declared.lanes.Lane.TheVariants as lane
+use Rattle.bump_rules.specs.declared.lanes.LaneStage.{LaneStage}
+use Rattle.bump_rules.specs.declared.lanes.LaneStage.TheVariants as lane
 use Rattle.bump_rules.specs.declared.places.Segment.{Segment}
 use Rattle.bump_rules.specs.Entries.{is_of_worker, is_any_bump, names_bump, is_stray, is_move_for, is_move_of, moves_of, is_moved, is_told_moved, is_told_of, told_of, moving, making, moves_told}
 use Rattle.bump_rules.specs.Lanes.{is_half_made}
@@ -196,14 +196,14 @@ told_few test (a ∷ more) = by (is_told_of test a) (told_few test more)
 
 -- ---- the move in progress
 
-abbrev number_moved : Lane → ℕ
+abbrev number_moved : LaneStage → ℕ
 number_moved lane.Empty = 0
 number_moved (lane.Carrying b) = 0
 number_moved (lane.Tried b) = 0
 number_moved (lane.Cleared b f) = 0
 number_moved (lane.Moved b) = b.number
 
-moving_once : (test : ItemId → Bool) (x : Lane) (b : ℕ) → number_moved x < b
+moving_once : (test : ItemId → Bool) (x : LaneStage) (b : ℕ) → number_moved x < b
     → below b (λ n. moving test n x) ≡ making test x
 moving_once test lane.Empty b high = below_none b
 moving_once test (lane.Carrying d) b high = below_none b
@@ -212,7 +212,7 @@ moving_once test (lane.Cleared d f) b high = below_none b
 moving_once test (lane.Moved d) b high = told_tested true (test d.life) d.number b high
 
 -- a lane at rest has none
-pub none_making : (test : ItemId → Bool) (x : Lane) → is_half_made x ≡ false → making test x ≡ 0
+pub none_making : (test : ItemId → Bool) (x : LaneStage) → is_half_made x ≡ false → making test x ≡ 0
 none_making test lane.Empty rests = refl
 none_making test (lane.Carrying d) rests = refl
 none_making test (lane.Tried d) rests = absurd (cc rests)
@@ -222,7 +222,7 @@ none_making test (lane.Moved d) rests = absurd (cc rests)
 -- ---- both
 
 -- what is equal for each number is equal in all
-pub moves_as_told : (w : ℕ) (test : ItemId → Bool) (history : List Change) (applied : List AppliedBump) (x : Lane)
+pub moves_as_told : (w : ℕ) (test : ItemId → Bool) (history : List Change) (applied : List AppliedBump) (x : LaneStage)
     → how_many is_stray history ≡ 0
     → ((n : ℕ) → how_many (is_move_for (λ l. true) w n) history ≡ moves_told test n applied x)
     → moves_of w history ≡ told_of test applied + making test x

@@ -12,8 +12,8 @@ use Rattle.bump_rules.specs.declared.history.Change.{Change}
 use Rattle.bump_rules.specs.declared.history.Change.TheVariants as change
 use Rattle.bump_rules.specs.declared.bumps.AppliedBump.{AppliedBump}
 use Rattle.bump_rules.specs.declared.bumps.Bump.{Bump}
-use Rattle.bump_rules.specs.declared.lanes.Lane.{Lane}
-use Rattle.bump_rules.specs.declared.lanes.Lane.TheVariants as lane
+use Rattle.bump_rules.specs.declared.lanes.LaneStage.{LaneStage}
+use Rattle.bump_rules.specs.declared.lanes.LaneStage.TheVariants as lane
 use Rattle.bump_rules.specs.Tables.{is_cold, is_warm}
 use Rattle.bump_rules.specs.Totals.{how_many}
 use Rattle.bump_rules.specs.Rings.{aboard, bump_applied, numbered_from}
@@ -63,7 +63,7 @@ tests_turned false b c d = sym (ap (λ x. c && x) (and-false d) ∙ and-false c)
 -- Entries of a lane.
 
 -- equal tests tell of equally many moves
-pub told_same : (t u : ItemId → Bool) → ((l : ItemId) → t l ≡ u l) → (n : ℕ) (applied : List AppliedBump) (x : Lane)
+pub told_same : (t u : ItemId → Bool) → ((l : ItemId) → t l ≡ u l) → (n : ℕ) (applied : List AppliedBump) (x : LaneStage)
     → moves_told t n applied x ≡ moves_told u n applied x
 told_same t u same n applied x = omega (
   arith,
@@ -72,7 +72,7 @@ told_same t u same n applied x = omega (
   moving_same x,
 )
   where
-    moving_same : (x : Lane) → moving t n x ≡ moving u n x
+    moving_same : (x : LaneStage) → moving t n x ≡ moving u n x
     moving_same lane.Empty = refl
     moving_same (lane.Carrying b) = refl
     moving_same (lane.Tried b) = refl
@@ -81,7 +81,7 @@ told_same t u same n applied x = omega (
 
 -- tests of which no item passes both tell of no more moves together than there are
 pub told_apart : (t u : ItemId → Bool) → ((l : ItemId) → bit (t l) + bit (u l) ≤ 1)
-    → (n : ℕ) (applied : List AppliedBump) (x : Lane)
+    → (n : ℕ) (applied : List AppliedBump) (x : LaneStage)
     → moves_told t n applied x + moves_told u n applied x ≤ moves_told (λ l. true) n applied x
 told_apart t u apart n applied x = omega (arith, entries applied, last x)
   where
@@ -102,7 +102,7 @@ told_apart t u apart n applied x = omega (arith, entries applied, last x)
       entries more,
     )
 
-    last : (x : Lane) → moving t n x + moving u n x ≤ moving (λ l. true) n x
+    last : (x : LaneStage) → moving t n x + moving u n x ≤ moving (λ l. true) n x
     last lane.Empty = omega arith
     last (lane.Carrying b) = omega arith
     last (lane.Tried b) = omega arith
@@ -110,7 +110,7 @@ told_apart t u apart n applied x = omega (arith, entries applied, last x)
     last (lane.Moved b) = one (b.number == n) (t b.life) (u b.life) (apart b.life)
 
 -- a test tells of no more moves than there are
-pub told_below : (test : ItemId → Bool) (n : ℕ) (applied : List AppliedBump) (x : Lane)
+pub told_below : (test : ItemId → Bool) (n : ℕ) (applied : List AppliedBump) (x : LaneStage)
     → moves_told test n applied x ≤ moves_told (λ l. true) n applied x
 told_below test n applied x = omega (arith, told_apart test (λ l. false) (λ l. few (test l)) n applied x)
   where
@@ -149,7 +149,7 @@ numbered_once n m (l ∷ ls) = by (m == n) refl (numbered_once n (suc m) ls)
 
 -- the moves of bump n that a lane tells of, and its entries of bump n that tell of none, are no
 -- more than its bumps of that number
-told_numbered : (n : ℕ) (applied : List AppliedBump) (x : Lane)
+told_numbered : (n : ℕ) (applied : List AppliedBump) (x : LaneStage)
     → moves_told (λ l. true) n applied x + how_many (is_told_unmoved n) applied ≤ how_many (is_number n)
     (map bump_applied applied ++ aboard x)
 told_numbered n applied x = omega (
@@ -170,14 +170,14 @@ told_numbered n applied x = omega (
     entries [] = omega arith
     entries (a ∷ more) = omega (arith, entry (is_moved a.outcome) (a.number == n), entries more)
 
-    last : (x : Lane) → moving (λ l. true) n x ≤ how_many (is_number n) (aboard x)
+    last : (x : LaneStage) → moving (λ l. true) n x ≤ how_many (is_number n) (aboard x)
     last lane.Empty = omega arith
     last (lane.Carrying b) = omega arith
     last (lane.Tried b) = omega arith
     last (lane.Cleared b found) = omega arith
     last (lane.Moved b) = omega (arith, ap bit (and-true (b.number == n)))
 
-module _ (applied : List AppliedBump) (x : Lane) (received : List ItemId)
+module _ (applied : List AppliedBump) (x : LaneStage) (received : List ItemId)
     (in_order : map bump_applied applied ++ aboard x ≡ numbered_from 0 received) where
   -- a lane that applies what it received, in order, tells of one move at most for a bump
   pub told_once : (n : ℕ) → moves_told (λ l. true) n applied x ≤ 1
@@ -250,7 +250,7 @@ module _ (l : ItemId) (test : ItemId → Bool) (only : (j : ItemId) → test j �
       )
 
   -- a lane that has just made the move
-  moving_is : (x : Lane) → 0 < moving test n x → x ≡ lane.Moved (bump_of n l)
+  moving_is : (x : LaneStage) → 0 < moving test n x → x ≡ lane.Moved (bump_of n l)
   moving_is lane.Empty some = absurd (omega (arith, some))
   moving_is (lane.Carrying b) some = absurd (omega (arith, some))
   moving_is (lane.Tried b) some = absurd (omega (arith, some))
@@ -265,7 +265,7 @@ module _ (l : ItemId) (test : ItemId → Bool) (only : (j : ItemId) → test j �
       by false is = absurd (omega (arith, some, ap bit is))
 
   -- a lane that tells of a move for bump n of the life shows it
-  pub told_shows : (applied : List AppliedBump) (x : Lane) (received : List ItemId)
+  pub told_shows : (applied : List AppliedBump) (x : LaneStage) (received : List ItemId)
       → map bump_applied applied ++ aboard x ≡ numbered_from 0 received
       → 0 < moves_told test n applied x → ShowsMove n l applied x
   told_shows applied x received is some = by (cases_lt 0 (how_many (is_told_moved test n) applied))

@@ -9,8 +9,8 @@ use Rattle.bump_rules.specs.declared.history.Change.TheVariants as change
 use Rattle.bump_rules.specs.declared.bumps.AppliedBump.{AppliedBump}
 use Rattle.bump_rules.specs.declared.bumps.Outcome.{Outcome}
 use Rattle.bump_rules.specs.declared.bumps.Outcome.TheVariants as outcome
-use Rattle.bump_rules.specs.declared.lanes.Lane.{Lane}
-use Rattle.bump_rules.specs.declared.lanes.Lane.TheVariants as lane
+use Rattle.bump_rules.specs.declared.lanes.LaneStage.{LaneStage}
+use Rattle.bump_rules.specs.declared.lanes.LaneStage.TheVariants as lane
 use Rattle.bump_rules.specs.Lanes.{bump_of, applied_bump}
 use Rattle.bump_rules.specs.Lives.{is_same}
 use Rattle.bump_rules.specs.Tables.{is_warm, is_cold}
@@ -114,7 +114,7 @@ abbrev pub is_told_gone : ItemId → AppliedBump → Bool
 is_told_gone item entry = is_gone entry.outcome && is_same item entry.life
 
 -- 1 where the lane has moved an item for the bump with this number, which passes the test, and has not told it yet
-abbrev pub moving : (ItemId → Bool) → ℕ → Lane → ℕ
+abbrev pub moving : (ItemId → Bool) → ℕ → LaneStage → ℕ
 moving test number lane.Empty = 0
 moving test number (lane.Carrying bump) = 0
 moving test number (lane.Tried bump) = 0
@@ -122,7 +122,7 @@ moving test number (lane.Cleared bump found) = 0
 moving test number (lane.Moved bump) = cond ((bump.number == number) && test bump.life) 1 0
 
 -- 1 where the lane has moved an item that passes the test, and has not told it yet
-abbrev pub making : (ItemId → Bool) → Lane → ℕ
+abbrev pub making : (ItemId → Bool) → LaneStage → ℕ
 making test lane.Empty = 0
 making test (lane.Carrying bump) = 0
 making test (lane.Tried bump) = 0
@@ -131,12 +131,12 @@ making test (lane.Moved bump) = cond (test bump.life) 1 0
 
 -- how many moves for the bump with this number a lane tells of, by its entries and by how far it is, of items that
 -- pass the test
-abbrev pub moves_told : (ItemId → Bool) → ℕ → List AppliedBump → Lane → ℕ
+abbrev pub moves_told : (ItemId → Bool) → ℕ → List AppliedBump → LaneStage → ℕ
 moves_told test number applied progress = how_many (is_told_moved test number) applied + moving test number progress
 
 -- The bump with this number moved this item, and its lane shows it: its entry of this number tells of it, or the move
 -- is the application in progress.
-abbrev pub ShowsMove : ℕ → ItemId → List AppliedBump → Lane → Type 0
+abbrev pub ShowsMove : ℕ → ItemId → List AppliedBump → LaneStage → Type 0
 ShowsMove number item applied progress =
     (slice_get applied number ≡ Some (applied_bump (bump_of number item) outcome.Moved))
     ⊎ (progress ≡ lane.Moved (bump_of number item))

@@ -4,8 +4,8 @@ use Rattle.bump_rules.specs.declared.items.ItemId.{ItemId}
 use Rattle.bump_rules.specs.declared.bumps.Accounts.{Accounts}
 use Rattle.bump_rules.specs.declared.bumps.AppliedBump.{AppliedBump}
 use Rattle.bump_rules.specs.declared.bumps.Bump.{Bump}
-use Rattle.bump_rules.specs.declared.lanes.Lane.{Lane}
-use Rattle.bump_rules.specs.declared.lanes.Lane.TheVariants as lane
+use Rattle.bump_rules.specs.declared.lanes.LaneStage.{LaneStage}
+use Rattle.bump_rules.specs.declared.lanes.LaneStage.TheVariants as lane
 use Rattle.bump_rules.specs.declared.hands.Hand.{Hand}
 use Rattle.bump_rules.specs.declared.hands.Hand.TheVariants as hand
 
@@ -14,7 +14,7 @@ abbrev pub left_of : List ItemId → List ItemId → List ItemId
 left_of sent received = drop (length received) sent
 
 -- the bump aboard a lane, if any
-abbrev pub aboard : Lane → List Bump
+abbrev pub aboard : LaneStage → List Bump
 aboard lane.Empty = []
 aboard (lane.Carrying bump) = bump ∷ []
 aboard (lane.Tried bump) = bump ∷ []

@@ -117,7 +117,7 @@ impl Classes {
     }
 }
 
-/// Whether a class has no chunks, or all have more than 1,000,000 together.
+// Whether a class has no chunks, or all have more than 1,000,000 together.
 fn has_wrong_chunks(classes: &[ClassConfig]) -> bool
     ensures { result ≡ have_wrong_chunks classes.now }
 {
@@ -178,7 +178,7 @@ impl Config {
     }
 }
 
-/// The chunks of all these classes.
+// The chunks of all these classes.
 fn count_chunks(classes: &[ClassConfig]) -> u32
     requires { chunks_of classes.now ≤ MAX_CHUNKS }
     ensures { result ≡ chunks_of classes.now }

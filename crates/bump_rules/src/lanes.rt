@@ -9,7 +9,7 @@ use crate::places::Segment;
 
 /// How far a lane is with the bump that it carries.
 #[derive(Clone, Copy, Debug, PartialEq, Eq)]
-pub enum Lane {
+pub enum LaneStage {
     /// No bump is aboard.
     Empty,
 
@@ -26,12 +26,12 @@ pub enum Lane {
     Moved(Bump),
 }
 
-impl Lane {
+impl LaneStage {
     /// Whether no bump is aboard.
     pub fn is_empty(self) -> bool
         ensures { result ≡ is_empty self }
     {
-        matches!(self, Lane::Empty)
+        matches!(self, LaneStage::Empty)
     }
 
     /// The bump that was taken, and not looked at yet.
@@ -39,7 +39,7 @@ impl Lane {
         ensures { result ≡ carried self }
     {
         match self {
-            Lane::Carrying(bump) => Some(bump),
+            LaneStage::Carrying(bump) => Some(bump),
             _ => None,
         }
     }
@@ -49,7 +49,7 @@ impl Lane {
         ensures { result ≡ tried self }
     {
         match self {
-            Lane::Tried(bump) => Some(bump),
+            LaneStage::Tried(bump) => Some(bump),
             _ => None,
         }
     }
@@ -59,7 +59,9 @@ impl Lane {
         ensures { result ≡ applied_now self }
     {
         match self {
-            Lane::Tried(bump) | Lane::Cleared(bump, _) | Lane::Moved(bump) => Some(bump),
+            LaneStage::Tried(bump) | LaneStage::Cleared(bump, _) | LaneStage::Moved(bump) => Some(
+                bump,
+            ),
             _ => None,
         }
     }
@@ -78,7 +80,10 @@ impl Lane {
     pub fn is_applying(self) -> bool
         ensures { result ≡ is_some (applied_life self) }
     {
-        matches!(self, Lane::Tried(_) | Lane::Cleared(_, _) | Lane::Moved(_))
+        matches!(
+            self,
+            LaneStage::Tried(_) | LaneStage::Cleared(_, _) | LaneStage::Moved(_)
+        )
     }
 
     /// The bump whose item had ACTIVE, and is to be moved.
@@ -86,7 +91,7 @@ impl Lane {
         ensures { result ≡ cleared_active self }
     {
         match self {
-            Lane::Cleared(bump, true) => Some(bump),
+            LaneStage::Cleared(bump, true) => Some(bump),
             _ => None,
         }
     }
@@ -95,7 +100,7 @@ impl Lane {
     pub fn is_half_made(self) -> bool
         ensures { result ≡ is_half_made self }
     {
-        !matches!(self, Lane::Empty | Lane::Carrying(_))
+        !matches!(self, LaneStage::Empty | LaneStage::Carrying(_))
     }
 
     /// What the lane may end its bump with, by the head of the bump's item, if it may.
@@ -103,12 +108,12 @@ impl Lane {
         ensures { result ≡ ending_at (λ _. head) self }
     {
         let (bump, outcome) = match self {
-            Lane::Tried(bump) if !head.linked => (bump, Outcome::Gone),
-            Lane::Tried(bump) if !matches!(head.segment, Segment::Cold) => {
+            LaneStage::Tried(bump) if !head.linked => (bump, Outcome::Gone),
+            LaneStage::Tried(bump) if !matches!(head.segment, Segment::Cold) => {
                 (bump, Outcome::TimeOnly)
             }
-            Lane::Cleared(bump, false) => (bump, Outcome::TimeOnly),
-            Lane::Moved(bump) => (bump, Outcome::Moved),
+            LaneStage::Cleared(bump, false) => (bump, Outcome::TimeOnly),
+            LaneStage::Moved(bump) => (bump, Outcome::Moved),
             _ => return None,
         };
         Some(AppliedBump {

@@ -26,6 +26,6 @@ pub use hands::Hand;
 pub use history::{Cause, Change};
 pub use items::{Head, ItemId};
 pub use labels::LabelStep;
-pub use lanes::Lane;
+pub use lanes::LaneStage;
 pub use places::{Limits, Place, Segment, Start, Tail};
 pub use tables::MOST_EXCHANGES;

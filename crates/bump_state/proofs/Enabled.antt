@@ -12,8 +12,8 @@ use Rattle.bump_rules.specs.declared.bumps.Outcome.{Outcome}
 use Rattle.bump_rules.specs.declared.bumps.Outcome.TheVariants as outcome
 use Rattle.bump_rules.specs.declared.items.ItemId.{ItemId}
 use Rattle.bump_rules.specs.declared.bumps.Bump.{Bump}
-use Rattle.bump_rules.specs.declared.lanes.Lane.{Lane}
-use Rattle.bump_rules.specs.declared.lanes.Lane.TheVariants as lane
+use Rattle.bump_rules.specs.declared.lanes.LaneStage.{LaneStage}
+use Rattle.bump_rules.specs.declared.lanes.LaneStage.TheVariants as lane
 use Rattle.bump_rules.specs.declared.events.Event.TheVariants as event
 use Rattle.bump_rules.specs.declared.hands.Hand.{Hand}
 use Rattle.bump_rules.specs.declared.hands.Hand.TheVariants as hand
@@ -97,7 +97,7 @@ idle_from (hand.InHand m) is = absurd (false≢true is)
 idle_from (hand.Clearing m) is = absurd (false≢true is)
 
 -- the lane with no bump
-pub empty_from : (x : Lane) → is_empty x ≡ true → x ≡ lane.Empty
+pub empty_from : (x : LaneStage) → is_empty x ≡ true → x ≡ lane.Empty
 empty_from lane.Empty is = refl
 empty_from (lane.Carrying b) is = absurd (false≢true is)
 empty_from (lane.Tried b) is = absurd (false≢true is)
@@ -105,7 +105,7 @@ empty_from (lane.Cleared b found) is = absurd (false≢true is)
 empty_from (lane.Moved b) is = absurd (false≢true is)
 
 -- the lane that took this bump from its ring
-pub carrying_from : (x : Lane) (b : Bump) → carried x ≡ Some b → x ≡ lane.Carrying b
+pub carrying_from : (x : LaneStage) (b : Bump) → carried x ≡ Some b → x ≡ lane.Carrying b
 carrying_from lane.Empty b is = absurd (let u : ⊥ = cc in u)
 carrying_from (lane.Carrying a) b is = cc
 carrying_from (lane.Tried a) b is = absurd (let u : ⊥ = cc in u)
@@ -113,7 +113,7 @@ carrying_from (lane.Cleared a found) b is = absurd (let u : ⊥ = cc in u)
 carrying_from (lane.Moved a) b is = absurd (let u : ⊥ = cc in u)
 
 -- the lane that looked at the item of this bump
-pub tried_from : (x : Lane) (b : Bump) → tried x ≡ Some b → x ≡ lane.Tried b
+pub tried_from : (x : LaneStage) (b : Bump) → tried x ≡ Some b → x ≡ lane.Tried b
 tried_from lane.Empty b is = absurd (let u : ⊥ = cc in u)
 tried_from (lane.Carrying a) b is = absurd (let u : ⊥ = cc in u)
 tried_from (lane.Tried a) b is = cc
@@ -121,7 +121,7 @@ tried_from (lane.Cleared a found) b is = absurd (let u : ⊥ = cc in u)
 tried_from (lane.Moved a) b is = absurd (let u : ⊥ = cc in u)
 
 -- the lane that found ACTIVE set of the item of this bump
-pub cleared_from : (x : Lane) (b : Bump) → cleared_active x ≡ Some b → x ≡ lane.Cleared b true
+pub cleared_from : (x : LaneStage) (b : Bump) → cleared_active x ≡ Some b → x ≡ lane.Cleared b true
 cleared_from lane.Empty b is = absurd (let u : ⊥ = cc in u)
 cleared_from (lane.Carrying a) b is = absurd (let u : ⊥ = cc in u)
 cleared_from (lane.Tried a) b is = absurd (let u : ⊥ = cc in u)
@@ -130,7 +130,7 @@ cleared_from (lane.Cleared a false) b is = absurd (let u : ⊥ = cc in u)
 cleared_from (lane.Moved a) b is = absurd (let u : ⊥ = cc in u)
 
 -- the bump that a lane applies is of the life on which it works
-pub applied_from : (x : Lane) (b : Bump) → applied_now x ≡ Some b → applied_life x ≡ Some b.life
+pub applied_from : (x : LaneStage) (b : Bump) → applied_now x ≡ Some b → applied_life x ≡ Some b.life
 applied_from x b is = ap (option_map (λ (z : Bump). z.life)) is
 
 -- there is a worker of this number
@@ -210,7 +210,7 @@ tried_ending b None a is = absurd (let u : ⊥ = cc in u)
 tried_ending b (Some e) a is = let same : applied_bump b e ≡ a = cc in ap bump_applied same
 
 -- a lane that may end a bump applies it
-pub applied_by_ending : (heads : ℕ → Head) (x : Lane) (a : AppliedBump) → ending_at heads x ≡ Some a → applied_now x
+pub applied_by_ending : (heads : ℕ → Head) (x : LaneStage) (a : AppliedBump) → ending_at heads x ≡ Some a → applied_now x
     ≡ Some (bump_applied a)
 applied_by_ending heads lane.Empty a is = absurd (let u : ⊥ = cc in u)
 applied_by_ending heads (lane.Carrying b) a is = absurd (let u : ⊥ = cc in u)

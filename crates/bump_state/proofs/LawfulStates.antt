@@ -7,8 +7,8 @@ use native.Mathlib.Decide.{ℕ_discrete}
 use Rattle.bump_rules.specs.declared.places.Place.TheVariants.{Unused}
 use Rattle.bump_rules.specs.declared.items.ItemId.{ItemId}
 use Rattle.bump_rules.specs.declared.bumps.Bump.{Bump}
-use Rattle.bump_rules.specs.declared.lanes.Lane.{Lane}
-use Rattle.bump_rules.specs.declared.lanes.Lane.TheVariants as lane
+use Rattle.bump_rules.specs.declared.lanes.LaneStage.{LaneStage}
+use Rattle.bump_rules.specs.declared.lanes.LaneStage.TheVariants as lane
 use Rattle.bump_rules.specs.declared.hands.Hand.TheVariants as hand
 use Rattle.bump_state.specs.declared.chunks.Chunk.{Chunk}
 use Rattle.bump_rules.specs.declared.places.Segment.TheVariants as segment
@@ -68,7 +68,7 @@ same_lives l m e = let both = and_parts (eqb l.chunk m.chunk) (eqb l.generation 
     λ i. life (chunks i) (generations i)
 
 -- a lane that applies a bump has it aboard
-applied_counts : (x : Lane) (l : ItemId) → applied_life x ≡ Some l → 0 < in_lane_of l x
+applied_counts : (x : LaneStage) (l : ItemId) → applied_life x ≡ Some l → 0 < in_lane_of l x
 applied_counts lane.Empty l is = absurd (let u : ⊥ = cc in u)
 applied_counts (lane.Carrying b) l is = absurd (let u : ⊥ = cc in u)
 applied_counts (lane.Tried b) l is = let same : b.life ≡ l = cc in omega (arith, ap (one_if l) same, one_if_same l)

@@ -6,7 +6,7 @@ use Rattle.std.proofs.lemmas.List.{drop-append-le}
 use Rattle.std.proofs.lemmas.Option.{slice_get_within, get_or_from_slice_get}
 use Rattle.bump_rules.specs.declared.items.ItemId.{ItemId}
 use Rattle.bump_rules.specs.declared.bumps.Bump.{Bump}
-use Rattle.bump_rules.specs.declared.lanes.Lane.{Lane}
+use Rattle.bump_rules.specs.declared.lanes.LaneStage.{LaneStage}
 use Rattle.bump_state.specs.Events.{next_bump}
 use Rattle.bump_rules.specs.Lanes.{bump_of}
 use Rattle.bump_state.specs.Rings.{in_ring, IsWorker}
@@ -33,7 +33,7 @@ numbered_append n (x ∷ xs) ys k e = ap (λ (bs : List Bump). bump_of n x ∷ b
     (omega arith))
 
 -- a lane further on with the same bump keeps its worker lawful
-pub lane_further : (capacity : ℕ) (x : WorkerState) (z : Lane) → IsWorker capacity x → aboard z ≡ aboard x.lane
+pub lane_further : (capacity : ℕ) (x : WorkerState) (z : LaneStage) → IsWorker capacity x → aboard z ≡ aboard x.lane
     → IsWorker capacity (record x { lane = z })
 lane_further capacity x z was same = record {
   ring = was.ring;

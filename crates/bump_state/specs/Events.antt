@@ -14,8 +14,8 @@ use Rattle.bump_rules.specs.declared.history.Cause.TheVariants.{Pull, Bump as Bu
 use Rattle.bump_rules.specs.declared.history.Change.TheVariants as change
 use Rattle.bump_rules.specs.declared.bumps.AppliedBump.{AppliedBump}
 use Rattle.bump_rules.specs.declared.bumps.Bump.{Bump}
-use Rattle.bump_rules.specs.declared.lanes.Lane.{Lane}
-use Rattle.bump_rules.specs.declared.lanes.Lane.TheVariants as lane
+use Rattle.bump_rules.specs.declared.lanes.LaneStage.{LaneStage}
+use Rattle.bump_rules.specs.declared.lanes.LaneStage.TheVariants as lane
 use Rattle.bump_rules.specs.declared.hands.Hand.TheVariants as hand
 use Rattle.bump_rules.specs.declared.events.Event.{Event}
 use Rattle.bump_rules.specs.declared.events.Event.TheVariants as event
@@ -271,7 +271,7 @@ take_bump state worker item =
       lane = lane.Carrying (bump_of (length old.received) item);
     })
 
-abbrev pub with_lane : State → ℕ → Lane → State
+abbrev pub with_lane : State → ℕ → LaneStage → State
 with_lane state worker progress = with_worker state worker (record (worker_at state worker) { lane = progress })
 
 -- ACTIVE is cleared for a bump, and its lane keeps whether it was set

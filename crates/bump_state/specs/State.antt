@@ -8,8 +8,8 @@ use Rattle.bump_rules.specs.declared.bumps.Accounts.{Accounts}
 use Rattle.bump_state.specs.declared.chunks.Chunk.{Chunk}
 use Rattle.bump_rules.specs.declared.history.Change.{Change}
 use Rattle.bump_rules.specs.declared.bumps.AppliedBump.{AppliedBump}
-use Rattle.bump_rules.specs.declared.lanes.Lane.{Lane}
-use Rattle.bump_rules.specs.declared.lanes.Lane.TheVariants as lane
+use Rattle.bump_rules.specs.declared.lanes.LaneStage.{LaneStage}
+use Rattle.bump_rules.specs.declared.lanes.LaneStage.TheVariants as lane
 use Rattle.bump_rules.specs.declared.hands.Hand.{Hand}
 use Rattle.bump_rules.specs.declared.hands.Hand.TheVariants as hand
 use Rattle.bump_rules.specs.Heads.{fresh_head}
@@ -39,7 +39,7 @@ pub record WorkerState : Type 0 where
   pub first_hits : List ItemId
   pub sent : List ItemId
   pub received : List ItemId
-  pub lane : Lane
+  pub lane : LaneStage
   pub applied : List AppliedBump
 
 -- the limit of a reference count, the capacity of a ring, and all chunks, classes and workers by number
@@ -166,7 +166,7 @@ some_and test None = false
 some_and test (Some value) = test value
 
 -- the lane applies a bump of this class
-abbrev pub applies_in : State → ℕ → Lane → Bool
+abbrev pub applies_in : State → ℕ → LaneStage → Bool
 applies_in state class progress = some_and (λ item. class_of state item.chunk == class) (applied_life progress)
 
 -- a class is under application while a lane applies a bump of it

@@ -1,7 +1,7 @@
 -- What the parts of the program stand for.
 use Rattle.std.specs.Prelude.{map}
 use Rattle.bump_state.specs.declared.classes.Class.{Class}
-use Rattle.bump_state.specs.declared.parts.Parts.{Parts}
+use Rattle.bump_state.specs.declared.parts.WorldParts.{WorldParts}
 use Rattle.bump_state.specs.State.{State, ClassState}
 use Rattle.bump_state.specs.Workers.{worker_views}
 
@@ -16,7 +16,7 @@ class_view class = record {
   history = class.history.items;
 }
 
-abbrev pub state_of : Parts → State
+abbrev pub state_of : WorldParts → State
 state_of parts = record {
   refs_limit = parts.refs_limit;
   capacity = parts.capacity;

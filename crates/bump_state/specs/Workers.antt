@@ -28,8 +28,8 @@ abbrev pub worker_view_at : List Worker → ℕ → WorkerState
 worker_view_at workers number = slice_index_or (worker_views workers) number new_worker
 
 -- a worker's list of applied bumps has room for one more
-abbrev pub HasRoom : List Worker → ℕ → Type 0
-HasRoom workers number =
+abbrev pub HasRoomToApply : List Worker → ℕ → Type 0
+HasRoomToApply workers number =
     (one : Worker) → one ≡ slice_index_or workers number one → vec_len one.applied < vec_capacity one.applied
 
 -- the worker is not Idle

@@ -3,8 +3,8 @@ use Rattle.std.specs.Prelude.{◌≡◌, ℕ, ◌+◌, ◌<◌, ◌≤◌, Bool,
 use Rattle.bump_rules.specs.declared.places.Place.{Place}
 use Rattle.bump_rules.specs.declared.places.Segment.TheVariants as segment
 use Rattle.bump_rules.specs.declared.items.ItemId.{ItemId}
-use Rattle.bump_rules.specs.declared.lanes.Lane.{Lane}
-use Rattle.bump_rules.specs.declared.lanes.Lane.TheVariants as lane
+use Rattle.bump_rules.specs.declared.lanes.LaneStage.{LaneStage}
+use Rattle.bump_rules.specs.declared.lanes.LaneStage.TheVariants as lane
 use Rattle.bump_rules.specs.declared.hands.Hand.{Hand}
 use Rattle.bump_rules.specs.declared.hands.Hand.TheVariants as hand
 use Rattle.bump_rules.specs.Totals.{total, how_many}
@@ -29,7 +29,7 @@ in_hand_of item (hand.InHand life) = one_if item life
 in_hand_of item _ = 0
 
 -- the references to a life that the bump aboard a lane has
-abbrev pub in_lane_of : ItemId → Lane → ℕ
+abbrev pub in_lane_of : ItemId → LaneStage → ℕ
 in_lane_of item stage = total (λ bump. one_if item bump.life) (aboard stage)
 
 -- the references to a life that a worker's bumps have: in its hand, in its ring and in its lane
@@ -77,7 +77,7 @@ pub record IsClass (class : ClassState) : Type 0 where
   pub causes : how_many is_stray class.history ≡ 0
 
 -- where a lane found ACTIVE and has not moved the item yet, the item is linked and in COLD
-abbrev pub WaitsToMove : State → Lane → Type 0
+abbrev pub WaitsToMove : State → LaneStage → Type 0
 WaitsToMove state (lane.Cleared bump true) =
     ((head_at state bump.life.chunk).linked ≡ true) × ((head_at state bump.life.chunk).segment ≡ segment.Cold)
 WaitsToMove state _ = Unit {0}

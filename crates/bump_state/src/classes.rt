@@ -36,7 +36,7 @@ pub struct Class {
     pub history: Vec<Change>,
 }
 
-/// The lists follow entries: each puts its chunk at the front of its list, in order.
+// The lists follow entries: each puts its chunk at the front of its list, in order.
 fn follow(lists: &mut ClassLists, entries: &[Change])
     requires { AreListed lists.old entries.now }
     ensures { lists.new ≡ replay lists.old entries.now }
@@ -46,7 +46,7 @@ fn follow(lists: &mut ClassLists, entries: &[Change])
     }
 }
 
-/// The entries of a sweep join the history of these lists: of the chunks of DYING that nobody holds, front to back.
+// The entries of a sweep join the history of these lists: of the chunks of DYING that nobody holds, front to back.
 fn enter_unheld(history: &mut Vec<Change>, lists: &ClassLists, chunks: &[Chunk])
     requires chunks { All (λ c. c < length chunks.now) lists.now.dying }
     requires room { vec_len history.old + length (unheld (heads_of chunks.now) lists.now.dying)

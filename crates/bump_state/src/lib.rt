@@ -9,5 +9,5 @@ mod workers;
 
 pub use chunks::Chunk;
 pub use classes::Class;
-pub use parts::Parts;
+pub use parts::WorldParts;
 pub use workers::{Worker, Workers};

@@ -10,7 +10,7 @@ use crate::workers::Workers;
 
 /// The state of a World. Chunks, classes and workers are numbered from 0, each by its place in its list.
 #[derive(Drop)]
-pub struct Parts {
+pub struct WorldParts {
     /// The limit of a reference count: 1 or more, where the state is lawful.
     pub refs_limit: u32,
 

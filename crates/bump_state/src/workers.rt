@@ -3,7 +3,7 @@ ghost use Rattle.std.specs.Prelude.{◌≤◌, length};
 
 mod changes;
 
-use bump_rules::{Accounts, AppliedBump, Hand, ItemId, Lane};
+use bump_rules::{Accounts, AppliedBump, Hand, ItemId, LaneStage};
 use std::alloc::{AllocError, Global};
 use std::marker::Model;
 
@@ -29,7 +29,7 @@ pub struct Worker {
     pub received: usize,
 
     /// How far its lane is with a bump.
-    pub lane: Lane,
+    pub lane: LaneStage,
 
     /// The bumps that its lane applied, in order.
     pub applied: Vec<AppliedBump>,
@@ -67,7 +67,7 @@ impl Worker {
     ghost use Rattle.bump_state.specs.State.{new_worker};
     ghost use Rattle.bump_state.specs.Workers.{worker_view};
 
-    /// A worker that has done nothing.
+    // A worker that has done nothing.
     fn new(alloc: Global) -> Worker
         ensures { worker_view result ≡ new_worker }
     {
@@ -78,7 +78,7 @@ impl Worker {
             first_hits: Vec::new(alloc),
             sent: Vec::new(alloc),
             received: 0,
-            lane: Lane::Empty,
+            lane: LaneStage::Empty,
             applied: Vec::new(alloc),
         }
     }

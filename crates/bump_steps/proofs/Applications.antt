@@ -10,8 +10,8 @@ use Rattle.bump_rules.specs.declared.history.Cause.TheVariants as cause
 use Rattle.bump_rules.specs.declared.history.Change.TheVariants as change
 use Rattle.bump_rules.specs.declared.configs.Config.{Config}
 use Rattle.bump_rules.specs.declared.bumps.Bump.{Bump}
-use Rattle.bump_rules.specs.declared.lanes.Lane.{Lane}
-use Rattle.bump_rules.specs.declared.lanes.Lane.TheVariants as lane
+use Rattle.bump_rules.specs.declared.lanes.LaneStage.{LaneStage}
+use Rattle.bump_rules.specs.declared.lanes.LaneStage.TheVariants as lane
 use Rattle.bump_rules.specs.declared.bumps.AppliedBump.{AppliedBump}
 use Rattle.bump_rules.specs.declared.bumps.Outcome.{Outcome}
 use Rattle.bump_rules.specs.declared.bumps.Outcome.TheVariants as outcome
@@ -54,14 +54,14 @@ use Rattle.bump_steps.proofs.StepLemmas.{at_time, at_chunk, on_first_total, on_f
 
 -- ---- looking at the head of the bump's item
 
-pub try_refers : (s : Lane) → bump_aboard (stage_after_try s) ≡ bump_aboard s
+pub try_refers : (s : LaneStage) → bump_aboard (stage_after_try s) ≡ bump_aboard s
 try_refers lane.Empty = refl
 try_refers (lane.Carrying b) = refl
 try_refers (lane.Tried b) = refl
 try_refers (lane.Cleared b f) = refl
 try_refers (lane.Moved b) = refl
 
-pub try_going : (q : Query) (s : Lane) → moving q.test q.number (stage_after_try s) ≡ moving q.test q.number s
+pub try_going : (q : Query) (s : LaneStage) → moving q.test q.number (stage_after_try s) ≡ moving q.test q.number s
 try_going q lane.Empty = refl
 try_going q (lane.Carrying b) = refl
 try_going q (lane.Tried b) = refl
@@ -118,14 +118,14 @@ try_backed c n v = record {
 
 -- ---- clearing ACTIVE
 
-pub clear_active_refers : (f : Bool) (s : Lane) → bump_aboard (stage_after_clear_active f s) ≡ bump_aboard s
+pub clear_active_refers : (f : Bool) (s : LaneStage) → bump_aboard (stage_after_clear_active f s) ≡ bump_aboard s
 clear_active_refers f lane.Empty = refl
 clear_active_refers f (lane.Carrying b) = refl
 clear_active_refers f (lane.Tried b) = refl
 clear_active_refers f (lane.Cleared b g) = refl
 clear_active_refers f (lane.Moved b) = refl
 
-clear_active_going : (q : Query) (f : Bool) (s : Lane) → moving q.test q.number (stage_after_clear_active f s)
+clear_active_going : (q : Query) (f : Bool) (s : LaneStage) → moving q.test q.number (stage_after_clear_active f s)
     ≡ moving q.test q.number s
 clear_active_going q f lane.Empty = refl
 clear_active_going q f (lane.Carrying b) = refl
@@ -306,7 +306,7 @@ no_bits true = refl
 no_bits false = refl
 
 -- a class that names the application of a lane names it as often as the lane is underway with it
-names_as_underway : (q : Query) (w : ℕ) (s : Lane) → names_move q (application_of w s) ≡ cond (w == q.worker)
+names_as_underway : (q : Query) (w : ℕ) (s : LaneStage) → names_move q (application_of w s) ≡ cond (w == q.worker)
     (moving q.test q.number s) 0
 names_as_underway q w lane.Empty = sym (no_bits (w == q.worker))
 names_as_underway q w (lane.Carrying b) = sym (no_bits (w == q.worker))
@@ -576,7 +576,7 @@ may_move {law = law} key slots id c x from to m near (inl (k, p)) =
     (on_chunk (move_tells from to) (step slots (head_place slots c) x 0 none) (v, m.1))) (sym p.view)
     (moves_by_pull key slots id c near k from to p.stands m.1 x)
 may_move {law = law} key slots id c x from to m near (inr (k, l, b, g)) = let is : m.0 ≡ applying k
-    (record l { stage = lane.Cleared b true }) = g.view ∙ ap (λ (s : Lane). applying k (record l { stage = s }))
+    (record l { stage = lane.Cleared b true }) = g.view ∙ ap (λ (s : LaneStage). applying k (record l { stage = s }))
     g.stage in
     subst (λ (v : View). Allows (Kept law key) slots id (v, m.1) (head_place slots c) (λ n. bit_xor n (segment_change from to))
     (on_chunk (move_tells from to) (step slots (head_place slots c) x 0 none) (v, m.1))) (sym is)
@@ -593,11 +593,11 @@ unfolding bump_or
 one_bump d b e = ap (bump_or d) e
 
 -- what a bump aboard counts for: nothing before it is moved
-moving_of : (q : Query) (s : Lane) (b : Bump) → bump_aboard s ≡ Some b → moving q.test q.number s ≡ cond
+moving_of : (q : Query) (s : LaneStage) (b : Bump) → bump_aboard s ≡ Some b → moving q.test q.number s ≡ cond
     (is_past_move s && ((b.number == q.number) && q.test b.life)) 1 0
 moving_of q s b e = by s e
   where
-    by : (s : Lane) → bump_aboard s ≡ Some b → moving q.test q.number s ≡ cond
+    by : (s : LaneStage) → bump_aboard s ≡ Some b → moving q.test q.number s ≡ cond
         (is_past_move s && ((b.number == q.number) && q.test b.life)) 1 0
     by lane.Empty e = refl
     by (lane.Carrying d) e = refl

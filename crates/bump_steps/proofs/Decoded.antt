@@ -4,7 +4,7 @@ use Rattle.bump_rules.specs.declared.items.Head.{Head}
 use Rattle.bump_rules.specs.declared.places.Segment.{Segment}
 use Rattle.bump_rules.specs.declared.places.Segment.TheVariants.{Hot, Warm, Cold, Temp}
 use Rattle.bump_word.specs.Layout.{refs_width, linked_first, fetched_first, active_first, segment_first, segment_width, generation_first}
-use Rattle.bump_word.specs.Words.{Spells, number_of, segment_change}
+use Rattle.bump_word.specs.Words.{Spells, segment_number, segment_change}
 use Rattle.bump_word.proofs.Words.{number_one}
 use Rattle.bump_word.proofs.Steps.{test_linked, test_fetched, test_active, read_refs, read_segment_masked, read_generation}
 
@@ -16,7 +16,7 @@ abbrev pub segment_mask : ℕ
 segment_mask = 2 ^ (segment_width + segment_first) - 2 ^ segment_first
 
 -- the number under the segment's mask tells the segment
-pub segment_read : (n : ℕ) (h : Head) (s : Segment) → Spells n h → bit_and n segment_mask ≡ number_of s * 2
+pub segment_read : (n : ℕ) (h : Head) (s : Segment) → Spells n h → bit_and n segment_mask ≡ segment_number s * 2
     ^ segment_first → s ≡ h.segment
 segment_read n h s spelled is = number_one s h.segment (omega (arith, is, read_segment_masked n h spelled))
 
@@ -26,7 +26,7 @@ pub segment_left : (n : ℕ) (h : Head) → Spells n h → bit_and n segment_mas
     → Hot ≡ h.segment
 segment_left n h spelled not_warm not_cold not_temp = by h.segment (read_segment_masked n h spelled)
   where
-    by : (s : Segment) → bit_and n segment_mask ≡ number_of s * 2 ^ segment_first → Hot ≡ s
+    by : (s : Segment) → bit_and n segment_mask ≡ segment_number s * 2 ^ segment_first → Hot ≡ s
     by Hot is = refl
     by Warm is = absurd (not_warm is)
     by Cold is = absurd (not_cold is)

@@ -36,7 +36,7 @@ use Rattle.bump_rules.proofs.Standings.{standing_same}
 use Rattle.bump_rules.proofs.ToldMoves.{no_move}
 use Rattle.bump_rules.proofs.Updates.{total_push}
 use Rattle.bump_word.specs.Layout.{refs_width, linked_first, generation_first, generation_width}
-use Rattle.bump_word.specs.Words.{Spells, word_of, number_of}
+use Rattle.bump_word.specs.Words.{Spells, word_of, segment_number}
 use Rattle.bump_word.proofs.Steps.{unlink}
 use Rattle.bump_word.proofs.Words.{fields}
 use Rattle.bump_steps.specs.declared.views.Empty.{Empty}
@@ -219,10 +219,10 @@ freed_shows h l off most same = by (l.generation == 4294967295) refl
 
 -- where the life begins
 starts : (a : Start) (n g : ℕ) → Spells n (linked_head a g) → start_in n ≡ a
-starts a n g spells = ap (λ (s : ℕ). if s == number_of segment.Temp then start.Temp else start.Hot)
+starts a n g spells = ap (λ (s : ℕ). if s == segment_number segment.Temp then start.Temp else start.Hot)
     (fields n (linked_head a g) spells).segment ∙ by a
   where
-    by : (a : Start) → (if number_of (first_segment a) == number_of segment.Temp then start.Temp else start.Hot) ≡ a
+    by : (a : Start) → (if segment_number (first_segment a) == segment_number segment.Temp then start.Temp else start.Hot) ≡ a
     by start.Hot = refl
     by start.Temp = refl
 

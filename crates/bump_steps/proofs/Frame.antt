@@ -14,7 +14,7 @@ use Rattle.bump_rules.specs.declared.bumps.AppliedBump.{AppliedBump}
 use Rattle.bump_rules.specs.Lives.{life, one_if}
 use Rattle.bump_rules.proofs.Updates.{total_append, total_below}
 use Rattle.bump_steps.specs.declared.views.View.{View}
-use Rattle.bump_steps.specs.Views.{Measure, held, owners, strays, mislabels, misreads, misread, owns, standing, last_word, weight, tally, claims, evidence, Query, moves, settled, in_progress, underway, foreign, HaveLabels, workers_of, lanes_of, untidy, IsBacked}
+use Rattle.bump_steps.specs.Views.{Measure, held, owners, strays, mislabels, misreads, misread, owns, standing, last_word, weight, tally, claims, evidence, Query, moves, settled, in_progress, underway, foreign, HaveLabels, workers_of, lane_count_of, untidy, IsBacked}
 use Rattle.bump_steps.specs.Places.{head_place, row_at, words_at}
 use Rattle.bump_steps.specs.References.{IsRow}
 use Rattle.bump_steps.proofs.Places.{place_apart, place_near, place_behind, row_long, words_beside, words_written, word_found, with_word, with_same}
@@ -45,7 +45,7 @@ pub record Amid (c : ℕ) (v : View) (t : Measure → ℕ) : Type 0 where
   pub once : (w n : ℕ) → moves (every w n) v ≤ 1
   pub own : foreign v ≡ 0
   -- they have the moves of own items that its lanes tell
-  pub told : (q : Query) → IsOwn q.test v → 0 < lanes_of q.worker v → moves q v ≡ settled q v
+  pub told : (q : Query) → IsOwn q.test v → 0 < lane_count_of q.worker v → moves q v ≡ settled q v
   -- only a reference reads
   pub readers : (i g x : ℕ) → t (held g) ≡ 0 → t (misreads i g x) ≡ 0
 
@@ -170,8 +170,8 @@ module _ {law : Law} (key : Config) (s : State Empty View) (o : Kept law key s) 
     own_chunks = omega (arith, total-set foreign s.views i v w me, back.own, o.own_chunks);
     own_labels = labelled_set s.views i v w me o.own_labels (back.labels (labelled_at s.views i v me o.own_labels));
     one_worker = λ n. omega (arith, total-set (workers_of n) s.views i v w me, back.workers n, o.one_worker n);
-    one_lane = λ n. omega (arith, total-set (lanes_of n) s.views i v w me, back.lanes n, o.one_lane n);
-    few_lanes = λ n far. omega (arith, total-set (lanes_of n) s.views i v w me, back.lanes n, o.few_lanes n far);
+    one_lane = λ n. omega (arith, total-set (lane_count_of n) s.views i v w me, back.lanes n, o.one_lane n);
+    few_lanes = λ n far. omega (arith, total-set (lane_count_of n) s.views i v w me, back.lanes n, o.few_lanes n far);
     orderly = omega (arith, total-set untidy s.views i v w me, back.tidy, o.orderly);
   }
 
@@ -348,8 +348,8 @@ on_spare {law = law} key slots id m w then same back goes s o count me small = l
     own_chunks = omega (arith, total-set foreign s.views id m.0 w me, back.own, o.own_chunks);
     own_labels = labelled_set s.views id m.0 w me o.own_labels (back.labels (labelled_at s.views id m.0 me o.own_labels));
     one_worker = λ k. omega (arith, total-set (workers_of k) s.views id m.0 w me, back.workers k, o.one_worker k);
-    one_lane = λ k. omega (arith, total-set (lanes_of k) s.views id m.0 w me, back.lanes k, o.one_lane k);
-    few_lanes = λ k far. omega (arith, total-set (lanes_of k) s.views id m.0 w me, back.lanes k, o.few_lanes k far);
+    one_lane = λ k. omega (arith, total-set (lane_count_of k) s.views id m.0 w me, back.lanes k, o.one_lane k);
+    few_lanes = λ k far. omega (arith, total-set (lane_count_of k) s.views id m.0 w me, back.lanes k, o.few_lanes k far);
     orderly = omega (arith, total-set untidy s.views id m.0 w me, back.tidy, o.orderly);
   },
   goes n s o me,
@@ -368,7 +368,7 @@ pub splits : {law : Law} (key : Config) (id : ℕ) (v left right : View)
     → ((q : Query) → AddsUp (moves q) v left right × AddsUp (settled q) v left right
     × AddsUp (in_progress q) v left right × AddsUp (underway q) v left right) → AddsUp foreign v left right
     → (HaveLabels v.classes → HaveLabels left.classes × HaveLabels right.classes)
-    → ((n : ℕ) → AddsUp (workers_of n) v left right) → ((n : ℕ) → AddsUp (lanes_of n) v left right)
+    → ((n : ℕ) → AddsUp (workers_of n) v left right) → ((n : ℕ) → AddsUp (lane_count_of n) v left right)
     → AddsUp untidy v left right → Splits (Kept law key) id v left right
 splits key id v left right even entries rides owned labels workers lanes tidy s o me = record {
   wide = o.wide;
@@ -391,8 +391,8 @@ splits key id v left right even entries rides owned labels workers lanes tidy s 
   own_labels = let have = labels (labelled_at s.views id v me o.own_labels) in labelled_push (set s.views id left)
       right (labelled_set s.views id v left me o.own_labels have.0) have.1;
   one_worker = λ n. omega (arith, keep (workers_of n) (workers n), o.one_worker n);
-  one_lane = λ n. omega (arith, keep (lanes_of n) (lanes n), o.one_lane n);
-  few_lanes = λ n far. omega (arith, keep (lanes_of n) (lanes n), o.few_lanes n far);
+  one_lane = λ n. omega (arith, keep (lane_count_of n) (lanes n), o.one_lane n);
+  few_lanes = λ n far. omega (arith, keep (lane_count_of n) (lanes n), o.few_lanes n far);
   orderly = omega (arith, keep untidy tidy, o.orderly);
 }
   where
@@ -410,7 +410,7 @@ pub joins : {law : Law} (key : Config) (id : ℕ) (v : View) (other : ℕ) (w bo
     + foreign w → (HaveLabels v.classes → HaveLabels w.classes → HaveLabels both.classes
     × HaveLabels spent.classes)
     → ((n : ℕ) → workers_of n both + workers_of n spent ≡ workers_of n v + workers_of n w)
-    → ((n : ℕ) → lanes_of n both + lanes_of n spent ≡ lanes_of n v + lanes_of n w)
+    → ((n : ℕ) → lane_count_of n both + lane_count_of n spent ≡ lane_count_of n v + lane_count_of n w)
     → untidy both + untidy spent ≡ untidy v + untidy w → Joins (Kept law key) id v other w both spent
 joins key id v other w both spent even entries rides owned labels workers lanes tidy s o me apart them = record {
   wide = o.wide;
@@ -429,8 +429,8 @@ joins key id v other w both spent even entries rides owned labels workers lanes 
       (labelled_beside s.views id other both w apart them o.own_labels) in labelled_set (set s.views id both) other w
       spent them (labelled_set s.views id v both me o.own_labels have.0) have.1;
   one_worker = λ n. omega (arith, keep (workers_of n) (workers n), o.one_worker n);
-  one_lane = λ n. omega (arith, keep (lanes_of n) (lanes n), o.one_lane n);
-  few_lanes = λ n far. omega (arith, keep (lanes_of n) (lanes n), o.few_lanes n far);
+  one_lane = λ n. omega (arith, keep (lane_count_of n) (lanes n), o.one_lane n);
+  few_lanes = λ n far. omega (arith, keep (lane_count_of n) (lanes n), o.few_lanes n far);
   orderly = omega (arith, keep untidy tidy, o.orderly);
 }
   where

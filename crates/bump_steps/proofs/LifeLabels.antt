@@ -24,14 +24,14 @@ use Rattle.bump_steps.specs.declared.views.ClassPart.{ClassPart}
 use Rattle.bump_steps.specs.declared.views.Ride.{Ride}
 use Rattle.bump_steps.specs.declared.views.View.{View}
 use Rattle.bump_steps.specs.Views.{owns, standing, labels_of, last_word, HasLabels, HaveLabels, AreLabelled}
-use Rattle.bump_steps.specs.Plays.{behind, first_of, on_first}
+use Rattle.bump_steps.specs.Plays.{behind, first_as_list, on_first}
 use Rattle.bump_steps.specs.Lives.{class_after_put_label, class_after_put_word, class_after_link}
 use Rattle.bump_steps.proofs.LabelLists.{word_stored, word_linked, life_stored, life_linked, life_linked_else, labels_begun, labels_put_label, labels_put_word, labels_put_same}
 
 -- ---- lists of parts and of views
 
 -- a list's first, and what is behind it
-pub have_cut : (ks : List ClassPart) → HaveLabels ks → HaveLabels (behind ks) × HaveLabels (first_of ks)
+pub have_cut : (ks : List ClassPart) → HaveLabels ks → HaveLabels (behind ks) × HaveLabels (first_as_list ks)
 have_cut [] have = (tt, tt)
 have_cut (k ∷ ks) have = (have.1, (have.0, tt))
 

@@ -14,7 +14,7 @@ use Rattle.bump_steps.specs.declared.views.View.{View}
 use Rattle.bump_steps.specs.Views.{Measure, held, named, saw, owners, strays, mislabels, misreads, misread, refers, in_hand, is_fetch_of, bump_aboard, owns, standing, last_word, weight, shown_by, claimed_in, settled_in, names_move, underway_in, untidy_in, shows_time_only, of_owner, foreign_in, HaveLabels}
 use Rattle.bump_steps.specs.Rule.{Law, blank, Kept}
 use Rattle.bump_steps.specs.Cuts.{joined, without_lanes, lanes_only, without_holds, holds_only, without_class, class_only, without_worker, worker_only, without_lane, lane_only}
-use Rattle.bump_steps.specs.Plays.{behind, first_of}
+use Rattle.bump_steps.specs.Plays.{behind, first_as_list}
 use Rattle.bump_steps.proofs.Frame.{AddsUp, splits, joins}
 use Rattle.bump_steps.proofs.LifeLabels.{have_cut, have_both}
 use Rattle.bump_steps.proofs.Sums.{cut}
@@ -84,7 +84,7 @@ there : {A : Type 0} (xs : List A) → Shared xs [] xs
 there xs f = omega arith
 
 -- a list's first, and what is behind it
-split_first : {A : Type 0} (xs : List A) → Shared xs (behind xs) (first_of xs)
+split_first : {A : Type 0} (xs : List A) → Shared xs (behind xs) (first_as_list xs)
 split_first xs f = cut f xs
 
 pub lanes_split : {law : Law} (key : Config) (id : ℕ) (v : View) → Splits (Kept law key) id v (without_lanes v) (lanes_only v)

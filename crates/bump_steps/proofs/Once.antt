@@ -5,15 +5,15 @@ use mathlib.Core.Logic.{dite}
 use native.Mathlib.Decide.{ℕ_discrete}
 use Rattle.bump_rules.specs.Totals.{total}
 use Rattle.bump_rules.specs.declared.bumps.Bump.{Bump}
-use Rattle.bump_rules.specs.declared.lanes.Lane.{Lane}
-use Rattle.bump_rules.specs.declared.lanes.Lane.TheVariants as lane
+use Rattle.bump_rules.specs.declared.lanes.LaneStage.{LaneStage}
+use Rattle.bump_rules.specs.declared.lanes.LaneStage.TheVariants as lane
 use Rattle.bump_rules.specs.declared.bumps.AppliedBump.{AppliedBump}
 use Rattle.bump_steps.specs.declared.views.LanePart.{LanePart}
 use Rattle.bump_steps.specs.declared.views.View.{View}
 use Rattle.bump_rules.specs.Entries.{is_moved, is_told_moved, moving}
 use Rattle.bump_rules.specs.Totals.{how_many}
 use Rattle.bump_rules.proofs.Updates.{total_below}
-use Rattle.bump_steps.specs.Views.{bump_aboard, Query, settled_in, settled, lanes_of, in_order, untidy_in, untidy}
+use Rattle.bump_steps.specs.Views.{bump_aboard, Query, settled_in, settled, lane_count_of, in_order, untidy_in, untidy}
 use Rattle.bump_steps.specs.Plays.{every}
 use Rattle.bump_steps.specs.Rule.{blank}
 use Rattle.bump_steps.proofs.Sums.{total-set, none_where_none}
@@ -68,7 +68,7 @@ moved_le n a = by (is_moved a.outcome) (a.number == n)
     by true false = omega arith
     by false x = omega arith
 
-moving_le : (n : ℕ) (s : Lane) → moving (λ l. true) n s ≤ next n (bump_aboard s)
+moving_le : (n : ℕ) (s : LaneStage) → moving (λ l. true) n s ≤ next n (bump_aboard s)
 unfolding next
 moving_le n lane.Empty = omega arith
 moving_le n (lane.Carrying b) = omega arith
@@ -105,8 +105,8 @@ total_where f g h e [] z = omega arith
 total_where f g h e (x ∷ xs) z = omega (arith, e x (omega (arith, z)), total_where f g h e xs (omega (arith, z)))
 
 pub settled_once : (w n : ℕ) (views : List View) → total untidy views ≡ 0 → total (settled (every w n)) views ≤ total
-    (lanes_of w) views
-settled_once w n views z = total_where (settled (every w n)) (lanes_of w) untidy
+    (lane_count_of w) views
+settled_once w n views z = total_where (settled (every w n)) (lane_count_of w) untidy
     (λ v e. total_where (settled_in (every w n)) (λ l. cond (l.worker == w) 1 0) untidy_in (settled_le w n) v.lanes e)
     views z
 
@@ -122,17 +122,17 @@ settled_none q ls none = none_where_none (λ l. cond (l.worker == q.worker) 1 0)
     by false e n = refl
 
 -- where no lane is of the worker, no move of its bumps is told
-pub settled_nowhere : (q : Query) (views : List View) → total (lanes_of q.worker) views ≡ 0
+pub settled_nowhere : (q : Query) (views : List View) → total (lane_count_of q.worker) views ≡ 0
     → total (settled q) views ≡ 0
-settled_nowhere q views none = none_where_none (lanes_of q.worker) (settled q) (λ w e. settled_none q w.lanes e) views
+settled_nowhere q views none = none_where_none (lane_count_of q.worker) (settled q) (λ w e. settled_none q w.lanes e) views
     none
 
 -- the view that has the worker's lane tells of all moves of its bumps
 pub settled_here : (q : Query) (views : List View) (i : ℕ) (v : View) → get_elem? views i ≡ some v
-    → total (lanes_of q.worker) views ≤ 1 → 0 < lanes_of q.worker v → total (settled q) views ≡ settled q v
+    → total (lane_count_of q.worker) views ≤ 1 → 0 < lane_count_of q.worker v → total (settled q) views ≡ settled q v
 settled_here q views i v me one mine = omega (
   arith,
   total-set (settled q) views i v blank me,
-  none_where_none (lanes_of q.worker) (settled q) (λ w e. settled_none q w.lanes e) (set views i blank)
-      (omega (arith, total-set (lanes_of q.worker) views i v blank me, one, mine)),
+  none_where_none (lane_count_of q.worker) (settled q) (λ w e. settled_none q w.lanes e) (set views i blank)
+      (omega (arith, total-set (lane_count_of q.worker) views i v blank me, one, mine)),
 )

@@ -33,9 +33,9 @@ use Rattle.bump_steps.specs.declared.views.WorkerPart.{WorkerPart}
 use Rattle.bump_steps.specs.Places.{head_place}
 use Rattle.bump_steps.specs.Plays.{Sat, Found, on_chunk, on_row, on_label, on_word, behind, on_first, step_of}
 use Rattle.bump_steps.specs.Marks.{noted, on_worker}
-use Rattle.bump_steps.specs.References.{load_to_take_tells, new_hold, view_after_take, take_tells, HasHold, view_after_release, release_of_hold_tells, hold_after_look, view_after_look_of_hold, look_of_hold_tells, IsRow, IsOfRow, label_load_tells, word_load_tells, IsAnyHead, load_without_seat_tells, seen_me}
+use Rattle.bump_steps.specs.References.{load_to_take_tells, new_hold, view_after_take, take_tells, HasHold, view_after_release, release_of_hold_tells, hold_after_load, view_after_load_of_hold, load_of_hold_tells, IsRow, IsOfRow, label_load_tells, word_load_tells, IsAnyHead, load_without_seat_tells, seen_me}
 use Rattle.bump_steps.specs.Rule.{Law, Sound, chunks, Kept, HasFittingLimit}
-use Rattle.bump_steps.specs.Views.{Measure, held, named, saw, owners, strays, mislabels, misreads, is_fetch, is_fetch_of, in_hand, misread, weight, tally, claims, evidence, shown_by, moves, settled, in_progress, underway, foreign, workers_of, lanes_of, untidy, IsBacked}
+use Rattle.bump_steps.specs.Views.{Measure, held, named, saw, owners, strays, mislabels, misreads, is_fetch, is_fetch_of, in_hand, misread, weight, tally, claims, evidence, shown_by, moves, settled, in_progress, underway, foreign, workers_of, lane_count_of, untidy, IsBacked}
 use Rattle.bump_steps.proofs.LifeLabels.{labelled_push}
 use Rattle.bump_steps.proofs.Frame.{Same, Amid, Reaches, on_words_load, same_sound}
 use Rattle.bump_steps.proofs.StepLemmas.{at_chunk, at_row, at_label, at_word, on_first_total, same_counts, level, one_life, other_life, other_chunk, chunk_is}
@@ -138,16 +138,16 @@ module _ (step_kind : Kind) (plain : is_fetch step_kind ≡ false) (c n : ℕ) w
   noted_same v hs b (misreads i g x) = refl
 
 -- a view counts the same where its first hold noted a look
-looked_same : (n : ℕ) (v : View) (b : ℕ) → Same b v (view_after_look_of_hold n v)
+looked_same : (n : ℕ) (v : View) (b : ℕ) → Same b v (view_after_load_of_hold n v)
 looked_same n v b (held g) =
-    omega (arith, on_first_total (λ p. one_if (life b g) p.life) (hold_after_look n) (λ p. refl) v.holds)
+    omega (arith, on_first_total (λ p. one_if (life b g) p.life) (hold_after_load n) (λ p. refl) v.holds)
 looked_same n v b (named g) = refl
 looked_same n v b (saw g) = refl
 looked_same n v b owners = refl
 looked_same n v b (strays s) = refl
 looked_same n v b (mislabels i x) = refl
 looked_same n v b (misreads i g x) =
-    omega (arith, on_first_total (misread i b g x) (hold_after_look n) (λ p. refl) v.holds)
+    omega (arith, on_first_total (misread i b g x) (hold_after_load n) (λ p. refl) v.holds)
 
 -- by the get table, a word by which a get is a hold is linked, of the generation, and has a count under the limit
 pub held_is : (limit g : ℕ) (h : Head) → get_of limit g h ≡ IsHeld → (h.linked ≡ true) × (h.generation ≡ g)
@@ -224,13 +224,13 @@ module _ (key : Config) (slots id : ℕ) (m : Sat) (c : ℕ) (near : c < chunks 
 
   -- a load by a hold changes no word, and nothing that counts
   pub may_look_of_hold : {law : Law} → Allows (Kept law key) slots id m (head_place slots c) (λ n. n)
-      (on_chunk look_of_hold_tells (step slots (head_place slots c) 0 0 none) m)
-  may_look_of_hold = at_chunk look_of_hold_tells key slots id m c 0 (λ n. n) near (λ n x t limits o a. (
-    view_after_look_of_hold n m.0,
+      (on_chunk load_of_hold_tells (step slots (head_place slots c) 0 0 none) m)
+  may_look_of_hold = at_chunk load_of_hold_tells key slots id m c 0 (λ n. n) near (λ n x t limits o a. (
+    view_after_load_of_hold n m.0,
     (λ u moved. same_sound key.refs_limit n x t u
-        (same_counts c m.0 (view_after_look_of_hold n m.0) t u (looked_same n m.0 c) moved) o),
+        (same_counts c m.0 (view_after_load_of_hold n m.0) t u (looked_same n m.0 c) moved) o),
     (λ b ne. looked_same n m.0 b),
-    quiet m.0 m.0.workers (on_first (hold_after_look n) m.0.holds) m.0.returned (λ w. refl),
+    quiet m.0 m.0.workers (on_first (hold_after_load n) m.0.holds) m.0.returned (λ w. refl),
     (refl, (o.head, o.spells, tells c key.refs_limit n x m.0 t o a)),
   ))
 
@@ -452,8 +452,8 @@ may_load_without_seat key slots c first near s o count small =
         own_chunks = omega (arith, total_push foreign s.views (seen_me c n).0, o.own_chunks);
         own_labels = labelled_push s.views (seen_me c n).0 o.own_labels tt;
         one_worker = λ k. omega (arith, total_push (workers_of k) s.views (seen_me c n).0, o.one_worker k);
-        one_lane = λ k. omega (arith, total_push (lanes_of k) s.views (seen_me c n).0, o.one_lane k);
-        few_lanes = λ k far. omega (arith, total_push (lanes_of k) s.views (seen_me c n).0, o.few_lanes k far);
+        one_lane = λ k. omega (arith, total_push (lane_count_of k) s.views (seen_me c n).0, o.one_lane k);
+        few_lanes = λ k far. omega (arith, total_push (lane_count_of k) s.views (seen_me c n).0, o.few_lanes k far);
         orderly = omega (arith, total_push untidy s.views (seen_me c n).0, o.orderly);
       },
       λ d at. (

@@ -34,7 +34,7 @@ use Rattle.bump_steps.specs.Rule.{Law, Sound, chunks, Kept, HasFittingLimit}
 use Rattle.bump_steps.specs.Places.{head_place}
 use Rattle.bump_steps.specs.Plays.{Sat, step_of}
 use Rattle.bump_rules.specs.Accounts.{counted_drop}
-use Rattle.bump_steps.specs.Rides.{touching, judged_hand, IsOfHeld, look_to_ride_tells, load_to_ride_tells, reserve_tells, try_to_ride_tells, release_tells, IsOn, HasRoom}
+use Rattle.bump_steps.specs.Rides.{touching, judged_hand, IsOfHeld, load_to_ride_by_tells, load_to_ride_tells, reserve_tells, try_to_ride_tells, release_tells, IsOn, HasRoomForReference}
 use Rattle.bump_steps.proofs.Frame.{Same, Amid, Reaches, on_head, same_sound}
 use Rattle.bump_steps.proofs.StepLemmas.{level, one_life, other_life, other_chunk, same_counts}
 
@@ -137,7 +137,7 @@ module _ (key : Config) (slots id : ℕ) (p : WorkerPart) (q : HoldPart) (l : It
   look_reaches : {law : Law} (kind : Kind) → is_fetch kind ≡ false → (failed n : ℕ) (y : ℕ → ℕ) (t : Measure → ℕ)
       (o : Sound law key.refs_limit n y t)
       → Amid l.chunk (seat_with (hand.Trying l)).0 t → Reaches law key l.chunk (seat_with (hand.Trying l))
-      (look_to_ride_tells kind key.refs_limit failed l (seat_with (hand.Trying l)) n) n y t
+      (load_to_ride_by_tells kind key.refs_limit failed l (seat_with (hand.Trying l)) n) n y t
   look_reaches kind plain failed n y t o a = let why : Option Dropped = refused_of key.refs_limit failed o.head in
       let x : OwnStep = step_of kind l.chunk (word_of o.head) None in
       let next : (b k : ℕ) → in_hand b k (judged_hand why l) ≡ 0 = none_in_hand why l in (
@@ -159,7 +159,7 @@ module _ (key : Config) (slots id : ℕ) (p : WorkerPart) (q : HoldPart) (l : It
       (λ n y t limits o a. look_reaches kind.Load refl failed n y t o a)
 
   -- an exchange that found the word that it expects
-  reserve_reaches : {law : Law} (old : ℕ) → HasRoom key.refs_limit old → (n : ℕ) (y : ℕ → ℕ) (t : Measure → ℕ) → HasFittingLimit key
+  reserve_reaches : {law : Law} (old : ℕ) → HasRoomForReference key.refs_limit old → (n : ℕ) (y : ℕ → ℕ) (t : Measure → ℕ) → HasFittingLimit key
       → (o : Sound law key.refs_limit n y t) → Amid l.chunk (seat_with (hand.Trying l)).0 t → n ≡ old
       → Reaches law key l.chunk (seat_with (hand.Trying l)) (reserve_tells key.refs_limit l (seat_with (hand.Trying l)) n)
       (old + 1) y t
@@ -188,7 +188,7 @@ module _ (key : Config) (slots id : ℕ) (p : WorkerPart) (q : HoldPart) (l : It
           → Same b (seat_with s).0 (with_hold p q l z a (p.steps ++ x ∷ []))
       away s z a x plain b ne none nothing = elsewhere p q l s z a x plain b (λ j. nothing j ∙ sym (none j))
 
-  reserves : {law : Law} (failed old : ℕ) → HasRoom key.refs_limit old → Allows (Kept law key) slots id (seat_with (hand.Trying l))
+  reserves : {law : Law} (failed old : ℕ) → HasRoomForReference key.refs_limit old → Allows (Kept law key) slots id (seat_with (hand.Trying l))
       (head_place slots l.chunk) (λ n. either (n == old) (old + 1) n)
       (try_to_ride_tells key.refs_limit failed l old (seat_with (hand.Trying l)))
   reserves {law = law} failed old room = on_head key slots id (seat_with (hand.Trying l)) l.chunk
@@ -247,12 +247,12 @@ may_load_to_ride {law = law} key slots id m l limit failed near is on =
     (loads_to_ride key slots id on.part on.hold l near m.1 failed)
 
 pub may_reserve : {law : Law} (key : Config) (slots id : ℕ) (m : Sat) (l : ItemId) (limit failed old : ℕ) → l.chunk < chunks key
-    → limit ≡ key.refs_limit → IsOn (hand.Trying l) l m.0 → HasRoom limit old → Allows (Kept law key) slots id m
+    → limit ≡ key.refs_limit → IsOn (hand.Trying l) l m.0 → HasRoomForReference limit old → Allows (Kept law key) slots id m
     (head_place slots l.chunk) (λ n. either (n == old) (old + 1) n) (try_to_ride_tells limit failed l old m)
 may_reserve {law = law} key slots id m l limit failed old near is on room =
     subst (λ (z : ℕ × Sat). Allows (Kept law key) slots id z.1 (head_place slots l.chunk) (λ n. either (n == old) (old + 1) n)
     (try_to_ride_tells z.0 failed l old z.1)) (λ i. (sym is i, sym (seat_is (hand.Trying l) l m on) i))
-    (reserves key slots id on.part on.hold l near m.1 failed old (subst (λ (k : ℕ). HasRoom k old) is room))
+    (reserves key slots id on.part on.hold l near m.1 failed old (subst (λ (k : ℕ). HasRoomForReference k old) is room))
 
 pub may_release_bump : {law : Law} (key : Config) (slots id : ℕ) (m : Sat) (l : ItemId) → l.chunk < chunks key
     → IsOn (hand.InHand l) l m.0 → Allows (Kept law key) slots id m (head_place slots l.chunk) (λ n. (n + (2 ^ 64 - 1)) % 2 ^ 64)

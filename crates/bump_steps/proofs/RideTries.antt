@@ -16,8 +16,8 @@ use Rattle.bump_steps.specs.declared.views.WorkerPart.{WorkerPart}
 use Rattle.bump_steps.specs.Marks.{on_worker}
 use Rattle.bump_steps.specs.Plays.{Sat, step_of}
 use Rattle.bump_rules.specs.Accounts.{counted_drop}
-use Rattle.bump_steps.specs.Rides.{IsOfHeld, judged, judged_hand, worker_after_look_to_ride, worker_after_reserve, load_to_ride_tells, failed_to_ride_tells, reserve_tells, IsOn}
-use Rattle.bump_steps.specs.Tries.{last_found, RideFound, looks, with_more, drop_of, reserved_or_dropped, worker_after_attempt}
+use Rattle.bump_steps.specs.Rides.{IsOfHeld, judged, judged_hand, worker_after_load_to_ride, worker_after_reserve, load_to_ride_tells, failed_to_ride_tells, reserve_tells, IsOn}
+use Rattle.bump_steps.specs.Tries.{last_found, RideFound, load_and_failures, with_more, drop_of, reserved_or_dropped, worker_after_attempt}
 use Rattle.bump_steps.proofs.Tries.{Trying, tries_start, has_head, last_is_one, refused_is, view_is, goes_on, found_so, first_again}
 
 -- two changes of a worker's part, one after the other
@@ -92,7 +92,7 @@ module _ (limit : ℕ) (l : ItemId) (before : Sat) where
 
       -- where it goes on, the worker tries still
       tries_on : failed < 8 → (h : Head) → Spells word h → h.refs < limit
-          → now ≡ (on_worker (λ w. judged None l (with_more (looks l.chunk first more) w)) before.0, before.1)
+          → now ≡ (on_worker (λ w. judged None l (with_more (load_and_failures l.chunk first more) w)) before.0, before.1)
       tries_on few h spelled room = view_is (OfHeld limit l) open_to_ride (refused_of limit) (seen_to_ride l) l.chunk
           (λ h is. is.0) before
           now word failed first more y h spelled None (goes limit failed h few room)
@@ -100,10 +100,10 @@ module _ (limit : ℕ) (l : ItemId) (before : Sat) where
       pub still_on : failed < 8 → (h : Head) → Spells word h → h.refs < limit → IsOn (hand.Trying l) l before.0
           → IsOn (hand.Trying l) l now.0
       still_on few h spelled room on = record {
-        part = judged None l (with_more (looks l.chunk first more) on.part);
+        part = judged None l (with_more (load_and_failures l.chunk first more) on.part);
         hold = on.hold;
         view = ap (λ (m : Sat). m.0) (tries_on few h spelled room)
-            ∙ ap (on_worker (λ w. judged None l (with_more (looks l.chunk first more) w))) on.view;
+            ∙ ap (on_worker (λ w. judged None l (with_more (load_and_failures l.chunk first more) w))) on.view;
         hand = refl;
         life = on.life;
       }
@@ -120,9 +120,9 @@ module _ (limit : ℕ) (l : ItemId) (before : Sat) where
           word failed first more y
           h spelled room (goes limit failed h few room) next found miss k t.1 (t.1.1, t.2)
           (λ s view. t.3
-          ∙ ap (λ (m : Sat). (on_worker (worker_after_look_to_ride kind.Failed limit (failed + 1) l k) m.0, m.1)) view
+          ∙ ap (λ (m : Sat). (on_worker (worker_after_load_to_ride kind.Failed limit (failed + 1) l k) m.0, m.1)) view
           ∙ ap (λ (v : View). (v, before.1))
-          (again (λ w. judged None l (with_more s w)) (worker_after_look_to_ride kind.Failed limit (failed + 1) l k) before.0)
+          (again (λ w. judged None l (with_more s w)) (worker_after_load_to_ride kind.Failed limit (failed + 1) l k) before.0)
           ∙ (λ i. (
             on_worker (λ w. record w {
               hand = judged_hand o l;
@@ -141,13 +141,13 @@ module _ (limit : ℕ) (l : ItemId) (before : Sat) where
             now word failed first more y few;
         view = y.view
             ∙ ap (λ (o : Option Dropped). (
-              on_worker (λ w. judged o l (with_more (looks l.chunk first more) w))
+              on_worker (λ w. judged o l (with_more (load_and_failures l.chunk first more) w))
                   before.0,
               before.1,
             )) is
             ∙ ap (λ (o : Option Dropped). (
               on_worker (λ w. reserved_or_dropped o l (last_found first more)
-                  (with_more (looks l.chunk first more) w)) before.0,
+                  (with_more (load_and_failures l.chunk first more) w)) before.0,
               before.1,
             )) (sym is);
         answer = sym is;
@@ -169,7 +169,7 @@ module _ (limit : ℕ) (l : ItemId) (before : Sat) where
       pub reserves_it : failed < 8 → (h : Head) → Spells word h → h.refs < limit → (next : Sat) (found : ℕ)
           → found ≡ word
           → reserve_tells limit l now found next → RidesSo limit l before next None first more
-      reserves_it few h spelled room next found hit t = let s : List OwnStep = looks l.chunk first more in
+      reserves_it few h spelled room next found hit t = let s : List OwnStep = load_and_failures l.chunk first more in
           let is : drop_of limit first more ≡ None = drop_is h spelled ∙ goes limit failed h few room in
           let k : t.0 ≡ last_found first more = one_head found t.0 (last_found first more) t.1
           (hit ∙ y.last, (last_is_one (OfHeld limit l) first more y.heads).0) in record {

@@ -4,7 +4,7 @@ use mathlib.Core.Option.{some, some-injective, some-ne-none}
 use lib.ListN.{get_elem?}
 use Rattle.bump_rules.specs.Totals.{total}
 use Rattle.bump_rules.proofs.Updates.{total_below}
-use Rattle.bump_steps.specs.Plays.{behind, first_of}
+use Rattle.bump_steps.specs.Plays.{behind, first_as_list}
 
 module _ {A : Type 0} (g : A → ℕ) where
   -- one element is written over
@@ -39,6 +39,6 @@ none_where_none f g h [] e = refl
 none_where_none f g h (x ∷ xs) e = omega (arith, h x (omega arith), none_where_none f g h xs (omega arith))
 
 -- a list's first, and what is behind it
-pub cut : {A : Type 0} (f : A → ℕ) (l : List A) → total f (behind l) + total f (first_of l) ≡ total f l
+pub cut : {A : Type 0} (f : A → ℕ) (l : List A) → total f (behind l) + total f (first_as_list l) ≡ total f l
 cut f [] = refl
 cut f (x ∷ xs) = omega arith

@@ -18,7 +18,7 @@ use Rattle.bump_steps.specs.Marks.{on_worker}
 use Rattle.bump_steps.specs.Rule.{Law}
 use Rattle.bump_steps.specs.Plays.{Sat, HasWorker, on_first, step_of}
 use Rattle.bump_steps.specs.References.{new_hold, view_after_load, view_after_failed, load_to_take_tells, view_after_take, IsRow, words_in, take_tells}
-use Rattle.bump_steps.specs.Tries.{last_found, AreAll, AreTries, AttemptFound, AskedFound, refused_by, take_refused, asked_refusal, failures, looks, takes, with_more, held_by, asked_life, view_after_attempt, any_refusal}
+use Rattle.bump_steps.specs.Tries.{last_found, AreAll, AreTries, AttemptFound, AskedFound, refused_by, take_refused, asked_refusal, failures, load_and_failures, takes, with_more, held_by, asked_life, view_after_attempt, any_refusal}
 use Rattle.bump_steps.proofs.Referring.{held_is}
 
 -- ---- lists of heads and of steps
@@ -53,7 +53,7 @@ failures_push c [] k = refl
 failures_push c (h ∷ hs) k =
     ap (λ (l : List OwnStep). step_of kind.Failed c (word_of h) None ∷ l) (failures_push c hs k)
 
-looks_push : (c : ℕ) (h : Head) (hs : List Head) (k : Head) → looks c h (hs ++ k ∷ []) ≡ looks c h hs
+looks_push : (c : ℕ) (h : Head) (hs : List Head) (k : Head) → load_and_failures c h (hs ++ k ∷ []) ≡ load_and_failures c h hs
     ++ step_of kind.Failed c (word_of k) None ∷ []
 looks_push c h hs k = ap (λ (l : List OwnStep). step_of kind.Load c (word_of h) None ∷ l) (failures_push c hs k)
 
@@ -87,14 +87,14 @@ pub record Trying {Refusal : Type 0} (Is IsOpen : Head → Type 0) (refused : �
   pub tries : AreTries IsOpen first more
   pub count : length more ≡ failed
   pub last : word ≡ word_of (last_found first more)
-  pub view : now ≡ (seen (refused (length more) (last_found first more)) (looks c first more) before.0, before.1)
+  pub view : now ≡ (seen (refused (length more) (last_found first more)) (load_and_failures c first more) before.0, before.1)
 
 module _ {Refusal : Type 0} (Is IsOpen : Head → Type 0) (refused : ℕ → Head → Option Refusal)
     (seen : Option Refusal → List OwnStep → View → View) (c : ℕ) (fits : (h : Head) → Is h → Fits h) (before : Sat)
   where
     -- after the load
     pub tries_start : (now : Sat) (word : ℕ) (h : Head) → Spells word h → Is h
-        → now ≡ (seen (refused 0 h) (looks c h []) before.0, before.1)
+        → now ≡ (seen (refused 0 h) (load_and_failures c h []) before.0, before.1)
         → (first : Head) × (more : List Head) × Trying Is IsOpen refused seen c before now word 0 first more
     tries_start now word h spelled is view =
         (h, [], record { heads = is; tries = tt; count = refl; last = spelled.0; view = view })
@@ -116,9 +116,9 @@ module _ {Refusal : Type 0} (Is IsOpen : Head → Type 0) (refused : ℕ → Hea
 
       -- what is known of it
       pub view_is : (h : Head) → Spells word h → (o : Option Refusal) → refused failed h ≡ o
-          → now ≡ (seen o (looks c first more) before.0, before.1)
+          → now ≡ (seen o (load_and_failures c first more) before.0, before.1)
       view_is h spelled o is = y.view
-          ∙ ap (λ (x : Option Refusal). (seen x (looks c first more) before.0, before.1))
+          ∙ ap (λ (x : Option Refusal). (seen x (load_and_failures c first more) before.0, before.1))
           (refused_is h spelled ∙ is)
 
       -- an exchange failed
@@ -140,7 +140,7 @@ module _ {Refusal : Type 0} (Is IsOpen : Head → Type 0) (refused : ℕ → Hea
                   (λ e. miss (other.0 ∙ ap word_of e ∙ sym y.last));
               count = count;
               last = other.0 ∙ ap word_of (sym (last_push first more k));
-              view = step (looks c first more) (view_is h spelled None none)
+              view = step (load_and_failures c first more) (view_is h spelled None none)
                   ∙ ap₂ (λ (o : Option Refusal) (s : List OwnStep). (seen o s before.0, before.1))
                   (sym (ap₂ refused count (last_push first more k))) (sym (looks_push c first more k));
             },
@@ -205,7 +205,7 @@ module _ (law : Law) (limit slots : ℕ) (asked : Head → ℕ) (c : ℕ) (befor
       -- the seat still has its worker's part
       pub still_working : HasWorker before.0 → HasWorker now.0
       still_working some = subst (λ (m : Sat). HasWorker m.0) (sym y.view)
-          (some_first (with_more (looks c first more)) before.0.workers some)
+          (some_first (with_more (load_and_failures c first more)) before.0.workers some)
 
       -- the word is that of a head
       pub take_head : (h : Head) × Spells word h
@@ -250,10 +250,10 @@ module _ (law : Law) (limit slots : ℕ) (asked : Head → ℕ) (c : ℕ) (befor
             word failed first more y few;
         view = y.view
             ∙ ap (λ (s : List OwnStep). (on_worker (with_more s) before.0, before.1))
-            (sym (append-nil (looks c first more)))
+            (sym (append-nil (load_and_failures c first more)))
             ∙ ap (λ (o : Option TakeRefusal). (
               record before.0 {
-                workers = on_first (with_more (looks c first more ++ takes c o (last_found first more)))
+                workers = on_first (with_more (load_and_failures c first more ++ takes c o (last_found first more)))
                     before.0.workers;
                 holds = held_by o (asked_life asked c first more) (row_of_zeros (slots + 1)) before.0.holds;
               },
@@ -300,11 +300,11 @@ module _ (law : Law) (limit slots : ℕ) (asked : Head → ℕ) (c : ℕ) (befor
                   record v { holds = new_hold (life c g) took.0 ∷ before.0.holds },
                   before.1,
                 ))
-                (more_again (looks c first more) (step_of kind.Take c (word_of k) None ∷ [])
+                (more_again (load_and_failures c first more) (step_of kind.Take c (word_of k) None ∷ [])
                 before.0) gen
                 ∙ ap (λ (o : Option TakeRefusal). (
                   record before.0 {
-                    workers = on_first (with_more (looks c first more ++ takes c o k)) before.0.workers;
+                    workers = on_first (with_more (load_and_failures c first more ++ takes c o k)) before.0.workers;
                     holds = held_by o (life c (asked k)) took.0 before.0.holds;
                   },
                   before.1,

@@ -11,8 +11,8 @@ use Rattle.bump_rules.specs.declared.history.Change.TheVariants as change
 use Rattle.bump_rules.specs.declared.bumps.Bump.{Bump}
 use Rattle.bump_rules.specs.declared.bumps.Outcome.{Outcome}
 use Rattle.bump_rules.specs.declared.bumps.AppliedBump.{AppliedBump}
-use Rattle.bump_rules.specs.declared.lanes.Lane.{Lane}
-use Rattle.bump_rules.specs.declared.lanes.Lane.TheVariants as lane
+use Rattle.bump_rules.specs.declared.lanes.LaneStage.{LaneStage}
+use Rattle.bump_rules.specs.declared.lanes.LaneStage.TheVariants as lane
 use Rattle.bump_rules.specs.History.{place_of}
 use Rattle.bump_rules.specs.Lanes.{applied_bump}
 use Rattle.bump_rules.specs.Lives.{life}
@@ -42,7 +42,7 @@ abbrev pub for_first : List LanePart → Option (ℕ × ℕ)
 for_first [] = None
 for_first (this_lane ∷ ls) = for_bump this_lane
 
-abbrev pub stage_after_try : Lane → Lane
+abbrev pub stage_after_try : LaneStage → LaneStage
 stage_after_try (lane.Carrying bump) = lane.Tried bump
 stage_after_try stage = stage
 
@@ -56,7 +56,7 @@ lane_after_try chunk word this_lane = record this_lane {
 abbrev pub view_after_try : ℕ → ℕ → View → View
 view_after_try chunk word view = record view { lanes = on_first (lane_after_try chunk word) view.lanes }
 
-abbrev pub stage_after_clear_active : Bool → Lane → Lane
+abbrev pub stage_after_clear_active : Bool → LaneStage → LaneStage
 stage_after_clear_active found (lane.Tried bump) = lane.Cleared bump found
 stage_after_clear_active found stage = stage
 
@@ -80,7 +80,7 @@ view_after_put_time chunk word view =
     record view { classes = on_first (noted_class kind.PutTime chunk word view.lanes) view.classes }
 
 -- the lane is past its move
-abbrev pub stage_after_move : Lane → Lane
+abbrev pub stage_after_move : LaneStage → LaneStage
 stage_after_move (lane.Cleared bump found) = lane.Moved bump
 stage_after_move stage = stage
 
@@ -102,7 +102,7 @@ abbrev pub life_in : ClassPart → ℕ → ItemId
 life_in class chunk = life chunk (standing class chunk).1
 
 -- the application in progress of a lane at this stage: one that is past its move
-abbrev pub application_of : ℕ → Lane → Option Ride
+abbrev pub application_of : ℕ → LaneStage → Option Ride
 application_of worker lane.Empty = None
 application_of worker (lane.Carrying bump) = None
 application_of worker (lane.Tried bump) = None
@@ -216,7 +216,7 @@ abbrev pub MayMove : Segment → Segment → ℕ → View → Type 0
 MayMove from to chunk view = ((k : ClassPart) × MovesByPull from to chunk view k) ⊎
     ((k : ClassPart) × (l : LanePart) × (b : Bump) × MovesForBump from to chunk view k l b)
 
-abbrev pub is_past_move : Lane → Bool
+abbrev pub is_past_move : LaneStage → Bool
 is_past_move (lane.Moved bump) = true
 is_past_move stage = false
 

@@ -2,7 +2,7 @@
 use Rattle.std.specs.Prelude.{[], ◌++◌}
 use Rattle.bump_steps.specs.declared.views.View.{View}
 use Rattle.bump_steps.specs.Rule.{blank}
-use Rattle.bump_steps.specs.Plays.{behind, first_of}
+use Rattle.bump_steps.specs.Plays.{behind, first_as_list}
 
 abbrev pub joined : View → View → View
 joined view other = record {
@@ -32,16 +32,16 @@ abbrev pub without_class : View → View
 without_class view = record view { classes = behind view.classes }
 
 abbrev pub class_only : View → View
-class_only view = record blank { classes = first_of view.classes }
+class_only view = record blank { classes = first_as_list view.classes }
 
 abbrev pub without_worker : View → View
 without_worker view = record view { workers = behind view.workers }
 
 abbrev pub worker_only : View → View
-worker_only view = record blank { workers = first_of view.workers }
+worker_only view = record blank { workers = first_as_list view.workers }
 
 abbrev pub without_lane : View → View
 without_lane view = record view { lanes = behind view.lanes }
 
 abbrev pub lane_only : View → View
-lane_only view = record blank { lanes = first_of view.lanes }
+lane_only view = record blank { lanes = first_as_list view.lanes }

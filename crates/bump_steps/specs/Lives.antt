@@ -13,7 +13,7 @@ use Rattle.bump_rules.specs.Lawful.{bit}
 use Rattle.bump_rules.specs.Lives.{life}
 use Rattle.bump_rules.specs.Places.{is_segment_place}
 use Rattle.bump_word.specs.Layout.{refs_width, generation_first}
-use Rattle.bump_word.specs.Words.{number_of, segment_bits}
+use Rattle.bump_word.specs.Words.{segment_number, segment_bits}
 use Rattle.bump_steps.specs.declared.views.WordStep.TheVariants.{Put, Begun}
 use Rattle.bump_steps.specs.declared.views.Kind.TheVariants as kind
 use Rattle.bump_steps.specs.declared.views.ClassPart.{ClassPart}
@@ -154,7 +154,7 @@ put_word_tells index chunk operand before word after = after ≡ (
 
 -- where a life begins, by the segment in its head word
 abbrev pub start_in : ℕ → Start
-start_in word = if segment_bits word == number_of segment.Temp then start.Temp else start.Hot
+start_in word = if segment_bits word == segment_number segment.Temp then start.Temp else start.Hot
 
 -- the store of a new life's head: the life begins in the segment that is in it, and its generation is the one in it
 abbrev pub link_tells : Tells

@@ -11,7 +11,7 @@ use Rattle.bump_steps.specs.declared.views.Kind.{Kind}
 use Rattle.bump_steps.specs.declared.views.OwnStep.{OwnStep}
 use Rattle.bump_steps.specs.declared.views.View.{View}
 use Rattle.bump_steps.specs.Places.{head_place}
-use Rattle.bump_steps.specs.Views.{named, saw, owners, strays, weight, Query, moves, settled, foreign, lanes_of}
+use Rattle.bump_steps.specs.Views.{named, saw, owners, strays, weight, Query, moves, settled, foreign, lane_count_of}
 
 abbrev pub Sat : Type 0
 Sat = Me Empty View
@@ -79,13 +79,13 @@ pub record Told (chunk : ℕ) (view : View) (head : Head) : Type 0 where
   pub once : (w n : ℕ) → moves (every w n) view ≤ 1
   pub own : foreign view ≡ 0
   -- they have as many moves of own items for a bump whose lane is in the view as this lane tells
-  pub told : (q : Query) → IsOwn q.test view → 0 < lanes_of q.worker view → moves q view ≡ settled q view
+  pub told : (q : Query) → IsOwn q.test view → 0 < lane_count_of q.worker view → moves q view ≡ settled q view
 
 -- What a view tells of moves for bumps, whatever head is found: as in Told.
 pub record TellsOfMoves (view : View) : Type 0 where
   pub once : (w n : ℕ) → moves (every w n) view ≤ 1
   pub own : foreign view ≡ 0
-  pub told : (q : Query) → IsOwn q.test view → 0 < lanes_of q.worker view → moves q view ≡ settled q view
+  pub told : (q : Query) → IsOwn q.test view → 0 < lane_count_of q.worker view → moves q view ≡ settled q view
 
 -- Each step is noted in the list of a part: a seat that has none makes no such step. The seat has the part of a worker,
 -- or of a class.
@@ -105,9 +105,9 @@ abbrev pub behind : {A : Type 0} → List A → List A
 behind [] = []
 behind (x ∷ xs) = xs
 
-abbrev pub first_of : {A : Type 0} → List A → List A
-first_of [] = []
-first_of (x ∷ xs) = x ∷ []
+abbrev pub first_as_list : {A : Type 0} → List A → List A
+first_as_list [] = []
+first_as_list (x ∷ xs) = x ∷ []
 
 abbrev pub on_first : {A : Type 0} → (A → A) → List A → List A
 on_first change [] = []

@@ -86,14 +86,14 @@ release_of_hold_tells chunk operand before word after = (after ≡ (view_after_r
     × Found word (Told chunk before.0)
 
 -- the hold looked at its chunk's head word, and found n
-abbrev pub hold_after_look : ℕ → HoldPart → HoldPart
-hold_after_look word hold = record hold { looks = hold.looks ++ word ∷ [] }
+abbrev pub hold_after_load : ℕ → HoldPart → HoldPart
+hold_after_load word hold = record hold { looks = hold.looks ++ word ∷ [] }
 
-abbrev pub view_after_look_of_hold : ℕ → View → View
-view_after_look_of_hold word view = record view { holds = on_first (hold_after_look word) view.holds }
+abbrev pub view_after_load_of_hold : ℕ → View → View
+view_after_load_of_hold word view = record view { holds = on_first (hold_after_load word) view.holds }
 
-abbrev pub look_of_hold_tells : Tells
-look_of_hold_tells chunk operand before word after = (after ≡ (view_after_look_of_hold word before.0, before.1))
+abbrev pub load_of_hold_tells : Tells
+load_of_hold_tells chunk operand before word after = (after ≡ (view_after_load_of_hold word before.0, before.1))
     × Found word (Told chunk before.0)
 
 -- the word is number i of the row of the first hold, of this chunk

@@ -47,8 +47,8 @@ judged why item worker = record worker { hand = judged_hand why item; accounts =
 
 -- a step of this kind that looks for room found this head, and so many exchanges have failed: by the rule of an attempt
 -- it ends here, or goes on
-abbrev pub worker_after_look_to_ride : Kind → ℕ → ℕ → ItemId → Head → WorkerPart → WorkerPart
-worker_after_look_to_ride kind limit failed item head worker = judged (refused_of limit failed head) item
+abbrev pub worker_after_load_to_ride : Kind → ℕ → ℕ → ItemId → Head → WorkerPart → WorkerPart
+worker_after_load_to_ride kind limit failed item head worker = judged (refused_of limit failed head) item
     (noted kind item.chunk (word_of head) worker)
 
 -- the worker has the reference in its hand, which an exchange took that found this head
@@ -64,17 +64,17 @@ worker_after_release item head worker = judged (Some dropped.Full) item
 -- ---- what the steps tell
 
 -- a step of this kind that looks for room
-abbrev pub look_to_ride_tells : Kind → ℕ → ℕ → ItemId → Sat → ℕ → Sat → Type 0
-look_to_ride_tells kind limit failed item before word after = (h : Head) × Spells word h × IsOfHeld limit item h
-    × (after ≡ (on_worker (worker_after_look_to_ride kind limit failed item h) before.0, before.1))
+abbrev pub load_to_ride_by_tells : Kind → ℕ → ℕ → ItemId → Sat → ℕ → Sat → Type 0
+load_to_ride_by_tells kind limit failed item before word after = (h : Head) × Spells word h × IsOfHeld limit item h
+    × (after ≡ (on_worker (worker_after_load_to_ride kind limit failed item h) before.0, before.1))
 
 -- a load, behind no exchange
 abbrev pub load_to_ride_tells : ℕ → ℕ → ItemId → Sat → ℕ → Sat → Type 0
-load_to_ride_tells = look_to_ride_tells kind.Load
+load_to_ride_tells = load_to_ride_by_tells kind.Load
 
 -- an exchange that failed
 abbrev pub failed_to_ride_tells : ℕ → ℕ → ItemId → Sat → ℕ → Sat → Type 0
-failed_to_ride_tells = look_to_ride_tells kind.Failed
+failed_to_ride_tells = load_to_ride_by_tells kind.Failed
 
 -- an exchange that found the word that it expects took the reference
 abbrev pub reserve_tells : ℕ → ItemId → Sat → ℕ → Sat → Type 0
@@ -101,8 +101,8 @@ pub record IsOn (so_far : Hand) (item : ItemId) (seat : View) : Type 0 where
   pub life : hold.life ≡ item
 
 -- the word that an exchange expects is that of a head with room for a reference
-abbrev pub HasRoom : ℕ → ℕ → Type 0
-HasRoom limit word = (h : Head) × Spells word h × (h.refs < limit)
+abbrev pub HasRoomForReference : ℕ → ℕ → Type 0
+HasRoomForReference limit word = (h : Head) × Spells word h × (h.refs < limit)
 
 -- ---- base moves
 

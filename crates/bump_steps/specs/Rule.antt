@@ -8,7 +8,7 @@ use Rattle.bump_rules.specs.declared.configs.Config.{Config}
 pub use Rattle.bump_rules.specs.Rings.{no_accounts}
 use Rattle.bump_rules.specs.declared.bumps.AppliedBump.{AppliedBump}
 use Rattle.bump_rules.specs.declared.hands.Hand.TheVariants as hand
-use Rattle.bump_rules.specs.declared.lanes.Lane.TheVariants as lane
+use Rattle.bump_rules.specs.declared.lanes.LaneStage.TheVariants as lane
 use Rattle.bump_rules.specs.Lawful.{Lawful}
 use Rattle.bump_rules.specs.Totals.{total}
 use Rattle.bump_rules.specs.Configs.{chunks_of}
@@ -22,7 +22,7 @@ use Rattle.bump_steps.specs.declared.views.View.{View}
 use Rattle.bump_steps.specs.Places.{head_place, words_at}
 use Rattle.bump_steps.specs.Views.{Measure, held, named, saw, owners, strays, mislabels, misreads, weight, tally}
 use Rattle.bump_steps.specs.Views.{claims, evidence, Query, moves, settled, in_progress, underway, foreign, AreLabelled}
-use Rattle.bump_steps.specs.Views.{workers_of, lanes_of, untidy}
+use Rattle.bump_steps.specs.Views.{workers_of, lane_count_of, untidy}
 
 -- A law of rows: what holds of a row's words by number, of its label, which is number 0, and of its further words.
 -- Behind the last one all are 0.
@@ -81,9 +81,9 @@ pub record Kept (law : Law) (key : Config) (state : State Empty View) : Type 0 w
   pub own_labels : AreLabelled state.views
   -- a worker has one part and one lane, and each lane's bumps are numbered in order
   pub one_worker : (n : ℕ) → total (workers_of n) state.views ≤ 1
-  pub one_lane : (n : ℕ) → total (lanes_of n) state.views ≤ 1
+  pub one_lane : (n : ℕ) → total (lane_count_of n) state.views ≤ 1
   -- and a number that is no worker's has no lane
-  pub few_lanes : (n : ℕ) → key.workers ≤ n → total (lanes_of n) state.views ≡ 0
+  pub few_lanes : (n : ℕ) → key.workers ≤ n → total (lane_count_of n) state.views ≡ 0
   pub orderly : total untidy state.views ≡ 0
 
 -- The views at the start: one seat has every part.

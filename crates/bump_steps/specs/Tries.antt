@@ -72,8 +72,8 @@ failures chunk [] = []
 failures chunk (head ∷ more) = step_of kind.Failed chunk (word_of head) None ∷ failures chunk more
 
 -- the load, and each exchange that failed
-abbrev pub looks : ℕ → Head → List Head → List OwnStep
-looks chunk first more = step_of kind.Load chunk (word_of first) None ∷ failures chunk more
+abbrev pub load_and_failures : ℕ → Head → List Head → List OwnStep
+load_and_failures chunk first more = step_of kind.Load chunk (word_of first) None ∷ failures chunk more
 
 -- the worker made these steps
 abbrev pub with_more : List OwnStep → WorkerPart → WorkerPart
@@ -107,7 +107,7 @@ takes chunk (Some refusal) head = []
 
 -- the steps of the call
 abbrev pub asked_steps : ℕ → (Head → ℕ) → ℕ → Head → List Head → List OwnStep
-asked_steps limit asked chunk first more = looks chunk first more ++ takes chunk
+asked_steps limit asked chunk first more = load_and_failures chunk first more ++ takes chunk
     (asked_refusal limit asked first more) (last_found first more)
 
 abbrev pub steps_of : ℕ → ItemId → Head → List Head → List OwnStep
@@ -157,4 +157,4 @@ reserved_or_dropped (Some why) item head worker = judged (Some why) item worker
 -- the worker after the attempt
 abbrev pub worker_after_attempt : ℕ → ItemId → Head → List Head → WorkerPart → WorkerPart
 worker_after_attempt limit item first more worker = reserved_or_dropped (drop_of limit first more) item
-    (last_found first more) (with_more (looks item.chunk first more) worker)
+    (last_found first more) (with_more (load_and_failures item.chunk first more) worker)

@@ -10,7 +10,7 @@ use Rattle.bump_rules.specs.declared.bumps.Outcome.TheVariants as outcome
 use Rattle.bump_rules.specs.declared.bumps.Bump.{Bump}
 use Rattle.bump_rules.specs.declared.bumps.AppliedBump.{AppliedBump}
 use Rattle.bump_rules.specs.declared.hands.Hand.{Hand}
-use Rattle.bump_rules.specs.declared.lanes.Lane.{Lane}
+use Rattle.bump_rules.specs.declared.lanes.LaneStage.{LaneStage}
 use Rattle.bump_rules.specs.Hands.{life_in_hand}
 use Rattle.bump_rules.specs.Rings.{aboard}
 use Rattle.bump_rules.specs.Totals.{total, how_many}
@@ -21,7 +21,7 @@ use Rattle.bump_rules.specs.History.{Standing, standing_in, is_standing, is_betw
 use Rattle.bump_rules.specs.Entries.{is_move_for, is_unlink_of, is_told_moved, moving, moves_told}
 use Rattle.bump_word.specs.Layout.{linked_first, active_first, generation_first}
 use Rattle.bump_rules.specs.declared.places.Segment.TheVariants.{Cold}
-use Rattle.bump_word.specs.Words.{number_of, segment_bits}
+use Rattle.bump_word.specs.Words.{segment_number, segment_bits}
 use Rattle.bump_steps.specs.declared.views.Kind.{Kind}
 use Rattle.bump_steps.specs.declared.views.Kind.TheVariants as kind
 use Rattle.bump_steps.specs.declared.views.OwnStep.{OwnStep}
@@ -73,7 +73,7 @@ first [] = None
 first (x ∷ xs) = Some x
 
 -- the bump aboard a lane
-abbrev pub bump_aboard : Lane → Option Bump
+abbrev pub bump_aboard : LaneStage → Option Bump
 bump_aboard stage = first (aboard stage)
 
 -- 1 where there is a bump aboard, and it is of this life
@@ -170,7 +170,7 @@ is_for worker number None = false
 
 -- the word is of a linked chunk that is not in COLD
 abbrev pub linked_elsewhere : ℕ → Bool
-linked_elsewhere word = (word / 2 ^ linked_first % 2 == 1) && not (segment_bits word == number_of Cold)
+linked_elsewhere word = (word / 2 ^ linked_first % 2 == 1) && not (segment_bits word == segment_number Cold)
 
 -- the word has ACTIVE clear
 abbrev pub active_clear : ℕ → Bool
@@ -290,8 +290,8 @@ abbrev pub workers_of : ℕ → View → ℕ
 workers_of worker view = total (λ p. cond (p.worker == worker) 1 0) view.workers
 
 -- how many lanes of worker w the view has
-abbrev pub lanes_of : ℕ → View → ℕ
-lanes_of worker view = total (λ l. cond (l.worker == worker) 1 0) view.lanes
+abbrev pub lane_count_of : ℕ → View → ℕ
+lane_count_of worker view = total (λ l. cond (l.worker == worker) 1 0) view.lanes
 
 -- a bump aboard has the next number
 abbrev pub is_next : ℕ → Option Bump → Bool
@@ -321,5 +321,5 @@ pub record IsBacked (before after : View) : Type 0 where
   pub own : foreign after ≤ foreign before
   pub labels : HaveLabels before.classes → HaveLabels after.classes
   pub workers : (n : ℕ) → workers_of n after ≡ workers_of n before
-  pub lanes : (n : ℕ) → lanes_of n after ≡ lanes_of n before
+  pub lanes : (n : ℕ) → lane_count_of n after ≡ lane_count_of n before
   pub tidy : untidy after ≤ untidy before

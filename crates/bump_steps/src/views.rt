@@ -1,5 +1,5 @@
 //! What seats know of the words: plain data, which contracts speak of. No value of it is ever made.
-use bump_rules::{Accounts, AppliedBump, Change, Hand, ItemId, LabelStep, Lane};
+use bump_rules::{Accounts, AppliedBump, Change, Hand, ItemId, LabelStep, LaneStage};
 use std::collections::LinkedList;
 
 /// A kind of atomic step.
@@ -194,7 +194,7 @@ pub struct LanePart {
     pub worker: u32,
 
     /// How far it is with the bump aboard.
-    pub stage: Lane,
+    pub stage: LaneStage,
 
     /// The bumps that it applied, in order.
     pub applied: LinkedList<AppliedBump>,

@@ -6,8 +6,8 @@ use Rattle.bump_rules.specs.declared.bumps.Entry.{Entry}
 use Rattle.bump_rules.specs.declared.bumps.Ended.{Ended}
 use Rattle.bump_rules.specs.declared.bumps.Outcome.{Outcome}
 use Rattle.bump_rules.specs.declared.bumps.Outcome.TheVariants as outcome
-use Rattle.bump_rules.specs.declared.lanes.Lane.{Lane}
-use Rattle.bump_rules.specs.declared.lanes.Lane.TheVariants as lane
+use Rattle.bump_rules.specs.declared.lanes.LaneStage.{LaneStage}
+use Rattle.bump_rules.specs.declared.lanes.LaneStage.TheVariants as lane
 use Rattle.bump_rules.specs.Lanes.{bump_of, carried, is_half_made}
 use Rattle.bump_rules.specs.Rings.{aboard, bump_applied}
 use Rattle.bump_steps.specs.declared.views.Ride.{Ride}
@@ -15,10 +15,10 @@ use Rattle.bump_class.specs.Applications.{applied_answer}
 use Rattle.bump_class.specs.Books.{BookView}
 use Rattle.bump_class.specs.Lanes.{LaneView, IsRawLane, carries, entries, lives}
 use Rattle.bump_parts.proofs.ClosingLemmas.{numbered_long}
-use Rattle.bump_store.specs.Lanes.{AppliesAboard, outcome_told, told}
+use Rattle.bump_store.specs.Lanes.{AppliesAboard, outcome_told, applied_bump_of}
 
 -- a lane at rest that carries nothing has nothing aboard
-pub none_aboard : (stage : Lane) → is_half_made stage ≡ false → carried stage ≡ None → aboard stage ≡ []
+pub none_aboard : (stage : LaneStage) → is_half_made stage ≡ false → carried stage ≡ None → aboard stage ≡ []
 none_aboard lane.Empty rest none = refl
 none_aboard (lane.Carrying bump) rest none = absurd (cc none)
 none_aboard (lane.Tried bump) rest none = absurd (cc rest)
@@ -46,7 +46,7 @@ told_outcome outcome.Gone ended = refl
 
 -- so the entry that is answered is the one that the lane keeps
 pub entry_kept : (now : ℕ) (book left : BookView) (from to : LaneView) (entry : Entry)
-    → AppliesAboard now book from entry left to → entries to ≡ entries from ++ told entry ∷ []
+    → AppliesAboard now book from entry left to → entries to ≡ entries from ++ applied_bump_of entry ∷ []
 entry_kept now book left from to entry applies =
     let front = applies.front in
     let bump : Bump = bump_of entry.number entry.life in

@@ -5,8 +5,8 @@ use Rattle.std.proofs.lemmas.List.{append-nil, append_assoc, length-map}
 use mathlib.Core.List.{IsPrefix}
 use Rattle.bump_rules.specs.declared.bumps.Bump.{Bump}
 use Rattle.bump_rules.specs.declared.bumps.Entry.{Entry}
-use Rattle.bump_rules.specs.declared.lanes.Lane.{Lane}
-use Rattle.bump_rules.specs.declared.lanes.Lane.TheVariants as lane
+use Rattle.bump_rules.specs.declared.lanes.LaneStage.{LaneStage}
+use Rattle.bump_rules.specs.declared.lanes.LaneStage.TheVariants as lane
 use Rattle.bump_rules.specs.Lanes.{applied_bump, carried, is_half_made}
 use Rattle.bump_rules.specs.Rings.{aboard, bump_applied}
 use Rattle.bump_word.specs.Words.{word_of}
@@ -16,7 +16,7 @@ use Rattle.bump_steps.specs.declared.views.Ride.{Ride}
 use Rattle.bump_steps.specs.Plays.{step_of}
 use Rattle.bump_class.specs.Applications.{FoundHeads}
 use Rattle.bump_class.specs.Lanes.{LaneView, IsRawLane, carries, entries, lives}
-use Rattle.bump_store.specs.Lanes.{AppliesNext, NothingAboard, told}
+use Rattle.bump_store.specs.Lanes.{AppliesNext, NothingAboard, applied_bump_of}
 use Rattle.bump_parts.specs.Closing.{AppliedAll}
 use Rattle.bump_store.specs.Settling.{MaySeeEnd, IsLater, IsAppliedBetween, AppliesEach}
 use Rattle.bump_parts.proofs.GrowingLists.{grown_on}
@@ -49,7 +49,7 @@ equal_iff a b m n is is' =
     (λ equal. sym is ∙ eqb-true a b equal ∙ is', λ same. eq-eqb a b (is ∙ same ∙ sym is'))
 
 -- a lane at rest that carries nothing is empty
-pub is_empty : (stage : Lane) → is_half_made stage ≡ false → carried stage ≡ None → stage ≡ lane.Empty
+pub is_empty : (stage : LaneStage) → is_half_made stage ≡ false → carried stage ≡ None → stage ≡ lane.Empty
 is_empty lane.Empty rest none = refl
 is_empty (lane.Carrying bump) rest none = absurd (cc none)
 is_empty (lane.Tried bump) rest none = absurd (cc rest)
@@ -180,7 +180,7 @@ none_applied now this_lane = record {
 -- one more was applied
 each_of_more : (now count : ℕ) (before between after : LaneView) (entry : Entry)
     → AppliesEach now count before between → NothingAboard between → AppliesNext now between entry after
-    → entries after ≡ entries between ++ told entry ∷ [] → (earlier others : ℕ) → earlier + suc others ≡ suc count
+    → entries after ≡ entries between ++ applied_bump_of entry ∷ [] → (earlier others : ℕ) → earlier + suc others ≡ suc count
     → IsAppliedBetween now earlier others before after
 each_of_more now count before between after entry so_far none next tells earlier zero sum =
     let all : count ≡ earlier = omega (arith, sum) in record {
@@ -208,7 +208,7 @@ each_of_more now count before between after entry so_far none next tells earlier
 
 pub one_more_applied : (now count : ℕ) (before between after : LaneView) (entry : Entry)
     → AppliesEach now count before between → NothingAboard between → AppliesNext now between entry after
-    → entries after ≡ entries between ++ told entry ∷ [] → AppliesEach now (suc count) before after
+    → entries after ≡ entries between ++ applied_bump_of entry ∷ [] → AppliesEach now (suc count) before after
 one_more_applied now count before between after entry so_far none next tells = record {
   later = later_still count 1 (suc count) before between after (omega arith) so_far.later
       (one_later now between entry after next);

@@ -11,7 +11,7 @@ use Rattle.bump_class.specs.Books.{BookView}
 use Rattle.bump_class.specs.Lanes.{LaneView}
 use Rattle.bump_parts.specs.Parting.{starts_from, new_books, raw_parts_of, IsBetweenStarts}
 use Rattle.bump_store.specs.Lanes.{NothingAboard}
-use Rattle.bump_store.specs.Stores.{first_chunk, HasChunk, HasLimitsOf, IsOfClass, IsStore}
+use Rattle.bump_store.specs.Stores.{first_chunk, ClassHasChunk, HasLimitsOf, IsOfClass, IsStore}
 
 -- there is one more than there are classes
 pub length_starts : (first : ℕ) (classes : List ClassConfig) → length (starts_from first classes) ≡ length classes + 1
@@ -68,7 +68,7 @@ made_store classes starts locks made same some few = record {
 
 -- a chunk between two starts is of the class at the first of them
 pub between_starts : (classes : List ClassConfig) (starts : List ℕ) (locks chunk place : ℕ) → IsStore classes starts locks
-    → IsBetweenStarts chunk starts place → (place < length classes) × HasChunk chunk place classes
+    → IsBetweenStarts chunk starts place → (place < length classes) × ClassHasChunk chunk place classes
 between_starts classes starts locks chunk place store found =
     let low : place < length classes = omega (arith, store.count, found.in_range) in (
       low,
@@ -92,7 +92,7 @@ behind_all classes starts locks chunk store last =
     )
 
 -- a class's chunk is one of all chunks
-pub among_all : (classes : List ClassConfig) (chunk class : ℕ) → HasChunk chunk class classes → chunk < chunks_of classes
+pub among_all : (classes : List ClassConfig) (chunk class : ℕ) → ClassHasChunk chunk class classes → chunk < chunks_of classes
 among_all classes chunk class has = omega (arith, has.1, some_of_all (class + 1) classes)
 
 -- a Book that has a class's number, its chunks and its limits is that of the class

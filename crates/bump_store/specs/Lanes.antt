@@ -39,8 +39,8 @@ outcome_told applied.Moved = outcome.Moved
 outcome_told applied.TimeOnly = outcome.TimeOnly
 outcome_told (applied.Gone ended) = outcome.Gone
 
-abbrev pub told : Entry → AppliedBump
-told entry = record { number = entry.number; life = entry.life; outcome = outcome_told entry.applied }
+abbrev pub applied_bump_of : Entry → AppliedBump
+applied_bump_of entry = record { number = entry.number; life = entry.life; outcome = outcome_told entry.applied }
 
 -- no bump is aboard
 abbrev pub NothingAboard : LaneView → Type 0

@@ -2,11 +2,11 @@
 use Rattle.std.specs.Prelude.{◌≡◌, ℕ, suc, ◌+◌, ◌*◌, ◌≤◌, ◌⊎◌, List, [], ◌∷◌, ◌++◌, length}
 use mathlib.Core.List.{IsPrefix}
 use Rattle.bump_rules.specs.declared.bumps.Entry.{Entry}
-use Rattle.bump_rules.specs.declared.lanes.Lane.TheVariants.{Empty}
+use Rattle.bump_rules.specs.declared.lanes.LaneStage.TheVariants.{Empty}
 use Rattle.bump_steps.specs.declared.views.Ride.{Ride}
 use Rattle.bump_class.specs.Lanes.{LaneView, entries}
 use Rattle.bump_parts.specs.Closing.{AppliedAll}
-use Rattle.bump_store.specs.Lanes.{AppliesNext, NothingAboard, told}
+use Rattle.bump_store.specs.Lanes.{AppliesNext, NothingAboard, applied_bump_of}
 
 -- A lane may have been shown the end of its ring, of this room and of which this was sent: then it knows all that is
 -- left, which has room in the ring.
@@ -40,7 +40,7 @@ pub record IsAppliedBetween (now earlier others : ℕ) (before after : LaneView)
   pub idle : NothingAboard from
   pub next : AppliesNext now from entry to
   -- then the lane told it, and the others came behind
-  pub tells : entries to ≡ entries from ++ told entry ∷ []
+  pub tells : entries to ≡ entries from ++ applied_bump_of entry ∷ []
   pub until : IsLater others to after
 
 -- A lane is so many bumps later, and each of them was applied at this time.

@@ -9,8 +9,8 @@ abbrev pub first_chunk : ℕ → List ClassConfig → ℕ
 first_chunk class classes = chunks_of (take class classes)
 
 -- The class has the chunk: it has those from its first one up to the first one of the next class.
-abbrev pub HasChunk : ℕ → ℕ → List ClassConfig → Type 0
-HasChunk chunk class classes = (first_chunk class classes ≤ chunk) × (chunk < first_chunk (class + 1) classes)
+abbrev pub ClassHasChunk : ℕ → ℕ → List ClassConfig → Type 0
+ClassHasChunk chunk class classes = (first_chunk class classes ≤ chunk) × (chunk < first_chunk (class + 1) classes)
 
 -- The Book has the limits of HOT and WARM that the configuration of the class with this number has.
 pub record HasLimitsOf (class : ℕ) (classes : List ClassConfig) (book : BookView) : Type 0 where

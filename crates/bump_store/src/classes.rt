@@ -1,7 +1,7 @@
 //! Which class of a store has a chunk.
 ghost use Rattle.std.specs.Prelude.{◌≡◌, ◌≤◌, ◌<◌, ◌↔◌, ◌-◌, length, slice_index, IfOk, IfSome, IfNone, IsErr};
 ghost use Rattle.bump_rules.specs.Configs.{chunks_of};
-ghost use Rattle.bump_store.specs.Stores.{HasChunk};
+ghost use Rattle.bump_store.specs.Stores.{ClassHasChunk};
 ghost use Rattle.bump_parts.specs.Parting.{IsBetweenStarts};
 
 use crate::stores::Store;
@@ -39,7 +39,7 @@ impl<N: Name, L: RowLaw> Store<N, L> {
     /// number. It is refused as NoSuchChunk exactly where there is no such chunk.
     pub fn class_of(&self, chunk: u32) -> Result<u32, NoSuchChunk>
         ensures in_range { IfOk result (λ class. class < length self.now.classes) }
-        ensures class { IfOk result (λ class. HasChunk chunk class self.now.classes) }
+        ensures class { IfOk result (λ class. ClassHasChunk chunk class self.now.classes) }
         ensures none { IsErr result ↔ (chunks_of self.now.classes ≤ chunk) }
     {
         place_of(&self.starts, chunk).ok_or(NoSuchChunk)

@@ -3,7 +3,7 @@ ghost use Rattle.std.specs.Prelude.{◌≡◌, ◌+◌, ◌≤◌, ◌<◌, ◌+
 ghost use mathlib.Core.List.{IsPrefix};
 ghost use Rattle.bump_steps.specs.Views.{owns};
 ghost use Rattle.bump_class.specs.Lanes.{carries, entries, IsRawLane};
-ghost use Rattle.bump_store.specs.Lanes.{LaneState as TheLaneState, told, NothingAboard, AppliesAboard, AppliesNext};
+ghost use Rattle.bump_store.specs.Lanes.{LaneState as TheLaneState, applied_bump_of, NothingAboard, AppliesAboard, AppliesNext};
 ghost use Rattle.bump_store.specs.Lanes.{AppliesMany};
 
 use crate::stores::Store;
@@ -84,7 +84,7 @@ impl<N: Name, L: RowLaw> Lane<N, L> {
         ensures ring { (self.new.lane.ring ≡ self.old.lane.ring) × (self.new.capacity ≡ self.old.capacity) }
         ensures next { IfSome result (λ entry. AppliesNext now self.old.lane entry self.new.lane) }
         ensures number { IfSome result (λ entry. entry.number ≡ length (entries self.old.lane)) }
-        ensures entry { IfSome result (λ entry. entries self.new.lane ≡ entries self.old.lane ++ told entry ∷ []) }
+        ensures entry { IfSome result (λ entry. entries self.new.lane ≡ entries self.old.lane ++ applied_bump_of entry ∷ []) }
         ensures none { IfNone result (self.old.lane.known ≡ []) }
         ensures unchanged { IfNone result (self.new ≡ self.old) }
         ensures was_idle { NothingAboard self.old.lane }

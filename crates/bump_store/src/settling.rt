@@ -2,9 +2,9 @@
 ghost use Rattle.std.specs.Prelude.{◌≡◌, ◌+◌, ◌++◌, ◌∷◌, ◌↔◌, [], length, None, Ok, IfOk, IfErr, IfSome, IfNone, false};
 ghost use Rattle.std.specs.Prelude.{true};
 ghost use mathlib.Core.List.{IsPrefix};
-ghost use Rattle.bump_rules.specs.declared.lanes.Lane.TheVariants.{Empty as IsEmpty};
+ghost use Rattle.bump_rules.specs.declared.lanes.LaneStage.TheVariants.{Empty as IsEmpty};
 ghost use Rattle.bump_class.specs.Lanes.{LaneView as TheLaneView, entries};
-ghost use Rattle.bump_store.specs.Lanes.{told, AppliesNext};
+ghost use Rattle.bump_store.specs.Lanes.{applied_bump_of, AppliesNext};
 ghost use Rattle.bump_parts.specs.Closing.{AppliedAll};
 ghost use Rattle.bump_store.specs.Settling.{MaySeeEnd, Settles};
 
@@ -106,7 +106,7 @@ impl<N: Name, L: RowLaw> Lane<N, L> {
         ensures number { IfOk result (λ answered. IfSome answered (λ entry.
             entry.number ≡ length (entries self.old.lane))) }
         ensures entry { IfOk result (λ answered. IfSome answered (λ entry.
-            entries self.new.lane ≡ entries self.old.lane ++ told entry ∷ [])) }
+            entries self.new.lane ≡ entries self.old.lane ++ applied_bump_of entry ∷ [])) }
         ensures all_unchanged { result ≡ Ok None → self.new ≡ self.old }
         ensures unknown { IfErr result (λ e. self.old.lane.known ≡ []) }
         ensures unseen { IfErr result (λ e. closed.old.sender.shows_end ≡ false) }

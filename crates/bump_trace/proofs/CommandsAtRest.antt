@@ -19,7 +19,7 @@ use Rattle.bump_rules.specs.declared.bumps.Outcome.TheVariants as outcome
 use Rattle.bump_rules.specs.declared.places.Segment.{Segment}
 use Rattle.bump_rules.specs.declared.places.Tail.{Tail}
 use Rattle.bump_rules.specs.declared.places.Tail.TheVariants as tail
-use Rattle.bump_core.specs.Commands.{is_allowed, may_store, command_after, freed_by, unlink_item, unlinked_as, pull, pull_to, pulled_at, hit, hit_at, attempt, dropped_at, is_exhausted, apply_bump, bumped_lists, outcome_next, gone_as, bump_next, last_pulled_in, get_at, held_by_get}
+use Rattle.bump_core.specs.Commands.{is_allowed, may_store, command_after, with_chunk_freed, unlink_item, unlinked_as, pull, pull_to, pulled_at, hit, hit_at, attempt, dropped_at, is_exhausted, apply_bump, bumped_lists, outcome_next, gone_as, bump_next, last_pulled_in, get_at, held_by_get}
 use Rattle.bump_rules.specs.Lanes.{is_half_made}
 use Rattle.bump_state.specs.Events.{next_chunk}
 use Rattle.bump_rules.specs.Lives.{life}
@@ -29,14 +29,14 @@ use Rattle.bump_rules.specs.declared.commands.Hit.{Hit}
 use Rattle.bump_rules.specs.declared.commands.Hit.TheVariants.{First as IsFirst, Already as IsAlready, Marked as IsMarked, Attempts}
 use Rattle.bump_rules.specs.Tables.{Get, IsStale, IsRefsFull, IsHeld, pulled_to}
 use Rattle.bump_rules.specs.Totals.{total}
-use Rattle.bump_trace.specs.Ready.{IsResting, IsAtRest}
+use Rattle.bump_trace.specs.Ready.{IsResting, AllWorkersRest}
 
 -- A state at rest stays so, with as many workers and classes and rings of the same capacity.
 pub record Keeps (old new : State) : Type 0 where
   pub workers : length new.workers ≡ length old.workers
   pub classes : length new.classes ≡ length old.classes
   pub capacity : new.capacity ≡ old.capacity
-  pub rest : IsAtRest old → IsAtRest new
+  pub rest : AllWorkersRest old → AllWorkersRest new
 
 -- nothing changed
 keeps_same : (s : State) → Keeps s s
@@ -55,7 +55,7 @@ keeps_class : (s : State) (k : ℕ) (x : ClassState) → Keeps s (with_class s k
 keeps_class s k x = record { workers = refl; classes = length-set s.classes k x; capacity = refl; rest = λ r. r }
 
 -- the worker that a number names rests; past the end it is a new one
-pub resting_at : (s : State) (w : ℕ) → IsAtRest s → IsResting (worker_at s w)
+pub resting_at : (s : State) (w : ℕ) → AllWorkersRest s → IsResting (worker_at s w)
 resting_at s w r = elim (cases_Bool (nat_lt w (length s.workers))) [
   | inl e ↦ All-get_or IsResting s.workers w new_worker (ltb-true _ _ e) r
   | inr e ↦ subst IsResting (sym (get_or-eq_default s.workers new_worker (ltb-false _ _ e))) (record { idle = refl; empty = refl })
@@ -81,7 +81,7 @@ keeps_pull_to s k t c None = keeps_same s
 keeps_pull_to s k t c (Some to) = keeps_both _ _ _ (keeps_chunk s c _) (keeps_class _ k _)
 
 -- an ended life's chunk is free, or not
-keeps_freed : (s : State) (l : ItemId) (e : Ended) → Keeps s (freed_by s l e)
+keeps_freed : (s : State) (l : ItemId) (e : Ended) → Keeps s (with_chunk_freed s l e)
 keeps_freed s l Freed = keeps_class s _ _
 keeps_freed s l Deferred = keeps_same s
 
@@ -141,7 +141,7 @@ keeps_command s (command.Next w now) = keeps_option s _ (bump_next (worker_at s 
 keeps_command s (command.Close w) = keeps_worker s w _ (λ r. record { idle = r.idle; empty = r.empty })
 
 -- no class is under application
-pub none_applied : (s : State) (k : ℕ) → IsAtRest s → is_under_application s k ≡ false
+pub none_applied : (s : State) (k : ℕ) → AllWorkersRest s → is_under_application s k ≡ false
 none_applied s k r = list_any_none _ s.workers (λ i d h. ap (applies_in s k) (r i d h).empty)
 
 -- a sum of nothing
@@ -150,11 +150,11 @@ total_none f [] h = refl
 total_none f (x ∷ xs) h = let here = h 0 x (omega arith) in let others = total_none f xs (λ i d lt. h (suc i) d (omega (arith, lt))) in omega arith
 
 -- no worker is on a life
-pub none_on : (s : State) (l : ItemId) → IsAtRest s → workers_on s l ≡ 0
+pub none_on : (s : State) (l : ItemId) → AllWorkersRest s → workers_on s l ≡ 0
 none_on s l r = total_none _ s.workers (λ i d h. ap (is_on l) (r i d h).idle)
 
 -- at rest every hold is free
-pub free_hold : (s : State) (l : ItemId) → IsAtRest s → has_free_hold s l ≡ is_held s l
+pub free_hold : (s : State) (l : ItemId) → AllWorkersRest s → has_free_hold s l ≡ is_held s l
 free_hold s l r = ap (λ n. is_current s l && nat_lt n (chunk_at s l.chunk).holds) (none_on s l r)
 
 -- where nothing is applied, whether there is a chunk is all the same
@@ -162,19 +162,19 @@ no_bar : (a b c : Bool) → a ≡ true → c ≡ false → a && (not b || not c)
 no_bar a b c p q = rw (p, q) (elim b as (λ v. true && (not v || true) ≡ true) [ true ↦ refl | false ↦ refl ])
 
 -- a link into a class that is there is allowed
-pub link_allowed : (s : State) (k : ℕ) → IsAtRest s → is_class s k ≡ true → may_store s k ≡ true
+pub link_allowed : (s : State) (k : ℕ) → AllWorkersRest s → is_class s k ≡ true → may_store s k ≡ true
 link_allowed s k r e = no_bar _ _ _ e (none_applied s k r)
 
 -- a pull of a class that is there is allowed
-pub pull_allowed : (s : State) (k : ℕ) (t : Tail) → IsAtRest s → is_class s k ≡ true → is_allowed s (command.Pull k t) ≡ true
+pub pull_allowed : (s : State) (k : ℕ) (t : Tail) → AllWorkersRest s → is_class s k ≡ true → is_allowed s (command.Pull k t) ≡ true
 pull_allowed s k t r e = no_bar _ _ _ e (none_applied s k r)
 
 -- the end of an item is allowed, linked or not
-pub unlink_allowed : (s : State) (l : ItemId) → IsAtRest s → is_allowed s (command.Unlink l) ≡ true
+pub unlink_allowed : (s : State) (l : ItemId) → AllWorkersRest s → is_allowed s (command.Unlink l) ≡ true
 unlink_allowed s l r = no_bar true (is_linked s l) _ refl (none_applied s (class_of s l.chunk) r)
 
 -- a sweep of a class that is there is allowed
-pub sweep_allowed : (s : State) (k : ℕ) → IsAtRest s → is_class s k ≡ true → is_allowed s (command.Sweep k) ≡ true
+pub sweep_allowed : (s : State) (k : ℕ) → AllWorkersRest s → is_class s k ≡ true → is_allowed s (command.Sweep k) ≡ true
 sweep_allowed s k r e = no_bar _ _ _ e (none_applied s k r)
 
 -- a hit that has its hold and an idle worker is allowed where the worker is open, exhausted or not
@@ -183,7 +183,7 @@ touch_bar true b c d q t = rw (q, t) (elim c as (λ v. true && (v || true) ≡ t
 touch_bar false b c d q t = refl
 
 -- a hit of a held item is allowed where the worker is open
-pub touch_allowed : (s : State) (w : ℕ) (l : ItemId) (now : ℕ) → IsAtRest s → is_held s l ≡ true → is_allowed s (command.Touch w l now) ≡ is_open s w
+pub touch_allowed : (s : State) (w : ℕ) (l : ItemId) (now : ℕ) → AllWorkersRest s → is_held s l ≡ true → is_allowed s (command.Touch w l now) ≡ is_open s w
 touch_allowed s w l now r h = touch_bar _ _ (is_exhausted s w) _ (free_hold s l r ∙ h) (ap is_idle (resting_at s w r).idle)
 
 -- what holds may be left out
@@ -192,11 +192,11 @@ close_bar true b e = e
 close_bar false b e = refl
 
 -- the closing of a worker is allowed where it is open
-pub close_allowed : (s : State) (w : ℕ) → IsAtRest s → is_allowed s (command.Close w) ≡ is_open s w
+pub close_allowed : (s : State) (w : ℕ) → AllWorkersRest s → is_allowed s (command.Close w) ≡ is_open s w
 close_allowed s w r = close_bar _ _ (ap is_idle (resting_at s w r).idle)
 
 -- a hold of a held item may be given back
-pub release_allowed : (s : State) (l : ItemId) → IsAtRest s → is_held s l ≡ true → is_allowed s (command.Release l) ≡ true
+pub release_allowed : (s : State) (l : ItemId) → AllWorkersRest s → is_held s l ≡ true → is_allowed s (command.Release l) ≡ true
 release_allowed s l r h = free_hold s l r ∙ h
 
 -- a value that there may be passes a test that all pass
@@ -209,7 +209,7 @@ next_bar : (a b c : Bool) → a ≡ true → b ≡ false → c ≡ true → a &&
 next_bar a b c p q t = rw (p, q, t) refl
 
 -- the next bump of a worker that is there may be applied
-pub next_allowed : (s : State) (w now : ℕ) → IsAtRest s → is_worker s w ≡ true → is_allowed s (command.Next w now) ≡ true
+pub next_allowed : (s : State) (w now : ℕ) → AllWorkersRest s → is_worker s w ≡ true → is_allowed s (command.Next w now) ≡ true
 next_allowed s w now r e =
     next_bar _ _ _ e (ap is_half_made (resting_at s w r).empty) (each_passes _ (bump_next (worker_at s w)) (λ b. ap not (none_applied s (class_of s b.life.chunk) r)))
 

@@ -24,7 +24,7 @@ use Rattle.bump_rules.specs.declared.places.Tail.TheVariants as tail
 use Rattle.bump_rules.specs.declared.places.Start.{Start}
 use Rattle.bump_rules.specs.declared.places.Start.TheVariants as start
 use Rattle.bump_rules.specs.Starts.{link_command}
-use Rattle.bump_core.specs.Commands.{is_allowed, answer_of, command_after, freed_by, unlink_item, unlinked_as, pull, pull_to, pulled_at, get_answer, get_at, held_by_get, hit, hit_at, attempt, dropped_at, apply_bump, bumped_chunk, bumped_lists, outcome_next, gone_as, bump_next, last_pulled_in, link_labelled}
+use Rattle.bump_core.specs.Commands.{is_allowed, answer_of, command_after, with_chunk_freed, unlink_item, unlinked_as, pull, pull_to, pulled_at, get_answer, get_at, held_by_get, hit, hit_at, attempt, dropped_at, apply_bump, bumped_chunk, bumped_lists, outcome_next, gone_as, bump_next, last_pulled_in, link_labelled}
 use Rattle.bump_state.specs.Events.{next_chunk, with_hold, without_hold}
 use Rattle.bump_rules.specs.Lives.{life, one_if}
 use Rattle.bump_state.specs.State.{State, ClassState, WorkerState, no_chunk, chunk_at, head_at, worker_at, is_chunk, is_current, is_held, is_open, with_chunk, with_class, with_worker}
@@ -85,7 +85,7 @@ stay_if s t u true p q = p
 stay_if s t u false p q = q
 
 -- an ended life's chunk is free, or not
-stay_freed : (s : State) (l : ItemId) (e : Ended) → HoldsStay s (freed_by s l e)
+stay_freed : (s : State) (l : ItemId) (e : Ended) → HoldsStay s (with_chunk_freed s l e)
 stay_freed s l Freed = stay_class s _ _
 stay_freed s l Deferred = stay_same s
 

@@ -8,7 +8,7 @@ use Rattle.bump_rules.specs.declared.bumps.Ended.{Ended}
 use Rattle.bump_rules.specs.declared.bumps.Ended.TheVariants.{Freed, Deferred}
 use Rattle.bump_rules.specs.declared.bumps.Outcome.{Outcome}
 use Rattle.bump_rules.specs.declared.bumps.Outcome.TheVariants as outcome
-use Rattle.bump_rules.specs.declared.lanes.Lane.TheVariants as lane
+use Rattle.bump_rules.specs.declared.lanes.LaneStage.TheVariants as lane
 use Rattle.bump_rules.specs.declared.commands.Answer.TheVariants as answer
 use Rattle.bump_rules.specs.Lanes.{bump_of}
 use Rattle.bump_state.specs.State.{State, WorkerState, new_worker, worker_at, chunk_at, with_chunk, with_worker}
@@ -17,7 +17,7 @@ use Rattle.bump_state.specs.Worlds.{IsLawful}
 use Rattle.bump_state.proofs.Ring.{next_in_ring}
 use Rattle.bump_core.specs.Commands.{bump_next, bumped_worker, bumped_chunk, bumped_lists, apply_bump, outcome_next, gone_as, entry_next}
 use Rattle.bump_trace.specs.OpenStore.{Drained, drained_none, drained_one, drained_both, drained_by, drained_of}
-use Rattle.bump_trace.specs.Ready.{IsAtRest}
+use Rattle.bump_trace.specs.Ready.{AllWorkersRest}
 use Rattle.bump_trace.proofs.CommandsAtRest.{resting_at}
 
 -- where a bump is next and none aboard, one waits
@@ -109,7 +109,7 @@ enough now w (suc n) (suc m) s within empty few more =
     same_next now w n m s (enough now w n m) within empty few more (bump_next (worker_at s w)) refl
 
 -- at rest a ring has room for the bumps that wait in it
-pub waiting_drained : (now w : ℕ) (s : State) → w < length s.workers → IsAtRest s → IsLawful s
+pub waiting_drained : (now w : ℕ) (s : State) → w < length s.workers → AllWorkersRest s → IsLawful s
     → drained_of now w s.capacity s ≡ drained_of now w (waiting (worker_at s w)) s
 waiting_drained now w s within rest lawful =
     enough now w s.capacity (waiting (worker_at s w)) s within (resting_at s w rest).empty (omega (

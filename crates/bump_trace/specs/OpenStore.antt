@@ -246,23 +246,23 @@ unfoldable pub par_said : StoreState → Result Said Fault
 par_said store = Ok (say (Open (record store { is_past_par = true })) [])
 
 -- what each line does
-abbrev pub made_by : StoreState → ℕ → Instruction → Result Said Fault
-made_by store now (Set start name class label) = set_said store now start name class label
-made_by store now (Get worker name) = get_said store now worker name
-made_by store now (Hold worker name hold) = hold_said store worker name hold
-made_by store now (Hit worker hold) = hit_said store now worker hold
-made_by store now (Read hold) = read_said store hold
-made_by store now (Drop hold) = drop_said store hold
-made_by store now (Del name) = del_said store name
-made_by store now (Pull class tail) = pull_said store class tail
-made_by store now (Sweep class) = sweep_said store class
-made_by store now Drain = drain_said store now
-made_by store now (Close worker) = close_said store now worker
-made_by store now Show = show_said store
-made_by store now Moves = moves_said store
-made_by store now Par = par_said store
+abbrev pub line_answered : StoreState → ℕ → Instruction → Result Said Fault
+line_answered store now (Set start name class label) = set_said store now start name class label
+line_answered store now (Get worker name) = get_said store now worker name
+line_answered store now (Hold worker name hold) = hold_said store worker name hold
+line_answered store now (Hit worker hold) = hit_said store now worker hold
+line_answered store now (Read hold) = read_said store hold
+line_answered store now (Drop hold) = drop_said store hold
+line_answered store now (Del name) = del_said store name
+line_answered store now (Pull class tail) = pull_said store class tail
+line_answered store now (Sweep class) = sweep_said store class
+line_answered store now Drain = drain_said store now
+line_answered store now (Close worker) = close_said store now worker
+line_answered store now Show = show_said store
+line_answered store now Moves = moves_said store
+line_answered store now Par = par_said store
 
 -- where it may stand
 unfoldable pub instruction_said : StoreState → ℕ → Instruction → Result Said Fault
 instruction_said store now instruction =
-    if store.is_past_par && not (may_follow_par instruction) then Err fault.Order else made_by store now instruction
+    if store.is_past_par && not (may_follow_par instruction) then Err fault.Order else line_answered store now instruction

@@ -3,7 +3,7 @@ use Rattle.std.specs.Prelude.{◌≡◌, ℕ, ◌+◌, ◌≤◌, Bool, true, fa
 use Rattle.bump_rules.specs.declared.commands.Command.{Command}
 use Rattle.bump_rules.specs.declared.commands.Command.TheVariants as command
 use Rattle.bump_rules.specs.declared.items.ItemId.{ItemId}
-use Rattle.bump_rules.specs.declared.lanes.Lane.TheVariants as lane
+use Rattle.bump_rules.specs.declared.lanes.LaneStage.TheVariants as lane
 use Rattle.bump_rules.specs.declared.hands.Hand.TheVariants as hand
 use Rattle.bump_rules.specs.Lives.{one_if}
 use Rattle.bump_state.specs.State.{State, WorkerState}
@@ -21,15 +21,15 @@ pub record IsResting (worker : WorkerState) : Type 0 where
   pub empty : worker.lane ≡ lane.Empty
 
 -- all workers rest
-abbrev pub IsAtRest : State → Type 0
-IsAtRest state = All IsResting state.workers
+abbrev pub AllWorkersRest : State → Type 0
+AllWorkersRest state = All IsResting state.workers
 
 -- the numbers kept beside the World are its own, and it is lawful and at rest
 pub record IsReady (store : OpenStore) : Type 0 where
   pub workers : length store.world.workers ≡ store.workers
   pub classes : length store.world.classes ≡ store.classes
   pub capacity : store.world.capacity ≡ store.capacity
-  pub rest : IsAtRest store.world
+  pub rest : AllWorkersRest store.world
   pub lawful : IsLawful store.world
 
 -- each item has as many holds as before, or more
@@ -76,6 +76,6 @@ pub record MayRun (store : OpenStore) (text : List ℕ) : Type 0 where
   pub empty : text ≡ []
 
 -- a store that is open is steady
-abbrev pub IsSettled : Stage → Type 0
-IsSettled (stage.Opens opening) = Unit {0}
-IsSettled (stage.Open store) = IsSteady store
+abbrev pub IsSteadyStage : Stage → Type 0
+IsSteadyStage (stage.Opens opening) = Unit {0}
+IsSteadyStage (stage.Open store) = IsSteady store

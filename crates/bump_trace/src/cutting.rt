@@ -3,7 +3,7 @@
 ghost use Rattle.std.specs.Prelude.{◌≡◌, ◌==◌, ◌<◌, ◌∷◌, [], MatchOption, length, position};
 ghost use Rattle.bump_trace.specs.Meaning.{parts_of};
 
-/// The place of the first line feed.
+// The place of the first line feed.
 fn feed(bytes: &[u8]) -> Option<usize>
     ensures { result ≡ position (λ b. b == 10) bytes.now }
 {

@@ -14,7 +14,7 @@ use trace_lines::{Counted, Fault, LineError, Sink, put_fault};
 /// How many bytes of text are gathered before they are written.
 pub const ROOM: usize = 65_536;
 
-/// Writes all of the bytes.
+// Writes all of the bytes.
 fn write_whole<W: Sink>(writer: &mut Counted<W>, bytes: &[u8]) -> Result<(), SimFault>
     ensures ok { OnOk result (Appends (W.contents (inner_of writer.old)) (W.contents (inner_of writer.new)) bytes.now) }
     ensures err { IfErr result (λ e. IsOfWriting (failed_of writer.new) e) }

@@ -7,7 +7,7 @@ ghost use Rattle.bump_state.specs.State.{is_held, is_open};
 ghost use Rattle.bump_trace.specs.Stages.{Open};
 ghost use Rattle.bump_trace.specs.OpenStore.{answer_by, state_by, get_held, set_said, get_said, hold_said, hit_said};
 ghost use Rattle.bump_trace.specs.OpenStore.{read_said, drop_said, del_said, pull_said, sweep_said, drain_said};
-ghost use Rattle.bump_trace.specs.OpenStore.{close_said, made_by, instruction_said, drained_of};
+ghost use Rattle.bump_trace.specs.OpenStore.{close_said, line_answered, instruction_said, drained_of};
 ghost use Rattle.bump_trace.specs.Names.{no_names};
 ghost use Rattle.bump_state.specs.Opening.{new_state};
 ghost use Rattle.trace_lines.specs.Lines.{may_follow_par};
@@ -72,7 +72,7 @@ impl<'a> OpenStore<'a> {
         })
     }
 
-    /// Makes a command that is allowed and gives no hold back.
+    // Makes a command that is allowed and gives no hold back.
     fn command(&mut self, command: Command) -> Result<Answer, LineError>
         requires ready { IsReady self.old }
         requires allowed { is_allowed self.old.world command ≡ true }
@@ -90,7 +90,7 @@ impl<'a> OpenStore<'a> {
         }
     }
 
-    /// Makes a command of a worker, which is allowed unless the worker is closed, and says what it answered.
+    // Makes a command of a worker, which is allowed unless the worker is closed, and says what it answered.
     fn command_by(&mut self, worker: u32, command: Command) -> Result<Option<Answer>, LineError>
         requires ready { IsReady self.old }
         requires allowed { is_allowed self.old.world command ≡ is_open self.old.world worker }
@@ -108,7 +108,7 @@ impl<'a> OpenStore<'a> {
         }
     }
 
-    /// Gives a hold back.
+    // Gives a hold back.
     fn release(&mut self, id: ItemId) -> Result<(), LineError>
         requires ready { IsReady self.old }
         requires hold { is_held self.old.world id ≡ true }
@@ -126,7 +126,7 @@ impl<'a> OpenStore<'a> {
         }
     }
 
-    /// What `Label` answers of a held item: it is read without a call that may be refused.
+    // What `Label` answers of a held item: it is read without a call that may be refused.
     fn held_label(&self, id: ItemId) -> Answer
         requires { is_held self.now.world id ≡ true }
         ensures { result ≡ answer_of self.now.world (command.Label id) }
@@ -134,7 +134,7 @@ impl<'a> OpenStore<'a> {
         Answer::Label(self.world.label(id.chunk))
     }
 
-    /// Links an item, and binds the name to it.
+    // Links an item, and binds the name to it.
     #[tactic(auto, unfolding(crate::specs::OpenStore::set_said))]
     fn set(
         &mut self,
@@ -161,7 +161,7 @@ impl<'a> OpenStore<'a> {
         Ok(())
     }
 
-    /// Reads the label of a held item, hits the item, and gives the hold back.
+    // Reads the label of a held item, hits the item, and gives the hold back.
     fn get_held(
         &mut self,
         now: u64,
@@ -187,7 +187,7 @@ impl<'a> OpenStore<'a> {
         Ok(())
     }
 
-    /// Takes a hold of the item that the name is bound to, and hits it.
+    // Takes a hold of the item that the name is bound to, and hits it.
     #[tactic(auto, unfolding(crate::specs::OpenStore::get_said))]
     fn get(
         &mut self,
@@ -217,7 +217,7 @@ impl<'a> OpenStore<'a> {
         }
     }
 
-    /// Takes a hold of the item that the name is bound to, and keeps it under a hold name.
+    // Takes a hold of the item that the name is bound to, and keeps it under a hold name.
     #[tactic(auto, unfolding(crate::specs::OpenStore::hold_said))]
     fn hold(
         &mut self,
@@ -254,7 +254,7 @@ impl<'a> OpenStore<'a> {
         }
     }
 
-    /// Hits an item by a hold that is kept.
+    // Hits an item by a hold that is kept.
     #[tactic(auto, unfolding(crate::specs::OpenStore::hit_said))]
     fn hit(
         &mut self,
@@ -279,7 +279,7 @@ impl<'a> OpenStore<'a> {
         Ok(())
     }
 
-    /// Reads the label of an item by a hold that is kept.
+    // Reads the label of an item by a hold that is kept.
     #[tactic(auto, unfolding(crate::specs::OpenStore::read_said))]
     fn read(&mut self, hold: &'a str, out: &mut Vec<u8>) -> Result<(), LineError>
         requires { MayRun self.old out.old.items }
@@ -295,7 +295,7 @@ impl<'a> OpenStore<'a> {
         Ok(())
     }
 
-    /// Gives a hold back that is kept: its name is free again.
+    // Gives a hold back that is kept: its name is free again.
     #[tactic(auto, unfolding(crate::specs::OpenStore::drop_said))]
     fn drop_hold(&mut self, hold: &'a str, out: &mut Vec<u8>) -> Result<(), LineError>
         requires { MayRun self.old out.old.items }
@@ -312,7 +312,7 @@ impl<'a> OpenStore<'a> {
         Ok(())
     }
 
-    /// Ends the item that the name is bound to.
+    // Ends the item that the name is bound to.
     #[tactic(auto, unfolding(crate::specs::OpenStore::del_said))]
     fn del(&mut self, name: &'a str, out: &mut Vec<u8>) -> Result<(), LineError>
         requires { MayRun self.old out.old.items }
@@ -328,7 +328,7 @@ impl<'a> OpenStore<'a> {
         Ok(())
     }
 
-    /// Looks at the last item of a list, and moves it by the tail table.
+    // Looks at the last item of a list, and moves it by the tail table.
     #[tactic(auto, unfolding(crate::specs::OpenStore::pull_said))]
     fn pull(&mut self, class: u32, tail: Tail, out: &mut Vec<u8>) -> Result<(), LineError>
         requires { MayRun self.old out.old.items }
@@ -343,7 +343,7 @@ impl<'a> OpenStore<'a> {
         Ok(())
     }
 
-    /// Frees the ended items of a class that nobody holds any more.
+    // Frees the ended items of a class that nobody holds any more.
     #[tactic(auto, unfolding(crate::specs::OpenStore::sweep_said))]
     fn sweep(&mut self, class: u32, out: &mut Vec<u8>) -> Result<(), LineError>
         requires { MayRun self.old out.old.items }
@@ -358,7 +358,7 @@ impl<'a> OpenStore<'a> {
         Ok(())
     }
 
-    /// Applies a worker's bumps until there is none, at most as many as its ring has room for, and says how many.
+    // Applies a worker's bumps until there is none, at most as many as its ring has room for, and says how many.
     fn drain_worker(&mut self, now: u64, worker: u32, out: &mut Vec<u8>) -> Result<u64, LineError>
         requires ready { IsReady self.old }
         requires worker { worker < self.old.workers }
@@ -378,7 +378,7 @@ impl<'a> OpenStore<'a> {
         Ok(count)
     }
 
-    /// Applies the bumps of all workers, and says how many they were.
+    // Applies the bumps of all workers, and says how many they were.
     #[tactic(auto, unfolding(crate::specs::OpenStore::drain_said))]
     fn drain(&mut self, now: u64, out: &mut Vec<u8>) -> Result<(), LineError>
         requires { MayRun self.old out.old.items }
@@ -393,7 +393,7 @@ impl<'a> OpenStore<'a> {
         Ok(())
     }
 
-    /// Closes a worker's ring, and applies the bumps in it.
+    // Closes a worker's ring, and applies the bumps in it.
     #[tactic(auto, unfolding(crate::specs::OpenStore::close_said))]
     fn close(&mut self, now: u64, worker: u32, out: &mut Vec<u8>) -> Result<(), LineError>
         requires { MayRun self.old out.old.items }
@@ -416,7 +416,7 @@ impl<'a> OpenStore<'a> {
         Ok(())
     }
 
-    /// Does what a line says that may stand here.
+    // Does what a line says that may stand here.
     #[tactic(auto, unfolding(crate::specs::OpenStore::par_said))]
     fn make(
         &mut self,
@@ -426,7 +426,7 @@ impl<'a> OpenStore<'a> {
     ) -> Result<(), LineError>
         requires { MayRun self.old out.old.items }
         ensures said { Does (Open (store_of self.new)) out.new.items result
-            (made_by (store_of self.old) now (seen_instruction instruction.entry)) }
+            (line_answered (store_of self.old) now (seen_instruction instruction.entry)) }
         ensures steady { OnOk result (IsSteady self.new) }
     {
         match instruction {
@@ -455,7 +455,7 @@ impl<'a> OpenStore<'a> {
         }
     }
 
-    /// Whether `par` was read, and the line may not stand behind it.
+    // Whether `par` was read, and the line may not stand behind it.
     fn is_misplaced(&self, instruction: &Instruction<'a>) -> bool
         ensures { result ≡ ((store_of self.now).is_past_par
             && not (may_follow_par (seen_instruction instruction.now))) }

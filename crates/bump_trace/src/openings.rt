@@ -20,7 +20,7 @@ pub enum Opening {
     Classes(Shape, Vec<ClassConfig>),
 }
 
-/// The fault that a configuration's fault is.
+// The fault that a configuration's fault is.
 fn fault_of(fault: ConfigFault) -> Fault
     ensures { result ≡ fault_of_config fault }
 {
@@ -34,7 +34,7 @@ fn fault_of(fault: ConfigFault) -> Fault
     }
 }
 
-/// The configuration that the lines `store` and `class` say.
+// The configuration that the lines `store` and `class` say.
 fn config(shape: Shape, classes: Vec<ClassConfig>) -> Result<Config, Fault>
     ensures fault { result_err result ≡ config_fault shape classes.items }
     ensures counts { IfOk result (λ c. (c.workers ≡ shape.workers) × (c.capacity ≡ shape.capacity)) }

@@ -60,7 +60,7 @@ impl From<AllocError> for SimFault {
     }
 }
 
-/// Runs the lines one after another, gathers their text, and says whether there was a fault.
+// Runs the lines one after another, gathers their text, and says whether there was a fault.
 fn run_lines<W: Sink>(
     alloc: Global,
     keys: RandomState,
@@ -102,7 +102,7 @@ fn run_lines<W: Sink>(
     }
 }
 
-/// Runs the lines, and writes their text before any answer.
+// Runs the lines, and writes their text before any answer.
 fn run_input<W: Sink>(
     alloc: Global,
     keys: RandomState,

@@ -29,14 +29,14 @@ pub struct Session<'a> {
 }
 
 impl<'a> Session<'a> {
-    ghost use Rattle.bump_trace.specs.Ready.{IsSettled};
+    ghost use Rattle.bump_trace.specs.Ready.{IsSteadyStage};
     ghost use Rattle.bump_trace.specs.Views.{seen_stage, Does, Opens};
     ghost use Rattle.trace_lines.specs.Seen.{seen_line};
 
     /// A trace of which no line was run, with the keys by which its names are hashed.
     pub fn new(keys: RandomState) -> Session<'a>
         ensures stage { seen_stage result.stage ≡ Before }
-        ensures settled { IsSettled result.stage }
+        ensures settled { IsSteadyStage result.stage }
     {
         Session {
             stage: Stage::Opens(Opening::Before),
@@ -44,11 +44,11 @@ impl<'a> Session<'a> {
         }
     }
 
-    /// Says what the store is, or what a class is.
+    // Says what the store is, or what a class is.
     #[tactic(auto, unfolding(crate::specs::Stages::declared))]
     fn declare(&mut self, alloc: Global, declaration: Declaration) -> Result<(), LineError>
         ensures said { Does (seen_stage self.new.stage) [] result (declared (seen_stage self.old.stage) declaration) }
-        ensures settled { OnOk result (IsSettled self.new.stage) }
+        ensures settled { OnOk result (IsSteadyStage self.new.stage) }
     {
         match &mut self.stage {
             Stage::Opens(opening) => declare(opening, alloc, declaration),
@@ -56,11 +56,11 @@ impl<'a> Session<'a> {
         }
     }
 
-    /// Makes the store at the first command.
+    // Makes the store at the first command.
     fn open(&mut self, alloc: Global) -> Result<(), LineError>
-        requires { IsSettled self.old.stage }
+        requires { IsSteadyStage self.old.stage }
         ensures opened { Opens (seen_stage self.new.stage) result (opened (seen_stage self.old.stage)) }
-        ensures settled { OnOk result (IsSettled self.new.stage) }
+        ensures settled { OnOk result (IsSteadyStage self.new.stage) }
     {
         // All other commands find the store open, and are not to pay for what making it needs.
         if let Stage::Open(_) = self.stage {
@@ -69,12 +69,12 @@ impl<'a> Session<'a> {
         self.make_store(alloc)
     }
 
-    /// Makes the store, where there is none.
+    // Makes the store, where there is none.
     #[tactic(auto, unfolding(crate::specs::Stages::opened))]
     fn make_store(&mut self, alloc: Global) -> Result<(), LineError>
-        requires { IsSettled self.old.stage }
+        requires { IsSteadyStage self.old.stage }
         ensures opened { Opens (seen_stage self.new.stage) result (opened (seen_stage self.old.stage)) }
-        ensures settled { OnOk result (IsSettled self.new.stage) }
+        ensures settled { OnOk result (IsSteadyStage self.new.stage) }
     {
         let Stage::Opens(opening) = &mut self.stage else {
             return Ok(());
@@ -88,7 +88,7 @@ impl<'a> Session<'a> {
         }
     }
 
-    /// Does what a line says.
+    // Does what a line says.
     #[tactic(auto, unfolding(crate::specs::Meaning::effect))]
     fn apply(
         &mut self,
@@ -97,11 +97,11 @@ impl<'a> Session<'a> {
         line: Line<'a>,
         out: &mut Vec<u8>,
     ) -> Result<(), LineError>
-        requires settled { IsSettled self.old.stage }
+        requires settled { IsSteadyStage self.old.stage }
         requires empty { out.old.items ≡ [] }
         ensures said { Does (seen_stage self.new.stage) out.new.items result
             (effect (seen_stage self.old.stage) now (seen_line line.entry)) }
-        ensures settled { OnOk result (IsSettled self.new.stage) }
+        ensures settled { OnOk result (IsSteadyStage self.new.stage) }
     {
         match line {
             Line::Declares(declaration) => self.declare(alloc, declaration),
@@ -125,11 +125,11 @@ impl<'a> Session<'a> {
         line: &'a [u8],
         out: &mut Vec<u8>,
     ) -> Result<(), LineError>
-        requires settled { IsSettled self.old.stage }
+        requires settled { IsSteadyStage self.old.stage }
         requires empty { out.old.items ≡ [] }
         ensures said { Does (seen_stage self.new.stage) out.new.items result
             (step (seen_stage self.old.stage) number line.entry.now) }
-        ensures settled { OnOk result (IsSettled self.new.stage) }
+        ensures settled { OnOk result (IsSteadyStage self.new.stage) }
     {
         match read_line(line)? {
             Some(line) => self.apply(alloc, number, line, out),

@@ -8,7 +8,7 @@ use Rattle.std.proofs.lemmas.Nat.Bits.{and_pow, and_high}
 use Rattle.bump_rules.specs.declared.items.Head.{Head}
 use Rattle.bump_rules.specs.declared.places.Segment.{Segment}
 use Rattle.bump_word.specs.Layout.{refs_width, linked_first, fetched_first, active_first, segment_first, segment_width, generation_first, generation_width}
-use Rattle.bump_word.specs.Words.{number_of, word_of, Spells, segment_bits, segment_change}
+use Rattle.bump_word.specs.Words.{segment_number, word_of, Spells, segment_bits, segment_change}
 use Rattle.bump_rules.specs.Lawful.{bit}
 use Rattle.bump_word.specs.Steps.{Changes, Tests, Reads}
 use Rattle.bump_rules.specs.declared.places.Segment.TheVariants.{Hot}
@@ -60,7 +60,7 @@ new_life_stored s g fits n h spelled _ = (refl, (omega arith, fits))
 -- that word in numbers
 pub new_life_number : (s : Segment) (g : ℕ) → word_of (linked_head_in s g)
     ≡ 2 ^ linked_first + 1 + segment_change Hot s + g * 2 ^ generation_first
-new_life_number s g = omega (arith, xor_zero_l (number_of s))
+new_life_number s g = omega (arith, xor_zero_l (segment_number s))
 
 -- an or with FETCHED sets it
 pub set_fetched : Changes (λ n. bit_or n (2 ^ fetched_first)) (λ _. ⊤) (λ h. record h { fetched = true })
@@ -119,23 +119,23 @@ xor_other : (a b : ℕ) → bit_xor a (bit_xor a b) ≡ b
 xor_other a b = sym (xor_assoc a a b) ∙ ap (λ (m : ℕ). bit_xor m b) (xor_self a) ∙ xor_zero_l b
 
 -- the exclusive or of two segments' numbers fits into the segment's bits
-difference_lt : (a b : Segment) → bit_xor (number_of a) (number_of b) < 2 ^ segment_width
-difference_lt a b = xor_lt segment_width (number_of a) (number_of b) (number_lt a) (number_lt b)
+difference_lt : (a b : Segment) → bit_xor (segment_number a) (segment_number b) < 2 ^ segment_width
+difference_lt a b = xor_lt segment_width (segment_number a) (segment_number b) (number_lt a) (number_lt b)
 
 -- the exclusive or of two segments takes the word of the one to the word of the other
 pub change_segment : (a b : Segment) → Changes (λ n. bit_xor n (segment_change a b)) (λ h. h.segment ≡ a)
     (λ h. record h { segment = b })
 change_segment a b n h spelled is =
-    let here : segment_bits n ≡ number_of a = (fields n h spelled).segment ∙ ap number_of is in
-    let x : ℕ = bit_xor (number_of a) (number_of b) in
+    let here : segment_bits n ≡ segment_number a = (fields n h spelled).segment ∙ ap segment_number is in
+    let x : ℕ = bit_xor (segment_number a) (segment_number b) in
     let q : ℕ = n / 2 ^ (segment_first + segment_width) in
     let r : ℕ = n % 2 ^ segment_first in
-    let whole : n ≡ (q * 2 ^ segment_width + number_of a) * 2 ^ segment_first + r = omega (arith, here) in
-    let left : bit_xor n (segment_change a b) ≡ (q * 2 ^ segment_width + number_of b) * 2 ^ segment_first + r =
+    let whole : n ≡ (q * 2 ^ segment_width + segment_number a) * 2 ^ segment_first + r = omega (arith, here) in
+    let left : bit_xor n (segment_change a b) ≡ (q * 2 ^ segment_width + segment_number b) * 2 ^ segment_first + r =
     ap (λ (m : ℕ). bit_xor m (segment_change a b)) whole
-    ∙ xor_field q (number_of a) r x segment_first segment_width (number_lt a) (difference_lt a b) (omega arith)
-    ∙ ap (λ (m : ℕ). (q * 2 ^ segment_width + m) * 2 ^ segment_first + r) (xor_other (number_of a) (number_of b)) in
-    (omega (arith, spelled.0, ap number_of is, whole, left), spelled.1)
+    ∙ xor_field q (segment_number a) r x segment_first segment_width (number_lt a) (difference_lt a b) (omega arith)
+    ∙ ap (λ (m : ℕ). (q * 2 ^ segment_width + m) * 2 ^ segment_first + r) (xor_other (segment_number a) (segment_number b)) in
+    (omega (arith, spelled.0, ap segment_number is, whole, left), spelled.1)
 
 -- where a number is a flag's bit at its place, it is 0 exactly where the flag is false
 flag_told : (b : Bool) (k m : ℕ) → 0 < k → m ≡ bit b * k → ((m ≢ 0) ↔ (b ≡ true)) × ((m ≡ 0) ↔ (b ≡ false))
@@ -165,7 +165,7 @@ test_active n h spelled = flag_told h.active (2 ^ active_first) _ (omega arith)
 
 -- the segment's bits under their mask
 pub read_segment_masked : Reads (λ n. bit_and n (2 ^ (segment_width + segment_first) - 2 ^ segment_first))
-    (λ h. number_of h.segment * 2 ^ segment_first)
+    (λ h. segment_number h.segment * 2 ^ segment_first)
 read_segment_masked n h spelled = omega (arith, and_high n segment_width segment_first, (fields n h spelled).segment)
 
 -- the reference count's bits under their mask
@@ -177,5 +177,5 @@ pub read_generation : Reads (λ n. n / 2 ^ generation_first) (λ h. h.generation
 read_generation n h spelled = (fields n h spelled).generation
 
 -- a shift and a mask read the segment
-pub read_segment_shifted : Reads (λ n. segment_bits n) (λ h. number_of h.segment)
+pub read_segment_shifted : Reads (λ n. segment_bits n) (λ h. segment_number h.segment)
 read_segment_shifted n h spelled = (fields n h spelled).segment

@@ -4,7 +4,7 @@ use Rattle.bump_rules.specs.declared.items.Head.{Head}
 use Rattle.bump_rules.specs.declared.places.Segment.{Segment}
 use Rattle.bump_rules.specs.declared.places.Segment.TheVariants.{Hot, Warm, Cold, Temp}
 use Rattle.bump_word.specs.Layout.{refs_width, linked_first, fetched_first, active_first, segment_first, segment_width, generation_first, generation_width}
-use Rattle.bump_word.specs.Words.{number_of, Spells, IsPacked, FindsHead, zeros_of, segment_bits}
+use Rattle.bump_word.specs.Words.{segment_number, Spells, IsPacked, FindsHead, zeros_of, segment_bits}
 use Rattle.bump_rules.specs.Lawful.{bit}
 
 -- a flag's number is at most 1
@@ -13,7 +13,7 @@ bit_le true = omega arith
 bit_le false = omega arith
 
 -- a segment's number fits into its bits
-pub number_lt : (s : Segment) → number_of s < 2 ^ segment_width
+pub number_lt : (s : Segment) → segment_number s < 2 ^ segment_width
 number_lt Hot = omega arith
 number_lt Warm = omega arith
 number_lt Cold = omega arith
@@ -34,7 +34,7 @@ segment_at (suc (suc zero)) = Cold
 segment_at (suc (suc (suc _))) = Temp
 
 -- a segment is the segment of its number
-segment_at-number : (s : Segment) → segment_at (number_of s) ≡ s
+segment_at-number : (s : Segment) → segment_at (segment_number s) ≡ s
 unfolding segment_at
 segment_at-number Hot = refl
 segment_at-number Warm = refl
@@ -42,7 +42,7 @@ segment_at-number Cold = refl
 segment_at-number Temp = refl
 
 -- segments with one number are equal
-pub number_one : (a b : Segment) → number_of a ≡ number_of b → a ≡ b
+pub number_one : (a b : Segment) → segment_number a ≡ segment_number b → a ≡ b
 number_one a b e = sym (segment_at-number a) ∙ ap segment_at e ∙ segment_at-number b
 
 -- what the bits of a word say of its Head
@@ -51,7 +51,7 @@ pub record Fields (n : ℕ) (h : Head) : Type 0 where
   pub linked : n / 2 ^ linked_first % 2 ≡ bit h.linked
   pub fetched : n / 2 ^ fetched_first % 2 ≡ bit h.fetched
   pub active : n / 2 ^ active_first % 2 ≡ bit h.active
-  pub segment : segment_bits n ≡ number_of h.segment
+  pub segment : segment_bits n ≡ segment_number h.segment
   pub zeros : zeros_of n ≡ 0
   pub generation : n / 2 ^ generation_first ≡ h.generation
   pub wide : n < 2 ^ 64
@@ -70,7 +70,7 @@ fields_apart r l f a s g refs_fit linked_fits fetched_fits active_fits segment_f
 -- the fields of a Head's word
 pub fields : (n : ℕ) (h : Head) → Spells n h → Fields n h
 fields n h spelled = rw spelled.0 (let t =
-    fields_apart h.refs (bit h.linked) (bit h.fetched) (bit h.active) (number_of h.segment) h.generation spelled.1.0
+    fields_apart h.refs (bit h.linked) (bit h.fetched) (bit h.active) (segment_number h.segment) h.generation spelled.1.0
     (bit_le h.linked) (bit_le h.fetched) (bit_le h.active) (number_lt h.segment) spelled.1.1 in
     record {
       refs = t.0;

@@ -8,11 +8,11 @@ use Rattle.bump_word.specs.Layout.{refs_width, linked_first, fetched_first, acti
 use Rattle.bump_word.specs.Layout.{zero_first, zero_width, generation_first, generation_width}
 
 -- the number of a segment
-abbrev pub number_of : Segment → ℕ
-number_of Hot = 0
-number_of Warm = 1
-number_of Cold = 2
-number_of Temp = 3
+abbrev pub segment_number : Segment → ℕ
+segment_number Hot = 0
+segment_number Warm = 1
+segment_number Cold = 2
+segment_number Temp = 3
 
 -- the word of a Head: each field, shifted to its place
 abbrev pub word_of : Head → ℕ
@@ -20,7 +20,7 @@ word_of h = h.refs
     + 2 ^ linked_first * bit h.linked
     + 2 ^ fetched_first * bit h.fetched
     + 2 ^ active_first * bit h.active
-    + 2 ^ segment_first * number_of h.segment
+    + 2 ^ segment_first * segment_number h.segment
     + 2 ^ generation_first * h.generation
 
 -- each number of the Head fits into its bits
@@ -49,4 +49,4 @@ segment_bits n = n / 2 ^ segment_first % 2 ^ segment_width
 
 -- the exclusive or of two segments' numbers, at the segment's place
 abbrev pub segment_change : Segment → Segment → ℕ
-segment_change a b = bit_xor (number_of a) (number_of b) * 2 ^ segment_first
+segment_change a b = bit_xor (segment_number a) (segment_number b) * 2 ^ segment_first

@@ -11,7 +11,7 @@ ghost use Rattle.bump_rules.specs.declared.places.Segment.{Segment as TheSegment
 ghost use Rattle.bump_rules.specs.declared.places.Segment.TheVariants.{Hot, Warm, Cold, Temp};
 ghost use Rattle.bump_rules.specs.Configs.{most_refs};
 ghost use Rattle.bump_word.specs.Layout.{refs_width, segment_first, generation_first, generation_width};
-ghost use Rattle.bump_word.specs.Words.{Spells, IsPacked, FindsHead, number_of, word_of, segment_bits, segment_change};
+ghost use Rattle.bump_word.specs.Words.{Spells, IsPacked, FindsHead, segment_number, word_of, segment_bits, segment_change};
 ghost use Rattle.bump_word.specs.Steps.{Changes, Tests, Reads};
 ghost use Rattle.bump_rules.specs.Heads.{linked_head_in, unlinked_head, one_more as with_one_more, one_fewer};
 ghost use Rattle.bump_rules.specs.Heads.{fetched_head, marked_head, cleared_head, moved_head};
@@ -136,9 +136,9 @@ pub fn test_active()
 
 /// The segment's number stands in its bits, and no two segments have one number.
 pub fn read_segment()
-    ensures masked { Reads (λ n. bit_and n SEGMENT_MASK) (λ h. number_of h.segment * 2 ^ segment_first) }
-    ensures shifted { Reads (λ n. segment_bits n) (λ h. number_of h.segment) }
-    ensures one { (a b : TheSegment) → number_of a ≡ number_of b → a ≡ b }
+    ensures masked { Reads (λ n. bit_and n SEGMENT_MASK) (λ h. segment_number h.segment * 2 ^ segment_first) }
+    ensures shifted { Reads (λ n. segment_bits n) (λ h. segment_number h.segment) }
+    ensures one { (a b : TheSegment) → segment_number a ≡ segment_number b → a ≡ b }
 {}
 
 /// The reference count is what its mask leaves, since it stands in the lowest bits.

@@ -1,7 +1,7 @@
 //! The numbers of the segments, and the step from one to another.
 ghost use Rattle.std.specs.Prelude.{◌≡◌, ◌<◌, ◌^◌};
 ghost use Rattle.bump_word.specs.Layout.{segment_width};
-ghost use Rattle.bump_word.specs.Words.{number_of, segment_change};
+ghost use Rattle.bump_word.specs.Words.{segment_number, segment_change};
 
 use crate::layout::SEGMENT_AT;
 use bump_rules::Segment;
@@ -16,7 +16,7 @@ const TEMP: u64 = 3;
 
 /// The number that stands for a segment in the head word.
 pub fn number(segment: Segment) -> u64
-    ensures { result ≡ number_of segment }
+    ensures { result ≡ segment_number segment }
 {
     match segment {
         Segment::Hot => HOT,
@@ -29,7 +29,7 @@ pub fn number(segment: Segment) -> u64
 /// The segment of a number. Each number that the segment's bits can make is one's.
 pub fn segment_of(number: u64) -> Segment
     requires { number < 2 ^ segment_width }
-    ensures { number ≡ number_of result }
+    ensures { number ≡ segment_number result }
 {
     match number {
         HOT => Segment::Hot,

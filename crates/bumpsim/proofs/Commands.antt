@@ -9,7 +9,7 @@ use Rattle.clap.specs.Matches.{first_value}
 use Rattle.clap.specs.declared.ArgMatches.{ArgMatches}
 use Rattle.clap.proofs.OnLiterals.{clap_on_literals}
 use Rattle.clap.proofs.WalkLemmas.{first_value-rows}
-use Rattle.bumpsim.specs.Words.{app, value_in, mode_of, mode_in, drainers_in, asked, has_none, run_of, refusal_of, TakesRun}
+use Rattle.bumpsim.specs.Words.{app, value_in, mode_of, mode_in, drainers_in, asked, has_none, asked_run, refusal_of_error, TakesRun}
 use Rattle.bumpsim.specs.declared.runs.Mode.{Mode}
 use Rattle.bumpsim.specs.declared.command_line.Refusal.{Refusal}
 use Rattle.bumpsim.specs.declared.command_line.Refusal.TheVariants as refusal
@@ -46,7 +46,7 @@ no_drainers_chosen false way file drainers none = refl
 
 pub run_meant : (words : List Text) (word file : Text) (way : Mode) (drainers : ℕ) → fault_of app words ≡ [] → value_in words (codes "mode") ≡ Some word
     → mode_of word ≡ Some way → value_in words (codes "file") ≡ Some file → drainers_in way (value_in words (codes "drainers")) ≡ Some drainers
-    → run_of words ≡ Some (way, file, drainers)
+    → asked_run words ≡ Some (way, file, drainers)
 run_meant words word file way drainers whole named known given counted =
     let more = value_in words (codes "drainers") in
     ap (λ b. chosen b (mode_in (value_in words (codes "mode"))) (value_in words (codes "file")) more) (ap has_none whole)
@@ -54,14 +54,14 @@ run_meant words word file way drainers whole named known given counted =
     ∙ ap (option_map (λ n. (way, file, n))) counted
 
 -- words without a way of running mean no run
-pub no_mode : (words : List Text) → mode_in (value_in words (codes "mode")) ≡ None → run_of words ≡ None
+pub no_mode : (words : List Text) → mode_in (value_in words (codes "mode")) ≡ None → asked_run words ≡ None
 no_mode words named =
     let file = value_in words (codes "file") in
     let more = value_in words (codes "drainers") in
     ap (λ m. chosen (has_none (fault_of app words)) m file more) named ∙ no_mode_chosen (has_none (fault_of app words)) file more
 
 -- words without a file mean no run
-pub no_file : (words : List Text) → value_in words (codes "file") ≡ None → run_of words ≡ None
+pub no_file : (words : List Text) → value_in words (codes "file") ≡ None → asked_run words ≡ None
 no_file words given =
     let way = mode_in (value_in words (codes "mode")) in
     let more = value_in words (codes "drainers") in
@@ -69,7 +69,7 @@ no_file words given =
 
 -- words with another number of drainers than there may be mean no run
 pub no_drainers : (words : List Text) (word : Text) (way : Mode) → value_in words (codes "mode") ≡ Some word → mode_of word ≡ Some way
-    → drainers_in way (value_in words (codes "drainers")) ≡ None → run_of words ≡ None
+    → drainers_in way (value_in words (codes "drainers")) ≡ None → asked_run words ≡ None
 no_drainers words word way named known none =
     let file = value_in words (codes "file") in
     let more = value_in words (codes "drainers") in
@@ -81,12 +81,12 @@ not_free [] e (inl h) other = absurd (other h)
 not_free [] e (inr h) other = absurd h
 not_free (k ∷ ks) e h other = refl
 
-none_meant : (words : List Text) (e : Error) → HasKind (fault_of app words) e → (kind_of e ≡ OutOfMemory → ⊥) → run_of words ≡ None
+none_meant : (words : List Text) (e : Error) → HasKind (fault_of app words) e → (kind_of e ≡ OutOfMemory → ⊥) → asked_run words ≡ None
 none_meant words e h other = ap
     (λ b. chosen b (mode_in (value_in words (codes "mode"))) (value_in words (codes "file")) (value_in words (codes "drainers")))
     (not_free (fault_of app words) e h other)
 
 -- words that the command doesn't take mean no run
-pub refused : (words : List Text) (e : Error) (r : Refusal) → HasKind (fault_of app words) e → r ≡ refusal_of (kind_of e) → TakesRun (run_of words) (Err r)
+pub refused : (words : List Text) (e : Error) (r : Refusal) → HasKind (fault_of app words) e → r ≡ refusal_of_error (kind_of e) → TakesRun (asked_run words) (Err r)
 refused words e refusal.Memory h same = tt
-refused words e refusal.Usage h same = none_meant words e h (λ memory. let bad : refusal.Usage ≡ refusal.Memory = same ∙ ap refusal_of memory in cc)
+refused words e refusal.Usage h same = none_meant words e h (λ memory. let bad : refusal.Usage ≡ refusal.Memory = same ∙ ap refusal_of_error memory in cc)

@@ -49,13 +49,13 @@ in_range (Some n) = if nat_le 1 n && nat_le n 64 then Some n else None
 in_range None = None
 
 -- how many drainers a word says: such a number in decimal digits, without leading zeros
-abbrev pub drainers_of : Text → Option ℕ
-drainers_of word = in_range (number_of (2 ^ 64) word)
+abbrev pub drainers_said : Text → Option ℕ
+drainers_said word = in_range (number_of (2 ^ 64) word)
 
 -- how many there are: 1 where no word says it, and only a run by threads has a word for it
 abbrev pub drainers_in : Mode → Option Text → Option ℕ
 drainers_in way None = Some 1
-drainers_in mode.Par (Some word) = drainers_of word
+drainers_in mode.Par (Some word) = drainers_said word
 drainers_in mode.Model (Some word) = None
 drainers_in mode.Serial (Some word) = None
 
@@ -71,8 +71,8 @@ has_none (x ∷ xs) = false
 
 -- How to run which file, and how many drainers there are: the command takes the words, the first one names a way of
 -- running, and the third one, where there is one, says how many.
-abbrev pub run_of : List Text → Option (Mode × Text × ℕ)
-run_of words =
+abbrev pub asked_run : List Text → Option (Mode × Text × ℕ)
+asked_run words =
     if has_none (fault_of app words) then asked
     (mode_in (value_in words (codes "mode")))
     (value_in words (codes "file"))
@@ -80,9 +80,9 @@ run_of words =
     else None
 
 -- want of memory is told from all other errors
-abbrev pub refusal_of : ErrorKind → Refusal
-refusal_of OutOfMemory = refusal.Memory
-refusal_of _ = refusal.Usage
+abbrev pub refusal_of_error : ErrorKind → Refusal
+refusal_of_error OutOfMemory = refusal.Memory
+refusal_of_error _ = refusal.Usage
 
 -- Where a run is meant it is the answer, unless memory ran out; where none is, the words are refused.
 abbrev pub TakesRun : Option (Mode × Text × ℕ) → Result Run Refusal → Type 0

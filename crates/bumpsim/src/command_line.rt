@@ -2,7 +2,7 @@
 
 ghost use Rattle.std.specs.Prelude.{◌≡◌, ◌≤◌, IfOk, IfSome, option_map, map, string_bytes};
 ghost use Rattle.clap.specs.Words.{FailsBy, fault_of, kind_of, rows_of, found_of, matches_of};
-ghost use Rattle.bumpsim.specs.Words.{app, mode_of, drainers_of, drainers_in, run_of, refusal_of, TakesRun};
+ghost use Rattle.bumpsim.specs.Words.{app, mode_of, drainers_said, drainers_in, asked_run, refusal_of_error, TakesRun};
 
 use crate::runs::{Mode, Run};
 use clap::error::ErrorKind;
@@ -37,9 +37,9 @@ fn parsed<'a>(alloc: Global, words: &'a [String]) -> Result<ArgMatches<'a>, Erro
     command.try_get_matches_from(words)
 }
 
-/// A request for help is a refusal, too.
+// A request for help is a refusal, too.
 fn why_refused(error: &Error) -> Refusal
-    ensures { result ≡ refusal_of (kind_of error.now) }
+    ensures { result ≡ refusal_of_error (kind_of error.now) }
 {
     match error.kind() {
         ErrorKind::OutOfMemory => Refusal::Memory,
@@ -47,7 +47,7 @@ fn why_refused(error: &Error) -> Refusal
     }
 }
 
-/// The way of running that a word names.
+// The way of running that a word names.
 fn read_mode(word: &str) -> Option<Mode>
     ensures { result ≡ mode_of word.now }
 {
@@ -62,9 +62,9 @@ fn read_mode(word: &str) -> Option<Mode>
     }
 }
 
-/// The number of drainers that a word is: 1 to 64.
+// The number of drainers that a word is: 1 to 64.
 fn drainers_in_word(word: &str) -> Option<u32>
-    ensures meant { result ≡ drainers_of word.now }
+    ensures meant { result ≡ drainers_said word.now }
     ensures range { IfSome result (λ n. (1 ≤ n) × (n ≤ 64)) }
 {
     match read_number(word.as_bytes()) {
@@ -73,7 +73,7 @@ fn drainers_in_word(word: &str) -> Option<u32>
     }
 }
 
-/// The number of drainers: 1 where no word says it. Only a run by threads has a word for it.
+// The number of drainers: 1 where no word says it. Only a run by threads has a word for it.
 fn read_drainers(mode: Mode, word: Option<&str>) -> Option<u32>
     ensures meant { result ≡ drainers_in mode (option_map (λ s. s.now) word.entry) }
     ensures range { IfSome result (λ n. (1 ≤ n) × (n ≤ 64)) }
@@ -90,7 +90,7 @@ fn read_drainers(mode: Mode, word: Option<&str>) -> Option<u32>
 /// The run that `model FILE`, `serial FILE`, `par FILE` or `par FILE DRAINERS` asks for, of which the program's own
 /// name is the first word. All other words are refused.
 pub fn choose<'a>(alloc: Global, words: &'a [String]) -> Result<Run<'a>, Refusal>
-    ensures { TakesRun (run_of (map string_bytes words.entry.now)) result }
+    ensures { TakesRun (asked_run (map string_bytes words.entry.now)) result }
 {
     let matches = match parsed(alloc, words) {
         Ok(matches) => matches,

@@ -30,7 +30,7 @@ enum Failure {
     Run(SimFault),
 }
 
-/// The status with which the program ends after a failure.
+// The status with which the program ends after a failure.
 fn status(failure: Failure) -> u8
     ensures { result ≡ status_of failure }
 {
@@ -42,7 +42,7 @@ fn status(failure: Failure) -> u8
     }
 }
 
-/// The word that is said of a failure. A fault of the trace is the last line of its text.
+// The word that is said of a failure. A fault of the trace is the last line of its text.
 fn word(failure: Failure) -> Option<&'static str>
     ensures { IsWordOf failure result }
 {
@@ -59,7 +59,7 @@ fn word(failure: Failure) -> Option<&'static str>
     }
 }
 
-/// Says the word of a failure on standard error, and answers its status.
+// Says the word of a failure on standard error, and answers its status.
 fn failed(rt: &impl Eprint, failure: Failure) -> u8
     ensures { result ≡ status_of failure }
 {
@@ -69,7 +69,7 @@ fn failed(rt: &impl Eprint, failure: Failure) -> u8
     status(failure)
 }
 
-/// Says the word of an answer that is a fault, and answers the status with which the program ends.
+// Says the word of an answer that is a fault, and answers the status with which the program ends.
 fn ended(rt: &impl Eprint, answer: Result<(), SimFault>) -> u8
     ensures { result ≡ status_by answer }
 {
@@ -79,8 +79,8 @@ fn ended(rt: &impl Eprint, answer: Result<(), SimFault>) -> u8
     }
 }
 
-/// Runs the trace of a file as was chosen, and answers the status with which the program ends: that of the run's
-/// answer.
+// Runs the trace of a file as was chosen, and answers the status with which the program ends: that of the run's
+// answer.
 fn run_file<
     R: Print + Eprint + Files + AllocGlobal + RandomSource + Threads + Wait + Sync,
     W: Ways,
@@ -91,7 +91,7 @@ fn run_file<
     ended(rt, run_as(rt, ways, chosen))
 }
 
-/// Does what the words of the command line ask for, and answers the status with which the program ends.
+// Does what the words of the command line ask for, and answers the status with which the program ends.
 fn run<R: Print + Eprint + Env + Files + AllocGlobal + RandomSource + Threads + Wait + Sync>(
     rt: &R,
 ) -> u8 {

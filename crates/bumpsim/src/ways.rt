@@ -74,7 +74,7 @@ pub fn run_as<R: Print + Files + AllocGlobal + RandomSource + Threads + Wait + S
     }
 }
 
-/// A file, and keys by which names are hashed.
+// A file, and keys by which names are hashed.
 fn opened<R: Files + RandomSource>(rt: &R, file: &str) -> Result<(R::File, RandomState), SimFault>
     ensures { IfErr result (λ e. e ≡ Read) }
 {

@@ -19,7 +19,7 @@ use Rattle.bump_rules.specs.Tables.{is_cold, outcome_of}
 use Rattle.bump_steps.specs.Views.{standing}
 use Rattle.bump_class.specs.Books.{BookView}
 use Rattle.bump_class.specs.Lanes.{LaneView, carries}
-use Rattle.bump_class.specs.Applications.{FoundHeads, Applies, AppliesFront, book_after_update, with_time, with_clearing}
+use Rattle.bump_class.specs.Applications.{FoundHeads, Applies, AppliesFront, book_after_update, class_with_time, with_clearing}
 use Rattle.bump_steps.specs.declared.views.ClassPart.{ClassPart}
 use Rattle.bump_class.specs.Changes.{book_after_sweep_or_load, book_after_see}
 use Rattle.bump_steps.specs.Lives.{class_after_sweep, class_after_load}
@@ -76,7 +76,7 @@ applied_keeps book left from to bump now came_out answer found applies same =
     subst (KeepsItems book) (sym applies.book_after) (by came_out refl)
   where
     timed : ClassPart
-    timed = with_time from.part.worker bump now book.part
+    timed = class_with_time from.part.worker bump now book.part
 
     in_cold : (b : Bool) → KeepsItems book (record book {
       part = if b then with_clearing from.part.worker bump found.cleared timed else timed;

@@ -38,7 +38,7 @@ use Rattle.bump_steps.specs.Views.{standing}
 use Rattle.bump_word.specs.Words.{word_of}
 use Rattle.bump_class.specs.declared.ending.UnlinkRefusal.{UnlinkRefusal}
 use Rattle.bump_class.specs.declared.ending.UnlinkRefusal.TheVariants.{NoSuchChunk, NotLinked}
-use Rattle.bump_class.specs.Applications.{FoundHeads, Applies, AppliesFront, applied_answer, book_after_update, with_time, with_clearing}
+use Rattle.bump_class.specs.Applications.{FoundHeads, Applies, AppliesFront, applied_answer, book_after_update, class_with_time, with_clearing}
 use Rattle.bump_class.specs.Books.{BookView}
 use Rattle.bump_class.specs.Changes.{book_after_clear_active, book_after_unlink, book_after_sweep_or_load, book_after_see, book_with_item}
 use Rattle.bump_class.specs.Ends.{EndsItem, book_after_end, Unlinks}
@@ -442,7 +442,7 @@ applied_flows book left from to bump now came_out answer found applies =
   where
     in_cold : (b : Bool) → Flows None book (record book {
       part = if b then with_clearing from.part.worker bump found.cleared
-          (with_time from.part.worker bump now book.part) else with_time from.part.worker bump now book.part;
+          (class_with_time from.part.worker bump now book.part) else class_with_time from.part.worker bump now book.part;
     })
     in_cold true = still book _ refl refl
     in_cold false = still book _ refl refl

@@ -2,8 +2,8 @@
 use Rattle.std.specs.Prelude.{◌≡◌, ℕ, List, [], ◌∷◌, Some}
 use Rattle.std.specs.List.{range_with_len}
 use Rattle.bump_links.specs.Lists.{Lists, list_at, without, first_of, last_of}
-use Rattle.example_links.specs.declared.lru.Taken.{Taken}
-use Rattle.example_links.specs.declared.lru.Taken.TheVariants.{Free, Evicted}
+use Rattle.example_links.specs.declared.lru.TakenSlot.{TakenSlot}
+use Rattle.example_links.specs.declared.lru.TakenSlot.TheVariants.{Free, Evicted}
 
 -- how many slots there are, those in use, the last touched first, and the free ones
 pub record Slots : Type 0 where
@@ -25,6 +25,6 @@ used n s = record s { in_use = n ∷ without n s.in_use; free = without n s.free
 
 -- What an insert takes: the first free slot or, where none is free, the last one in use. Then it is the first one in
 -- use.
-abbrev pub Takes : Slots → Slots → Taken → Type 0
+abbrev pub Takes : Slots → Slots → TakenSlot → Type 0
 Takes old new (Free n) = (first_of old.free ≡ Some n) × (new ≡ used n old)
 Takes old new (Evicted n) = (old.free ≡ []) × (last_of old.in_use ≡ Some n) × (new ≡ used n old)

@@ -23,7 +23,7 @@ pub struct Lru {
 
 /// A slot that was taken for a new item.
 #[derive(Clone, Copy, Debug, PartialEq, Eq)]
-pub enum Taken {
+pub enum TakenSlot {
     /// This slot was free.
     Free(u32),
 
@@ -65,19 +65,19 @@ impl Lru {
     }
 
     /// Takes a slot for a new item: the first free one or, where none is free, the one that was touched longest ago.
-    pub fn insert(&mut self) -> Taken
+    pub fn insert(&mut self) -> TakenSlot
         ensures taken { Takes self.old self.new result }
     {
         // Each slot stands in one of the two lists, so they are not both empty: it is a clause of `nodes`.
         let _ = self.links.nodes();
         if let Some(slot) = self.links.front(FREE) {
             self.touch(slot);
-            return Taken::Free(slot);
+            return TakenSlot::Free(slot);
         }
         match self.links.back(IN_USE) {
             Some(slot) => {
                 self.touch(slot);
-                Taken::Evicted(slot)
+                TakenSlot::Evicted(slot)
             }
             None => unreachable!(),
         }

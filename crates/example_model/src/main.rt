@@ -9,14 +9,14 @@ use anyhow::{Result, bail};
 use bump_core::{Answer, ClassConfig, Command, Config, ItemId, Tail, World};
 use report::print_world;
 
-/// Makes a command, and says what it answers. A refusal changes nothing.
+// Makes a command, and says what it answers. A refusal changes nothing.
 fn make(rt: &impl Print, world: &mut World, command: Command) -> Result<Answer> {
     let answer = world.command(command)?;
     println!(rt; "{command:?}: {answer:?}")?;
     Ok(answer)
 }
 
-/// Stores an item. Its label is for the caller, as the place of its value.
+// Stores an item. Its label is for the caller, as the place of its value.
 fn link(rt: &impl Print, world: &mut World, label: u64, now: u64) -> Result<ItemId> {
     let link = Command::Link {
         class: 0,
@@ -29,12 +29,12 @@ fn link(rt: &impl Print, world: &mut World, label: u64, now: u64) -> Result<Item
     }
 }
 
-/// Looks at the last item of a list, and moves it by the tail table; or ends the last one of COLD.
+// Looks at the last item of a list, and moves it by the tail table; or ends the last one of COLD.
 fn pull(rt: &impl Print, world: &mut World, tail: Tail) -> Result<Answer> {
     make(rt, world, Command::Pull { class: 0, tail })
 }
 
-/// A hit of an item by the first worker: its hold is taken, it is touched, and the hold is given back.
+// A hit of an item by the first worker: its hold is taken, it is touched, and the hold is given back.
 fn hit(rt: &impl Print, world: &mut World, id: ItemId, now: u64) -> Result<()> {
     let worker = 0;
     make(rt, world, Command::Take { worker, id })?;
@@ -43,7 +43,7 @@ fn hit(rt: &impl Print, world: &mut World, id: ItemId, now: u64) -> Result<()> {
     Ok(())
 }
 
-/// An item that is ended while somebody holds it: it can be read on, and its chunk is free only after that.
+// An item that is ended while somebody holds it: it can be read on, and its chunk is free only after that.
 fn end_held(rt: &impl Print, world: &mut World, id: ItemId) -> Result<()> {
     make(rt, world, Command::Take { worker: 1, id })?;
     make(rt, world, Command::Unlink { id })?;
@@ -54,7 +54,7 @@ fn end_held(rt: &impl Print, world: &mut World, id: ItemId) -> Result<()> {
     Ok(())
 }
 
-/// A World of one class of two chunks, for two workers. HOT and WARM have an item at most, before a pull moves one on.
+// A World of one class of two chunks, for two workers. HOT and WARM have an item at most, before a pull moves one on.
 fn open(rt: &impl AllocGlobal) -> Result<World> {
     let class = ClassConfig {
         chunks: 2,

@@ -5,7 +5,7 @@ ghost use Rattle.std.specs.Prelude.{◌<◌, length};
 use bump_core::{Place, World};
 use std::io;
 
-/// Prints a list, front first: each item's chunk, references and marks. The class is one of the configuration's.
+// Prints a list, front first: each item's chunk, references and marks. The class is one of the configuration's.
 fn print_list(rt: &impl Print, world: &World, class: u32, place: Place) -> io::Result<()>
     requires { class < length world.now.classes }
 {

@@ -5,21 +5,21 @@ use Rattle.replay_policies.specs.declared.policies.Policy.{Policy}
 use Rattle.replay_policies.specs.declared.tallies.Tally.{Tally}
 use Rattle.replay_policies.specs.Policies.{is_hit, after_access, hits_from, hits_of, misses_from, misses_of}
 use Rattle.replay_policies.specs.Replays.{ReplayView}
-use Rattle.replay_policies.specs.Tallies.{counted, no_accesses}
+use Rattle.replay_policies.specs.Tallies.{counted_access, no_accesses}
 
 module _ (tally : Tally) (fits : tally.accesses < 18446744073709551615) where
   -- an access that is counted is one more
-  accesses-counted : (hit : Bool) → (counted hit tally).accesses ≡ tally.accesses + 1
+  accesses-counted : (hit : Bool) → (counted_access hit tally).accesses ≡ tally.accesses + 1
   accesses-counted true = grind (arith, common_steps)
   accesses-counted false = grind (arith, common_steps)
 
   -- a hit that is counted is one that needn't be counted any more
-  hits-counted : (hit : Bool) (later : ℕ) → (counted hit tally).hits + later ≡ tally.hits + (cond hit 1 0 + later)
+  hits-counted : (hit : Bool) (later : ℕ) → (counted_access hit tally).hits + later ≡ tally.hits + (cond hit 1 0 + later)
   hits-counted true later = grind (arith, common_steps)
   hits-counted false later = grind (arith, common_steps)
 
   -- a miss that is counted is one that needn't be counted any more
-  misses-counted : (hit : Bool) (later : ℕ) → (counted hit tally).misses + later ≡ tally.misses + (cond hit 0 1 + later)
+  misses-counted : (hit : Bool) (later : ℕ) → (counted_access hit tally).misses + later ≡ tally.misses + (cond hit 0 1 + later)
   misses-counted true later = grind (arith, common_steps)
   misses-counted false later = grind (arith, common_steps)
 
@@ -41,7 +41,7 @@ module _ (policy : Policy) (items : ℕ) (all : List ℕ) where
   pub IsRun-access : (old new : ReplayView) (key : ℕ) (left : List ℕ) → length all < 18446744073709551616
       → new.policy ≡ old.policy → new.items ≡ old.items
       → new.keys ≡ after_access old.policy old.items key old.keys
-      → new.tally ≡ counted (is_hit key old.keys) old.tally
+      → new.tally ≡ counted_access (is_hit key old.keys) old.tally
       → IsRun old (key ∷ left) → IsRun new left
   IsRun-access old new key left short kept_policy kept_items keys tally run =
       let fits : old.tally.accesses < 18446744073709551615 = omega (arith, run.accesses) in

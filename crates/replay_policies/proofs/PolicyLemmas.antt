@@ -7,7 +7,7 @@ use Rattle.std.proofs.lemmas.List.{take-map}
 use Rattle.lru.specs.LruCache.{LruCache, put_entries}
 use Rattle.lru.proofs.CallerLemmas.{Contains-lookup_entry}
 use Rattle.replay_policies.specs.declared.policies.Policy.TheVariants.{Lru}
-use Rattle.replay_policies.specs.Policies.{is_hit, without, after_miss, after_access}
+use Rattle.replay_policies.specs.Policies.{is_hit, keys_without, after_miss, after_access}
 
 module _ {V : Type 0} (key : ℕ) where
   -- a key is among the keys where a look-up finds its value
@@ -21,7 +21,7 @@ module _ {V : Type 0} (key : ℕ) where
   found-lookup_entry (e ∷ es) = grind (arith, common_steps, found-lookup_entry es)
 
   -- without the entry of a key, the keys are without that key
-  keys_of-remove_entry : (es : List (ℕ × V)) → keys_of (remove_entry (nat_eq key) es) ≡ without key (keys_of es)
+  keys_of-remove_entry : (es : List (ℕ × V)) → keys_of (remove_entry (nat_eq key) es) ≡ keys_without key (keys_of es)
   keys_of-remove_entry [] = refl
   keys_of-remove_entry (e ∷ es) = grind (arith, common_steps, keys_of-remove_entry es)
 
@@ -38,7 +38,7 @@ module _ {V : Type 0} (key : ℕ) where
     abbrev after : Option (ℕ × V) → List (ℕ × V)
     after found = option_map_or (λ e. (e.0, v) ∷ remove_entry (nat_eq key) c.entries) found ((key, v) ∷ take (c.cap - 1) c.entries)
 
-    put_there : (found : Option (ℕ × V)) → lookup_entry (nat_eq key) c.entries ≡ found → is_some found ≡ true → keys_of (after found) ≡ key ∷ without key (keys_of c.entries)
+    put_there : (found : Option (ℕ × V)) → lookup_entry (nat_eq key) c.entries ≡ found → is_some found ≡ true → keys_of (after found) ≡ key ∷ keys_without key (keys_of c.entries)
     put_there None h there = cc
     put_there (Some e) h there = rw (key-lookup_entry c.entries e h, keys_of-remove_entry c.entries) refl
 
@@ -47,7 +47,7 @@ module _ {V : Type 0} (key : ℕ) where
     put_new room (Some e) new = cc
 
     -- a put of a key that is there moves it to the front
-    pub keys_of-put_there : is_hit key (keys_of c.entries) ≡ true → keys_of (put_entries nat_eq c key v) ≡ key ∷ without key (keys_of c.entries)
+    pub keys_of-put_there : is_hit key (keys_of c.entries) ≡ true → keys_of (put_entries nat_eq c key v) ≡ key ∷ keys_without key (keys_of c.entries)
     keys_of-put_there hit = put_there (lookup_entry (nat_eq key) c.entries) refl (found-lookup_entry c.entries ∙ sym (is_hit-keys_of c.entries) ∙ hit)
 
     -- a put of a new key brings it to the front

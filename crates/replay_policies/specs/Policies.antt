@@ -10,13 +10,13 @@ abbrev pub is_hit : ℕ → List ℕ → Bool
 is_hit key keys = list_any (nat_eq key) keys
 
 -- the keys without this one, which a cache has once at most
-abbrev pub without : ℕ → List ℕ → List ℕ
-without key [] = []
-without key (first ∷ keys) = if nat_eq key first then keys else first ∷ without key keys
+abbrev pub keys_without : ℕ → List ℕ → List ℕ
+keys_without key [] = []
+keys_without key (first ∷ keys) = if nat_eq key first then keys else first ∷ keys_without key keys
 
 -- the keys after a hit: an LRU moves the key to the front, a FIFO moves nothing
 abbrev pub after_hit : Policy → ℕ → List ℕ → List ℕ
-after_hit Lru key keys = key ∷ without key keys
+after_hit Lru key keys = key ∷ keys_without key keys
 after_hit Fifo key keys = keys
 
 -- the keys after a miss, of a cache of so many items: the key comes to the front, and the last one goes where there

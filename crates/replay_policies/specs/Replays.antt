@@ -18,9 +18,9 @@ pub record IsReplay (items : ℕ) (tally : Tally) : Type 0 where
   pub sum : tally.hits + tally.misses ≡ tally.accesses
 
 -- a cache may have room for so many items
-abbrev pub is_allowed : ℕ → Bool
-is_allowed items = nat_le 1 items && nat_le items 1000000
+abbrev pub is_size_allowed : ℕ → Bool
+is_size_allowed items = nat_le 1 items && nat_le items 1000000
 
 -- why a replay is refused, where it is
-abbrev pub fault_of : ℕ → PolicyFault
-fault_of items = if is_allowed items then Memory else Items
+abbrev pub policy_fault_of : ℕ → PolicyFault
+policy_fault_of items = if is_size_allowed items then Memory else Items

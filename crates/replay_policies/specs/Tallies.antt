@@ -7,10 +7,10 @@ abbrev pub no_accesses : Tally
 no_accesses = record { accesses = 0; hits = 0; misses = 0 }
 
 -- with one access more, which hit or not
-abbrev pub one_more : Bool → Tally → Tally
-one_more true tally = record { accesses = tally.accesses + 1; hits = tally.hits + 1; misses = tally.misses }
-one_more false tally = record { accesses = tally.accesses + 1; hits = tally.hits; misses = tally.misses + 1 }
+abbrev pub with_access : Bool → Tally → Tally
+with_access true tally = record { accesses = tally.accesses + 1; hits = tally.hits + 1; misses = tally.misses }
+with_access false tally = record { accesses = tally.accesses + 1; hits = tally.hits; misses = tally.misses + 1 }
 
 -- with one access more, but for a tally that has 2^64 - 1 accesses, which stays as it is
-abbrev pub counted : Bool → Tally → Tally
-counted hit tally = if tally.accesses == 18446744073709551615 then tally else one_more hit tally
+abbrev pub counted_access : Bool → Tally → Tally
+counted_access hit tally = if tally.accesses == 18446744073709551615 then tally else with_access hit tally

@@ -2,8 +2,8 @@
 ghost use Rattle.std.specs.Prelude.{◌≡◌, ◌+◌, ◌≤◌, [], true, false, nat_eq, length, IfOk, OnOk, IfErr, OnErr};
 ghost use Rattle.std.specs.List.{IsDistinct};
 ghost use Rattle.replay_policies.specs.Policies.{is_hit, after_access};
-ghost use Rattle.replay_policies.specs.Replays.{ReplayView as TheReplayView, is_allowed, fault_of, IsReplay};
-ghost use Rattle.replay_policies.specs.Tallies.{no_accesses, counted};
+ghost use Rattle.replay_policies.specs.Replays.{ReplayView as TheReplayView, is_size_allowed, policy_fault_of, IsReplay};
+ghost use Rattle.replay_policies.specs.Tallies.{no_accesses, counted_access};
 ghost use Rattle.std.specs.Map.{keys_of};
 
 use crate::faults::PolicyFault;
@@ -49,8 +49,8 @@ impl Replay {
           keys = [];
           tally = no_accesses;
         }) }
-        ensures allowed { OnOk result (is_allowed items ≡ true) }
-        ensures fault { IfErr result (λ fault. fault ≡ fault_of items) }
+        ensures allowed { OnOk result (is_size_allowed items ≡ true) }
+        ensures fault { IfErr result (λ fault. fault ≡ policy_fault_of items) }
     {
         if items > MAX_ITEMS {
             return Err(PolicyFault::Items);
@@ -73,7 +73,7 @@ impl Replay {
         ensures hit { IfOk result (λ hit. hit ≡ is_hit key self.old.keys) }
         ensures keys { OnOk result (self.new.keys
             ≡ after_access self.old.policy self.old.items key self.old.keys) }
-        ensures tally { OnOk result (self.new.tally ≡ counted (is_hit key self.old.keys) self.old.tally) }
+        ensures tally { OnOk result (self.new.tally ≡ counted_access (is_hit key self.old.keys) self.old.tally) }
         ensures policy { self.new.policy ≡ self.old.policy }
         ensures items { self.new.items ≡ self.old.items }
         ensures refused { OnErr result (self.new ≡ self.old) }

@@ -1,6 +1,6 @@
 //! What a replay came to.
 ghost use Rattle.std.specs.Prelude.{◌≡◌, ◌+◌};
-ghost use Rattle.replay_policies.specs.Tallies.{no_accesses, counted};
+ghost use Rattle.replay_policies.specs.Tallies.{no_accesses, counted_access};
 
 /// How many accesses a replay had, and how many of them were hits and misses.
 #[derive(Clone, Copy, Debug, PartialEq, Eq)]
@@ -30,7 +30,7 @@ impl Tally {
     // An access was made, which hit or not. Past 2^64 - 1 accesses none is counted, so that no count wraps.
     pub(crate) fn count(&mut self, hit: bool)
         requires sum { self.old.hits + self.old.misses ≡ self.old.accesses }
-        ensures counted { self.new ≡ counted hit self.old }
+        ensures counted { self.new ≡ counted_access hit self.old }
         ensures sum { self.new.hits + self.new.misses ≡ self.new.accesses }
     {
         if self.accesses == u64::MAX {

@@ -78,11 +78,11 @@ abbrev pub with_line : List ℕ → HitCounts → HitCounts
 with_line line hits = with_hit (kind_of_line line) hits
 
 -- These hits, and those that these lines tell. The last part has no line feed behind it, and is no line.
-abbrev pub hits_from : HitCounts → List (List ℕ) → HitCounts
-hits_from hits [] = hits
-hits_from hits (rest ∷ []) = hits
-hits_from hits (line ∷ next ∷ others) = hits_from (with_line line hits) (next ∷ others)
+abbrev pub hits_of_lines : HitCounts → List (List ℕ) → HitCounts
+hits_of_lines hits [] = hits
+hits_of_lines hits (rest ∷ []) = hits
+hits_of_lines hits (line ∷ next ∷ others) = hits_of_lines (with_line line hits) (next ∷ others)
 
 -- the hits that a text tells
 abbrev pub hits_told : List ℕ → HitCounts
-hits_told text = hits_from no_hits (parts_of text)
+hits_told text = hits_of_lines no_hits (parts_of text)

@@ -16,12 +16,12 @@ RefusesStore None fault = fault ≡ Memory
 RefusesStore (Some own) fault = fault ≡ Config own
 
 -- why no text is written: memory was refused, or the World refused a call, or the text would be too long
-abbrev pub IsOfWriting : Plan → List ℕ → ReplayFault → Type 0
-IsOfWriting plan accesses (Config own) = ⊥
-IsOfWriting plan accesses Long = HasTooLong plan accesses
-IsOfWriting plan accesses Memory = ⊤
-IsOfWriting plan accesses Refused = ⊤
-IsOfWriting plan accesses (Run own) = ⊥
+abbrev pub IsOfTraceWriting : Plan → List ℕ → ReplayFault → Type 0
+IsOfTraceWriting plan accesses (Config own) = ⊥
+IsOfTraceWriting plan accesses Long = HasTooLong plan accesses
+IsOfTraceWriting plan accesses Memory = ⊤
+IsOfTraceWriting plan accesses Refused = ⊤
+IsOfTraceWriting plan accesses (Run own) = ⊥
 
 -- The fault of a text's run, as one of a trace that is written. What the run tells is kept in memory, so only for want of
 -- it can that not be written.
@@ -52,7 +52,7 @@ IsOfText text (Run sim.Gate) = ⊥
 
 -- why a run of these accesses isn't traced: no text is written, or the one that is written doesn't run
 abbrev pub IsOfTracing : Plan → List ℕ → ReplayFault → Type 0
-IsOfTracing plan accesses fault = IsOfWriting plan accesses fault
+IsOfTracing plan accesses fault = IsOfTraceWriting plan accesses fault
     ⊎ ((text : List ℕ) × IsTraceOf plan accesses text × IsOfText text fault)
 
 -- A plan whose configuration has a fault is refused by it, and one whose configuration has none is traced, but for those

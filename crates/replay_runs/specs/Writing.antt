@@ -17,12 +17,12 @@ abbrev pub text_of : List (List ℕ) → List ℕ
 text_of lines = flat_map with_end lines
 
 -- the line of a get by a worker: a key's item has the name k and the key's number
-abbrev pub get_line : ℕ → ℕ → List ℕ
-get_line worker key = codes "get " ++ decimal worker ++ codes " k" ++ decimal key
+abbrev pub get_instruction : ℕ → ℕ → List ℕ
+get_instruction worker key = codes "get " ++ decimal worker ++ codes " k" ++ decimal key
 
 -- the line that puts an item for a key, whose label is 0
-abbrev pub set_line : ℕ → List ℕ
-set_line key = codes "set k" ++ decimal key ++ codes " 0 0"
+abbrev pub set_instruction : ℕ → List ℕ
+set_instruction key = codes "set k" ++ decimal key ++ codes " 0 0"
 
 -- a line that gets no item and puts none
 abbrev pub is_upkeep : List ℕ → Bool
@@ -33,7 +33,7 @@ IsUpkeep line = is_upkeep line ≡ true
 
 -- a line that puts an item for the key, or that gets none and puts none
 abbrev pub IsPutOrUpkeep : ℕ → List ℕ → Type 0
-IsPutOrUpkeep key line = (line ≡ set_line key) ⊎ IsUpkeep line
+IsPutOrUpkeep key line = (line ≡ set_instruction key) ⊎ IsUpkeep line
 
 -- Behind a text some lines of a kind were written, at most so many.
 pub record Adds (Kind : List ℕ → Type 0) (most : ℕ) (old new : List ℕ) : Type 0 where
@@ -45,8 +45,8 @@ pub record Adds (Kind : List ℕ → Type 0) (most : ℕ) (old new : List ℕ) :
 -- Behind a text the lines of an access were written: it is a get of its key by this worker, or an item is put for the
 -- key, at once or behind tries to make room. At most so many other lines are behind that.
 abbrev pub AddsAccess : ℕ → ℕ → ℕ → List ℕ → List ℕ → Type 0
-AddsAccess worker key most old new = Adds IsUpkeep most (old ++ with_end (get_line worker key)) new
-    ⊎ Adds (IsPutOrUpkeep key) most (old ++ with_end (set_line key)) new
+AddsAccess worker key most old new = Adds IsUpkeep most (old ++ with_end (get_instruction worker key)) new
+    ⊎ Adds (IsPutOrUpkeep key) most (old ++ with_end (set_instruction key)) new
 
 -- Behind a text the lines of these accesses were written, in order. The workers take turns, and it is the turn of the
 -- one of this place.

@@ -1,8 +1,8 @@
 //! What a cache does at an access, and where it is tended.
 ghost use Rattle.std.specs.Prelude.{◌+◌, ◌*◌, ◌%◌, ◌<◌, ◌++◌, IfOk, IfErr, OnOk, length, max};
-ghost use Rattle.replay_runs.specs.Writing.{with_end, set_line, IsUpkeep, IsPutOrUpkeep, Adds, AddsAccess, IsTraceOf};
+ghost use Rattle.replay_runs.specs.Writing.{with_end, set_instruction, IsUpkeep, IsPutOrUpkeep, Adds, AddsAccess, IsTraceOf};
 ghost use Rattle.replay_runs.specs.Writing.{IsOfCalls, most_behind};
-ghost use Rattle.replay_runs.specs.Faults.{IsOfWriting};
+ghost use Rattle.replay_runs.specs.Faults.{IsOfTraceWriting};
 
 use crate::faults::ReplayFault;
 use crate::plans::Plan;
@@ -34,7 +34,7 @@ fn make_room(scribe: &mut Scribe) -> Result<bool, ReplayFault>
 // enough for one: so many tries are enough.
 fn place(scribe: &mut Scribe, plan: &Plan, key: u32) -> Result<(), ReplayFault>
     ensures text { OnOk result (Adds (IsPutOrUpkeep key) (7 * (plan.now.config.items + 1))
-        (scribe.old.text.items ++ with_end (set_line key)) scribe.new.text.items) }
+        (scribe.old.text.items ++ with_end (set_instruction key)) scribe.new.text.items) }
     ensures fault { IfErr result IsOfCalls }
 {
     if scribe.link(key)? {
@@ -56,8 +56,8 @@ fn balance(scribe: &mut Scribe, plan: &Plan) -> Result<bool, ReplayFault>
     ensures text { OnOk result (Adds IsUpkeep 2 scribe.old.text.items scribe.new.text.items) }
     ensures fault { IfErr result IsOfCalls }
 {
-    let hot = scribe.look_over(Tail::Hot, plan.config.hot_items())?;
-    let warm = scribe.look_over(Tail::Warm, plan.config.warm_items())?;
+    let hot = scribe.pull_if_over(Tail::Hot, plan.config.hot_items())?;
+    let warm = scribe.pull_if_over(Tail::Warm, plan.config.warm_items())?;
     Ok(hot || warm)
 }
 
@@ -116,7 +116,7 @@ pub(crate) fn write_trace(
 ) -> Result<Vec<u8>, ReplayFault>
     requires some { 0 < length config.now.classes }
     ensures text { IfOk result (λ text. IsTraceOf plan.now accesses.now text.items) }
-    ensures fault { IfErr result (IsOfWriting plan.now accesses.now) }
+    ensures fault { IfErr result (IsOfTraceWriting plan.now accesses.now) }
 {
     let mut scribe = Scribe::new(alloc, keys, plan, config)?;
     for place in 0..accesses.len() {

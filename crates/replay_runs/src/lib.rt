@@ -16,7 +16,7 @@ mod traces;
 
 pub use counting::HitCounts;
 pub use faults::ReplayFault;
-pub use outcomes::Outcome;
+pub use outcomes::RunOutcome;
 pub use plans::Plan;
 pub use replays::replay;
 pub use traces::{ReplayTrace, trace_of};

@@ -4,7 +4,7 @@ use cache_shelf::Stats;
 
 /// What a run came to.
 #[derive(Clone, Copy, Debug, PartialEq, Eq)]
-pub struct Outcome {
+pub struct RunOutcome {
     /// How many accesses there were.
     pub accesses: u64,
 

@@ -4,7 +4,7 @@ ghost use Rattle.bump_cache.specs.Configs.{first_cache_fault};
 ghost use Rattle.replay_runs.specs.declared.faults.ReplayFault.TheVariants.{Config, Memory};
 
 use crate::faults::ReplayFault;
-use crate::outcomes::Outcome;
+use crate::outcomes::RunOutcome;
 use crate::plans::Plan;
 use bump_cache::{CacheBlank, CacheReader, CacheRefusal, Opened, open};
 use bump_heads::Name;
@@ -109,14 +109,14 @@ fn run<N: Name, I: Indexed<u32, (), AnyPair> + Drop, R: Wait + Copy>(
     blank: CacheBlank,
     plan: &Plan,
     accesses: &[u32],
-) -> Result<Outcome, AllocError>
+) -> Result<RunOutcome, AllocError>
     requires name { blank.table ≡ N.table }
     ensures accesses { IfOk result (λ it. it.accesses ≡ length accesses.now) }
     ensures sum { IfOk result (λ it. it.hits + it.misses ≡ it.accesses) }
 {
     let mut opened = open::<N, u32, (), AnyPair, I, R>(alloc, rt, blank)?;
     let count = run_all(rt, alloc, &mut opened, plan, accesses)?;
-    Ok(Outcome {
+    Ok(RunOutcome {
         accesses: accesses.len() as u64,
         hits: count.hits,
         misses: accesses.len() as u64 - count.hits,
@@ -134,7 +134,7 @@ pub fn replay<R: Wait + Copy>(
     alloc: Global,
     plan: &Plan,
     accesses: &[u32],
-) -> Result<Outcome, ReplayFault>
+) -> Result<RunOutcome, ReplayFault>
     ensures accesses { IfOk result (λ it. it.accesses ≡ length accesses.now) }
     ensures sum { IfOk result (λ it. it.hits + it.misses ≡ it.accesses) }
     ensures config { IfSome (first_cache_fault plan.now.config) (λ fault. result ≡ Err (Config fault)) }

@@ -1,7 +1,7 @@
 //! A trace that is written line by line, each of which is made on a World at once.
 ghost use Rattle.std.specs.Prelude.{◌≡◌, ◌<◌, ◌∷◌, ◌++◌, [], true, false, length, codes, IfOk, IfErr, OnOk};
 ghost use Rattle.bump_trace.specs.Runs.{most_bytes};
-ghost use Rattle.replay_runs.specs.Writing.{with_end, get_line, set_line, header, is_upkeep, IsUpkeep, Adds, IsOfCalls};
+ghost use Rattle.replay_runs.specs.Writing.{with_end, get_instruction, set_instruction, header, is_upkeep, IsUpkeep, Adds, IsOfCalls};
 
 use crate::faults::ReplayFault;
 use crate::plans::Plan;
@@ -128,7 +128,7 @@ impl Scribe {
     // Whether the key has an item. It is got by the worker then.
     pub(crate) fn get(&mut self, worker: u32, key: u32) -> Result<bool, ReplayFault>
         ensures got { IfOk result (λ got. got ≡ true
-            → self.new.text.items ≡ self.old.text.items ++ with_end (get_line worker key)) }
+            → self.new.text.items ≡ self.old.text.items ++ with_end (get_instruction worker key)) }
         ensures none { IfOk result (λ got. got ≡ false → self.new.text.items ≡ self.old.text.items) }
         ensures fault { IfErr result IsOfCalls }
     {
@@ -157,7 +157,7 @@ impl Scribe {
 
     /// Links an item for the key; whether a chunk was free for it.
     pub(crate) fn link(&mut self, key: u32) -> Result<bool, ReplayFault>
-        ensures text { OnOk result (self.new.text.items ≡ self.old.text.items ++ with_end (set_line key)) }
+        ensures text { OnOk result (self.new.text.items ≡ self.old.text.items ++ with_end (set_instruction key)) }
         ensures fault { IfErr result IsOfCalls }
     {
         put_word(&mut self.text, b"set k", u64::from(key))?;
@@ -256,7 +256,7 @@ impl Scribe {
     }
 
     /// Looks at the last item of HOT or WARM, where it has more items than so many; whether it has.
-    pub(crate) fn look_over(&mut self, tail: Tail, most: u32) -> Result<bool, ReplayFault>
+    pub(crate) fn pull_if_over(&mut self, tail: Tail, most: u32) -> Result<bool, ReplayFault>
         ensures text { OnOk result (Adds IsUpkeep 1 self.old.text.items self.new.text.items) }
         ensures fault { IfErr result IsOfCalls }
     {

@@ -9,17 +9,17 @@ use Rattle.trace_lines.specs.declared.faults.LineError.{LineError}
 use Rattle.trace_lines.specs.declared.faults.LineError.TheVariants as errors
 use Rattle.store_trace.specs.Endings.{EndsAt, Stopped, Goes, StopsAs}
 use Rattle.store_trace.specs.declared.openings.Beginning.{Beginning}
-use Rattle.store_trace.specs.declared.openings.Place.{Place}
+use Rattle.store_trace.specs.declared.openings.LineStart.{LineStart}
 use Rattle.store_trace.specs.declared.openings.Stopped.{Stopped as TheStopped}
 
 module _ (n₀ : ℕ) (all : List (List ℕ)) (s₀ : Stage) where
   -- what begins at a place goes on from there with the store that is opened
-  pub begun_opens : (begun : Result Beginning TheStopped) (place : Place) (s : Stage) → IfOk begun (λ b. b.place ≡ place)
+  pub begun_opens : (begun : Result Beginning TheStopped) (place : LineStart) (s : Stage) → IfOk begun (λ b. b.place ≡ place)
       → IfOk begun (λ b. opened s ≡ Ok (nameless (new_state b.config)))
       → ((store : StoreState) → opened s ≡ Ok store → Goes n₀ all s₀ place.number (parts_of place.rest.now) (Open store))
       → IfOk begun (λ b. Goes n₀ all s₀ b.place.number (parts_of b.place.rest.now) (Open (nameless (new_state b.config))))
   begun_opens (Ok b) place s is opens goes =
-      subst (λ (p : Place). Goes n₀ all s₀ p.number (parts_of p.rest.now) (Open (nameless (new_state b.config)))) (sym is) (goes (nameless (new_state b.config)) opens)
+      subst (λ (p : LineStart). Goes n₀ all s₀ p.number (parts_of p.rest.now) (Open (nameless (new_state b.config)))) (sym is) (goes (nameless (new_state b.config)) opens)
   begun_opens (Err e) place s is opens goes = tt
 
   -- an error that is this fault

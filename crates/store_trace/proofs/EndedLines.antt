@@ -7,7 +7,7 @@ use Rattle.bump_rules.specs.declared.commands.Answer.{Answer}
 use Rattle.bump_rules.specs.declared.places.Start.{Start}
 use Rattle.bump_rules.specs.declared.places.Tail.{Tail}
 use Rattle.trace_lines.specs.Fields.{tail_word}
-use Rattle.trace_lines.specs.Text.{link_word, get_start, answer_text, told, entry_text, accounts_text, close_start, accounts_line, bump_line, busy_get_line, busy_hold_line, closed_line, del_line, drain_line, drop_line, get_held_line, get_line, hit_line, hold_line, moves_line, pull_line, read_line, set_line, sweep_line}
+use Rattle.trace_lines.specs.Text.{link_word, get_start, answer_text, answer_told, entry_text, accounts_text, close_start, accounts_line, bump_line, busy_get_line, busy_hold_line, closed_line, del_line, drain_line, drop_line, get_held_line, get_line, hit_line, hold_line, moves_line, pull_line, read_line, set_line, sweep_line}
 use Rattle.store_trace.specs.Reports.{numbered_text, moves_lines}
 use Rattle.store_trace.specs.WholeLines.{IsEnded, IsLines}
 
@@ -38,7 +38,7 @@ pub set_ends : (begins : Start) (name : List ℕ) (given : Answer) → IsEnded (
 set_ends begins name given = ends (link_word begins ++ codes " " ++ name ++ codes " " ++ answer_text given)
 
 pub get_ends : (worker : ℕ) (name : List ℕ) (given : Option Answer) → IsEnded (get_line worker name given)
-get_ends worker name given = ends (get_start worker name ++ told given)
+get_ends worker name given = ends (get_start worker name ++ answer_told given)
 
 pub get_held_ends : (worker : ℕ) (name : List ℕ) (label hit : Answer) → IsEnded (get_held_line worker name label hit)
 get_held_ends worker name label hit = ends (get_start worker name ++ answer_text label ++ codes " " ++ answer_text hit)
@@ -47,13 +47,13 @@ pub busy_get_ends : (worker : ℕ) (name : List ℕ) → IsEnded (busy_get_line 
 busy_get_ends worker name = ends_behind (get_start worker name) (codes "busy\n") (codes "busy", refl)
 
 pub hold_ends : (worker : ℕ) (name held : List ℕ) (given : Option Answer) → IsEnded (hold_line worker name held given)
-hold_ends worker name held given = ends (codes "hold " ++ decimal worker ++ codes " " ++ name ++ codes " " ++ held ++ codes " " ++ told given)
+hold_ends worker name held given = ends (codes "hold " ++ decimal worker ++ codes " " ++ name ++ codes " " ++ held ++ codes " " ++ answer_told given)
 
 pub busy_hold_ends : (worker : ℕ) (name held : List ℕ) → IsEnded (busy_hold_line worker name held)
 busy_hold_ends worker name held = ends_behind (codes "hold " ++ decimal worker ++ codes " " ++ name ++ codes " " ++ held) (codes " busy\n") (codes " busy", refl)
 
 pub hit_ends : (worker : ℕ) (held : List ℕ) (given : Option Answer) → IsEnded (hit_line worker held given)
-hit_ends worker held given = ends (codes "hit " ++ decimal worker ++ codes " " ++ held ++ codes " " ++ told given)
+hit_ends worker held given = ends (codes "hit " ++ decimal worker ++ codes " " ++ held ++ codes " " ++ answer_told given)
 
 pub read_ends : (held : List ℕ) (given : Answer) → IsEnded (read_line held given)
 read_ends held given = ends (codes "read " ++ held ++ codes " " ++ answer_text given)
@@ -80,7 +80,7 @@ pub moves_ends : (class worker count : ℕ) → IsEnded (moves_line class worker
 moves_ends class worker count = ends (codes "moves " ++ decimal class ++ codes " " ++ decimal worker ++ codes " " ++ decimal count)
 
 pub closed_ends : (worker : ℕ) → IsEnded (closed_line worker)
-closed_ends worker = ends (close_start worker ++ told None)
+closed_ends worker = ends (close_start worker ++ answer_told None)
 
 pub accounts_ends : (worker : ℕ) (accounts : Accounts) (applied : ℕ) → IsEnded (accounts_line worker accounts applied)
 accounts_ends worker accounts applied = ends (codes "worker " ++ decimal worker ++ codes " " ++ accounts_text accounts applied)

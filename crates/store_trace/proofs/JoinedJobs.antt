@@ -10,11 +10,11 @@ use Rattle.bump_parts.specs.Workers.{WorkerState}
 use Rattle.store_trace.specs.Jobs.{WorkerMade, IsJobOf, Came, AreJobsOf, with_lines, IsSumOf, AllCame, WorkersMade, DrainerMade, drainer_lanes, drainer_shares, shares_of}
 use Rattle.store_trace.specs.Making.{WereMade}
 use Rattle.store_trace.specs.Tasks.{MakesEach, drain_times, lines_of}
-use Rattle.store_trace.specs.Totals.{both, no_lines}
-use Rattle.store_trace.specs.declared.jobs.Drainer.{Drainer}
+use Rattle.store_trace.specs.Totals.{both_totals, no_lines}
+use Rattle.store_trace.specs.declared.jobs.DrainerThread.{DrainerThread}
 use Rattle.store_trace.specs.declared.jobs.Job.{Job}
 use Rattle.store_trace.specs.declared.jobs.Job.TheVariants.{Runs, Done}
-use Rattle.store_trace.specs.declared.jobs.Joined.{Joined}
+use Rattle.store_trace.specs.declared.jobs.JoinedWorker.{JoinedWorker}
 use Rattle.store_trace.specs.declared.slots.Slot.{Slot}
 use Rattle.store_trace.specs.declared.tasks.ChoreTask.{ChoreTask}
 use Rattle.store_trace.specs.declared.tasks.GetTask.{GetTask}
@@ -43,20 +43,20 @@ any_push p (y ∷ xs) x = ap (λ (b : Bool). p y || b) (any_push p xs x) ∙ or_
 module _ {N : Type 0} where
   -- those that came back so far, and those that are still to come
   abbrev pub CameSoFar : List (Job N) → List (Job N) → List (Slot N) → Totals → Bool → Type 0
-  CameSoFar jobs rest slots totals is_stopped = (all : List (Joined N)) × SoFar Came jobs rest all × IsSumOf all slots totals is_stopped
+  CameSoFar jobs rest slots totals is_stopped = (all : List (JoinedWorker N)) × SoFar Came jobs rest all × IsSumOf all slots totals is_stopped
 
-  pub came_next : (jobs rest left : List (Job N)) (slots more : List (Slot N)) (totals : Totals) (is_stopped : Bool) (job : Job N) (joined : Joined N)
+  pub came_next : (jobs rest left : List (Job N)) (slots more : List (Slot N)) (totals : Totals) (is_stopped : Bool) (job : Job N) (joined : JoinedWorker N)
       → rest ≡ job ∷ left → more ≡ slots ++ joined.slot ∷ [] → CameSoFar jobs rest slots totals is_stopped → Came job joined
-      → CameSoFar jobs left more (both totals joined.totals) (is_stopped || joined.is_stopped)
+      → CameSoFar jobs left more (both_totals totals joined.totals) (is_stopped || joined.is_stopped)
   came_next jobs rest left slots more totals is_stopped job joined next is_more so_far came =
       let all = so_far.0 in (
         all ++ joined ∷ [],
         so_far_next Came jobs rest left all (all ++ joined ∷ []) job joined next refl so_far.1 came,
         (
-          is_more ∙ ap (λ (xs : List (Slot N)). xs ++ joined.slot ∷ []) so_far.2.0 ∙ sym (map-append (λ (j : Joined N). j.slot) all (joined ∷ [])),
-          ap (λ (t : Totals). both t joined.totals) so_far.2.1
-              ∙ sym (fold_push (λ (t : Totals) (j : Joined N). both t j.totals) no_lines all joined),
-          ap (λ (b : Bool). b || joined.is_stopped) so_far.2.2 ∙ sym (any_push (λ (j : Joined N). j.is_stopped) all joined),
+          is_more ∙ ap (λ (xs : List (Slot N)). xs ++ joined.slot ∷ []) so_far.2.0 ∙ sym (map-append (λ (j : JoinedWorker N). j.slot) all (joined ∷ [])),
+          ap (λ (t : Totals). both_totals t joined.totals) so_far.2.1
+              ∙ sym (fold_push (λ (t : Totals) (j : JoinedWorker N). both_totals t j.totals) no_lines all joined),
+          ap (λ (b : Bool). b || joined.is_stopped) so_far.2.2 ∙ sym (any_push (λ (j : JoinedWorker N). j.is_stopped) all joined),
         ),
       )
 
@@ -65,7 +65,7 @@ module _ {N : Type 0} where
   all_came jobs rest slots totals is_stopped none so_far = (so_far.0, so_far_all Came jobs rest so_far.0 none so_far.1, so_far.2)
 
   -- what came of a job came of the worker's lines
-  made_of : (config : Config) (slot : Slot N) (tasks : List GetTask) (job : Job N) (joined : Joined N) → IsJobOf config slot tasks job → Came job joined
+  made_of : (config : Config) (slot : Slot N) (tasks : List GetTask) (job : Job N) (joined : JoinedWorker N) → IsJobOf config slot tasks job → Came job joined
       → WorkerMade config slot.worker tasks joined
   made_of config slot tasks (Runs running) joined is came =
       subst (λ (w : Option WorkerState). WorkerMade config w tasks joined) (sym is.0)
@@ -91,15 +91,15 @@ module _ {N : Type 0} where
   -- ---- drainers
 
   -- all of them have these lines on this store
-  abbrev HasLines : Config → List ChoreTask → Drainer N → Type 0
+  abbrev HasLines : Config → List ChoreTask → DrainerThread N → Type 0
   HasLines config tasks drainer =
       (drainer.handle.promise.store.value ≡ config) × (drainer.handle.promise.tasks.value.items ≡ tasks)
 
-  abbrev HaveLines : Config → List ChoreTask → List (Drainer N) → Type 0
+  abbrev HaveLines : Config → List ChoreTask → List (DrainerThread N) → Type 0
   HaveLines config tasks drainers = All (HasLines config tasks) drainers
 
   -- the lanes of each group were drained at these lines
-  pub groups_drained : {B : Type 0} (items : B → List LaneState) (config : Config) (tasks : List ChoreTask) (drainers : List (Drainer N)) (groups : List B)
+  pub groups_drained : {B : Type 0} (items : B → List LaneState) (config : Config) (tasks : List ChoreTask) (drainers : List (DrainerThread N)) (groups : List B)
       → HaveLines config tasks drainers → AllZip (λ drainer group. DrainerMade drainer (items group)) drainers groups
       → AllZip (AllZip (MakesEach IsDrained (drain_times tasks))) (drainer_lanes drainers) (map items groups)
   groups_drained items config tasks [] [] have made = tt
@@ -111,7 +111,7 @@ module _ {N : Type 0} where
   )
 
   -- the first one, which is the maintenance thread, made all of them
-  pub lines_made : {B : Type 0} (items : B → List LaneState) (config : Config) (tasks : List ChoreTask) (count : ℕ) (drainers : List (Drainer N)) (groups : List B)
+  pub lines_made : {B : Type 0} (items : B → List LaneState) (config : Config) (tasks : List ChoreTask) (count : ℕ) (drainers : List (DrainerThread N)) (groups : List B)
       → 1 ≤ count → drainer_shares drainers ≡ shares_of count → HaveLines config tasks drainers
       → AllZip (λ drainer group. DrainerMade drainer (items group)) drainers groups → WereMade config (lines_of shares.All tasks)
   lines_made items config tasks zero drainers groups some same have made = absurd (omega (arith, some))

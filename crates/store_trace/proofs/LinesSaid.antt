@@ -7,7 +7,7 @@ use Rattle.bump_trace.specs.Views.{FailsBy}
 use Rattle.trace_lines.specs.Faults.{◌>>=◌}
 use Rattle.trace_lines.specs.Lines as lines
 use Rattle.trace_lines.specs.Lines.{Declares, Makes, Instruction, line_said, rest_fault}
-use Rattle.trace_lines.specs.Seen.{Says, seen_said, seen_line, seen_instruction}
+use Rattle.trace_lines.specs.Seen.{ReadsAs, seen_said, seen_line, seen_instruction}
 use Rattle.trace_lines.specs.declared.faults.Fault.{Fault}
 use Rattle.trace_lines.specs.declared.faults.Fault.TheVariants as fault
 use Rattle.trace_lines.specs.declared.faults.LineError.{LineError}
@@ -20,7 +20,7 @@ use Rattle.trace_lines.specs.declared.lines.Line.TheVariants as said_line
 use Rattle.std.specs.Prelude.{⊤}
 use Rattle.std.specs.Result.{IfErr, OnOk}
 use Rattle.store_trace.specs.Endings.{Passes, HasFault, Leaves}
-use Rattle.store_trace.specs.OpenStores.{FailsBy as FailsAsMeant, FailsAs, MayStand}
+use Rattle.store_trace.specs.OpenStores.{IsMeantFault as FailsAsMeant, FailsAs, MayStand}
 use Rattle.store_trace.specs.declared.stops.Stop.{Stop}
 use Rattle.store_trace.specs.declared.stops.Stop.TheVariants as stops
 use Rattle.store_trace.specs.declared.openings.Beginning.{Beginning}
@@ -32,7 +32,7 @@ unfolding step
 step_said s n line said is = ap (λ (r : Result (Option lines.Line) Fault). r >>= effect_of s n) is
 
 -- a line that can't be read
-pub unread_fault : (s : Stage) (n : ℕ) (line : List ℕ) (error : LineError) → Says (Err error) (line_said line) → HasFault s n line error
+pub unread_fault : (s : Stage) (n : ℕ) (line : List ℕ) (error : LineError) → ReadsAs (Err error) (line_said line) → HasFault s n line error
 unfolding step
 unread_fault s n line errors.Memory p = tt
 unread_fault s n line (errors.Fault what) p = ap (λ (r : Result (Option lines.Line) Fault). fault_in (r >>= effect_of s n)) p

@@ -13,7 +13,7 @@ use std.Path.{fun_ext}
 use denote.Ref.{Bor}
 use Rattle.bump_steps.specs.declared.views.HoldPart.{HoldPart}
 use Rattle.bump_trace.specs.Names.{bind, unbind}
-use Rattle.store_trace.specs.NamedHolds.{item_at, item_if, place_in, kept_by, AreKept}
+use Rattle.store_trace.specs.NamedHolds.{item_at, item_if, place_of_name, kept_by, AreKept}
 
 -- the places of names, as functions
 abbrev Places : Type 0
@@ -101,33 +101,33 @@ other_items holds taken (Some place) h = item_others holds taken place None (h p
 
 module _ {S : Type 0} (old new : HashMap (Bor (List ℕ)) ℕ S) (holds : List (Option HoldPart)) (kept : AreKept old holds) (name : List ℕ) where
   -- the same of functions
-  was : Apart (place_in old) holds
+  was : Apart (place_of_name old) holds
   was = record { there = kept.there; apart = kept.apart }
 
-  module _ (part : HoldPart) (puts : (other : List ℕ) → place_in new other ≡ update bytes_eq (place_in old) name (Some (length holds)) other) where
+  module _ (part : HoldPart) (puts : (other : List ℕ) → place_of_name new other ≡ update bytes_eq (place_of_name old) name (Some (length holds)) other) where
     -- a hold was kept under one more name
     pub put_is_kept : AreKept new (holds ++ Some part ∷ [])
     put_is_kept = record {
-      there = λ other place e. put_there (place_in old) holds was name part other place (sym (puts other) ∙ e);
-      apart = λ one other place e f. put_apart (place_in old) holds was name part one other place (sym (puts one) ∙ e) (sym (puts other) ∙ f);
+      there = λ other place e. put_there (place_of_name old) holds was name part other place (sym (puts other) ∙ e);
+      apart = λ one other place e f. put_apart (place_of_name old) holds was name part one other place (sym (puts one) ∙ e) (sym (puts other) ∙ f);
     }
 
     put_name : (other : List ℕ) → kept_by new (holds ++ Some part ∷ []) other ≡ bind name part.life (kept_by old holds) other
     put_name other = ap (item_if (holds ++ Some part ∷ [])) (puts other) ∙ elim (cases_Bool (bytes_eq name other)) [
       | inl is ↦ rw is (item_last holds (Some part))
-      | inr differs ↦ rw differs (same_items holds (Some part) (place_in old other) (λ place e. inside holds place (kept.there other place e)))
+      | inr differs ↦ rw differs (same_items holds (Some part) (place_of_name old other) (λ place e. inside holds place (kept.there other place e)))
     ]
 
     pub put_names : kept_by new (holds ++ Some part ∷ []) ≡ bind name part.life (kept_by old holds)
     put_names = fun_ext put_name
 
-  module _ (taken : ℕ) (at : place_in old name ≡ Some taken) (takes : (other : List ℕ) → place_in new other ≡ update bytes_eq (place_in old) name None other) where
+  module _ (taken : ℕ) (at : place_of_name old name ≡ Some taken) (takes : (other : List ℕ) → place_of_name new other ≡ update bytes_eq (place_of_name old) name None other) where
     -- another name has another place
-    elsewhere : (other : List ℕ) (place : ℕ) → bytes_eq name other ≡ false → place_in old other ≡ Some place → place ≢ taken
-    elsewhere other place differs e same = let both = kept.apart name other taken at (subst (λ (n : ℕ). place_in old other ≡ Some n) same e) in absurd cc
+    elsewhere : (other : List ℕ) (place : ℕ) → bytes_eq name other ≡ false → place_of_name old other ≡ Some place → place ≢ taken
+    elsewhere other place differs e same = let both = kept.apart name other taken at (subst (λ (n : ℕ). place_of_name old other ≡ Some n) same e) in absurd cc
 
     -- where a name has a place still, it is another name
-    take_old : (other : List ℕ) (place : ℕ) → place_in new other ≡ Some place → (bytes_eq name other ≡ false) × (place_in old other ≡ Some place)
+    take_old : (other : List ℕ) (place : ℕ) → place_of_name new other ≡ Some place → (bytes_eq name other ≡ false) × (place_of_name old other ≡ Some place)
     take_old other place e = let now = sym (takes other) ∙ e in elim (cases_Bool (bytes_eq name other)) [
       | inl is ↦ let none = rw is at now in absurd cc
       | inr differs ↦ (differs, rw differs at now)
@@ -145,7 +145,7 @@ module _ {S : Type 0} (old new : HashMap (Bor (List ℕ)) ℕ S) (holds : List (
     take_name : (other : List ℕ) → kept_by new (slice_set holds taken None) other ≡ unbind name (kept_by old holds) other
     take_name other = ap (item_if (slice_set holds taken None)) (takes other) ∙ elim (cases_Bool (bytes_eq name other)) [
       | inl is ↦ rw is refl
-      | inr differs ↦ rw differs (other_items holds taken (place_in old other) (λ place e. elsewhere other place differs e))
+      | inr differs ↦ rw differs (other_items holds taken (place_of_name old other) (λ place e. elsewhere other place differs e))
     ]
 
     pub take_names : kept_by new (slice_set holds taken None) ≡ unbind name (kept_by old holds)
@@ -156,11 +156,11 @@ module _ {S : Type 0} (old new : HashMap (Bor (List ℕ)) ℕ S) (holds : List (
     taken_inside = inside holds taken (kept.there name taken at)
 
   -- a name that has no hold was left out
-  none_name : ((other : List ℕ) → place_in new other ≡ update bytes_eq (place_in old) name None other) → (other : List ℕ) → kept_by new holds other ≡ unbind name (kept_by old holds) other
+  none_name : ((other : List ℕ) → place_of_name new other ≡ update bytes_eq (place_of_name old) name None other) → (other : List ℕ) → kept_by new holds other ≡ unbind name (kept_by old holds) other
   none_name takes other = ap (item_if holds) (takes other) ∙ elim (cases_Bool (bytes_eq name other)) [
     | inl is ↦ rw is refl
     | inr differs ↦ rw differs refl
   ]
 
-  pub none_names : ((other : List ℕ) → place_in new other ≡ update bytes_eq (place_in old) name None other) → kept_by new holds ≡ unbind name (kept_by old holds)
+  pub none_names : ((other : List ℕ) → place_of_name new other ≡ update bytes_eq (place_of_name old) name None other) → kept_by new holds ≡ unbind name (kept_by old holds)
   none_names takes = fun_ext (none_name takes)

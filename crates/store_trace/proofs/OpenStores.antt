@@ -21,7 +21,7 @@ use Rattle.store_trace.specs.Stops.{IsNoFault}
 use Rattle.store_trace.specs.declared.stops.Stop.{Stop}
 use Rattle.store_trace.specs.declared.stops.Stop.TheVariants as stops
 use Rattle.trace_lines.specs.declared.faults.LineError.TheVariants as errors
-use Rattle.bump_trace.specs.OpenStore.{instruction_said, made_by, set_said, get_said, hold_said, hit_said, read_said, drop_said, del_said, pull_said, sweep_said, close_said, drain_said, show_said, moves_said, par_said}
+use Rattle.bump_trace.specs.OpenStore.{instruction_said, line_answered, set_said, get_said, hold_said, hit_said, read_said, drop_said, del_said, pull_said, sweep_said, close_said, drain_said, show_said, moves_said, par_said}
 use Rattle.bump_trace.specs.OpenStore.{get_bound, hold_bound, hold_unused, hit_bound, read_bound, drop_bound, del_bound}
 use Rattle.bump_trace.specs.Stages.{StoreState}
 use Rattle.trace_lines.specs.declared.faults.Fault.{Fault}
@@ -205,7 +205,7 @@ unfolding drain_said
 drain_found store now = refl
 
 -- behind `par` a line does what it says where it may stand there, and has a fault where not
-made_past : (store : StoreState) (now : ℕ) (i : Instruction) → store.is_past_par ≡ true → may_follow_par i ≡ true → instruction_said store now i ≡ made_by store now i
+made_past : (store : StoreState) (now : ℕ) (i : Instruction) → store.is_past_par ≡ true → may_follow_par i ≡ true → instruction_said store now i ≡ line_answered store now i
 unfolding instruction_said
 made_past store now i past follows = rw past (rw follows refl)
 
@@ -215,13 +215,13 @@ not_past store now i past follows = rw past (rw follows refl)
 
 -- the fault of a line that may stand behind `par`
 pub past_fault : (store : StoreState) (now : ℕ) (said i : Instruction) (meant : Option Fault) → said ≡ i → store.is_past_par ≡ true → may_follow_par i ≡ true
-    → fault_in (made_by store now i) ≡ meant → fault_in (instruction_said store now said) ≡ meant
+    → fault_in (line_answered store now i) ≡ meant → fault_in (instruction_said store now said) ≡ meant
 past_fault store now said i meant is past follows p =
     ap (λ (x : Instruction). fault_in (instruction_said store now x)) is ∙ ap fault_in (made_past store now i past follows) ∙ p
 
 -- and that it leaves all names as they are
 pub past_stands : (store : StoreState) (now : ℕ) (said i : Instruction) → said ≡ i → store.is_past_par ≡ true → may_follow_par i ≡ true
-    → fault_in (made_by store now i) ≡ None → Leaves i store store → MayStand store now said
+    → fault_in (line_answered store now i) ≡ None → Leaves i store store → MayStand store now said
 past_stands store now said i is past follows p leaves = (past_fault store now said i None is past follows p, subst (λ (x : Instruction). Leaves x store store) (sym is) leaves)
 
 -- which lines may not stand behind `par`
@@ -253,7 +253,7 @@ pub out_of_order : (store : StoreState) (now : ℕ) (i : Instruction) → (store
 unfolding instruction_said
 out_of_order store now i out = rw out refl
 
-pub in_order : (store : StoreState) (now : ℕ) (i : Instruction) → (store.is_past_par && not (may_follow_par i)) ≡ false → instruction_said store now i ≡ made_by store now i
+pub in_order : (store : StoreState) (now : ℕ) (i : Instruction) → (store.is_past_par && not (may_follow_par i)) ≡ false → instruction_said store now i ≡ line_answered store now i
 unfolding instruction_said
 in_order store now i stands = rw stands refl
 

@@ -5,7 +5,7 @@ use Rattle.bump_trace.specs.Reading.{IsOfReading, IsOfSize}
 use Rattle.bump_trace.specs.Runs.{most_bytes, IsUncalled}
 use Rattle.bump_trace.specs.declared.runs.SimFault.{SimFault}
 use Rattle.bump_trace.specs.declared.runs.SimFault.TheVariants as faults
-use Rattle.store_trace.specs.Runs.{Behind, TellsText, TellsTrace, StoppedBy}
+use Rattle.store_trace.specs.Runs.{Behind, TellsText, TellsTrace, StoreStoppedBy}
 
 -- a writer that was not called keeps what it held
 kept : (held : Option (List ℕ)) → Keeps held held
@@ -25,7 +25,7 @@ unread_uncalled reads failed writes faults.Gate p none = tt
 
 -- where it could not be read, nothing was written
 pub unread_stopped : (more : Behind) (had left held : Option (List ℕ)) (reads failed : ℕ) (e : SimFault) → IsOfReading reads failed e → IsOfSize had left e
-    → StoppedBy more had left held held e
+    → StoreStoppedBy more had left held held e
 unread_stopped more had left held reads failed faults.Trace p long = absurd p
 unread_stopped more had left held reads failed faults.Read p long = kept held
 unread_stopped more had left held reads failed faults.Size p long = (kept held, long)

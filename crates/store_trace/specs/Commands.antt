@@ -25,7 +25,7 @@ use Rattle.bump_rules.specs.Rings.{most_attempts}
 use Rattle.bump_steps.specs.Rule.{chunks as all_chunks}
 use Rattle.bump_steps.specs.declared.views.HoldPart.{HoldPart}
 use Rattle.bump_parts.specs.Gets.{Got}
-use Rattle.bump_store.specs.Stores.{HasChunk, IsOfClass}
+use Rattle.bump_store.specs.Stores.{ClassHasChunk, IsOfClass}
 use Rattle.bump_parts.specs.Touches.{Findings, Touched}
 use Rattle.bump_parts.specs.Workers.{WorkerState}
 use Rattle.bump_parts.specs.declared.refusals.GetRefusal.{GetRefusal}
@@ -49,17 +49,17 @@ unlink_told (Err refused.NoSuchChunk) = answers.NoSuchChunk
 unlink_told (Err refused.NotLinked) = answers.NotLinked
 
 -- an unlink of an item of a Book
-abbrev pub Unlinks : ItemId → BookView → Answer → BookView → Type 0
-Unlinks item book answer left = (came : Result Ended UnlinkRefusal) × (answer ≡ unlink_told came)
+abbrev pub AnswersUnlink : ItemId → BookView → Answer → BookView → Type 0
+AnswersUnlink item book answer left = (came : Result Ended UnlinkRefusal) × (answer ≡ unlink_told came)
     × (result_err came ≡ ends.unlink_refusal book item) × ends.Unlinks book item came left
 
 -- a pull of a list of a Book
-abbrev pub Pulls : Tail → BookView → Answer → BookView → Type 0
-Pulls tail book answer left = (pulled : Pulled) × (answer ≡ answers.Pulled pulled) × pulling.Pulls book tail pulled left
+abbrev pub AnswersPull : Tail → BookView → Answer → BookView → Type 0
+AnswersPull tail book answer left = (pulled : Pulled) × (answer ≡ answers.Pulled pulled) × pulling.Pulls book tail pulled left
 
 -- a sweep of a Book
-abbrev pub Sweeps : BookView → Answer → BookView → Type 0
-Sweeps book answer left = (freed : ℕ) × (heads : ℕ → Head) × (answer ≡ answers.Swept freed)
+abbrev pub AnswersSweep : BookView → Answer → BookView → Type 0
+AnswersSweep book answer left = (freed : ℕ) × (heads : ℕ → Head) × (answer ≡ answers.Swept freed)
     × sweeping.Sweeps book freed left heads
 
 -- It was done to some Book of the class with this number: another thread may have had its lock just before.
@@ -71,7 +71,7 @@ OnClass class config does = (book : BookView) × (left : BookView) × IsOfClass 
 abbrev pub OnItsClass : ℕ → Config → Answer → (BookView → BookView → Type 0) → Type 0
 OnItsClass chunk config answer does =
     ((chunks_of config.classes ≤ chunk) × (answer ≡ answers.NoSuchChunk))
-    ⊎ ((class : ℕ) × HasChunk chunk class config.classes × OnClass class config does)
+    ⊎ ((class : ℕ) × ClassHasChunk chunk class config.classes × OnClass class config does)
 
 -- A touch by a worker: one that may attempt no bump any more makes no step.
 abbrev pub TouchesAs : ℕ → ItemId → ℕ → WorkerState → Touch → WorkerState → Type 0

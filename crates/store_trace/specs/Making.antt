@@ -7,7 +7,7 @@ use Rattle.bump_rules.specs.declared.items.ItemId.{ItemId}
 use Rattle.bump_rules.specs.declared.places.Tail.{Tail}
 use Rattle.bump_parts.specs.Workers.{WorkerState}
 use Rattle.bump_parts.specs.declared.refusals.GetRefusal.{GetRefusal}
-use Rattle.store_trace.specs.Commands.{GetsAs, OnClass, OnItsClass, Pulls, Sweeps, Unlinks}
+use Rattle.store_trace.specs.Commands.{GetsAs, OnClass, OnItsClass, AnswersPull, AnswersSweep, AnswersUnlink}
 use Rattle.store_trace.specs.Totals.{with_touch, with_refusal}
 use Rattle.store_trace.specs.declared.tasks.Chore.{Chore}
 use Rattle.store_trace.specs.declared.tasks.Chore.TheVariants as chores
@@ -32,13 +32,13 @@ MakesGet config task before after = (answered : Result (ℕ × Touch) GetRefusal
 
 -- An item was ended, a list was pulled, a class was swept, each once and of some Book of its class.
 abbrev pub Unlinked : Config → ItemId → Type 0
-Unlinked config item = (answer : Answer) × OnItsClass item.chunk config answer (λ book left. Unlinks item book answer left)
+Unlinked config item = (answer : Answer) × OnItsClass item.chunk config answer (λ book left. AnswersUnlink item book answer left)
 
 abbrev pub WasPulled : Config → ℕ → Tail → Type 0
-WasPulled config class tail = (answer : Answer) × OnClass class config (λ book left. Pulls tail book answer left)
+WasPulled config class tail = (answer : Answer) × OnClass class config (λ book left. AnswersPull tail book answer left)
 
 abbrev pub WasSwept : Config → ℕ → Type 0
-WasSwept config class = (answer : Answer) × OnClass class config (λ book left. Sweeps book answer left)
+WasSwept config class = (answer : Answer) × OnClass class config (λ book left. AnswersSweep book answer left)
 
 -- What such a line did: of a `drain` its lanes tell.
 abbrev pub WasMade : Config → Chore → Type 0

@@ -17,15 +17,15 @@ item_if holds None = None
 item_if holds (Some place) = item_at holds place
 
 -- where the hold of a name is
-abbrev pub place_in : {S : Type 0} → HashMap (Bor (List ℕ)) ℕ S → List ℕ → Option ℕ
-place_in places name = get_by (λ key. bytes_eq name key.now) places
+abbrev pub place_of_name : {S : Type 0} → HashMap (Bor (List ℕ)) ℕ S → List ℕ → Option ℕ
+place_of_name places name = get_by (λ key. bytes_eq name key.now) places
 
 -- the item that each name's hold is of
 abbrev pub kept_by : {S : Type 0} → HashMap (Bor (List ℕ)) ℕ S → List (Option HoldPart) → Names
-kept_by places holds name = item_if holds (place_in places name)
+kept_by places holds name = item_if holds (place_of_name places name)
 
 -- Each name in use has a hold, and no other name has it.
 pub record AreKept {S : Type 0} (places : HashMap (Bor (List ℕ)) ℕ S) (holds : List (Option HoldPart)) : Type 0 where
-  pub there : (name : List ℕ) (place : ℕ) → place_in places name ≡ Some place → IsSome (item_at holds place)
-  pub apart : (name other : List ℕ) (place : ℕ) → place_in places name ≡ Some place → place_in places other ≡ Some place
+  pub there : (name : List ℕ) (place : ℕ) → place_of_name places name ≡ Some place → IsSome (item_at holds place)
+  pub apart : (name other : List ℕ) (place : ℕ) → place_of_name places name ≡ Some place → place_of_name places other ≡ Some place
       → bytes_eq name other ≡ true

@@ -40,9 +40,9 @@ FailsAs (Err (Line errors.Memory)) meant = Unit {0}
 FailsAs (Err (Line (errors.Fault fault))) meant = meant ≡ Some fault
 
 -- want of memory says nothing, and a fault that was told is the one that is meant
-abbrev pub FailsBy : LineError → Option Fault → Type 0
-FailsBy errors.Memory meant = Unit {0}
-FailsBy (errors.Fault fault) meant = meant ≡ Some fault
+abbrev pub IsMeantFault : LineError → Option Fault → Type 0
+IsMeantFault errors.Memory meant = Unit {0}
+IsMeantFault (errors.Fault fault) meant = meant ≡ Some fault
 
 -- A line may stand here, has no fault, and leaves all names as they are.
 abbrev pub MayStand : StoreState → ℕ → Instruction → Type 0

@@ -75,17 +75,17 @@ abbrev pub moves_lines : ℕ → List ℕ → List ℕ
 moves_lines class counts = numbered_text (moves_line class) 0 counts
 
 -- what is told of an open worker, or of one that was settled
-abbrev pub told_by : Option WorkerState → LaneState → Settled → Settled
-told_by None lane settled = settled
-told_by (Some worker) lane settled = record { counts = worker.part.accounts; applied = length (entries lane.lane) }
+abbrev pub settled_told : Option WorkerState → LaneState → Settled → Settled
+settled_told None lane settled = settled
+settled_told (Some worker) lane settled = record { counts = worker.part.accounts; applied = length (entries lane.lane) }
 
 -- how many moves a history has for bumps of each of so many workers
 abbrev pub moves_of_each : ℕ → List Change → List ℕ
 moves_of_each workers history = map (λ worker. moves_of worker history) (range_with_len 0 workers)
 
 -- how many moves of items of a class each lane told
-abbrev pub moves_told : ClassPart → List LaneState → List ℕ
-moves_told class lanes = map (λ this_lane. moved_in class (entries this_lane.lane)) lanes
+abbrev pub lane_moves_told : ClassPart → List LaneState → List ℕ
+lane_moves_told class lanes = map (λ this_lane. moved_in class (entries this_lane.lane)) lanes
 
 -- how many moves a class's history has for bumps of each lane's worker
 abbrev pub moves_of_lanes : ClassPart → List LaneState → List ℕ
@@ -97,7 +97,7 @@ pub record AreMovesOf (config : Config) (lanes : List LaneState) (class : ℕ) (
   pub book : BookView
   pub of_class : IsOfClass class config.classes book
   pub counted : counts ≡ moves_of_each config.workers book.part.history
-  pub told : moves_of_lanes book.part lanes ≡ moves_told book.part lanes
+  pub told : moves_of_lanes book.part lanes ≡ lane_moves_told book.part lanes
 
 -- for each class, how many moves there were for each worker's bumps
 pub record AreMoves (config : Config) (lanes : List LaneState) (moves : List (List ℕ)) : Type 0 where

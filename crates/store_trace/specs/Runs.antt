@@ -89,22 +89,22 @@ pub record TellsTrace (more : Behind) (had left held holds : Option (List ℕ)) 
   pub told : TellsText more held holds input is_fault
 
 -- A fault of the trace is the end of its text; where the trace could not be read, nothing was written.
-abbrev pub StoppedBy : Behind → Option (List ℕ) → Option (List ℕ) → Option (List ℕ) → Option (List ℕ) → SimFault
+abbrev pub StoreStoppedBy : Behind → Option (List ℕ) → Option (List ℕ) → Option (List ℕ) → Option (List ℕ) → SimFault
     → Type 0
-StoppedBy more had left held holds faults.Trace = TellsTrace more had left held holds true
-StoppedBy more had left held holds faults.Read = Keeps held holds
-StoppedBy more had left held holds faults.Size = Keeps held holds × TooManyCame had left
-StoppedBy more had left held holds faults.Write = Unit {0}
-StoppedBy more had left held holds faults.Memory = Unit {0}
-StoppedBy more had left held holds faults.Threads = Unit {0}
-StoppedBy more had left held holds faults.Ring = Unit {0}
-StoppedBy more had left held holds faults.Gate = Unit {0}
+StoreStoppedBy more had left held holds faults.Trace = TellsTrace more had left held holds true
+StoreStoppedBy more had left held holds faults.Read = Keeps held holds
+StoreStoppedBy more had left held holds faults.Size = Keeps held holds × TooManyCame had left
+StoreStoppedBy more had left held holds faults.Write = Unit {0}
+StoreStoppedBy more had left held holds faults.Memory = Unit {0}
+StoreStoppedBy more had left held holds faults.Threads = Unit {0}
+StoreStoppedBy more had left held holds faults.Ring = Unit {0}
+StoreStoppedBy more had left held holds faults.Gate = Unit {0}
 
 -- what a reader had and has left, and what a writer held and holds, by the answer of the run
 abbrev pub StoreRuns : Behind → Option (List ℕ) → Option (List ℕ) → Option (List ℕ) → Option (List ℕ)
     → Result ⊤ SimFault → Type 0
 StoreRuns more had left held holds (Ok _) = TellsTrace more had left held holds false
-StoreRuns more had left held holds (Err e) = StoppedBy more had left held holds e
+StoreRuns more had left held holds (Err e) = StoreStoppedBy more had left held holds e
 
 -- One thread starts no other, and has no gate.
 abbrev pub IsOfOneThread : SimFault → Type 0

@@ -42,8 +42,8 @@ abbrev pub sum_up : ℕ → ℕ → ℕ
 sum_up count more = min (count + more) (2 ^ 64 - 1)
 
 -- what two workers counted
-abbrev pub both : Totals → Totals → Totals
-both totals more = record {
+abbrev pub both_totals : Totals → Totals → Totals
+both_totals totals more = record {
   first = sum_up totals.first more.first;
   already = sum_up totals.already more.already;
   marked = sum_up totals.marked more.marked;

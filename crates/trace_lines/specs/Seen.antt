@@ -10,7 +10,7 @@ use Rattle.trace_lines.specs.declared.lines.Instruction.{Instruction}
 use Rattle.trace_lines.specs.declared.lines.Instruction.TheVariants as instruction
 use Rattle.trace_lines.specs.declared.lines.Line.{Line}
 use Rattle.trace_lines.specs.declared.lines.Line.TheVariants.{Declares, Makes}
-use Rattle.trace_lines.specs.declared.words.Words.{Words}
+use Rattle.trace_lines.specs.declared.words.LineWords.{LineWords}
 
 -- a command with its names as bytes
 abbrev pub seen_instruction : Instruction → lines.Instruction
@@ -45,19 +45,19 @@ seen_said None = None
 seen_said (Some line) = Some (seen_line line)
 
 -- What a line was read as is what it says: reading wants no memory.
-abbrev pub Says : Result (Option Line) LineError → Result (Option lines.Line) Fault → Type 0
-Says (Ok read) said = said ≡ Ok (seen_said read)
-Says (Err errors.Memory) said = ⊥
-Says (Err (errors.Fault fault)) said = said ≡ Err fault
+abbrev pub ReadsAs : Result (Option Line) LineError → Result (Option lines.Line) Fault → Type 0
+ReadsAs (Ok read) said = said ≡ Ok (seen_said read)
+ReadsAs (Err errors.Memory) said = ⊥
+ReadsAs (Err (errors.Fault fault)) said = said ≡ Err fault
 
 -- the words in what is left of a line, if anything is
-abbrev pub words_in : Option (Bor (List ℕ)) → List (List ℕ)
-words_in None = []
-words_in (Some rest) = lines.split_at_spaces rest.now
+abbrev pub words_of_rest : Option (Bor (List ℕ)) → List (List ℕ)
+words_of_rest None = []
+words_of_rest (Some rest) = lines.split_at_spaces rest.now
 
 -- the words that are still to be read, as bytes
-abbrev pub words_of : Words → List (List ℕ)
-words_of words = words_in words.rest
+abbrev pub words_of : LineWords → List (List ℕ)
+words_of words = words_of_rest words.rest
 
 -- What a function returned are all words, which are so many. Else it is COUNT.
 abbrev pub AreWords : {X : Type 0} → ℕ → (X → List (List ℕ)) → Result X Fault → List (List ℕ) → Type 0

@@ -129,9 +129,9 @@ answer_text (answer.Bumped entry) = entry_text entry
 answer_text answer.Nothing = []
 
 -- how it is told what a worker's command answered, or that the worker is closed
-abbrev pub told : Option Answer → List ℕ
-told None = codes "closed"
-told (Some given) = answer_text given
+abbrev pub answer_told : Option Answer → List ℕ
+answer_told None = codes "closed"
+answer_told (Some given) = answer_text given
 
 -- the word of a link, by where its item begins
 abbrev pub link_word : Start → List ℕ
@@ -148,7 +148,7 @@ get_start worker name = codes "get " ++ decimal worker ++ codes " " ++ name ++ c
 
 -- get WORKER NAME, and the answer
 abbrev pub get_line : ℕ → List ℕ → Option Answer → List ℕ
-get_line worker name given = get_start worker name ++ told given ++ codes "\n"
+get_line worker name given = get_start worker name ++ answer_told given ++ codes "\n"
 
 -- get WORKER NAME busy: all tries to take a hold failed
 abbrev pub busy_get_line : ℕ → List ℕ → List ℕ
@@ -162,7 +162,7 @@ get_held_line worker name label hit =
 -- hold WORKER NAME HOLD, and the answer
 abbrev pub hold_line : ℕ → List ℕ → List ℕ → Option Answer → List ℕ
 hold_line worker name hold given =
-    codes "hold " ++ decimal worker ++ codes " " ++ name ++ codes " " ++ hold ++ codes " " ++ told given ++ codes "\n"
+    codes "hold " ++ decimal worker ++ codes " " ++ name ++ codes " " ++ hold ++ codes " " ++ answer_told given ++ codes "\n"
 
 -- hold WORKER NAME HOLD busy: all tries to take a hold failed
 abbrev pub busy_hold_line : ℕ → List ℕ → List ℕ → List ℕ
@@ -172,7 +172,7 @@ busy_hold_line worker name hold =
 -- hit WORKER HOLD, and the answer
 abbrev pub hit_line : ℕ → List ℕ → Option Answer → List ℕ
 hit_line worker hold given =
-    codes "hit " ++ decimal worker ++ codes " " ++ hold ++ codes " " ++ told given ++ codes "\n"
+    codes "hit " ++ decimal worker ++ codes " " ++ hold ++ codes " " ++ answer_told given ++ codes "\n"
 
 -- read HOLD, and the answer
 abbrev pub read_line : List ℕ → Answer → List ℕ
@@ -214,7 +214,7 @@ close_start worker = codes "close " ++ decimal worker ++ codes " "
 
 -- close WORKER, of a worker that was closed before
 abbrev pub closed_line : ℕ → List ℕ
-closed_line worker = close_start worker ++ told None ++ codes "\n"
+closed_line worker = close_start worker ++ answer_told None ++ codes "\n"
 
 -- line NUMBER: WORD
 abbrev pub fault_line : ℕ → Fault → List ℕ

@@ -8,7 +8,7 @@ ghost use Rattle.trace_lines.specs.Seen.{Gives};
 use crate::faults::Fault;
 use bump_rules::Tail;
 
-/// The number with one more digit behind it, below 2^64.
+// The number with one more digit behind it, below 2^64.
 fn with_digit(number: u64, digit: u8) -> Option<u64>
     ensures { SomeIff result (number * 10 + digit < 2 ^ 64) (number * 10 + digit) }
 {

@@ -86,7 +86,7 @@ pub fn read_keyword(word: &[u8]) -> Option<Keyword>
     }
 }
 
-/// The same of the other first words.
+// The same of the other first words.
 fn read_other_keyword(word: &[u8]) -> Option<Keyword>
     ensures { result ≡ keyword_among other_keywords word.now }
 {

@@ -4,12 +4,12 @@ ghost use Rattle.std.specs.Prelude.{◌≡◌, ◌∷◌, []};
 ghost use Rattle.trace_lines.specs.Fields.{U32, U64, Name, Segment};
 ghost use Rattle.trace_lines.specs.Lines.{split_at_spaces, values_of, by_row, line_of_words, is_long, is_skipped};
 ghost use Rattle.trace_lines.specs.Lines.{line_said, rest_fault};
-ghost use Rattle.trace_lines.specs.Seen.{seen_line, words_of, Gives, Says};
+ghost use Rattle.trace_lines.specs.Seen.{seen_line, words_of, Gives, ReadsAs};
 
 use crate::faults::{Fault, LineError};
 use crate::fields::{name_field, segment_field, u32_field, u64_field};
 use crate::keywords::{Keyword, read_keyword};
-use crate::words::Words;
+use crate::words::LineWords;
 use bump_rules::{ClassConfig, Start, Tail};
 
 /// What a `store` line says. The ranges are looked at where the store is opened.
@@ -175,19 +175,19 @@ pub enum Line<'a> {
     Makes(Instruction<'a>),
 }
 
-fn number(words: Words<'_>) -> Result<u32, Fault>
+fn number(words: LineWords<'_>) -> Result<u32, Fault>
     ensures { Gives (λ number. (number, tt)) result (values_of (U32 ∷ []) (words_of words.entry)) }
 {
     u32_field(words.one()?)
 }
 
-fn name<'a>(words: Words<'a>) -> Result<&'a str, Fault>
+fn name<'a>(words: LineWords<'a>) -> Result<&'a str, Fault>
     ensures { Gives (λ name. (name.now, tt)) result (values_of (Name ∷ []) (words_of words.entry)) }
 {
     name_field(words.one()?)
 }
 
-fn number_and_name<'a>(words: Words<'a>) -> Result<(u32, &'a str), Fault>
+fn number_and_name<'a>(words: LineWords<'a>) -> Result<(u32, &'a str), Fault>
     ensures { Gives (λ values. (values.0, (values.1.now, tt)))
         result (values_of (U32 ∷ Name ∷ []) (words_of words.entry)) }
 {
@@ -195,7 +195,7 @@ fn number_and_name<'a>(words: Words<'a>) -> Result<(u32, &'a str), Fault>
     Ok((u32_field(number)?, name_field(name)?))
 }
 
-fn number_and_segment(words: Words<'_>) -> Result<(u32, Tail), Fault>
+fn number_and_segment(words: LineWords<'_>) -> Result<(u32, Tail), Fault>
     ensures { Gives (λ values. (values.0, (values.1, tt)))
         result (values_of (U32 ∷ Segment ∷ []) (words_of words.entry)) }
 {
@@ -203,7 +203,7 @@ fn number_and_segment(words: Words<'_>) -> Result<(u32, Tail), Fault>
     Ok((u32_field(number)?, segment_field(tail)?))
 }
 
-fn number_and_names<'a>(words: Words<'a>) -> Result<(u32, &'a str, &'a str), Fault>
+fn number_and_names<'a>(words: LineWords<'a>) -> Result<(u32, &'a str, &'a str), Fault>
     ensures { Gives (λ values. (values.0, (values.1.now, (values.2.now, tt))))
         result (values_of (U32 ∷ Name ∷ Name ∷ []) (words_of words.entry)) }
 {
@@ -211,7 +211,7 @@ fn number_and_names<'a>(words: Words<'a>) -> Result<(u32, &'a str, &'a str), Fau
     Ok((u32_field(number)?, name_field(name)?, name_field(hold)?))
 }
 
-fn name_and_numbers<'a>(words: Words<'a>) -> Result<(&'a str, u32, u64), Fault>
+fn name_and_numbers<'a>(words: LineWords<'a>) -> Result<(&'a str, u32, u64), Fault>
     ensures { Gives (λ values. (values.0.now, (values.1, (values.2, tt))))
         result (values_of (Name ∷ U32 ∷ U64 ∷ []) (words_of words.entry)) }
 {
@@ -219,7 +219,7 @@ fn name_and_numbers<'a>(words: Words<'a>) -> Result<(&'a str, u32, u64), Fault>
     Ok((name_field(name)?, u32_field(number)?, u64_field(label)?))
 }
 
-fn three_numbers(words: Words<'_>) -> Result<(u32, u32, u32), Fault>
+fn three_numbers(words: LineWords<'_>) -> Result<(u32, u32, u32), Fault>
     ensures { Gives (λ values. (values.0, (values.1, (values.2, tt))))
         result (values_of (U32 ∷ U32 ∷ U32 ∷ []) (words_of words.entry)) }
 {
@@ -227,7 +227,7 @@ fn three_numbers(words: Words<'_>) -> Result<(u32, u32, u32), Fault>
     Ok((u32_field(first)?, u32_field(second)?, u32_field(third)?))
 }
 
-fn four_numbers(words: Words<'_>) -> Result<(u32, u32, u32, u32), Fault>
+fn four_numbers(words: LineWords<'_>) -> Result<(u32, u32, u32, u32), Fault>
     ensures { Gives (λ values. (values.0, (values.1, (values.2, (values.3, tt)))))
         result (values_of (U32 ∷ U32 ∷ U32 ∷ U32 ∷ []) (words_of words.entry)) }
 {
@@ -240,8 +240,8 @@ fn four_numbers(words: Words<'_>) -> Result<(u32, u32, u32, u32), Fault>
     ))
 }
 
-/// The table of lines: of each first word its fields, and the line that it is with such fields.
-fn by_keyword<'a>(keyword: Keyword, words: Words<'a>) -> Result<Line<'a>, Fault>
+// The table of lines: of each first word its fields, and the line that it is with such fields.
+fn by_keyword<'a>(keyword: Keyword, words: LineWords<'a>) -> Result<Line<'a>, Fault>
     ensures { Gives seen_line result (by_row keyword (words_of words.entry)) }
 {
     let instruction = match keyword {
@@ -322,26 +322,26 @@ fn by_keyword<'a>(keyword: Keyword, words: Words<'a>) -> Result<Line<'a>, Fault>
     Ok(Line::Makes(instruction))
 }
 
-/// What a line says, by its words.
+// What a line says, by its words.
 #[tactic(auto, unfolding(crate::specs::Lines::line_of_words, crate::specs::Lines::line_of))]
 fn read<'a>(line: &'a [u8]) -> Result<Line<'a>, Fault>
     ensures { Gives seen_line result (line_of_words (split_at_spaces line.entry.now)) }
 {
-    let (word, fields) = Words::first(line);
+    let (word, fields) = LineWords::first(line);
     match read_keyword(word) {
         Some(keyword) => by_keyword(keyword, fields),
         None => Err(Fault::Command),
     }
 }
 
-/// More bytes than a line may have.
+// More bytes than a line may have.
 fn is_long(line: &[u8]) -> bool
     ensures { result ≡ is_long line.now }
 {
     line.len() > 255
 }
 
-/// A line without bytes, or a comment.
+// A line without bytes, or a comment.
 fn is_skipped(line: &[u8]) -> bool
     ensures { result ≡ is_skipped line.now }
 {
@@ -355,7 +355,7 @@ fn is_skipped(line: &[u8]) -> bool
 /// then field by field from the left NUMBER, NAME and SEGMENT.
 #[tactic(auto, unfolding(crate::specs::Lines::line_said))]
 pub fn read_line<'a>(line: &'a [u8]) -> Result<Option<Line<'a>>, LineError>
-    ensures { Says result (line_said line.entry.now) }
+    ensures { ReadsAs result (line_said line.entry.now) }
 {
     if is_long(line) {
         return Err(LineError::Fault(Fault::Long));

@@ -4,7 +4,7 @@
 ghost use Rattle.std.specs.Prelude.{◌≡◌, ◌++◌, OnOk, codes, decimal};
 ghost use Rattle.trace_lines.specs.Text.{id_text, flags_text, item_text, chunk_text, place_word, is_shown, list_start};
 ghost use Rattle.trace_lines.specs.Text.{accounts_text, accounts_line, touch_text, pulled_text, applied_text};
-ghost use Rattle.trace_lines.specs.Text.{entry_text, answer_text, told, link_word, set_line, get_line, busy_get_line};
+ghost use Rattle.trace_lines.specs.Text.{entry_text, answer_text, answer_told, link_word, set_line, get_line, busy_get_line};
 ghost use Rattle.trace_lines.specs.Text.{get_held_line, hold_line, busy_hold_line, hit_line, read_line, drop_line};
 ghost use Rattle.trace_lines.specs.Text.{del_line, pull_line, sweep_line, bump_line, drain_line, moves_line};
 ghost use Rattle.trace_lines.specs.Text.{close_start, closed_line, fault_line};
@@ -163,7 +163,7 @@ fn put_touch(out: &mut Vec<u8>, touch: Touch) -> Result<(), AllocError>
     }
 }
 
-/// A word, and an item's id behind it.
+// A word, and an item's id behind it.
 fn put_with_id(out: &mut Vec<u8>, word: &[u8], id: ItemId) -> Result<(), AllocError>
     ensures { OnOk result (out.new.items ≡ out.old.items ++ word.now ++ id_text id) }
 {
@@ -237,9 +237,9 @@ fn put_answer(out: &mut Vec<u8>, answer: Answer) -> Result<(), AllocError>
     }
 }
 
-/// What a worker's command answered, or that the worker is closed.
+// What a worker's command answered, or that the worker is closed.
 fn put_told(out: &mut Vec<u8>, answer: Option<Answer>) -> Result<(), AllocError>
-    ensures { OnOk result (out.new.items ≡ out.old.items ++ told answer) }
+    ensures { OnOk result (out.new.items ≡ out.old.items ++ answer_told answer) }
 {
     match answer {
         Some(answer) => put_answer(out, answer),
@@ -274,7 +274,7 @@ pub fn put_set(
     Ok(())
 }
 
-/// The first words of a line by a worker: the command, the worker and a name.
+// The first words of a line by a worker: the command, the worker and a name.
 fn put_start(out: &mut Vec<u8>, command: &[u8], worker: u32, name: &str) -> Result<(), AllocError>
     ensures { OnOk result (out.new.items
         ≡ out.old.items ++ command.now ++ decimal worker ++ codes " " ++ name.now ++ codes " ") }
@@ -463,7 +463,7 @@ pub fn put_moves(out: &mut Vec<u8>, class: u32, worker: u32, count: u64) -> Resu
     Ok(())
 }
 
-/// The first words of the line of a `close`.
+// The first words of the line of a `close`.
 fn put_close_start(out: &mut Vec<u8>, worker: u32) -> Result<(), AllocError>
     ensures { OnOk result (out.new.items ≡ out.old.items ++ close_start worker) }
 {

@@ -9,39 +9,39 @@ use crate::faults::Fault;
 
 /// The words of a line that are still to be read.
 #[derive(Clone, Copy)]
-pub struct Words<'a> {
+pub struct LineWords<'a> {
     /// The next word and what stands behind it. None where no word is left.
     rest: Option<&'a [u8]>,
 }
 
-/// The place of the first space.
+// The place of the first space.
 fn space(bytes: &[u8]) -> Option<usize>
     ensures { result ≡ position (λ b. b == 32) bytes.now }
 {
     bytes.iter().position(|b| *b == b' ')
 }
 
-impl<'a> Words<'a> {
+impl<'a> LineWords<'a> {
     /// The first word of a line, and those behind it. A line without bytes has one word, without bytes.
-    pub fn first(line: &'a [u8]) -> (&'a [u8], Words<'a>)
+    pub fn first(line: &'a [u8]) -> (&'a [u8], LineWords<'a>)
         ensures { split_at_spaces line.entry.now ≡ result.0.now ∷ words_of result.1 }
     {
         match space(line) {
             Some(end) => {
                 let rest = Some(&line[end + 1..]);
-                (&line[..end], Words { rest })
+                (&line[..end], LineWords { rest })
             }
-            None => (line, Words { rest: None }),
+            None => (line, LineWords { rest: None }),
         }
     }
 
-    /// The next word, and those behind it. COUNT where no word is left.
-    fn next(self) -> Result<(&'a [u8], Words<'a>), Fault>
+    // The next word, and those behind it. COUNT where no word is left.
+    fn next(self) -> Result<(&'a [u8], LineWords<'a>), Fault>
         ensures { MatchResult result (λ found. words_of self.entry ≡ found.0.now ∷ words_of found.1)
             (λ e. (words_of self.entry ≡ []) × (e ≡ Count)) }
     {
         match self.rest {
-            Some(rest) => Ok(Words::first(rest)),
+            Some(rest) => Ok(LineWords::first(rest)),
             None => Err(Fault::Count),
         }
     }

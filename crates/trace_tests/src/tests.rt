@@ -32,7 +32,7 @@ use worked::{
     WORKED_FAULTS,
 };
 
-/// The text that a trace gives, and how its run ends.
+// The text that a trace gives, and how its run ends.
 fn text_by(alloc: Global, keys: RandomState, trace: &[u8]) -> (Vec<u8>, Result<(), SimFault>) {
     let mut reader = Counted::new(trace);
     let mut writer = Counted::new(Vec::new(alloc));
@@ -40,7 +40,7 @@ fn text_by(alloc: Global, keys: RandomState, trace: &[u8]) -> (Vec<u8>, Result<(
     (writer.into_inner(), ended)
 }
 
-/// The same of a run on a store.
+// The same of a run on a store.
 fn serial_text_by(
     rt: &impl Wait,
     alloc: Global,
@@ -53,12 +53,12 @@ fn serial_text_by(
     (writer.into_inner(), ended)
 }
 
-/// The text by the model, with keys of its own.
+// The text by the model, with keys of its own.
 fn text_of(rt: &HostRuntime, trace: &[u8]) -> Result<(Vec<u8>, Result<(), SimFault>), Fail> {
     Ok(text_by(rt.alloc(), RandomState::new(rt)?, trace))
 }
 
-/// A run of this trace ended so, with this text.
+// A run of this trace ended so, with this text.
 fn expect_run(
     rt: &impl Abort,
     trace: &str,
@@ -70,7 +70,7 @@ fn expect_run(
     assert!(rt; told.0.as_slice() == text, "{trace}");
 }
 
-/// Each trace gives its text, and its run ends so, by the model and on a store.
+// Each trace gives its text, and its run ends so, by the model and on a store.
 fn all_give(
     rt: &(impl Abort + Wait),
     alloc: Global,
@@ -87,7 +87,7 @@ fn all_give(
     }
 }
 
-/// The same with keys of their own.
+// The same with keys of their own.
 fn gives(
     rt: &(impl Abort + Wait + RandomSource),
     alloc: Global,
@@ -138,7 +138,7 @@ fn worked_ends(rt: HostRuntime) -> Result<(), Fail> {
     gives(&rt, rt.alloc(), &ENDS, Ok(()))
 }
 
-/// The last generations of a chunk, and numbers of bumps far behind the room of a ring.
+// The last generations of a chunk, and numbers of bumps far behind the room of a ring.
 #[test]
 fn worked_last_counts(rt: HostRuntime) -> Result<(), Fail> {
     gives(&rt, rt.alloc(), &LAST_COUNTS, Ok(()))
@@ -159,7 +159,7 @@ fn every_line(rt: HostRuntime) -> Result<(), Fail> {
     gives(&rt, rt.alloc(), &[EVERY_LINE, MIXED_LINES], Ok(()))
 }
 
-/// Each fault word, by a trace that is as short as can be.
+// Each fault word, by a trace that is as short as can be.
 #[test]
 fn every_fault_of_a_line(rt: HostRuntime) -> Result<(), Fail> {
     gives(&rt, rt.alloc(), &EVERY_LINE_FAULT, Err(SimFault::Trace))
@@ -170,7 +170,7 @@ fn every_fault_of_a_store(rt: HostRuntime) -> Result<(), Fail> {
     gives(&rt, rt.alloc(), &EVERY_STORE_FAULT, Err(SimFault::Trace))
 }
 
-/// A word too few or too many, each field wrong, and what may not stand behind `par`.
+// A word too few or too many, each field wrong, and what may not stand behind `par`.
 #[test]
 fn counts_of_more_lines(rt: HostRuntime) -> Result<(), Fail> {
     gives(&rt, rt.alloc(), &LINE_COUNTS, Err(SimFault::Trace))
@@ -191,7 +191,7 @@ fn order_of_more_lines(rt: HostRuntime) -> Result<(), Fail> {
     gives(&rt, rt.alloc(), &LINE_ORDER, Err(SimFault::Trace))
 }
 
-/// Of several faults of a line the first in the order is told.
+// Of several faults of a line the first in the order is told.
 #[test]
 fn pairs_of_words(rt: HostRuntime) -> Result<(), Fail> {
     gives(&rt, rt.alloc(), &PAIRS_OF_WORDS, Err(SimFault::Trace))
@@ -212,13 +212,13 @@ fn pairs_of_stores(rt: HostRuntime) -> Result<(), Fail> {
     gives(&rt, rt.alloc(), &PAIRS_OF_STORES, Err(SimFault::Trace))
 }
 
-/// Faults that surprise.
+// Faults that surprise.
 #[test]
 fn surprises(rt: HostRuntime) -> Result<(), Fail> {
     gives(&rt, rt.alloc(), &SURPRISES, Err(SimFault::Trace))
 }
 
-/// Each kind of line with a word too few and one too many, and each of its fields wrong.
+// Each kind of line with a word too few and one too many, and each of its fields wrong.
 #[test]
 fn counts_of_each_line(rt: HostRuntime) -> Result<(), Fail> {
     gives(&rt, rt.alloc(), &COUNT_FAULTS, Err(SimFault::Trace))
@@ -234,7 +234,7 @@ fn order_of_each_line(rt: HostRuntime) -> Result<(), Fail> {
     gives(&rt, rt.alloc(), &ORDER_FAULTS, Err(SimFault::Trace))
 }
 
-/// How the run of a trace ends, and the writer that looked at its text.
+// How the run of a trace ends, and the writer that looked at its text.
 fn run_expecting<'a>(
     alloc: Global,
     keys: RandomState,
@@ -247,10 +247,10 @@ fn run_expecting<'a>(
     (ended, writer.into_inner())
 }
 
-/// Whichever one allocation is refused: the run ends with its whole text, or as Memory with a front of it, and then the
-/// same run made again ends with its whole text. A refusal that a `Vec` makes up for, as it asks for less, ends no run;
-/// so the test makes one allocation more behind the run, and says so where that one was refused. Whoever refuses each
-/// in turn knows by this that no allocation of the run is left.
+// Whichever one allocation is refused: the run ends with its whole text, or as Memory with a front of it, and then the
+// same run made again ends with its whole text. A refusal that a `Vec` makes up for, as it asks for less, ends no run;
+// so the test makes one allocation more behind the run, and says so where that one was refused. Whoever refuses each
+// in turn knows by this that no allocation of the run is left.
 #[test]
 fn a_refused_allocation_leaves_a_front_of_the_text(rt: HostRuntime) -> Result<(), Fail> {
     let keys = RandomState::new(&rt)?;
@@ -265,7 +265,7 @@ fn a_refused_allocation_leaves_a_front_of_the_text(rt: HostRuntime) -> Result<()
     tell_left(&rt)
 }
 
-/// How the run of a trace on a store ends, and the writer that looked at its text.
+// How the run of a trace on a store ends, and the writer that looked at its text.
 fn run_serial_expecting<'a>(
     rt: &impl Wait,
     alloc: Global,
@@ -279,7 +279,7 @@ fn run_serial_expecting<'a>(
     (ended, writer.into_inner())
 }
 
-/// The same of a run on a store.
+// The same of a run on a store.
 #[test]
 fn a_refused_allocation_of_a_serial_run(rt: HostRuntime) -> Result<(), Fail> {
     let keys = RandomState::new(&rt)?;
@@ -294,7 +294,7 @@ fn a_refused_allocation_of_a_serial_run(rt: HostRuntime) -> Result<(), Fail> {
     tell_left(&rt)
 }
 
-/// A line of `show` that is longer than what is gathered before it is written.
+// A line of `show` that is longer than what is gathered before it is written.
 #[test]
 fn a_line_over_64_kib(rt: HostRuntime) -> Result<(), Fail> {
     let mut text = Vec::new(rt.alloc());
@@ -313,7 +313,7 @@ fn a_line_over_64_kib(rt: HostRuntime) -> Result<(), Fail> {
     Ok(())
 }
 
-/// A trace of 16,777,216 bytes whose first line has a fault, so that no other line is run.
+// A trace of 16,777,216 bytes whose first line has a fault, so that no other line is run.
 fn longest_trace(alloc: Global) -> Result<Vec<u8>, AllocError> {
     let comment = [b'#'; 256];
     let mut trace = Vec::new(alloc);
@@ -325,7 +325,7 @@ fn longest_trace(alloc: Global) -> Result<Vec<u8>, AllocError> {
     Ok(trace)
 }
 
-/// A trace of exactly 16,777,216 bytes is taken.
+// A trace of exactly 16,777,216 bytes is taken.
 #[test]
 fn the_longest_trace(rt: HostRuntime) -> Result<(), Fail> {
     let trace = longest_trace(rt.alloc())?;
@@ -336,7 +336,7 @@ fn the_longest_trace(rt: HostRuntime) -> Result<(), Fail> {
     Ok(())
 }
 
-/// A trace of a byte more is not taken, whatever stands in it, and nothing is written.
+// A trace of a byte more is not taken, whatever stands in it, and nothing is written.
 #[test]
 fn a_byte_more_than_the_longest_trace(rt: HostRuntime) -> Result<(), Fail> {
     let keys = RandomState::new(&rt)?;
@@ -349,7 +349,7 @@ fn a_byte_more_than_the_longest_trace(rt: HostRuntime) -> Result<(), Fail> {
     Ok(())
 }
 
-/// A trace with as many holds of one item as a limit of references allows, and one more, and its text.
+// A trace with as many holds of one item as a limit of references allows, and one more, and its text.
 fn most_holds(alloc: Global, limit: u32) -> Result<(Vec<u8>, Vec<u8>), Fail> {
     let mut trace = Vec::new(alloc);
     let mut text = Vec::new(alloc);
@@ -382,21 +382,21 @@ fn expect_most_holds(
     Ok(())
 }
 
-/// As many holds as a count of 16 bits has room for.
+// As many holds as a count of 16 bits has room for.
 #[test]
 fn holds_of_16_bits(rt: HostRuntime) -> Result<(), Fail> {
     let keys = RandomState::new(&rt)?;
     expect_most_holds(&rt, rt.alloc(), keys, 65_535)
 }
 
-/// One hold more than a count of 16 bits has room for.
+// One hold more than a count of 16 bits has room for.
 #[test]
 fn holds_past_16_bits(rt: HostRuntime) -> Result<(), Fail> {
     let keys = RandomState::new(&rt)?;
     expect_most_holds(&rt, rt.alloc(), keys, 65_536)
 }
 
-/// Each fault of a run says what it is.
+// Each fault of a run says what it is.
 #[test]
 fn faults_are_told(rt: HostRuntime) -> Result<(), Fail> {
     let told = [

@@ -60,7 +60,7 @@ const FAULTS: [(Numbers, &[Sizes], Option<ConfigFault>); 13] = [
     ((64, 65_536, 1_048_575, u32::MAX), &[(2, 5, 5)], None),
 ];
 
-/// A configuration of these numbers and classes has this fault first, or none.
+// A configuration of these numbers and classes has this fault first, or none.
 fn expect_fault(
     rt: &impl Abort,
     alloc: Global,

@@ -101,7 +101,7 @@ fn lists_are_read_front_first(rt: HostRuntime) -> Result<(), Fail> {
     Ok(read_lists(&rt, rt.alloc(), &mut world)?)
 }
 
-/// Whoever holds a World can tell that it is lawful, and as the headline says.
+// Whoever holds a World can tell that it is lawful, and as the headline says.
 fn is_as_promised(world: &World)
     ensures lawful { IsLawful world.now }
     ensures headline { Headline world.now }
@@ -109,12 +109,12 @@ fn is_as_promised(world: &World)
     world.promise();
 }
 
-/// The same, for a caller that makes no use of it.
+// The same, for a caller that makes no use of it.
 fn look_at_promise(world: &World) {
     is_as_promised(world);
 }
 
-/// How many chunks are UNUSED, over all classes: a caller that can test its own arguments.
+// How many chunks are UNUSED, over all classes: a caller that can test its own arguments.
 fn count_unused(world: &World) -> usize {
     let mut count: usize = 0;
     for class in 0..world.classes() {

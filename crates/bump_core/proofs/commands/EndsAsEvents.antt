@@ -26,7 +26,7 @@ use Rattle.bump_state.specs.State.{State, chunk_at, head_at, class_at, no_chunk,
 use Rattle.bump_state.specs.Worlds.{IsLawful, owns, place, place_in}
 use Rattle.bump_state.specs.Events.{is_enabled, after, unlink, close}
 use Rattle.bump_core.specs.Runs.{run_of}
-use Rattle.bump_core.specs.Commands.{is_allowed, events_of, command_after, unlinked_as, freed_by, unlink_item, look_of, unlink_events, looks_at}
+use Rattle.bump_core.specs.Commands.{is_allowed, events_of, command_after, unlinked_as, with_chunk_freed, unlink_item, look_of, unlink_events, looks_at}
 use Rattle.bump_rules.specs.Sweeps.{unheld, swept_changes, swept_of}
 use Rattle.bump_rules.proofs.SixLists.{times_front}
 use Rattle.bump_state.proofs.Tiles.{class_within}
@@ -56,9 +56,9 @@ module _ (s : State) (o : IsLawful s) (c : ℕ) (in_range : c < length s.chunks)
 
   -- a look at it is a sweep where nobody holds it
   pub look_made : (l : ItemId) (e : Ended) → l.chunk ≡ c → (head_at s c).generation ≡ l.generation
-      → ended_of (head_at s c) ≡ e → run_of s (look_of c e ∷ []) ≡ Some (freed_by s l e)
+      → ended_of (head_at s c) ≡ e → run_of s (look_of c e ∷ []) ≡ Some (with_chunk_freed s l e)
   look_made l Deferred of generation comes = run_step s s (event.Load c) [] (lt-ltb c (length s.chunks) in_range) refl
-  look_made l Freed of generation comes = run_step s (freed_by s l Freed) (event.Sweep c) []
+  look_made l Freed of generation comes = run_step s (with_chunk_freed s l Freed) (event.Sweep c) []
       (may_sweep (ended_freed (head_at s c) comes))
       (ap (λ (m : ItemId). with_change s (class_of s m.chunk) (freed_change m)) (λ i. life (sym of i) (generation i)))
 

@@ -11,7 +11,7 @@ use Rattle.bump_rules.specs.Lists.{IsListed}
 use Rattle.bump_rules.specs.Heads.{unlinked_head}
 use Rattle.bump_state.specs.State.{State, head_at, class_at, class_of, with_head, with_change, with_changes, is_current, is_linked}
 use Rattle.bump_state.specs.Events.{unlink}
-use Rattle.bump_core.specs.Commands.{unlinked_as, unlink_item, freed_by}
+use Rattle.bump_core.specs.Commands.{unlinked_as, unlink_item, with_chunk_freed}
 use Rattle.bump_state.specs.Worlds.{IsLawful}
 use Rattle.bump_state.proofs.Enabled.{current_from}
 use Rattle.bump_state.proofs.Fronts.{listed_at}
@@ -48,11 +48,11 @@ module _ (s : State) (l : ItemId) (k : ℕ) (h : Head) (of : k ≡ class_of s l.
       (class_of s l.chunk) (change.Unlinked l ∷ d ∷ [])) entry
       ∙ (sym (two_changes (with_head s l.chunk (unlinked_head (head_at s l.chunk))) l.chunk (change.Unlinked l)
       (freed_change l) within)
-      ∙ ap (freed_by (unlink s l) l) (sym comes))))
+      ∙ ap (with_chunk_freed (unlink s l) l) (sym comes))))
 
   -- so does one whose chunk others hold
   pub deferred_at_once : unlinked_as s l ≡ Deferred → with_head (with_change s k (change.Unlinked l)) l.chunk h
       ≡ unlink_item s l
   deferred_at_once comes = ap (λ (j : ℕ). with_head (with_change s j (change.Unlinked l)) l.chunk h) of
       ∙ (ap (λ (g : Head). with_head (with_change s (class_of s l.chunk) (change.Unlinked l)) l.chunk g) is
-      ∙ ap (freed_by (unlink s l) l) (sym comes))
+      ∙ ap (with_chunk_freed (unlink s l) l) (sym comes))

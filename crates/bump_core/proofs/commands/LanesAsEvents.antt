@@ -14,8 +14,8 @@ use Rattle.bump_rules.specs.declared.history.Cause.TheVariants.{Bump as BumpOf}
 use Rattle.bump_rules.specs.declared.history.Change.{Change}
 use Rattle.bump_rules.specs.declared.history.Change.TheVariants as change
 use Rattle.bump_rules.specs.declared.bumps.Bump.{Bump}
-use Rattle.bump_rules.specs.declared.lanes.Lane.{Lane}
-use Rattle.bump_rules.specs.declared.lanes.Lane.TheVariants as lane
+use Rattle.bump_rules.specs.declared.lanes.LaneStage.{LaneStage}
+use Rattle.bump_rules.specs.declared.lanes.LaneStage.TheVariants as lane
 use Rattle.bump_rules.specs.declared.bumps.AppliedBump.{AppliedBump}
 use Rattle.bump_rules.specs.declared.bumps.Outcome.{Outcome}
 use Rattle.bump_rules.specs.declared.bumps.Outcome.TheVariants as outcome
@@ -30,7 +30,7 @@ use Rattle.bump_rules.specs.Heads.{one_fewer, cleared_head, moved_head}
 use Rattle.bump_state.specs.Events.{is_enabled, after, next_bump, ending, with_time, take_bump, with_lane, clear_for, move_for, alight}
 use Rattle.bump_rules.specs.Lanes.{carried, tried, applied_now, cleared_active, is_empty, outcome_tried, ending_at, bump_of, applied_bump, is_half_made}
 use Rattle.bump_core.specs.Runs.{run_of}
-use Rattle.bump_core.specs.Commands.{is_allowed, events_of, command_after, bump_next, outcome_next, gone_as, bumped_chunk, bumped_worker, bumped_lists, freed_by, look_of, apply_bump, take_events, apply_events}
+use Rattle.bump_core.specs.Commands.{is_allowed, events_of, command_after, bump_next, outcome_next, gone_as, bumped_chunk, bumped_worker, bumped_lists, with_chunk_freed, look_of, apply_bump, take_events, apply_events}
 use Rattle.bump_rules.proofs.Laws.{dying_where_unlinked}
 use Rattle.bump_state.proofs.Ring.{next_in_ring}
 use Rattle.bump_state.proofs.LawfulStates.{one_if_same, referred_in_range, referred_used, referred_current, in_ring_referred, aboard_referred}
@@ -137,7 +137,7 @@ module _ (s : State) (b : Bump) (w now : ℕ) (c_in : b.life.chunk < length s.ch
   x = chunk_at s c
 
   -- the worker when the lane is so far
-  abbrev y : Lane → WorkerState
+  abbrev y : LaneStage → WorkerState
   y l = record (worker_at s w) { received = received; lane = l }
 
   -- the worker when the bump is applied
@@ -169,7 +169,7 @@ module _ (s : State) (b : Bump) (w now : ℕ) (c_in : b.life.chunk < length s.ch
   -- and its head is looked at: it was DYING, since its bump had a reference
   gone : IsLawful s → IsLawful taken → 0 < references s c b.life.generation → h.linked ≡ false
       → run_of taken (event.Try w ∷ event.Alight w ∷ look_of c (ended_of (one_fewer h)) ∷ [])
-      ≡ Some (freed_by left b.life (gone_as s c))
+      ≡ Some (with_chunk_freed left b.life (gone_as s c))
   gone o lawful some off =
       let read = chunk_reads s c w c_in w_in s.classes (bumped_chunk x now outcome.Gone) (z outcome.Gone) in
       let_go off (look_of c (ended_of (one_fewer h)) ∷ [])
@@ -260,7 +260,7 @@ Made s w now m = run_of s (option_map_or (λ (b : Bump). take_events w (worker_a
     (head_at s b.life.chunk) w now b.life.chunk) m []) ≡ Some (option_map_or (apply_bump s w now) m s)
 
 -- the worker when it received these and its lane is so far
-abbrev laned : State → ℕ → List ItemId → Lane → WorkerState
+abbrev laned : State → ℕ → List ItemId → LaneStage → WorkerState
 laned s w r l = record (worker_at s w) { received = r; lane = l }
 
 -- applying the next bump of a worker is its events
@@ -351,7 +351,7 @@ next_made s o w now allowed = by (worker_at s w).lane refl
         here None next bump = subst (Made s w now) (sym bump) refl
         here (Some l) next bump = subst (Made s w now) (sym bump) (waiting_made l is next bump)
 
-    by : (l : Lane) → (worker_at s w).lane ≡ l → Made s w now (bump_next (worker_at s w))
+    by : (l : LaneStage) → (worker_at s w).lane ≡ l → Made s w now (bump_next (worker_at s w))
     by lane.Empty is = empty_made is (next_bump (worker_at s w)) refl
     by (lane.Carrying b) is = subst (Made s w now) (sym (ap (λ l. bump_next (record (worker_at s w) {
       lane = l;

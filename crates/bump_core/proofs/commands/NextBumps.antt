@@ -4,8 +4,8 @@ use Rattle.std.specs.Prelude.{IfSome}
 use Rattle.std.specs.Option.{option_map_or}
 use Rattle.bump_rules.specs.declared.items.ItemId.{ItemId}
 use Rattle.bump_rules.specs.declared.bumps.Bump.{Bump}
-use Rattle.bump_rules.specs.declared.lanes.Lane.{Lane}
-use Rattle.bump_rules.specs.declared.lanes.Lane.TheVariants as lane
+use Rattle.bump_rules.specs.declared.lanes.LaneStage.{LaneStage}
+use Rattle.bump_rules.specs.declared.lanes.LaneStage.TheVariants as lane
 use Rattle.bump_rules.specs.Lives.{one_if, count_of}
 use Rattle.bump_rules.specs.Lanes.{bump_of}
 use Rattle.bump_state.specs.State.{State, WorkerState, worker_at}
@@ -19,7 +19,7 @@ use Rattle.bump_state.proofs.Ring.{next_in_ring}
 next_counted : (x : WorkerState) (b : Bump) → bump_next x ≡ Some b → 0 < bumps_of b.life x
 next_counted x b next = by x.lane refl
   where
-    read : (z : Lane) → x.lane ≡ z → bump_next (record x { lane = z }) ≡ Some b
+    read : (z : LaneStage) → x.lane ≡ z → bump_next (record x { lane = z }) ≡ Some b
     read z is = sym (ap (λ l. bump_next (record x { lane = l })) is) ∙ next
 
     empty : (m : Option ItemId) → next_bump x ≡ m → option_map_or (λ l. Some (bump_of (length x.received) l)) m None
@@ -32,7 +32,7 @@ next_counted x b next = by x.lane refl
       one_if_same b.life,
     )
 
-    by : (z : Lane) → x.lane ≡ z → 0 < bumps_of b.life x
+    by : (z : LaneStage) → x.lane ≡ z → 0 < bumps_of b.life x
     by lane.Empty is = empty (next_bump x) refl (read lane.Empty is)
     by (lane.Carrying d) is = let same : d ≡ b = cc (read (lane.Carrying d) is) in
         omega (arith, ap (in_lane_of b.life) is, ap (λ (z : Bump). one_if b.life z.life) same, one_if_same b.life)

@@ -8,8 +8,8 @@ use Rattle.bump_rules.specs.declared.places.Segment.TheVariants as segment
 use Rattle.bump_rules.specs.declared.items.ItemId.{ItemId}
 use Rattle.bump_rules.specs.declared.items.Head.{Head}
 use Rattle.bump_rules.specs.declared.bumps.Bump.{Bump}
-use Rattle.bump_rules.specs.declared.lanes.Lane.{Lane}
-use Rattle.bump_rules.specs.declared.lanes.Lane.TheVariants as lane
+use Rattle.bump_rules.specs.declared.lanes.LaneStage.{LaneStage}
+use Rattle.bump_rules.specs.declared.lanes.LaneStage.TheVariants as lane
 use Rattle.bump_rules.specs.declared.bumps.AppliedBump.{AppliedBump}
 use Rattle.bump_rules.specs.declared.events.Event.TheVariants as event
 use Rattle.bump_rules.specs.Lives.{life, is_same, one_if, count_of}
@@ -135,7 +135,7 @@ clear_for_lawful s w b o inside is on cold = both_marked s b.life.chunk false w 
     here = chunk_here s b.life.chunk (record (chunk_at s b.life.chunk) { head = h }) within
 
 -- the bump that a lane applies is the one aboard
-pub applied_alone_aboard : (x : Lane) (b : Bump) → applied_now x ≡ Some b → aboard x ≡ b ∷ []
+pub applied_alone_aboard : (x : LaneStage) (b : Bump) → applied_now x ≡ Some b → aboard x ≡ b ∷ []
 applied_alone_aboard lane.Empty b is = absurd (let u : ⊥ = cc in u)
 applied_alone_aboard (lane.Carrying a) b is = absurd (let u : ⊥ = cc in u)
 applied_alone_aboard (lane.Tried a) b is = ap (λ (z : Bump). z ∷ []) (let same : a ≡ b = cc in same)
@@ -143,7 +143,7 @@ applied_alone_aboard (lane.Cleared a found) b is = ap (λ (z : Bump). z ∷ []) 
 applied_alone_aboard (lane.Moved a) b is = ap (λ (z : Bump). z ∷ []) (let same : a ≡ b = cc in same)
 
 -- and its life is the one that counts
-pub applied_counts_for : (x : Lane) (b : Bump) → applied_now x ≡ Some b → (m : ItemId) → in_lane_of m x
+pub applied_counts_for : (x : LaneStage) (b : Bump) → applied_now x ≡ Some b → (m : ItemId) → in_lane_of m x
     ≡ one_if m b.life
 applied_counts_for x b is m =
     omega (arith, ap (λ bs. total (λ (z : Bump). one_if m z.life) bs) (applied_alone_aboard x b is))

@@ -8,8 +8,8 @@ use Rattle.bump_rules.specs.declared.items.Head.{Head}
 use Rattle.bump_rules.specs.declared.items.ItemId.{ItemId}
 use Rattle.bump_rules.specs.declared.history.Change.{Change}
 use Rattle.bump_rules.specs.declared.bumps.Bump.{Bump}
-use Rattle.bump_rules.specs.declared.lanes.Lane.{Lane}
-use Rattle.bump_rules.specs.declared.lanes.Lane.TheVariants as lane
+use Rattle.bump_rules.specs.declared.lanes.LaneStage.{LaneStage}
+use Rattle.bump_rules.specs.declared.lanes.LaneStage.TheVariants as lane
 use Rattle.bump_rules.specs.Lawful.{bit, Lawful}
 use Rattle.bump_rules.specs.Lives.{life}
 use Rattle.bump_rules.specs.Totals.{total, how_many}
@@ -231,7 +231,7 @@ module _ (s : State) (o : IsLawful s) (c : ℕ) (h : Head) (k : ℕ) (e : Change
             (class_pushed (class_at s k) e (o.classes k within) (ap (owns (class_at s k)) is ∙ own) straight)
         class_law j in_range (no differs) = subst IsClass (sym (class_unchanged j differs)) (o.classes j in_range)
 
-        wait_law : (x : Lane) → WaitsToMove s x → ((b : Bump) → x ≡ lane.Cleared b true → b.life.chunk ≢ c)
+        wait_law : (x : LaneStage) → WaitsToMove s x → ((b : Bump) → x ≡ lane.Cleared b true → b.life.chunk ≢ c)
             → WaitsToMove changed x
         wait_law lane.Empty waits free_of = tt
         wait_law (lane.Carrying b) waits free_of = tt

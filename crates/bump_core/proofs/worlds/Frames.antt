@@ -7,8 +7,8 @@ use native.Mathlib.Decide.{ℕ_discrete}
 use Rattle.bump_rules.specs.declared.items.ItemId.{ItemId}
 use Rattle.bump_rules.specs.declared.items.Head.{Head}
 use Rattle.bump_state.specs.declared.chunks.Chunk.{Chunk}
-use Rattle.bump_rules.specs.declared.lanes.Lane.{Lane}
-use Rattle.bump_rules.specs.declared.lanes.Lane.TheVariants as lane
+use Rattle.bump_rules.specs.declared.lanes.LaneStage.{LaneStage}
+use Rattle.bump_rules.specs.declared.lanes.LaneStage.TheVariants as lane
 use Rattle.bump_rules.specs.Lawful.{bit, Lawful}
 use Rattle.bump_rules.specs.Lives.{life, one_if, count_of}
 use Rattle.bump_rules.specs.Totals.{total, how_many}
@@ -55,7 +55,7 @@ pub tells_kept : (s : State) (w : ℕ) → IsLawful s → w < length s.workers �
 tells_kept s w o within = ((λ test n. refl), o.gone w within)
 
 -- a lane that is further on with its bump, and did not move its item
-pub tells_further : (s : State) (w : ℕ) (x z : Lane) → IsLawful s → w < length s.workers → (worker_at s w).lane ≡ x
+pub tells_further : (s : State) (w : ℕ) (x z : LaneStage) → IsLawful s → w < length s.workers → (worker_at s w).lane ≡ x
     → ((test : ItemId → Bool) (n : ℕ) → moving test n z ≡ moving test n x) → TellsTrue s w (record (worker_at s w) {
       lane = z;
     })
@@ -86,7 +86,7 @@ chunks_framed s cs ws o c others bumps hits here d = dite (ℕ_discrete d c)
 -- An item that waits to be moved still does where LINKED and the segment bits of its chunk are as before.
 pub waits_framed : (s t : State) → ((d : ℕ) → (head_at t d).linked ≡ (head_at s d).linked)
     → ((d : ℕ) → (head_at t d).segment ≡ (head_at s d).segment)
-    → (x : Lane) → WaitsToMove s x → WaitsToMove t x
+    → (x : LaneStage) → WaitsToMove s x → WaitsToMove t x
 waits_framed s t linked segments lane.Empty waits = tt
 waits_framed s t linked segments (lane.Carrying b) waits = tt
 waits_framed s t linked segments (lane.Tried b) waits = tt

@@ -3,7 +3,7 @@ use Rattle.std.proofs.Common.{◌≡◌, ℕ, ◌<◌, ◌&&◌, Bool, true, Lis
 use Rattle.bump_rules.specs.declared.places.Place.{Place}
 use Rattle.bump_rules.specs.declared.places.Place.TheVariants.{Unused, Retired}
 use Rattle.bump_rules.specs.declared.bumps.Bump.{Bump}
-use Rattle.bump_core.specs.Headline.{Headline, AppliesInOrder, Stands}
+use Rattle.bump_core.specs.Headline.{Headline, AppliesInOrder, StandsInList}
 use Rattle.bump_rules.specs.History.{is_place}
 use Rattle.bump_rules.specs.Lawful.{bit, IsUsed, Shows}
 use Rattle.bump_links.specs.Lists.{times}
@@ -36,7 +36,7 @@ once_in_all s o k c within own = once_in_places (place_in (class_at s k) c)
     at q = times_in s o k c q within ∙ ap (λ (b : Bool). bit (b && is_place (place_in (class_at s k) c) q)) own
 
 -- how a chunk stands to a list of a class
-pub stands_to : (s : State) → IsLawful s → (k c : ℕ) (q : Place) → k < length s.classes → Stands s k c q
+pub stands_to : (s : State) → IsLawful s → (k c : ℕ) (q : Place) → k < length s.classes → StandsInList s k c q
 stands_to s o k c q within = record {
   listed = times_in s o k c q within;
   shown = λ some. subst (Shows (head_at s c)) (listed s o k c q within some).2 (o.chunks c).shown;

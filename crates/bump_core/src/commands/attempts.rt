@@ -9,11 +9,11 @@ ghost use Rattle.bump_state.specs.Views.{state_of};
 ghost use Rattle.bump_state.specs.Worlds.{IsLawful};
 
 use bump_rules::{Accounts, Dropped, Head, ItemId, Room, Touch};
-use bump_state::Parts;
+use bump_state::WorldParts;
 use std::alloc::AllocError;
 
-/// The worker's attempt ends with a drop, which leaves the item as it was.
-fn count_drop(parts: &mut Parts, worker: u32, dropped: Dropped)
+// The worker's attempt ends with a drop, which leaves the item as it was.
+fn count_drop(parts: &mut WorldParts, worker: u32, dropped: Dropped)
     requires worker { worker < length (state_of parts.old).workers }
     requires room { (worker_at (state_of parts.old) worker).accounts.attempted < most_attempts }
     requires lawful { IsLawful (state_of parts.old) }
@@ -45,8 +45,8 @@ fn count_drop(parts: &mut Parts, worker: u32, dropped: Dropped)
     parts.set_hand(worker, hand, after);
 }
 
-/// Whether the worker's ring shows room.
-fn room(parts: &Parts, worker: u32) -> Room
+// Whether the worker's ring shows room.
+fn room(parts: &WorldParts, worker: u32) -> Room
     requires worker { worker < length (state_of parts.now).workers }
     requires lawful { IsLawful (state_of parts.now) }
     ensures { result ≡ room_at (state_of parts.now) worker }
@@ -59,7 +59,7 @@ fn room(parts: &Parts, worker: u32) -> Room
 }
 
 /// A bump of a held item is attempted.
-pub fn attempt(parts: &mut Parts, worker: u32, life: ItemId) -> Result<Touch, AllocError>
+pub fn attempt(parts: &mut WorldParts, worker: u32, life: ItemId) -> Result<Touch, AllocError>
     requires worker { worker < length (state_of parts.old).workers }
     requires chunk { life.chunk < length (state_of parts.old).chunks }
     requires room { (worker_at (state_of parts.old) worker).accounts.attempted < most_attempts }

@@ -7,11 +7,11 @@ ghost use Rattle.bump_state.specs.Worlds.{IsLawful};
 ghost use Rattle.bump_rules.specs.declared.commands.Command.TheVariants as command;
 
 use bump_rules::{Answer, Change, Ended, ItemId, Refused};
-use bump_state::Parts;
+use bump_state::WorldParts;
 use std::alloc::AllocError;
 
 /// A linked life ends, and its chunk is free where nobody holds it. Tells what the end came to.
-pub fn unlink_item(parts: &mut Parts, life: ItemId) -> Result<Ended, AllocError>
+pub fn unlink_item(parts: &mut WorldParts, life: ItemId) -> Result<Ended, AllocError>
     requires lawful { IsLawful (state_of parts.old) }
     requires linked { is_linked (state_of parts.old) life ≡ true }
     ensures ok { OnOk result (state_of parts.new ≡ unlink_item (state_of parts.old) life) }
@@ -33,7 +33,7 @@ pub fn unlink_item(parts: &mut Parts, life: ItemId) -> Result<Ended, AllocError>
 }
 
 /// Ends an item.
-pub fn call_unlink(parts: &mut Parts, id: ItemId) -> Result<Answer, Refused>
+pub fn call_unlink(parts: &mut WorldParts, id: ItemId) -> Result<Answer, Refused>
     requires { IsLawful (state_of parts.old) }
     ensures { Commands (state_of parts.old) (command.Unlink id) (state_of parts.new) result }
 {
@@ -51,7 +51,7 @@ pub fn call_unlink(parts: &mut Parts, id: ItemId) -> Result<Answer, Refused>
 }
 
 /// Frees the chunks of a class's DYING that nobody holds.
-pub fn call_sweep(parts: &mut Parts, class: u32) -> Result<Answer, Refused>
+pub fn call_sweep(parts: &mut WorldParts, class: u32) -> Result<Answer, Refused>
     requires { IsLawful (state_of parts.old) }
     ensures { Commands (state_of parts.old) (command.Sweep class) (state_of parts.new) result }
 {

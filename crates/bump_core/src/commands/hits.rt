@@ -10,11 +10,11 @@ ghost use Rattle.bump_rules.specs.declared.commands.Command.TheVariants as comma
 
 use crate::commands::attempts::attempt;
 use bump_rules::{Answer, Head, Hit, ItemId, MOST_ATTEMPTS, Refused, Touch};
-use bump_state::{Chunk, Parts};
+use bump_state::{Chunk, WorldParts};
 use std::alloc::AllocError;
 
-/// A hit by an idle worker on an item of which it has a hold.
-fn hit(parts: &mut Parts, worker: u32, life: ItemId, now: u64) -> Result<Touch, AllocError>
+// A hit by an idle worker on an item of which it has a hold.
+fn hit(parts: &mut WorldParts, worker: u32, life: ItemId, now: u64) -> Result<Touch, AllocError>
     requires worker { worker < length (state_of parts.old).workers }
     requires chunk { life.chunk < length (state_of parts.old).chunks }
     requires room { (worker_at (state_of parts.old) worker).accounts.attempted < most_attempts }
@@ -61,7 +61,12 @@ fn hit(parts: &mut Parts, worker: u32, life: ItemId, now: u64) -> Result<Touch, 
 }
 
 /// A hit by a hold.
-pub fn call_touch(parts: &mut Parts, worker: u32, id: ItemId, now: u64) -> Result<Answer, Refused>
+pub fn call_touch(
+    parts: &mut WorldParts,
+    worker: u32,
+    id: ItemId,
+    now: u64,
+) -> Result<Answer, Refused>
     requires { IsLawful (state_of parts.old) }
     ensures { Commands (state_of parts.old) (command.Touch worker id now) (state_of parts.new) result }
 {

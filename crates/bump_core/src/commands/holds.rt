@@ -6,10 +6,10 @@ ghost use Rattle.bump_state.specs.Worlds.{IsLawful};
 ghost use Rattle.bump_rules.specs.declared.commands.Command.TheVariants as command;
 
 use bump_rules::{Answer, Head, ItemId, Refused};
-use bump_state::{Chunk, Parts};
+use bump_state::{Chunk, WorldParts};
 
 /// Takes a hold of an item.
-pub fn call_take(parts: &mut Parts, worker: u32, id: ItemId) -> Result<Answer, Refused>
+pub fn call_take(parts: &mut WorldParts, worker: u32, id: ItemId) -> Result<Answer, Refused>
     requires { IsLawful (state_of parts.old) }
     ensures { Commands (state_of parts.old) (command.Take worker id) (state_of parts.new) result }
 {
@@ -41,7 +41,7 @@ pub fn call_take(parts: &mut Parts, worker: u32, id: ItemId) -> Result<Answer, R
 }
 
 /// The label of a held item.
-pub fn call_label(parts: &Parts, id: ItemId) -> Result<Answer, Refused>
+pub fn call_label(parts: &WorldParts, id: ItemId) -> Result<Answer, Refused>
     ensures { Commands (state_of parts.now) (command.Label id) (state_of parts.now) result }
 {
     if !parts.is_held(id) {
@@ -51,7 +51,7 @@ pub fn call_label(parts: &Parts, id: ItemId) -> Result<Answer, Refused>
 }
 
 /// Gives a hold back.
-pub fn call_release(parts: &mut Parts, id: ItemId) -> Result<Answer, Refused>
+pub fn call_release(parts: &mut WorldParts, id: ItemId) -> Result<Answer, Refused>
     requires { IsLawful (state_of parts.old) }
     ensures { Commands (state_of parts.old) (command.Release id) (state_of parts.new) result }
 {

@@ -6,21 +6,21 @@ ghost use Rattle.bump_state.specs.Events.{next_bump};
 ghost use Rattle.bump_core.specs.Commands.{Commands, bump_next, bumped_chunk, bumped_worker, bumped_lists, apply_bump};
 ghost use Rattle.bump_core.specs.Commands.{entry_next};
 ghost use Rattle.bump_state.specs.Views.{state_of};
-ghost use Rattle.bump_state.specs.Workers.{HasRoom};
+ghost use Rattle.bump_state.specs.Workers.{HasRoomToApply};
 ghost use Rattle.bump_state.specs.Worlds.{IsLawful};
 ghost use Rattle.bump_rules.specs.declared.commands.Command.TheVariants as command;
-ghost use Rattle.bump_rules.specs.declared.lanes.Lane.TheVariants as lane;
+ghost use Rattle.bump_rules.specs.declared.lanes.LaneStage.TheVariants as lane;
 ghost use Rattle.bump_rules.specs.declared.bumps.Outcome.TheVariants.{Moved, Gone};
 ghost use Rattle.bump_rules.specs.declared.bumps.Ended.TheVariants.{Freed};
 
 use bump_rules::{
-    Answer, Applied, AppliedBump, Bump, Cause, Change, Ended, Entry, Head, Lane, Outcome, Refused,
-    Segment,
+    Answer, Applied, AppliedBump, Bump, Cause, Change, Ended, Entry, Head, LaneStage, Outcome,
+    Refused, Segment,
 };
-use bump_state::{Chunk, Parts};
+use bump_state::{Chunk, WorldParts};
 use std::alloc::AllocError;
 
-/// The chunk of a bump that was applied: the bump's reference is given back.
+// The chunk of a bump that was applied: the bump's reference is given back.
 fn bumped(chunk: Chunk, now: u64, outcome: Outcome) -> Chunk
     ensures { result ≡ bumped_chunk chunk now outcome }
 {
@@ -44,26 +44,26 @@ fn bumped(chunk: Chunk, now: u64, outcome: Outcome) -> Chunk
     }
 }
 
-/// The bump that a lane applies next: the one aboard, or else the first that waits.
-fn bump_of(parts: &Parts, worker: u32) -> Option<Bump>
+// The bump that a lane applies next: the one aboard, or else the first that waits.
+fn bump_of(parts: &WorldParts, worker: u32) -> Option<Bump>
     requires { worker < length (state_of parts.now).workers }
     ensures { result ≡ bump_next (worker_at (state_of parts.now) worker) }
 {
     match parts.lane(worker) {
-        Lane::Empty => {
+        LaneStage::Empty => {
             let number = parts.received_bumps(worker).len() as u64;
             match parts.next_bump(worker) {
                 Some(life) => Some(Bump { number, life }),
                 None => None,
             }
         }
-        Lane::Carrying(bump) => Some(bump),
-        Lane::Tried(_) | Lane::Cleared(_, _) | Lane::Moved(_) => None,
+        LaneStage::Carrying(bump) => Some(bump),
+        LaneStage::Tried(_) | LaneStage::Cleared(_, _) | LaneStage::Moved(_) => None,
     }
 }
 
-/// The same, with its chunk in range.
-fn bump_next(parts: &Parts, worker: u32) -> Option<Bump>
+// The same, with its chunk in range.
+fn bump_next(parts: &WorldParts, worker: u32) -> Option<Bump>
     requires worker { worker < length (state_of parts.now).workers }
     requires lawful { IsLawful (state_of parts.now) }
     ensures bump { result ≡ bump_next (worker_at (state_of parts.now) worker) }
@@ -72,25 +72,26 @@ fn bump_next(parts: &Parts, worker: u32) -> Option<Bump>
     bump_of(parts, worker)
 }
 
-/// A lane is done with a bump.
-fn finish(parts: &mut Parts, worker: u32, bump: Bump, outcome: Outcome)
+// A lane is done with a bump.
+fn finish(parts: &mut WorldParts, worker: u32, bump: Bump, outcome: Outcome)
     requires worker { worker < length (state_of parts.old).workers }
-    requires room { HasRoom parts.old.workers worker }
+    requires room { HasRoomToApply parts.old.workers worker }
     requires next { bump_next (worker_at (state_of parts.old) worker) ≡ Some bump }
     ensures { state_of parts.new ≡
         with_worker (state_of parts.old) worker (bumped_worker (worker_at (state_of parts.old) worker) bump outcome) }
 {
     match parts.lane(worker) {
-        Lane::Empty => parts.finish_taken(worker, bump, outcome),
-        Lane::Carrying(_) | Lane::Tried(_) | Lane::Cleared(_, _) | Lane::Moved(_) => {
-            parts.finish_aboard(worker, bump, outcome)
-        }
+        LaneStage::Empty => parts.finish_taken(worker, bump, outcome),
+        LaneStage::Carrying(_)
+        | LaneStage::Tried(_)
+        | LaneStage::Cleared(_, _)
+        | LaneStage::Moved(_) => { parts.finish_aboard(worker, bump, outcome) }
     }
 }
 
-/// The lists of the bump's class: its item is moved, or its chunk is free.
+// The lists of the bump's class: its item is moved, or its chunk is free.
 fn change_for(
-    parts: &mut Parts,
+    parts: &mut WorldParts,
     worker: u32,
     bump: Bump,
     outcome: Outcome,
@@ -118,8 +119,8 @@ fn change_for(
     }
 }
 
-/// Applies a bump.
-fn apply(parts: &mut Parts, worker: u32, now: u64, bump: Bump) -> Result<Entry, AllocError>
+// Applies a bump.
+fn apply(parts: &mut WorldParts, worker: u32, now: u64, bump: Bump) -> Result<Entry, AllocError>
     requires worker { worker < length (state_of parts.old).workers }
     requires lawful { IsLawful (state_of parts.old) }
     requires next { bump_next (worker_at (state_of parts.old) worker) ≡ Some bump }
@@ -148,7 +149,7 @@ fn apply(parts: &mut Parts, worker: u32, now: u64, bump: Bump) -> Result<Entry, 
 }
 
 /// Applies the next bump of a worker.
-pub fn call_next(parts: &mut Parts, worker: u32, now: u64) -> Result<Answer, Refused>
+pub fn call_next(parts: &mut WorldParts, worker: u32, now: u64) -> Result<Answer, Refused>
     requires { IsLawful (state_of parts.old) }
     ensures { Commands (state_of parts.old) (command.Next worker now) (state_of parts.new) result }
 {

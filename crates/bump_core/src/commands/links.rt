@@ -5,11 +5,11 @@ ghost use Rattle.bump_state.specs.Views.{state_of};
 ghost use Rattle.bump_state.specs.Worlds.{IsLawful};
 
 use bump_rules::{Answer, Change, Head, ItemId, Refused, Start};
-use bump_state::{Chunk, Parts};
+use bump_state::{Chunk, WorldParts};
 
 /// Stores an item in a class, where it begins.
 pub fn call_link(
-    parts: &mut Parts,
+    parts: &mut WorldParts,
     start: Start,
     class: u32,
     label: u64,

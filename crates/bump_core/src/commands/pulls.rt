@@ -11,19 +11,19 @@ ghost use Rattle.bump_rules.specs.declared.commands.Command.TheVariants as comma
 
 use crate::commands::ends::unlink_item;
 use bump_rules::{Answer, Cause, Change, Head, ItemId, Limits, Pulled, Refused, Segment, Tail};
-use bump_state::Parts;
+use bump_state::WorldParts;
 use std::alloc::AllocError;
 
-/// The last chunk of a class's HOT, WARM or COLD.
-fn tail_chunk(parts: &Parts, class: u32, tail: Tail) -> Option<u32>
+// The last chunk of a class's HOT, WARM or COLD.
+fn tail_chunk(parts: &WorldParts, class: u32, tail: Tail) -> Option<u32>
     requires { class < length (state_of parts.now).classes }
     ensures { result ≡ last_pulled_in (state_of parts.now) class tail }
 {
     parts.list_back(class, tail.segment().place())
 }
 
-/// The chunk that a pull looks at.
-fn last(parts: &Parts, class: u32, tail: Tail) -> Option<u32>
+// The chunk that a pull looks at.
+fn last(parts: &WorldParts, class: u32, tail: Tail) -> Option<u32>
     requires class { class < length (state_of parts.now).classes }
     requires lawful { IsLawful (state_of parts.now) }
     ensures last { result ≡ last_pulled_in (state_of parts.now) class tail }
@@ -35,9 +35,9 @@ fn last(parts: &Parts, class: u32, tail: Tail) -> Option<u32>
     tail_chunk(parts, class, tail)
 }
 
-/// The last item of a list goes to the front of a segment, without ACTIVE.
+// The last item of a list goes to the front of a segment, without ACTIVE.
 fn pull_to(
-    parts: &mut Parts,
+    parts: &mut WorldParts,
     class: u32,
     tail: Tail,
     last: u32,
@@ -69,8 +69,8 @@ fn pull_to(
     Ok(())
 }
 
-/// What a pull does with the last item of a list.
-fn pulled_at(parts: &Parts, class: u32, tail: Tail, last: u32) -> Pulled
+// What a pull does with the last item of a list.
+fn pulled_at(parts: &WorldParts, class: u32, tail: Tail, last: u32) -> Pulled
     requires class { class < length (state_of parts.now).classes }
     requires chunk { last < length (state_of parts.now).chunks }
     ensures { result ≡ pulled_at (state_of parts.now) class tail last }
@@ -88,8 +88,8 @@ fn pulled_at(parts: &Parts, class: u32, tail: Tail, last: u32) -> Pulled
     tail.pulled(head, &class.lists, limits, head.after_unlink().ended(), id)
 }
 
-/// The last item of a list is moved by the tail table, or ended.
-fn pull(parts: &mut Parts, class: u32, tail: Tail, last: u32) -> Result<(), AllocError>
+// The last item of a list is moved by the tail table, or ended.
+fn pull(parts: &mut WorldParts, class: u32, tail: Tail, last: u32) -> Result<(), AllocError>
     requires class { class < length (state_of parts.old).classes }
     requires chunk { last < length (state_of parts.old).chunks }
     requires lawful { IsLawful (state_of parts.old) }
@@ -114,7 +114,7 @@ fn pull(parts: &mut Parts, class: u32, tail: Tail, last: u32) -> Result<(), Allo
 }
 
 /// Looks at the last item of a list, and moves it by the tail table, or ends it.
-pub fn call_pull(parts: &mut Parts, class: u32, tail: Tail) -> Result<Answer, Refused>
+pub fn call_pull(parts: &mut WorldParts, class: u32, tail: Tail) -> Result<Answer, Refused>
     requires { IsLawful (state_of parts.old) }
     ensures { Commands (state_of parts.old) (command.Pull class tail) (state_of parts.new) result }
 {

@@ -5,7 +5,7 @@ ghost use Rattle.bump_state.specs.State.{head_at, is_open};
 ghost use Rattle.bump_core.specs.Headline.{Headline};
 ghost use Rattle.bump_rules.specs.Entries.{moves_of};
 ghost use Rattle.bump_state.specs.Worlds.{IsLawful};
-ghost use Rattle.bump_core.specs.Readers.{list_of, history_of, time_of, label_of, holds_at, accounts_of, sent_of};
+ghost use Rattle.bump_core.specs.Readers.{class_list, history_of, time_of, label_of, holds_at, accounts_of, sent_of};
 ghost use Rattle.bump_core.specs.Readers.{received_of, applied_of, limits_of};
 
 use crate::worlds::World;
@@ -77,7 +77,7 @@ impl World {
     /// time of the chunks that are read.
     pub fn list(&self, class: u32, place: Place) -> ListedChunks<'_>
         requires { class < length self.now.classes }
-        ensures chunks { result ≡ list_of self.now class place }
+        ensures chunks { result ≡ class_list self.now class place }
         ensures in_range { All (λ c. c < length self.now.chunks) result }
     {
         self.parts.list(class, place)
@@ -87,7 +87,7 @@ impl World {
     /// COLD. The class is one of the configuration's. It takes constant time.
     pub fn list_back(&self, class: u32, place: Place) -> Option<u32>
         requires { class < length self.now.classes }
-        ensures { result ≡ last_of (list_of self.now class place) }
+        ensures { result ≡ last_of (class_list self.now class place) }
     {
         self.parts.list_back(class, place)
     }
@@ -95,7 +95,7 @@ impl World {
     /// How many chunks a class's list has. The class is one of the configuration's. It takes constant time.
     pub fn list_len(&self, class: u32, place: Place) -> u32
         requires { class < length self.now.classes }
-        ensures { result ≡ length (list_of self.now class place) }
+        ensures { result ≡ length (class_list self.now class place) }
     {
         self.parts.classes[class as usize].lists.len(place)
     }

@@ -2,12 +2,12 @@
 use Rattle.std.proofs.Common.{◌≡◌, ℕ, ◌<◌, length, get_or, map, sym, ap, ◌∙◌, arith}
 use Rattle.std.proofs.lemmas.List.{length-map, get_or-map}
 use Rattle.bump_state.specs.declared.classes.Class.{Class}
-use Rattle.bump_state.specs.declared.parts.Parts.{Parts}
+use Rattle.bump_state.specs.declared.parts.WorldParts.{WorldParts}
 use Rattle.bump_state.specs.State.{class_at, no_class}
 use Rattle.bump_state.specs.Views.{state_of, class_view}
 
 -- a class as it is read
-pub class_seen : (p : Parts) (k : ℕ) (a : Class) → k < length (map class_view p.classes.items) → a
+pub class_seen : (p : WorldParts) (k : ℕ) (a : Class) → k < length (map class_view p.classes.items) → a
     ≡ get_or p.classes.items k a → class_at (state_of p) k ≡ class_view a
 class_seen p k a within is = get_or-map class_view p.classes.items k a no_class (omega (
   arith,

@@ -6,8 +6,8 @@ use Rattle.std.proofs.lemmas.Bool.{or_from}
 use Rattle.std.proofs.lemmas.List.{length-set}
 use Rattle.bump_rules.specs.declared.hands.Hand.{Hand}
 use Rattle.bump_rules.specs.declared.hands.Hand.TheVariants as hand
-use Rattle.bump_rules.specs.declared.lanes.Lane.{Lane}
-use Rattle.bump_rules.specs.declared.lanes.Lane.TheVariants as lane
+use Rattle.bump_rules.specs.declared.lanes.LaneStage.{LaneStage}
+use Rattle.bump_rules.specs.declared.lanes.LaneStage.TheVariants as lane
 use Rattle.bump_rules.specs.declared.items.ItemId.{ItemId}
 use Rattle.bump_state.specs.declared.workers.Worker.{Worker}
 use Rattle.bump_rules.specs.Lawful.{bit}
@@ -135,7 +135,7 @@ none_applies s k [] none = refl
 none_applies s k (x ∷ xs) none = or_from (applies_in s k x.lane) (list_any (λ w. applies_in s k w.lane)
     (worker_views xs)) (by x.lane (omega (arith, none))) (none_applies s k xs (omega (arith, none)))
   where
-    by : (y : Lane) → bit (is_some (applied_life y)) ≡ 0 → applies_in s k y ≡ false
+    by : (y : LaneStage) → bit (is_some (applied_life y)) ≡ 0 → applies_in s k y ≡ false
     by lane.Empty rests = refl
     by (lane.Carrying b) rests = refl
     by (lane.Tried b) rests = absurd (omega (arith, rests))

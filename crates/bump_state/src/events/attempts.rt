@@ -8,11 +8,11 @@ ghost use Rattle.bump_state.specs.Worlds.{IsLawful};
 ghost use Rattle.bump_rules.specs.declared.events.Event.TheVariants as event;
 ghost use Rattle.bump_rules.specs.declared.events.Refused.TheVariants.{NotEnabled};
 
-use crate::parts::Parts;
+use crate::parts::WorldParts;
 use bump_rules::{Accounts, Hand, Head, ItemId, Refused, Reply};
 
-impl Parts {
-    /// The life of the bump that a worker tries to take a reference for, if it does.
+impl WorldParts {
+    // The life of the bump that a worker tries to take a reference for, if it does.
     fn tried_by(&self, worker: u32) -> Option<ItemId>
         requires { IsLawful (state_of self.now) }
         ensures life { result ≡ tried_life (worker_at (state_of self.now) worker).hand }
@@ -25,7 +25,7 @@ impl Parts {
         self.hand(worker).tried()
     }
 
-    /// The life of the bump in a worker's hand, if there is one.
+    // The life of the bump in a worker's hand, if there is one.
     fn in_hand_by(&self, worker: u32) -> Option<ItemId>
         requires { IsLawful (state_of self.now) }
         ensures life { result ≡ life_in_hand (worker_at (state_of self.now) worker).hand }
@@ -38,7 +38,7 @@ impl Parts {
         self.hand(worker).in_hand()
     }
 
-    /// The life whose ACTIVE a worker is to clear, if there is one.
+    // The life whose ACTIVE a worker is to clear, if there is one.
     fn cleared_by(&self, worker: u32) -> Option<ItemId>
         requires { IsLawful (state_of self.now) }
         ensures life { result ≡ cleared_life (worker_at (state_of self.now) worker).hand }

@@ -5,11 +5,11 @@ ghost use Rattle.bump_state.specs.Views.{state_of};
 ghost use Rattle.bump_state.specs.Worlds.{IsLawful};
 ghost use Rattle.bump_rules.specs.declared.events.Event.TheVariants as event;
 
-use crate::parts::Parts;
+use crate::parts::WorldParts;
 use bump_rules::{Change, Head, ItemId, Place, Refused, Reply};
 
-impl Parts {
-    /// Whether a chunk stands in its class's DYING.
+impl WorldParts {
+    // Whether a chunk stands in its class's DYING.
     fn is_dying(&self, chunk: u32) -> bool
         requires chunk { chunk < length (state_of self.now).chunks }
         requires lawful { IsLawful (state_of self.now) }

@@ -7,10 +7,10 @@ ghost use Rattle.bump_rules.specs.declared.events.Event.TheVariants as event;
 ghost use Rattle.bump_rules.specs.declared.events.Refused.TheVariants.{NotEnabled};
 
 use crate::chunks::Chunk;
-use crate::parts::Parts;
+use crate::parts::WorldParts;
 use bump_rules::{Accounts, Hand, Head, ItemId, MOST_ATTEMPTS, Refused, Reply, Segment};
 
-impl Parts {
+impl WorldParts {
     /// A hit stores the time, in the caller's ticks. Refused where the life has no hold.
     pub fn store_time(&mut self, life: ItemId, time: u64) -> Result<Reply, Refused>
         ensures enabled { IsEnabledBy (is_enabled (state_of self.old) (event.StoreTime life time)) result }
@@ -27,7 +27,7 @@ impl Parts {
         Ok(Reply::Done)
     }
 
-    /// Whether a worker may begin a step of a hit on a life.
+    // Whether a worker may begin a step of a hit on a life.
     fn may_hit(&self, worker: u32, life: ItemId) -> bool
         ensures { result ≡ may_hit (state_of self.now) worker life }
     {

@@ -7,10 +7,10 @@ ghost use Rattle.bump_rules.specs.declared.events.Event.TheVariants as event;
 ghost use Rattle.bump_rules.specs.declared.events.Refused.TheVariants.{NotEnabled};
 
 use crate::chunks::Chunk;
-use crate::parts::Parts;
+use crate::parts::WorldParts;
 use bump_rules::{Head, ItemId, Refused, Reply};
 
-impl Parts {
+impl WorldParts {
     /// A load of the head, which it answers. Refused where there is no such chunk.
     pub fn load(&self, chunk: u32) -> Result<Reply, Refused>
         ensures enabled { IsEnabledBy (is_enabled (state_of self.now) (event.Load chunk)) result }

@@ -10,11 +10,11 @@ ghost use Rattle.bump_rules.specs.declared.events.Event.TheVariants as event;
 ghost use Rattle.bump_rules.specs.declared.events.Refused.TheVariants.{NotEnabled};
 
 use crate::chunks::Chunk;
-use crate::parts::Parts;
-use bump_rules::{Bump, Cause, Change, Head, Lane, Refused, Reply, Segment};
+use crate::parts::WorldParts;
+use bump_rules::{Bump, Cause, Change, Head, LaneStage, Refused, Reply, Segment};
 
-impl Parts {
-    /// The bump that a lane took and has not looked at yet, if there is one.
+impl WorldParts {
+    // The bump that a lane took and has not looked at yet, if there is one.
     fn carried_by(&self, worker: u32) -> Option<Bump>
         requires { IsLawful (state_of self.now) }
         ensures bump { result ≡ carried (worker_at (state_of self.now) worker).lane }
@@ -27,7 +27,7 @@ impl Parts {
         self.lane(worker).carried()
     }
 
-    /// The bump that a lane looked at, and whose ACTIVE it has not cleared yet, if there is one.
+    // The bump that a lane looked at, and whose ACTIVE it has not cleared yet, if there is one.
     fn looked_at_by(&self, worker: u32) -> Option<Bump>
         requires { IsLawful (state_of self.now) }
         ensures bump { result ≡ tried (worker_at (state_of self.now) worker).lane }
@@ -40,7 +40,7 @@ impl Parts {
         self.lane(worker).tried()
     }
 
-    /// The bump that a lane applies, if it does.
+    // The bump that a lane applies, if it does.
     fn applied_by(&self, worker: u32) -> Option<Bump>
         requires { IsLawful (state_of self.now) }
         ensures bump { result ≡ applied_now (worker_at (state_of self.now) worker).lane }
@@ -53,7 +53,7 @@ impl Parts {
         self.lane(worker).applied_now()
     }
 
-    /// The bump whose item a lane is to move, if it is.
+    // The bump whose item a lane is to move, if it is.
     fn moving_by(&self, worker: u32) -> Option<Bump>
         requires { IsLawful (state_of self.now) }
         ensures bump { result ≡ cleared_active (worker_at (state_of self.now) worker).lane }
@@ -103,7 +103,7 @@ impl Parts {
         if self.is_under_application(self.class_of(chunk)) {
             return Err(Refused::NotEnabled);
         }
-        self.set_lane(worker, Lane::Tried(bump));
+        self.set_lane(worker, LaneStage::Tried(bump));
         Ok(Reply::Word(self.head(chunk)))
     }
 
@@ -151,7 +151,7 @@ impl Parts {
                 ..head
             },
         );
-        self.set_lane(worker, Lane::Cleared(bump, head.active));
+        self.set_lane(worker, LaneStage::Cleared(bump, head.active));
         Ok(Reply::Word(head))
     }
 
@@ -184,7 +184,7 @@ impl Parts {
                 ..head
             },
         );
-        self.set_lane(worker, Lane::Moved(bump));
+        self.set_lane(worker, LaneStage::Moved(bump));
         Ok(Reply::Done)
     }
 

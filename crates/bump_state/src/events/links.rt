@@ -8,11 +8,11 @@ ghost use Rattle.bump_rules.specs.declared.events.Event.TheVariants as event;
 ghost use Rattle.bump_rules.specs.declared.events.Refused.TheVariants.{NotEnabled};
 
 use crate::chunks::Chunk;
-use crate::parts::Parts;
+use crate::parts::WorldParts;
 use bump_rules::{Change, Head, ItemId, Refused, Reply, Start};
 
-impl Parts {
-    /// Whether a class exists and no lane applies a bump of it.
+impl WorldParts {
+    // Whether a class exists and no lane applies a bump of it.
     fn is_class_at_rest(&self, class: u32) -> bool
         ensures { result ≡ is_class_at_rest (state_of self.now) class }
     {
@@ -60,7 +60,7 @@ impl Parts {
         Ok(Reply::Done)
     }
 
-    /// The next item of a class begins its life, at the front of a segment, and its life is answered.
+    // The next item of a class begins its life, at the front of a segment, and its life is answered.
     fn begin_life(&mut self, class: u32, start: Start) -> Result<Reply, Refused>
         requires { IsLawful (state_of self.old) }
         ensures enabled { IsEnabledBy (may_link (state_of self.old) class) result }

@@ -7,10 +7,10 @@ ghost use Rattle.bump_state.specs.Worlds.{IsLawful};
 ghost use Rattle.bump_rules.specs.declared.events.Event.TheVariants as event;
 ghost use Rattle.bump_rules.specs.declared.events.Refused.TheVariants.{NotEnabled};
 
-use crate::parts::Parts;
+use crate::parts::WorldParts;
 use bump_rules::{Cause, Change, Head, ItemId, Refused, Reply, Segment};
 
-impl Parts {
+impl WorldParts {
     /// A pull clears ACTIVE; answers the head that it found. Refused where there is no such chunk, it isn't linked,
     /// or a lane applies a bump of its class.
     pub fn clear_active(&mut self, chunk: u32) -> Result<Reply, Refused>

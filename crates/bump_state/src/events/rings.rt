@@ -5,10 +5,10 @@ ghost use Rattle.bump_state.specs.Views.{state_of};
 ghost use Rattle.bump_rules.specs.declared.events.Event.TheVariants as event;
 ghost use Rattle.bump_rules.specs.declared.events.Refused.TheVariants.{NotEnabled};
 
-use crate::parts::Parts;
+use crate::parts::WorldParts;
 use bump_rules::{Refused, Reply};
 
-impl Parts {
+impl WorldParts {
     /// A worker's ring closes. Refused where it is closed, or the worker isn't idle.
     pub fn close(&mut self, worker: u32) -> Result<Reply, Refused>
         ensures enabled { IsEnabledBy (is_enabled (state_of self.old) (event.Close worker)) result }

@@ -7,18 +7,18 @@ ghost use Rattle.bump_state.specs.State.{with_change, with_changes};
 ghost use Rattle.bump_state.specs.Events.{with_lane, next_bump, take_bump, push, close};
 ghost use Rattle.bump_state.specs.Sweeps.{sweep_of};
 ghost use Rattle.bump_state.specs.Views.{state_of};
-ghost use Rattle.bump_state.specs.Workers.{HasRoom};
+ghost use Rattle.bump_state.specs.Workers.{HasRoomToApply};
 ghost use Rattle.bump_state.specs.Worlds.{IsLawful};
 ghost use Rattle.bump_rules.specs.Lanes.{applied_bump};
 ghost use Rattle.bump_rules.specs.declared.hands.Hand.TheVariants as hand;
-ghost use Rattle.bump_rules.specs.declared.lanes.Lane.TheVariants as lane;
+ghost use Rattle.bump_rules.specs.declared.lanes.LaneStage.TheVariants as lane;
 
 use crate::chunks::Chunk;
-use crate::parts::Parts;
-use bump_rules::{Accounts, AppliedBump, Bump, Change, Hand, Head, ItemId, Lane, Outcome};
+use crate::parts::WorldParts;
+use bump_rules::{Accounts, AppliedBump, Bump, Change, Hand, Head, ItemId, LaneStage, Outcome};
 use std::alloc::AllocError;
 
-impl Parts {
+impl WorldParts {
     /// Writes a chunk. Its number is in range.
     pub fn set_chunk(&mut self, number: u32, chunk: Chunk)
         requires { number < length (state_of self.old).chunks }
@@ -55,7 +55,7 @@ impl Parts {
     }
 
     /// Writes how far a lane is.
-    pub(crate) fn set_lane(&mut self, worker: u32, lane: Lane)
+    pub(crate) fn set_lane(&mut self, worker: u32, lane: LaneStage)
         requires { worker < length (state_of self.old).workers }
         ensures { state_of self.new ≡ with_lane (state_of self.old) worker lane }
     {
@@ -167,7 +167,7 @@ impl Parts {
     pub fn reserve_applied(&mut self, worker: u32) -> Result<(), AllocError>
         requires { worker < length (state_of self.old).workers }
         ensures state { state_of self.new ≡ state_of self.old }
-        ensures room { OnOk result (HasRoom self.new.workers worker) }
+        ensures room { OnOk result (HasRoomToApply self.new.workers worker) }
     {
         self.workers.reserve_applied(worker)
     }
@@ -175,7 +175,7 @@ impl Parts {
     /// A lane is done with the bump that it takes next: it is taken and told as applied at once.
     pub fn finish_taken(&mut self, worker: u32, bump: Bump, outcome: Outcome)
         requires worker { worker < length (state_of self.old).workers }
-        requires room { HasRoom self.old.workers worker }
+        requires room { HasRoomToApply self.old.workers worker }
         requires next { next_bump (worker_at (state_of self.old) worker) ≡ Some bump.life }
         ensures { state_of self.new ≡
             with_worker (state_of self.old) worker (record (worker_at (state_of self.old) worker) {
@@ -195,7 +195,7 @@ impl Parts {
     /// A lane is done with the bump aboard, which is told as applied.
     pub fn finish_aboard(&mut self, worker: u32, bump: Bump, outcome: Outcome)
         requires worker { worker < length (state_of self.old).workers }
-        requires room { HasRoom self.old.workers worker }
+        requires room { HasRoomToApply self.old.workers worker }
         ensures { state_of self.new ≡
             with_worker (state_of self.old) worker (record (worker_at (state_of self.old) worker) {
               lane = lane.Empty;

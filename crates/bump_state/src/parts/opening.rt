@@ -6,12 +6,12 @@ ghost use Rattle.bump_state.specs.Views.{class_view, state_of};
 
 use crate::chunks::Chunk;
 use crate::classes::Class;
-use crate::parts::Parts;
+use crate::parts::WorldParts;
 use crate::workers::Workers;
 use bump_rules::{ClassConfig, ClassLists, Config, Head, MAX_CHUNKS, Segment};
 use std::alloc::{AllocError, Global};
 
-/// A class whose chunks, from `first` on, are all UNUSED, and fresh with this generation.
+// A class whose chunks, from `first` on, are all UNUSED, and fresh with this generation.
 fn new_class(
     alloc: Global,
     fresh: u32,
@@ -33,7 +33,7 @@ fn new_class(
     })
 }
 
-/// All classes: the first has the first chunks, the next the next.
+// All classes: the first has the first chunks, the next the next.
 fn new_classes(alloc: Global, fresh: u32, configs: &[ClassConfig]) -> Result<Vec<Class>, AllocError>
     requires some { HaveChunks configs.now }
     requires few { chunks_of configs.now ≤ MAX_CHUNKS }
@@ -50,7 +50,7 @@ fn new_classes(alloc: Global, fresh: u32, configs: &[ClassConfig]) -> Result<Vec
 }
 
 impl Chunk {
-    /// A chunk before its first life, whose generation is one more.
+    // A chunk before its first life, whose generation is one more.
     fn fresh(generation: u32) -> Chunk
         ensures { result ≡ fresh_chunk generation }
     {
@@ -70,17 +70,17 @@ impl Chunk {
     }
 }
 
-impl Parts {
+impl WorldParts {
     /// The parts of a new World: every chunk is UNUSED, in ascending order, and every worker is
     /// idle. Want of memory is refused.
-    pub fn new(alloc: Global, config: &Config) -> Result<Parts, AllocError>
+    pub fn new(alloc: Global, config: &Config) -> Result<WorldParts, AllocError>
         ensures state { IfOk result (λ p. state_of p ≡ new_state config.now) }
         ensures generation { config.now.first_generation < 2 ^ 32 }
     {
         let classes = config.classes.as_slice();
         let fresh = config.first_generation - 1;
         let chunk = Chunk::fresh(fresh);
-        Ok(Parts {
+        Ok(WorldParts {
             refs_limit: config.refs_limit,
             capacity: config.capacity,
             chunks: vec![in alloc; chunk; config.chunks() as usize]?,

@@ -11,10 +11,10 @@ ghost use Rattle.bump_state.specs.Sweeps.{sweep_of};
 ghost use Rattle.bump_state.specs.Views.{state_of};
 
 use crate::chunks::Chunk;
-use crate::parts::Parts;
-use bump_rules::{Accounts, AppliedBump, Hand, Head, ItemId, Lane, ListedChunks, Place};
+use crate::parts::WorldParts;
+use bump_rules::{Accounts, AppliedBump, Hand, Head, ItemId, LaneStage, ListedChunks, Place};
 
-impl Parts {
+impl WorldParts {
     /// Whether there is a chunk of this number.
     pub fn has_chunk(&self, chunk: u32) -> bool
         ensures { result ≡ is_chunk (state_of self.now) chunk }
@@ -151,14 +151,14 @@ impl Parts {
     }
 
     /// How far a lane is. The worker's number is in range.
-    pub fn lane(&self, worker: u32) -> Lane
+    pub fn lane(&self, worker: u32) -> LaneStage
         requires { worker < length (state_of self.now).workers }
         ensures { result ≡ (worker_at (state_of self.now) worker).lane }
     {
         self.workers.at(worker).lane
     }
 
-    /// The front of a class's UNUSED.
+    // The front of a class's UNUSED.
     fn unused_front(&self, class: u32) -> Option<u32>
         requires { class < length (state_of self.now).classes }
         ensures { result ≡ next_chunk (state_of self.now) class }

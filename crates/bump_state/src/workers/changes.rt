@@ -4,14 +4,14 @@ ghost use Rattle.std.specs.Prelude.{slice_set};
 ghost use Rattle.bump_rules.specs.Lanes.{bump_of};
 ghost use Rattle.bump_state.specs.Events.{next_bump};
 ghost use Rattle.bump_rules.specs.Lawful.{bit};
-ghost use Rattle.bump_state.specs.Workers.{worker_views, worker_view_at, HasRoom};
-ghost use Rattle.bump_rules.specs.declared.lanes.Lane.TheVariants as lane;
+ghost use Rattle.bump_state.specs.Workers.{worker_views, worker_view_at, HasRoomToApply};
+ghost use Rattle.bump_rules.specs.declared.lanes.LaneStage.TheVariants as lane;
 
 use crate::workers::Workers;
-use bump_rules::{Accounts, AppliedBump, Bump, Hand, ItemId, Lane};
+use bump_rules::{Accounts, AppliedBump, Bump, Hand, ItemId, LaneStage};
 use std::alloc::AllocError;
 
-/// How many are under way, where one of them was under way or not, and now is or isn't.
+// How many are under way, where one of them was under way or not, and now is or isn't.
 fn recounted(count: u32, was: bool, is: bool) -> u32
     requires counted { bit was ≤ count }
     requires few { count + bit is < 2 ^ 32 + bit was }
@@ -46,7 +46,7 @@ impl Workers {
     }
 
     /// Writes how far a lane is.
-    pub(crate) fn set_lane(&mut self, worker: u32, lane: Lane)
+    pub(crate) fn set_lane(&mut self, worker: u32, lane: LaneStage)
         requires { worker < length self.old }
         ensures { worker_views self.new ≡
             slice_set (worker_views self.old) worker (record (worker_view_at self.old worker) { lane = lane }) }
@@ -113,7 +113,7 @@ impl Workers {
         let was = worker.lane;
         let number = worker.received as u64;
         worker.received += 1;
-        worker.lane = Lane::Carrying(Bump { number, life });
+        worker.lane = LaneStage::Carrying(Bump { number, life });
         self.applying = recounted(self.applying, was.is_applying(), false);
         number
     }
@@ -135,7 +135,7 @@ impl Workers {
         let worker = &mut self.all[worker as usize];
         let was = worker.lane;
         worker.applied.push(applied)?;
-        worker.lane = Lane::Empty;
+        worker.lane = LaneStage::Empty;
         self.applying = recounted(self.applying, was.is_applying(), false);
         Ok(())
     }
@@ -144,7 +144,7 @@ impl Workers {
     pub(crate) fn reserve_applied(&mut self, worker: u32) -> Result<(), AllocError>
         requires { worker < length self.old }
         ensures workers { worker_views self.new ≡ worker_views self.old }
-        ensures room { OnOk result (HasRoom self.new worker) }
+        ensures room { OnOk result (HasRoomToApply self.new worker) }
     {
         let worker = &mut self.all[worker as usize];
         worker.applied.reserve(1)?;
@@ -154,7 +154,7 @@ impl Workers {
     /// A lane is done with a bump that it took just now.
     pub(crate) fn finish_taken(&mut self, worker: u32, applied: AppliedBump)
         requires worker { worker < length self.old }
-        requires room { HasRoom self.old worker }
+        requires room { HasRoomToApply self.old worker }
         requires next { next_bump (worker_view_at self.old worker) ≡ Some applied.life }
         ensures { worker_views self.new ≡
             slice_set (worker_views self.old) worker (record (worker_view_at self.old worker) {
@@ -166,7 +166,7 @@ impl Workers {
         let worker = &mut self.all[worker as usize];
         let was = worker.lane;
         worker.received += 1;
-        worker.lane = Lane::Empty;
+        worker.lane = LaneStage::Empty;
         worker.applied.push_reserved(applied);
         self.applying = recounted(self.applying, was.is_applying(), false);
     }
@@ -174,7 +174,7 @@ impl Workers {
     /// A lane is done with the bump aboard.
     pub(crate) fn finish_aboard(&mut self, worker: u32, applied: AppliedBump)
         requires worker { worker < length self.old }
-        requires room { HasRoom self.old worker }
+        requires room { HasRoomToApply self.old worker }
         ensures { worker_views self.new ≡
             slice_set (worker_views self.old) worker (record (worker_view_at self.old worker) {
               lane = lane.Empty;
@@ -183,7 +183,7 @@ impl Workers {
     {
         let worker = &mut self.all[worker as usize];
         let was = worker.lane;
-        worker.lane = Lane::Empty;
+        worker.lane = LaneStage::Empty;
         worker.applied.push_reserved(applied);
         self.applying = recounted(self.applying, was.is_applying(), false);
     }

@@ -1,6 +1,6 @@
 //! The step by which a bump boards its lane.
 ghost use Rattle.std.specs.Prelude.{◌≡◌, ◌<◌};
-ghost use Rattle.bump_rules.specs.declared.lanes.Lane.TheVariants.{Empty as IsEmpty};
+ghost use Rattle.bump_rules.specs.declared.lanes.LaneStage.TheVariants.{Empty as IsEmpty};
 ghost use Rattle.bump_steps.specs.declared.views.LanePart.{LanePart as TheLanePart};
 ghost use Rattle.bump_steps.specs.declared.views.Ride.{Ride as TheRide};
 ghost use Rattle.bump_steps.specs.Seats.{StaysSeated};

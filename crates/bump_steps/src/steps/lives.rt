@@ -95,7 +95,7 @@ impl<L: RowLaw> Words<L> {
     }
 
     /// A load of a head by its class.
-    pub fn look(&self, seat: &mut Seat, chunk: u32, place: usize) -> u64
+    pub fn load_head(&self, seat: &mut Seat, chunk: u32, place: usize) -> u64
         requires seat { IsSeated (words_id self.now) seat.old chunk }
         requires place { place ≡ head_place (words_id self.now).slots chunk }
         requires class { HasClass seat.old.me.0 }

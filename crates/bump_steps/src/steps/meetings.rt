@@ -26,21 +26,21 @@ impl Play<Empty, View> for LoadToMeetLane {
 }
 
 /// Tells a load how many workers the store has, which it can't know.
-pub trait Counted {
+pub trait KnowsWorkers {
     ghost use Rattle.std.specs.Prelude.{ℕ};
 
     ghost workers: { ℕ };
 }
 
-impl Counted for Brand {
+impl KnowsWorkers for Brand {
     ghost workers = { 0 };
 }
 
-pub struct LoadToMeetWorkers<C: Counted> {
+pub struct LoadToMeetWorkers<C: KnowsWorkers> {
     of: PhantomData<C>,
 }
 
-impl<C: Counted> Play<Empty, View> for LoadToMeetWorkers<C> {
+impl<C: KnowsWorkers> Play<Empty, View> for LoadToMeetWorkers<C> {
     ghost then = { load_to_meet_workers_tells C.workers };
 }
 
@@ -69,7 +69,7 @@ impl<L: RowLaw> Words<L> {
         let _spare = self.table.shared.load::<LoadToMeetLane>(seat, 0);
     }
 
-    fn meet_workers_by<C: Counted>(&self, seat: &mut Seat)
+    fn meet_workers_by<C: KnowsWorkers>(&self, seat: &mut Seat)
         requires seat { seat.old.table_id ≡ words_id self.now }
         requires some { 0 < (words_id self.now).words }
         requires class { HasClass seat.old.me.0 }

@@ -6,7 +6,7 @@ ghost use Rattle.bump_steps.specs.Places.{HasChunk, head_place};
 ghost use Rattle.bump_steps.specs.Seats.{IsSeated, StaysSeated};
 ghost use Rattle.bump_steps.specs.Words.{words_id, config_of};
 ghost use Rattle.bump_steps.specs.Plays.{on_chunk, on_row, on_label, on_word, Found, HasWorker};
-ghost use Rattle.bump_steps.specs.References.{load_to_take_tells, take_tells, MayTake, IsRow, words_in, HasHold, release_of_hold_tells, look_of_hold_tells, label_load_tells, word_load_tells, load_without_seat_tells, IsAnyHead, seen_me};
+ghost use Rattle.bump_steps.specs.References.{load_to_take_tells, take_tells, MayTake, IsRow, words_in, HasHold, release_of_hold_tells, load_of_hold_tells, label_load_tells, word_load_tells, load_without_seat_tells, IsAnyHead, seen_me};
 ghost use Rattle.bump_steps.specs.Tries.{AskedFound, TakeFound, last_found, of_life, of_any, asked_refusal, refusal_of, view_after_attempt, any_answer};
 
 use crate::decoding::head_of;
@@ -43,7 +43,7 @@ impl Play<Empty, View> for GiveBack {
 pub struct LookOfHold;
 
 impl Play<Empty, View> for LookOfHold {
-    ghost then = { on_chunk look_of_hold_tells };
+    ghost then = { on_chunk load_of_hold_tells };
 }
 
 pub struct LoadLabel;
@@ -79,7 +79,7 @@ impl<B: Limited> Play<Empty, View> for LoadWithoutSeat<B> {
 
 impl<L: RowLaw> Words<L> {
     /// A load of a head word, by a worker.
-    pub fn look_to_take(&self, seat: &mut Seat, chunk: u32, place: usize) -> u64
+    pub fn load_to_take(&self, seat: &mut Seat, chunk: u32, place: usize) -> u64
         requires seat { IsSeated (words_id self.now) seat.old chunk }
         requires place { place ≡ head_place (words_id self.now).slots chunk }
         requires worker { HasWorker seat.old.me.0 }
@@ -132,7 +132,7 @@ impl<L: RowLaw> Words<L> {
             × (result ≡ refusal_of limit.now life first more)
             × (result ≡ None → L.law (words_in row)) }
     {
-        let mut word = self.look_to_take(seat, life.chunk, place);
+        let mut word = self.load_to_take(seat, life.chunk, place);
         for failed in 0..8u32 {
             let head = head_of(word);
             if let Some(refused) = refusal(word, head, life, limit) {
@@ -168,7 +168,7 @@ impl<L: RowLaw> Words<L> {
             × (result ≡ any_answer (asked_refusal limit.now of_any first more) (last_found first more))
             × (asked_refusal limit.now of_any first more ≡ None → L.law (words_in row)) }
     {
-        let mut expected = self.look_to_take(seat, chunk, place);
+        let mut expected = self.load_to_take(seat, chunk, place);
         for lost in 0..8u32 {
             let head = head_of(expected);
             if let Some(refused) = any_refusal(expected, head, limit) {
@@ -202,12 +202,12 @@ impl<L: RowLaw> Words<L> {
     }
 
     /// A load of a head word, by a hold, whose list of looks notes it.
-    pub fn look_of_hold(&self, seat: &mut Seat, chunk: u32, place: usize) -> u64
+    pub fn load_of_hold(&self, seat: &mut Seat, chunk: u32, place: usize) -> u64
         requires seat { IsSeated (words_id self.now) seat.old chunk }
         requires place { place ≡ head_place (words_id self.now).slots chunk }
         requires hold { HasHold chunk seat.old.me.0 }
         ensures same { StaysSeated seat.old seat.new }
-        ensures told { look_of_hold_tells chunk 0 seat.old.me result seat.new.me }
+        ensures told { load_of_hold_tells chunk 0 seat.old.me result seat.new.me }
     {
         self.table
             .shared

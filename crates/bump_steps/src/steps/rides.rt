@@ -13,7 +13,7 @@ ghost use Rattle.bump_steps.specs.Riders.{ride_me};
 ghost use Rattle.bump_steps.specs.Marks.{on_worker};
 ghost use Rattle.bump_steps.specs.Tries.{RideFound, drop_of, worker_after_attempt};
 ghost use Rattle.bump_steps.specs.Rides.{dropped_as, load_to_ride_tells, try_to_ride_tells, release_tells, IsOn};
-ghost use Rattle.bump_steps.specs.Rides.{HasRoom, without_ride, ride_only, return_both};
+ghost use Rattle.bump_steps.specs.Rides.{HasRoomForReference, without_ride, ride_only, return_both};
 
 use crate::decoding::head_of;
 use crate::laws::RowLaw;
@@ -84,7 +84,7 @@ impl Join<View> for RideBack {
 }
 
 impl<L: RowLaw> Words<L> {
-    fn look_to_ride_by<W: Attempt>(
+    fn load_to_ride_by<W: Attempt>(
         &self,
         seat: &mut Seat,
         limit: Count,
@@ -105,7 +105,7 @@ impl<L: RowLaw> Words<L> {
     }
 
     /// A load, of a worker that looks for room for its bump's reference.
-    pub fn look_to_ride(&self, seat: &mut Seat, limit: Count, life: ItemId, place: usize) -> u64
+    pub fn load_to_ride(&self, seat: &mut Seat, limit: Count, life: ItemId, place: usize) -> u64
         requires seat { IsSeated (words_id self.now) seat.old life.chunk }
         requires place { place ≡ head_place (words_id self.now).slots life.chunk }
         requires limit { limit ≡ (config_of self.now).refs_limit }
@@ -113,7 +113,7 @@ impl<L: RowLaw> Words<L> {
         ensures same { StaysSeated seat.old seat.new }
         ensures told { load_to_ride_tells limit 0 life seat.old.me result seat.new.me }
     {
-        self.look_to_ride_by::<Brand>(seat, limit, life, place)
+        self.load_to_ride_by::<Brand>(seat, limit, life, place)
     }
 
     fn try_to_ride_by<W: Attempt>(
@@ -130,7 +130,7 @@ impl<L: RowLaw> Words<L> {
         requires attempt { (W.limit ≡ limit) × (W.failed ≡ failed) × (W.life ≡ life) }
         requires limit { limit ≡ (config_of self.now).refs_limit }
         requires trying { IsOn (Trying life) life seat.old.me.0 }
-        requires room { HasRoom limit seen }
+        requires room { HasRoomForReference limit seen }
         ensures same { StaysSeated seat.old seat.new }
         ensures told { try_to_ride_tells limit failed life seen seat.old.me result seat.new.me }
     {
@@ -157,7 +157,7 @@ impl<L: RowLaw> Words<L> {
         requires place { place ≡ head_place (words_id self.now).slots life.chunk }
         requires limit { limit ≡ (config_of self.now).refs_limit }
         requires trying { IsOn (Trying life) life seat.old.me.0 }
-        requires room { HasRoom limit seen }
+        requires room { HasRoomForReference limit seen }
         ensures same { StaysSeated seat.old seat.new }
         ensures told { try_to_ride_tells limit failed life seen seat.old.me result seat.new.me }
     {
@@ -182,7 +182,7 @@ impl<L: RowLaw> Words<L> {
             × (seat.new.me ≡ (on_worker (worker_after_attempt limit.now life first more) seat.old.me.0, seat.old.me.1))
             × (option_map dropped_as result ≡ drop_of limit.now first more) }
     {
-        let mut word = self.look_to_ride(seat, *limit, life, place);
+        let mut word = self.load_to_ride(seat, *limit, life, place);
         for failed in 0..8u32 {
             let head = head_of(word);
             if head.refs as Count >= *limit {

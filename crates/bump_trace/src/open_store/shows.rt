@@ -2,7 +2,7 @@
 
 ghost use Rattle.std.specs.Prelude.{◌≡◌, ◌<◌, [], ◌++◌, OnOk, length};
 ghost use Rattle.std.specs.List.{flat_map};
-ghost use Rattle.bump_core.specs.Readers.{list_of};
+ghost use Rattle.bump_core.specs.Readers.{class_list};
 ghost use Rattle.bump_rules.specs.Lists.{ascending};
 ghost use Rattle.bump_trace.specs.OpenStore.{show_said, moves_said};
 ghost use Rattle.bump_trace.specs.Shows.{list_entry, list_line, class_lines, worker_line, moves_line_of, class_moves};
@@ -41,11 +41,11 @@ impl<'a> OpenStore<'a> {
         put_close(out, worker, self.world.accounts(worker), applied)
     }
 
-    /// What is told of all chunks of a list.
+    // What is told of all chunks of a list.
     fn put_entries(&self, out: &mut Vec<u8>, class: u32, place: Place) -> Result<(), AllocError>
         requires { class < length self.now.world.classes }
         ensures { OnOk result (out.new.items ≡ out.old.items ++ flat_map (list_entry self.now.world place)
-            (list_of self.now.world class place)) }
+            (class_list self.now.world class place)) }
     {
         for chunk in self.world.list(class, place) {
             out.extend_from_slice(b" ")?;
@@ -60,7 +60,7 @@ impl<'a> OpenStore<'a> {
         Ok(())
     }
 
-    /// The line of a list, where it is told of.
+    // The line of a list, where it is told of.
     #[tactic(auto, unfolding(crate::specs::Shows::list_line))]
     fn put_list(&self, out: &mut Vec<u8>, class: u32, place: Place) -> Result<(), AllocError>
         requires { class < length self.now.world.classes }
@@ -75,7 +75,7 @@ impl<'a> OpenStore<'a> {
         out.extend_from_slice(b"\n")
     }
 
-    /// The lines of a class's lists.
+    // The lines of a class's lists.
     fn put_class(&self, out: &mut Vec<u8>, class: u32) -> Result<(), AllocError>
         requires { class < length self.now.world.classes }
         ensures { OnOk result (out.new.items ≡ out.old.items ++ class_lines self.now.world class) }
@@ -97,7 +97,7 @@ impl<'a> OpenStore<'a> {
         Ok(())
     }
 
-    /// The line of a worker.
+    // The line of a worker.
     #[tactic(auto, unfolding(crate::specs::Shows::worker_line))]
     fn put_accounts(&self, out: &mut Vec<u8>, worker: u32) -> Result<(), AllocError>
         requires { worker < length self.now.world.workers }
@@ -130,7 +130,7 @@ impl<'a> OpenStore<'a> {
         Ok(())
     }
 
-    /// The lines of a class of `moves`.
+    // The lines of a class of `moves`.
     fn put_class_moves(&self, out: &mut Vec<u8>, class: u32) -> Result<(), AllocError>
         requires ready { IsReady self.now }
         requires class { class < length self.now.world.classes }

@@ -91,7 +91,7 @@ fn live<N: Name>(
     expect_seen(rt, heads, 0, (head(1, "l", Segment::Hot, 1), 1));
     expect_seen(rt, heads, 1, (head(0, "", Segment::Hot, 0), 0));
     let mut hold = heads.take(worker, life).expect(rt, "there is room");
-    expect_head(rt, class.look(0, place), head(2, "l", Segment::Hot, 1));
+    expect_head(rt, class.load_head(0, place), head(2, "l", Segment::Hot, 1));
     mark_in_hot(rt, heads, worker, &mut hold);
     expect(rt, "the label", &class.meet(&mut hold), &7);
     expect_head(

@@ -47,7 +47,7 @@ struct Random {
 }
 
 impl Random {
-    /// The next number, below 2^31.
+    // The next number, below 2^31.
     fn next(&mut self) -> u64 {
         self.state = self
             .state
@@ -57,7 +57,7 @@ impl Random {
     }
 }
 
-/// One command, or those of one hit.
+// One command, or those of one hit.
 fn change<N: Name, R: Abort + Wait>(rt: &R, sides: &mut Sides<N>, number: u64, now: u64) {
     let worker = (number / 16 % 3) as u32;
     match number % 16 {
@@ -77,7 +77,7 @@ fn change<N: Name, R: Abort + Wait>(rt: &R, sides: &mut Sides<N>, number: u64, n
     }
 }
 
-/// A hold is taken, touched or given back. Two are kept for a while.
+// A hold is taken, touched or given back. Two are kept for a while.
 fn keep<N: Name, R: Abort + Wait>(
     rt: &R,
     sides: &mut Sides<N>,
@@ -95,14 +95,14 @@ fn keep<N: Name, R: Abort + Wait>(
     }
 }
 
-/// Gives a hold that was kept back.
+// Gives a hold that was kept back.
 fn give_back<N: Name, R: Abort + Wait>(rt: &R, sides: &mut Sides<N>, held: Option<Hold<N>>) {
     if let Some(hold) = held {
         release(rt, sides, hold);
     }
 }
 
-/// The run.
+// The run.
 fn run<N: Name, R: Abort + Wait>(rt: &R, alloc: Global, sides: &mut Sides<N>) {
     let mut random = Random { state: 1 };
     let mut held = (None, None);
@@ -120,7 +120,7 @@ fn run<N: Name, R: Abort + Wait>(rt: &R, alloc: Global, sides: &mut Sides<N>) {
     expect_all_kinds(rt, &sides.world);
 }
 
-/// A worker's bumps were dropped for either reason, and applied with each outcome.
+// A worker's bumps were dropped for either reason, and applied with each outcome.
 fn expect_outcomes(rt: &impl Abort, world: &World, worker: u32) {
     assert!(rt; worker < world.workers());
     let counts = world.accounts(worker);
@@ -136,7 +136,7 @@ fn expect_outcomes(rt: &impl Abort, world: &World, worker: u32) {
     expect(rt, "the outcomes", &told, &[true; 3]);
 }
 
-/// Nothing is left out by chance: each worker's bumps ended in each way, and some chunks are out of generations.
+// Nothing is left out by chance: each worker's bumps ended in each way, and some chunks are out of generations.
 fn expect_all_kinds(rt: &impl Abort, world: &World) {
     for worker in 0..world.workers() {
         expect_outcomes(rt, world, worker);

@@ -21,7 +21,7 @@ use std::sync::atomic::{AtomicBool, AtomicU64, Ordering};
 use std::test::Fail;
 use std::thread;
 use std::thread::Threads;
-use telling::{Counts, tell};
+use telling::{RowCounts, tell};
 use writing::{Writer, write};
 
 /// The classes: few chunks, so that threads meet.
@@ -58,7 +58,7 @@ fn read_and_write<N: Name + Send + Sync, R: Threads + Abort + Wait + Sync>(
     store: &Store<N>,
     workers: Vec<Worker<N>>,
     mut writer: Writer<N>,
-) -> Result<(Counts, Writer<N>), AllocError> {
+) -> Result<(RowCounts, Writer<N>), AllocError> {
     let done = AtomicBool::new(false);
     let newest = AtomicU64::new(0);
     let heads: &ReaderHeads<N> = store;
@@ -82,8 +82,8 @@ fn read_and_write<N: Name + Send + Sync, R: Threads + Abort + Wait + Sync>(
 }
 
 // No read was wrong, and all were made.
-fn expect_right(rt: &impl Abort, counts: Counts) {
-    let Counts { wrong, fault, .. } = counts;
+fn expect_right(rt: &impl Abort, counts: RowCounts) {
+    let RowCounts { wrong, fault, .. } = counts;
     assert!(rt; wrong == 0, "{wrong} reads are wrong, one is {fault:?}");
     expect(rt, "all reads", &counts.reads(), &(4 * READS));
 }

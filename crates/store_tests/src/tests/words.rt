@@ -230,7 +230,7 @@ fn expect_row<N: Name>(
     row: &[u64],
 ) {
     assert!(rt; book.has_chunk(chunk));
-    let found = book.look(chunk);
+    let found = book.load_head(chunk);
     assert!(rt; book.has_chunk(chunk));
     expect_of(
         rt,

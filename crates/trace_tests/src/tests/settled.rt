@@ -33,7 +33,7 @@ const WAITING: [(&str, u64); 6] = [
     ),
 ];
 
-/// How many bumps the end of a run of the trace applied, and whether it was run to its end.
+// How many bumps the end of a run of the trace applied, and whether it was run to its end.
 fn settled_by(rt: &impl Wait, alloc: Global, keys: RandomState, trace: &[u8]) -> (u64, bool) {
     let mut settled = 99;
     let mut reader = Counted::new(trace);
@@ -42,7 +42,7 @@ fn settled_by(rt: &impl Wait, alloc: Global, keys: RandomState, trace: &[u8]) ->
     (settled, ended.is_ok())
 }
 
-/// All workers that are open at the end of a run are settled.
+// All workers that are open at the end of a run are settled.
 #[test]
 fn the_end_of_a_run_settles_its_workers(rt: HostRuntime) -> Result<(), Fail> {
     let keys = RandomState::new(&rt)?;
@@ -53,7 +53,7 @@ fn the_end_of_a_run_settles_its_workers(rt: HostRuntime) -> Result<(), Fail> {
     Ok(())
 }
 
-/// Nothing is told of a run that a fault ends.
+// Nothing is told of a run that a fault ends.
 #[test]
 fn a_fault_leaves_the_number_as_it_was(rt: HostRuntime) -> Result<(), Fail> {
     let keys = RandomState::new(&rt)?;

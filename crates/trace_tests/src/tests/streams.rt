@@ -10,12 +10,12 @@ use std::sync::Wait;
 use std::test::*;
 use store_trace::run_serial;
 
-/// A reader or a writer was asked so often, and failed so often.
+// A reader or a writer was asked so often, and failed so often.
 fn expect_calls(rt: &impl Abort, told: (u64, u64), wanted: (u64, u64)) {
     assert!(rt; told == wanted, "calls, and those that failed");
 }
 
-/// One byte for each read, with an interruption before it, and one byte for each write.
+// One byte for each read, with an interruption before it, and one byte for each write.
 #[test]
 fn byte_by_byte(rt: HostRuntime) -> Result<(), Fail> {
     let keys = RandomState::new(&rt)?;
@@ -31,8 +31,8 @@ fn byte_by_byte(rt: HostRuntime) -> Result<(), Fail> {
     Ok(())
 }
 
-/// Whether a run whose reader breaks after so many calls ends as Read, with that call its last one, and without a
-/// write.
+// Whether a run whose reader breaks after so many calls ends as Read, with that call its last one, and without a
+// write.
 fn ends_at_read(alloc: Global, keys: RandomState, trace: &[u8], calls: u64) -> bool {
     let mut reader = Counted::new(Slow::broken(trace, calls));
     let mut writer = Counted::new(Expecting::new(b""));
@@ -43,7 +43,7 @@ fn ends_at_read(alloc: Global, keys: RandomState, trace: &[u8], calls: u64) -> b
         && writer.calls() == 0
 }
 
-/// Whichever read fails: the run says so, and nothing was written.
+// Whichever read fails: the run says so, and nothing was written.
 #[test]
 fn each_read_fails(rt: HostRuntime) -> Result<(), Fail> {
     let keys = RandomState::new(&rt)?;
@@ -57,8 +57,8 @@ fn each_read_fails(rt: HostRuntime) -> Result<(), Fail> {
     Ok(())
 }
 
-/// Whether a run whose writer takes so many bytes, one for each call, ends as Write, with the next call its last one,
-/// and the front of the text written.
+// Whether a run whose writer takes so many bytes, one for each call, ends as Write, with the next call its last one,
+// and the front of the text written.
 fn ends_at_write(alloc: Global, keys: RandomState, taken: usize, ending: Ending) -> bool {
     let (trace, text) = PROMOTION;
     let mut reader = Counted::new(trace.as_bytes());
@@ -72,7 +72,7 @@ fn ends_at_write(alloc: Global, keys: RandomState, taken: usize, ending: Ending)
         && written.left() == text.len().saturating_sub(taken)
 }
 
-/// Whichever write answers Err: the run says so, and makes no further one.
+// Whichever write answers Err: the run says so, and makes no further one.
 #[test]
 fn each_write_fails(rt: HostRuntime) -> Result<(), Fail> {
     let keys = RandomState::new(&rt)?;
@@ -86,7 +86,7 @@ fn each_write_fails(rt: HostRuntime) -> Result<(), Fail> {
     Ok(())
 }
 
-/// The same where it takes nothing.
+// The same where it takes nothing.
 #[test]
 fn each_write_takes_nothing(rt: HostRuntime) -> Result<(), Fail> {
     let keys = RandomState::new(&rt)?;
@@ -100,7 +100,7 @@ fn each_write_takes_nothing(rt: HostRuntime) -> Result<(), Fail> {
     Ok(())
 }
 
-/// The same of a run on a store whose writer fails once.
+// The same of a run on a store whose writer fails once.
 fn serial_ends_at_write(rt: &impl Wait, alloc: Global, keys: RandomState, taken: usize) -> bool {
     let (trace, text) = PROMOTION;
     let mut reader = Counted::new(trace.as_bytes());
@@ -114,7 +114,7 @@ fn serial_ends_at_write(rt: &impl Wait, alloc: Global, keys: RandomState, taken:
         && written.left() == text.len().saturating_sub(taken)
 }
 
-/// A write that failed isn't made again.
+// A write that failed isn't made again.
 #[test]
 fn each_write_fails_once(rt: HostRuntime) -> Result<(), Fail> {
     let keys = RandomState::new(&rt)?;
@@ -140,8 +140,8 @@ pub(super) fn empty_pulls(alloc: Global, lines: u32) -> Result<(Vec<u8>, Vec<u8>
     Ok((trace, text))
 }
 
-/// The text is over 64 KiB, so that its first 65,520 bytes are written between two lines. Where one of these writes
-/// fails the run says so, and that write isn't made again, nor any other.
+// The text is over 64 KiB, so that its first 65,520 bytes are written between two lines. Where one of these writes
+// fails the run says so, and that write isn't made again, nor any other.
 #[test]
 fn a_write_fails_once_between_lines(rt: HostRuntime) -> Result<(), Fail> {
     let keys = RandomState::new(&rt)?;
@@ -160,7 +160,7 @@ fn a_write_fails_once_between_lines(rt: HostRuntime) -> Result<(), Fail> {
     Ok(())
 }
 
-/// A reader that is always interrupted is read 20,000,000 times.
+// A reader that is always interrupted is read 20,000,000 times.
 #[test]
 fn a_reader_that_is_always_interrupted(rt: HostRuntime) -> Result<(), Fail> {
     let keys = RandomState::new(&rt)?;

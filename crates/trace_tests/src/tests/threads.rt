@@ -20,7 +20,7 @@ use std::test::*;
 use std::thread::Threads;
 use store_trace::{Gate, OpenGate, run_par};
 
-/// The text that a trace gives by threads with so many drainers, and how its run ends.
+// The text that a trace gives by threads with so many drainers, and how its run ends.
 fn text_by<R: Threads + Wait + Sync, G: Gate + Sync>(
     rt: &R,
     alloc: Global,
@@ -37,7 +37,7 @@ fn text_by<R: Threads + Wait + Sync, G: Gate + Sync>(
     (writer.into_inner(), ended)
 }
 
-/// Each trace gives its text by threads with so many drainers, and its run ends so.
+// Each trace gives its text by threads with so many drainers, and its run ends so.
 fn all_give<R: Threads + Wait + Abort + Sync>(
     rt: &R,
     alloc: Global,
@@ -77,8 +77,8 @@ fn faults_behind_par(rt: HostRuntime) -> Result<(), Fail> {
     Ok(())
 }
 
-/// Two workers with an item each, and two `drain` lines behind: however many drainers make them, and whichever bumps these find,
-/// the text is the same.
+// Two workers with an item each, and two `drain` lines behind: however many drainers make them, and whichever bumps these find,
+// the text is the same.
 #[test]
 fn drains_by_several(rt: HostRuntime) -> Result<(), Fail> {
     let keys = RandomState::new(&rt)?;
@@ -91,7 +91,7 @@ fn drains_by_several(rt: HostRuntime) -> Result<(), Fail> {
     Ok(())
 }
 
-/// Two workers hit one item twice each: one hit is its first, and one bump is queued, whoever makes which.
+// Two workers hit one item twice each: one hit is its first, and one bump is queued, whoever makes which.
 #[test]
 fn two_workers_hit_one_item(rt: HostRuntime) -> Result<(), Fail> {
     let keys = RandomState::new(&rt)?;
@@ -126,7 +126,7 @@ fn one_drainer_drains_all_lanes(rt: HostRuntime) -> Result<(), Fail> {
     Ok(())
 }
 
-/// Each bump of a worker that was accepted was applied, and no more than these moved an item.
+// Each bump of a worker that was accepted was applied, and no more than these moved an item.
 fn expect_applied(rt: &impl Abort, text: &[u8], worker: &[u8], moves: &[u8]) {
     let told = behind(text, worker).unwrap_or(b"");
     let applied = number_behind(told, b" applied ");
@@ -148,7 +148,7 @@ const TOTALS: [&[u8]; 9] = [
     b" closed ",
 ];
 
-/// The report of an item that ends beside its four hits, however many of them find it.
+// The report of an item that ends beside its four hits, however many of them find it.
 fn expect_ended(rt: &impl Abort, text: &[u8]) {
     expect_applied(rt, text, b"\nworker 0", b"\nmoves 0 0 ");
     expect_applied(rt, text, b"\nworker 1", b"\nmoves 0 1 ");
@@ -209,7 +209,7 @@ fn two_workers_are_in_their_lines_at_once(rt: HostRuntime) -> Result<(), Fail> {
     Ok(())
 }
 
-/// The gate is asked before each `get` line of each worker, and told after it.
+// The gate is asked before each `get` line of each worker, and told after it.
 #[test]
 fn a_gate_at_each_line(rt: HostRuntime) -> Result<(), Fail> {
     let keys = RandomState::new(&rt)?;
@@ -222,8 +222,8 @@ fn a_gate_at_each_line(rt: HostRuntime) -> Result<(), Fail> {
     Ok(())
 }
 
-/// Where the gate lets one line not pass, the run says so, that worker makes no further line, the other makes all of its own, and
-/// what was written before stays.
+// Where the gate lets one line not pass, the run says so, that worker makes no further line, the other makes all of its own, and
+// what was written before stays.
 #[test]
 fn a_gate_that_does_not_open(rt: HostRuntime) -> Result<(), Fail> {
     let keys = RandomState::new(&rt)?;
@@ -245,7 +245,7 @@ fn a_gate_that_does_not_open(rt: HostRuntime) -> Result<(), Fail> {
     Ok(())
 }
 
-/// How a run by threads ends, and the writer that looked at its text.
+// How a run by threads ends, and the writer that looked at its text.
 fn run_expecting<'a, R: Threads + Wait + Sync>(
     rt: &R,
     alloc: Global,
@@ -258,8 +258,8 @@ fn run_expecting<'a, R: Threads + Wait + Sync>(
     (ended, writer.into_inner())
 }
 
-/// Whichever one allocation is refused: the run ends with its whole text, or as Memory or Threads with a front of it, and then
-/// the same run made again ends with its whole text.
+// Whichever one allocation is refused: the run ends with its whole text, or as Memory or Threads with a front of it, and then
+// the same run made again ends with its whole text.
 #[test]
 fn a_refused_allocation_by_threads(rt: HostRuntime) -> Result<(), Fail> {
     let keys = RandomState::new(&rt)?;
@@ -273,8 +273,8 @@ fn a_refused_allocation_by_threads(rt: HostRuntime) -> Result<(), Fail> {
     tell_left(&rt)
 }
 
-/// Whether a run by threads whose writer takes so many bytes, one for each call, and then fails once, ends as Write, with that call
-/// its last one, and the front of the text written.
+// Whether a run by threads whose writer takes so many bytes, one for each call, and then fails once, ends as Write, with that call
+// its last one, and the front of the text written.
 fn ends_at_write<R: Threads + Wait + Sync>(
     rt: &R,
     alloc: Global,
@@ -293,7 +293,7 @@ fn ends_at_write<R: Threads + Wait + Sync>(
         && written.left() == text.len().saturating_sub(taken)
 }
 
-/// A write that failed isn't made again, at the front, in the middle or at the end.
+// A write that failed isn't made again, at the front, in the middle or at the end.
 #[test]
 fn a_write_fails_once(rt: HostRuntime) -> Result<(), Fail> {
     let keys = RandomState::new(&rt)?;
@@ -304,8 +304,8 @@ fn a_write_fails_once(rt: HostRuntime) -> Result<(), Fail> {
     Ok(())
 }
 
-/// The text before the report is so long that it is written as the report is gathered. Where one of these writes fails the run says
-/// so, and that write isn't made again, nor is the report written.
+// The text before the report is so long that it is written as the report is gathered. Where one of these writes fails the run says
+// so, and that write isn't made again, nor is the report written.
 #[test]
 fn a_write_fails_once_before_the_report(rt: HostRuntime) -> Result<(), Fail> {
     let keys = RandomState::new(&rt)?;

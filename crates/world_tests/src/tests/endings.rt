@@ -4,7 +4,7 @@ use super::calls::{expect_made, steps_again, world_again};
 use super::readers::expect_accounts;
 use super::*;
 
-/// The head of a chunk.
+// The head of a chunk.
 fn head_of(rt: &impl Abort, world: &World, chunk: u32) -> Head {
     assert!(rt; chunk < world.chunks());
     world.head(chunk)
@@ -47,7 +47,7 @@ const UNLINK: Event = Event::Unlink { life: FIRST };
 
 const SWEEP: Event = Event::Sweep { chunk: 0 };
 
-/// The head of the first item with so many references, hit in WARM.
+// The head of the first item with so many references, hit in WARM.
 fn warm(refs: u32, active: bool) -> Head {
     Head {
         refs,
@@ -59,7 +59,7 @@ fn warm(refs: u32, active: bool) -> Head {
     }
 }
 
-/// The head of the first item with so many references, never hit, in HOT.
+// The head of the first item with so many references, never hit, in HOT.
 fn hot(refs: u32, linked: bool) -> Head {
     Head {
         refs,

@@ -1,6 +1,6 @@
 //! What a World of two chunks, one class and one worker tells of itself.
 ghost use Rattle.std.specs.Prelude.{◌≡◌, ◌<◌, IfOk, length};
-ghost use Rattle.bump_core.specs.Readers.{list_of};
+ghost use Rattle.bump_core.specs.Readers.{class_list};
 
 use super::*;
 use crate::expecting::expect;
@@ -147,7 +147,7 @@ pub fn expect_ends(rt: &impl Abort, world: &World, place: Place, wanted: Ends) {
     expect(rt, "the ends of a list", &ends(rt, world, place), &wanted);
 }
 
-/// The chunks of a list, in the order in which a loop meets them.
+// The chunks of a list, in the order in which a loop meets them.
 fn chunks_met(
     alloc: Global,
     world: &World,
@@ -155,7 +155,7 @@ fn chunks_met(
     place: Place,
 ) -> Result<Vec<u32>, AllocError>
     requires { class < length world.now.classes }
-    ensures { IfOk result (λ met. met.items ≡ list_of world.now class place) }
+    ensures { IfOk result (λ met. met.items ≡ class_list world.now class place) }
 {
     let mut met = Vec::new(alloc);
     for chunk in world.list(class, place) {

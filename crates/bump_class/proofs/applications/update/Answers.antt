@@ -4,7 +4,7 @@ use Rattle.bump_rules.specs.declared.bumps.Outcome.TheVariants.{Moved, TimeOnly,
 use Rattle.bump_rules.specs.declared.places.Segment.TheVariants.{Cold}
 use Rattle.bump_rules.specs.Tables.{is_cold}
 use Rattle.bump_heads.proofs.Endings as on
-use Rattle.bump_class.specs.Applications.{with_time, with_clearing, with_move}
+use Rattle.bump_class.specs.Applications.{class_with_time, with_clearing, with_move}
 use Rattle.bump_class.proofs.UpdateLemmas.{not_cold, gone_by, elsewhere_by, clear_by, moved_by, rests, FittingHeads, found_by, updates}
 use Rattle.bump_class.proofs.applications.update.Goals as goal
 use Rattle.bump_class.proofs.applications.update.Goals.{in-Cold, in_default}
@@ -91,7 +91,7 @@ returns-then-not-matches g c =
     let p = c.put_time in
     let is = on.put_time_is v t.new.self o m.0 b b.life.chunk t.result m.1 refl t.ensures.tried t.ensures.found
     t.ensures.fits c.requires.own c.args.now p.new.self p.ensures.timed in
-    let timed = with_time m.0.worker b c.args.now v.part in
+    let timed = class_with_time m.0.worker b c.args.now v.part in
     let part = sym (ap (λ (x : Bool). if x then with_clearing m.0.worker b t.result timed else timed) elsewhere) in
     let all = updates v o m.0 b c.args.now c.requires.alone m.1 TimeOnly found t.ensures.found
     (sym (elsewhere_by t.result t.result c.if-not-tried.false elsewhere)) p.new.self a.new.self a.new.lane _ _ is
@@ -115,7 +115,7 @@ returns-then-not-cleared g c =
     let p = c.put_time in
     let is = on.clear_active_is v t.new.self o m.0 b b.life.chunk t.result m.1 refl t.ensures.tried t.ensures.found
     t.ensures.fits c.requires.own c.args.now p.new.self p.ensures.timed d.result d.new.self d.ensures.cleared in
-    let timed = with_time m.0.worker b c.args.now v.part in
+    let timed = class_with_time m.0.worker b c.args.now v.part in
     let part = sym (ap (λ (x : Bool). if x then with_clearing m.0.worker b d.result timed else timed) cold) in
     let all = updates v o m.0 b c.args.now c.requires.alone m.1 TimeOnly found t.ensures.found
     (sym (clear_by t.result d.result c.if-not-tried.false cold c.if-not-cleared.true)) d.new.self a.new.self
@@ -145,6 +145,6 @@ returns g c =
     let all = updates v o m.0 b c.args.now c.requires.alone m.1 Moved found t.ensures.found
     (sym (moved_by t.result d.result c.if-not-tried.false cold c.if-not-cleared.false)) s.new.self a.new.self
     a.new.lane _ _ is (rests (with_move m.0.worker b s.result (with_clearing m.0.worker b d.result
-    (with_time m.0.worker b c.args.now v.part))) c.requires.idle) refl refl a.ensures.class a.ensures.lane a.ensures.entry a.ensures.once
+    (class_with_time m.0.worker b c.args.now v.part))) c.requires.idle) refl refl a.ensures.class a.ensures.lane a.ensures.entry a.ensures.once
     a.ensures.moves in
     record { whole = all.0; updates = all.1 }

@@ -6,7 +6,7 @@ use Rattle.bump_links.specs.declared.chain.Node.{Node}
 use Rattle.bump_links.specs.declared.chain.Header.{Header}
 use Rattle.bump_links.specs.Lists.{times}
 use Rattle.bump_links.specs.Chain.{node_at, no_node, SpellsList, IsMember}
-use Rattle.bump_links.specs.Relink.{LinksForward, LinksBack, with_head, with_tail}
+use Rattle.bump_links.specs.Relink.{LinksForward, LinksBack, header_with_head, with_tail}
 use Rattle.bump_links.proofs.ListsLemmas.{Each-at}
 use Rattle.bump_links.proofs.ChainLemmas.{PassesBy, SpellsList-removed, KeepsOthers-removed, LeadsIn, leads_in}
 use Rattle.bump_links.proofs.chain.unlink.Goals as goal
@@ -47,13 +47,13 @@ link_back-requires c =
 -- the two stores pass the node by, where z is its record as it was read
 passes_by : (nodes nodes1 nodes2 : List Node) (h h1 h2 : Header) (n : ℕ) (z : Node) → z ≡ node_at nodes n
     → length nodes ≤ NODES_MAX → length nodes1 ≡ length nodes → length nodes2 ≡ length nodes1
-    → LinksForward nodes nodes1 z.back z.forward → h1 ≡ with_head h z.back z.forward
+    → LinksForward nodes nodes1 z.back z.forward → h1 ≡ header_with_head h z.back z.forward
     → LinksBack nodes1 nodes2 z.forward z.back → h2 ≡ with_tail h1 z.forward z.back
     → PassesBy nodes nodes1 nodes2 h h2 n
 passes_by nodes nodes1 nodes2 h h1 h2 n z e few len1 len2 forward head back tail =
     let P : Node → Type 0 = λ q. LinksForward nodes nodes1 q.back q.forward in
     let Q : Node → Type 0 = λ q. LinksBack nodes1 nodes2 q.forward q.back in
-    let R : Node → Type 0 = λ q. h2 ≡ with_tail (with_head h q.back q.forward) q.forward q.back in
+    let R : Node → Type 0 = λ q. h2 ≡ with_tail (header_with_head h q.back q.forward) q.forward q.back in
     record {
       few = few;
       len1 = len1;

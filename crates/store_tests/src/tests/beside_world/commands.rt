@@ -36,7 +36,7 @@ pub fn cold_item_of(rt: &impl Abort, world: &World, number: u64) -> ItemId {
     item(world, world.list_back(class, Place::Cold).unwrap_or(class))
 }
 
-/// Which of the four pulls.
+// Which of the four pulls.
 fn tail_of(number: u64) -> Tail {
     match number % 8 {
         0 | 1 => Tail::Hot,
@@ -68,7 +68,7 @@ pub fn command_of(number: u64, item: ItemId, now: u64) -> Command {
     }
 }
 
-/// The class whose Book gets the command, if there is one.
+// The class whose Book gets the command, if there is one.
 fn class_of<N: Name>(store: &Store<N>, command: Command) -> Result<u32, NoSuchChunk> {
     match command {
         Command::Link { class, .. } => Ok(class),

@@ -42,7 +42,7 @@ fn expect_same_list<N: Name>(
     expect_of(rt, "in", &place, &chunks.as_slice(), &told.as_slice());
 }
 
-/// Both have the same lists of a class.
+// Both have the same lists of a class.
 fn expect_same_lists<N: Name>(
     rt: &impl Abort,
     alloc: Global,
@@ -84,7 +84,7 @@ fn expect_same_head<N: Name>(rt: &impl Abort, book: &mut Book<N>, world: &World,
     expect_of(rt, "of chunk", &chunk, &seen(book, chunk), &Some(told));
 }
 
-/// Both have the same heads and times of a class's chunks.
+// Both have the same heads and times of a class's chunks.
 fn expect_same_heads<N: Name>(rt: &impl Abort, book: &mut Book<N>, world: &World) {
     for chunk in book.range() {
         expect_same_head(rt, book, world, chunk);
@@ -104,7 +104,7 @@ fn seen_of_worker<N: Name>(rt: &impl Abort, sides: &Sides<N>, worker: usize) -> 
     (reader.counts(), lane.applied())
 }
 
-/// Both have the same accounts of each worker, and applied as many of its bumps.
+// Both have the same accounts of each worker, and applied as many of its bumps.
 fn expect_same_accounts<N: Name>(rt: &impl Abort, sides: &Sides<N>) {
     for worker in 0..sides.world.workers() {
         let seen = seen_of_worker(rt, sides, worker as usize);

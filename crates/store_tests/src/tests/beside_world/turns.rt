@@ -7,7 +7,7 @@ use bump_store::{GetRefusal, Hold};
 use std::process::Abort;
 use std::sync::Wait;
 
-/// What the World answers where a worker gets no hold. It never tells a worker that others were faster.
+// What the World answers where a worker gets no hold. It never tells a worker that others were faster.
 fn refused(refusal: GetRefusal) -> Option<Answer> {
     match refusal {
         GetRefusal::NoSuchChunk => Some(Answer::NoSuchChunk),
@@ -28,7 +28,7 @@ fn get<N: Name>(
     reader.expect(rt, "it is a worker").get(&sides.store, id)
 }
 
-/// A worker's hold of the item, if both give one.
+// A worker's hold of the item, if both give one.
 fn take<N: Name>(
     rt: &impl Abort,
     sides: &mut Sides<N>,
@@ -69,7 +69,7 @@ fn expect_label<N: Name>(rt: &impl Abort, sides: &mut Sides<N>, hold: &mut Hold<
     expect(rt, "the label", &label, &told);
 }
 
-/// Both hit the held item, and its label is read.
+// Both hit the held item, and its label is read.
 fn touch<N: Name, R: Abort>(
     rt: &R,
     sides: &mut Sides<N>,

@@ -8,7 +8,7 @@ use std::alloc::{AllocError, Global};
 
 /// A word that isn't what was stored for the item: its label has the index 0, and its further words the next ones.
 #[derive(Clone, Copy, Debug)]
-pub struct Fault {
+pub struct WrongWord {
     item: ItemId,
     index: u32,
     found: u64,
@@ -45,11 +45,11 @@ pub fn fault_of<N: Name>(
     heads: &ReaderHeads<N>,
     hold: &mut Hold<N>,
     item: ItemId,
-) -> Option<Fault> {
+) -> Option<WrongWord> {
     let label = label_of(item);
     let found = hold.label(heads);
     if found != label {
-        return Some(Fault {
+        return Some(WrongWord {
             item,
             index: 0,
             found,
@@ -60,7 +60,7 @@ pub fn fault_of<N: Name>(
         let found = hold.word(heads, index);
         let wanted = word_of(label, index);
         if found != wanted {
-            return Some(Fault {
+            return Some(WrongWord {
                 item,
                 index: index.saturating_add(1),
                 found,

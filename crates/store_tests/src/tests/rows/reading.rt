@@ -1,6 +1,6 @@
 //! What a reader's thread does: it takes holds in three ways, checks each row twice, and keeps some holds for long.
-use super::checked::{Fault, fault_of};
-use super::telling::Counts;
+use super::checked::{WrongWord, fault_of};
+use super::telling::RowCounts;
 use super::writing::item_in;
 use super::{CHUNKS, READS};
 use bump_heads::Name;
@@ -30,7 +30,7 @@ struct Reader<N: Name> {
     worker: Worker<N>,
     draw: u64,
     generations: [u32; CHUNKS as usize],
-    counts: Counts,
+    counts: RowCounts,
 }
 
 /// The next one in a row of numbers that jump.
@@ -132,7 +132,7 @@ impl<N: Name> Reader<N> {
     }
 
     // Counts a fault.
-    fn count_fault(&mut self, fault: Option<Fault>) {
+    fn count_fault(&mut self, fault: Option<WrongWord>) {
         if fault.is_some() {
             self.counts.wrong = self.counts.wrong.saturating_add(1);
             self.counts.fault = fault;
@@ -202,7 +202,7 @@ fn read<N: Name, R: Abort>(
     heads: &ReaderHeads<N>,
     mut reader: Reader<N>,
     newest: &AtomicU64,
-) -> Counts {
+) -> RowCounts {
     reader.read_all(rt, heads, newest);
     reader.counts
 }
@@ -220,7 +220,7 @@ fn readers_of<N: Name>(
             worker,
             draw,
             generations: [1; CHUNKS as usize],
-            counts: Counts::NONE,
+            counts: RowCounts::NONE,
         })?;
     }
     Ok(readers)
@@ -233,7 +233,7 @@ pub fn read_apart<N: Name + Send + Sync, R: Threads + Abort + Sync>(
     heads: &ReaderHeads<N>,
     workers: Vec<Worker<N>>,
     newest: &AtomicU64,
-) -> Result<Vec<Counts>, AllocError> {
+) -> Result<Vec<RowCounts>, AllocError> {
     let readers = readers_of(alloc, workers)?;
     thread::map_vec(rt, readers, &|reader| read(rt, heads, reader, newest))
 }

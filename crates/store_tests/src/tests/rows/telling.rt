@@ -1,10 +1,10 @@
 //! What is counted of reads, and what is said of it.
-use super::checked::Fault;
+use super::checked::WrongWord;
 use std::test::Fail;
 
 /// What readers counted, and the writer.
 #[derive(Clone, Copy)]
-pub struct Counts {
+pub struct RowCounts {
     /// Reads of items that the writer told, of items that were guessed, and of whatever item a chunk had.
     pub told: u64,
     pub guessed: u64,
@@ -18,16 +18,16 @@ pub struct Counts {
 
     /// Reads in which a word was wrong at one of the two looks, and a word of one of them.
     pub wrong: u64,
-    pub fault: Option<Fault>,
+    pub fault: Option<WrongWord>,
 
     /// Items that were linked, and bumps that were applied.
     pub linked: u64,
     pub applied: u64,
 }
 
-impl Counts {
+impl RowCounts {
     /// Nothing is counted yet.
-    pub const NONE: Counts = Counts {
+    pub const NONE: RowCounts = RowCounts {
         told: 0,
         guessed: 0,
         any: 0,
@@ -47,8 +47,8 @@ impl Counts {
     }
 
     /// Both together.
-    pub fn and(self, other: Counts) -> Counts {
-        Counts {
+    pub fn and(self, other: RowCounts) -> RowCounts {
+        RowCounts {
             told: self.told.saturating_add(other.told),
             guessed: self.guessed.saturating_add(other.guessed),
             any: self.any.saturating_add(other.any),
@@ -63,8 +63,8 @@ impl Counts {
 }
 
 /// Says what was counted. `checks/loaded_threads` reads the line.
-pub fn tell(rt: &impl Eprint, further: u32, counts: Counts) -> Result<(), Fail> {
-    let Counts {
+pub fn tell(rt: &impl Eprint, further: u32, counts: RowCounts) -> Result<(), Fail> {
+    let RowCounts {
         told,
         guessed,
         any,

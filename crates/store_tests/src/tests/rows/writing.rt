@@ -3,7 +3,7 @@ use super::super::calls::{expect_size, lock, pull, sweep};
 use super::super::expecting::expect;
 use super::checked::{label_of, words_of};
 use super::reading::next_draw;
-use super::telling::Counts;
+use super::telling::RowCounts;
 use bump_class::Book;
 use bump_heads::Name;
 use bump_rules::{ItemId, Place, Tail};
@@ -39,7 +39,7 @@ pub fn item_in(number: u64) -> ItemId {
 fn next_item<N: Name>(rt: &impl Abort, book: &mut Book<N>) -> Option<ItemId> {
     let chunk = book.first(Place::Unused)?;
     assert!(rt; book.has_chunk(chunk));
-    let generation = book.look(chunk).generation.wrapping_add(1);
+    let generation = book.load_head(chunk).generation.wrapping_add(1);
     Some(ItemId { chunk, generation })
 }
 
@@ -82,7 +82,7 @@ fn unlink<N: Name>(rt: &impl Abort, book: &mut Book<N>, number: u64) {
         .start
         .saturating_add((number % u64::from(count)) as u32);
     assert!(rt; book.has_chunk(chunk));
-    let generation = book.look(chunk).generation;
+    let generation = book.load_head(chunk).generation;
     let _ended = book.unlink(ItemId { chunk, generation });
 }
 
@@ -181,8 +181,8 @@ impl<N: Name> Writer<N> {
     }
 
     /// What it counted.
-    pub fn counts(&self) -> Counts {
-        Counts {
+    pub fn counts(&self) -> RowCounts {
+        RowCounts {
             linked: self.linked,
             applied: self.applied,
             ..Counts::NONE

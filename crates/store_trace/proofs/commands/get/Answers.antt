@@ -6,13 +6,13 @@ use Rattle.bump_steps.specs.Rule.{chunks as all_chunks}
 use Rattle.bump_steps.specs.declared.refusals.TakeRefusal.{TakeRefusal}
 use Rattle.bump_steps.specs.declared.views.HoldPart.{HoldPart}
 use Rattle.bump_steps.specs.References.{new_hold}
-use Rattle.bump_parts.specs.Gets.{Got, get_answer}
+use Rattle.bump_parts.specs.Gets.{Got, get_result}
 use Rattle.bump_parts.specs.Touches.{Touched}
 use Rattle.store_trace.proofs.commands.get.Goals as goal
 
 -- a hold that was taken is of the item that was asked for
 held_item : (refusal : Option TakeRefusal) (item : ItemId) (row : List ℕ) (hold : HoldPart)
-    → Ok hold ≡ get_answer refusal item row → hold.life ≡ item
+    → Ok hold ≡ get_result refusal item row → hold.life ≡ item
 held_item None item row hold is = let e : hold ≡ new_hold item row = cc is in ap (λ (h : HoldPart). h.life) e
 held_item (Some refusal) item row hold is = absurd (cc is)
 

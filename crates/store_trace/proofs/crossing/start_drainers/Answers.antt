@@ -6,7 +6,7 @@ use Rattle.std.proofs.lemmas.List.{length_push, map-append, nil_from_length}
 use Rattle.std.proofs.lemmas.List.Elements.{All-push}
 use Rattle.bump_store.specs.Lanes.{LaneState}
 use Rattle.store_trace.specs.Jobs.{drainer_shares, shares_of}
-use Rattle.store_trace.specs.declared.jobs.Drainer.{Drainer}
+use Rattle.store_trace.specs.declared.jobs.DrainerThread.{DrainerThread}
 use Rattle.store_trace.specs.declared.tasks.Share.{Share}
 use Rattle.store_trace.proofs.InTurn.{moved_over, moved_all}
 use Rattle.store_trace.proofs.Shares.{next_share, shares_push}
@@ -15,7 +15,7 @@ use Rattle.store_trace.proofs.crossing.start_drainers.Goals as goal
 pub loop-lanes-preserved : goal.loop-lanes-preserved
 loop-lanes-preserved g c =
     let i = c.loop-lanes.invariant in
-    let D = Drainer g.row.N.Denot in
+    let D = DrainerThread g.row.N.Denot in
     let share = λ (d : D). d.handle.promise.share in
     let P = λ (d : D). (d.handle.promise.store.value ≡ c.args.store.now) × (d.handle.promise.tasks.value.items ≡ c.args.chores.now.items) in
     let drainers = c.loop-lanes.drainers.items in
@@ -40,5 +40,5 @@ loop-lanes-preserved g c =
 pub returns-clause-lanes : goal.returns-clause-lanes
 returns-clause-lanes g c =
     let none : into_iter_items c.loop-lanes.lanes-iterator ≡ [] = nil_from_length c.loop-lanes.lanes-iterator.rest.items (sym c.loop-lanes.lanes-iterator.rest.ok.0 ∙ c.in-None.ensures.steps.0) in
-    moved_all (λ (d : Drainer g.row.N.Denot). d.handle.promise.lanes.value.items) (λ (v : VecDeque LaneState Global). v.items) c.loop-lanes.drainers.items
+    moved_all (λ (d : DrainerThread g.row.N.Denot). d.handle.promise.lanes.value.items) (λ (v : VecDeque LaneState Global). v.items) c.loop-lanes.drainers.items
     (into_iter_items c.loop-lanes.lanes-iterator) _ none c.loop-lanes.invariant.lanes

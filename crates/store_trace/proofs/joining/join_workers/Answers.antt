@@ -2,7 +2,7 @@ use Rattle.std.proofs.Common.{◌≡◌, Bool, true, ◌||◌, sym, ap, ◌∙�
 use Rattle.std.specs.Vec.Iter.{into_iter_items}
 use Rattle.store_trace.specs.Jobs.{job_ring}
 use Rattle.store_trace.specs.Slots.{slot_ring}
-use Rattle.store_trace.specs.Totals.{both}
+use Rattle.store_trace.specs.Totals.{both_totals}
 use Rattle.store_trace.proofs.InTurn.{moved_over}
 use Rattle.store_trace.specs.declared.totals.Totals.{Totals}
 use Rattle.store_trace.proofs.JoinedJobs.{CameSoFar, came_next}
@@ -26,7 +26,7 @@ loop-job-preserved g c =
       rings = moved_over slot_ring job_ring c.loop-job.slots.items slots joined.slot (into_iter_items c.loop-job.job-iterator) left c.in-Some.job _
           c.in_ok-push.ensures.items c.in-Some.ensures.steps.0 c.join_worker-joined.ensures.ring c.loop-job.invariant.rings;
       came = subst (λ (t : Totals). CameSoFar c.args.jobs.items left slots t c.if-is_stopped.is_stopped) (sym c.add.ensures)
-          (subst (λ (b : Bool). CameSoFar c.args.jobs.items left slots (both c.loop-job.totals joined.totals) b) (sym stopped)
+          (subst (λ (b : Bool). CameSoFar c.args.jobs.items left slots (both_totals c.loop-job.totals joined.totals) b) (sym stopped)
           (came_next c.args.jobs.items (into_iter_items c.loop-job.job-iterator) left c.loop-job.slots.items slots c.loop-job.totals before c.in-Some.job joined
           c.in-Some.ensures.steps.0 c.in_ok-push.ensures.items c.loop-job.invariant.came c.join_worker-joined.ensures.came));
     }

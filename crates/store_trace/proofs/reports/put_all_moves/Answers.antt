@@ -6,7 +6,7 @@ use Rattle.bump_class.specs.Changes.{book_after_meets}
 use Rattle.bump_store.specs.Lanes.{LaneState}
 use Rattle.bump_store.specs.Stores.{IsOfClass}
 use Rattle.store_trace.specs.Pairs.{lanes_of}
-use Rattle.store_trace.specs.Reports.{moves_lines, moves_of_each, moves_of_lanes, moves_told, AreMovesOf}
+use Rattle.store_trace.specs.Reports.{moves_lines, moves_of_each, moves_of_lanes, lane_moves_told, AreMovesOf}
 use Rattle.store_trace.proofs.MoveLines.{each_push}
 use Rattle.store_trace.proofs.NumberedTexts.{told_more}
 use Rattle.store_trace.proofs.reports.put_all_moves.Goals as goal
@@ -41,7 +41,7 @@ loop-class-preserved g c =
       book = book;
       of_class = subst (λ (b : BookView). IsOfClass class store.classes b) (sym value) c.in-Ok.ensures.class;
       counted = refl;
-      told = subst (λ (ls : List LaneState). moves_of_lanes book.part ls ≡ moves_told book.part ls) i.lanes c.meet_lanes.ensures.told;
+      told = subst (λ (ls : List LaneState). moves_of_lanes book.part ls ≡ lane_moves_told book.part ls) i.lanes c.meet_lanes.ensures.told;
     } in record {
       lanes = c.meet_lanes.ensures.lanes ∙ i.lanes;
       told = (

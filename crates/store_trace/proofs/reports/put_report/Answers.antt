@@ -6,7 +6,7 @@ use Rattle.bump_rules.specs.declared.configs.Config.{Config}
 use Rattle.bump_store.specs.Finishing.{AreOfClasses, sum_of}
 use Rattle.bump_store.specs.declared.finishing.ClassSizes.{ClassSizes}
 use Rattle.store_trace.specs.Pairs.{lanes_of}
-use Rattle.store_trace.specs.Reports.{numbered_text, worker_line, total_line, moves_lines, sizes_line, told_by, AreMoves, IsLaterLane, IsReport}
+use Rattle.store_trace.specs.Reports.{numbered_text, worker_line, total_line, moves_lines, sizes_line, settled_told, AreMoves, IsLaterLane, IsReport}
 use Rattle.store_trace.specs.Settled.{IsSettled}
 use Rattle.store_trace.specs.declared.pairs.Pair.{Pair}
 use Rattle.store_trace.specs.declared.totals.Totals.{Totals}
@@ -22,23 +22,23 @@ behind_each_other old w t m s one two three four is_one is_two is_three is_four 
 
 module _ {N : Type 0} (pairs : List (Pair N)) (closed : All (λ (pair : Pair N). pair.worker ≡ None) pairs) where
   -- of workers that were closed it is told what they came to
-  all_settled : All IsSettled (map (λ (pair : Pair N). told_by pair.worker pair.lane pair.settled) pairs)
+  all_settled : All IsSettled (map (λ (pair : Pair N). settled_told pair.worker pair.lane pair.settled) pairs)
   all_settled =
-      All-map IsSettled (λ (pair : Pair N). told_by pair.worker pair.lane pair.settled) pairs
-      (All-weaker (λ (pair : Pair N). pair.worker ≡ None) (λ (pair : Pair N). IsSettled (told_by pair.worker pair.lane pair.settled))
-      (λ pair none. subst (λ worker. IsSettled (told_by worker pair.lane pair.settled)) (sym none) pair.adds_up) pairs closed)
+      All-map IsSettled (λ (pair : Pair N). settled_told pair.worker pair.lane pair.settled) pairs
+      (All-weaker (λ (pair : Pair N). pair.worker ≡ None) (λ (pair : Pair N). IsSettled (settled_told pair.worker pair.lane pair.settled))
+      (λ pair none. subst (λ worker. IsSettled (settled_told worker pair.lane pair.settled)) (sym none) pair.adds_up) pairs closed)
 
   -- the report, by its parts
   reported : (config : Config) (totals : Totals) (moves : List (List ℕ)) (sizes : List ClassSizes) → length pairs ≡ config.workers
       → AreMoves config (lanes_of pairs) moves → AreOfClasses config.classes sizes → map sum_of sizes ≡ map (λ class. class.chunks) config.classes
-      → IsReport config (lanes_of pairs) totals (numbered_text worker_line 0 (map (λ (pair : Pair N). told_by pair.worker pair.lane pair.settled) pairs)
+      → IsReport config (lanes_of pairs) totals (numbered_text worker_line 0 (map (λ (pair : Pair N). settled_told pair.worker pair.lane pair.settled) pairs)
       ++ total_line totals ++ numbered_text moves_lines 0 moves ++ numbered_text sizes_line 0 sizes)
   reported config totals moves sizes each moved of_classes sums = record {
-    workers = map (λ (pair : Pair N). told_by pair.worker pair.lane pair.settled) pairs;
+    workers = map (λ (pair : Pair N). settled_told pair.worker pair.lane pair.settled) pairs;
     moves = moves;
     sizes = sizes;
     lines = refl;
-    each = length-map pairs (λ (pair : Pair N). told_by pair.worker pair.lane pair.settled) ∙ each;
+    each = length-map pairs (λ (pair : Pair N). settled_told pair.worker pair.lane pair.settled) ∙ each;
     settled = all_settled;
     moved = moved;
     of_classes = of_classes;
@@ -65,7 +65,7 @@ returns g c =
         reported pairs closed c.args.store c.args.totals moves sizes (ap length same ∙ c.settle_all.ensures.count ∙ c.requires.workers)
             all_moved c.in-Ok.ensures.books c.in-Ok.ensures.sums,
         later,
-        behind_each_other c.args.out.now.items (numbered_text worker_line 0 (map (λ (pair : Pair N). told_by pair.worker pair.lane pair.settled) pairs))
+        behind_each_other c.args.out.now.items (numbered_text worker_line 0 (map (λ (pair : Pair N). settled_told pair.worker pair.lane pair.settled) pairs))
             (total_line c.args.totals) (numbered_text moves_lines 0 moves) (numbered_text sizes_line 0 sizes)
             c.put_workers.new.out.items c.put_total.new.out.items c.put_all_moves.new.out.items c.put_all_sizes.new.out.items
             c.in_ok-put_workers.ensures c.in_ok-put_total.ensures is_three

@@ -2,7 +2,7 @@ use Rattle.std.proofs.Common.{subst, ap, ◌∙◌}
 use Rattle.bump_rules.specs.Lists.{list_at}
 use Rattle.bump_state.specs.State.{State, class_at}
 use Rattle.bump_state.specs.Worlds.{IsLawful}
-use Rattle.bump_core.specs.Readers.{list_of}
+use Rattle.bump_core.specs.Readers.{class_list}
 use Rattle.bump_state.proofs.Fronts.{listed_in_range}
 use Rattle.bump_core.proofs.worlds.World.list.Goals as goal
 
@@ -13,4 +13,4 @@ returns-clause-in_range c = listed_in_range c.args.self.now
 
 pub returns-clause-chunks : goal.returns-clause-chunks
 returns-clause-chunks c =
-    c.list.ensures ∙ ap (λ (s : State). list_of s c.args.class c.args.place) c.self.view_is
+    c.list.ensures ∙ ap (λ (s : State). class_list s c.args.class c.args.place) c.self.view_is

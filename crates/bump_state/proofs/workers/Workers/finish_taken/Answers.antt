@@ -1,7 +1,7 @@
 use Rattle.std.proofs.Common.{List, [], ◌∷◌, ◌++◌, ap, ap₂, length, arith, sym, subst, refl, false, Some, ◌≡◌}
 use Rattle.bump_rules.specs.declared.items.ItemId.{ItemId}
 use Rattle.bump_rules.specs.declared.bumps.AppliedBump.{AppliedBump}
-use Rattle.bump_rules.specs.declared.lanes.Lane.TheVariants.{Empty}
+use Rattle.bump_rules.specs.declared.lanes.LaneStage.TheVariants.{Empty}
 use Rattle.bump_state.specs.Events.{next_bump}
 use Rattle.bump_state.specs.State.{new_worker}
 use Rattle.bump_state.specs.Workers.{worker_view, worker_view_at, is_applying}

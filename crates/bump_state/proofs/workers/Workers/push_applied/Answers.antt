@@ -1,6 +1,6 @@
 use Rattle.std.proofs.Common.{List, [], ◌∷◌, ◌++◌, ap, length, arith, refl, false}
 use Rattle.bump_rules.specs.declared.bumps.AppliedBump.{AppliedBump}
-use Rattle.bump_rules.specs.declared.lanes.Lane.TheVariants.{Empty}
+use Rattle.bump_rules.specs.declared.lanes.LaneStage.TheVariants.{Empty}
 use Rattle.bump_state.specs.State.{new_worker}
 use Rattle.bump_state.specs.Workers.{worker_view, is_applying}
 use Rattle.bump_rules.proofs.Updates.{rewritten, unchanged, on_err}

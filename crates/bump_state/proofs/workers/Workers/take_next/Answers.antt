@@ -1,6 +1,6 @@
 use Rattle.std.proofs.Common.{ℕ, List, [], ◌∷◌, ◌++◌, length, sym, ap, ap₂, ◌∙◌, arith, subst, refl, false, Some, ◌≡◌}
 use Rattle.bump_rules.specs.declared.items.ItemId.{ItemId}
-use Rattle.bump_rules.specs.declared.lanes.Lane.TheVariants.{Carrying}
+use Rattle.bump_rules.specs.declared.lanes.LaneStage.TheVariants.{Carrying}
 use Rattle.bump_rules.specs.Lanes.{bump_of}
 use Rattle.bump_state.specs.Events.{next_bump}
 use Rattle.bump_state.specs.State.{new_worker}

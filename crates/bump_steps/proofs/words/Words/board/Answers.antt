@@ -1,6 +1,6 @@
 use Rattle.std.proofs.Common.{ap, sym, ◌∙◌, subst}
 use Rattle.atomic_table.specs.Table.{Joins}
-use Rattle.bump_rules.specs.declared.lanes.Lane.{Lane}
+use Rattle.bump_rules.specs.declared.lanes.LaneStage.{LaneStage}
 use Rattle.bump_steps.specs.declared.views.View.{View}
 use Rattle.bump_steps.specs.Rule.{Kept, blank}
 use Rattle.bump_steps.specs.Plays.{Sat}
@@ -11,7 +11,7 @@ use Rattle.bump_steps.proofs.words.Words.board.Goals as goal
 
 pub join_seat-requires : goal.join_seat-requires
 join_seat-requires g c = let m = c.requires.views in let key = c.args.self.now.table.shared.key in
-    let v = ap (λ (x : Sat). x.0) (m.2 ∙ ap (λ (s : Lane). lane_me (record m.0 { stage = s })) m.3) in let w =
+    let v = ap (λ (x : Sat). x.0) (m.2 ∙ ap (λ (s : LaneStage). lane_me (record m.0 { stage = s })) m.3) in let w =
     ap (λ (x : Sat). x.0) m.4 in (
       c.requires.seats.0,
       c.requires.seats.1,

@@ -4,10 +4,10 @@ use Rattle.bump_steps.proofs.words.Words.ride.Goals as goal
 
 pub loop-failed-init : goal.loop-failed-init
 loop-failed-init g c = record {
-  same = c.look_to_ride-word.ensures.same;
-  tries = ride_starts c.args.limit.now c.args.life c.args.seat.now.me c.look_to_ride-word.new.seat.me
-      c.look_to_ride-word.result
-      c.look_to_ride-word.ensures.told;
+  same = c.load_to_ride-word.ensures.same;
+  tries = ride_starts c.args.limit.now c.args.life c.args.seat.now.me c.load_to_ride-word.new.seat.me
+      c.load_to_ride-word.result
+      c.load_to_ride-word.ensures.told;
 }
 
 pub head_of-head-requires : goal.head_of-head-requires

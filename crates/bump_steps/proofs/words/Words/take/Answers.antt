@@ -57,8 +57,8 @@ returns-clause-told g c = let t = c.loop-failed.invariant.tries in
 
 pub loop-failed-init : goal.loop-failed-init
 loop-failed-init g c = record {
-  same = c.look_to_take-word.ensures.same;
-  tries = take_starts g.L.RowLaw.law c.args.limit.now c.args.self.now.table.shared.table_id.slots (of_life c.args.life) c.args.life.chunk c.args.seat.now.me c.look_to_take-word.new.seat.me
-      c.look_to_take-word.result 0
-      c.look_to_take-word.ensures.told;
+  same = c.load_to_take-word.ensures.same;
+  tries = take_starts g.L.RowLaw.law c.args.limit.now c.args.self.now.table.shared.table_id.slots (of_life c.args.life) c.args.life.chunk c.args.seat.now.me c.load_to_take-word.new.seat.me
+      c.load_to_take-word.result 0
+      c.load_to_take-word.ensures.told;
 }

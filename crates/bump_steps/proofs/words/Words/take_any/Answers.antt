@@ -94,9 +94,9 @@ returns-clause-told g c = let t = c.loop-lost.invariant.tries in
 
 pub loop-lost-init : goal.loop-lost-init
 loop-lost-init g c = record {
-  same = c.look_to_take-expected.ensures.same;
+  same = c.load_to_take-expected.ensures.same;
   tries = take_starts g.L.RowLaw.law c.args.limit.now c.args.self.now.table.shared.table_id.slots of_any c.args.chunk
-      c.args.seat.now.me c.look_to_take-expected.new.seat.me
-      c.look_to_take-expected.result 0
-      c.look_to_take-expected.ensures.told;
+      c.args.seat.now.me c.load_to_take-expected.new.seat.me
+      c.load_to_take-expected.result 0
+      c.load_to_take-expected.ensures.told;
 }

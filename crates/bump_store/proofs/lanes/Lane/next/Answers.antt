@@ -1,6 +1,6 @@
 use Rattle.std.proofs.Common.{rules, ap, ◌∙◌, ◌++◌, ◌∷◌, [], length, subst}
 use Rattle.bump_class.specs.Lanes.{entries}
-use Rattle.bump_store.specs.Lanes.{LaneState, AppliesNext, NothingAboard, told}
+use Rattle.bump_store.specs.Lanes.{LaneState, AppliesNext, NothingAboard, applied_bump_of}
 use Rattle.bump_store.proofs.LaneLemmas.{all_applied, entry_kept}
 use Rattle.bump_store.proofs.lanes.Lane.next.Goals as goal
 
@@ -33,7 +33,7 @@ pub returns-clause-entry : goal.returns-clause-entry
 returns-clause-entry g c =
     entry_kept c.args.now c.deref_mut-book.result.now c.apply_aboard.new.book c.take.new.self
     c.apply_aboard.new.raw c.apply_aboard.result c.apply_aboard.ensures.applied
-    ∙ ap (λ xs. xs ++ told c.apply_aboard.result ∷ [])
+    ∙ ap (λ xs. xs ++ applied_bump_of c.apply_aboard.result ∷ [])
     (c.in_ok-bump.ensures.aboard.kept ∙ ap (λ (s : LaneState). entries s.lane) c.self.view_is)
 
 pub apply_aboard-requires-clause-own : goal.apply_aboard-requires-clause-own

@@ -2,7 +2,7 @@ use Rattle.std.proofs.Common.{rules, ◌≡◌, ℕ, List, Some, length, vec_len
 use Rattle.std.specs.Map.{update}
 use Rattle.std.specs.Str.{bytes_eq}
 use Rattle.std.proofs.lemmas.Map.Text.{hash_map_updates_str}
-use Rattle.store_trace.specs.NamedHolds.{place_in}
+use Rattle.store_trace.specs.NamedHolds.{place_of_name}
 use Rattle.store_trace.proofs.NamedHolds.{put_is_kept, put_names}
 use Rattle.store_trace.proofs.keeping.KeptHolds.keep.Goals as goal
 
@@ -11,7 +11,7 @@ invariant_of-self-in-Ok g c =
     let old = c.args.self.now in
     let long : vec_len old.holds ≡ length old.holds.items = search rules in
     let updates = hash_map_updates_str c.args.name.now old.places c.insert.new.self (Some c.len-place.result) c.in-Ok.ensures.updates in
-    let puts = λ (other : List ℕ). subst (λ (n : ℕ). place_in c.insert.new.self other ≡ update bytes_eq (place_in old.places) c.args.name.now (Some n) other) (c.len-place.ensures ∙ long) (updates other) in
+    let puts = λ (other : List ℕ). subst (λ (n : ℕ). place_of_name c.insert.new.self other ≡ update bytes_eq (place_of_name old.places) c.args.name.now (Some n) other) (c.len-place.ensures ∙ long) (updates other) in
     record { each = rw c.in_default.ensures.items (put_is_kept old.places c.insert.new.self old.holds.items old.each c.args.name.now c.args.hold puts) }
 
 pub returns-in-Ok : goal.returns-in-Ok
@@ -19,5 +19,5 @@ returns-in-Ok g c =
     let old = c.args.self.now in
     let long : vec_len old.holds ≡ length old.holds.items = search rules in
     let updates = hash_map_updates_str c.args.name.now old.places c.insert.new.self (Some c.len-place.result) c.in-Ok.ensures.updates in
-    let puts = λ (other : List ℕ). subst (λ (n : ℕ). place_in c.insert.new.self other ≡ update bytes_eq (place_in old.places) c.args.name.now (Some n) other) (c.len-place.ensures ∙ long) (updates other) in
+    let puts = λ (other : List ℕ). subst (λ (n : ℕ). place_of_name c.insert.new.self other ≡ update bytes_eq (place_of_name old.places) c.args.name.now (Some n) other) (c.len-place.ensures ∙ long) (updates other) in
     record { kept = rw c.in_default.ensures.items (put_names old.places c.insert.new.self old.holds.items old.each c.args.name.now c.args.hold puts) }

@@ -1,6 +1,6 @@
 use Rattle.std.proofs.Common.{length, refl}
 use Rattle.bump_rules.specs.declared.commands.Answer.{Answer}
-use Rattle.store_trace.specs.Commands.{OnClass, Pulls}
+use Rattle.store_trace.specs.Commands.{OnClass, AnswersPull}
 use Rattle.store_trace.proofs.Answered.{answer_inside}
 use Rattle.store_trace.proofs.makers.TenderMakesChores.pull.Goals as goal
 
@@ -10,6 +10,6 @@ returns g c =
     let config = c.args.self.now.store.now in (
       refl,
       λ inside.
-          answer_inside (λ (answer : Answer). OnClass class config (λ book left. Pulls c.args.tail book answer left)) c.pull-answer.result class
+          answer_inside (λ (answer : Answer). OnClass class config (λ book left. AnswersPull c.args.tail book answer left)) c.pull-answer.result class
           (length config.classes) inside c.pull-answer.ensures.none c.pull-answer.ensures.pulled,
     )

@@ -8,7 +8,7 @@ use Rattle.bump_store.specs.Passes.{IsDrained}
 use Rattle.store_trace.specs.Dealing.{in_turn, group_lanes}
 use Rattle.store_trace.specs.Jobs.{DrainerMade}
 use Rattle.store_trace.specs.Tasks.{MakesEach, drain_times, gets_of}
-use Rattle.store_trace.specs.declared.jobs.Drainer.{Drainer}
+use Rattle.store_trace.specs.declared.jobs.DrainerThread.{DrainerThread}
 use Rattle.store_trace.proofs.DealtLanes.{in_turn_zip}
 use Rattle.store_trace.proofs.InTurn.{zip_long}
 use Rattle.store_trace.proofs.JoinedJobs.{workers_made, groups_drained, lines_made}
@@ -17,7 +17,7 @@ use Rattle.store_trace.proofs.crossing.fn.cross.scope.Goals as goal
 
 pub returns : goal.returns
 returns g c =
-    let D = Drainer g.row.N.Denot in
+    let D = DrainerThread g.row.N.Denot in
     let V = VecDeque LaneState Global in
     let items = λ (v : V). v.items in
     let config = c.captures.store.now in
