@@ -92,7 +92,7 @@ fn links<N: Name>(book: &mut Book<N>, times: u32) -> PassTally {
     PassTally {
         refused,
         right,
-        ..Tally::NONE
+        ..PassTally::NONE
     }
 }
 
@@ -117,7 +117,7 @@ fn wide_links<N: Name>(book: &mut Book<N>, times: u32) -> PassTally {
     PassTally {
         refused,
         right,
-        ..Tally::NONE
+        ..PassTally::NONE
     }
 }
 
@@ -135,7 +135,7 @@ fn pulls<N: Name>(book: &mut Book<N>, tail: Tail, times: u32) -> PassTally {
     PassTally {
         refused,
         right,
-        ..Tally::NONE
+        ..PassTally::NONE
     }
 }
 
@@ -148,7 +148,7 @@ fn timed_calls<N: Name>(book: &mut Book<N>, call: Call, times: u32) -> PassTally
         Call::Pull(tail) => pulls(book, tail, times),
         Call::Sweep => PassTally {
             right: u64::from(book.sweep()),
-            ..Tally::NONE
+            ..PassTally::NONE
         },
     }
 }

@@ -81,7 +81,7 @@ pub fn gets<N: Name>(
     }
     PassTally {
         refused,
-        ..Tally::NONE
+        ..PassTally::NONE
     }
 }
 

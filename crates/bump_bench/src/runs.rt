@@ -111,7 +111,7 @@ fn timed_drains<N: Name, R: Wait>(rt: &R, store: &Store<N>, lanes: &mut [Lane<N>
     }
     PassTally {
         right,
-        ..Tally::NONE
+        ..PassTally::NONE
     }
 }
 

@@ -55,7 +55,7 @@ impl Work {
         match self {
             Work::Reads(reads) => Some(StoreShape {
                 further: reads.further,
-                ..Shape::full(1, reads.chunks(), reads.threads, reads.capacity, reads.cold)
+                ..StoreShape::full(1, reads.chunks(), reads.threads, reads.capacity, reads.cold)
             }),
             Work::Runs(runs) => Some(StoreShape::full(
                 runs.classes,

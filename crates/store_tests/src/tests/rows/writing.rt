@@ -185,7 +185,7 @@ impl<N: Name> Writer<N> {
         RowCounts {
             linked: self.linked,
             applied: self.applied,
-            ..Counts::NONE
+            ..RowCounts::NONE
         }
     }
 
