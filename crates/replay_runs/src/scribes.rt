@@ -21,7 +21,7 @@ pub(crate) struct Scribe {
     // so many lines were written: a line's number is its time
     lines: u64,
     // the key of the item that each chunk had last, by chunk
-    keys: Vec<u32>,
+    key_of_chunk: Vec<u32>,
     // the item of each key that has one
     items: HashMap<u32, ItemId, RandomState>,
     ring: u32,
@@ -56,10 +56,10 @@ fn pull_line(tail: Tail) -> &'static str
 
 impl Scribe {
     /// The first lines of a plan's trace, and its store, which is of this configuration, and in which no key has an item.
-    /// The keys that have one are hashed with `keys`.
+    /// The keys that have one are hashed with `hasher`.
     pub(crate) fn new(
         alloc: Global,
-        keys: RandomState,
+        hasher: RandomState,
         plan: &Plan,
         config: &Config,
     ) -> Result<Scribe, ReplayFault>
@@ -67,14 +67,14 @@ impl Scribe {
         ensures text { IfOk result (λ scribe. scribe.text.items ≡ header plan.now) }
         ensures fault { IfErr result IsOfCalls }
     {
-        let mut chunks = Vec::new(alloc);
-        chunks.resize(plan.config.items as usize, 0)?;
+        let mut key_of_chunk = Vec::new(alloc);
+        key_of_chunk.resize(plan.config.items as usize, 0)?;
         Ok(Scribe {
             world: World::new(alloc, config)?,
             text: header_of(alloc, plan)?,
             lines: 2,
-            keys: chunks,
-            items: HashMap::with_hasher(alloc, keys),
+            key_of_chunk,
+            items: HashMap::with_hasher(alloc, hasher),
             ring: plan.config.ring,
         })
     }
@@ -182,15 +182,18 @@ impl Scribe {
         ensures fault { IfErr result IsOfCalls }
     {
         self.items.insert(key, id)?;
-        if let Some(chunk) = self.keys.get_mut(id.chunk as usize) {
-            *chunk = key;
+        if let Some(last) = self.key_of_chunk.get_mut(id.chunk as usize) {
+            *last = key;
         }
         Ok(())
     }
 
     // The key of an item.
     fn key_of(&self, id: ItemId) -> u32 {
-        self.keys.get(id.chunk as usize).copied().unwrap_or(0)
+        self.key_of_chunk
+            .get(id.chunk as usize)
+            .copied()
+            .unwrap_or(0)
     }
 
     // The item ended.

@@ -10,7 +10,7 @@ use Rattle.trace_lines.specs.declared.faults.LineError.TheVariants as errors
 use Rattle.store_trace.specs.Endings.{EndsAt, Stopped, Goes, StopsAs}
 use Rattle.store_trace.specs.declared.openings.Beginning.{Beginning}
 use Rattle.store_trace.specs.declared.openings.LineStart.{LineStart}
-use Rattle.store_trace.specs.declared.openings.Stopped.{Stopped as TheStopped}
+use Rattle.store_trace.specs.declared.openings.StoppedLine.{StoppedLine as TheStopped}
 
 module _ (n₀ : ℕ) (all : List (List ℕ)) (s₀ : Stage) where
   -- what begins at a place goes on from there with the store that is opened

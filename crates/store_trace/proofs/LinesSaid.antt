@@ -24,7 +24,7 @@ use Rattle.store_trace.specs.OpenStores.{IsMeantFault as FailsAsMeant, FailsAs, 
 use Rattle.store_trace.specs.declared.stops.Stop.{Stop}
 use Rattle.store_trace.specs.declared.stops.Stop.TheVariants as stops
 use Rattle.store_trace.specs.declared.openings.Beginning.{Beginning}
-use Rattle.store_trace.specs.declared.openings.Stopped.{Stopped}
+use Rattle.store_trace.specs.declared.openings.StoppedLine.{StoppedLine}
 
 -- a line says this, so that it does what this does
 pub step_said : (s : Stage) (n : ℕ) (line : List ℕ) (said : Option lines.Line) → line_said line ≡ Ok said → step s n line ≡ effect_of s n said
@@ -77,7 +77,7 @@ pub said_some : (line : List ℕ) (read : Option Line) (some : Line) → line_sa
 said_some line read some is there = is ∙ ap (λ (r : Option Line). let said : Result (Option lines.Line) Fault = Ok (seen_said r) in said) there
 
 -- a store that isn't opened is what is wrong at the end of the input, where nothing stands behind the last line feed
-pub store_stopped : (begun : Result Beginning Stopped) (s : Stage) (rest : List ℕ) → rest_fault rest ≡ None
+pub store_stopped : (begun : Result Beginning StoppedLine) (s : Stage) (rest : List ℕ) → rest_fault rest ≡ None
     → IfErr begun (λ stopped. (what : Fault) × (stopped.error ≡ errors.Fault what) × (opened s ≡ Err what))
     → IfErr begun (λ stopped. (what : Fault) × (stopped.error ≡ errors.Fault what) × (fault_at_end s rest ≡ Some what))
 store_stopped (Ok begun) s rest none p = tt

@@ -7,14 +7,14 @@ use Rattle.bump_trace.specs.Views.{opening_of}
 use Rattle.trace_lines.specs.declared.faults.Fault.{Fault}
 use Rattle.store_trace.specs.declared.openings.Beginning.{Beginning}
 use Rattle.store_trace.specs.declared.openings.LineStart.{LineStart}
-use Rattle.store_trace.specs.declared.openings.Stopped.{Stopped}
+use Rattle.store_trace.specs.declared.openings.StoppedLine.{StoppedLine}
 use Rattle.store_trace.proofs.Beginnings.{begun_opens, begun_stops}
 use Rattle.store_trace.proofs.Endings.{goes_on, opens_at, stops_at, stops_as, opens_at_end, stops_here}
 use Rattle.store_trace.proofs.LinesSaid.{unopened_fault}
 use Rattle.store_trace.proofs.openings.read_opening.Goals as goal
 
 -- What begins at a place has as much room as the place.
-room_at : (begun : Result Beginning Stopped) (place : LineStart) → IfOk begun (λ b. b.place ≡ place) → place.number + length place.rest.now ≤ most_bytes + 1
+room_at : (begun : Result Beginning StoppedLine) (place : LineStart) → IfOk begun (λ b. b.place ≡ place) → place.number + length place.rest.now ≤ most_bytes + 1
     → IfOk begun (λ b. b.place.number + length b.place.rest.now ≤ most_bytes + 1)
 room_at (Ok b) place is fits = subst (λ (p : LineStart). p.number + length p.rest.now ≤ most_bytes + 1) (sym is) fits
 room_at (Err e) place is fits = tt
