@@ -1,8 +1,8 @@
 //! A store in parts, without its locks: its workers' gets, touches and holds, the rings that take their bumps to lanes,
 //! and the Books of its classes.
 //!
-//! A [`Hold`] is one of bump_readers that a worker's `get` answers and `release` spends: these are that crate's `take` and
-//! `give_back`, but a `get` knows which chunks there are, and a `release` answers nothing.
+//! A [`Hold`] is one of bump_readers that a worker's `get` answers and `release` spends: these are that crate's `take`
+//! and `give_back`, but a `get` knows which chunks there are, and a `release` answers nothing.
 #![tactic(auto)]
 
 mod closing;

@@ -1,8 +1,9 @@
 //! Single steps on the words of all chunks, under one rule for all threads: head, time and label of each chunk, and
 //! what each seat knows of them. A step's contract is one equation on the view of the seat that makes it.
 //!
-//! One word for one act: `load_..` is one load of a head by a seat, `see_..` one of a time, a label, a further word or
-//! a generation, and `see` one of a head without a seat; `take` adds a reference to a head, and `give_back` subtracts it.
+//! One word for one act: `load_..` is one load of a head by a seat, `see_..` one of a time, a label, a further
+//! word or a generation, and `see` one of a head without a seat; `take` adds a reference to a head, and `give_back`
+//! subtracts it.
 #![tactic(auto)]
 
 mod decoding;

@@ -1,7 +1,8 @@
 //! A store: the locks of its classes, and the lanes that apply what its workers queued, until each is settled with its
 //! closed worker. Its workers' gets, touches and holds are those of bump_parts.
 //!
-//! A [`Lane`] is a `RawLane` of bump_class that takes the lock of each bump's class, and a [`Maintainer`] has all lanes.
+//! A [`Lane`] is a `RawLane` of bump_class that takes the lock of each bump's class, and a [`Maintainer`] has all
+//! lanes.
 #![tactic(auto)]
 
 mod classes;
