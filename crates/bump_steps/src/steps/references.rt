@@ -40,9 +40,9 @@ impl Play<Empty, View> for GiveBack {
     ghost then = { on_chunk release_of_hold_tells };
 }
 
-pub struct LookOfHold;
+pub struct LoadOfHold;
 
-impl Play<Empty, View> for LookOfHold {
+impl Play<Empty, View> for LoadOfHold {
     ghost then = { on_chunk load_of_hold_tells };
 }
 
@@ -211,7 +211,7 @@ impl<L: RowLaw> Words<L> {
     {
         self.table
             .shared
-            .load::<LookOfHold>(seat, self.head_by(place, chunk))
+            .load::<LoadOfHold>(seat, self.head_by(place, chunk))
     }
 
     /// A load of a label word, by a hold.
