@@ -14,7 +14,7 @@ pub enum Work {
     Reads(Reads),
 
     /// Bumps of several classes, which are drained in runs.
-    DrainRuns(DrainRuns),
+    Runs(DrainRuns),
 
     /// A Book's calls.
     Calls(Calls),
