@@ -100,27 +100,6 @@ impl CacheConfig {
         None
     }
 
-    /// The configuration of its store, where it has no fault: one class, whose lists have no limits of their own, since
-    /// the cache looks at their sizes itself. It is refused only for want of memory.
-    pub fn store(&self, alloc: Global) -> Result<Config, AllocError>
-        requires valid { first_cache_fault self.now ≡ None }
-        ensures store { IfOk result (λ store. IsStoreOf self.now store) }
-    {
-        let class = ClassConfig {
-            chunks: self.items,
-            hot: 0,
-            warm: 0,
-        };
-        let classes = vec![in alloc; class]?;
-        Ok(Config {
-            workers: self.readers,
-            capacity: self.ring,
-            refs_limit: CACHE_REFS,
-            first_generation: 1,
-            classes: Classes::from_vec(classes),
-        })
-    }
-
     /// At most so many items are in HOT: the share of the items that `hot` says, rounded down.
     pub fn hot_items(&self) -> u32
         ensures { result ≡ share_of self.now.items self.now.hot }
