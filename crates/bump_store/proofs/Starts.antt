@@ -7,11 +7,10 @@ use Rattle.bump_rules.specs.Lanes.{carried}
 use Rattle.bump_steps.specs.declared.views.LanePart.{LanePart}
 use Rattle.bump_steps.specs.Rule.{class_parts, lane_parts}
 use Rattle.bump_readers.specs.Seats.{head_or}
-use Rattle.bump_class.specs.Books.{BookView}
 use Rattle.bump_class.specs.Lanes.{LaneView}
 use Rattle.bump_parts.specs.Parting.{starts_from, new_books, raw_parts_of, IsBetweenStarts}
 use Rattle.bump_store.specs.Lanes.{NothingAboard}
-use Rattle.bump_store.specs.Stores.{first_chunk, ClassHasChunk, HasLimitsOf, IsOfClass, IsStore}
+use Rattle.bump_store.specs.Stores.{first_chunk, ClassHasChunk, IsStore}
 
 -- there is one more than there are classes
 pub length_starts : (first : ℕ) (classes : List ClassConfig) → length (starts_from first classes) ≡ length classes + 1
@@ -94,18 +93,6 @@ behind_all classes starts locks chunk store last =
 -- a class's chunk is one of all chunks
 pub among_all : (classes : List ClassConfig) (chunk class : ℕ) → ClassHasChunk chunk class classes → chunk < chunks_of classes
 among_all classes chunk class has = omega (arith, has.1, some_of_all (class + 1) classes)
-
--- a Book that has a class's number, its chunks and its limits is that of the class
-pub book_of_class : (classes : List ClassConfig) (starts : List ℕ) (locks class : ℕ) (book : BookView)
-    → IsStore classes starts locks → class < length classes → book.part.class ≡ class
-    → book.part.first ≡ slice_index starts class → book.part.first + book.part.count ≡ slice_index starts (class + 1)
-    → HasLimitsOf class classes book → IsOfClass class classes book
-book_of_class classes starts locks class book store low number first end limits = record {
-  number = number;
-  first = first ∙ store.each class (omega (arith, low));
-  end = end ∙ store.each (class + 1) (omega (arith, low));
-  limits = limits;
-}
 
 -- a chunk is refused exactly where no class has it
 pub refused_exactly : {E : Type 0} (classes : List ClassConfig) (starts : List ℕ) (locks chunk : ℕ) (place : Option ℕ) (error : E)
