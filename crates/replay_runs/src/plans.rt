@@ -2,12 +2,10 @@
 ghost use Rattle.std.specs.Prelude.{◌≡◌, ◌%◌, ◌<◌, None, IfOk, OnOk, IfErr, length, max};
 ghost use Rattle.bump_cache.specs.Configs.{first_cache_fault};
 ghost use Rattle.replay_runs.specs.Faults.{RefusesStore};
-ghost use Rattle.replay_runs.specs.declared.faults.ReplayFault.TheVariants.{Memory};
 
 use crate::faults::ReplayFault;
 use bump_cache::CacheConfig;
-use bump_core::{ClassConfig, Classes, Config};
-use bump_rules::CACHE_REFS;
+use bump_core::Config;
 use std::alloc::Global;
 
 /// How an access log is run.
@@ -41,29 +39,7 @@ impl Plan {
     {
         match self.config.fault() {
             Some(fault) => Err(ReplayFault::Config(fault)),
-            None => store_of(alloc, &self.config),
+            None => Ok(self.config.store(alloc)?),
         }
     }
-}
-
-// The store of a cache of this configuration.
-fn store_of(alloc: Global, config: &CacheConfig) -> Result<Config, ReplayFault>
-    requires none { first_cache_fault config.now ≡ None }
-    ensures some { IfOk result (λ store. 0 < length store.classes) }
-    ensures fault { IfErr result (λ fault. fault ≡ Memory) }
-{
-    let class = ClassConfig {
-        chunks: config.items,
-        hot: 0,
-        warm: 0,
-    };
-    let classes = vec![in alloc; class]?;
-    Ok(Config {
-        workers: config.readers,
-        capacity: config.ring,
-        // It decides which bumps are dropped, so it is the cache's number.
-        refs_limit: CACHE_REFS,
-        first_generation: 1,
-        classes: Classes::from_vec(classes),
-    })
 }
