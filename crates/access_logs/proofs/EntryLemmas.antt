@@ -3,7 +3,7 @@ use Rattle.std.proofs.Common.{◌≡◌, ℕ, ◌+◌, ◌≤◌, Bool, List, []
 use Rattle.std.specs.Prelude.{Option, Some, None, is_none, cond, option_map, option_and_then}
 use Rattle.std.specs.List.{cons_option}
 use Rattle.std.proofs.lemmas.List.Elements.{filter_map-append}
-use Rattle.std.proofs.lemmas.List.Sums.{sum_by-append, sum_by-cons, count_by-le-length}
+use Rattle.std.proofs.lemmas.List.Sums.{sum_by-append, sum_by-cons}
 use Rattle.access_logs.specs.Keys.{distinct}
 use Rattle.access_logs.specs.Entries.{Access, key_of, size_of, keys_in, sizes_in, unreadable_in, first_unreadable_in, RefusesLog}
 use Rattle.access_logs.specs.declared.log.LogFault.{LogFault}
@@ -32,10 +32,6 @@ unreadable_in-some entries access = sum_by-append (λ entry. cond (is_none entry
 
 pub unreadable_in-none : (entries : List (Option Access)) → unreadable_in (entries ++ None ∷ []) ≡ unreadable_in entries + 1
 unreadable_in-none entries = sum_by-append (λ entry. cond (is_none entry) 1 0) entries (None ∷ [])
-
--- there are at most as many as there are lines or records
-pub unreadable_in-le : (entries : List (Option Access)) → unreadable_in entries ≤ length entries
-unreadable_in-le = count_by-le-length is_none
 
 -- one more that can be read is not the first that can't be
 pub first_unreadable-read : (number : ℕ) (entries : List (Option Access)) (access : Access) → first_unreadable_in number (entries ++ Some access ∷ []) ≡ first_unreadable_in number entries

@@ -5,7 +5,7 @@ use Rattle.std.specs.Io.BufRead.{ends_with_byte, strip_last, take_through, drop_
 use Rattle.std.proofs.BufReadLemmas.{take_through-nil}
 use Rattle.std.proofs.lemmas.Bool.{lt-ltb, ltb-false, ltb-true}
 use Rattle.access_logs.specs.Entries.{Access, without_size}
-use Rattle.access_logs.specs.Lines.{with_byte, lines_of, content_of, key_of_content, entry_of_line, entries_of_lines}
+use Rattle.access_logs.specs.Lines.{with_byte, lines_of, content_of, key_of_content, longest_key, entry_of_line, entries_of_lines}
 
 -- the first line of a text, and the lines behind it
 pub lines_of-through : (byte : ℕ) (bytes : List ℕ) → lines_of (byte ∷ bytes) ≡ take_through 10 (byte ∷ bytes) ∷ lines_of (drop_through 10 (byte ∷ bytes))
@@ -42,8 +42,8 @@ length-content_of line = by (ends_with_byte 10 line)
     by false = omega arith
 
 -- bytes that are too many are no key
-pub key-long : (content : List ℕ) → 65536 < length content → key_of_content content ≡ None
-key-long content long = by (length content == 0) (nat_lt 65536 (length content)) (lt-ltb 65536 (length content) long)
+pub key-long : (content : List ℕ) → longest_key < length content → key_of_content content ≡ None
+key-long content long = by (length content == 0) (nat_lt longest_key (length content)) (lt-ltb longest_key (length content) long)
   where
     by : (a b : Bool) → b ≡ true → (if a || b then None else Some content) ≡ None
     by true b is = refl

@@ -19,9 +19,13 @@ lines_of (byte ∷ bytes) = if byte == 10 then (byte ∷ []) ∷ lines_of bytes 
 abbrev pub content_of : List ℕ → List ℕ
 content_of line = if ends_with_byte 10 line then strip_last 13 (strip_last 10 line) else line
 
--- bytes as a key: none, and more than 65,536, are no key
+-- how many bytes a key has at most
+abbrev pub longest_key : ℕ
+longest_key = 65536
+
+-- bytes as a key: none, and more than a key has at most, are no key
 abbrev pub key_of_content : List ℕ → Option (List ℕ)
-key_of_content content = if length content == 0 || nat_lt 65536 (length content) then None else Some content
+key_of_content content = if length content == 0 || nat_lt longest_key (length content) then None else Some content
 
 -- the access of a line, where it can be read: no line tells a size
 unfoldable pub entry_of_line : List ℕ → Option Access

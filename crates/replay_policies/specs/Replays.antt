@@ -1,5 +1,6 @@
 -- What a contract sees of a replay.
 use Rattle.std.specs.Prelude.{◌≡◌, ℕ, ◌+◌, ◌<◌, Bool, List, nat_le, ◌&&◌, if◌then◌else◌}
+use Rattle.bump_rules.specs.Configs.{most_chunks}
 use Rattle.replay_policies.specs.declared.policies.Policy.{Policy}
 use Rattle.replay_policies.specs.declared.tallies.Tally.{Tally}
 use Rattle.replay_policies.specs.declared.faults.PolicyFault.{PolicyFault}
@@ -19,7 +20,7 @@ pub record IsReplay (items : ℕ) (tally : Tally) : Type 0 where
 
 -- a cache may have room for so many items
 abbrev pub is_size_allowed : ℕ → Bool
-is_size_allowed items = nat_le 1 items && nat_le items 1000000
+is_size_allowed items = nat_le 1 items && nat_le items most_chunks
 
 -- why a replay is refused, where it is
 abbrev pub policy_fault_of : ℕ → PolicyFault

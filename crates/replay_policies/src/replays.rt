@@ -9,13 +9,14 @@ ghost use Rattle.std.specs.Map.{keys_of};
 use crate::faults::PolicyFault;
 use crate::policies::Policy;
 use crate::tallies::Tally;
+use bump_rules::MAX_CHUNKS;
 use lru::LruCache;
 use std::alloc::{AllocError, Global};
 use std::marker::Model;
 use std::num::NonZeroUsize;
 
-/// So many items a cache has room for at most.
-pub const MAX_ITEMS: u32 = 1_000_000;
+/// So many items a cache has room for at most: 1,000,000, as many as one of bump's has chunks.
+pub const MAX_ITEMS: u32 = MAX_CHUNKS;
 
 /// A cache through which an access log is run, access by access, and what it came to so far. A contract sees its policy,
 /// how many items it has room for, its keys, and its tally (`specs/Replays.antt`).

@@ -46,11 +46,6 @@ adds_fewer {Kind} {most} more few added = record {
   few = omega (arith, added.few, few);
 }
 
--- to another text that is the same
-pub adds_to : {Kind : List ℕ → Type 0} {most : ℕ} {old new : List ℕ} (same : List ℕ) → same ≡ new → Adds Kind most old new
-    → Adds Kind most old same
-adds_to {Kind} {most} {old} same is added = subst (λ (t : List ℕ). Adds Kind most old t) (sym is) added
-
 -- upkeep is also what a put may have
 pub adds_put : {most : ℕ} {old new : List ℕ} (key : ℕ) → Adds IsUpkeep most old new → Adds (IsPutOrUpkeep key) most old new
 adds_put key added = record {

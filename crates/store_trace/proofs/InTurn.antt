@@ -64,13 +64,6 @@ module _ {A B : Type 0} where
   zip_push R (z ∷ xs) [] x y each one = absurd each
   zip_push R (z ∷ xs) (w ∷ ys) x y each one = (each.0, zip_push R xs ys x y each.1 one)
 
-  -- what one relation tells of each, another one tells too
-  pub zip_weaker : (P Q : A → B → Type 0) → ((x : A) (y : B) → P x y → Q x y) → (xs : List A) (ys : List B) → AllZip P xs ys → AllZip Q xs ys
-  zip_weaker P Q tells [] [] p = tt
-  zip_weaker P Q tells [] (y ∷ ys) p = absurd p
-  zip_weaker P Q tells (x ∷ xs) [] p = absurd p
-  zip_weaker P Q tells (x ∷ xs) (y ∷ ys) p = (tells x y p.0, zip_weaker P Q tells xs ys p.1)
-
   -- they are as many
   pub zip_long : (R : A → B → Type 0) (xs : List A) (ys : List B) → AllZip R xs ys → length ys ≡ length xs
   zip_long R [] [] each = refl
@@ -81,9 +74,6 @@ module _ {A B : Type 0} where
   -- The first ones of all were taken, and those that are left are the rest of them.
   abbrev pub SoFar : (A → B → Type 0) → List A → List A → List B → Type 0
   SoFar R all rest ys = (done : List A) × AllZip R done ys × (done ++ rest ≡ all)
-
-  pub so_far_start : (R : A → B → Type 0) (all : List A) → SoFar R all all []
-  so_far_start R all = ([], tt, refl)
 
   pub so_far_next : (R : A → B → Type 0) (all rest left : List A) (ys zs : List B) (x : A) (y : B) → rest ≡ x ∷ left → zs ≡ ys ++ y ∷ []
       → SoFar R all rest ys → R x y → SoFar R all left zs

@@ -20,7 +20,7 @@ use Rattle.store_trace.specs.declared.tasks.ChoreTask.{ChoreTask}
 use Rattle.store_trace.specs.declared.tasks.GetTask.{GetTask}
 use Rattle.store_trace.specs.declared.tasks.Share.TheVariants as shares
 use Rattle.store_trace.specs.declared.totals.Totals.{Totals}
-use Rattle.store_trace.proofs.InTurn.{SoFar, so_far_next, so_far_all, zip_through}
+use Rattle.store_trace.proofs.InTurn.{SoFar, so_far_next, zip_through}
 
 -- a fold over a list with one more behind it
 fold_push : {A B : Type 0} (f : B → A → B) (a : B) (xs : List A) (x : A) → fold f a (xs ++ x ∷ []) ≡ f (fold f a xs) x
@@ -59,10 +59,6 @@ module _ {N : Type 0} where
           ap (λ (b : Bool). b || joined.is_stopped) so_far.2.2 ∙ sym (any_push (λ (j : JoinedWorker N). j.is_stopped) all joined),
         ),
       )
-
-  pub all_came : (jobs rest : List (Job N)) (slots : List (Slot N)) (totals : Totals) (is_stopped : Bool) → rest ≡ []
-      → CameSoFar jobs rest slots totals is_stopped → AllCame jobs slots totals is_stopped
-  all_came jobs rest slots totals is_stopped none so_far = (so_far.0, so_far_all Came jobs rest so_far.0 none so_far.1, so_far.2)
 
   -- what came of a job came of the worker's lines
   made_of : (config : Config) (slot : Slot N) (tasks : List GetTask) (job : Job N) (joined : JoinedWorker N) → IsJobOf config slot tasks job → Came job joined

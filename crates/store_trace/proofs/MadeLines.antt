@@ -9,7 +9,7 @@ use Rattle.bump_store.specs.Lanes.{LaneState, lane_rings}
 use Rattle.bump_store.specs.Passes.{IsDrained}
 use Rattle.store_trace.proofs.InTurn.{zip_map}
 use Rattle.store_trace.specs.Making.{Counted, MakesGet, Unlinked, WasPulled, WasSwept, WasMade, WereMade}
-use Rattle.store_trace.specs.Tasks.{MakesEach, MakesSome, MakesTurns, DoesChore, MakesChore, is_drain, is_shared, lines_of, drain_times}
+use Rattle.store_trace.specs.Tasks.{MakesEach, MakesTurns, DoesChore, MakesChore, is_drain, is_shared, lines_of, drain_times}
 use Rattle.store_trace.specs.declared.tasks.Chore.{Chore}
 use Rattle.store_trace.specs.declared.tasks.Chore.TheVariants as chores
 use Rattle.store_trace.specs.declared.tasks.ChoreTask.{ChoreTask}
@@ -81,12 +81,6 @@ module _ {H : Type 0} (store : H → Config) (seen : H → Counted) (gets : GetT
       (turns.0, turns.1, turns.2, turns.3, all_gotten (store before) (take turns.0 lines) before after refl turns.4)
   turns_gotten lets sees lines false before after turns =
       (turns.0, all_gotten (store before) lines before after refl turns.1)
-
--- whatever the gate let pass
-pub some_of_turns : {A H : Type 0} (makes : A → H → H → Type 0) (lets : ℕ → Bool → Type 0) (sees : ℕ → Type 0) (lines : List A) (is_stopped : Bool)
-    (before after : H) → MakesTurns makes lets sees lines is_stopped before after → MakesSome makes lines is_stopped before after
-some_of_turns makes lets sees lines true before after turns = (turns.0, turns.1, turns.4)
-some_of_turns makes lets sees lines false before after turns = turns.1
 
 -- its ring stays
 pub ring_of_turns : (config : Config) (lets : ℕ → Bool → Type 0) (sees : ℕ → Type 0) (lines : List GetTask) (is_stopped : Bool)

@@ -8,7 +8,7 @@ use Rattle.std.proofs.lemmas.Bool.{cases_Bool}
 use Rattle.std.proofs.lemmas.Slice.Eq.{bytes_eq-Decides}
 use Rattle.std.proofs.Math.ListN.{get_or-append}
 use Rattle.std.proofs.Math.Seq.{get_or-append_seam}
-use Rattle.std.proofs.lemmas.List.{get_or-set_same, get_or-set_other}
+use Rattle.std.proofs.lemmas.List.{get_or-set_other}
 use std.Path.{fun_ext}
 use denote.Ref.{Bor}
 use Rattle.bump_steps.specs.declared.views.HoldPart.{HoldPart}
@@ -36,10 +36,6 @@ item_same holds more place h = ap (option_map (λ part. part.life)) (get_or-appe
 
 item_last : (holds : List (Option HoldPart)) (more : Option HoldPart) → item_at (holds ++ more ∷ []) (length holds) ≡ option_map (λ part. part.life) more
 item_last holds more = ap (option_map (λ part. part.life)) (get_or-append_seam holds more [] None)
-
--- of a list in which one is exchanged
-item_set : (holds : List (Option HoldPart)) (place : ℕ) (other : Option HoldPart) → place < length holds → item_at (slice_set holds place other) place ≡ option_map (λ part. part.life) other
-item_set holds place other h = ap (option_map (λ part. part.life)) (get_or-set_same holds place other None h)
 
 item_others : (holds : List (Option HoldPart)) (place at : ℕ) (other : Option HoldPart) → at ≢ place → item_at (slice_set holds place other) at ≡ item_at holds at
 item_others holds place at other h = ap (option_map (λ part. part.life)) (get_or-set_other holds place at other None h)

@@ -56,10 +56,6 @@ worker_there config worker h = ap (nat_lt worker) (replicate_count config.worker
 pub worker_missing : (config : Config) (worker : ℕ) → config.workers ≤ worker → is_worker (new_state config) worker ≡ false
 worker_missing config worker h = ap (nat_lt worker) (replicate_count config.workers _) ∙ not_below worker config.workers h
 
--- the number of workers of the state
-pub workers_count : (config : Config) → length (new_state config).workers ≡ config.workers
-workers_count config = replicate_count config.workers _
-
 -- by a test whether there is a class
 module _ (store : StoreState) (class : ℕ) where
   pub set_found : (now : ℕ) (begins : Start) (name : List ℕ) (label : ℕ) → is_class store.state class ≡ true → fault_in (set_said store now begins name class label) ≡ None

@@ -20,11 +20,6 @@ pub last_of : {P Q : Type 0} → P ⊎ ((false ≡ true) × Q) → P
 last_of (inl last) = last
 last_of (inr no_par) = absurd cc
 
--- those that are run up to `par` end there, or at the end of the input
-pub past_or_last : {P Q : Type 0} → P ⊎ ((true ≡ true) × Q) → P ⊎ Q
-past_or_last (inl last) = inl last
-past_or_last (inr past) = inr past.1
-
 module _ (n : ℕ) (all : List (List ℕ)) (s : Stage) (later : ℕ) (rest : List ℕ) (store : StoreState) (reached : Goes n all s later (parts_of rest) (Open store)) where
   -- an error behind the lines that were run stops all of them
   pub stops_behind : (number : ℕ) (error : LineError) → StopsAs later (parts_of rest) (Open store) number error → StopsAs n all s number error

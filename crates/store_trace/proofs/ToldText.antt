@@ -1,12 +1,11 @@
 -- The text of a run on a store, as it is gathered and written.
-use Rattle.std.proofs.Common.{◌≡◌, ℕ, Bool, true, false, List, [], ◌∷◌, ◌++◌, Option, Err, refl, sym, ap, ◌∙◌, subst, append_assoc, append-nil, inl}
-use Rattle.std.specs.Io.KnownBytes.{Appends}
+use Rattle.std.proofs.Common.{◌≡◌, ℕ, true, false, List, [], ◌∷◌, ◌++◌, Option, Err, refl, sym, ap, ◌∙◌, append_assoc, append-nil, inl}
 use Rattle.bump_rules.specs.declared.configs.Config.{Config}
 use Rattle.bump_state.specs.Opening.{new_state}
 use Rattle.bump_store.specs.Lanes.{LaneState}
 use Rattle.bump_trace.specs.Gathering.{Gathers, GathersFault}
 use Rattle.bump_trace.specs.Meaning.{fault_in, step, parts_of}
-use Rattle.bump_trace.specs.Stages.{Stage, StoreState, Before}
+use Rattle.bump_trace.specs.Stages.{Stage, StoreState}
 use Rattle.bump_trace.proofs.KnownBytes.{appends_more, appends_start}
 use Rattle.trace_lines.specs.Text.{fault_line}
 use Rattle.trace_lines.specs.declared.faults.Fault.{Fault}
@@ -15,7 +14,7 @@ use Rattle.trace_lines.specs.declared.faults.LineError.TheVariants as errors
 use Rattle.store_trace.specs.Endings.{Whole, Stopped, EndsAt, Goes, StopsAs}
 use Rattle.store_trace.specs.OpenStores.{FailsAs}
 use Rattle.store_trace.specs.Reports.{IsReport}
-use Rattle.store_trace.specs.Runs.{Behind, NoMore, Reported, TellsText, TellsEnd, TellsStop, GathersLines, GathersSomeFault}
+use Rattle.store_trace.specs.Runs.{Behind, NoMore, Reported, TellsEnd, TellsStop, GathersLines, GathersSomeFault}
 use Rattle.store_trace.specs.WholeLines.{IsLines}
 use Rattle.store_trace.specs.declared.stops.Stop.{Stop}
 use Rattle.store_trace.specs.declared.stops.Stop.TheVariants.{Line, Ring}
@@ -100,18 +99,6 @@ tells_fault more held holds old new n all s p = record {
   fault = refl;
 }
 
--- a fault that is told from a later line on is told from the first one on
-pub stops_through : (held holds : Option (List ℕ)) (old new : List ℕ) (n₀ : ℕ) (all : List (List ℕ)) (s₀ : Stage) (n : ℕ) (rest : List (List ℕ)) (s : Stage)
-    → Goes n₀ all s₀ n rest s → TellsStop held holds old new n rest s → TellsStop held holds old new n₀ all s₀
-stops_through held holds old new n₀ all s₀ n rest s so_far p = record {
-  before = p.before;
-  whole = p.whole;
-  at = p.at;
-  what = p.what;
-  told = p.told;
-  ends = so_far (Stopped p.at p.what) p.ends;
-}
-
 -- nothing was gathered behind the last line
 pub tells_whole : (held holds : Option (List ℕ)) (old new : List ℕ) (n : ℕ) (all : List (List ℕ)) (s : Stage) (store : StoreState) → GathersLines held holds old new
     → EndsAt n all s (Whole store) → TellsEnd NoMore held holds old new n all s false
@@ -123,29 +110,4 @@ tells_whole held holds old new n all s store before ends =
       ends = ends;
       as_text = (text, [], lines, refl, sym (append-nil text));
       fault = refl;
-    }
-
--- what is told from a later line on is told from the first one on
-pub tells_through : (more : Behind) (held holds : Option (List ℕ)) (old new : List ℕ) (n₀ : ℕ) (all : List (List ℕ)) (s₀ : Stage) (n : ℕ) (rest : List (List ℕ)) (s : Stage)
-    (is_fault : Bool) → Goes n₀ all s₀ n rest s → TellsEnd more held holds old new n rest s is_fault → TellsEnd more held holds old new n₀ all s₀ is_fault
-tells_through more held holds old new n₀ all s₀ n rest s is_fault so_far p = record {
-  text = p.text;
-  end = p.end;
-  told = p.told;
-  ends = so_far p.end p.ends;
-  as_text = p.as_text;
-  fault = p.fault;
-}
-
--- what was gathered is written
-pub told_whole : (more : Behind) (held mid holds : Option (List ℕ)) (input old gathered : List ℕ) (is_fault : Bool) → old ≡ []
-    → TellsEnd more held mid old gathered 1 (parts_of input) Before is_fault → Appends mid holds gathered → TellsText more held holds input is_fault
-told_whole more held mid holds input old gathered is_fault none p q =
-    let (sent, wrote, same) = p.told in record {
-      text = p.text;
-      end = p.end;
-      wrote = subst (Appends held holds) (same ∙ ap (λ (l : List ℕ). l ++ p.text) none) (appends_more held mid holds sent gathered wrote q);
-      ends = p.ends;
-      as_text = p.as_text;
-      fault = p.fault;
     }

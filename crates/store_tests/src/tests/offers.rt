@@ -142,15 +142,15 @@ fn take<N: Name>(rt: &impl Abort, receiver: &mut Receiver<N>, life: ItemId, numb
     }
 }
 
-// A bump of the item goes into the ring.
-fn offer_first<N: Name>(
+// A bump of the item goes into the ring with this number, or, where there is none, finds no room in it.
+fn offer<N: Name>(
     rt: &impl Abort,
     heads: &ReaderHeads<N>,
     seat: &mut WorkerSeat<N>,
     sender: &mut Sender<N>,
     life: ItemId,
     place: usize,
-    number: u64,
+    number: Option<u64>,
 )
     requires place { place ≡ head_place N.table.slots life.chunk }
     requires held { (h : TheHoldPart) × (seat.old.hold ≡ Some h) × (h.life ≡ life) }
@@ -165,34 +165,14 @@ fn offer_first<N: Name>(
 {
     attempt(rt, heads, seat, life, place);
     let rider = send_off(rt, heads, seat, life, place);
-    put(rt, sender, rider, number);
-}
-
-// A second bump of it finds no room.
-fn offer_second<N: Name>(
-    rt: &impl Abort,
-    heads: &ReaderHeads<N>,
-    seat: &mut WorkerSeat<N>,
-    sender: &mut Sender<N>,
-    life: ItemId,
-    place: usize,
-)
-    requires place { place ≡ head_place N.table.slots life.chunk }
-    requires held { (h : TheHoldPart) × (seat.old.hold ≡ Some h) × (h.life ≡ life) }
-    requires idle { seat.old.part.hand ≡ Idle }
-    requires attempts { seat.old.part.accounts.attempted < most_attempts }
-    requires accepted { seat.old.part.accounts.accepted ≡ length sender.old.sent }
-    ensures idle { seat.new.part.hand ≡ Idle }
-    ensures hold { seat.new.hold ≡ seat.old.hold }
-    ensures accepted { seat.new.part.accounts.accepted ≡ length sender.new.sent }
-    ensures attempted { seat.new.part.accounts.attempted ≡ seat.old.part.accounts.attempted + 1 }
-    ensures ring { sender.new.ring ≡ sender.old.ring }
-{
-    attempt(rt, heads, seat, life, place);
-    let rider = send_off(rt, heads, seat, life, place);
-    let back = refuse(rt, sender, rider);
-    expect(rt, "what comes back", &back.life(), &life);
-    give_up(heads, seat, back, life, place);
+    match number {
+        Some(number) => put(rt, sender, rider, number),
+        None => {
+            let back = refuse(rt, sender, rider);
+            expect(rt, "what comes back", &back.life(), &life);
+            give_up(heads, seat, back, life, place);
+        }
+    }
 }
 
 // So many rounds: a bump goes into the ring, a second one finds no room, and the first one comes out. Between the two
@@ -217,9 +197,9 @@ fn offer_each<N: Name>(
     ensures rings { (sender.new.ring ≡ sender.old.ring) × (receiver.new.ring ≡ receiver.old.ring) }
 {
     for number in 0..ROUNDS {
-        offer_first(rt, heads, seat, sender, life, place, number);
+        offer(rt, heads, seat, sender, life, place, Some(number));
         pull_round(rt, book, life);
-        offer_second(rt, heads, seat, sender, life, place);
+        offer(rt, heads, seat, sender, life, place, None);
         take(rt, receiver, life, number);
     }
 }

@@ -1,10 +1,10 @@
 //! Many commands on a Book whose chunks have further words, beside plain lists: lists, words, answers and the chunks
 //! that come free are the same.
-ghost use Rattle.std.specs.Prelude.{◌≡◌, IfSome, [], ◌∷◌};
+ghost use Rattle.std.specs.Prelude.{◌≡◌};
 
 use super::expecting::expect_of;
-use bump_heads::{HeadParts, Heads};
-use bump_ring::ring;
+use bump_heads::Heads;
+use bump_parts::StoreParts;
 use bump_store::{
     Blank, Book, ClassConfig, Config, Ended, Hold, ItemId, Name, Place, Pulled, Tail, Worker,
 };
@@ -505,36 +505,7 @@ fn play<N: Name, R: Abort>(
     }
 }
 
-fn open<N: Name>(
-    rt: &impl Abort,
-    alloc: Global,
-    blank: Blank,
-    config: &Config,
-) -> Result<Side<N>, Fail>
-    requires name { blank.table ≡ N.table }
-    requires config { blank.config ≡ config.now }
-    requires small { (config.now.workers ≡ 1) × (config.now.classes ≡ CLASS ∷ []) }
-{
-    let HeadParts {
-        heads,
-        mut classes,
-        mut workers,
-        lanes: _,
-    } = Heads::<N>::new(alloc, blank, config)?;
-    let seat = workers.pop().expect(rt, "there is a worker");
-    let (sender, _receiver) = ring(alloc, 4)?;
-    let class = classes.pop().expect(rt, "there is a class");
-    let book = Book::new(alloc, class, 0, CLASS, 1)?;
-    Ok(Side {
-        heads,
-        book,
-        worker: Worker::new(seat, sender),
-    })
-}
-
-fn config_of(alloc: Global) -> Option<Config>
-    ensures small { IfSome result (λ c. (c.workers ≡ 1) × (c.classes ≡ CLASS ∷ [])) }
-{
+fn config_of(alloc: Global) -> Option<Config> {
     Config::new(1, 4, 8, 1, vec![in alloc; CLASS].ok()?).ok()
 }
 
@@ -548,9 +519,18 @@ fn play_in<N: Name, R: Abort>(
 ) -> Result<(), Fail>
     requires name { blank.table ≡ N.table }
     requires config { blank.config ≡ config.now }
-    requires small { (config.now.workers ≡ 1) × (config.now.classes ≡ CLASS ∷ []) }
 {
-    let mut side = open::<N>(rt, alloc, blank, config)?;
+    let StoreParts {
+        heads,
+        mut books,
+        mut workers,
+        ..
+    } = StoreParts::<N>::open(alloc, blank, config)?;
+    let mut side = Side {
+        heads,
+        book: books.pop().expect(rt, "there is a class"),
+        worker: workers.pop().expect(rt, "there is a worker"),
+    };
     let mut plain = new_plain(alloc, further)?;
     play(rt, alloc, &mut side, &mut plain, commands);
     Ok(())

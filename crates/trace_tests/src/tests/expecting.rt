@@ -1,5 +1,5 @@
 //! A writer that looks whether it is given a text, and takes no memory for it; and what a test tells of refused memory.
-use bump_trace::SimFault;
+use bump_trace::{Counted, SimFault};
 use std::io::{self, ErrorKind, Write};
 use std::process::Abort;
 use std::test::*;
@@ -54,11 +54,6 @@ impl<'a> Expecting<'a> {
     pub(super) fn is_front(&self) -> bool {
         self.is_front
     }
-
-    /// How many bytes of the text were not taken.
-    pub(super) fn left(&self) -> usize {
-        self.rest.len()
-    }
 }
 
 impl<'a> Write for Expecting<'a> {
@@ -102,6 +97,22 @@ pub(super) fn expect_whole(rt: &impl Abort, ended: Result<(), SimFault>, written
         written.is_front && written.rest.is_empty(),
         "the whole text"
     );
+}
+
+/// Whether a run ended as Write, where its writer takes so many bytes of a text of this length, one for each call: the
+/// next call was its last one, and the front of the text was written.
+pub(super) fn is_cut_at(
+    ended: Result<(), SimFault>,
+    writer: Counted<Expecting<'_>>,
+    taken: usize,
+    length: usize,
+) -> bool {
+    let is_last = writer.calls().saturating_sub(1) == taken as u64 && writer.failed() == 1;
+    let written = writer.into_inner();
+    ended == Err(SimFault::Write)
+        && is_last
+        && written.is_front
+        && written.rest.len() == length.saturating_sub(taken)
 }
 
 /// Says which call was refused. `checks/refused_allocations` looks for these words, and counts them by call.

@@ -1,5 +1,5 @@
 //! Readers and writers that take little at a time, and one that fails at each of its calls in turn.
-use super::expecting::{Ending, Expecting, expect_whole};
+use super::expecting::{Ending, Expecting, expect_whole, is_cut_at};
 use super::slow::{Interrupted, Slow};
 use super::worked::PROMOTION;
 use bump_trace::{Counted, SimFault, run_model};
@@ -64,25 +64,22 @@ fn ends_at_write(alloc: Global, keys: RandomState, taken: usize, ending: Ending)
     let mut reader = Counted::new(trace.as_bytes());
     let mut writer = Counted::new(Expecting::narrow(text.as_bytes(), taken, ending));
     let ended = run_model(alloc, keys, &mut reader, &mut writer);
-    let is_last = writer.calls().saturating_sub(1) == taken as u64 && writer.failed() == 1;
-    let written = writer.into_inner();
-    ended == Err(SimFault::Write)
-        && is_last
-        && written.is_front()
-        && written.left() == text.len().saturating_sub(taken)
+    is_cut_at(ended, writer, taken, text.len())
 }
 
-// Whichever write answers Err: the run says so, and makes no further one.
+// Whichever write ends in this way: the run says so, and makes no further one.
+fn expect_each_write(rt: &impl Abort, alloc: Global, keys: RandomState, ending: Ending) {
+    let (_, text) = PROMOTION;
+    for taken in 0..text.len() {
+        assert!(rt; ends_at_write(alloc, keys, taken, ending), "{taken}");
+    }
+}
+
+// A write answers Err.
 #[test]
 fn each_write_fails(rt: HostRuntime) -> Result<(), Fail> {
     let keys = RandomState::new(&rt)?;
-    let (_, text) = PROMOTION;
-    for taken in 0..text.len() {
-        assert!(rt;
-            ends_at_write(rt.alloc(), keys, taken, Ending::Fails),
-            "{taken}"
-        );
-    }
+    expect_each_write(&rt, rt.alloc(), keys, Ending::Fails);
     Ok(())
 }
 
@@ -90,13 +87,7 @@ fn each_write_fails(rt: HostRuntime) -> Result<(), Fail> {
 #[test]
 fn each_write_takes_nothing(rt: HostRuntime) -> Result<(), Fail> {
     let keys = RandomState::new(&rt)?;
-    let (_, text) = PROMOTION;
-    for taken in 0..text.len() {
-        assert!(rt;
-            ends_at_write(rt.alloc(), keys, taken, Ending::TakesNothing),
-            "{taken}"
-        );
-    }
+    expect_each_write(&rt, rt.alloc(), keys, Ending::TakesNothing);
     Ok(())
 }
 
@@ -106,12 +97,7 @@ fn serial_ends_at_write(rt: &impl Wait, alloc: Global, keys: RandomState, taken:
     let mut reader = Counted::new(trace.as_bytes());
     let mut writer = Counted::new(Expecting::narrow(text.as_bytes(), taken, Ending::FailsOnce));
     let ended = run_serial(rt, alloc, keys, &mut reader, &mut writer);
-    let is_last = writer.calls().saturating_sub(1) == taken as u64 && writer.failed() == 1;
-    let written = writer.into_inner();
-    ended == Err(SimFault::Write)
-        && is_last
-        && written.is_front()
-        && written.left() == text.len().saturating_sub(taken)
+    is_cut_at(ended, writer, taken, text.len())
 }
 
 // A write that failed isn't made again.
@@ -150,12 +136,7 @@ fn a_write_fails_once_between_lines(rt: HostRuntime) -> Result<(), Fail> {
         let mut reader = Counted::new(trace.as_slice());
         let mut writer = Counted::new(Expecting::narrow(&text, taken, Ending::FailsOnce));
         let ended = run_serial(&rt, rt.alloc(), keys, &mut reader, &mut writer);
-        assert!(rt; ended == Err(SimFault::Write));
-        let told = (writer.calls().saturating_sub(1), writer.failed());
-        expect_calls(&rt, told, (taken as u64, 1));
-        let written = writer.into_inner();
-        assert!(rt; written.is_front());
-        assert_eq!(rt; written.left(), text.len().saturating_sub(taken));
+        assert!(rt; is_cut_at(ended, writer, taken, text.len()), "{taken}");
     }
     Ok(())
 }

@@ -6,7 +6,7 @@ use super::behind_par::{
     TOLD_APART,
 };
 use super::expect_run;
-use super::expecting::{Ending, Expecting, expect_whole, tell_left, tell_refused};
+use super::expecting::{Ending, Expecting, expect_whole, is_cut_at, tell_left, tell_refused};
 use super::gates::Counting;
 use super::numbers::{behind, number_behind, sum_behind};
 use super::streams::empty_pulls;
@@ -285,12 +285,7 @@ fn ends_at_write<R: Threads + Wait + Sync>(
     let mut reader = Counted::new(trace.as_bytes());
     let mut writer = Counted::new(Expecting::narrow(text.as_bytes(), taken, Ending::FailsOnce));
     let ended = run_par(rt, alloc, keys, &OpenGate, 1, &mut reader, &mut writer);
-    let is_last = writer.calls().saturating_sub(1) == taken as u64 && writer.failed() == 1;
-    let written = writer.into_inner();
-    ended == Err(SimFault::Write)
-        && is_last
-        && written.is_front()
-        && written.left() == text.len().saturating_sub(taken)
+    is_cut_at(ended, writer, taken, text.len())
 }
 
 // A write that failed isn't made again, at the front, in the middle or at the end.
@@ -322,12 +317,7 @@ fn a_write_fails_once_before_the_report(rt: HostRuntime) -> Result<(), Fail> {
             &mut reader,
             &mut writer,
         );
-        assert!(rt; ended == Err(SimFault::Write));
-        assert_eq!(rt; writer.calls().saturating_sub(1), taken as u64);
-        assert_eq!(rt; writer.failed(), 1);
-        let written = writer.into_inner();
-        assert!(rt; written.is_front());
-        assert_eq!(rt; written.left(), text.len().saturating_sub(taken));
+        assert!(rt; is_cut_at(ended, writer, taken, text.len()), "{taken}");
     }
     Ok(())
 }
