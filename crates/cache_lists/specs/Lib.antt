@@ -5,3 +5,6 @@ pub mod Flows
 pub mod Ours
 pub mod Counts
 pub mod Looking
+pub mod Draining
+pub mod Rescues
+pub mod Freeing

@@ -10,6 +10,7 @@ ghost use Rattle.bump_rules.specs.Labels.{label_of_life};
 ghost use Rattle.bump_steps.specs.Views.{owns, of_word};
 ghost use Rattle.cache_lists.specs.Linked.{linked_at};
 ghost use Rattle.cache_lists.specs.Items.{may_tell, chunk_told, victim, KeepsItems, EndsAt, BeginsAt};
+ghost use Rattle.cache_lists.specs.Freeing.{FreesUpTo};
 ghost use Rattle.cache_lists.specs.Items.{ShowsMarks, HasNoBumpFor};
 ghost use Rattle.bump_class.specs.Applications.{AppliesFront};
 ghost use Rattle.bump_class.specs.Books.{BookView as TheBookView};
@@ -157,6 +158,19 @@ pub(crate) fn sweep<N: Name, L: RowLaw>(book: &mut Book<N, L>) -> u32
 {
     book.promise();
     book.sweep()
+}
+
+// As many chunks as a slice has room for come free, and are told there, of those that were unlinked and are held by
+// nobody any more.
+pub(crate) fn free_some<N: Name, L: RowLaw>(book: &mut Book<N, L>, freed: &mut [u32]) -> u32
+    ensures frees { (heads : ℕ → TheHead) × FreesUpTo (length freed.old) book.old result book.new heads }
+    ensures few { result ≤ length freed.old }
+    ensures kept { KeepsItems book.old book.new }
+    ensures flows { Flows None book.old book.new }
+    ensures segments { SameSegments book.old.lists book.new.lists }
+{
+    book.promise();
+    book.sweep_into(freed)
 }
 
 // An item is linked, at a chunk that is free, with a label and further words. It answers None exactly where no chunk is

@@ -2,12 +2,17 @@
 #![tactic(auto)]
 
 mod counted;
+mod draining;
 mod evictions;
 mod flow;
+mod freeing;
 mod items;
+mod rescues;
 mod victims;
 
 pub use counted::CountedBook;
 pub use evictions::Evictions;
 pub use flow::Flow;
+pub use freeing::MOST_FREED;
+pub use rescues::RESCUES;
 pub use victims::Victim;
