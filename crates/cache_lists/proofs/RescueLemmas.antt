@@ -5,7 +5,7 @@ use Rattle.bump_rules.specs.declared.bumps.Ended.TheVariants as ended
 use Rattle.bump_rules.specs.declared.commands.Pulled.{Pulled}
 use Rattle.bump_rules.specs.declared.commands.Pulled.TheVariants as pulled
 use Rattle.bump_rules.specs.declared.items.ItemId.{ItemId}
-use Rattle.bump_rules.specs.declared.places.Place.TheVariants.{Warm, Cold}
+use Rattle.bump_rules.specs.declared.places.Place.TheVariants.{Warm}
 use Rattle.bump_rules.specs.declared.places.Segment.TheVariants as segment
 use Rattle.bump_rules.specs.declared.places.Tail.TheVariants as tail
 use Rattle.bump_rules.specs.Lists.{Lists, list_at, to_front}
@@ -15,7 +15,6 @@ use Rattle.bump_rules.proofs.SixLists.{list_at_front}
 use Rattle.bump_steps.specs.Applications.{life_in}
 use Rattle.bump_class.specs.Books.{BookView}
 use Rattle.bump_class.specs.Pulls.{Pulls, PullsAt}
-use Rattle.cache_lists.specs.declared.evictions.Evictions.{Evictions}
 use Rattle.cache_lists.specs.declared.flow.Flow.{Flow}
 use Rattle.cache_lists.specs.declared.victims.Victim.{Victim}
 use Rattle.cache_lists.specs.Counts.{CountedView, noted}

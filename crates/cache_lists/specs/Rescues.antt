@@ -1,7 +1,6 @@
 -- An evict that rescues first: what it comes to.
 use Rattle.std.specs.Prelude.{◌≡◌, ◌≢◌, ℕ, zero, suc, ◌≤◌, ◌⊎◌, Bool, true, false, Option, Some, None}
 use Rattle.bump_links.specs.Lists.{last_of}
-use Rattle.bump_rules.specs.declared.commands.Pulled.{Pulled}
 use Rattle.bump_rules.specs.declared.commands.Pulled.TheVariants as pulled
 use Rattle.bump_rules.specs.declared.items.ItemId.{ItemId}
 use Rattle.bump_rules.specs.declared.places.Place.TheVariants.{Warm, Cold, Dying}
