@@ -5,6 +5,7 @@ pub mod Flows
 pub mod Ours
 pub mod Counts
 pub mod Looking
+pub mod Ends
 pub mod Draining
 pub mod Rescues
 pub mod Freeing

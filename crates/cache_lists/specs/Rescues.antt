@@ -1,21 +1,17 @@
 -- An evict that rescues first: what it comes to.
 use Rattle.std.specs.Prelude.{◌≡◌, ◌≢◌, ℕ, zero, suc, ◌≤◌, ◌⊎◌, Bool, true, false, Option, Some, None}
-use Rattle.bump_links.specs.Lists.{last_of}
 use Rattle.bump_rules.specs.declared.commands.Pulled.TheVariants as pulled
 use Rattle.bump_rules.specs.declared.items.ItemId.{ItemId}
-use Rattle.bump_rules.specs.declared.places.Place.TheVariants.{Warm, Cold, Dying}
+use Rattle.bump_rules.specs.declared.places.Place.TheVariants.{Warm, Cold}
 use Rattle.bump_rules.specs.declared.places.Segment.TheVariants as segment
 use Rattle.bump_rules.specs.declared.places.Tail.TheVariants as tail
-use Rattle.bump_rules.specs.Lists.{list_at, all_without}
-use Rattle.bump_rules.specs.Places.{place_of}
 use Rattle.bump_class.specs.Books.{BookView}
 use Rattle.bump_class.specs.Pulls.{Pulls}
 use Rattle.cache_lists.specs.declared.flow.Flow.{Flow}
 use Rattle.cache_lists.specs.declared.victims.Victim.{Victim}
-use Rattle.cache_lists.specs.Counts.{CountedView, noted, with_eviction}
-use Rattle.cache_lists.specs.Flows.{Way, way_to}
-use Rattle.cache_lists.specs.Items.{victim, EndsAt, ShowsMarks}
-use Rattle.cache_lists.specs.Segments.{SameSegments}
+use Rattle.cache_lists.specs.Counts.{CountedView, noted}
+use Rattle.cache_lists.specs.Ends.{EndsInTurn}
+use Rattle.cache_lists.specs.Flows.{Way}
 
 -- an evict rescues at most so many items
 abbrev pub most_rescues : ℕ
@@ -71,17 +67,10 @@ pub record Evicts (it : Victim) (before after : CountedView) : Type 0 where
   pub between : BookView
   pub rescues : Rescues rescued before.book between
   -- behind the last pull this one may end
-  pub left : BookView
-  pub may : MayEnd rescued it between left
-  -- its turn it is: the last of COLD; where COLD is empty, of WARM; and where that is too, of HOT
-  pub next : victim left.lists ≡ Some it.chunk
-  pub list : last_of (list_at left.lists (place_of it.last_of)) ≡ Some it.chunk
-  -- it alone ends, and no other is moved by that
-  pub ends : EndsAt it.chunk left after.book
-  pub others : SameSegments (all_without it.chunk left.lists) after.book.lists
-  -- each rescue is counted, where the item was moved, and where it ended
-  pub flow : after.flow ≡ noted (Some (place_of it.from, Dying)) (noted (way_to it.last_of it.moved)
-      (noted_times rescued (Some (Cold, Warm)) before.flow))
-  -- and one eviction, by the marks that a look just behind the end found
-  pub marks : ShowsMarks it.chunk it.fetched it.active after.book
-  pub evictions : after.evictions ≡ with_eviction it.fetched it.active before.evictions
+  pub left : CountedView
+  pub may : MayEnd rescued it between left.book
+  -- each rescue was counted, and nothing else
+  pub flow : left.flow ≡ noted_times rescued (Some (Cold, Warm)) before.flow
+  pub evictions : left.evictions ≡ before.evictions
+  -- and it is the one that ends
+  pub turn : EndsInTurn it left after

@@ -14,18 +14,16 @@ ghost use Rattle.bump_class.specs.Sweeps.{Sweeps};
 ghost use Rattle.bump_rules.specs.declared.items.Head.{Head as TheHead};
 ghost use Rattle.bump_rules.specs.declared.places.Start.TheVariants as start;
 ghost use Rattle.cache_lists.specs.Looking.{LooksOver};
-ghost use Rattle.bump_links.specs.Lists.{first_of, last_of};
-ghost use Rattle.bump_rules.specs.Places.{place_of};
-ghost use Rattle.bump_rules.specs.declared.places.Place.TheVariants.{Dying};
+ghost use Rattle.bump_links.specs.Lists.{first_of};
 ghost use Rattle.bump_rules.specs.Commands.{item_told};
 ghost use Rattle.bump_rules.specs.Lists.{list_at, all_without};
 ghost use Rattle.bump_rules.specs.declared.places.Tail.TheVariants as tail;
 ghost use Rattle.bump_steps.specs.Views.{owns, last_label, last_word, of_word};
 ghost use Rattle.cache_lists.specs.Counts.{CountedView as TheCountedView, IsFlow, SegmentsAddUp, CountsEviction};
-ghost use Rattle.cache_lists.specs.Counts.{no_flow, no_evictions, noted, with_eviction};
-ghost use Rattle.cache_lists.specs.Flows.{way_of_pull, way_to};
-ghost use Rattle.cache_lists.specs.Items.{victim, chunk_told, may_tell, KeepsItems, EndsAt, BeginsAt, ShowsMarks};
-ghost use Rattle.cache_lists.specs.Items.{HasNoBumpFor};
+ghost use Rattle.cache_lists.specs.Counts.{no_flow, no_evictions, noted};
+ghost use Rattle.cache_lists.specs.Ends.{EndsNext};
+ghost use Rattle.cache_lists.specs.Flows.{way_of_pull};
+ghost use Rattle.cache_lists.specs.Items.{victim, may_tell, KeepsItems, EndsAt, BeginsAt, HasNoBumpFor};
 ghost use Rattle.cache_lists.specs.Linked.{linked_at};
 ghost use Rattle.cache_lists.specs.Segments.{SameSegments};
 
@@ -202,18 +200,7 @@ impl<N: Name, L: RowLaw> CountedBook<N, L> {
 
     // The same, which tells of the item what is told of a victim.
     pub(crate) fn end_victim(&mut self) -> Option<Victim>
-        ensures next { victim self.old.book.lists ≡ chunk_told result }
-        ensures ends { IfSome result (λ it. EndsAt it.chunk self.old.book self.new.book) }
-        ensures list { IfSome result (λ it. last_of (list_at self.old.book.lists (place_of it.last_of))
-            ≡ Some it.chunk) }
-        ensures flow { IfSome result (λ it. self.new.flow ≡ noted (Some (place_of it.from, Dying))
-            (noted (way_to it.last_of it.moved) self.old.flow)) }
-        ensures marks { IfSome result (λ it. ShowsMarks it.chunk it.fetched it.active self.new.book) }
-        ensures counted { IfSome result (λ it. self.new.evictions
-            ≡ with_eviction it.fetched it.active self.old.evictions) }
-        ensures others { IfSome result (λ it. SameSegments (all_without it.chunk self.old.book.lists)
-            self.new.book.lists) }
-        ensures none { IfNone result (self.new ≡ self.old) }
+        ensures ends { EndsNext result self.old self.new }
     {
         match items::end_next(&mut self.book) {
             Some(ended) => {
