@@ -4,16 +4,9 @@ use Rattle.std.proofs.Math.Seq.{take-append_seam}
 use Rattle.bump_class.specs.Books.{BookView}
 use Rattle.bump_class.specs.Lanes.{LaneView}
 use Rattle.bump_parts.specs.Parting.{raw_rings}
-use Rattle.bump_cache.specs.Tending.{AppliesOnce, AppliesEach, DrainsLane, DrainsEach, BalancesTimes}
+use Rattle.bump_cache.specs.Tending.{DrainsEach, BalancesTimes}
+use Rattle.cache_lists.specs.Draining.{DrainsLane}
 use Rattle.cache_lists.specs.Looking.{Balances}
-
--- one bump more was applied
-pub applies_more : (count now : ℕ) (book between left : BookView) (from half to : LaneView)
-    → AppliesEach count now book from between half → AppliesOnce now between half left to
-    → AppliesEach (count + 1) now book from left to
-applies_more count now book between left from half to each once =
-    let one_more : suc count ≡ count + 1 = omega arith in
-    subst (λ n. AppliesEach n now book from left to) one_more (between, half, each, once)
 
 -- HOT and WARM were looked at once more
 pub balances_more : (count hot warm : ℕ) (before between after : BookView) → BalancesTimes count hot warm before between

@@ -1,49 +1,14 @@
 -- What a tend does to some state of the cache, the one in which it found it, and to the lanes of its upkeep.
-use Rattle.std.specs.Prelude.{◌≡◌, ℕ, zero, suc, ◌+◌, ◌≤◌, ◌⊎◌, Bool, List, [], ◌∷◌, length}
+use Rattle.std.specs.Prelude.{◌≡◌, ℕ, zero, suc, Bool, List, [], ◌∷◌}
 use Rattle.bump_rules.specs.Caches.{looks}
-use Rattle.bump_rules.specs.declared.bumps.Applied.{Applied}
 use Rattle.bump_rules.specs.declared.items.Head.{Head}
-use Rattle.bump_class.specs.Applications.{AppliesFront}
 use Rattle.bump_class.specs.Books.{BookView}
-use Rattle.bump_class.specs.Lanes.{LaneView, entries}
+use Rattle.bump_class.specs.Lanes.{LaneView}
 use Rattle.bump_class.specs.Sweeps.{Sweeps}
 use Rattle.bump_cache.specs.Opening.{UpkeepView}
-use Rattle.cache_lists.specs.Items.{KeepsItems, HasNoBumpFor}
+use Rattle.cache_lists.specs.Draining.{DrainsLane}
 use Rattle.cache_lists.specs.Looking.{Balances}
 use Rattle.cache_shelf.specs.Shelves.{ShelfView, IsShelf}
-
--- One bump of a lane was applied at this time: the lane has one entry more, and what the items stand for stays.
-pub record AppliesOnce (now : ℕ) (book : BookView) (from : LaneView) (left : BookView) (to : LaneView) : Type 0 where
-  -- what the Book and the lane were when the bump was aboard
-  pub seen : BookView
-  pub carrying : LaneView
-  pub answer : Applied
-  pub front : AppliesFront now seen carrying answer left to
-  pub grown : length (entries to) ≡ length (entries from) + 1
-  pub items : KeepsItems book left
-
--- so many bumps of a lane were applied, one after the other
-abbrev pub AppliesEach : ℕ → ℕ → BookView → LaneView → BookView → LaneView → Type 0
-AppliesEach zero now book from left to = (left ≡ book) × (to ≡ from)
-AppliesEach (suc count) now book from left to = (between : BookView) × (half : LaneView)
-    × AppliesEach count now book from between half × AppliesOnce now between half left to
-
--- A lane was asked for one more bump and had none that the Book can apply: none was applied.
-pub record HasNoMore (book : BookView) (from : LaneView) (left : BookView) (to : LaneView) : Type 0 where
-  pub none : HasNoBumpFor book to
-  pub kept : entries to ≡ entries from
-  pub items : KeepsItems book left
-
--- The turn of a lane: bumps were applied one after the other, as many as it may or until it had no more.
-pub record DrainsLane (most now : ℕ) (book : BookView) (from : LaneView) (left : BookView) (to : LaneView) : Type 0 where
-  pub count : ℕ
-  pub few : count ≤ most
-  pub between : BookView
-  pub half : LaneView
-  pub applies : AppliesEach count now book from between half
-  pub ends : ((count ≡ most) × (left ≡ between) × (to ≡ half)) ⊎ HasNoMore between half left to
-  pub grown : length (entries to) ≡ length (entries from) + count
-  pub ring : to.ring ≡ from.ring
 
 -- each lane has its turn, with the Book that the one before left; they stay as many
 abbrev pub DrainsEach : ℕ → ℕ → BookView → List LaneView → BookView → List LaneView → Type 0

@@ -1,7 +1,8 @@
 //! What the upkeep of a cache works through.
 ghost use Rattle.std.specs.Prelude.{◌≡◌};
 ghost use Rattle.bump_cache.specs.Opening.{UpkeepView as TheUpkeepView};
-ghost use Rattle.bump_cache.specs.Tending.{BalancesOften, DrainsEach, DrainsLane};
+ghost use Rattle.bump_cache.specs.Tending.{BalancesOften, DrainsEach};
+ghost use Rattle.cache_lists.specs.Draining.{DrainsLane};
 
 use bump_class::RawLane;
 use bump_heads::Name;

@@ -4,3 +4,6 @@ pub mod Counting
 pub mod Flowing
 pub mod Ways
 pub mod Segments
+pub mod DrainingLemmas
+pub mod FreeingLemmas
+pub mod RescueLemmas

@@ -28,7 +28,7 @@ use Rattle.bump_class.specs.Books.{BookView}
 use Rattle.bump_class.specs.Changes.{book_after_unlink, book_after_clear_active, book_after_load}
 use Rattle.bump_class.specs.Ends.{EndsItem, Unlinks}
 use Rattle.bump_class.specs.Pulls.{PullsAt, MovesItem, book_after_pull_to}
-use Rattle.bump_class.specs.Sweeps.{Sweeps}
+use Rattle.bump_class.specs.Sweeps.{SweepsThese}
 use Rattle.cache_lists.specs.Items.{victim, or_else}
 use Rattle.cache_lists.specs.Linked.{linked_at}
 use Rattle.cache_lists.specs.Segments.{SameSegments}
@@ -234,12 +234,13 @@ stands_once book stands c p q is other = stands c q
     by false = refl
 
 -- a sweep leaves the segments
-pub sweeps_segments : (book left : BookView) (freed_chunks : ℕ) (heads : ℕ → Head) → Stands book
-    → Sweeps book freed_chunks left heads → SameSegments book.lists left.lists
-sweeps_segments book left freed_chunks heads stands sweeps place segment =
+pub sweeps_segments : (book left : BookView) (freed_chunks : ℕ) (heads : ℕ → Head) (looked : List ℕ) → Stands book
+    → ((c : ℕ) → 0 < times c looked → 0 < times c book.lists.dying) → SweepsThese looked book freed_chunks left heads
+    → SameSegments book.lists left.lists
+sweeps_segments book left freed_chunks heads looked stands dying sweeps place segment =
     ap (λ (b : BookView). list_at b.lists place) sweeps.after
-    ∙ swept_list heads place segment book.lists book.lists.dying
-    (λ c some. stands_once book stands c Dying place (listed_there book stands c Dying some).1 (no_dying place segment))
+    ∙ swept_list heads place segment book.lists looked
+    (λ c some. stands_once book stands c Dying place (listed_there book stands c Dying (dying c some)).1 (no_dying place segment))
 
 -- where no item is linked at a chunk, it stands in no segment
 pub unlinked_apart : (book : BookView) (chunk : ℕ) → Stands book → linked_at book.part chunk ≡ None

@@ -40,7 +40,7 @@ use Rattle.bump_class.specs.Books.{BookView}
 use Rattle.bump_class.specs.Pulls.{PullsAt, PullsItem, MovesItem, book_after_pull_to, limits_of_book}
 use Rattle.bump_class.specs.Changes.{book_after_clear_active, book_after_unlink, book_after_load, book_with_words}
 use Rattle.bump_class.specs.Links.{linked_item, item_of, next_life}
-use Rattle.bump_class.specs.Sweeps.{Sweeps}
+use Rattle.bump_class.specs.Sweeps.{SweepsThese}
 use Rattle.bump_steps.specs.Lives.{class_after_sweep, class_after_load}
 use Rattle.bump_word.specs.Words.{word_of}
 use Rattle.bump_class.specs.Ends.{EndsItem, book_after_end, unlink_refusal, is_linked, is_in_segment, Unlinks}
@@ -216,12 +216,13 @@ swept_keep fresh heads history (d ∷ cs) none c =
         ∙ (more (history ++ freed_change item ∷ []) (λ e some. one e ∙ rest_none e some) ∙ one c)
     by false more = more history rest_none
 
-pub sweeps_keep : (book left : BookView) (freed_chunks : ℕ) (heads : ℕ → Head) → Stands book
-    → Sweeps book freed_chunks left heads → KeepsItems book left
-sweeps_keep book left freed_chunks heads stands sweeps = subst (KeepsItems book) (sym sweeps.after) (record {
+pub sweeps_keep : (book left : BookView) (freed_chunks : ℕ) (heads : ℕ → Head) (looked : List ℕ) → Stands book
+    → ((c : ℕ) → 0 < times c looked → 0 < times c book.lists.dying) → SweepsThese looked book freed_chunks left heads
+    → KeepsItems book left
+sweeps_keep book left freed_chunks heads looked stands dying sweeps = subst (KeepsItems book) (sym sweeps.after) (record {
   class = record { first = refl; count = refl };
-  linked = swept_keep book.part.fresh heads book.part.history book.lists.dying
-      (λ c some. stands_elsewhere book.part c Dying (listed_there book stands c Dying some).1 refl);
+  linked = swept_keep book.part.fresh heads book.part.history looked
+      (λ c some. stands_elsewhere book.part c Dying (listed_there book stands c Dying (dying c some)).1 refl);
 })
 
 -- a life begins
@@ -265,6 +266,20 @@ evict_told book left answer item stands (Some chunk) is pulls told =
 -- a class of the same chunks owns the same
 pub owns_same : (book left : BookView) → IsSameClass book left → (c : ℕ) → owns c left.part ≡ owns c book.part
 owns_same book left class c = ap₂ (λ f n. is_between f (f + n) c) class.first class.count
+
+-- nothing keeps the items
+pub keeps_still : (book : BookView) → KeepsItems book book
+keeps_still book = record { class = record { first = refl; count = refl }; linked = λ c. refl }
+
+-- and so does what keeps them twice
+pub keeps_then : (book between left : BookView) → KeepsItems book between → KeepsItems between left → KeepsItems book left
+keeps_then book between left one other = record {
+  class = record {
+    first = other.class.first ∙ one.class.first;
+    count = other.class.count ∙ one.class.count;
+  };
+  linked = λ c. other.linked c ∙ one.linked c;
+}
 
 -- what keeps the items may come before the end of one
 pub kept_ends : (book kept left : BookView) (chunk : ℕ) → KeepsItems book kept → EndsAt chunk kept left

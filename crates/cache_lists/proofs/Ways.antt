@@ -45,7 +45,7 @@ use Rattle.bump_class.specs.Ends.{EndsItem, book_after_end, Unlinks}
 use Rattle.bump_class.specs.Lanes.{LaneView}
 use Rattle.bump_class.specs.Links.{linked_item, item_of, next_life}
 use Rattle.bump_class.specs.Pulls.{PullsAt, MovesItem, book_after_pull_to, limits_of_book}
-use Rattle.bump_class.specs.Sweeps.{Sweeps}
+use Rattle.bump_class.specs.Sweeps.{SweepsThese}
 use Rattle.cache_lists.specs.Flows.{crosses, crossings_behind, crossings, Way, is_way, Flows, way_of_pull, way_of_applied, way_to}
 use Rattle.bump_rules.specs.Commands.{item_told}
 use Rattle.cache_lists.specs.Items.{may_tell}
@@ -411,13 +411,14 @@ swept_flow fresh heads from to some history (d ∷ cs) none =
     by false more = more history rest_none
 
 -- a sweep counts nothing
-pub sweeps_flow : (book left : BookView) (freed_chunks : ℕ) (heads : ℕ → Head) → Stands book
-    → Sweeps book freed_chunks left heads → Flows None book left
-sweeps_flow book left freed_chunks heads stands sweeps = subst (Flows None book) (sym sweeps.after) (record {
+pub sweeps_flow : (book left : BookView) (freed_chunks : ℕ) (heads : ℕ → Head) (looked : List ℕ) → Stands book
+    → ((c : ℕ) → 0 < times c looked → 0 < times c book.lists.dying) → SweepsThese looked book freed_chunks left heads
+    → Flows None book left
+sweeps_flow book left freed_chunks heads looked stands dying sweeps = subst (Flows None book) (sym sweeps.after) (record {
   counts = λ from to some. omega (
     arith,
-    swept_flow book.part.fresh heads from to some book.part.history book.lists.dying
-        (λ c has. ap is_segment_place (listed_there book stands c Dying has).1),
+    swept_flow book.part.fresh heads from to some book.part.history looked
+        (λ c has. ap is_segment_place (listed_there book stands c Dying (dying c has)).1),
   );
 })
 

@@ -5,6 +5,10 @@ pub mod Flows
 pub mod Ours
 pub mod Counts
 pub mod Looking
+pub mod Ends
+pub mod Draining
+pub mod Rescues
+pub mod Freeing
 pub use Rattle.bump_class.specs.Applications
 pub use Rattle.bump_class.specs.Books
 pub use Rattle.bump_class.specs.Changes

@@ -20,14 +20,17 @@ ghost use Rattle.bump_rules.specs.Lists.{list_at, all_without};
 ghost use Rattle.bump_rules.specs.declared.places.Tail.TheVariants as tail;
 ghost use Rattle.bump_steps.specs.Views.{owns, last_label, last_word, of_word};
 ghost use Rattle.cache_lists.specs.Counts.{CountedView as TheCountedView, IsFlow, SegmentsAddUp, CountsEviction};
-ghost use Rattle.cache_lists.specs.Counts.{no_flow, no_evictions};
-ghost use Rattle.cache_lists.specs.Items.{victim, KeepsItems, EndsAt, BeginsAt, HasNoBumpFor};
+ghost use Rattle.cache_lists.specs.Counts.{no_flow, no_evictions, noted};
+ghost use Rattle.cache_lists.specs.Ends.{EndsNext};
+ghost use Rattle.cache_lists.specs.Flows.{way_of_pull};
+ghost use Rattle.cache_lists.specs.Items.{victim, may_tell, KeepsItems, EndsAt, BeginsAt, HasNoBumpFor};
 ghost use Rattle.cache_lists.specs.Linked.{linked_at};
 ghost use Rattle.cache_lists.specs.Segments.{SameSegments};
 
 use crate::evictions::Evictions;
 use crate::flow::Flow;
 use crate::items;
+use crate::victims::Victim;
 use bump_class::{Book, RawLane};
 use bump_heads::Name;
 use bump_rules::{Applied, ItemId, Place, Pulled, Segment, Tail};
@@ -37,7 +40,7 @@ use std::marker::Model;
 /// A Book, how its items went from list to list, and how many were evicted.
 #[derive(Drop)]
 pub struct CountedBook<N: Name, L: RowLaw = AnyRow> {
-    book: Book<N, L>,
+    pub(crate) book: Book<N, L>,
     flow: Flow,
     evictions: Evictions,
 }
@@ -189,12 +192,22 @@ impl<N: Name, L: RowLaw> CountedBook<N, L> {
             self.new.book.lists) }
         ensures none { IfNone result (self.new ≡ self.old) }
     {
+        match self.end_victim() {
+            Some(ended) => Some(ended.chunk),
+            None => None,
+        }
+    }
+
+    // The same, which tells of the item what is told of a victim.
+    pub(crate) fn end_victim(&mut self) -> Option<Victim>
+        ensures ends { EndsNext result self.old self.new }
+    {
         match items::end_next(&mut self.book) {
             Some(ended) => {
                 self.flow.note_move(ended.last_of, ended.moved);
                 self.flow.note_end(ended.from);
                 self.evictions.note(ended.fetched, ended.active);
-                Some(ended.chunk)
+                Some(ended)
             }
             None => None,
         }
@@ -206,6 +219,8 @@ impl<N: Name, L: RowLaw> CountedBook<N, L> {
         requires { from ≢ tail.Evict }
         ensures kept { KeepsItems self.old.book self.new.book }
         ensures pulls { Pulls self.old.book from result self.new.book }
+        ensures told { may_tell from result ≡ true }
+        ensures flow { self.new.flow ≡ noted (way_of_pull from result) self.old.flow }
         ensures none { IfNone (item_told result) (self.new ≡ self.old) }
         ensures evictions { self.new.evictions ≡ self.old.evictions }
     {

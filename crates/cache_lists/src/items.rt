@@ -2,7 +2,7 @@
 ghost use Rattle.std.specs.Prelude.{◌≡◌, ◌≢◌, ℕ, ◌+◌, ◌<◌, ◌≤◌, true, length, slice_index, IfSome, IfNone, option_map, None, Some};
 ghost use Rattle.bump_links.specs.Lists.{last_of, first_of};
 ghost use Rattle.bump_rules.specs.Commands.{item_told};
-ghost use Rattle.bump_rules.specs.Lists.{list_at, all_without};
+ghost use Rattle.bump_rules.specs.Lists.{all_without};
 ghost use Rattle.bump_rules.specs.Places.{place_of};
 ghost use Rattle.bump_rules.specs.declared.places.Place.TheVariants.{Hot, Dying, Unused};
 ghost use Rattle.bump_rules.specs.declared.places.Tail.TheVariants as tail;
@@ -10,7 +10,9 @@ ghost use Rattle.bump_rules.specs.Labels.{label_of_life};
 ghost use Rattle.bump_steps.specs.Views.{owns, of_word};
 ghost use Rattle.cache_lists.specs.Linked.{linked_at};
 ghost use Rattle.cache_lists.specs.Items.{may_tell, chunk_told, victim, KeepsItems, EndsAt, BeginsAt};
-ghost use Rattle.cache_lists.specs.Items.{ShowsMarks, HasNoBumpFor};
+ghost use Rattle.cache_lists.specs.Freeing.{FreesUpTo};
+ghost use Rattle.cache_lists.specs.Ends.{EndsOne};
+ghost use Rattle.cache_lists.specs.Items.{HasNoBumpFor};
 ghost use Rattle.bump_class.specs.Applications.{AppliesFront};
 ghost use Rattle.bump_class.specs.Books.{BookView as TheBookView};
 ghost use Rattle.bump_class.specs.Changes.{book_with_words};
@@ -20,9 +22,8 @@ ghost use Rattle.bump_class.specs.Pulls.{Pulls};
 ghost use Rattle.bump_class.specs.Sweeps.{Sweeps};
 ghost use Rattle.bump_rules.specs.declared.items.Head.{Head as TheHead};
 ghost use Rattle.bump_rules.specs.declared.places.Start.TheVariants as start;
-ghost use Rattle.cache_lists.specs.Ours.{are_ours};
 ghost use Rattle.cache_lists.specs.Segments.{SameSegments};
-ghost use Rattle.cache_lists.specs.Flows.{Flows, FlowsTwice, way_of_pull, way_to, way_of_applied};
+ghost use Rattle.cache_lists.specs.Flows.{Flows, way_of_pull, way_of_applied};
 ghost use Rattle.bump_rules.specs.declared.items.ItemId.{ItemId as TheItemId};
 ghost use Rattle.bump_rules.specs.Tables.{last_pulled};
 
@@ -54,14 +55,7 @@ pub(crate) fn look_at<N: Name, L: RowLaw>(book: &mut Book<N, L>, from: Tail) -> 
 fn end_last_of<N: Name, L: RowLaw>(book: &mut Book<N, L>, from: Tail) -> Option<Victim>
     requires { from ≢ tail.Evict }
     ensures last { last_pulled from book.old.lists ≡ chunk_told result }
-    ensures ends { IfSome result (λ it. EndsAt it.chunk book.old book.new) }
-    ensures none { IfNone result (book.new ≡ book.old) }
-    ensures list { IfSome result (λ it. last_of (list_at book.old.lists (place_of it.last_of)) ≡ Some it.chunk) }
-    ensures flows { IfSome result (λ it. FlowsTwice (way_to it.last_of it.moved) (Some (place_of it.from, Dying))
-        book.old book.new) }
-    ensures ways { IfSome result (λ it. are_ours (way_to it.last_of it.moved)) }
-    ensures marks { IfSome result (λ it. ShowsMarks it.chunk it.fetched it.active book.new) }
-    ensures others { IfSome result (λ it. SameSegments (all_without it.chunk book.old.lists) book.new.lists) }
+    ensures ends { EndsOne result book.old book.new }
 {
     let pulled = look_at(book, from);
     let Some(id) = pulled.item() else {
@@ -84,14 +78,7 @@ fn end_last_of<N: Name, L: RowLaw>(book: &mut Book<N, L>, from: Tail) -> Option<
 // The item whose turn it is ends: the last of COLD; where COLD is empty, of WARM; and where that is too, of HOT.
 pub(crate) fn end_next<N: Name, L: RowLaw>(book: &mut Book<N, L>) -> Option<Victim>
     ensures next { victim book.old.lists ≡ chunk_told result }
-    ensures ends { IfSome result (λ it. EndsAt it.chunk book.old book.new) }
-    ensures none { IfNone result (book.new ≡ book.old) }
-    ensures list { IfSome result (λ it. last_of (list_at book.old.lists (place_of it.last_of)) ≡ Some it.chunk) }
-    ensures flows { IfSome result (λ it. FlowsTwice (way_to it.last_of it.moved) (Some (place_of it.from, Dying))
-        book.old book.new) }
-    ensures ways { IfSome result (λ it. are_ours (way_to it.last_of it.moved)) }
-    ensures marks { IfSome result (λ it. ShowsMarks it.chunk it.fetched it.active book.new) }
-    ensures others { IfSome result (λ it. SameSegments (all_without it.chunk book.old.lists) book.new.lists) }
+    ensures ends { EndsOne result book.old book.new }
 {
     if let Some(ended) = end_last(book) {
         return Some(ended);
@@ -105,14 +92,7 @@ pub(crate) fn end_next<N: Name, L: RowLaw>(book: &mut Book<N, L>) -> Option<Vict
 // The last item of COLD ends. It answers None where there is no such item, and changes nothing then.
 fn end_last<N: Name, L: RowLaw>(book: &mut Book<N, L>) -> Option<Victim>
     ensures last { last_of book.old.lists.cold ≡ chunk_told result }
-    ensures ends { IfSome result (λ it. EndsAt it.chunk book.old book.new) }
-    ensures none { IfNone result (book.new ≡ book.old) }
-    ensures list { IfSome result (λ it. last_of (list_at book.old.lists (place_of it.last_of)) ≡ Some it.chunk) }
-    ensures flows { IfSome result (λ it. FlowsTwice (way_to it.last_of it.moved) (Some (place_of it.from, Dying))
-        book.old book.new) }
-    ensures ways { IfSome result (λ it. are_ours (way_to it.last_of it.moved)) }
-    ensures marks { IfSome result (λ it. ShowsMarks it.chunk it.fetched it.active book.new) }
-    ensures others { IfSome result (λ it. SameSegments (all_without it.chunk book.old.lists) book.new.lists) }
+    ensures ends { EndsOne result book.old book.new }
 {
     book.promise();
     let Some(id) = book.pull(Tail::Evict).item() else {
@@ -157,6 +137,19 @@ pub(crate) fn sweep<N: Name, L: RowLaw>(book: &mut Book<N, L>) -> u32
 {
     book.promise();
     book.sweep()
+}
+
+// As many chunks as a slice has room for come free, and are told there, of those that were unlinked and are held by
+// nobody any more.
+pub(crate) fn free_some<N: Name, L: RowLaw>(book: &mut Book<N, L>, freed: &mut [u32]) -> u32
+    ensures frees { (heads : ℕ → TheHead) × FreesUpTo (length freed.old) book.old result book.new heads }
+    ensures few { result ≤ length freed.old }
+    ensures kept { KeepsItems book.old book.new }
+    ensures flows { Flows None book.old book.new }
+    ensures segments { SameSegments book.old.lists book.new.lists }
+{
+    book.promise();
+    book.sweep_into(freed)
 }
 
 // An item is linked, at a chunk that is free, with a label and further words. It answers None exactly where no chunk is

@@ -2,9 +2,12 @@
 #![tactic(auto)]
 
 mod counted;
+mod draining;
 mod evictions;
 mod flow;
+mod freeing;
 mod items;
+mod rescues;
 mod victims;
 
 pub use bump_class::{Book, RawLane};
@@ -14,4 +17,6 @@ pub use bump_steps::{AnyRow, RowLaw};
 pub use counted::CountedBook;
 pub use evictions::Evictions;
 pub use flow::Flow;
+pub use freeing::MOST_FREED;
+pub use rescues::RESCUES;
 pub use victims::Victim;

@@ -2,7 +2,6 @@
 use Rattle.std.proofs.Common.{◌≡◌, ℕ, Bool, true, List, [], ◌∷◌, ◌++◌, Option, Some, None, IfSome, IfNone, slice_set, refl, sym, ap, ◌∙◌, subst}
 use mathlib.Core.Logic.{inl, inr}
 use Rattle.bump_rules.specs.declared.items.ItemId.{ItemId}
-use Rattle.bump_rules.specs.declared.places.Place.TheVariants.{Hot}
 use Rattle.bump_rules.specs.declared.places.Start.TheVariants as start
 use Rattle.bump_rules.specs.Lists.{Lists, all_without}
 use Rattle.bump_class.specs.Books.{BookView}

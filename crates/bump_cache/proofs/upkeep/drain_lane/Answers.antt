@@ -1,5 +1,5 @@
 use Rattle.std.proofs.Common.{length, refl, ap, ◌∙◌, arith, inl, inr}
-use Rattle.bump_cache.proofs.Tending.{applies_more}
+use Rattle.cache_lists.proofs.DrainingLemmas.{applies_more}
 use Rattle.bump_cache.proofs.upkeep.drain_lane.Goals as goal
 
 pub loop-applied-preserved : goal.loop-applied-preserved

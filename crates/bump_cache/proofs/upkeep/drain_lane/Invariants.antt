@@ -1,6 +1,6 @@
 use Rattle.std.proofs.Common.{◌≡◌, ◌+◌, length}
 use Rattle.bump_class.specs.Lanes.{entries}
-use Rattle.bump_cache.specs.Tending.{AppliesEach}
+use Rattle.cache_lists.specs.Draining.{AppliesEach}
 use Rattle.bump_cache.proofs.upkeep.drain_lane.Given as goal
 
 -- so many bumps were applied, and the lane stays that of its ring

@@ -1,46 +1,48 @@
-use Rattle.std.proofs.Common.{refl, sym, ap₂, ◌∙◌, subst, IfSome}
+use Rattle.std.proofs.Common.{refl, sym, ap, ap₂, ◌∙◌, subst, IfSome, option_map}
+use Rattle.bump_links.specs.Lists.{last_of}
+use Rattle.bump_rules.specs.declared.items.ItemId.{ItemId}
+use Rattle.bump_rules.specs.Lists.{list_at, all_without}
+use Rattle.bump_rules.specs.Places.{place_of}
 use Rattle.cache_lists.specs.Flows.{Flows, way_to}
-use Rattle.cache_lists.proofs.Standings.{ended_shown}
-use Rattle.cache_lists.proofs.Ways.{before_none, seen_flows, told_way}
 use Rattle.cache_lists.specs.Ours.{are_ours}
-use Rattle.cache_lists.proofs.Counting.{told_ours}
-use Rattle.cache_lists.proofs.items.end_last_of.Goals as goal
-use Rattle.bump_rules.specs.Lists.{all_without}
 use Rattle.cache_lists.specs.Segments.{SameSegments}
+use Rattle.cache_lists.proofs.Counting.{told_ours}
 use Rattle.cache_lists.proofs.Segments.{seen_others, same_then}
+use Rattle.cache_lists.proofs.Standings.{ended_shown, ends_kept, kept_ends, see_keeps}
+use Rattle.cache_lists.proofs.Ways.{before_none, seen_flows, told_way}
+use Rattle.cache_lists.proofs.items.end_last_of.Goals as goal
 
-pub returns-clause-flows : goal.returns-clause-flows
-returns-clause-flows g c = record {
-  between = c.look_at-pulled.new.book;
-  one = subst (λ way. Flows way c.args.book.now c.look_at-pulled.new.book)
-      (told_way c.args.from c.look_at-pulled.result c.requires c.look_at-pulled.ensures.told
-      ∙ ap₂ way_to (sym c.segment.ensures) (sym c.to.ensures)) c.look_at-pulled.ensures.flows;
-  other = before_none c.look_at-pulled.new.book c.end.new.book c.look-head.new.self _ c.in-Some-end.ensures.flows
-      (seen_flows c.end.new.book c.look-head.new.self c.in-Some.id.chunk c.look-head.result c.look-head.ensures.looked);
-}
-
-pub returns-clause-marks : goal.returns-clause-marks
-returns-clause-marks g c = record {
-  head = c.look-head.result;
-  between = c.end.new.book;
-  look = c.look-head.ensures.looked;
-  fits = c.look-head.ensures.fits;
-  unlinked = ended_shown c.look_at-pulled.new.book c.end.new.book c.in-Some.id.chunk c.look-head.result
-      c.in-Some-end.ensures.ends c.look-head.ensures.agrees;
-  is_fetched = refl;
-  is_active = refl;
-}
-
-pub returns-clause-ways : goal.returns-clause-ways
-returns-clause-ways g c = subst are_ours (ap₂ way_to (sym c.segment.ensures) (sym c.to.ensures))
-    (told_ours c.args.from c.look_at-pulled.result c.requires c.look_at-pulled.ensures.told)
-
-pub returns-clause-others : goal.returns-clause-others
-returns-clause-others g c =
-    let book = c.args.book.now in
-    let looked = c.look_at-pulled.new.book in
-    let chunk = c.in-Some.id.chunk in
-    seen_others (all_without chunk book.lists) c.end.new.book c.look-head.new.self chunk c.look-head.result c.look-head.ensures.looked
-    (same_then (all_without chunk book.lists) (all_without chunk looked.lists) c.end.new.book.lists
-    (subst (λ t. IfSome t (λ id. SameSegments (all_without id.chunk book.lists) (all_without id.chunk looked.lists)))
-    (sym c.item.ensures ∙ c.in-Some.is) c.look_at-pulled.ensures.others) c.in-Some-end.ensures.others)
+pub returns-clause-ends : goal.returns-clause-ends
+returns-clause-ends g c =
+    let book = c.args.book.now in let pull = c.look_at-pulled in let looked = pull.new.book in let ended = c.end.new.book in
+    let seen = c.look-head.new.self in let chunk = c.in-Some.id.chunk in let head = c.look-head.result in
+    record {
+      list = ap (λ s. last_of (list_at book.lists (place_of s))) c.segment.ensures
+          ∙ (sym pull.ensures.item ∙ ap (option_map (λ (id : ItemId). id.chunk)) (sym c.item.ensures ∙ c.in-Some.is));
+      ends = ends_kept book ended seen chunk
+          (kept_ends book looked ended chunk pull.ensures.kept c.in-Some-end.ensures.ends)
+          (see_keeps ended seen chunk head c.look-head.ensures.looked);
+      others = seen_others (all_without chunk book.lists) ended seen chunk head c.look-head.ensures.looked
+          (same_then (all_without chunk book.lists) (all_without chunk looked.lists) ended.lists
+          (subst (λ t. IfSome t (λ id. SameSegments (all_without id.chunk book.lists) (all_without id.chunk looked.lists)))
+          (sym c.item.ensures ∙ c.in-Some.is) pull.ensures.others) c.in-Some-end.ensures.others);
+      flows = record {
+        between = looked;
+        one = subst (λ way. Flows way book looked)
+            (told_way c.args.from pull.result c.requires pull.ensures.told
+            ∙ ap₂ way_to (sym c.segment.ensures) (sym c.to.ensures)) pull.ensures.flows;
+        other = before_none looked ended seen _ c.in-Some-end.ensures.flows
+            (seen_flows ended seen chunk head c.look-head.ensures.looked);
+      };
+      ways = subst are_ours (ap₂ way_to (sym c.segment.ensures) (sym c.to.ensures))
+          (told_ours c.args.from pull.result c.requires pull.ensures.told);
+      marks = record {
+        head = head;
+        between = ended;
+        look = c.look-head.ensures.looked;
+        fits = c.look-head.ensures.fits;
+        unlinked = ended_shown looked ended chunk head c.in-Some-end.ensures.ends c.look-head.ensures.agrees;
+        is_fetched = refl;
+        is_active = refl;
+      };
+    }

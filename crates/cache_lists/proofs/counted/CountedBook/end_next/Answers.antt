@@ -1,14 +1,24 @@
-use Rattle.std.proofs.Common.{Some, sym, ap, ◌∙◌, subst}
-use Rattle.bump_rules.specs.Places.{place_of}
-use Rattle.bump_rules.specs.declared.places.Place.TheVariants.{Dying}
-use Rattle.cache_lists.specs.Counts.{IsFlow, noted}
-use Rattle.cache_lists.specs.Flows.{way_to}
-use Rattle.cache_lists.proofs.Counting.{flow_goes_twice, end_is_ours}
 use Rattle.cache_lists.proofs.counted.CountedBook.end_next.Goals as goal
 
-pub invariant_of-self : goal.invariant_of-self
-invariant_of-self g c = subst (λ f. IsFlow f c.end_next.new.book.part)
-    (sym (c.note_end.ensures ∙ ap (noted (Some (place_of c.in-Some.ended.from, Dying))) c.note_move.ensures))
-    (flow_goes_twice (way_to c.in-Some.ended.last_of c.in-Some.ended.moved) (Some (place_of c.in-Some.ended.from, Dying))
-    c.self.inside.book c.end_next.new.book c.self.inside.flow c.in-Some.ensures.ways (end_is_ours c.in-Some.ended.from)
-    c.in-Some.ensures.flows c.self.invariant)
+pub returns-in-Some-clause-next : goal.returns-in-Some-clause-next
+returns-in-Some-clause-next g c = c.in-Some.ensures.ends.next
+
+pub returns-in-Some-clause-ends : goal.returns-in-Some-clause-ends
+returns-in-Some-clause-ends g c = c.in-Some.ensures.ends.told.ends
+
+pub returns-in-Some-clause-counted : goal.returns-in-Some-clause-counted
+returns-in-Some-clause-counted g c = record {
+  fetched = c.in-Some.ended.fetched;
+  active = c.in-Some.ended.active;
+  shown = c.in-Some.ensures.ends.told.marks;
+  counted = c.in-Some.ensures.ends.evictions;
+}
+
+pub returns-in-Some-clause-others : goal.returns-in-Some-clause-others
+returns-in-Some-clause-others g c = c.in-Some.ensures.ends.told.others
+
+pub returns-in-None-clause-next : goal.returns-in-None-clause-next
+returns-in-None-clause-next g c = c.in-None.ensures.ends.0
+
+pub returns-in-None-clause-none : goal.returns-in-None-clause-none
+returns-in-None-clause-none g c = c.in-None.ensures.ends.1

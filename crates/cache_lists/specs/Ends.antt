@@ -1,0 +1,42 @@
+-- What the end of the item comes to whose turn it is.
+use Rattle.std.specs.Prelude.{◌≡◌, Option, None, Some}
+use Rattle.bump_links.specs.Lists.{last_of}
+use Rattle.bump_rules.specs.declared.places.Place.TheVariants.{Dying}
+use Rattle.bump_rules.specs.Lists.{list_at, all_without}
+use Rattle.bump_rules.specs.Places.{place_of}
+use Rattle.bump_class.specs.Books.{BookView}
+use Rattle.cache_lists.specs.declared.victims.Victim.{Victim}
+use Rattle.cache_lists.specs.Counts.{CountedView, noted, with_eviction}
+use Rattle.cache_lists.specs.Flows.{FlowsTwice, way_to}
+use Rattle.cache_lists.specs.Items.{victim, EndsAt, ShowsMarks}
+use Rattle.cache_lists.specs.Ours.{are_ours}
+use Rattle.cache_lists.specs.Segments.{SameSegments}
+
+-- This item ended, and what is told of it is true.
+pub record EndsTold (it : Victim) (before after : BookView) : Type 0 where
+  -- it was the last of its list, and no other item ended or was moved
+  pub list : last_of (list_at before.lists (place_of it.last_of)) ≡ Some it.chunk
+  pub ends : EndsAt it.chunk before after
+  pub others : SameSegments (all_without it.chunk before.lists) after.lists
+  -- where it was moved by the look at it, and from where it ended
+  pub flows : FlowsTwice (way_to it.last_of it.moved) (Some (place_of it.from, Dying)) before after
+  pub ways : are_ours (way_to it.last_of it.moved)
+  -- a look just behind its end found its marks
+  pub marks : ShowsMarks it.chunk it.fetched it.active after
+
+-- this one ended, or nothing was changed
+abbrev pub EndsOne : Option Victim → BookView → BookView → Type 0
+EndsOne None before after = after ≡ before
+EndsOne (Some it) before after = EndsTold it before after
+
+-- The item whose turn it is ended, and it was counted.
+pub record EndsInTurn (it : Victim) (before after : CountedView) : Type 0 where
+  pub next : victim before.book.lists ≡ Some it.chunk
+  pub told : EndsTold it before.book after.book
+  pub flow : after.flow ≡ noted (Some (place_of it.from, Dying)) (noted (way_to it.last_of it.moved) before.flow)
+  pub evictions : after.evictions ≡ with_eviction it.fetched it.active before.evictions
+
+-- and where there was none nothing was changed
+abbrev pub EndsNext : Option Victim → CountedView → CountedView → Type 0
+EndsNext None before after = (victim before.book.lists ≡ None) × (after ≡ before)
+EndsNext (Some it) before after = EndsInTurn it before after
