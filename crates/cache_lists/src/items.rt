@@ -64,7 +64,7 @@ fn end_last_of<N: Name, L: RowLaw>(book: &mut Book<N, L>, from: Tail) -> Option<
     let Some(segment) = end(book, id) else {
         unreachable!()
     };
-    let head = book.look(id.chunk);
+    let head = book.load_head(id.chunk);
     Some(Victim {
         chunk: id.chunk,
         last_of: from.segment(),
@@ -98,7 +98,7 @@ fn end_last<N: Name, L: RowLaw>(book: &mut Book<N, L>) -> Option<Victim>
     let Some(id) = book.pull(Tail::Evict).item() else {
         return None;
     };
-    let head = book.look(id.chunk);
+    let head = book.load_head(id.chunk);
     Some(Victim {
         chunk: id.chunk,
         last_of: Segment::Cold,
@@ -120,7 +120,7 @@ pub(crate) fn end<N: Name, L: RowLaw>(book: &mut Book<N, L>, id: ItemId) -> Opti
     ensures stays { IfNone result (Flows None book.old book.new) }
     ensures others { IfSome result (λ from. SameSegments (all_without id.chunk book.old.lists) book.new.lists) }
 {
-    let head = book.look(id.chunk);
+    let head = book.load_head(id.chunk);
     book.promise();
     match book.unlink(id) {
         Ok(_) => Some(head.segment),
@@ -203,7 +203,7 @@ pub(crate) fn apply_next<N: Name, L: RowLaw>(
     }
     // A bump holds a reference, so its chunk has this life still. What an application promises doesn't say so, and one
     // look more shows it.
-    let head = book.look(bump.life.chunk);
+    let head = book.load_head(bump.life.chunk);
     if head.generation != bump.life.generation {
         return None;
     }

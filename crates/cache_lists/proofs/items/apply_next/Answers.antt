@@ -6,11 +6,11 @@ use Rattle.cache_lists.proofs.items.apply_next.Goals as goal
 
 pub returns-clause-items : goal.returns-clause-items
 returns-clause-items g c =
-    seen_keeps c.args.book.now c.look-head.new.self c.apply_front.new.self c.in-Some.bump.life.chunk c.look-head.result c.look-head.ensures.looked
-    (front_keeps c.look-head.new.self c.apply_front.new.self c.fetch.new.self c.apply_front.new.lane c.in-Some.bump c.args.now c.apply_front.result
+    seen_keeps c.args.book.now c.load_head-head.new.self c.apply_front.new.self c.in-Some.bump.life.chunk c.load_head-head.result c.load_head-head.ensures.looked
+    (front_keeps c.load_head-head.new.self c.apply_front.new.self c.fetch.new.self c.apply_front.new.lane c.in-Some.bump c.args.now c.apply_front.result
     c.apply_front.ensures.applied.front (c.fetch.ensures.aboard.told ∙ c.in-Some.is)
-    (ap (λ b. (standing b.part c.in-Some.bump.life.chunk).1) c.look-head.ensures.looked ∙ (sym c.look-head.ensures.generation ∙ grind (arith, c.if-head-bump.false))))
+    (ap (λ b. (standing b.part c.in-Some.bump.life.chunk).1) c.load_head-head.ensures.looked ∙ (sym c.load_head-head.ensures.generation ∙ grind (arith, c.if-head-bump.false))))
 
 pub returns-clause-flows : goal.returns-clause-flows
-returns-clause-flows g c = front_flows c.args.book.now c.look-head.new.self c.apply_front.new.self c.fetch.new.self c.apply_front.new.lane
-    c.in-Some.bump.life.chunk c.args.now c.look-head.result c.apply_front.result c.look-head.ensures.looked c.apply_front.ensures.applied.front
+returns-clause-flows g c = front_flows c.args.book.now c.load_head-head.new.self c.apply_front.new.self c.fetch.new.self c.apply_front.new.lane
+    c.in-Some.bump.life.chunk c.args.now c.load_head-head.result c.apply_front.result c.load_head-head.ensures.looked c.apply_front.ensures.applied.front

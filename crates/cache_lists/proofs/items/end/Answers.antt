@@ -12,43 +12,43 @@ use Rattle.bump_rules.specs.Lists.{all_without}
 
 pub returns-in-Ok-clause-ends : goal.returns-in-Ok-clause-ends
 returns-in-Ok-clause-ends g c =
-    let keeps = see_keeps c.args.book.now c.look-head.new.self c.args.id.chunk c.look-head.result c.look-head.ensures.looked in
-    let own = ap (λ b. owns c.args.id.chunk b.part) c.look-head.ensures.looked ∙ c.requires.own in
-    kept_ends c.args.book.now c.look-head.new.self c.unlink.new.self c.args.id.chunk keeps
-    (unlinks_at c.look-head.new.self c.unlink.new.self c.args.id _ own
-    (unlink_ok c.look-head.new.self c.args.id c.promise.ensures.stands own c.in-Ok.ensures.refused) c.in-Ok.ensures.unlinked)
+    let keeps = see_keeps c.args.book.now c.load_head-head.new.self c.args.id.chunk c.load_head-head.result c.load_head-head.ensures.looked in
+    let own = ap (λ b. owns c.args.id.chunk b.part) c.load_head-head.ensures.looked ∙ c.requires.own in
+    kept_ends c.args.book.now c.load_head-head.new.self c.unlink.new.self c.args.id.chunk keeps
+    (unlinks_at c.load_head-head.new.self c.unlink.new.self c.args.id _ own
+    (unlink_ok c.load_head-head.new.self c.args.id c.promise.ensures.stands own c.in-Ok.ensures.refused) c.in-Ok.ensures.unlinked)
 
 pub returns-in-Ok-clause-linked : goal.returns-in-Ok-clause-linked
 returns-in-Ok-clause-linked g c =
-    let own = ap (λ b. owns c.args.id.chunk b.part) c.look-head.ensures.looked ∙ c.requires.own in
-    ap (λ b. linked_at b.part c.args.id.chunk) (sym c.look-head.ensures.looked)
-    ∙ unlink_ok c.look-head.new.self c.args.id c.promise.ensures.stands own c.in-Ok.ensures.refused
+    let own = ap (λ b. owns c.args.id.chunk b.part) c.load_head-head.ensures.looked ∙ c.requires.own in
+    ap (λ b. linked_at b.part c.args.id.chunk) (sym c.load_head-head.ensures.looked)
+    ∙ unlink_ok c.load_head-head.new.self c.args.id c.promise.ensures.stands own c.in-Ok.ensures.refused
 
 pub returns-in-Ok-clause-flows : goal.returns-in-Ok-clause-flows
 returns-in-Ok-clause-flows g c =
-    let own = ap (λ b. owns c.args.id.chunk b.part) c.look-head.ensures.looked ∙ c.requires.own in
-    let linked = unlink_ok c.look-head.new.self c.args.id c.promise.ensures.stands own c.in-Ok.ensures.refused in
-    let stood = found_segment c.look-head.new.self c.args.id c.look-head.result linked
-    (subst (Shows c.look-head.result) (ap (λ b. (standing b.part c.args.id.chunk).0) (sym c.look-head.ensures.looked)) c.look-head.ensures.agrees) in
-    behind_none c.args.book.now c.look-head.new.self c.unlink.new.self _
-    (seen_flows c.args.book.now c.look-head.new.self c.args.id.chunk c.look-head.result c.look-head.ensures.looked)
-    (unlinks_flow c.look-head.new.self c.unlink.new.self c.args.id _ _ stood c.in-Ok.ensures.unlinked)
+    let own = ap (λ b. owns c.args.id.chunk b.part) c.load_head-head.ensures.looked ∙ c.requires.own in
+    let linked = unlink_ok c.load_head-head.new.self c.args.id c.promise.ensures.stands own c.in-Ok.ensures.refused in
+    let stood = found_segment c.load_head-head.new.self c.args.id c.load_head-head.result linked
+    (subst (Shows c.load_head-head.result) (ap (λ b. (standing b.part c.args.id.chunk).0) (sym c.load_head-head.ensures.looked)) c.load_head-head.ensures.agrees) in
+    behind_none c.args.book.now c.load_head-head.new.self c.unlink.new.self _
+    (seen_flows c.args.book.now c.load_head-head.new.self c.args.id.chunk c.load_head-head.result c.load_head-head.ensures.looked)
+    (unlinks_flow c.load_head-head.new.self c.unlink.new.self c.args.id _ _ stood c.in-Ok.ensures.unlinked)
 
 pub returns-in-Err-clause-not_linked : goal.returns-in-Err-clause-not_linked
 returns-in-Err-clause-not_linked g c =
-    let own = ap (λ b. owns c.args.id.chunk b.part) c.look-head.ensures.looked ∙ c.requires.own in
-    λ linked. unlink_err c.look-head.new.self c.args.id _ c.promise.ensures.stands own c.in-Err.ensures.refused
-    (ap (λ b. linked_at b.part c.args.id.chunk) c.look-head.ensures.looked ∙ linked)
+    let own = ap (λ b. owns c.args.id.chunk b.part) c.load_head-head.ensures.looked ∙ c.requires.own in
+    λ linked. unlink_err c.load_head-head.new.self c.args.id _ c.promise.ensures.stands own c.in-Err.ensures.refused
+    (ap (λ b. linked_at b.part c.args.id.chunk) c.load_head-head.ensures.looked ∙ linked)
 
 pub returns-in-Err-clause-kept : goal.returns-in-Err-clause-kept
-returns-in-Err-clause-kept g c = seen_keeps c.args.book.now c.look-head.new.self c.unlink.new.self c.args.id.chunk c.look-head.result c.look-head.ensures.looked
-    (unlinks_nothing c.look-head.new.self c.unlink.new.self c.args.id _ c.in-Err.ensures.unlinked)
+returns-in-Err-clause-kept g c = seen_keeps c.args.book.now c.load_head-head.new.self c.unlink.new.self c.args.id.chunk c.load_head-head.result c.load_head-head.ensures.looked
+    (unlinks_nothing c.load_head-head.new.self c.unlink.new.self c.args.id _ c.in-Err.ensures.unlinked)
 
 pub returns-in-Err-clause-stays : goal.returns-in-Err-clause-stays
-returns-in-Err-clause-stays g c = behind_none c.args.book.now c.look-head.new.self c.unlink.new.self _
-    (seen_flows c.args.book.now c.look-head.new.self c.args.id.chunk c.look-head.result c.look-head.ensures.looked)
-    (refused_flow c.look-head.new.self c.unlink.new.self c.args.id _ c.in-Err.ensures.unlinked)
+returns-in-Err-clause-stays g c = behind_none c.args.book.now c.load_head-head.new.self c.unlink.new.self _
+    (seen_flows c.args.book.now c.load_head-head.new.self c.args.id.chunk c.load_head-head.result c.load_head-head.ensures.looked)
+    (refused_flow c.load_head-head.new.self c.unlink.new.self c.args.id _ c.in-Err.ensures.unlinked)
 
 pub returns-in-Ok-clause-others : goal.returns-in-Ok-clause-others
-returns-in-Ok-clause-others g c = subst (λ b. SameSegments (all_without c.args.id.chunk b.lists) c.unlink.new.self.lists) c.look-head.ensures.looked
-    (unlinks_others c.look-head.new.self c.unlink.new.self c.args.id _ c.in-Ok.ensures.unlinked)
+returns-in-Ok-clause-others g c = subst (λ b. SameSegments (all_without c.args.id.chunk b.lists) c.unlink.new.self.lists) c.load_head-head.ensures.looked
+    (unlinks_others c.load_head-head.new.self c.unlink.new.self c.args.id _ c.in-Ok.ensures.unlinked)

@@ -15,14 +15,14 @@ use Rattle.cache_lists.proofs.items.end_last_of.Goals as goal
 pub returns-clause-ends : goal.returns-clause-ends
 returns-clause-ends g c =
     let book = c.args.book.now in let pull = c.look_at-pulled in let looked = pull.new.book in let ended = c.end.new.book in
-    let seen = c.look-head.new.self in let chunk = c.in-Some.id.chunk in let head = c.look-head.result in
+    let seen = c.load_head-head.new.self in let chunk = c.in-Some.id.chunk in let head = c.load_head-head.result in
     record {
       list = ap (λ s. last_of (list_at book.lists (place_of s))) c.segment.ensures
           ∙ (sym pull.ensures.item ∙ ap (option_map (λ (id : ItemId). id.chunk)) (sym c.item.ensures ∙ c.in-Some.is));
       ends = ends_kept book ended seen chunk
           (kept_ends book looked ended chunk pull.ensures.kept c.in-Some-end.ensures.ends)
-          (see_keeps ended seen chunk head c.look-head.ensures.looked);
-      others = seen_others (all_without chunk book.lists) ended seen chunk head c.look-head.ensures.looked
+          (see_keeps ended seen chunk head c.load_head-head.ensures.looked);
+      others = seen_others (all_without chunk book.lists) ended seen chunk head c.load_head-head.ensures.looked
           (same_then (all_without chunk book.lists) (all_without chunk looked.lists) ended.lists
           (subst (λ t. IfSome t (λ id. SameSegments (all_without id.chunk book.lists) (all_without id.chunk looked.lists)))
           (sym c.item.ensures ∙ c.in-Some.is) pull.ensures.others) c.in-Some-end.ensures.others);
@@ -32,16 +32,16 @@ returns-clause-ends g c =
             (told_way c.args.from pull.result c.requires pull.ensures.told
             ∙ ap₂ way_to (sym c.segment.ensures) (sym c.to.ensures)) pull.ensures.flows;
         other = before_none looked ended seen _ c.in-Some-end.ensures.flows
-            (seen_flows ended seen chunk head c.look-head.ensures.looked);
+            (seen_flows ended seen chunk head c.load_head-head.ensures.looked);
       };
       ways = subst are_ours (ap₂ way_to (sym c.segment.ensures) (sym c.to.ensures))
           (told_ours c.args.from pull.result c.requires pull.ensures.told);
       marks = record {
         head = head;
         between = ended;
-        look = c.look-head.ensures.looked;
-        fits = c.look-head.ensures.fits;
-        unlinked = ended_shown looked ended chunk head c.in-Some-end.ensures.ends c.look-head.ensures.agrees;
+        look = c.load_head-head.ensures.looked;
+        fits = c.load_head-head.ensures.fits;
+        unlinked = ended_shown looked ended chunk head c.in-Some-end.ensures.ends c.load_head-head.ensures.agrees;
         is_fetched = refl;
         is_active = refl;
       };
