@@ -1,0 +1,155 @@
+//! Tests of the index: random calls beside a plain list, and readers beside the writer.
+use crate::{Index, IndexReader};
+use bump_rules::ItemId;
+use std::alloc::Global;
+use std::sync::atomic::AtomicBool;
+use std::sync::atomic::Ordering::SeqCst;
+use std::test::Fail;
+use std::thread;
+
+/// How many random calls a test makes.
+const TURNS: u32 = 20_000;
+
+// The next random number after a state.
+fn random(state: &mut u64) -> u64 {
+    *state = state
+        .wrapping_mul(6_364_136_223_846_793_005)
+        .wrapping_add(1_442_695_040_888_963_407);
+    *state >> 33
+}
+
+// A hash with few homes and few tags, or one for all.
+fn hash_of(number: u64, hashes: u64) -> u64 {
+    (number % hashes).wrapping_mul(0x9E37_79B9_7F4A_7C15)
+}
+
+// Puts, leads anew or clears as the plain list allows, there too.
+fn step(index: &mut Index, plain: &mut Vec<Option<(u64, u32)>>, state: &mut u64, hashes: u64) {
+    let chunks = index.chunks();
+    if chunks == 0 {
+        return;
+    }
+    let chunk = (random(state) % u64::from(chunks)) as u32;
+    let other = (random(state) % u64::from(chunks)) as u32;
+    let generation = (random(state) % 1_000_000) as u32;
+    let hash = hash_of(random(state), hashes);
+    let life = ItemId {
+        chunk: other,
+        generation,
+    };
+    match index.led(chunk) {
+        None => {
+            index.put(hash, ItemId { chunk, generation });
+            if let Some(one) = plain.get_mut(chunk as usize) {
+                *one = Some((hash, generation));
+            }
+        }
+        Some(led) => {
+            if other == chunk || index.led(other).is_none() {
+                index.lead(chunk, life);
+                if let Some(one) = plain.get_mut(chunk as usize) {
+                    *one = None;
+                }
+                if let Some(one) = plain.get_mut(other as usize) {
+                    *one = Some((led.hash, generation));
+                }
+            } else if generation % 3 == 0 {
+                index.clear(chunk);
+                if let Some(one) = plain.get_mut(chunk as usize) {
+                    *one = None;
+                }
+            }
+        }
+    }
+}
+
+// How many answers of a reader's search are this life.
+fn times(reader: &IndexReader, hash: u64, chunk: u32, generation: u32) -> u32 {
+    let mut search = reader.search(hash);
+    let mut count = 0u32;
+    while let Some(life) = search.next(reader) {
+        if life.chunk == chunk && life.generation == generation {
+            count = count.saturating_add(1);
+        }
+    }
+    count
+}
+
+// How many answers of the writer's search are this life.
+fn exact_times(index: &mut Index, hash: u64, chunk: u32, generation: u32) -> u32 {
+    let mut search = index.search(hash);
+    let mut count = 0u32;
+    while let Some(life) = index.next_of(&mut search) {
+        if life.chunk == chunk && life.generation == generation {
+            count = count.saturating_add(1);
+        }
+    }
+    count
+}
+
+// In how many chunks the index isn't as the plain list.
+fn differences(index: &mut Index, reader: &IndexReader, plain: &[Option<(u64, u32)>]) -> u32 {
+    let mut count = 0u32;
+    for (at, one) in plain.iter().enumerate() {
+        if at >= index.chunks() as usize {
+            return u32::MAX;
+        }
+        let chunk = at as u32;
+        let led = index.led(chunk);
+        let is_same = match *one {
+            None => led.is_none(),
+            Some((hash, generation)) => {
+                let right = match led {
+                    Some(led) => led.hash == hash && led.generation == generation,
+                    None => false,
+                };
+                right
+                    && times(reader, hash, chunk, generation) == 1
+                    && exact_times(index, hash, chunk, generation) == 1
+            }
+        };
+        if !is_same {
+            count = count.saturating_add(1);
+        }
+    }
+    count
+}
+
+// Random calls on an index of so many chunks, with so many hashes; and in how many chunks it wasn't as the plain list.
+fn run(alloc: Global, chunks: u32, hashes: u64) -> Result<u32, Fail> {
+    let mut index = Index::new(alloc, chunks.min(1_000))?;
+    let reader = index.reader()?;
+    let mut plain: Vec<Option<(u64, u32)>> = Vec::new(alloc);
+    for _chunk in 0..chunks.min(1_000) {
+        plain.push(None)?;
+    }
+    let mut state = 1u64;
+    let mut wrong = 0u32;
+    for turn in 0..TURNS {
+        step(&mut index, &mut plain, &mut state, hashes.max(1));
+        if turn % 200 == 0 {
+            wrong = wrong.saturating_add(differences(&mut index, &reader, plain.as_slice()));
+        }
+    }
+    Ok(wrong)
+}
+
+#[test]
+fn random_calls_in_a_small_index(rt: HostRuntime) -> Result<(), Fail> {
+    assert_eq!(rt; run(rt.alloc(), 1, 1)?, 0);
+    assert_eq!(rt; run(rt.alloc(), 7, 1)?, 0);
+    assert_eq!(rt; run(rt.alloc(), 30, 1_000_000)?, 0);
+    Ok(())
+}
+
+#[test]
+fn random_calls_with_one_hash_for_all(rt: HostRuntime) -> Result<(), Fail> {
+    assert_eq!(rt; run(rt.alloc(), 40, 1)?, 0);
+    Ok(())
+}
+
+#[test]
+fn random_calls_in_a_larger_index(rt: HostRuntime) -> Result<(), Fail> {
+    assert_eq!(rt; run(rt.alloc(), 300, 700)?, 0);
+    Ok(())
+}
