@@ -38,3 +38,12 @@ nest_behind nests nest steps = if nat_lt (nest + steps) nests then nest + steps 
 -- how many steps it is from one nest to another, where the first follows the last
 abbrev pub steps_to : ℕ → ℕ → ℕ → ℕ
 steps_to nests from to = if nat_lt to from then nests + to - from else to - from
+
+-- the number of a lane, counted from the first lane of a nest on over all that follow it
+abbrev pub lane_number : ℕ → ℕ → ℕ → ℕ
+lane_number nests home place = lanes * steps_to nests home (nest_of place) + lane_of place
+
+-- the tag of the lane with this number
+abbrev pub tag_behind : List ℕ → ℕ → ℕ → ℕ → ℕ
+tag_behind words nests home number =
+    tag_in (slice_index words (8 * nest_behind nests home (number / lanes))) (number % lanes)

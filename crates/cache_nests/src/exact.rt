@@ -5,8 +5,7 @@ ghost use Rattle.cache_nests.specs.Views.{IsWithin, lanes_ahead, has_answered, l
 
 use crate::index::Index;
 use crate::led::life_of;
-use crate::nests::Nests;
-use crate::tags::{LANES, tag_of};
+use crate::tags::LANES;
 use bump_rules::ItemId;
 use std::marker::Model;
 
@@ -14,8 +13,8 @@ use std::marker::Model;
 #[derive(Drop)]
 pub struct ExactSearch {
     hash: u64,
-    steps: u32,
-    lane: u32,
+    // so many lanes from the hash's home on
+    looked: u32,
 }
 
 impl Model for ExactSearch {
@@ -23,7 +22,7 @@ impl Model for ExactSearch {
 
     ghost Value = { SearchView };
 
-    ghost view = { λ s. record { hash = s.hash; steps = s.steps; lane = s.lane } };
+    ghost view = { λ s. record { hash = s.hash; looked = s.looked } };
 }
 
 impl Index {
@@ -34,11 +33,7 @@ impl Index {
         ensures none { (chunk : ℕ) → has_answered self.now result chunk ≡ false }
     {
         let _nests = &self.nests;
-        ExactSearch {
-            hash,
-            steps: 0,
-            lane: 0,
-        }
+        ExactSearch { hash, looked: 0 }
     }
 
     /// The next chunk to which the index leads by the tag of the search's hash, with its generation, or `None` where each
@@ -60,20 +55,11 @@ impl Index {
         ensures all { IfNone result ((chunk : ℕ) → IfSome (led_at self.old.table chunk)
             (λ led. led.hash ≡ search.old.hash → has_answered self.old search.old chunk ≡ true)) }
     {
-        let tag = tag_of(search.hash);
-        loop {
-            let nest = self.nests.nest(search.hash, search.steps);
-            let lane = self.nests.lane(&mut self.pen, nest, tag, search.lane);
-            if lane < LANES {
-                search.lane = lane + 1;
-                return Some(life_of(self.nests.life(&mut self.pen, nest, lane)));
-            }
-            if search.steps + 1 >= self.nests.count() || self.nests.passed(&mut self.pen, nest) == 0
-            {
-                return None;
-            }
-            search.steps += 1;
-            search.lane = 0;
-        }
+        let at = self
+            .nests
+            .look(&mut self.pen, search.hash, search.looked)?;
+        search.looked = at + 1;
+        let nest = self.nests.nest(search.hash, at / LANES);
+        Some(life_of(self.nests.life(&mut self.pen, nest, at % LANES)))
     }
 }

@@ -1,7 +1,7 @@
 //! The writer's side of the index.
-ghost use Rattle.std.specs.Prelude.{◌≡◌, ◌≢◌, ◌<◌, ◌≤◌, ◌+◌, ◌*◌, ◌^◌, ◌⊎◌, ℕ, IfOk, IsSome, None, Some, length, option_map, replicate, slice_set};
+ghost use Rattle.std.specs.Prelude.{◌≡◌, ◌≢◌, ◌<◌, ◌≤◌, ◌+◌, ◌*◌, ◌^◌, ◌⊎◌, ℕ, IfOk, IsSome, None, Some, length, replicate, slice_set};
 ghost use Rattle.std.specs.Arc.{arc_value};
-ghost use Rattle.cache_nests.specs.Views.{led_at};
+ghost use Rattle.cache_nests.specs.Views.{led_at, with_generation};
 
 use crate::led::{Led, NO_WAY, Way, number_of};
 use crate::nests::Nests;
@@ -29,6 +29,8 @@ pub struct Index {
 }
 
 impl Model for Index {
+    ghost use Rattle.std.specs.Prelude.{◌≡◌};
+    ghost use Rattle.std.specs.Arc.{arc_value};
     ghost use Rattle.cache_nests.specs.Views.{IndexView, index_view};
     ghost use Rattle.cache_nests.specs.Leads.{AreLed, IsRoomy};
 
@@ -110,7 +112,7 @@ impl Index {
         requires chunk { life.chunk < length self.old.table }
         requires anew { (led_at self.old.table life.chunk ≡ None) ⊎ (life.chunk ≡ old) }
         ensures table { self.new.table ≡ slice_set (slice_set self.old.table old None) life.chunk
-            (option_map (λ led. record led { generation = life.generation }) (led_at self.old.table old)) }
+            (with_generation life.generation (led_at self.old.table old)) }
         ensures nests { self.new.nests ≡ self.old.nests }
     {
         let way = self.ways[old as usize];

@@ -2,10 +2,10 @@
 //! passed it, and the life of each lane.
 ghost use Rattle.std.specs.Prelude.{◌≡◌, ◌≢◌, ◌<◌, ◌≤◌, ◌+◌, ◌*◌, ◌/◌, ◌%◌, ◌^◌, ℕ, IfOk, IfSome, IfNone, length, slice_index, slice_set, replicate};
 ghost use Rattle.cache_nests.specs.Tags.{lanes, tag_of, tag_in};
-ghost use Rattle.cache_nests.specs.Places.{IsPlace, home_of, nest_behind, nest_of, lane_of, steps_to, tag_at, passed_at, place_in};
+ghost use Rattle.cache_nests.specs.Places.{IsPlace, home_of, nest_behind, nest_of, lane_of, steps_to, tag_at, passed_at, place_in, tag_behind};
 ghost use Rattle.cache_nests.specs.Changes.{OneMorePassed, HasNewTag};
 
-use crate::tags::{LANES, lane_with, lanes_with, with_tag};
+use crate::tags::{LANES, lane_with, lanes_with, tag_of, with_tag};
 use pen_words::{Pen, PenWords};
 use std::alloc::{AllocError, Global};
 use std::marker::Model;
@@ -30,6 +30,7 @@ pub(crate) struct Nests {
 }
 
 impl Model for Nests {
+    ghost use Rattle.std.specs.Prelude.{◌≡◌, ◌<◌, ◌≤◌, ◌+◌, ◌*◌, ◌^◌};
     ghost use Rattle.cache_nests.specs.Views.{NestsView};
 
     ghost Value = { NestsView };
@@ -194,6 +195,37 @@ impl Nests {
             let lane = self.lane(pen, nest, 0, 0);
             if lane < LANES {
                 return Some(NEST_WORDS * nest + FIRST_LIFE + lane);
+            }
+        }
+        None
+    }
+
+    /// The number of the first lane with the tag of a hash, of the lanes counted from the hash's home on, from one of them
+    /// on; or `None` where none has it that a key of this hash could be in. `from` is at most the count of all lanes.
+    pub(crate) fn look(&self, pen: &mut Pen, hash: u64, from: u32) -> Option<u32>
+        requires pen { pen.old.table ≡ self.now.table }
+        requires from { from ≤ lanes * self.now.nests }
+        ensures pen { pen.new ≡ pen.old }
+        ensures within { IfSome result (λ at. (from ≤ at) × (at < lanes * self.now.nests)) }
+        ensures found { IfSome result (λ at.
+            tag_behind pen.old.words self.now.nests (home_of self.now.nests hash) at ≡ tag_of hash) }
+        ensures first { IfSome result (λ at. (number : ℕ) → from ≤ number → number < at →
+            tag_behind pen.old.words self.now.nests (home_of self.now.nests hash) number ≢ tag_of hash) }
+        ensures none { IfNone result ((number : ℕ) → from ≤ number → number < lanes * self.now.nests →
+            ((steps : ℕ) → steps < number / lanes →
+                0 < passed_at pen.old.words (nest_behind self.now.nests (home_of self.now.nests hash) steps)) →
+            tag_behind pen.old.words self.now.nests (home_of self.now.nests hash) number ≢ tag_of hash) }
+    {
+        let tag = tag_of(hash);
+        for steps in from / LANES..self.count {
+            let nest = self.nest(hash, steps);
+            let first = if LANES * steps < from { from % LANES } else { 0 };
+            let lane = self.lane(pen, nest, tag, first);
+            if lane < LANES {
+                return Some(LANES * steps + lane);
+            }
+            if self.passed(pen, nest) == 0 {
+                return None;
             }
         }
         None

@@ -17,6 +17,9 @@ pub struct IndexReader {
 }
 
 impl Model for IndexReader {
+    ghost use Rattle.std.specs.Prelude.{ℕ};
+    ghost use Rattle.std.specs.Arc.{arc_value};
+
     ghost Value = { ℕ };
 
     ghost view = { λ r. (arc_value r.nests).nests };
@@ -37,6 +40,7 @@ pub struct Search {
 }
 
 impl Model for Search {
+    ghost use Rattle.std.specs.Prelude.{◌<◌, ◌+◌, ◌*◌, ◌^◌};
     ghost use Rattle.cache_nests.specs.Views.{AheadView};
 
     ghost Value = { AheadView };

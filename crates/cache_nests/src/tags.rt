@@ -63,6 +63,8 @@ pub(crate) fn with_tag(tags: u64, lane: u32, tag: u64) -> u64
 pub(crate) fn lanes_with(tags: u64, tag: u64) -> u64
     requires { tag < 256 }
     ensures narrow { result < 2 ^ 48 }
+    ensures lanes { (lane : ℕ) → lane < lanes →
+        bit_at result (8 * lane + 7) ≡ (if tag_in tags lane == tag then 1 else 0) }
 {
     let apart = tags ^ (tag * ONES);
     // a lane's highest bit is set where one of its lower bits is

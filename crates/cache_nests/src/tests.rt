@@ -153,3 +153,73 @@ fn random_calls_in_a_larger_index(rt: HostRuntime) -> Result<(), Fail> {
     assert_eq!(rt; run(rt.alloc(), 300, 700)?, 0);
     Ok(())
 }
+
+/// How many keys the threads' test has: key k has the chunks k, k + KEYS and k + 2 * KEYS in turn.
+const KEYS: u32 = 8;
+
+/// How often a reader looks for each key.
+const LOOKS: u32 = 20_000;
+
+// Puts a life of a key, if the chunk has none.
+fn put(index: &mut Index, hash: u64, life: ItemId) {
+    if life.chunk < index.chunks() && index.led(life.chunk).is_none() {
+        index.put(hash, life);
+    }
+}
+
+// Leads to another life of a key, if that may be.
+fn lead(index: &mut Index, old: u32, life: ItemId) {
+    let chunks = index.chunks();
+    if old < chunks && life.chunk < chunks && index.led(life.chunk).is_none() {
+        if index.led(old).is_some() {
+            index.lead(old, life);
+        }
+    }
+}
+
+// How often a reader finds nothing of a key that always has something.
+fn missed(reader: &IndexReader) -> u32 {
+    let mut missed = 0u32;
+    for look in 0..LOOKS {
+        let key = look % KEYS;
+        let mut search = reader.search(hash_of(u64::from(key), 3));
+        let mut is_found = false;
+        while let Some(life) = search.next(reader) {
+            is_found = is_found || life.chunk % KEYS == key;
+        }
+        if !is_found {
+            missed = missed.saturating_add(1);
+        }
+    }
+    missed
+}
+
+#[test]
+fn a_reader_finds_what_is_led_anew(rt: HostRuntime) -> Result<(), Fail> {
+    let mut index = Index::new(rt.alloc(), 3 * KEYS)?;
+    for chunk in 0..KEYS {
+        put(&mut index, hash_of(u64::from(chunk), 3), ItemId { chunk, generation: 0 });
+    }
+    let reader = index.reader()?;
+    let done = AtomicBool::new(false);
+    let (missed, ()) = thread::join(
+        &rt,
+        || {
+            let count = missed(&reader);
+            done.store(true, SeqCst);
+            count
+        },
+        || {
+            for turn in 0..100_000_000u32 {
+                if done.load(SeqCst) {
+                    break;
+                }
+                let old = turn % (3 * KEYS);
+                let chunk = (turn + KEYS) % (3 * KEYS);
+                lead(&mut index, old, ItemId { chunk, generation: turn });
+            }
+        },
+    );
+    assert_eq!(rt; missed, 0);
+    Ok(())
+}
