@@ -5,3 +5,4 @@ pub mod LedLemmas
 pub mod RoomLemmas
 pub mod ChangeLemmas
 pub mod SearchLemmas
+pub mod WriterLemmas

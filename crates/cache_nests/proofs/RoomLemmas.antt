@@ -89,7 +89,7 @@ lane_is_off nests words ways led roomy full =
     omega (arith, few, roomy.lanes_over)
 
 -- a word of so many that are 0
-zero_word : (n i : ℕ) → get_or (replicate n 0) i 0 ≡ 0
+zero_word : (n i : ℕ) → ◌≡◌ {A = ℕ} (get_or (replicate n 0) i 0) 0
 zero_word n i =
     ⊎_elim (λ within. get_or-replicate n i 0 0 within)
     (λ past. get_or_past (replicate n 0) i 0 (let e = length-replicate n 0 in omega (arith, e, past)))

@@ -55,9 +55,12 @@ impl Index {
         ensures all { IfNone result ((chunk : ℕ) → IfSome (led_at self.old.table chunk)
             (λ led. led.hash ≡ search.old.hash → has_answered self.old search.old chunk ≡ true)) }
     {
-        let at = self
+        let Some(at) = self
             .nests
-            .look(&mut self.pen, search.hash, search.looked)?;
+            .look(&mut self.pen, search.hash, search.looked)
+        else {
+            return None;
+        };
         search.looked = at + 1;
         let nest = self.nests.nest(search.hash, at / LANES);
         Some(life_of(self.nests.life(&mut self.pen, nest, at % LANES)))
