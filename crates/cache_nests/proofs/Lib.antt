@@ -6,3 +6,4 @@ pub mod RoomLemmas
 pub mod ChangeLemmas
 pub mod SearchLemmas
 pub mod WriterLemmas
+pub mod AnswerLemmas

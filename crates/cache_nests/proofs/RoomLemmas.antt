@@ -92,7 +92,7 @@ lane_is_off nests words ways led roomy full =
 zero_word : (n i : ℕ) → ◌≡◌ {A = ℕ} (get_or (replicate n 0) i 0) 0
 zero_word n i =
     ⊎_elim (λ within. get_or-replicate n i 0 0 within)
-    (λ past. get_or_past (replicate n 0) i 0 (let e = length-replicate n 0 in omega (arith, e, past)))
+    (λ past. get_or_past (replicate n 0) i 0 (let e = length-replicate {A = ℕ} n 0 in omega (arith, e, past)))
     (cases_lt i n)
 
 -- a way of so many that lead nowhere
@@ -108,7 +108,7 @@ zero_tag lane = ap (λ (n : ℕ). n % 256) (zero-div (2 ^ (8 * lane))) ∙ zero-
 -- new nests, all of whose words are 0, lead nowhere
 pub new_is_led : (nests chunks : ℕ) → AreLed nests (replicate (8 * nests) 0) (replicate chunks no_way)
 new_is_led nests chunks = record {
-    size = length-replicate (8 * nests) 0;
+    size = length-replicate {A = ℕ} (8 * nests) 0;
     leads = λ chunk some.
       let none = ap (λ (w : Way). w.place) (no_way_of chunks chunk) in absurd (omega (arith, none, some));
     back = λ place is on.

@@ -106,17 +106,15 @@ lane_number-one nests home place other in_home is is_other same =
     omega (arith, lane, nest, is.lane, is_other.lane)
 
 -- the place of the lane with a number
-pub place_at : ℕ → ℕ → ℕ → ℕ
+abbrev pub place_at : ℕ → ℕ → ℕ → ℕ
 place_at nests home at = place_in (nest_behind nests home (at / 6)) (at % 6)
 
 pub place_at-is : (nests home at : ℕ) → home < nests → at < 6 * nests → IsPlace nests (place_at nests home at)
-unfolding place_at
 place_at-is nests home at in_home within =
     let nest = nest_behind-lt nests home (at / 6) in_home (omega arith) in
     record { nest = omega (arith, nest); lane = omega arith }
 
 place_at-number : (nests home at : ℕ) → home < nests → at < 6 * nests → lane_number nests home (place_at nests home at) ≡ at
-unfolding place_at
 place_at-number nests home at in_home within =
     let nest = nest_behind nests home (at / 6) in
     let of : nest_of (place_in nest (at % 6)) ≡ nest = omega arith in
@@ -166,7 +164,7 @@ module _ (nests : ℕ) (words : List ℕ) (ways : List Way) (hash from at : ℕ)
   found_leads : IsFound nests words ways hash from at → LeadsTo nests words found_chunk (way_to ways found_chunk)
   found_leads it = it.led.leads found_chunk (found_some it)
 
-  found_same_tag : IsFound nests words ways hash from at → tag_of (way_to ways found_chunk).hash ≡ tag_of hash
+  pub found_same_tag : IsFound nests words ways hash from at → tag_of (way_to ways found_chunk).hash ≡ tag_of hash
   found_same_tag it =
       sym (found_leads it).tag ∙ (ap (λ (p : ℕ). tag_at words p) (found_back it) ∙ found_tag it)
 

@@ -32,7 +32,6 @@ impl Index {
         ensures within { IsWithin self.now result }
         ensures none { (chunk : ℕ) → has_answered self.now result chunk ≡ false }
     {
-        let _nests = &self.nests;
         ExactSearch { hash, looked: 0 }
     }
 

@@ -19,9 +19,6 @@ const PASSED: u32 = 1;
 /// Which of a nest's words has the life of its first lane.
 const FIRST_LIFE: u32 = 2;
 
-/// The most nests: their words have numbers below 2 ^ 32.
-pub(crate) const MOST_NESTS: u32 = (1 << 28) + 1;
-
 /// The nests of an index.
 #[derive(Drop)]
 pub(crate) struct Nests {
