@@ -44,7 +44,6 @@ module _ (v : IndexView) (s : SearchView) (nests : ℕ) (words : List ℕ) (ways
     (seen : v ≡ index_view nests ways) (search : s ≡ search_at hash from)
     (it : IsFound nests words ways hash from at) (number_is : number ≡ get_or words (found_place nests words ways hash from at) 0)
     (chunk_is : chunk ≡ number % 2 ^ 32) where
-
   chunk_found : chunk ≡ found_chunk nests words ways hash from at
   chunk_found = chunk_is ∙ ap (λ (n : ℕ). n % 2 ^ 32) number_is
 
@@ -65,12 +64,12 @@ module _ (v : IndexView) (s : SearchView) (nests : ℕ) (words : List ℕ) (ways
   answer_led generation generation_is =
       let c = found_chunk nests words ways hash from at in
       let led_is : led_at v.table chunk
-          ≡ Some (record { hash = (way_to ways c).hash; generation = get_or words (found_place nests words ways hash from at) 0 / 2 ^ 32 }) =
-        ap (λ (u : IndexView). led_at u.table chunk) seen
-        ∙ (ap (λ (k : ℕ). led_at (map led_by ways) k) chunk_found
-        ∙ (led_at-way ways c ∙ found_led nests words ways hash from at it)) in
+      ≡ Some (record { hash = (way_to ways c).hash; generation = get_or words (found_place nests words ways hash from at) 0 / 2 ^ 32 }) =
+      ap (λ (u : IndexView). led_at u.table chunk) seen
+      ∙ (ap (λ (k : ℕ). led_at (map led_by ways) k) chunk_found
+      ∙ (led_at-way ways c ∙ found_led nests words ways hash from at it)) in
       let P : Option Led → Type 0 =
-        λ o. IsSomeAnd o (λ (led : Led). (led.generation ≡ generation) × (tag_of led.hash ≡ tag_of s.hash)) in
+      λ o. IsSomeAnd o (λ (led : Led). (led.generation ≡ generation) × (tag_of led.hash ≡ tag_of s.hash)) in
       subst P (sym led_is) (
         sym (generation_is ∙ ap (λ (n : ℕ). n / 2 ^ 32) number_is),
         found_same_tag nests words ways hash from at it ∙ ap (λ (t : SearchView). tag_of t.hash) (sym search),
@@ -91,25 +90,25 @@ pub end_all : (v : IndexView) (s : SearchView) (nests n0 : ℕ) (words : List �
     → v ≡ index_view nests ways → s ≡ search_at hash from → n0 ≡ nests
     → AreLed nests words ways → IsRoomy nests ways → hash < 2 ^ 64
     → ((number : ℕ) → from ≤ number → number < 6 * n0
-      → ((steps : ℕ) → steps < number / 6 → 0 < passed_at words (nest_behind n0 (home_of n0 hash) steps))
-      → tag_behind words n0 (home_of n0 hash) number ≢ tag_of hash)
+    → ((steps : ℕ) → steps < number / 6 → 0 < passed_at words (nest_behind n0 (home_of n0 hash) steps))
+    → tag_behind words n0 (home_of n0 hash) number ≢ tag_of hash)
     → (chunk : ℕ) → IfSome (led_at v.table chunk) (λ (led : Led). led.hash ≡ s.hash → has_answered v s chunk ≡ true)
 end_all v s nests n0 words ways hash from seen search e led roomy fits none chunk =
     let way = way_to ways chunk in
     let P : Option Led → Type 0 = λ o. IfSome o (λ (led : Led). led.hash ≡ s.hash → has_answered v s chunk ≡ true) in
     let Q : ℕ → Type 0 = λ n. (number : ℕ) → from ≤ number → number < 6 * n
-      → ((steps : ℕ) → steps < number / 6 → 0 < passed_at words (nest_behind n (home_of n hash) steps))
-      → tag_behind words n (home_of n hash) number ≢ tag_of hash in
+    → ((steps : ℕ) → steps < number / 6 → 0 < passed_at words (nest_behind n (home_of n hash) steps))
+    → tag_behind words n (home_of n hash) number ≢ tag_of hash in
     let way_is : led_at v.table chunk ≡ led_by way =
-      ap (λ (u : IndexView). led_at u.table chunk) seen ∙ led_at-way ways chunk in
+    ap (λ (u : IndexView). led_at u.table chunk) seen ∙ led_at-way ways chunk in
     ⊎_elim
     (λ some. subst P (sym (way_is ∙ led_by-some way some))
-      (λ same.
-        ap (λ (u : IndexView). has_answered u s chunk) seen
-        ∙ (ap (λ (t : SearchView). has_answered (index_view nests ways) t chunk) search
-        ∙ (has_answered-way nests ways (search_at hash from) chunk
-        ∙ all_answered nests words ways hash from led (home_of-lt nests hash fits (omega (arith, roomy.lanes_over)))
-          (subst Q e none) chunk some (same ∙ ap (λ (t : SearchView). t.hash) search)))))
+    (λ same.
+    ap (λ (u : IndexView). has_answered u s chunk) seen
+    ∙ (ap (λ (t : SearchView). has_answered (index_view nests ways) t chunk) search
+    ∙ (has_answered-way nests ways (search_at hash from) chunk
+    ∙ all_answered nests words ways hash from led (home_of-lt nests hash fits (omega (arith, roomy.lanes_over)))
+    (subst Q e none) chunk some (same ∙ ap (λ (t : SearchView). t.hash) search)))))
     (λ none_led. subst P (sym (way_is ∙ led_by-none way (let z : way.place ≡ 0 = omega (arith, none_led) in z))) tt)
     (cases_lt 0 way.place)
 

@@ -16,8 +16,8 @@ pub one_pass-steps : (nests nest : ℕ) (way : Way) → 0 < way.place
 one_pass-steps nests nest way some =
     ap (λ (b : Bool). cond b 1 0)
     (cond-false (eqb way.place 0) false
-      (ltb (steps_to nests (home_of nests way.hash) nest) (steps_to nests (home_of nests way.hash) (nest_of way.place)))
-      (ne_eqb way.place 0 (λ e. absurd (omega (arith, e, some)))))
+    (ltb (steps_to nests (home_of nests way.hash) nest) (steps_to nests (home_of nests way.hash) (nest_of way.place)))
+    (ne_eqb way.place 0 (λ e. absurd (omega (arith, e, some)))))
 
 -- a nest's word of tags stands at no place, and neither does its count
 pub tags_apart : (nests place nest : ℕ) → IsPlace nests place → 8 * nest ≢ place
@@ -39,16 +39,16 @@ new_tag nests place tag next words size is here elsewhere =
       size = length-set words at next;
       here = ap (λ (n : ℕ). tag_in n (lane_of place)) there ∙ here;
       elsewhere = λ other is_other apart. ⊎_elim
-        (λ same.
+          (λ same.
           let word : get_or (set words at next) (8 * nest_of other) 0 ≡ next =
-            ap (λ (n : ℕ). get_or (set words at next) (8 * n) 0) same ∙ there in
+          ap (λ (n : ℕ). get_or (set words at next) (8 * n) 0) same ∙ there in
           let lane_apart : lane_of other ≢ lane_of place = λ e. apart (omega (arith, same, e, is.lane, is_other.lane)) in
           ap (λ (n : ℕ). tag_in n (lane_of other)) word
           ∙ (elsewhere (lane_of other) lane_apart
           ∙ ap (λ (n : ℕ). tag_in (get_or words (8 * n) 0) (lane_of other)) (sym same)))
-        (λ nest_apart. ap (λ (n : ℕ). tag_in n (lane_of other))
+          (λ nest_apart. ap (λ (n : ℕ). tag_in n (lane_of other))
           (get_or-set_other words at (8 * nest_of other) next 0 (λ e. nest_apart (omega arith))))
-        (cases_eq (nest_of other) (nest_of place));
+          (cases_eq (nest_of other) (nest_of place));
       others = λ word apart. get_or-set_other words at word next 0 apart;
     }
 
@@ -69,20 +69,20 @@ put_lays nests words counted tagged chunk way size is passed tag =
       size = tag.size ∙ (length-set counted place number ∙ passed.size);
       tag = tag.here;
       tags = λ other is_other apart.
-        tag.elsewhere other is_other apart
-        ∙ ap (λ (n : ℕ). tag_in n (lane_of other))
+          tag.elsewhere other is_other apart
+          ∙ ap (λ (n : ℕ). tag_in n (lane_of other))
           (get_or-set_other counted place (8 * nest_of other) number 0 (tags_apart nests place (nest_of other) is)
           ∙ passed.others (8 * nest_of other) (λ e. absurd (omega (arith, e))));
       life = tag.others place not_tags ∙ get_or-set_same counted place number 0 inside;
       lives = λ other is_other apart.
-        tag.others other (λ e. tags_apart nests other (nest_of place) is_other (sym e))
-        ∙ (get_or-set_other counted place other number 0 apart
-        ∙ passed.others other (λ e. absurd (omega (arith, e, is_other.lane))));
+          tag.others other (λ e. tags_apart nests other (nest_of place) is_other (sym e))
+          ∙ (get_or-set_other counted place other number 0 apart
+          ∙ passed.others other (λ e. absurd (omega (arith, e, is_other.lane))));
       passed = λ nest within.
-        let word = tag.others (8 * nest + 1) (λ e. absurd (omega (arith, e)))
+          let word = tag.others (8 * nest + 1) (λ e. absurd (omega (arith, e)))
           ∙ get_or-set_other counted place (8 * nest + 1) number 0 (passed_apart nests place nest is) in
-        let one = one_pass-steps nests nest way (place_some nests place is) in
-        omega (arith, word, one, passed.passed nest within);
+          let one = one_pass-steps nests nest way (place_some nests place is) in
+          omega (arith, word, one, passed.passed nest within);
     }
 
 -- first the lane goes off, and then the nests count the way no more
@@ -93,18 +93,18 @@ pub clear_lifts : (nests : ℕ) (words off after : List ℕ) (way : Way) → IsP
 clear_lifts nests words off after way is tag passed =
     let place = way.place in
     let tags_stay : (other : ℕ) → tag_at after other ≡ tag_at off other = λ other.
-      ap (λ (n : ℕ). tag_in n (lane_of other)) (sym (passed.others (8 * nest_of other) (λ e. absurd (omega (arith, e))))) in
+    ap (λ (n : ℕ). tag_in n (lane_of other)) (sym (passed.others (8 * nest_of other) (λ e. absurd (omega (arith, e))))) in
     record {
       size = sym passed.size ∙ tag.size;
       tag = tags_stay place ∙ tag.here;
       tags = λ other is_other apart. tags_stay other ∙ tag.elsewhere other is_other apart;
       lives = λ other is_other.
-        sym (passed.others other (λ e. absurd (omega (arith, e, is_other.lane))))
-        ∙ tag.others other (λ e. tags_apart nests other (nest_of place) is_other (sym e));
+          sym (passed.others other (λ e. absurd (omega (arith, e, is_other.lane))))
+          ∙ tag.others other (λ e. tags_apart nests other (nest_of place) is_other (sym e));
       passed = λ nest within.
-        let word = tag.others (8 * nest + 1) (λ e. absurd (omega (arith, e))) in
-        let one = one_pass-steps nests nest way (place_some nests place is) in
-        omega (arith, word, one, passed.passed nest within);
+          let word = tag.others (8 * nest + 1) (λ e. absurd (omega (arith, e))) in
+          let one = one_pass-steps nests nest way (place_some nests place is) in
+          omega (arith, word, one, passed.passed nest within);
     }
 
 -- a way counts where it passes
@@ -112,8 +112,8 @@ pub one_of_count : (nests nest : ℕ) (ways : List Way) (chunk : ℕ) → chunk 
     → one_pass nests nest (way_to ways chunk) ≤ count_by (passes nests nest) ways
 one_of_count nests nest ways chunk within =
     let counts : count_by (passes nests nest) (set ways chunk no_way) + one_pass nests nest (way_to ways chunk)
-        ≡ count_by (passes nests nest) ways + one_pass nests nest no_way =
-      sum_by-set (λ (w : Way). one_pass nests nest w) ways chunk no_way no_way within in
+    ≡ count_by (passes nests nest) ways + one_pass nests nest no_way =
+    sum_by-set (λ (w : Way). one_pass nests nest w) ways chunk no_way no_way within in
     let zero_no_way : one_pass nests nest no_way ≡ 0 = refl in
     omega (arith, counts, zero_no_way)
 
@@ -131,7 +131,7 @@ some_pass nests words ways chunk led some nest within nearer =
     let way = way_to ways chunk in
     let home = home_of nests way.hash in
     let one : one_pass nests nest way ≡ 1 =
-      one_pass-steps nests nest way some
-      ∙ cond-true (ltb (steps_to nests home nest) (steps_to nests home (nest_of way.place))) 1 0
-        (lt-ltb (steps_to nests home nest) (steps_to nests home (nest_of way.place)) nearer) in
+    one_pass-steps nests nest way some
+    ∙ cond-true (ltb (steps_to nests home nest) (steps_to nests home (nest_of way.place))) 1 0
+    (lt-ltb (steps_to nests home nest) (steps_to nests home (nest_of way.place)) nearer) in
     omega (arith, one, one_of_count nests nest ways chunk (chunk_of_way ways chunk some), led.passed nest within)

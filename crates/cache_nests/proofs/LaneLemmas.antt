@@ -99,7 +99,7 @@ masked_rest x lane =
 no_carry : (a b p : ℕ) → a % p + b % p < p → (a + b) / p ≡ a / p + b / p
 no_carry a b p fits =
     (let e : a + b ≡ (a / p + b / p) * p + (a % p + b % p) = omega (arith, div-add-mod' a p, div-add-mod' b p) in
-      ap (λ (n : ℕ). n / p) e)
+    ap (λ (n : ℕ). n / p) e)
     ∙ div-mul-add (a / p + b / p) p (a % p + b % p) fits
 
 -- in each lane, 127 more than its lower bits
@@ -133,7 +133,7 @@ some_set x few some = omega arith
 -- the lanes in which no bit differs from the tag, each by its highest bit
 pub lane_bit : (tags tag lane : ℕ) → tags < 2 ^ 64 → tag < 256 → lane < 6
     → bit_at (bit_and (bit_not w64 (bit_or (bit_and (bit_xor tags (tag * ones)) low_bits + low_bits) (bit_xor tags (tag * ones)))) high_bits) (8 * lane + 7)
-      ≡ cond (eqb (tag_in tags lane) tag) 1 0
+    ≡ cond (eqb (tag_in tags lane) tag) 1 0
 lane_bit tags tag lane fits few below =
     let x = bit_xor tags (tag * ones) in
     let low = bit_and x low_bits + low_bits in
@@ -145,21 +145,21 @@ lane_bit tags tag lane fits few below =
     let low_bit : bit_at low i ≡ (xl % 128 + 127) / 128 = high_bit low lane ∙ ap (λ (n : ℕ). n / 128) (sum_lane x lane below) in
     let x_bit : bit_at x i ≡ xl / 128 = high_bit x lane in
     let not_bit : bit_at (bit_not w64 (bit_or low x)) i ≡ 1 - bit_at (bit_or low x) i =
-      bit_at_not w64 (bit_or low x) i (or_lt 64 low x low_fits x_fits) (omega arith) in
+    bit_at_not w64 (bit_or low x) i (or_lt 64 low x low_fits x_fits) (omega arith) in
     let all : bit_at (bit_and (bit_not w64 (bit_or low x)) high_bits) i ≡ min (1 - max ((xl % 128 + 127) / 128) (xl / 128)) 1 =
-      bit_at_and (bit_not w64 (bit_or low x)) high_bits i
-      ∙ (ap (λ (n : ℕ). min (bit_at (bit_not w64 (bit_or low x)) i) n) (high_lane lane below)
-      ∙ (ap (λ (n : ℕ). min n 1) not_bit
-      ∙ (ap (λ (n : ℕ). min (1 - n) 1) (bit_at_or low x i)
-      ∙ (ap (λ (n : ℕ). min (1 - max n (bit_at x i)) 1) low_bit
-      ∙ ap (λ (n : ℕ). min (1 - max ((xl % 128 + 127) / 128) n) 1) x_bit)))) in
+    bit_at_and (bit_not w64 (bit_or low x)) high_bits i
+    ∙ (ap (λ (n : ℕ). min (bit_at (bit_not w64 (bit_or low x)) i) n) (high_lane lane below)
+    ∙ (ap (λ (n : ℕ). min n 1) not_bit
+    ∙ (ap (λ (n : ℕ). min (1 - n) 1) (bit_at_or low x i)
+    ∙ (ap (λ (n : ℕ). min (1 - max n (bit_at x i)) 1) low_bit
+    ∙ ap (λ (n : ℕ). min (1 - max ((xl % 128 + 127) / 128) n) 1) x_bit)))) in
     let xl_fits : xl < 256 = mod-lt (x / 2 ^ (8 * lane)) (omega arith) in
     let differs = apart_lane tags tag lane few below in
     all ∙ ⊎_elim
     (λ same.
-      none_set xl xl_fits (differs ∙ (ap (λ (n : ℕ). bit_xor n tag) same ∙ xor_self tag))
-      ∙ sym (cond-true (eqb (tag_in tags lane) tag) 1 0 (eq-eqb (tag_in tags lane) tag same)))
+    none_set xl xl_fits (differs ∙ (ap (λ (n : ℕ). bit_xor n tag) same ∙ xor_self tag))
+    ∙ sym (cond-true (eqb (tag_in tags lane) tag) 1 0 (eq-eqb (tag_in tags lane) tag same)))
     (λ apart.
-      some_set xl xl_fits (λ e. apart (xor_none (tag_in tags lane) tag (sym differs ∙ e)))
-      ∙ sym (cond-false (eqb (tag_in tags lane) tag) 1 0 (ne_eqb (tag_in tags lane) tag apart)))
+    some_set xl xl_fits (λ e. apart (xor_none (tag_in tags lane) tag (sym differs ∙ e)))
+    ∙ sym (cond-false (eqb (tag_in tags lane) tag) 1 0 (ne_eqb (tag_in tags lane) tag apart)))
     (cases_eq (tag_in tags lane) tag)

@@ -55,7 +55,7 @@ one_chunk nests words ways chunk other led roomy some same =
     let two = (led.leads other other_some).life in
     let word = ap (λ (p : ℕ). get_or words p 0) same in
     let numbers : life_number other (way_to ways other).generation ≡ life_number chunk (way_to ways chunk).generation =
-      sym two ∙ (word ∙ one) in
+    sym two ∙ (word ∙ one) in
     sym (life_chunk other (way_to ways other).generation (chunk_fits nests ways other roomy other_some))
     ∙ (ap (λ (n : ℕ). n % 2 ^ 32) numbers
     ∙ life_chunk chunk (way_to ways chunk).generation (chunk_fits nests ways chunk roomy some))
@@ -72,7 +72,7 @@ pub record IsLaid (nests : ℕ) (before after : List ℕ) (chunk : ℕ) (way : W
 no_pass : (nests nest : ℕ) (way : Way) → way.place ≡ 0 → one_pass nests nest way ≡ 0
 no_pass nests nest way none =
     ap (λ (p : ℕ). cond (cond (eqb p 0) false
-      (ltb (steps_to nests (home_of nests way.hash) nest) (steps_to nests (home_of nests way.hash) (nest_of p)))) 1 0) none
+    (ltb (steps_to nests (home_of nests way.hash) nest) (steps_to nests (home_of nests way.hash) (nest_of p)))) 1 0) none
 
 pub laid_is_led : (nests : ℕ) (before after : List ℕ) (ways : List Way) (chunk : ℕ) (way : Way)
     → AreLed nests before ways → IsRoomy nests ways → chunk < length ways → (way_to ways chunk).place ≡ 0
@@ -83,49 +83,49 @@ laid_is_led nests before after ways chunk way led roomy within none is_place off
     record {
       size = laid.size ∙ led.size;
       leads = λ c some. ⊎_elim
-        (λ same.
+          (λ same.
           let P : Way → Type 0 = λ w. LeadsTo nests after chunk w in
           let Q : ℕ → Type 0 = λ k. LeadsTo nests after k (way_to (set ways chunk way) k) in
           subst Q (sym same) (subst P (sym here) (record { place = is_place; tag = laid.tag; life = laid.life })))
-        (λ apart.
+          (λ apart.
           let there = way_elsewhere ways chunk c way apart in
           let P : Way → Type 0 = λ w. 0 < w.place in
           let old = led.leads c (subst P there some) in
           let w = way_to ways c in
           let other : w.place ≢ way.place = λ e.
-            let tags : tag_at before w.place ≡ tag_at before way.place = ap (λ (p : ℕ). tag_at before p) e in
-            absurd (omega (arith, old.tag, tags, off, tag_some w.hash)) in
+          let tags : tag_at before w.place ≡ tag_at before way.place = ap (λ (p : ℕ). tag_at before p) e in
+          absurd (omega (arith, old.tag, tags, off, tag_some w.hash)) in
           let Q : Way → Type 0 = λ v. LeadsTo nests after c v in
           subst Q (sym there) (record {
             place = old.place;
             tag = laid.tags w.place old.place other ∙ old.tag;
             life = laid.lives w.place old.place other ∙ old.life;
           }))
-        (cases_eq c chunk);
+          (cases_eq c chunk);
       back = λ place is on. ⊎_elim
-        (λ same.
+          (λ same.
           let number : get_or after place 0 % 2 ^ 32 ≡ chunk =
-            ap (λ (p : ℕ). get_or after p 0 % 2 ^ 32) same
-            ∙ (ap (λ (n : ℕ). n % 2 ^ 32) laid.life ∙ life_chunk chunk way.generation (omega (arith, roomy.few_chunks))) in
+          ap (λ (p : ℕ). get_or after p 0 % 2 ^ 32) same
+          ∙ (ap (λ (n : ℕ). n % 2 ^ 32) laid.life ∙ life_chunk chunk way.generation (omega (arith, roomy.few_chunks))) in
           ap (λ (k : ℕ). (way_to (set ways chunk way) k).place) number
           ∙ (ap (λ (w : Way). w.place) here ∙ sym same))
-        (λ apart.
+          (λ apart.
           let word = laid.lives place is apart in
           let was_on : 0 < tag_at before place = omega (arith, laid.tags place is apart) in
           let old = led.back place is was_on in
           let c = get_or before place 0 % 2 ^ 32 in
           let other : c ≢ chunk = λ e.
-            let p : (way_to ways c).place ≡ (way_to ways chunk).place = ap (λ (k : ℕ). (way_to ways k).place) e in
-            absurd (omega (arith, p, old, none, place_some nests place is)) in
+          let p : (way_to ways c).place ≡ (way_to ways chunk).place = ap (λ (k : ℕ). (way_to ways k).place) e in
+          absurd (omega (arith, p, old, none, place_some nests place is)) in
           ap (λ (n : ℕ). (way_to (set ways chunk way) (n % 2 ^ 32)).place) word
           ∙ (ap (λ (w : Way). w.place) (way_elsewhere ways chunk c way other) ∙ old))
-        (cases_eq place way.place);
+          (cases_eq place way.place);
       passed = λ nest inside.
-        let counts : count_by (passes nests nest) (set ways chunk way) + one_pass nests nest (way_to ways chunk)
-            ≡ count_by (passes nests nest) ways + one_pass nests nest way =
+          let counts : count_by (passes nests nest) (set ways chunk way) + one_pass nests nest (way_to ways chunk)
+          ≡ count_by (passes nests nest) ways + one_pass nests nest way =
           sum_by-set (λ (w : Way). one_pass nests nest w) ways chunk way no_way within in
-        let zero_before : one_pass nests nest (way_to ways chunk) ≡ 0 = no_pass nests nest (way_to ways chunk) none in
-        omega (arith, counts, zero_before, laid.passed nest inside, led.passed nest inside);
+          let zero_before : one_pass nests nest (way_to ways chunk) ≡ 0 = no_pass nests nest (way_to ways chunk) none in
+          omega (arith, counts, zero_before, laid.passed nest inside, led.passed nest inside);
     }
 
 -- the words after are those before, without a way
@@ -146,11 +146,11 @@ lifted_is_led nests before after ways chunk led roomy some lifted =
     record {
       size = lifted.size ∙ led.size;
       leads = λ c on. ⊎_elim
-        (λ same.
+          (λ same.
           let off : (way_to (set ways chunk no_way) c).place ≡ 0 =
-            ap (λ (k : ℕ). (way_to (set ways chunk no_way) k).place) same ∙ ap (λ (w : Way). w.place) here in
+          ap (λ (k : ℕ). (way_to (set ways chunk no_way) k).place) same ∙ ap (λ (w : Way). w.place) here in
           absurd (omega (arith, off, on)))
-        (λ apart.
+          (λ apart.
           let there = way_elsewhere ways chunk c no_way apart in
           let P : Way → Type 0 = λ w. 0 < w.place in
           let old = led.leads c (subst P there on) in
@@ -162,25 +162,25 @@ lifted_is_led nests before after ways chunk led roomy some lifted =
             tag = lifted.tags w.place old.place other ∙ old.tag;
             life = lifted.lives w.place old.place ∙ old.life;
           }))
-        (cases_eq c chunk);
+          (cases_eq c chunk);
       back = λ place is on. ⊎_elim
-        (λ same.
+          (λ same.
           let off : tag_at after place ≡ 0 = ap (λ (p : ℕ). tag_at after p) same ∙ lifted.tag in
           absurd (omega (arith, off, on)))
-        (λ apart.
+          (λ apart.
           let was_on : 0 < tag_at before place = omega (arith, lifted.tags place is apart) in
           let old = led.back place is was_on in
           let c = get_or before place 0 % 2 ^ 32 in
           let other : c ≢ chunk = λ e. apart (sym old ∙ ap (λ (k : ℕ). (way_to ways k).place) e) in
           ap (λ (n : ℕ). (way_to (set ways chunk no_way) (n % 2 ^ 32)).place) (lifted.lives place is)
           ∙ (ap (λ (w : Way). w.place) (way_elsewhere ways chunk c no_way other) ∙ old))
-        (cases_eq place way.place);
+          (cases_eq place way.place);
       passed = λ nest inside.
-        let counts : count_by (passes nests nest) (set ways chunk no_way) + one_pass nests nest way
-            ≡ count_by (passes nests nest) ways + one_pass nests nest no_way =
+          let counts : count_by (passes nests nest) (set ways chunk no_way) + one_pass nests nest way
+          ≡ count_by (passes nests nest) ways + one_pass nests nest no_way =
           sum_by-set (λ (w : Way). one_pass nests nest w) ways chunk no_way no_way within in
-        let zero_after : one_pass nests nest no_way ≡ 0 = refl in
-        omega (arith, counts, zero_after, lifted.passed nest inside, led.passed nest inside);
+          let zero_after : one_pass nests nest no_way ≡ 0 = refl in
+          omega (arith, counts, zero_after, lifted.passed nest inside, led.passed nest inside);
     }
 
 -- in the lane of a way stands the life of another chunk, which had no way or is the same
@@ -201,88 +201,88 @@ led_anew nests words ways old chunk way led roomy some within anew same_place sa
     let is_place : IsPlace nests way.place = (let P : ℕ → Type 0 = λ p. IsPlace nests p in subst P (sym same_place) way_led.place) in
     let in_words : way.place < length words = omega (arith, led.size, is_place.nest) in
     let tags : (place : ℕ) → IsPlace nests place → tag_at after place ≡ tag_at words place =
-      λ place is. ap (λ (n : ℕ). tag_in n (lane_of place))
-        (get_or-set_other words way.place (8 * nest_of place) number 0 (λ e. absurd (omega (arith, is_place.lane, e)))) in
+    λ place is. ap (λ (n : ℕ). tag_in n (lane_of place))
+    (get_or-set_other words way.place (8 * nest_of place) number 0 (λ e. absurd (omega (arith, is_place.lane, e)))) in
     let lives : (place : ℕ) → place ≢ way.place → get_or after place 0 ≡ get_or words place 0 =
-      λ place apart. get_or-set_other words way.place place number 0 apart in
+    λ place apart. get_or-set_other words way.place place number 0 apart in
     let life_here : get_or after way.place 0 ≡ number = get_or-set_same words way.place number 0 in_words in
     let others : (c : ℕ) → c ≢ chunk → c ≢ old → way_to (set between chunk way) c ≡ way_to ways c =
-      λ c apart apart_old. way_elsewhere between chunk c way apart ∙ way_elsewhere ways old c no_way apart_old in
+    λ c apart apart_old. way_elsewhere between chunk c way apart ∙ way_elsewhere ways old c no_way apart_old in
     record {
       size = length-set words way.place number ∙ led.size;
       leads = λ c on. ⊎_elim
-        (λ same.
+          (λ same.
           let P : Way → Type 0 = λ w. LeadsTo nests after chunk w in
           let Q : ℕ → Type 0 = λ k. LeadsTo nests after k (way_to (set between chunk way) k) in
           let tag : tag_at after way.place ≡ tag_of way.hash =
-            tags way.place is_place
-            ∙ (ap (λ (p : ℕ). tag_at words p) same_place ∙ (way_led.tag ∙ sym (ap (λ (h : ℕ). tag_of h) same_hash))) in
+          tags way.place is_place
+          ∙ (ap (λ (p : ℕ). tag_at words p) same_place ∙ (way_led.tag ∙ sym (ap (λ (h : ℕ). tag_of h) same_hash))) in
           subst Q (sym same) (subst P (sym here) (record { place = is_place; tag = tag; life = life_here })))
-        (λ apart. ⊎_elim
+          (λ apart. ⊎_elim
           (λ same_old.
-            let off : (way_to (set between chunk way) c).place ≡ 0 =
-              ap (λ (w : Way). w.place) (way_elsewhere between chunk c way apart)
-              ∙ (ap (λ (k : ℕ). (way_to between k).place) same_old ∙ ap (λ (w : Way). w.place) (way_here ways old no_way old_within)) in
-            absurd (omega (arith, off, on)))
+          let off : (way_to (set between chunk way) c).place ≡ 0 =
+          ap (λ (w : Way). w.place) (way_elsewhere between chunk c way apart)
+          ∙ (ap (λ (k : ℕ). (way_to between k).place) same_old ∙ ap (λ (w : Way). w.place) (way_here ways old no_way old_within)) in
+          absurd (omega (arith, off, on)))
           (λ apart_old.
-            let there = others c apart apart_old in
-            let P : Way → Type 0 = λ w. 0 < w.place in
-            let before = led.leads c (subst P there on) in
-            let w = way_to ways c in
-            let other : w.place ≢ way.place = λ e. apart_old (one_chunk nests words ways old c led roomy some (e ∙ same_place)) in
-            let Q : Way → Type 0 = λ v. LeadsTo nests after c v in
-            subst Q (sym there) (record {
-              place = before.place;
-              tag = tags w.place before.place ∙ before.tag;
-              life = lives w.place other ∙ before.life;
-            }))
+          let there = others c apart apart_old in
+          let P : Way → Type 0 = λ w. 0 < w.place in
+          let before = led.leads c (subst P there on) in
+          let w = way_to ways c in
+          let other : w.place ≢ way.place = λ e. apart_old (one_chunk nests words ways old c led roomy some (e ∙ same_place)) in
+          let Q : Way → Type 0 = λ v. LeadsTo nests after c v in
+          subst Q (sym there) (record {
+            place = before.place;
+            tag = tags w.place before.place ∙ before.tag;
+            life = lives w.place other ∙ before.life;
+          }))
           (cases_eq c old))
-        (cases_eq c chunk);
+          (cases_eq c chunk);
       back = λ place is on. ⊎_elim
-        (λ same.
+          (λ same.
           let decoded : get_or after place 0 % 2 ^ 32 ≡ chunk =
-            ap (λ (p : ℕ). get_or after p 0 % 2 ^ 32) same
-            ∙ (ap (λ (n : ℕ). n % 2 ^ 32) life_here ∙ life_chunk chunk way.generation (omega (arith, roomy.few_chunks))) in
+          ap (λ (p : ℕ). get_or after p 0 % 2 ^ 32) same
+          ∙ (ap (λ (n : ℕ). n % 2 ^ 32) life_here ∙ life_chunk chunk way.generation (omega (arith, roomy.few_chunks))) in
           ap (λ (k : ℕ). (way_to (set between chunk way) k).place) decoded
           ∙ (ap (λ (w : Way). w.place) here ∙ sym same))
-        (λ apart.
+          (λ apart.
           let was_on : 0 < tag_at words place = omega (arith, tags place is) in
           let before = led.back place is was_on in
           let c = get_or words place 0 % 2 ^ 32 in
           let not_old : c ≢ old = λ e. apart (sym before ∙ (ap (λ (k : ℕ). (way_to ways k).place) e ∙ sym same_place)) in
           let not_chunk : c ≢ chunk = λ e. ⊎_elim
-            (λ none.
-              let p : (way_to ways c).place ≡ (way_to ways chunk).place = ap (λ (k : ℕ). (way_to ways k).place) e in
-              absurd (omega (arith, p, before, none, place_some nests place is)))
-            (λ is_old. not_old (e ∙ is_old))
-            anew in
+          (λ none.
+          let p : (way_to ways c).place ≡ (way_to ways chunk).place = ap (λ (k : ℕ). (way_to ways k).place) e in
+          absurd (omega (arith, p, before, none, place_some nests place is)))
+          (λ is_old. not_old (e ∙ is_old))
+          anew in
           ap (λ (n : ℕ). (way_to (set between chunk way) (n % 2 ^ 32)).place) (lives place apart)
           ∙ (ap (λ (w : Way). w.place) (others c not_chunk not_old) ∙ before))
-        (cases_eq place way.place);
+          (cases_eq place way.place);
       passed = λ nest within_nests.
-        let counts : count_by (passes nests nest) between + one_pass nests nest was
-            ≡ count_by (passes nests nest) ways + one_pass nests nest no_way =
+          let counts : count_by (passes nests nest) between + one_pass nests nest was
+          ≡ count_by (passes nests nest) ways + one_pass nests nest no_way =
           sum_by-set (λ (w : Way). one_pass nests nest w) ways old no_way no_way old_within in
-        let counts_after : count_by (passes nests nest) (set between chunk way) + one_pass nests nest (way_to between chunk)
-            ≡ count_by (passes nests nest) between + one_pass nests nest way =
+          let counts_after : count_by (passes nests nest) (set between chunk way) + one_pass nests nest (way_to between chunk)
+          ≡ count_by (passes nests nest) between + one_pass nests nest way =
           sum_by-set (λ (w : Way). one_pass nests nest w) between chunk way no_way inside in
-        let zero_no_way : one_pass nests nest no_way ≡ 0 = refl in
-        let zero_between : one_pass nests nest (way_to between chunk) ≡ 0 = ⊎_elim
+          let zero_no_way : one_pass nests nest no_way ≡ 0 = refl in
+          let zero_between : one_pass nests nest (way_to between chunk) ≡ 0 = ⊎_elim
           (λ none. ⊎_elim
-            (λ is_old. ap (λ (k : ℕ). one_pass nests nest (way_to between k)) is_old
-              ∙ ap (λ (w : Way). one_pass nests nest w) (way_here ways old no_way old_within))
-            (λ apart_old. ap (λ (w : Way). one_pass nests nest w) (way_elsewhere ways old chunk no_way apart_old)
-              ∙ no_pass nests nest (way_to ways chunk) none)
-            (cases_eq chunk old))
           (λ is_old. ap (λ (k : ℕ). one_pass nests nest (way_to between k)) is_old
-            ∙ ap (λ (w : Way). one_pass nests nest w) (way_here ways old no_way old_within))
+          ∙ ap (λ (w : Way). one_pass nests nest w) (way_here ways old no_way old_within))
+          (λ apart_old. ap (λ (w : Way). one_pass nests nest w) (way_elsewhere ways old chunk no_way apart_old)
+          ∙ no_pass nests nest (way_to ways chunk) none)
+          (cases_eq chunk old))
+          (λ is_old. ap (λ (k : ℕ). one_pass nests nest (way_to between k)) is_old
+          ∙ ap (λ (w : Way). one_pass nests nest w) (way_here ways old no_way old_within))
           anew in
-        let same_pass : one_pass nests nest way ≡ one_pass nests nest was =
+          let same_pass : one_pass nests nest way ≡ one_pass nests nest was =
           ap (λ (p : ℕ). cond (cond (eqb p 0) false
-            (ltb (steps_to nests (home_of nests way.hash) nest) (steps_to nests (home_of nests way.hash) (nest_of p)))) 1 0) same_place
+          (ltb (steps_to nests (home_of nests way.hash) nest) (steps_to nests (home_of nests way.hash) (nest_of p)))) 1 0) same_place
           ∙ ap (λ (h : ℕ). cond (cond (eqb was.place 0) false
-            (ltb (steps_to nests (home_of nests h) nest) (steps_to nests (home_of nests h) (nest_of was.place)))) 1 0) same_hash in
-        let word : passed_at after nest ≡ passed_at words nest =
+          (ltb (steps_to nests (home_of nests h) nest) (steps_to nests (home_of nests h) (nest_of was.place)))) 1 0) same_hash in
+          let word : passed_at after nest ≡ passed_at words nest =
           get_or-set_other words way.place (8 * nest + 1) number 0 (λ e. absurd (omega (arith, is_place.lane, e))) in
-        omega (arith, counts, counts_after, zero_no_way, zero_between, same_pass, word, led.passed nest within_nests);
+          omega (arith, counts, counts_after, zero_no_way, zero_between, same_pass, word, led.passed nest within_nests);
     }

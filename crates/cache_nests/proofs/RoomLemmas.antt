@@ -33,30 +33,30 @@ few_below (suc n) (suc m) f within apart =
     let lt_m : (i : ℕ) → i < m → i < suc m = λ i h. omega arith in
     let m_lt : m < suc m = omega arith in
     let in_n : (i : ℕ) → i < m → g i < n = λ i h. ⊎_elim
-      (λ at.
-        let not_last : last ≢ n = λ e. let same = apart i m (lt_m i h) m_lt (at ∙ sym e) in absurd (omega (arith, same, h)) in
-        let e = replaced-at f n last i at in
-        let top = within m m_lt in
-        omega (arith, e, top, not_last))
-      (λ other. let e = replaced-other f n last i other in let top = within i (lt_m i h) in omega (arith, e, top, other))
-      (cases_eq (f i) n) in
+    (λ at.
+    let not_last : last ≢ n = λ e. let same = apart i m (lt_m i h) m_lt (at ∙ sym e) in absurd (omega (arith, same, h)) in
+    let e = replaced-at f n last i at in
+    let top = within m m_lt in
+    omega (arith, e, top, not_last))
+    (λ other. let e = replaced-other f n last i other in let top = within i (lt_m i h) in omega (arith, e, top, other))
+    (cases_eq (f i) n) in
     let none_twice : (i j : ℕ) → i < m → j < m → g i ≡ g j → i ≡ j = λ i j hi hj same. ⊎_elim
-      (λ i_at. ⊎_elim
-        (λ j_at. apart i j (lt_m i hi) (lt_m j hj) (i_at ∙ sym j_at))
-        (λ j_other.
-          let e : last ≡ f j = sym (replaced-at f n last i i_at) ∙ (same ∙ replaced-other f n last j j_other) in
-          let is = apart m j m_lt (lt_m j hj) e in
-          absurd (omega (arith, is, hj)))
-        (cases_eq (f j) n))
-      (λ i_other. ⊎_elim
-        (λ j_at.
-          let e : f i ≡ last = sym (replaced-other f n last i i_other) ∙ (same ∙ replaced-at f n last j j_at) in
-          let is = apart i m (lt_m i hi) m_lt e in
-          absurd (omega (arith, is, hi)))
-        (λ j_other. apart i j (lt_m i hi) (lt_m j hj)
-          (sym (replaced-other f n last i i_other) ∙ (same ∙ replaced-other f n last j j_other)))
-        (cases_eq (f j) n))
-      (cases_eq (f i) n) in
+    (λ i_at. ⊎_elim
+    (λ j_at. apart i j (lt_m i hi) (lt_m j hj) (i_at ∙ sym j_at))
+    (λ j_other.
+    let e : last ≡ f j = sym (replaced-at f n last i i_at) ∙ (same ∙ replaced-other f n last j j_other) in
+    let is = apart m j m_lt (lt_m j hj) e in
+    absurd (omega (arith, is, hj)))
+    (cases_eq (f j) n))
+    (λ i_other. ⊎_elim
+    (λ j_at.
+    let e : f i ≡ last = sym (replaced-other f n last i i_other) ∙ (same ∙ replaced-at f n last j j_at) in
+    let is = apart i m (lt_m i hi) m_lt e in
+    absurd (omega (arith, is, hi)))
+    (λ j_other. apart i j (lt_m i hi) (lt_m j hj)
+    (sym (replaced-other f n last i i_other) ∙ (same ∙ replaced-other f n last j j_other)))
+    (cases_eq (f j) n))
+    (cases_eq (f i) n) in
     let fewer = few_below n m g in_n none_twice in
     omega (arith, fewer)
 
@@ -78,13 +78,13 @@ pub lane_is_off : (nests : ℕ) (words : List ℕ) (ways : List Way) → AreLed 
 lane_is_off nests words ways led roomy full =
     let chunk : ℕ → ℕ = λ k. get_or words (place_of k) 0 % 2 ^ 32 in
     let back : (k : ℕ) → k < 6 * nests → (way_to ways (chunk k)).place ≡ place_of k =
-      λ k h. led.back (place_of k) (place_of-is nests k h) (full (place_of k) (place_of-is nests k h)) in
+    λ k h. led.back (place_of k) (place_of-is nests k h) (full (place_of k) (place_of-is nests k h)) in
     let within : (k : ℕ) → k < 6 * nests → chunk k < length ways =
-      λ k h. chunk_of_way ways (chunk k)
-        (let some = place_some nests (place_of k) (place_of-is nests k h) in let e = back k h in omega (arith, some, e)) in
+    λ k h. chunk_of_way ways (chunk k)
+    (let some = place_some nests (place_of k) (place_of-is nests k h) in let e = back k h in omega (arith, some, e)) in
     let apart : (i j : ℕ) → i < 6 * nests → j < 6 * nests → chunk i ≡ chunk j → i ≡ j =
-      λ i j hi hj same. place_of-one i j
-        (sym (back i hi) ∙ (ap (λ (c : ℕ). (way_to ways c).place) same ∙ back j hj)) in
+    λ i j hi hj same. place_of-one i j
+    (sym (back i hi) ∙ (ap (λ (c : ℕ). (way_to ways c).place) same ∙ back j hj)) in
     let few = few_below (length ways) (6 * nests) chunk within apart in
     omega (arith, few, roomy.lanes_over)
 
@@ -108,20 +108,20 @@ zero_tag lane = ap (λ (n : ℕ). n % 256) (zero-div (2 ^ (8 * lane))) ∙ zero-
 -- new nests, all of whose words are 0, lead nowhere
 pub new_is_led : (nests chunks : ℕ) → AreLed nests (replicate (8 * nests) 0) (replicate chunks no_way)
 new_is_led nests chunks = record {
-    size = length-replicate {A = ℕ} (8 * nests) 0;
-    leads = λ chunk some.
+  size = length-replicate {A = ℕ} (8 * nests) 0;
+  leads = λ chunk some.
       let none = ap (λ (w : Way). w.place) (no_way_of chunks chunk) in absurd (omega (arith, none, some));
-    back = λ place is on.
+  back = λ place is on.
       let off : tag_at (replicate (8 * nests) 0) place ≡ 0 =
-        ap (λ (n : ℕ). tag_in n (lane_of place)) (zero_word (8 * nests) (8 * nest_of place)) ∙ zero_tag (lane_of place) in
+      ap (λ (n : ℕ). tag_in n (lane_of place)) (zero_word (8 * nests) (8 * nest_of place)) ∙ zero_tag (lane_of place) in
       absurd (omega (arith, off, on));
-    passed = λ nest within.
+  passed = λ nest within.
       let word : passed_at (replicate (8 * nests) 0) nest ≡ 0 = zero_word (8 * nests) (8 * nest + 1) in
       let none = sum_by-replicate (λ (w : Way). one_pass nests nest w) chunks no_way in
       let zero_no_way : one_pass nests nest no_way ≡ 0 = refl in
       let product : chunks * one_pass nests nest no_way ≡ 0 = ap (λ (n : ℕ). chunks * n) zero_no_way ∙ (let e : chunks * 0 ≡ 0 = omega arith in e) in
       word ∙ sym (none ∙ product);
-  }
+}
 
 pub new_is_roomy : (chunks : ℕ) → chunks ≤ 2 ^ 30 → IsRoomy (chunks / 4 + 1) (replicate chunks no_way)
 new_is_roomy chunks few =

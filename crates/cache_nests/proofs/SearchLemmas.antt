@@ -30,7 +30,7 @@ pub has_answered-way : (nests : ℕ) (ways : List Way) (search : SearchView) (ch
     → has_answered (index_view nests ways) search chunk ≡ answered nests search (way_to ways chunk)
 has_answered-way nests ways search chunk =
     ap (λ (o : Option Led). has_tag search.hash o
-      && has_looked nests search (get_or (map (λ (w : Way). w.place) ways) chunk 0)) (led_at-way ways chunk)
+    && has_looked nests search (get_or (map (λ (w : Way). w.place) ways) chunk 0)) (led_at-way ways chunk)
     ∙ ap (λ (p : ℕ). has_tag search.hash (led_by (way_to ways chunk)) && has_looked nests search p) (place_at-way ways chunk)
 
 -- a way that leads somewhere, and one that doesn't
@@ -101,8 +101,8 @@ lane_number-one nests home place other in_home is is_other same =
     let steps : steps_to nests home (nest_of place) ≡ steps_to nests home (nest_of other) = omega (arith, same, few, few_other) in
     let lane : lane_of place ≡ lane_of other = omega (arith, same, steps) in
     let nest : nest_of place ≡ nest_of other =
-      sym (nest_behind-steps_to nests home (nest_of place) in_home is.nest)
-      ∙ (ap (λ (s : ℕ). nest_behind nests home s) steps ∙ nest_behind-steps_to nests home (nest_of other) in_home is_other.nest) in
+    sym (nest_behind-steps_to nests home (nest_of place) in_home is.nest)
+    ∙ (ap (λ (s : ℕ). nest_behind nests home s) steps ∙ nest_behind-steps_to nests home (nest_of other) in_home is_other.nest) in
     omega (arith, lane, nest, is.lane, is_other.lane)
 
 -- the place of the lane with a number
@@ -120,7 +120,7 @@ place_at-number nests home at in_home within =
     let of : nest_of (place_in nest (at % 6)) ≡ nest = omega arith in
     let lane : lane_of (place_in nest (at % 6)) ≡ at % 6 = omega arith in
     let steps : steps_to nests home (nest_of (place_in nest (at % 6))) ≡ at / 6 =
-      ap (λ (n : ℕ). steps_to nests home n) of ∙ steps_to-nest_behind nests home (at / 6) in_home (omega arith) in
+    ap (λ (n : ℕ). steps_to nests home n) of ∙ steps_to-nest_behind nests home (at / 6) in_home (omega arith) in
     omega (arith, steps, lane)
 
 or_none : (b : Bool) → b ≡ (b || false)
@@ -171,14 +171,14 @@ module _ (nests : ℕ) (words : List ℕ) (ways : List Way) (hash from at : ℕ)
   -- what is answered is led to, by the same tag, with its generation
   pub found_led : IsFound nests words ways hash from at
       → led_by (way_to ways found_chunk)
-        ≡ Some (record { hash = (way_to ways found_chunk).hash; generation = get_or words found_place 0 / 2 ^ 32 })
+      ≡ Some (record { hash = (way_to ways found_chunk).hash; generation = get_or words found_place 0 / 2 ^ 32 })
   found_led it =
       let way = way_to ways found_chunk in
       let life : get_or words found_place 0 ≡ life_number found_chunk way.generation =
-        ap (λ (p : ℕ). get_or words p 0) (sym (found_back it)) ∙ (found_leads it).life in
+      ap (λ (p : ℕ). get_or words p 0) (sym (found_back it)) ∙ (found_leads it).life in
       let generation : get_or words found_place 0 / 2 ^ 32 ≡ way.generation =
-        ap (λ (n : ℕ). n / 2 ^ 32) life
-        ∙ life_generation found_chunk way.generation (chunk_fits nests ways found_chunk it.roomy (found_some it)) in
+      ap (λ (n : ℕ). n / 2 ^ 32) life
+      ∙ life_generation found_chunk way.generation (chunk_fits nests ways found_chunk it.roomy (found_some it)) in
       led_by-some way (found_some it)
       ∙ ap (λ (g : ℕ). Some (record { hash = way.hash; generation = g })) (sym generation)
 
@@ -188,14 +188,14 @@ module _ (nests : ℕ) (words : List ℕ) (ways : List Way) (hash from at : ℕ)
       let way = way_to ways found_chunk in
       answered-tagged nests (search_at hash from) way (found_some it) (found_same_tag it)
       ∙ looked-no nests hash from way.place
-        (let n = ap (λ (p : ℕ). lane_number nests (home_of nests hash) p) (found_back it) ∙ found_number it in omega (arith, n, it.over))
+      (let n = ap (λ (p : ℕ). lane_number nests (home_of nests hash) p) (found_back it) ∙ found_number it in omega (arith, n, it.over))
 
   found_now : IsFound nests words ways hash from at → answered nests (search_at hash (at + 1)) (way_to ways found_chunk) ≡ true
   found_now it =
       let way = way_to ways found_chunk in
       answered-tagged nests (search_at hash (at + 1)) way (found_some it) (found_same_tag it)
       ∙ looked-yes nests hash (at + 1) way.place
-        (let n = ap (λ (p : ℕ). lane_number nests (home_of nests hash) p) (found_back it) ∙ found_number it in omega (arith, n))
+      (let n = ap (λ (p : ℕ). lane_number nests (home_of nests hash) p) (found_back it) ∙ found_number it in omega (arith, n))
 
   -- every other chunk was answered before where it is after
   found_rest : IsFound nests words ways hash from at → (chunk : ℕ) → chunk ≢ found_chunk
@@ -207,52 +207,52 @@ module _ (nests : ℕ) (words : List ℕ) (ways : List Way) (hash from at : ℕ)
       let before = search_at hash from in
       ⊎_elim
       (λ some. ⊎_elim
-        (λ tagged.
-          let same = eqb-true (tag_of way.hash) (tag_of hash) tagged in
-          let leads = it.led.leads chunk some in
-          let tag : tag_behind words nests (home_of nests hash) number ≡ tag_of hash =
-            tag_behind-place nests (home_of nests hash) way.place words it.home leads.place ∙ (leads.tag ∙ same) in
-          let looked : has_looked nests after way.place ≡ has_looked nests before way.place = ⊎_elim
-            (λ below. looked-yes nests hash (at + 1) way.place (let o = it.over in omega (arith, below, o)) ∙ sym (looked-yes nests hash from way.place below))
-            (λ not_before. ⊎_elim
-              (λ is_at. absurd (apart (one_chunk nests words ways found_chunk chunk it.led it.roomy (found_some it)
-                (lane_number-one nests (home_of nests hash) way.place found_place it.home leads.place (found_is it) (is_at ∙ sym (found_number it))
-                ∙ sym (found_back it)))))
-              (λ sides. ⊎_elim
-                (λ before_at. absurd (it.first number not_before before_at tag))
-                (λ behind_at. looked-no nests hash (at + 1) way.place (omega (arith, behind_at)) ∙ sym (looked-no nests hash from way.place not_before))
-                sides)
-              (cases_order number at))
-            (cases_lt number from) in
-          answered-tagged nests after way some same ∙ (looked ∙ sym (answered-tagged nests before way some same)))
-        (λ other. answered-other nests after way some other ∙ sym (answered-other nests before way some other))
-        (cases_Bool (eqb (tag_of way.hash) (tag_of hash))))
+      (λ tagged.
+      let same = eqb-true (tag_of way.hash) (tag_of hash) tagged in
+      let leads = it.led.leads chunk some in
+      let tag : tag_behind words nests (home_of nests hash) number ≡ tag_of hash =
+      tag_behind-place nests (home_of nests hash) way.place words it.home leads.place ∙ (leads.tag ∙ same) in
+      let looked : has_looked nests after way.place ≡ has_looked nests before way.place = ⊎_elim
+      (λ below. looked-yes nests hash (at + 1) way.place (let o = it.over in omega (arith, below, o)) ∙ sym (looked-yes nests hash from way.place below))
+      (λ not_before. ⊎_elim
+      (λ is_at. absurd (apart (one_chunk nests words ways found_chunk chunk it.led it.roomy (found_some it)
+      (lane_number-one nests (home_of nests hash) way.place found_place it.home leads.place (found_is it) (is_at ∙ sym (found_number it))
+      ∙ sym (found_back it)))))
+      (λ sides. ⊎_elim
+      (λ before_at. absurd (it.first number not_before before_at tag))
+      (λ behind_at. looked-no nests hash (at + 1) way.place (omega (arith, behind_at)) ∙ sym (looked-no nests hash from way.place not_before))
+      sides)
+      (cases_order number at))
+      (cases_lt number from) in
+      answered-tagged nests after way some same ∙ (looked ∙ sym (answered-tagged nests before way some same)))
+      (λ other. answered-other nests after way some other ∙ sym (answered-other nests before way some other))
+      (cases_Bool (eqb (tag_of way.hash) (tag_of hash))))
       (λ none.
-        let zero : way.place ≡ 0 = omega (arith, none) in
-        answered-none nests after way zero ∙ sym (answered-none nests before way zero))
+      let zero : way.place ≡ 0 = omega (arith, none) in
+      answered-none nests after way zero ∙ sym (answered-none nests before way zero))
       (cases_lt 0 way.place)
 
   -- after an answer, what was answered before and this chunk are answered
   pub found_answered : IsFound nests words ways hash from at → (chunk : ℕ)
       → answered nests (search_at hash (at + 1)) (way_to ways chunk)
-        ≡ (answered nests (search_at hash from) (way_to ways chunk) || eqb chunk found_chunk)
+      ≡ (answered nests (search_at hash from) (way_to ways chunk) || eqb chunk found_chunk)
   found_answered it chunk = ⊎_elim
       (λ same.
-        ap (λ (c : ℕ). answered nests (search_at hash (at + 1)) (way_to ways c)) same
-        ∙ (found_now it
-        ∙ sym (or_right (answered nests (search_at hash from) (way_to ways chunk)) (eqb chunk found_chunk) (eq-eqb chunk found_chunk same))))
+      ap (λ (c : ℕ). answered nests (search_at hash (at + 1)) (way_to ways c)) same
+      ∙ (found_now it
+      ∙ sym (or_right (answered nests (search_at hash from) (way_to ways chunk)) (eqb chunk found_chunk) (eq-eqb chunk found_chunk same))))
       (λ apart.
-        found_rest it chunk apart
-        ∙ (or_none (answered nests (search_at hash from) (way_to ways chunk))
-        ∙ ap (λ (b : Bool). answered nests (search_at hash from) (way_to ways chunk) || b) (sym (ne_eqb chunk found_chunk apart))))
+      found_rest it chunk apart
+      ∙ (or_none (answered nests (search_at hash from) (way_to ways chunk))
+      ∙ ap (λ (b : Bool). answered nests (search_at hash from) (way_to ways chunk) || b) (sym (ne_eqb chunk found_chunk apart))))
       (cases_eq chunk found_chunk)
 
 -- where no lane that keys of the hash could be in is left, each chunk with this very hash was answered
 pub all_answered : (nests : ℕ) (words : List ℕ) (ways : List Way) (hash from : ℕ)
     → AreLed nests words ways → home_of nests hash < nests
     → ((number : ℕ) → from ≤ number → number < 6 * nests
-      → ((steps : ℕ) → steps < number / 6 → 0 < passed_at words (nest_behind nests (home_of nests hash) steps))
-      → tag_behind words nests (home_of nests hash) number ≢ tag_of hash)
+    → ((steps : ℕ) → steps < number / 6 → 0 < passed_at words (nest_behind nests (home_of nests hash) steps))
+    → tag_behind words nests (home_of nests hash) number ≢ tag_of hash)
     → (chunk : ℕ) → 0 < (way_to ways chunk).place → (way_to ways chunk).hash ≡ hash
     → answered nests (search_at hash from) (way_to ways chunk) ≡ true
 all_answered nests words ways hash from led in_home none chunk some same =
@@ -262,19 +262,19 @@ all_answered nests words ways hash from led in_home none chunk some same =
     let number = lane_number nests home way.place in
     let same_tag : tag_of way.hash ≡ tag_of hash = ap (λ (h : ℕ). tag_of h) same in
     let far : number / 6 ≡ steps_to nests home (nest_of way.place) =
-      number-nest (steps_to nests home (nest_of way.place)) (lane_of way.place) (omega arith) in
+    number-nest (steps_to nests home (nest_of way.place)) (lane_of way.place) (omega arith) in
     answered-tagged nests (search_at hash from) way some same_tag
     ∙ ⊎_elim
-      (λ below. looked-yes nests hash from way.place below)
-      (λ over. absurd (none number over (lane_number-lt nests home way.place in_home leads.place)
-        (λ steps nearer.
-          let near : steps < steps_to nests home (nest_of way.place) = omega (arith, nearer, far) in
-          let far_lt = steps_to-lt nests home (nest_of way.place) in_home leads.place.nest in
-          let few : steps < nests = omega (arith, near, far_lt) in
-          let nest = nest_behind nests home steps in
-          let in_nests = nest_behind-lt nests home steps in_home few in
-          let back = steps_to-nest_behind nests home steps in_home few in
-          let P : ℕ → Type 0 = λ h. steps_to nests (home_of nests h) nest < steps_to nests (home_of nests h) (nest_of way.place) in
-          some_pass nests words ways chunk led some nest in_nests (subst P (sym same) (omega (arith, back, near))))
-        (tag_behind-place nests home way.place words in_home leads.place ∙ (leads.tag ∙ same_tag))))
-      (cases_lt number from)
+    (λ below. looked-yes nests hash from way.place below)
+    (λ over. absurd (none number over (lane_number-lt nests home way.place in_home leads.place)
+    (λ steps nearer.
+    let near : steps < steps_to nests home (nest_of way.place) = omega (arith, nearer, far) in
+    let far_lt = steps_to-lt nests home (nest_of way.place) in_home leads.place.nest in
+    let few : steps < nests = omega (arith, near, far_lt) in
+    let nest = nest_behind nests home steps in
+    let in_nests = nest_behind-lt nests home steps in_home few in
+    let back = steps_to-nest_behind nests home steps in_home few in
+    let P : ℕ → Type 0 = λ h. steps_to nests (home_of nests h) nest < steps_to nests (home_of nests h) (nest_of way.place) in
+    some_pass nests words ways chunk led some nest in_nests (subst P (sym same) (omega (arith, back, near))))
+    (tag_behind-place nests home way.place words in_home leads.place ∙ (leads.tag ∙ same_tag))))
+    (cases_lt number from)

@@ -28,20 +28,20 @@ pub steps_to-nest_behind : (nests home steps : ℕ) → home < nests → steps <
 steps_to-nest_behind nests home steps in_home in_steps =
     cond_both (ltb (home + steps) nests) (home + steps) (home + steps - nests) (λ v. steps_to nests home v ≡ steps)
     (λ e. cond_both (ltb (home + steps) home) (nests + (home + steps) - home) (home + steps - home) (λ v. v ≡ steps)
-      (λ f. absurd (omega (arith, ltb-true (home + steps) home f))) (λ f. omega arith))
+    (λ f. absurd (omega (arith, ltb-true (home + steps) home f))) (λ f. omega arith))
     (λ e. let over = ltb-false (home + steps) nests e in
-      cond_both (ltb (home + steps - nests) home) (nests + (home + steps - nests) - home) (home + steps - nests - home) (λ v. v ≡ steps)
-      (λ f. omega (arith, over)) (λ f. absurd (omega (arith, over, ltb-false (home + steps - nests) home f))))
+    cond_both (ltb (home + steps - nests) home) (nests + (home + steps - nests) - home) (home + steps - nests - home) (λ v. v ≡ steps)
+    (λ f. omega (arith, over)) (λ f. absurd (omega (arith, over, ltb-false (home + steps - nests) home f))))
 
 pub nest_behind-steps_to : (nests home nest : ℕ) → home < nests → nest < nests → nest_behind nests home (steps_to nests home nest) ≡ nest
 nest_behind-steps_to nests home nest in_home in_nest =
     cond_both (ltb nest home) (nests + nest - home) (nest - home) (λ v. nest_behind nests home v ≡ nest)
     (λ e. let below = ltb-true nest home e in
-      cond_both (ltb (home + (nests + nest - home)) nests) (home + (nests + nest - home)) (home + (nests + nest - home) - nests) (λ v. v ≡ nest)
-      (λ f. absurd (omega (arith, below, ltb-true (home + (nests + nest - home)) nests f))) (λ f. omega (arith, below)))
+    cond_both (ltb (home + (nests + nest - home)) nests) (home + (nests + nest - home)) (home + (nests + nest - home) - nests) (λ v. v ≡ nest)
+    (λ f. absurd (omega (arith, below, ltb-true (home + (nests + nest - home)) nests f))) (λ f. omega (arith, below)))
     (λ e. let over = ltb-false nest home e in
-      cond_both (ltb (home + (nest - home)) nests) (home + (nest - home)) (home + (nest - home) - nests) (λ v. v ≡ nest)
-      (λ f. omega (arith, over)) (λ f. absurd (omega (arith, over, ltb-false (home + (nest - home)) nests f))))
+    cond_both (ltb (home + (nest - home)) nests) (home + (nest - home)) (home + (nest - home) - nests) (λ v. v ≡ nest)
+    (λ f. omega (arith, over)) (λ f. absurd (omega (arith, over, ltb-false (home + (nest - home)) nests f))))
 
 -- 1 where one number is below another, and else 0
 abbrev pub one_below : ℕ → ℕ → ℕ
@@ -68,10 +68,10 @@ one_below-other n m apart = ⊎_elim
 -- nothing is passed in no steps
 pub none_passed : (nests home : ℕ) (words : List ℕ) → OneMorePassed nests home 0 words words
 none_passed nests home words = record {
-    size = refl;
-    passed = λ nest within. let e = one_below-no (steps_to nests home nest) 0 (omega arith) in omega (arith, e);
-    others = λ word apart. refl;
-  }
+  size = refl;
+  passed = λ nest within. let e = one_below-no (steps_to nests home nest) 0 (omega arith) in omega (arith, e);
+  others = λ word apart. refl;
+}
 
 -- how a nest that is passed next counts so far
 pub not_yet : (nests home steps nest : ℕ) (before after : List ℕ) → OneMorePassed nests home steps before after → home < nests → steps < nests
@@ -93,29 +93,29 @@ one_more_passed nests home steps nest before after so_far in_home in_steps at fu
     record {
       size = length-set after (8 * nest + 1) value ∙ so_far.size;
       passed = λ n inside. ⊎_elim
-        (λ same.
+          (λ same.
           let here : get_or (set after (8 * n + 1) value) (8 * n + 1) 0 ≡ value =
-            get_or-set_same after (8 * n + 1) value 0 (omega arith) in
+          get_or-set_same after (8 * n + 1) value 0 (omega arith) in
           let here2 : get_or (set after (8 * nest + 1) value) (8 * n + 1) 0 ≡ value =
-            let P : ℕ → Type 0 = λ k. get_or (set after (8 * k + 1) value) (8 * n + 1) 0 ≡ value in subst P same here in
+          let P : ℕ → Type 0 = λ k. get_or (set after (8 * k + 1) value) (8 * n + 1) 0 ≡ value in subst P same here in
           let one : one_below (steps_to nests home n) (steps + 1) ≡ 1 =
-            let P : ℕ → Type 0 = λ k. one_below (steps_to nests home k) (steps + 1) ≡ 1 in
-            subst P (sym same) (rw far (one_below-next steps)) in
+          let P : ℕ → Type 0 = λ k. one_below (steps_to nests home k) (steps + 1) ≡ 1 in
+          subst P (sym same) (rw far (one_below-next steps)) in
           let zero_so_far : one_below (steps_to nests home n) steps ≡ 0 =
-            let P : ℕ → Type 0 = λ k. one_below (steps_to nests home k) steps ≡ 0 in
-            subst P (sym same) (rw far (one_below-same steps)) in
+          let P : ℕ → Type 0 = λ k. one_below (steps_to nests home k) steps ≡ 0 in
+          subst P (sym same) (rw far (one_below-same steps)) in
           let was : passed_at after n ≡ passed_at after nest = ap (λ (k : ℕ). passed_at after k) same in
           omega (arith, here2, one, zero_so_far, so_far.passed n inside, was))
-        (λ apart.
+          (λ apart.
           let other : get_or (set after (8 * nest + 1) value) (8 * n + 1) 0 ≡ passed_at after n =
-            get_or-set_other after (8 * nest + 1) (8 * n + 1) value 0 (λ e. apart (omega arith)) in
+          get_or-set_other after (8 * nest + 1) (8 * n + 1) value 0 (λ e. apart (omega arith)) in
           let elsewhere : steps_to nests home n ≢ steps =
-            λ e. apart (sym (nest_behind-steps_to nests home n in_home inside)
-              ∙ ap (λ (k : ℕ). nest_behind nests home k) e ∙ sym at) in
+          λ e. apart (sym (nest_behind-steps_to nests home n in_home inside)
+          ∙ ap (λ (k : ℕ). nest_behind nests home k) e ∙ sym at) in
           omega (arith, other, one_below-other (steps_to nests home n) steps elsewhere, so_far.passed n inside))
-        (cases_eq n nest);
+          (cases_eq n nest);
       others = λ word apart.
-        get_or-set_other after (8 * nest + 1) word value 0 (λ e. apart (omega arith)) ∙ so_far.others word apart;
+          get_or-set_other after (8 * nest + 1) word value 0 (λ e. apart (omega arith)) ∙ so_far.others word apart;
     }
 
 -- the nest that is so many steps behind is passed once less
@@ -129,27 +129,27 @@ one_less_passed nests home steps nest before after so_far in_home in_steps at fu
     record {
       size = so_far.size ∙ sym (length-set after (8 * nest + 1) value);
       passed = λ n inside. ⊎_elim
-        (λ same.
+          (λ same.
           let here : get_or (set after (8 * n + 1) value) (8 * n + 1) 0 ≡ value =
-            get_or-set_same after (8 * n + 1) value 0 (omega arith) in
+          get_or-set_same after (8 * n + 1) value 0 (omega arith) in
           let here2 : get_or (set after (8 * nest + 1) value) (8 * n + 1) 0 ≡ value =
-            let P : ℕ → Type 0 = λ k. get_or (set after (8 * k + 1) value) (8 * n + 1) 0 ≡ value in subst P same here in
+          let P : ℕ → Type 0 = λ k. get_or (set after (8 * k + 1) value) (8 * n + 1) 0 ≡ value in subst P same here in
           let one : one_below (steps_to nests home n) (steps + 1) ≡ 1 =
-            let P : ℕ → Type 0 = λ k. one_below (steps_to nests home k) (steps + 1) ≡ 1 in
-            subst P (sym same) (rw far (one_below-next steps)) in
+          let P : ℕ → Type 0 = λ k. one_below (steps_to nests home k) (steps + 1) ≡ 1 in
+          subst P (sym same) (rw far (one_below-next steps)) in
           let zero_so_far : one_below (steps_to nests home n) steps ≡ 0 =
-            let P : ℕ → Type 0 = λ k. one_below (steps_to nests home k) steps ≡ 0 in
-            subst P (sym same) (rw far (one_below-same steps)) in
+          let P : ℕ → Type 0 = λ k. one_below (steps_to nests home k) steps ≡ 0 in
+          subst P (sym same) (rw far (one_below-same steps)) in
           let was : passed_at after n ≡ passed_at after nest = ap (λ (k : ℕ). passed_at after k) same in
           omega (arith, here2, one, zero_so_far, so_far.passed n inside, was))
-        (λ apart.
+          (λ apart.
           let other : get_or (set after (8 * nest + 1) value) (8 * n + 1) 0 ≡ passed_at after n =
-            get_or-set_other after (8 * nest + 1) (8 * n + 1) value 0 (λ e. apart (omega arith)) in
+          get_or-set_other after (8 * nest + 1) (8 * n + 1) value 0 (λ e. apart (omega arith)) in
           let elsewhere : steps_to nests home n ≢ steps =
-            λ e. apart (sym (nest_behind-steps_to nests home n in_home inside)
-              ∙ ap (λ (k : ℕ). nest_behind nests home k) e ∙ sym at) in
+          λ e. apart (sym (nest_behind-steps_to nests home n in_home inside)
+          ∙ ap (λ (k : ℕ). nest_behind nests home k) e ∙ sym at) in
           omega (arith, other, one_below-other (steps_to nests home n) steps elsewhere, so_far.passed n inside))
-        (cases_eq n nest);
+          (cases_eq n nest);
       others = λ word apart.
-        so_far.others word apart ∙ sym (get_or-set_other after (8 * nest + 1) word value 0 (λ e. apart (omega arith)));
+          so_far.others word apart ∙ sym (get_or-set_other after (8 * nest + 1) word value 0 (λ e. apart (omega arith)));
     }

@@ -93,9 +93,9 @@ pub tag_elsewhere : (w lane t other : ℕ) → t < 256 → other ≢ lane → ta
 tag_elsewhere w lane t other few apart =
     ⊎_elim
     (λ before. let P : ℕ → Type 0 = λ l. tag_in (with_bits w (2 ^ (8 * l)) t) other ≡ tag_in w other in
-      subst P (let e : other + (1 + (lane - other - 1)) ≡ lane = omega arith in e) (tag_before w other (lane - other - 1) t))
+    subst P (let e : other + (1 + (lane - other - 1)) ≡ lane = omega arith in e) (tag_before w other (lane - other - 1) t))
     (λ behind. let P : ℕ → Type 0 = λ l. tag_in (with_bits w (2 ^ (8 * lane)) t) l ≡ tag_in w l in
-      subst P (let e : lane + (1 + (other - lane - 1)) ≡ other = omega arith in e) (tag_after w lane (other - lane - 1) t few))
+    subst P (let e : lane + (1 + (other - lane - 1)) ≡ other = omega arith in e) (tag_after w lane (other - lane - 1) t few))
     (cases_lt other lane)
 
 -- the bits of the first six lanes stand below 2 ^ 64

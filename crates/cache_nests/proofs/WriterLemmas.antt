@@ -23,11 +23,11 @@ pub some_way : (v : IndexView) (nests : ℕ) (ways : List Way) (chunk : ℕ) →
 some_way v nests ways chunk seen is =
     ⊎_elim (λ some. some)
     (λ none.
-      let P : IndexView → Type 0 = λ u. IsSome (led_at u.table chunk) in
-      let Q : Option Led → Type 0 = λ o. IsSome o in
-      let gone : led_at (map led_by ways) chunk ≡ None =
-        led_at-way ways chunk ∙ led_by-none (way_to ways chunk) (let e : (way_to ways chunk).place ≡ 0 = omega (arith, none) in e) in
-      absurd (false≢true (subst Q gone (subst P seen is))))
+    let P : IndexView → Type 0 = λ u. IsSome (led_at u.table chunk) in
+    let Q : Option Led → Type 0 = λ o. IsSome o in
+    let gone : led_at (map led_by ways) chunk ≡ None =
+    led_at-way ways chunk ∙ led_by-none (way_to ways chunk) (let e : (way_to ways chunk).place ≡ 0 = omega (arith, none) in e) in
+    absurd (false≢true (subst Q gone (subst P seen is))))
     (cases_lt 0 (way_to ways chunk).place)
 
 pub none_way : (v : IndexView) (nests : ℕ) (ways : List Way) (chunk : ℕ) → v ≡ index_view nests ways
@@ -35,11 +35,11 @@ pub none_way : (v : IndexView) (nests : ℕ) (ways : List Way) (chunk : ℕ) →
 none_way v nests ways chunk seen is =
     ⊎_elim
     (λ some.
-      let P : Option Led → Type 0 = λ o. IsSome o in
-      let has : None ≡ Some (record { hash = (way_to ways chunk).hash; generation = (way_to ways chunk).generation }) =
-        sym is ∙ (ap (λ (u : IndexView). led_at u.table chunk) seen
-        ∙ (led_at-way ways chunk ∙ led_by-some (way_to ways chunk) some)) in
-      absurd (false≢true (subst P (sym has) refl)))
+    let P : Option Led → Type 0 = λ o. IsSome o in
+    let has : None ≡ Some (record { hash = (way_to ways chunk).hash; generation = (way_to ways chunk).generation }) =
+    sym is ∙ (ap (λ (u : IndexView). led_at u.table chunk) seen
+    ∙ (led_at-way ways chunk ∙ led_by-some (way_to ways chunk) some)) in
+    absurd (false≢true (subst P (sym has) refl)))
     (λ none. omega (arith, none))
     (cases_lt 0 (way_to ways chunk).place)
 
@@ -69,8 +69,8 @@ pub pass_step : (nests home steps nest value : ℕ) (before old mid new : List �
 pass_step nests home steps nest value before old mid new so_far in_home in_steps at full same is next =
     let P : List ℕ → Type 0 = λ ws. OneMorePassed nests home (steps + 1) before ws in
     let there : new ≡ set old (8 * nest + 1) (passed_at old nest + 1) =
-      next ∙ (ap (λ (ws : List ℕ). set ws (8 * nest + 1) (value + 1)) same
-      ∙ ap (λ (n : ℕ). set old (8 * nest + 1) (n + 1)) is) in
+    next ∙ (ap (λ (ws : List ℕ). set ws (8 * nest + 1) (value + 1)) same
+    ∙ ap (λ (n : ℕ). set old (8 * nest + 1) (n + 1)) is) in
     subst P (sym there) (one_more_passed nests home steps nest before old so_far in_home in_steps at full)
 
 pub unpass_step : (nests home steps nest value : ℕ) (before old mid new : List ℕ) → OneMorePassed nests home steps old before
@@ -80,8 +80,8 @@ pub unpass_step : (nests home steps nest value : ℕ) (before old mid new : List
 unpass_step nests home steps nest value before old mid new so_far in_home in_steps at full some same is next =
     let P : List ℕ → Type 0 = λ ws. OneMorePassed nests home (steps + 1) ws before in
     let there : new ≡ set old (8 * nest + 1) (passed_at old nest - 1) =
-      next ∙ (ap (λ (ws : List ℕ). set ws (8 * nest + 1) (value - 1)) same
-      ∙ ap (λ (n : ℕ). set old (8 * nest + 1) (n - 1)) is) in
+    next ∙ (ap (λ (ws : List ℕ). set ws (8 * nest + 1) (value - 1)) same
+    ∙ ap (λ (n : ℕ). set old (8 * nest + 1) (n - 1)) is) in
     subst P (sym there) (one_less_passed nests home steps nest before old so_far in_home in_steps at full some)
 
 -- the next nest on a way counts the key still
@@ -92,7 +92,7 @@ still_counts nests home steps far nest before old so_far in_home in_steps at nea
     let same = not_yet nests home steps nest old before so_far in_home in_steps at in
     let within : nest < nests = (let P : ℕ → Type 0 = λ n. n < nests in subst P (sym at) (nest_behind-lt nests home steps in_home in_steps)) in
     let behind : steps_to nests home nest ≡ steps =
-      ap (λ (n : ℕ). steps_to nests home n) at ∙ steps_to-nest_behind nests home steps in_home in_steps in
+    ap (λ (n : ℕ). steps_to nests home n) at ∙ steps_to-nest_behind nests home steps in_home in_steps in
     let some = counted nest within (let e : steps_to nests home nest < far = omega (arith, behind, nearer) in e) in
     omega (arith, same, some)
 
@@ -115,13 +115,13 @@ pub clear_passed : (nests n0 n1 : ℕ) (words off : List ℕ) (ways : List Way) 
     → 0 < passed_at off nest
 clear_passed nests n0 n1 words off ways chunk way e0 e1 led some is tag =
     let Q : ℕ → Type 0 = λ n. (nest : ℕ) → nest < n
-      → steps_to n (home_of n way.hash) nest < steps_to n (home_of n way.hash) (nest_of way.place) → 0 < passed_at off nest in
+    → steps_to n (home_of n way.hash) nest < steps_to n (home_of n way.hash) (nest_of way.place) → 0 < passed_at off nest in
     let R : Way → Type 0 = λ w. (nest : ℕ) → nest < nests
-      → steps_to nests (home_of nests w.hash) nest < steps_to nests (home_of nests w.hash) (nest_of w.place) → 0 < passed_at off nest in
+    → steps_to nests (home_of nests w.hash) nest < steps_to nests (home_of nests w.hash) (nest_of w.place) → 0 < passed_at off nest in
     subst Q (sym e1) (subst R (sym is) (λ nest within nearer.
-      let word = tag.others (8 * nest + 1) (λ e. absurd (omega (arith, e))) in
-      let counted = some_pass nests words ways chunk led some nest within nearer in
-      omega (arith, word, counted)))
+    let word = tag.others (8 * nest + 1) (λ e. absurd (omega (arith, e))) in
+    let counted = some_pass nests words ways chunk led some nest within nearer in
+    omega (arith, word, counted)))
 
 -- after clear the words and the ways agree
 pub clear_led : (nests n0 n1 : ℕ) (words off after : List ℕ) (ways : List Way) (chunk : ℕ) (way : Way) → n0 ≡ nests → n1 ≡ nests
@@ -152,7 +152,7 @@ put_led nests n0 n1 tag number words counted laid tagged ways chunk way e0 e1 le
     let P2 : ℕ → Type 0 = λ t. HasNewTag nests way.place t laid tagged in
     let P3 : List ℕ → Type 0 = λ ws. HasNewTag nests way.place (tag_of way.hash) ws tagged in
     let there : laid ≡ set counted way.place (life_number chunk way.generation) =
-      laid_is ∙ ap (λ (n : ℕ). set counted way.place n) number_is in
+    laid_is ∙ ap (λ (n : ℕ). set counted way.place n) number_is in
     laid_is_led nests words tagged ways chunk way led roomy within none is off
     (put_lays nests words counted tagged chunk way led.size is (subst Q e0 passed) (subst P3 there (subst P2 tag_is (subst P e1 tagged_is))))
 
@@ -167,15 +167,15 @@ table_set v nests ways chunk way led seen is =
 pub table_led : (v : IndexView) (nests : ℕ) (ways : List Way) (old chunk generation : ℕ) (way : Way) → v ≡ index_view nests ways
     → 0 < (way_to ways old).place → way ≡ way_to ways old
     → map led_by (set (set ways old no_way) chunk (record { hash = way.hash; generation = generation; place = way.place }))
-      ≡ set (set v.table old None) chunk (with_generation generation (led_at v.table old))
+    ≡ set (set v.table old None) chunk (with_generation generation (led_at v.table old))
 table_led v nests ways old chunk generation way seen some is =
     let new : Way = record { hash = way.hash; generation = generation; place = way.place } in
     let new_some : 0 < new.place = (let P : Way → Type 0 = λ w. 0 < w.place in subst P (sym is) some) in
     let was : led_at v.table old ≡ Some (record { hash = way.hash; generation = way.generation }) =
-      ap (λ (u : IndexView). led_at u.table old) seen ∙ (led_at-way ways old
-      ∙ (ap (λ (w : Way). led_by w) (sym is) ∙ led_by-some way new_some)) in
+    ap (λ (u : IndexView). led_at u.table old) seen ∙ (led_at-way ways old
+    ∙ (ap (λ (w : Way). led_by w) (sym is) ∙ led_by-some way new_some)) in
     let leads : led_by new ≡ with_generation generation (led_at v.table old) =
-      led_by-some new new_some ∙ sym (ap (λ (o : Option Led). with_generation generation o) was) in
+    led_by-some new new_some ∙ sym (ap (λ (o : Option Led). with_generation generation o) was) in
     map-set led_by (set ways old no_way) chunk new
     ∙ (ap (λ (t : List (Option Led)). set t chunk (led_by new)) (map-set led_by ways old no_way)
     ∙ (ap (λ (o : Option Led). set (set (map led_by ways) old None) chunk o) leads
@@ -192,6 +192,6 @@ lane_of_bits found some few =
     let at = trailing_zeros w64 found in
     let lowest = bit_at-trailing_zeros w64 found some (omega arith) in
     let below : at < 48 = ⊎_elim (λ h. h)
-      (λ above. let none = bit_at_above found 48 at few above in absurd (omega (arith, none, lowest.1)))
-      (cases_lt at 48) in
+    (λ above. let none = bit_at_above found 48 at few above in absurd (omega (arith, none, lowest.1)))
+    (cases_lt at 48) in
     omega (arith, below)

@@ -7,7 +7,7 @@ use Rattle.cache_nests.specs.Places.{IsPlace, nest_of, tag_at, passed_at, steps_
 pub record OneMorePassed (nests home steps : ℕ) (before after : List ℕ) : Type 0 where
   pub size : length after ≡ length before
   pub passed : (nest : ℕ) → nest < nests →
-    passed_at after nest ≡ passed_at before nest + (if nat_lt (steps_to nests home nest) steps then 1 else 0)
+      passed_at after nest ≡ passed_at before nest + (if nat_lt (steps_to nests home nest) steps then 1 else 0)
   pub others : (word : ℕ) → word % 8 ≢ 1 → slice_index after word ≡ slice_index before word
 
 -- the lane at a place has this tag, and all else is as it was

@@ -40,7 +40,7 @@ pub record AreLed (nests : ℕ) (words : List ℕ) (ways : List Way) : Type 0 wh
   pub size : length words ≡ 8 * nests
   pub leads : (chunk : ℕ) → 0 < (way_to ways chunk).place → LeadsTo nests words chunk (way_to ways chunk)
   pub back : (place : ℕ) → IsPlace nests place → 0 < tag_at words place →
-    (way_to ways (slice_index words place % 2 ^ 32)).place ≡ place
+      (way_to ways (slice_index words place % 2 ^ 32)).place ≡ place
   pub passed : (nest : ℕ) → nest < nests → passed_at words nest ≡ count_by (passes nests nest) ways
 
 -- there are more lanes than chunks, and no more than words can be numbered

@@ -54,10 +54,7 @@ impl Index {
         ensures all { IfNone result ((chunk : ℕ) → IfSome (led_at self.old.table chunk)
             (λ led. led.hash ≡ search.old.hash → has_answered self.old search.old chunk ≡ true)) }
     {
-        let Some(at) = self
-            .nests
-            .look(&mut self.pen, search.hash, search.looked)
-        else {
+        let Some(at) = self.nests.look(&mut self.pen, search.hash, search.looked) else {
             return None;
         };
         search.looked = at + 1;

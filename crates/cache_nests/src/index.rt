@@ -94,8 +94,7 @@ impl Index {
             unreachable!()
         };
         self.nests.pass(&mut self.pen, hash, place);
-        self.nests
-            .set_life(&mut self.pen, place, number_of(life));
+        self.nests.set_life(&mut self.pen, place, number_of(life));
         self.nests.set_tag(&mut self.pen, place, tag_of(hash));
         self.ways[life.chunk as usize] = Way {
             hash,
@@ -134,8 +133,7 @@ impl Index {
     {
         let way = self.ways[chunk as usize];
         self.nests.set_tag(&mut self.pen, way.place, 0);
-        self.nests
-            .pass_no_more(&mut self.pen, way.hash, way.place);
+        self.nests.pass_no_more(&mut self.pen, way.hash, way.place);
         self.ways[chunk as usize] = NO_WAY;
     }
 }

@@ -8,7 +8,6 @@ mod led;
 mod nests;
 mod readers;
 mod tags;
-
 #[cfg(test)]
 mod tests;
 

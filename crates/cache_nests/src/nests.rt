@@ -210,13 +210,17 @@ impl Nests {
             tag_behind pen.old.words self.now.nests (home_of self.now.nests hash) number ≢ tag_of hash) }
         ensures none { IfNone result ((number : ℕ) → from ≤ number → number < lanes * self.now.nests →
             ((steps : ℕ) → steps < number / lanes →
-                0 < passed_at pen.old.words (nest_behind self.now.nests (home_of self.now.nests hash) steps)) →
+            0 < passed_at pen.old.words (nest_behind self.now.nests (home_of self.now.nests hash) steps)) →
             tag_behind pen.old.words self.now.nests (home_of self.now.nests hash) number ≢ tag_of hash) }
     {
         let tag = tag_of(hash);
         for steps in from / LANES..self.count {
             let nest = self.nest(hash, steps);
-            let first = if LANES * steps < from { from % LANES } else { 0 };
+            let first = if LANES * steps < from {
+                from % LANES
+            } else {
+                0
+            };
             let lane = self.lane(pen, nest, tag, first);
             if lane < LANES {
                 return Some(LANES * steps + lane);

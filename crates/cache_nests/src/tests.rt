@@ -1,5 +1,5 @@
 //! Tests of the index: random calls beside a plain list, and readers beside the writer.
-use crate::{Index, IndexReader};
+use crate::{Index, IndexReader, Led};
 use bump_rules::ItemId;
 use std::alloc::Global;
 use std::sync::atomic::AtomicBool;
@@ -20,44 +20,72 @@ fn random(state: &mut u64) -> u64 {
 
 // A hash with few homes and few tags, or one for all.
 fn hash_of(number: u64, hashes: u64) -> u64 {
-    (number % hashes).wrapping_mul(0x9E37_79B9_7F4A_7C15)
+    (number % hashes.max(1)).wrapping_mul(0x9E37_79B9_7F4A_7C15)
 }
 
-// Puts, leads anew or clears as the plain list allows, there too.
-fn step(index: &mut Index, plain: &mut Vec<Option<(u64, u32)>>, state: &mut u64, hashes: u64) {
-    let chunks = index.chunks();
-    if chunks == 0 {
-        return;
+// Puts a life, if its chunk has none.
+fn put(index: &mut Index, hash: u64, life: ItemId) {
+    if life.chunk < index.chunks() && index.led(life.chunk).is_none() {
+        index.put(hash, life);
     }
-    let chunk = (random(state) % u64::from(chunks)) as u32;
-    let other = (random(state) % u64::from(chunks)) as u32;
+}
+
+// Leads from the hash of a chunk to another life, if that may be; and tells whether it did.
+fn lead(index: &mut Index, old: u32, life: ItemId) -> bool {
+    let chunks = index.chunks();
+    if old >= chunks || life.chunk >= chunks || index.led(old).is_none() {
+        return false;
+    }
+    if old == life.chunk {
+        index.lead(old, life);
+        return true;
+    }
+    if index.led(life.chunk).is_some() {
+        return false;
+    }
+    index.lead(old, life);
+    true
+}
+
+// Leads no more to a chunk, if it did.
+fn clear(index: &mut Index, chunk: u32) {
+    if chunk < index.chunks() && index.led(chunk).is_some() {
+        index.clear(chunk);
+    }
+}
+
+// Writes what the plain list has of a chunk.
+fn note(plain: &mut Vec<Option<Led>>, chunk: u32, led: Option<Led>) {
+    if let Some(one) = plain.get_mut(chunk as usize) {
+        *one = led;
+    }
+}
+
+// Puts, leads anew or clears, and notes it in the plain list.
+fn step(index: &mut Index, plain: &mut Vec<Option<Led>>, state: &mut u64, hashes: u64) {
+    let chunks = u64::from(index.chunks().max(1));
+    let chunk = (random(state) % chunks) as u32;
+    let other = (random(state) % chunks) as u32;
     let generation = (random(state) % 1_000_000) as u32;
-    let hash = hash_of(random(state), hashes);
-    let life = ItemId {
-        chunk: other,
-        generation,
-    };
-    match index.led(chunk) {
+    let had = plain.get(chunk as usize).copied().flatten();
+    match had {
         None => {
-            index.put(hash, ItemId { chunk, generation });
-            if let Some(one) = plain.get_mut(chunk as usize) {
-                *one = Some((hash, generation));
-            }
+            let hash = hash_of(random(state), hashes);
+            put(index, hash, ItemId { chunk, generation });
+            note(plain, chunk, Some(Led { hash, generation }));
         }
         Some(led) => {
-            if other == chunk || index.led(other).is_none() {
-                index.lead(chunk, life);
-                if let Some(one) = plain.get_mut(chunk as usize) {
-                    *one = None;
-                }
-                if let Some(one) = plain.get_mut(other as usize) {
-                    *one = Some((led.hash, generation));
-                }
+            let hash = led.hash;
+            let life = ItemId {
+                chunk: other,
+                generation,
+            };
+            if lead(index, chunk, life) {
+                note(plain, chunk, None);
+                note(plain, other, Some(Led { hash, generation }));
             } else if generation % 3 == 0 {
-                index.clear(chunk);
-                if let Some(one) = plain.get_mut(chunk as usize) {
-                    *one = None;
-                }
+                clear(index, chunk);
+                note(plain, chunk, None);
             }
         }
     }
@@ -87,30 +115,31 @@ fn exact_times(index: &mut Index, hash: u64, chunk: u32, generation: u32) -> u32
     count
 }
 
+// What the index has of a chunk.
+fn led(index: &Index, chunk: u32) -> Option<Led> {
+    if chunk < index.chunks() {
+        index.led(chunk)
+    } else {
+        None
+    }
+}
+
 // In how many chunks the index isn't as the plain list.
-fn differences(index: &mut Index, reader: &IndexReader, plain: &[Option<(u64, u32)>]) -> u32 {
+fn differences(index: &mut Index, reader: &IndexReader, plain: &[Option<Led>]) -> u32 {
     let mut count = 0u32;
-    for (at, one) in plain.iter().enumerate() {
-        if at >= index.chunks() as usize {
-            return u32::MAX;
-        }
-        let chunk = at as u32;
-        let led = index.led(chunk);
-        let is_same = match *one {
-            None => led.is_none(),
-            Some((hash, generation)) => {
-                let right = match led {
-                    Some(led) => led.hash == hash && led.generation == generation,
-                    None => false,
-                };
-                right
-                    && times(reader, hash, chunk, generation) == 1
-                    && exact_times(index, hash, chunk, generation) == 1
+    let mut chunk = 0u32;
+    for one in plain {
+        let is_found = match *one {
+            None => true,
+            Some(led) => {
+                times(reader, led.hash, chunk, led.generation) == 1
+                    && exact_times(index, led.hash, chunk, led.generation) == 1
             }
         };
-        if !is_same {
+        if led(index, chunk) != *one || !is_found {
             count = count.saturating_add(1);
         }
+        chunk = chunk.saturating_add(1);
     }
     count
 }
@@ -119,14 +148,14 @@ fn differences(index: &mut Index, reader: &IndexReader, plain: &[Option<(u64, u3
 fn run(alloc: Global, chunks: u32, hashes: u64) -> Result<u32, Fail> {
     let mut index = Index::new(alloc, chunks.min(1_000))?;
     let reader = index.reader()?;
-    let mut plain: Vec<Option<(u64, u32)>> = Vec::new(alloc);
+    let mut plain: Vec<Option<Led>> = Vec::new(alloc);
     for _chunk in 0..chunks.min(1_000) {
         plain.push(None)?;
     }
     let mut state = 1u64;
     let mut wrong = 0u32;
     for turn in 0..TURNS {
-        step(&mut index, &mut plain, &mut state, hashes.max(1));
+        step(&mut index, &mut plain, &mut state, hashes);
         if turn % 200 == 0 {
             wrong = wrong.saturating_add(differences(&mut index, &reader, plain.as_slice()));
         }
@@ -160,23 +189,6 @@ const KEYS: u32 = 8;
 /// How often a reader looks for each key.
 const LOOKS: u32 = 20_000;
 
-// Puts a life of a key, if the chunk has none.
-fn put(index: &mut Index, hash: u64, life: ItemId) {
-    if life.chunk < index.chunks() && index.led(life.chunk).is_none() {
-        index.put(hash, life);
-    }
-}
-
-// Leads to another life of a key, if that may be.
-fn lead(index: &mut Index, old: u32, life: ItemId) {
-    let chunks = index.chunks();
-    if old < chunks && life.chunk < chunks && index.led(life.chunk).is_none() {
-        if index.led(old).is_some() {
-            index.lead(old, life);
-        }
-    }
-}
-
 // How often a reader finds nothing of a key that always has something.
 fn missed(reader: &IndexReader) -> u32 {
     let mut missed = 0u32;
@@ -198,7 +210,14 @@ fn missed(reader: &IndexReader) -> u32 {
 fn a_reader_finds_what_is_led_anew(rt: HostRuntime) -> Result<(), Fail> {
     let mut index = Index::new(rt.alloc(), 3 * KEYS)?;
     for chunk in 0..KEYS {
-        put(&mut index, hash_of(u64::from(chunk), 3), ItemId { chunk, generation: 0 });
+        put(
+            &mut index,
+            hash_of(u64::from(chunk), 3),
+            ItemId {
+                chunk,
+                generation: 0,
+            },
+        );
     }
     let reader = index.reader()?;
     let done = AtomicBool::new(false);
@@ -216,7 +235,14 @@ fn a_reader_finds_what_is_led_anew(rt: HostRuntime) -> Result<(), Fail> {
                 }
                 let old = turn % (3 * KEYS);
                 let chunk = (turn + KEYS) % (3 * KEYS);
-                lead(&mut index, old, ItemId { chunk, generation: turn });
+                let _is_led = lead(
+                    &mut index,
+                    old,
+                    ItemId {
+                        chunk,
+                        generation: turn,
+                    },
+                );
             }
         },
     );

@@ -47,12 +47,11 @@ invariant_of-self c =
     let some = some_way c.args.self.now nests ways c.args.chunk (sym c.self.view_is) c.requires in
     let way_is = get_or_read ways c.args.chunk c.index-way.result.now (chunk_of_way ways c.args.chunk some) c.index-way.ensures no_way in
     let nests_is : c.deref.result.now.nests ≡ nests = cc in
-    let nests_is_2 : c.deref-2.result.now.nests ≡ nests = cc in
-    (
+    let nests_is_2 : c.deref-2.result.now.nests ≡ nests = cc in (
       c.pass_no_more.ensures.table ∙ (c.set_tag.ensures.table ∙ c.self.invariant.0),
       clear_led nests c.deref.result.now.nests c.deref-2.result.now.nests c.self.inside.pen.words c.set_tag.new.pen.words
-      c.pass_no_more.new.pen.words ways c.args.chunk c.index-way.result.now nests_is nests_is_2 c.self.invariant.1
-      c.self.invariant.2 some way_is c.set_tag.ensures.words c.pass_no_more.ensures.words,
+          c.pass_no_more.new.pen.words ways c.args.chunk c.index-way.result.now nests_is nests_is_2 c.self.invariant.1
+          c.self.invariant.2 some way_is c.set_tag.ensures.words c.pass_no_more.ensures.words,
       roomy_set nests ways c.args.chunk no_way c.self.invariant.2,
     )
 

@@ -29,15 +29,14 @@ invariant_of-self c =
     let new : Way = record { hash = way.hash; generation = c.args.life.generation; place = way.place } in
     let within = chunk_within c.args.self.now nests ways chunk (sym c.self.view_is) c.requires.chunk in
     let anew : ((way_to ways chunk).place ≡ 0) ⊎ (chunk ≡ c.args.old) =
-      ⊎_elim (λ none. inl (none_way c.args.self.now nests ways chunk (sym c.self.view_is) none)) (λ same. inr same) c.requires.anew in
+    ⊎_elim (λ none. inl (none_way c.args.self.now nests ways chunk (sym c.self.view_is) none)) (λ same. inr same) c.requires.anew in
     let number : c.set_life.new.pen.words ≡ slice_set c.self.inside.pen.words way.place (life_number chunk c.args.life.generation) =
-      c.set_life.ensures.words ∙ ap (λ (n : ℕ). slice_set c.self.inside.pen.words way.place n) c.number_of.ensures in
-    let P : List ℕ → Type 0 = λ ws. AreLed nests ws (slice_set (slice_set ways c.args.old no_way) chunk new) in
-    (
+    c.set_life.ensures.words ∙ ap (λ (n : ℕ). slice_set c.self.inside.pen.words way.place n) c.number_of.ensures in
+    let P : List ℕ → Type 0 = λ ws. AreLed nests ws (slice_set (slice_set ways c.args.old no_way) chunk new) in (
       c.set_life.ensures.table ∙ c.self.invariant.0,
       subst P (sym number)
-      (led_anew nests c.self.inside.pen.words ways c.args.old chunk new c.self.invariant.1 c.self.invariant.2 some within anew
-        (ap (λ (w : Way). w.place) way_is) (ap (λ (w : Way). w.hash) way_is)),
+          (led_anew nests c.self.inside.pen.words ways c.args.old chunk new c.self.invariant.1 c.self.invariant.2 some within anew
+          (ap (λ (w : Way). w.place) way_is) (ap (λ (w : Way). w.hash) way_is)),
       roomy_set nests (slice_set ways c.args.old no_way) chunk new (roomy_set nests ways c.args.old no_way c.self.invariant.2),
     )
 

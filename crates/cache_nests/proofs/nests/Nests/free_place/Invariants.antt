@@ -7,4 +7,4 @@ abbrev pub invariant-loop-steps : goal.invariant-loop-steps
 invariant-loop-steps l =
     (l.pen ≡ l.fn.pen)
     × ((steps lane : ℕ) → steps < l.steps → lane < lanes →
-      0 < tag_in (slice_index l.fn.pen.words (8 * nest_behind l.self.nests (home_of l.self.nests l.hash) steps)) lane)
+    0 < tag_in (slice_index l.fn.pen.words (8 * nest_behind l.self.nests (home_of l.self.nests l.hash) steps)) lane)

@@ -7,4 +7,4 @@ abbrev pub invariant-loop-steps : goal.invariant-loop-steps
 invariant-loop-steps l =
     (l.pen ≡ l.fn.pen)
     × ((number : ℕ) → l.from ≤ number → number < lanes * l.steps →
-      tag_behind l.fn.pen.words l.self.nests (home_of l.self.nests l.hash) number ≢ tag_of l.hash)
+    tag_behind l.fn.pen.words l.self.nests (home_of l.self.nests l.hash) number ≢ tag_of l.hash)
