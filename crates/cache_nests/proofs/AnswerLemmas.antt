@@ -1,5 +1,7 @@
 -- What the writer's search says of its answers, in the words of its contract.
-use Rattle.std.proofs.Common.{◌≡◌, ◌≢◌, ℕ, ◌+◌, ◌*◌, ◌/◌, ◌%◌, ◌^◌, ◌<◌, ◌≤◌, ◌⊎◌, true, false, eqb, ◌||◌, Bool, Option, Some, None, IsSomeAnd, IfSome, List, map, get_or, refl, sym, ap, ◌∙◌, subst, arith, ⊎_elim}
+use Rattle.std.proofs.Common.{◌≡◌, ◌≢◌, ℕ, ◌+◌, ◌*◌, ◌/◌, ◌%◌, ◌^◌, ◌<◌, ◌≤◌, ◌⊎◌, true, false, eqb, ◌||◌, Bool}
+use Rattle.std.proofs.Common.{Option, Some, None, IsSomeAnd, IfSome, List, map, get_or, refl, sym, ap, ◌∙◌, subst}
+use Rattle.std.proofs.Common.{arith, ⊎_elim}
 use Rattle.std.proofs.lemmas.Bool.{cases_lt}
 use Rattle.cache_nests.specs.declared.led.Led.{Led}
 use Rattle.cache_nests.specs.declared.led.Way.{Way}
@@ -9,7 +11,9 @@ use Rattle.cache_nests.specs.Leads.{no_way, led_by, way_to, AreLed, IsRoomy}
 use Rattle.cache_nests.specs.Views.{IndexView, SearchView, index_view, led_at, has_answered}
 use Rattle.cache_nests.proofs.StepsLemmas.{home_of-lt}
 use Rattle.cache_nests.proofs.RoomLemmas.{lane_is_off}
-use Rattle.cache_nests.proofs.SearchLemmas.{search_at, answered, IsFound, found_place, found_chunk, found_led, found_same_tag, found_anew, found_answered, all_answered, has_answered-way, led_at-way, led_by-some, led_by-none}
+use Rattle.cache_nests.proofs.SearchLemmas.{search_at, answered, IsFound, found_place, found_chunk, found_led}
+use Rattle.cache_nests.proofs.SearchLemmas.{found_same_tag, found_anew, found_answered, all_answered}
+use Rattle.cache_nests.proofs.SearchLemmas.{has_answered-way, led_at-way, led_by-some, led_by-none}
 
 -- what a look found is found
 pub found_from : (nests n0 : ℕ) (words : List ℕ) (ways : List Way) (hash from at : ℕ) → n0 ≡ nests
@@ -19,7 +23,8 @@ pub found_from : (nests n0 : ℕ) (words : List ℕ) (ways : List Way) (hash fro
     → IsFound nests words ways hash from at
 found_from nests n0 words ways hash from at e led roomy fits within found first =
     let P : ℕ → Type 0 = λ n. tag_behind words n (home_of n hash) at ≡ tag_of hash in
-    let Q : ℕ → Type 0 = λ n. (number : ℕ) → from ≤ number → number < at → tag_behind words n (home_of n hash) number ≢ tag_of hash in
+    let Q : ℕ → Type 0 = λ n. (number : ℕ) → from ≤ number → number < at → tag_behind words n (home_of n hash) number
+    ≢ tag_of hash in
     record {
       led = led;
       roomy = roomy;
@@ -42,7 +47,8 @@ life_found nests n0 nest number hash at words mid n0_is nest_is mid_is number_is
 
 module _ (v : IndexView) (s : SearchView) (nests : ℕ) (words : List ℕ) (ways : List Way) (hash from at chunk number : ℕ)
     (seen : v ≡ index_view nests ways) (search : s ≡ search_at hash from)
-    (it : IsFound nests words ways hash from at) (number_is : number ≡ get_or words (found_place nests words ways hash from at) 0)
+    (it : IsFound nests words ways hash from at) (number_is : number ≡ get_or words (found_place nests words ways
+    hash from at) 0)
     (chunk_is : chunk ≡ number % 2 ^ 32) where
   chunk_found : chunk ≡ found_chunk nests words ways hash from at
   chunk_found = chunk_is ∙ ap (λ (n : ℕ). n % 2 ^ 32) number_is
@@ -60,11 +66,16 @@ module _ (v : IndexView) (s : SearchView) (nests : ℕ) (words : List ℕ) (ways
       ∙ found_anew nests words ways hash from at it)
 
   pub answer_led : (generation : ℕ) → generation ≡ number / 2 ^ 32
-      → IsSomeAnd (led_at v.table chunk) (λ (led : Led). (led.generation ≡ generation) × (tag_of led.hash ≡ tag_of s.hash))
+      → IsSomeAnd (led_at v.table chunk) (λ (led : Led). (led.generation ≡ generation) × (tag_of led.hash ≡ tag_of
+      s.hash))
   answer_led generation generation_is =
       let c = found_chunk nests words ways hash from at in
       let led_is : led_at v.table chunk
-      ≡ Some (record { hash = (way_to ways c).hash; generation = get_or words (found_place nests words ways hash from at) 0 / 2 ^ 32 }) =
+      ≡ Some (record {
+        hash = (way_to ways c).hash;
+        generation = get_or words (found_place nests words ways hash from
+            at) 0 / 2 ^ 32;
+      }) =
       ap (λ (u : IndexView). led_at u.table chunk) seen
       ∙ (ap (λ (k : ℕ). led_at (map led_by ways) k) chunk_found
       ∙ (led_at-way ways c ∙ found_led nests words ways hash from at it)) in
@@ -113,7 +124,8 @@ end_all v s nests n0 words ways hash from seen search e led roomy fits none chun
     (cases_lt 0 way.place)
 
 -- some lane is off
-pub is_off : (nests n0 : ℕ) (words : List ℕ) (ways : List Way) → n0 ≡ nests → AreLed nests words ways → IsRoomy nests ways
+pub is_off : (nests n0 : ℕ) (words : List ℕ) (ways : List Way) → n0 ≡ nests → AreLed nests words ways
+    → IsRoomy nests ways
     → ((place : ℕ) → IsPlace n0 place → 0 < tag_at words place) → ⊥
 is_off nests n0 words ways e led roomy full =
     let P : ℕ → Type 0 = λ n. (place : ℕ) → IsPlace n place → 0 < tag_at words place in

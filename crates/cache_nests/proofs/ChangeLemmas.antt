@@ -1,5 +1,7 @@
 -- What put and clear do to the words, step by step.
-use Rattle.std.proofs.Common.{◌≡◌, ◌≢◌, ℕ, ◌+◌, ◌-◌, ◌*◌, ◌/◌, ◌%◌, ◌^◌, ◌<◌, ◌≤◌, ◌⊎◌, true, false, cond, eqb, ltb, Bool, List, length, set, get_or, count_by, refl, sym, ap, ◌∙◌, subst, arith, ⊎_elim, length-set, get_or-set_same, get_or-set_other}
+use Rattle.std.proofs.Common.{◌≡◌, ◌≢◌, ℕ, ◌+◌, ◌-◌, ◌*◌, ◌/◌, ◌%◌, ◌^◌, ◌<◌, ◌≤◌, ◌⊎◌, true, false, cond, eqb, ltb}
+use Rattle.std.proofs.Common.{Bool, List, length, set, get_or, count_by, refl, sym, ap, ◌∙◌, subst, arith, ⊎_elim}
+use Rattle.std.proofs.Common.{length-set, get_or-set_same, get_or-set_other}
 use Rattle.std.proofs.lemmas.Bool.{cases_lt, cases_eq, ne_eqb, cond-true, cond-false, lt-ltb}
 use Rattle.std.proofs.lemmas.List.Sums.{count_by-le-length, sum_by-set}
 use Rattle.cache_nests.specs.declared.led.Way.{Way}
@@ -12,7 +14,8 @@ use Rattle.cache_nests.proofs.LedLemmas.{one_pass, IsLaid, IsLifted, chunk_of_wa
 
 -- how a way passes a nest
 pub one_pass-steps : (nests nest : ℕ) (way : Way) → 0 < way.place
-    → one_pass nests nest way ≡ one_below (steps_to nests (home_of nests way.hash) nest) (steps_to nests (home_of nests way.hash) (nest_of way.place))
+    → one_pass nests nest way ≡ one_below (steps_to nests (home_of nests way.hash) nest) (steps_to nests (home_of
+    nests way.hash) (nest_of way.place))
 one_pass-steps nests nest way some =
     ap (λ (b : Bool). cond b 1 0)
     (cond-false (eqb way.place 0) false
@@ -42,7 +45,13 @@ new_tag nests place tag next words size is here elsewhere =
           (λ same.
           let word : get_or (set words at next) (8 * nest_of other) 0 ≡ next =
           ap (λ (n : ℕ). get_or (set words at next) (8 * n) 0) same ∙ there in
-          let lane_apart : lane_of other ≢ lane_of place = λ e. apart (omega (arith, same, e, is.lane, is_other.lane)) in
+          let lane_apart : lane_of other ≢ lane_of place = λ e. apart (omega (
+            arith,
+            same,
+            e,
+            is.lane,
+            is_other.lane,
+          )) in
           ap (λ (n : ℕ). tag_in n (lane_of other)) word
           ∙ (elsewhere (lane_of other) lane_apart
           ∙ ap (λ (n : ℕ). tag_in (get_or words (8 * n) 0) (lane_of other)) (sym same)))
@@ -55,7 +64,8 @@ new_tag nests place tag next words size is here elsewhere =
 -- first the nests count the way, then its lane has the life, and then the tag
 pub put_lays : (nests : ℕ) (words counted tagged : List ℕ) (chunk : ℕ) (way : Way)
     → length words ≡ 8 * nests → IsPlace nests way.place
-    → OneMorePassed nests (home_of nests way.hash) (steps_to nests (home_of nests way.hash) (nest_of way.place)) words counted
+    → OneMorePassed nests (home_of nests way.hash) (steps_to nests (home_of nests way.hash) (nest_of way.place))
+    words counted
     → HasNewTag nests way.place (tag_of way.hash) (set counted way.place (life_number chunk way.generation)) tagged
     → IsLaid nests words tagged chunk way
 put_lays nests words counted tagged chunk way size is passed tag =
@@ -88,12 +98,16 @@ put_lays nests words counted tagged chunk way size is passed tag =
 -- first the lane goes off, and then the nests count the way no more
 pub clear_lifts : (nests : ℕ) (words off after : List ℕ) (way : Way) → IsPlace nests way.place
     → HasNewTag nests way.place 0 words off
-    → OneMorePassed nests (home_of nests way.hash) (steps_to nests (home_of nests way.hash) (nest_of way.place)) after off
+    → OneMorePassed nests (home_of nests way.hash) (steps_to nests (home_of nests way.hash) (nest_of way.place))
+    after off
     → IsLifted nests words after way
 clear_lifts nests words off after way is tag passed =
     let place = way.place in
     let tags_stay : (other : ℕ) → tag_at after other ≡ tag_at off other = λ other.
-    ap (λ (n : ℕ). tag_in n (lane_of other)) (sym (passed.others (8 * nest_of other) (λ e. absurd (omega (arith, e))))) in
+    ap (λ (n : ℕ). tag_in n (lane_of other)) (sym (passed.others (8 * nest_of other) (λ e. absurd (omega (
+      arith,
+      e,
+    ))))) in
     record {
       size = sym passed.size ∙ tag.size;
       tag = tags_stay place ∙ tag.here;
@@ -124,7 +138,8 @@ few_pass nests words ways led roomy nest within =
     omega (arith, led.passed nest within, count_by-le-length (passes nests nest) ways, roomy.few_chunks)
 
 -- a nest that a way passes counts it
-pub some_pass : (nests : ℕ) (words : List ℕ) (ways : List Way) (chunk : ℕ) → AreLed nests words ways → 0 < (way_to ways chunk).place
+pub some_pass : (nests : ℕ) (words : List ℕ) (ways : List Way) (chunk : ℕ) → AreLed nests words ways
+    → 0 < (way_to ways chunk).place
     → let home = home_of nests (way_to ways chunk).hash in (nest : ℕ) → nest < nests
     → steps_to nests home nest < steps_to nests home (nest_of (way_to ways chunk).place) → 0 < passed_at words nest
 some_pass nests words ways chunk led some nest within nearer =

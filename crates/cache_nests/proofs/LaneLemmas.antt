@@ -1,9 +1,12 @@
 -- The lanes with a tag, found in all six at once: the highest bit of each is set exactly where its tag is this one.
-use Rattle.std.proofs.Common.{◌≡◌, ◌≢◌, ℕ, zero, suc, ◌+◌, ◌-◌, ◌*◌, ◌/◌, ◌%◌, ◌^◌, ◌<◌, ◌≤◌, ◌⊎◌, min, max, true, false, cond, eqb, bit_and, bit_or, bit_xor, w64, refl, sym, ap, ◌∙◌, subst, arith, ⊎_elim}
+use Rattle.std.proofs.Common.{◌≡◌, ◌≢◌, ℕ, zero, suc, ◌+◌, ◌-◌, ◌*◌, ◌/◌, ◌%◌, ◌^◌, ◌<◌, ◌≤◌, ◌⊎◌, min, max, true}
+use Rattle.std.proofs.Common.{false, cond, eqb, bit_and, bit_or, bit_xor, w64, refl, sym, ap, ◌∙◌, subst, arith}
+use Rattle.std.proofs.Common.{⊎_elim}
 use Rattle.std.specs.Int.{bit_at, bit_not}
 use Rattle.std.specs.Int.Bits.{xor_self}
 use Rattle.std.proofs.Math.Nat.{div-div-eq-div-mul, mod-lt, zero-div}
-use Rattle.std.proofs.lemmas.Nat.{pow-add, pow_pos, and_mod, xor_mod, and_mask, and_le_r, or_lt, xor_lt, div-mul-add, div-add-mod'}
+use Rattle.std.proofs.lemmas.Nat.{pow-add, pow_pos, and_mod, xor_mod, and_mask, and_le_r, or_lt, xor_lt, div-mul-add}
+use Rattle.std.proofs.lemmas.Nat.{div-add-mod'}
 use Rattle.std.proofs.lemmas.Nat.Bits.{same_from_bits, bit_at_and, bit_at_or, bit_at_xor, bit_at_not, bit_at-lt}
 use Rattle.std.proofs.lemmas.Bool.{cases_eq, cond-true, cond-false, eq-eqb, ne_eqb}
 use Rattle.cache_nests.specs.Tags.{tag_in}
@@ -111,7 +114,8 @@ sum_lane x lane below =
     let half = low_rest lane below in
     let sum = no_carry (bit_and x low_bits) low_bits p (omega (arith, rest, half)) in
     ap (λ (n : ℕ). n % 256) sum
-    ∙ lane_sum (bit_and x low_bits / p) (low_bits / p) (x / p % 256 % 128) (masked_lane x lane below) (low_lane lane below) (mod-lt (x / p % 256) (omega arith))
+    ∙ lane_sum (bit_and x low_bits / p) (low_bits / p) (x / p % 256 % 128) (masked_lane x lane below) (low_lane lane
+    below) (mod-lt (x / p % 256) (omega arith))
   where
     lane_sum : (a b c : ℕ) → a % 256 ≡ c → b % 256 ≡ 127 → c < 128 → (a + b) % 256 ≡ c + 127
     lane_sum a b c ea eb few = omega arith
@@ -132,7 +136,8 @@ some_set x few some = omega arith
 
 -- the lanes in which no bit differs from the tag, each by its highest bit
 pub lane_bit : (tags tag lane : ℕ) → tags < 2 ^ 64 → tag < 256 → lane < 6
-    → bit_at (bit_and (bit_not w64 (bit_or (bit_and (bit_xor tags (tag * ones)) low_bits + low_bits) (bit_xor tags (tag * ones)))) high_bits) (8 * lane + 7)
+    → bit_at (bit_and (bit_not w64 (bit_or (bit_and (bit_xor tags (tag * ones)) low_bits + low_bits) (bit_xor tags
+    (tag * ones)))) high_bits) (8 * lane + 7)
     ≡ cond (eqb (tag_in tags lane) tag) 1 0
 lane_bit tags tag lane fits few below =
     let x = bit_xor tags (tag * ones) in
@@ -142,11 +147,13 @@ lane_bit tags tag lane fits few below =
     let x_fits : x < 2 ^ 64 = xor_lt 64 tags (tag * ones) fits (omega arith) in
     let masked = and_le_r x low_bits in
     let low_fits : low < 2 ^ 64 = omega (arith, masked) in
-    let low_bit : bit_at low i ≡ (xl % 128 + 127) / 128 = high_bit low lane ∙ ap (λ (n : ℕ). n / 128) (sum_lane x lane below) in
+    let low_bit : bit_at low i ≡ (xl % 128 + 127) / 128 = high_bit low lane ∙ ap (λ (n : ℕ). n / 128) (sum_lane x
+    lane below) in
     let x_bit : bit_at x i ≡ xl / 128 = high_bit x lane in
     let not_bit : bit_at (bit_not w64 (bit_or low x)) i ≡ 1 - bit_at (bit_or low x) i =
     bit_at_not w64 (bit_or low x) i (or_lt 64 low x low_fits x_fits) (omega arith) in
-    let all : bit_at (bit_and (bit_not w64 (bit_or low x)) high_bits) i ≡ min (1 - max ((xl % 128 + 127) / 128) (xl / 128)) 1 =
+    let all : bit_at (bit_and (bit_not w64 (bit_or low x)) high_bits) i ≡ min (1 - max ((xl % 128 + 127) / 128) (xl /
+    128)) 1 =
     bit_at_and (bit_not w64 (bit_or low x)) high_bits i
     ∙ (ap (λ (n : ℕ). min (bit_at (bit_not w64 (bit_or low x)) i) n) (high_lane lane below)
     ∙ (ap (λ (n : ℕ). min n 1) not_bit

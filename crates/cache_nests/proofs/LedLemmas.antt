@@ -1,5 +1,7 @@
 -- What keeps the words and the ways in agreement.
-use Rattle.std.proofs.Common.{◌≡◌, ◌≢◌, ℕ, ◌+◌, ◌-◌, ◌*◌, ◌/◌, ◌%◌, ◌^◌, ◌<◌, ◌≤◌, ◌⊎◌, inl, inr, true, false, cond, eqb, ltb, List, length, set, get_or, count_by, refl, sym, ap, ◌∙◌, subst, arith, ⊎_elim, length-set, get_or-set_same, get_or-set_other}
+use Rattle.std.proofs.Common.{◌≡◌, ◌≢◌, ℕ, ◌+◌, ◌-◌, ◌*◌, ◌/◌, ◌%◌, ◌^◌, ◌<◌, ◌≤◌, ◌⊎◌, inl, inr, true, false, cond}
+use Rattle.std.proofs.Common.{eqb, ltb, List, length, set, get_or, count_by, refl, sym, ap, ◌∙◌, subst, arith, ⊎_elim}
+use Rattle.std.proofs.Common.{length-set, get_or-set_same, get_or-set_other}
 use Rattle.std.proofs.Math.Nat.{add-mul-div_left, add-mul-mod_self_left, mod-eq_of_lt, div-eq_of_lt}
 use Rattle.std.proofs.lemmas.Bool.{cases_lt, cases_eq, cond_both, eqb-false}
 use Rattle.std.proofs.lemmas.List.{get_or_past}
@@ -25,10 +27,14 @@ life_generation chunk generation fits =
 pub chunk_of_way : (ways : List Way) (chunk : ℕ) → 0 < (way_to ways chunk).place → chunk < length ways
 chunk_of_way ways chunk some =
     ⊎_elim (λ within. within)
-    (λ past. let none = ap (λ (way : Way). way.place) (get_or_past ways chunk no_way past) in absurd (omega (arith, none)))
+    (λ past. let none = ap (λ (way : Way). way.place) (get_or_past ways chunk no_way past) in absurd (omega (
+      arith,
+      none,
+    )))
     (cases_lt chunk (length ways))
 
-pub chunk_fits : (nests : ℕ) (ways : List Way) (chunk : ℕ) → IsRoomy nests ways → 0 < (way_to ways chunk).place → chunk < 2 ^ 32
+pub chunk_fits : (nests : ℕ) (ways : List Way) (chunk : ℕ) → IsRoomy nests ways → 0 < (way_to ways chunk).place
+    → chunk < 2 ^ 32
 chunk_fits nests ways chunk roomy some = omega (arith, chunk_of_way ways chunk some, roomy.few_chunks)
 
 pub place_some : (nests place : ℕ) → IsPlace nests place → 0 < place
@@ -43,11 +49,13 @@ tag_some hash =
 pub way_here : (ways : List Way) (chunk : ℕ) (way : Way) → chunk < length ways → way_to (set ways chunk way) chunk ≡ way
 way_here ways chunk way within = get_or-set_same ways chunk way no_way within
 
-pub way_elsewhere : (ways : List Way) (chunk other : ℕ) (way : Way) → other ≢ chunk → way_to (set ways chunk way) other ≡ way_to ways other
+pub way_elsewhere : (ways : List Way) (chunk other : ℕ) (way : Way) → other ≢ chunk
+    → way_to (set ways chunk way) other ≡ way_to ways other
 way_elsewhere ways chunk other way apart = get_or-set_other ways chunk other way no_way apart
 
 -- two chunks have no lane together
-pub one_chunk : (nests : ℕ) (words : List ℕ) (ways : List Way) (chunk other : ℕ) → AreLed nests words ways → IsRoomy nests ways
+pub one_chunk : (nests : ℕ) (words : List ℕ) (ways : List Way) (chunk other : ℕ) → AreLed nests words ways
+    → IsRoomy nests ways
     → 0 < (way_to ways chunk).place → (way_to ways other).place ≡ (way_to ways chunk).place → other ≡ chunk
 one_chunk nests words ways chunk other led roomy some same =
     let other_some : 0 < (way_to ways other).place = omega arith in
@@ -72,7 +80,8 @@ pub record IsLaid (nests : ℕ) (before after : List ℕ) (chunk : ℕ) (way : W
 no_pass : (nests nest : ℕ) (way : Way) → way.place ≡ 0 → one_pass nests nest way ≡ 0
 no_pass nests nest way none =
     ap (λ (p : ℕ). cond (cond (eqb p 0) false
-    (ltb (steps_to nests (home_of nests way.hash) nest) (steps_to nests (home_of nests way.hash) (nest_of p)))) 1 0) none
+    (ltb (steps_to nests (home_of nests way.hash) nest) (steps_to nests (home_of nests way.hash) (nest_of p)))) 1 0)
+    none
 
 pub laid_is_led : (nests : ℕ) (before after : List ℕ) (ways : List Way) (chunk : ℕ) (way : Way)
     → AreLed nests before ways → IsRoomy nests ways → chunk < length ways → (way_to ways chunk).place ≡ 0
@@ -106,7 +115,10 @@ laid_is_led nests before after ways chunk way led roomy within none is_place off
           (λ same.
           let number : get_or after place 0 % 2 ^ 32 ≡ chunk =
           ap (λ (p : ℕ). get_or after p 0 % 2 ^ 32) same
-          ∙ (ap (λ (n : ℕ). n % 2 ^ 32) laid.life ∙ life_chunk chunk way.generation (omega (arith, roomy.few_chunks))) in
+          ∙ (ap (λ (n : ℕ). n % 2 ^ 32) laid.life ∙ life_chunk chunk way.generation (omega (
+            arith,
+            roomy.few_chunks,
+          ))) in
           ap (λ (k : ℕ). (way_to (set ways chunk way) k).place) number
           ∙ (ap (λ (w : Way). w.place) here ∙ sym same))
           (λ apart.
@@ -198,7 +210,8 @@ led_anew nests words ways old chunk way led roomy some within anew same_place sa
     let number = life_number chunk way.generation in
     let after = set words way.place number in
     let way_led = led.leads old some in
-    let is_place : IsPlace nests way.place = (let P : ℕ → Type 0 = λ p. IsPlace nests p in subst P (sym same_place) way_led.place) in
+    let is_place : IsPlace nests way.place = (let P : ℕ → Type 0 = λ p. IsPlace nests p in subst P (sym same_place)
+    way_led.place) in
     let in_words : way.place < length words = omega (arith, led.size, is_place.nest) in
     let tags : (place : ℕ) → IsPlace nests place → tag_at after place ≡ tag_at words place =
     λ place is. ap (λ (n : ℕ). tag_in n (lane_of place))
@@ -222,14 +235,16 @@ led_anew nests words ways old chunk way led roomy some within anew same_place sa
           (λ same_old.
           let off : (way_to (set between chunk way) c).place ≡ 0 =
           ap (λ (w : Way). w.place) (way_elsewhere between chunk c way apart)
-          ∙ (ap (λ (k : ℕ). (way_to between k).place) same_old ∙ ap (λ (w : Way). w.place) (way_here ways old no_way old_within)) in
+          ∙ (ap (λ (k : ℕ). (way_to between k).place) same_old ∙ ap (λ (w : Way). w.place) (way_here ways old no_way
+          old_within)) in
           absurd (omega (arith, off, on)))
           (λ apart_old.
           let there = others c apart apart_old in
           let P : Way → Type 0 = λ w. 0 < w.place in
           let before = led.leads c (subst P there on) in
           let w = way_to ways c in
-          let other : w.place ≢ way.place = λ e. apart_old (one_chunk nests words ways old c led roomy some (e ∙ same_place)) in
+          let other : w.place ≢ way.place = λ e. apart_old (one_chunk nests words ways old c led roomy some (e ∙
+          same_place)) in
           let Q : Way → Type 0 = λ v. LeadsTo nests after c v in
           subst Q (sym there) (record {
             place = before.place;
@@ -242,14 +257,18 @@ led_anew nests words ways old chunk way led roomy some within anew same_place sa
           (λ same.
           let decoded : get_or after place 0 % 2 ^ 32 ≡ chunk =
           ap (λ (p : ℕ). get_or after p 0 % 2 ^ 32) same
-          ∙ (ap (λ (n : ℕ). n % 2 ^ 32) life_here ∙ life_chunk chunk way.generation (omega (arith, roomy.few_chunks))) in
+          ∙ (ap (λ (n : ℕ). n % 2 ^ 32) life_here ∙ life_chunk chunk way.generation (omega (
+            arith,
+            roomy.few_chunks,
+          ))) in
           ap (λ (k : ℕ). (way_to (set between chunk way) k).place) decoded
           ∙ (ap (λ (w : Way). w.place) here ∙ sym same))
           (λ apart.
           let was_on : 0 < tag_at words place = omega (arith, tags place is) in
           let before = led.back place is was_on in
           let c = get_or words place 0 % 2 ^ 32 in
-          let not_old : c ≢ old = λ e. apart (sym before ∙ (ap (λ (k : ℕ). (way_to ways k).place) e ∙ sym same_place)) in
+          let not_old : c ≢ old = λ e. apart (sym before ∙ (ap (λ (k : ℕ). (way_to ways k).place) e ∙ sym
+          same_place)) in
           let not_chunk : c ≢ chunk = λ e. ⊎_elim
           (λ none.
           let p : (way_to ways c).place ≡ (way_to ways chunk).place = ap (λ (k : ℕ). (way_to ways k).place) e in
@@ -263,7 +282,8 @@ led_anew nests words ways old chunk way led roomy some within anew same_place sa
           let counts : count_by (passes nests nest) between + one_pass nests nest was
           ≡ count_by (passes nests nest) ways + one_pass nests nest no_way =
           sum_by-set (λ (w : Way). one_pass nests nest w) ways old no_way no_way old_within in
-          let counts_after : count_by (passes nests nest) (set between chunk way) + one_pass nests nest (way_to between chunk)
+          let counts_after : count_by (passes nests nest) (set between chunk way) + one_pass nests nest (way_to
+          between chunk)
           ≡ count_by (passes nests nest) between + one_pass nests nest way =
           sum_by-set (λ (w : Way). one_pass nests nest w) between chunk way no_way inside in
           let zero_no_way : one_pass nests nest no_way ≡ 0 = refl in
@@ -279,9 +299,11 @@ led_anew nests words ways old chunk way led roomy some within anew same_place sa
           anew in
           let same_pass : one_pass nests nest way ≡ one_pass nests nest was =
           ap (λ (p : ℕ). cond (cond (eqb p 0) false
-          (ltb (steps_to nests (home_of nests way.hash) nest) (steps_to nests (home_of nests way.hash) (nest_of p)))) 1 0) same_place
+          (ltb (steps_to nests (home_of nests way.hash) nest) (steps_to nests (home_of nests way.hash) (nest_of p))))
+          1 0) same_place
           ∙ ap (λ (h : ℕ). cond (cond (eqb was.place 0) false
-          (ltb (steps_to nests (home_of nests h) nest) (steps_to nests (home_of nests h) (nest_of was.place)))) 1 0) same_hash in
+          (ltb (steps_to nests (home_of nests h) nest) (steps_to nests (home_of nests h) (nest_of was.place)))) 1 0)
+          same_hash in
           let word : passed_at after nest ≡ passed_at words nest =
           get_or-set_other words way.place (8 * nest + 1) number 0 (λ e. absurd (omega (arith, is_place.lane, e))) in
           omega (arith, counts, counts_after, zero_no_way, zero_between, same_pass, word, led.passed nest within_nests);

@@ -1,5 +1,7 @@
 -- There are more lanes than chunks, so one is off; and new nests lead nowhere.
-use Rattle.std.proofs.Common.{◌≡◌, ◌≢◌, ℕ, zero, suc, ◌+◌, ◌-◌, ◌*◌, ◌/◌, ◌%◌, ◌^◌, ◌<◌, ◌≤◌, ◌⊎◌, inl, inr, true, false, cond, eqb, ltb, List, length, replicate, get_or, count_by, refl, sym, ap, ◌∙◌, subst, arith, ⊎_elim}
+use Rattle.std.proofs.Common.{◌≡◌, ◌≢◌, ℕ, zero, suc, ◌+◌, ◌-◌, ◌*◌, ◌/◌, ◌%◌, ◌^◌, ◌<◌, ◌≤◌, ◌⊎◌, inl, inr, true}
+use Rattle.std.proofs.Common.{false, cond, eqb, ltb, List, length, replicate, get_or, count_by, refl, sym, ap, ◌∙◌}
+use Rattle.std.proofs.Common.{subst, arith, ⊎_elim}
 use Rattle.std.proofs.Math.Nat.{zero-div, zero-mod}
 use Rattle.std.proofs.lemmas.Bool.{cases_lt, cases_eq, cond-true, cond-false, eq-eqb, ne_eqb}
 use Rattle.std.proofs.lemmas.List.{get_or_past, get_or-replicate, length-replicate}
@@ -23,7 +25,8 @@ unfolding replaced
 replaced-other f n last i apart = cond-false (eqb (f i) n) last (f i) (ne_eqb (f i) n apart)
 
 -- so many numbers below n with no two equal are at most n
-pub few_below : (n m : ℕ) (f : ℕ → ℕ) → ((i : ℕ) → i < m → f i < n) → ((i j : ℕ) → i < m → j < m → f i ≡ f j → i ≡ j) → m ≤ n
+pub few_below : (n m : ℕ) (f : ℕ → ℕ) → ((i : ℕ) → i < m → f i < n) → ((i j : ℕ) → i < m → j < m → f i ≡ f j
+    → i ≡ j) → m ≤ n
 few_below zero m f within apart =
     ⊎_elim (λ some. let none = within 0 some in absurd (omega (arith, none))) (λ none. none) (cases_lt 0 m)
 few_below (suc n) zero f within apart = omega arith
@@ -34,7 +37,11 @@ few_below (suc n) (suc m) f within apart =
     let m_lt : m < suc m = omega arith in
     let in_n : (i : ℕ) → i < m → g i < n = λ i h. ⊎_elim
     (λ at.
-    let not_last : last ≢ n = λ e. let same = apart i m (lt_m i h) m_lt (at ∙ sym e) in absurd (omega (arith, same, h)) in
+    let not_last : last ≢ n = λ e. let same = apart i m (lt_m i h) m_lt (at ∙ sym e) in absurd (omega (
+      arith,
+      same,
+      h,
+    )) in
     let e = replaced-at f n last i at in
     let top = within m m_lt in
     omega (arith, e, top, not_last))
@@ -119,7 +126,8 @@ new_is_led nests chunks = record {
       let word : passed_at (replicate (8 * nests) 0) nest ≡ 0 = zero_word (8 * nests) (8 * nest + 1) in
       let none = sum_by-replicate (λ (w : Way). one_pass nests nest w) chunks no_way in
       let zero_no_way : one_pass nests nest no_way ≡ 0 = refl in
-      let product : chunks * one_pass nests nest no_way ≡ 0 = ap (λ (n : ℕ). chunks * n) zero_no_way ∙ (let e : chunks * 0 ≡ 0 = omega arith in e) in
+      let product : chunks * one_pass nests nest no_way ≡ 0 = ap (λ (n : ℕ). chunks * n) zero_no_way ∙ (let e :
+      chunks * 0 ≡ 0 = omega arith in e) in
       word ∙ sym (none ∙ product);
 }
 

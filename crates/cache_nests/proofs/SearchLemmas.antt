@@ -1,14 +1,19 @@
 -- What the writer's search has answered before and after an answer.
-use Rattle.std.proofs.Common.{◌≡◌, ◌≢◌, ℕ, ◌+◌, ◌-◌, ◌*◌, ◌/◌, ◌%◌, ◌^◌, ◌<◌, ◌≤◌, ◌⊎◌, inl, inr, true, false, cond, eqb, ltb, Bool, ◌&&◌, ◌||◌, Option, Some, None, List, length, map, get_or, refl, sym, ap, ◌∙◌, subst, arith, ⊎_elim}
+use Rattle.std.proofs.Common.{◌≡◌, ◌≢◌, ℕ, ◌+◌, ◌-◌, ◌*◌, ◌/◌, ◌%◌, ◌^◌, ◌<◌, ◌≤◌, ◌⊎◌, inl, inr, true, false, cond}
+use Rattle.std.proofs.Common.{eqb, ltb, Bool, ◌&&◌, ◌||◌, Option, Some, None, List, length, map, get_or, refl, sym}
+use Rattle.std.proofs.Common.{ap, ◌∙◌, subst, arith, ⊎_elim}
 use Rattle.std.proofs.Math.ListN.{get_or-map}
-use Rattle.std.proofs.lemmas.Bool.{cases_lt, cases_eq, cases_order, cases_Bool, cond-true, cond-false, ltb-true, lt-ltb, le-ltb, eqb-true, eq-eqb, ne_eqb, or_right, or_left}
+use Rattle.std.proofs.lemmas.Bool.{cases_lt, cases_eq, cases_order, cases_Bool, cond-true, cond-false, ltb-true}
+use Rattle.std.proofs.lemmas.Bool.{lt-ltb, le-ltb, eqb-true, eq-eqb, ne_eqb, or_right, or_left}
 use Rattle.cache_nests.specs.declared.led.Led.{Led}
 use Rattle.cache_nests.specs.declared.led.Way.{Way}
 use Rattle.cache_nests.specs.Tags.{lanes, tag_of, tag_in}
-use Rattle.cache_nests.specs.Places.{IsPlace, tag_at, passed_at, nest_of, lane_of, home_of, nest_behind, steps_to, place_in, lane_number, tag_behind}
+use Rattle.cache_nests.specs.Places.{IsPlace, tag_at, passed_at, nest_of, lane_of, home_of, nest_behind, steps_to}
+use Rattle.cache_nests.specs.Places.{place_in, lane_number, tag_behind}
 use Rattle.cache_nests.specs.Leads.{life_number, no_way, led_by, way_to, passes, LeadsTo, AreLed, IsRoomy}
 use Rattle.cache_nests.specs.Views.{IndexView, SearchView, index_view, led_at, has_tag, has_looked, has_answered}
-use Rattle.cache_nests.proofs.StepsLemmas.{home_of-lt, nest_behind-lt, steps_to-lt, steps_to-nest_behind, nest_behind-steps_to}
+use Rattle.cache_nests.proofs.StepsLemmas.{home_of-lt, nest_behind-lt, steps_to-lt, steps_to-nest_behind}
+use Rattle.cache_nests.proofs.StepsLemmas.{nest_behind-steps_to}
 use Rattle.cache_nests.proofs.LedLemmas.{life_chunk, life_generation, chunk_fits, one_chunk, place_some, tag_some}
 use Rattle.cache_nests.proofs.ChangeLemmas.{some_pass}
 
@@ -23,7 +28,8 @@ answered nests search way = has_tag search.hash (led_by way) && has_looked nests
 pub led_at-way : (ways : List Way) (chunk : ℕ) → led_at (map led_by ways) chunk ≡ led_by (way_to ways chunk)
 led_at-way ways chunk = get_or-map led_by ways chunk no_way
 
-place_at-way : (ways : List Way) (chunk : ℕ) → get_or (map (λ (w : Way). w.place) ways) chunk 0 ≡ (way_to ways chunk).place
+place_at-way : (ways : List Way) (chunk : ℕ) → get_or (map (λ (w : Way). w.place) ways) chunk 0 ≡ (way_to ways
+    chunk).place
 place_at-way ways chunk = get_or-map (λ (w : Way). w.place) ways chunk no_way
 
 pub has_answered-way : (nests : ℕ) (ways : List Way) (search : SearchView) (chunk : ℕ)
@@ -31,17 +37,23 @@ pub has_answered-way : (nests : ℕ) (ways : List Way) (search : SearchView) (ch
 has_answered-way nests ways search chunk =
     ap (λ (o : Option Led). has_tag search.hash o
     && has_looked nests search (get_or (map (λ (w : Way). w.place) ways) chunk 0)) (led_at-way ways chunk)
-    ∙ ap (λ (p : ℕ). has_tag search.hash (led_by (way_to ways chunk)) && has_looked nests search p) (place_at-way ways chunk)
+    ∙ ap (λ (p : ℕ). has_tag search.hash (led_by (way_to ways chunk)) && has_looked nests search p) (place_at-way
+    ways chunk)
 
 -- a way that leads somewhere, and one that doesn't
-pub led_by-some : (way : Way) → 0 < way.place → led_by way ≡ Some (record { hash = way.hash; generation = way.generation })
+pub led_by-some : (way : Way) → 0 < way.place → led_by way ≡ Some (record {
+  hash = way.hash;
+  generation =
+      way.generation;
+})
 led_by-some way some =
     cond-false (eqb way.place 0) None (Some (record { hash = way.hash; generation = way.generation }))
     (ne_eqb way.place 0 (λ e. absurd (omega (arith, e, some))))
 
 pub led_by-none : (way : Way) → way.place ≡ 0 → led_by way ≡ None
 led_by-none way none =
-    cond-true (eqb way.place 0) None (Some (record { hash = way.hash; generation = way.generation })) (eq-eqb way.place 0 none)
+    cond-true (eqb way.place 0) None (Some (record { hash = way.hash; generation = way.generation })) (eq-eqb
+    way.place 0 none)
 
 answered-none : (nests : ℕ) (search : SearchView) (way : Way) → way.place ≡ 0 → answered nests search way ≡ false
 answered-none nests search way none =
@@ -52,7 +64,8 @@ answered-some : (nests : ℕ) (search : SearchView) (way : Way) → 0 < way.plac
 answered-some nests search way some =
     ap (λ (o : Option Led). has_tag search.hash o && has_looked nests search way.place) (led_by-some way some)
 
-answered-other : (nests : ℕ) (search : SearchView) (way : Way) → 0 < way.place → eqb (tag_of way.hash) (tag_of search.hash) ≡ false
+answered-other : (nests : ℕ) (search : SearchView) (way : Way) → 0 < way.place
+    → eqb (tag_of way.hash) (tag_of search.hash) ≡ false
     → answered nests search way ≡ false
 answered-other nests search way some other =
     answered-some nests search way some ∙ ap (λ (b : Bool). b && has_looked nests search way.place) other
@@ -83,11 +96,15 @@ pub tag_behind-place : (nests home place : ℕ) (words : List ℕ) → home < ne
 tag_behind-place nests home place words in_home is =
     let steps = steps_to nests home (nest_of place) in
     let few : lane_of place < 6 = omega arith in
-    ap (λ (s : ℕ). tag_in (get_or words (8 * nest_behind nests home s) 0) (lane_number nests home place % 6)) (number-nest steps (lane_of place) few)
-    ∙ (ap (λ (l : ℕ). tag_in (get_or words (8 * nest_behind nests home steps) 0) l) (number-lane steps (lane_of place) few)
-    ∙ ap (λ (n : ℕ). tag_in (get_or words (8 * n) 0) (lane_of place)) (nest_behind-steps_to nests home (nest_of place) in_home is.nest))
+    ap (λ (s : ℕ). tag_in (get_or words (8 * nest_behind nests home s) 0) (lane_number nests home place % 6))
+    (number-nest steps (lane_of place) few)
+    ∙ (ap (λ (l : ℕ). tag_in (get_or words (8 * nest_behind nests home steps) 0) l) (number-lane steps (lane_of
+    place) few)
+    ∙ ap (λ (n : ℕ). tag_in (get_or words (8 * n) 0) (lane_of place)) (nest_behind-steps_to nests home (nest_of
+    place) in_home is.nest))
 
-pub lane_number-lt : (nests home place : ℕ) → home < nests → IsPlace nests place → lane_number nests home place < 6 * nests
+pub lane_number-lt : (nests home place : ℕ) → home < nests → IsPlace nests place
+    → lane_number nests home place < 6 * nests
 lane_number-lt nests home place in_home is =
     let steps = steps_to-lt nests home (nest_of place) in_home is.nest in
     let few : lane_of place < 6 = omega arith in
@@ -98,11 +115,17 @@ lane_number-one : (nests home place other : ℕ) → home < nests → IsPlace ne
 lane_number-one nests home place other in_home is is_other same =
     let few : lane_of place < 6 = omega arith in
     let few_other : lane_of other < 6 = omega arith in
-    let steps : steps_to nests home (nest_of place) ≡ steps_to nests home (nest_of other) = omega (arith, same, few, few_other) in
+    let steps : steps_to nests home (nest_of place) ≡ steps_to nests home (nest_of other) = omega (
+      arith,
+      same,
+      few,
+      few_other,
+    ) in
     let lane : lane_of place ≡ lane_of other = omega (arith, same, steps) in
     let nest : nest_of place ≡ nest_of other =
     sym (nest_behind-steps_to nests home (nest_of place) in_home is.nest)
-    ∙ (ap (λ (s : ℕ). nest_behind nests home s) steps ∙ nest_behind-steps_to nests home (nest_of other) in_home is_other.nest) in
+    ∙ (ap (λ (s : ℕ). nest_behind nests home s) steps ∙ nest_behind-steps_to nests home (nest_of other) in_home
+    is_other.nest) in
     omega (arith, lane, nest, is.lane, is_other.lane)
 
 -- the place of the lane with a number
@@ -114,7 +137,8 @@ place_at-is nests home at in_home within =
     let nest = nest_behind-lt nests home (at / 6) in_home (omega arith) in
     record { nest = omega (arith, nest); lane = omega arith }
 
-place_at-number : (nests home at : ℕ) → home < nests → at < 6 * nests → lane_number nests home (place_at nests home at) ≡ at
+place_at-number : (nests home at : ℕ) → home < nests → at < 6 * nests
+    → lane_number nests home (place_at nests home at) ≡ at
 place_at-number nests home at in_home within =
     let nest = nest_behind nests home (at / 6) in
     let of : nest_of (place_in nest (at % 6)) ≡ nest = omega arith in
@@ -135,7 +159,8 @@ pub record IsFound (nests : ℕ) (words : List ℕ) (ways : List Way) (hash from
   pub over : from ≤ at
   pub within : at < 6 * nests
   pub found : tag_behind words nests (home_of nests hash) at ≡ tag_of hash
-  pub first : (number : ℕ) → from ≤ number → number < at → tag_behind words nests (home_of nests hash) number ≢ tag_of hash
+  pub first : (number : ℕ) → from ≤ number → number < at → tag_behind words nests (home_of nests hash) number ≢
+      tag_of hash
 
 module _ (nests : ℕ) (words : List ℕ) (ways : List Way) (hash from at : ℕ) where
   abbrev pub found_place : ℕ
@@ -183,23 +208,28 @@ module _ (nests : ℕ) (words : List ℕ) (ways : List Way) (hash from at : ℕ)
       ∙ ap (λ (g : ℕ). Some (record { hash = way.hash; generation = g })) (sym generation)
 
   -- it wasn't answered before
-  pub found_anew : IsFound nests words ways hash from at → answered nests (search_at hash from) (way_to ways found_chunk) ≡ false
+  pub found_anew : IsFound nests words ways hash from at → answered nests (search_at hash from) (way_to ways
+      found_chunk) ≡ false
   found_anew it =
       let way = way_to ways found_chunk in
       answered-tagged nests (search_at hash from) way (found_some it) (found_same_tag it)
       ∙ looked-no nests hash from way.place
-      (let n = ap (λ (p : ℕ). lane_number nests (home_of nests hash) p) (found_back it) ∙ found_number it in omega (arith, n, it.over))
+      (let n = ap (λ (p : ℕ). lane_number nests (home_of nests hash) p) (found_back it) ∙ found_number it in omega
+      (arith, n, it.over))
 
-  found_now : IsFound nests words ways hash from at → answered nests (search_at hash (at + 1)) (way_to ways found_chunk) ≡ true
+  found_now : IsFound nests words ways hash from at → answered nests (search_at hash (at + 1)) (way_to ways
+      found_chunk) ≡ true
   found_now it =
       let way = way_to ways found_chunk in
       answered-tagged nests (search_at hash (at + 1)) way (found_some it) (found_same_tag it)
       ∙ looked-yes nests hash (at + 1) way.place
-      (let n = ap (λ (p : ℕ). lane_number nests (home_of nests hash) p) (found_back it) ∙ found_number it in omega (arith, n))
+      (let n = ap (λ (p : ℕ). lane_number nests (home_of nests hash) p) (found_back it) ∙ found_number it in omega
+      (arith, n))
 
   -- every other chunk was answered before where it is after
   found_rest : IsFound nests words ways hash from at → (chunk : ℕ) → chunk ≢ found_chunk
-      → answered nests (search_at hash (at + 1)) (way_to ways chunk) ≡ answered nests (search_at hash from) (way_to ways chunk)
+      → answered nests (search_at hash (at + 1)) (way_to ways chunk) ≡ answered nests (search_at hash from) (way_to
+      ways chunk)
   found_rest it chunk apart =
       let way = way_to ways chunk in
       let number = lane_number nests (home_of nests hash) way.place in
@@ -213,14 +243,17 @@ module _ (nests : ℕ) (words : List ℕ) (ways : List Way) (hash from at : ℕ)
       let tag : tag_behind words nests (home_of nests hash) number ≡ tag_of hash =
       tag_behind-place nests (home_of nests hash) way.place words it.home leads.place ∙ (leads.tag ∙ same) in
       let looked : has_looked nests after way.place ≡ has_looked nests before way.place = ⊎_elim
-      (λ below. looked-yes nests hash (at + 1) way.place (let o = it.over in omega (arith, below, o)) ∙ sym (looked-yes nests hash from way.place below))
+      (λ below. looked-yes nests hash (at + 1) way.place (let o = it.over in omega (arith, below, o)) ∙ sym
+      (looked-yes nests hash from way.place below))
       (λ not_before. ⊎_elim
       (λ is_at. absurd (apart (one_chunk nests words ways found_chunk chunk it.led it.roomy (found_some it)
-      (lane_number-one nests (home_of nests hash) way.place found_place it.home leads.place (found_is it) (is_at ∙ sym (found_number it))
+      (lane_number-one nests (home_of nests hash) way.place found_place it.home leads.place (found_is it) (is_at ∙
+      sym (found_number it))
       ∙ sym (found_back it)))))
       (λ sides. ⊎_elim
       (λ before_at. absurd (it.first number not_before before_at tag))
-      (λ behind_at. looked-no nests hash (at + 1) way.place (omega (arith, behind_at)) ∙ sym (looked-no nests hash from way.place not_before))
+      (λ behind_at. looked-no nests hash (at + 1) way.place (omega (arith, behind_at)) ∙ sym (looked-no nests hash
+      from way.place not_before))
       sides)
       (cases_order number at))
       (cases_lt number from) in
@@ -240,11 +273,13 @@ module _ (nests : ℕ) (words : List ℕ) (ways : List Way) (hash from at : ℕ)
       (λ same.
       ap (λ (c : ℕ). answered nests (search_at hash (at + 1)) (way_to ways c)) same
       ∙ (found_now it
-      ∙ sym (or_right (answered nests (search_at hash from) (way_to ways chunk)) (eqb chunk found_chunk) (eq-eqb chunk found_chunk same))))
+      ∙ sym (or_right (answered nests (search_at hash from) (way_to ways chunk)) (eqb chunk found_chunk) (eq-eqb
+      chunk found_chunk same))))
       (λ apart.
       found_rest it chunk apart
       ∙ (or_none (answered nests (search_at hash from) (way_to ways chunk))
-      ∙ ap (λ (b : Bool). answered nests (search_at hash from) (way_to ways chunk) || b) (sym (ne_eqb chunk found_chunk apart))))
+      ∙ ap (λ (b : Bool). answered nests (search_at hash from) (way_to ways chunk) || b) (sym (ne_eqb chunk
+      found_chunk apart))))
       (cases_eq chunk found_chunk)
 
 -- where no lane that keys of the hash could be in is left, each chunk with this very hash was answered
@@ -274,7 +309,8 @@ all_answered nests words ways hash from led in_home none chunk some same =
     let nest = nest_behind nests home steps in
     let in_nests = nest_behind-lt nests home steps in_home few in
     let back = steps_to-nest_behind nests home steps in_home few in
-    let P : ℕ → Type 0 = λ h. steps_to nests (home_of nests h) nest < steps_to nests (home_of nests h) (nest_of way.place) in
+    let P : ℕ → Type 0 = λ h. steps_to nests (home_of nests h) nest < steps_to nests (home_of nests h) (nest_of
+    way.place) in
     some_pass nests words ways chunk led some nest in_nests (subst P (sym same) (omega (arith, back, near))))
     (tag_behind-place nests home way.place words in_home leads.place ∙ (leads.tag ∙ same_tag))))
     (cases_lt number from)

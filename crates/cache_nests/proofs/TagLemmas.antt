@@ -1,6 +1,8 @@
 -- The tag of one lane is written, and those of the others stay.
-use Rattle.std.proofs.Common.{◌≡◌, ◌≢◌, ℕ, zero, suc, ◌+◌, ◌-◌, ◌*◌, ◌/◌, ◌%◌, ◌^◌, ◌<◌, ◌≤◌, ◌⊎◌, inl, inr, refl, sym, ap, ◌∙◌, subst, arith, ⊎_elim}
-use Rattle.std.proofs.Math.Nat.{div-div-eq-div-mul, add-mul-div_left, add-mul-mod_self_left, mod-lt, mod-eq_of_lt, div-add-mod, div-lt_iff_lt-mul, mul-le-mul_left}
+use Rattle.std.proofs.Common.{◌≡◌, ◌≢◌, ℕ, zero, suc, ◌+◌, ◌-◌, ◌*◌, ◌/◌, ◌%◌, ◌^◌, ◌<◌, ◌≤◌, ◌⊎◌, inl, inr, refl}
+use Rattle.std.proofs.Common.{sym, ap, ◌∙◌, subst, arith, ⊎_elim}
+use Rattle.std.proofs.Math.Nat.{div-div-eq-div-mul, add-mul-div_left, add-mul-mod_self_left, mod-lt, mod-eq_of_lt}
+use Rattle.std.proofs.Math.Nat.{div-add-mod, div-lt_iff_lt-mul, mul-le-mul_left}
 use Rattle.std.proofs.Math.Pow.{pow-lt}
 use Rattle.std.proofs.lemmas.Nat.{pow-add, pow_pos, div-mul-add, mod-mul-add}
 use Rattle.std.proofs.lemmas.Bool.{cases_lt}
@@ -32,12 +34,14 @@ with_bits-div w p t some =
 
 bits_here : (w p t : ℕ) → 0 < p → t < 256 → with_bits w p t / p % 256 ≡ t
 bits_here w p t some few =
-    ap (λ (n : ℕ). n % 256) (with_bits-div w p t some ∙ (let e : 256 * (w / p / 256) + t ≡ w / p / 256 * 256 + t = omega arith in e))
+    ap (λ (n : ℕ). n % 256) (with_bits-div w p t some ∙ (let e : 256 * (w / p / 256) + t ≡ w / p / 256 * 256 + t =
+    omega arith in e))
     ∙ mod-mul-add (w / p / 256) 256 t few
 
 bits_above_p : (w p t : ℕ) → 0 < p → t < 256 → with_bits w p t / p / 256 ≡ w / p / 256
 bits_above_p w p t some few =
-    ap (λ (n : ℕ). n / 256) (with_bits-div w p t some ∙ (let e : 256 * (w / p / 256) + t ≡ w / p / 256 * 256 + t = omega arith in e))
+    ap (λ (n : ℕ). n / 256) (with_bits-div w p t some ∙ (let e : 256 * (w / p / 256) + t ≡ w / p / 256 * 256 + t =
+    omega arith in e))
     ∙ div-mul-add (w / p / 256) 256 t few
 
 bits_above : (w p r t : ℕ) → 0 < p → t < 256 → with_bits w p t / (p * (256 * r)) ≡ w / (p * (256 * r))
@@ -61,7 +65,8 @@ bits_below w q r t some =
     let after : with_bits w p t ≡ w % p + q * (256 * (r * z)) =
     with_bits-parts w p t ∙ (let e : w % p + p * z ≡ w % p + q * (256 * (r * z)) = omega arith in e) in
     let before : w ≡ w % p + q * (256 * (r * y)) =
-    parts w p ∙ (let e : w % p + (p * (w / p % 256) + p * (256 * (w / p / 256))) ≡ w % p + q * (256 * (r * y)) = omega arith in e) in
+    parts w p ∙ (let e : w % p + (p * (w / p % 256) + p * (256 * (w / p / 256))) ≡ w % p + q * (256 * (r * y)) =
+    omega arith in e) in
     ap (λ (n : ℕ). n / q % 256) after
     ∙ bits_below_any (w % p) q r z some
     ∙ sym (bits_below_any (w % p) q r y some)
@@ -82,20 +87,24 @@ tag_before w lane more t =
     let P : ℕ → Type 0 = λ p. with_bits w p t / 2 ^ (8 * lane) % 256 ≡ tag_in w lane in
     subst P (sym (lane_behind lane more)) (bits_below w (2 ^ (8 * lane)) (2 ^ (8 * more)) t (pow_pos (8 * lane)))
 
-tag_after : (w lane more t : ℕ) → t < 256 → tag_in (with_bits w (2 ^ (8 * lane)) t) (lane + (1 + more)) ≡ tag_in w (lane + (1 + more))
+tag_after : (w lane more t : ℕ) → t < 256 → tag_in (with_bits w (2 ^ (8 * lane)) t) (lane + (1 + more)) ≡ tag_in w
+    (lane + (1 + more))
 tag_after w lane more t few =
     let P : ℕ → Type 0 = λ p. with_bits w (2 ^ (8 * lane)) t / p % 256 ≡ w / p % 256 in
     subst P (sym (lane_behind lane more))
     (ap (λ (n : ℕ). n % 256) (bits_above w (2 ^ (8 * lane)) (2 ^ (8 * more)) t (pow_pos (8 * lane)) few))
 
 -- every other lane has the tag that it had
-pub tag_elsewhere : (w lane t other : ℕ) → t < 256 → other ≢ lane → tag_in (with_bits w (2 ^ (8 * lane)) t) other ≡ tag_in w other
+pub tag_elsewhere : (w lane t other : ℕ) → t < 256 → other ≢ lane
+    → tag_in (with_bits w (2 ^ (8 * lane)) t) other ≡ tag_in w other
 tag_elsewhere w lane t other few apart =
     ⊎_elim
     (λ before. let P : ℕ → Type 0 = λ l. tag_in (with_bits w (2 ^ (8 * l)) t) other ≡ tag_in w other in
-    subst P (let e : other + (1 + (lane - other - 1)) ≡ lane = omega arith in e) (tag_before w other (lane - other - 1) t))
+    subst P (let e : other + (1 + (lane - other - 1)) ≡ lane = omega arith in e) (tag_before w other (lane - other -
+    1) t))
     (λ behind. let P : ℕ → Type 0 = λ l. tag_in (with_bits w (2 ^ (8 * lane)) t) l ≡ tag_in w l in
-    subst P (let e : lane + (1 + (other - lane - 1)) ≡ other = omega arith in e) (tag_after w lane (other - lane - 1) t few))
+    subst P (let e : lane + (1 + (other - lane - 1)) ≡ other = omega arith in e) (tag_after w lane (other - lane - 1)
+    t few))
     (cases_lt other lane)
 
 -- the bits of the first six lanes stand below 2 ^ 64
@@ -122,7 +131,8 @@ tags_fit w lane t lane_few few fits =
     let P : ℕ → Type 0 = λ n. with_bits w (2 ^ (8 * lane)) t < n in
     let Q : ℕ → Type 0 = λ n. w < n in
     subst P (lane_room lane lane_few)
-    (with_bits-lt w (2 ^ (8 * lane)) (2 ^ (56 - 8 * lane)) t (pow_pos (8 * lane)) few (subst Q (sym (lane_room lane lane_few)) fits))
+    (with_bits-lt w (2 ^ (8 * lane)) (2 ^ (56 - 8 * lane)) t (pow_pos (8 * lane)) few (subst Q (sym (lane_room lane
+    lane_few)) fits))
 
 pub tag_fits : (lane t : ℕ) → lane < 6 → t < 256 → t * 2 ^ (8 * lane) < 2 ^ 64
 tag_fits lane t lane_few few =

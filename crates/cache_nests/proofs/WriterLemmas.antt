@@ -1,5 +1,8 @@
 -- What the writer's calls need of the index, over plain values.
-use Rattle.std.proofs.Common.{◌≡◌, ◌≢◌, ℕ, zero, suc, ◌+◌, ◌-◌, ◌*◌, ◌/◌, ◌%◌, ◌^◌, ◌<◌, ◌≤◌, ◌⊎◌, inl, inr, true, false, cond, eqb, ltb, Option, Some, None, IsSome, List, [], ◌∷◌, length, map, replicate, set, get_or, refl, sym, ap, ◌∙◌, subst, arith, ⊎_elim, length-set, get_or-set_other}
+use Rattle.std.proofs.Common.{◌≡◌, ◌≢◌, ℕ, zero, suc, ◌+◌, ◌-◌, ◌*◌, ◌/◌, ◌%◌, ◌^◌, ◌<◌, ◌≤◌, ◌⊎◌, inl, inr, true}
+use Rattle.std.proofs.Common.{false, cond, eqb, ltb, Option, Some, None, IsSome, List, [], ◌∷◌, length, map}
+use Rattle.std.proofs.Common.{replicate, set, get_or, refl, sym, ap, ◌∙◌, subst, arith, ⊎_elim, length-set}
+use Rattle.std.proofs.Common.{get_or-set_other}
 use Rattle.std.specs.Int.{bit_at, trailing_zeros}
 use Rattle.std.proofs.Common.{w64}
 use Rattle.std.proofs.lemmas.Bool.{cases_lt, cases_eq, false≢true}
@@ -12,7 +15,8 @@ use Rattle.cache_nests.specs.Places.{IsPlace, tag_at, passed_at, nest_of, lane_o
 use Rattle.cache_nests.specs.Changes.{OneMorePassed, HasNewTag}
 use Rattle.cache_nests.specs.Leads.{life_number, no_way, led_by, way_to, passes, LeadsTo, AreLed, IsRoomy}
 use Rattle.cache_nests.specs.Views.{IndexView, index_view, led_at, with_generation}
-use Rattle.cache_nests.proofs.StepsLemmas.{home_of-lt, nest_behind-lt, steps_to-lt, steps_to-nest_behind, nest_behind-steps_to, one_more_passed, one_less_passed, not_yet}
+use Rattle.cache_nests.proofs.StepsLemmas.{home_of-lt, nest_behind-lt, steps_to-lt, steps_to-nest_behind}
+use Rattle.cache_nests.proofs.StepsLemmas.{nest_behind-steps_to, one_more_passed, one_less_passed, not_yet}
 use Rattle.cache_nests.proofs.LedLemmas.{laid_is_led, lifted_is_led, led_anew, chunk_of_way}
 use Rattle.cache_nests.proofs.ChangeLemmas.{put_lays, clear_lifts, some_pass}
 use Rattle.cache_nests.proofs.SearchLemmas.{led_at-way, led_by-some, led_by-none}
@@ -26,7 +30,10 @@ some_way v nests ways chunk seen is =
     let P : IndexView → Type 0 = λ u. IsSome (led_at u.table chunk) in
     let Q : Option Led → Type 0 = λ o. IsSome o in
     let gone : led_at (map led_by ways) chunk ≡ None =
-    led_at-way ways chunk ∙ led_by-none (way_to ways chunk) (let e : (way_to ways chunk).place ≡ 0 = omega (arith, none) in e) in
+    led_at-way ways chunk ∙ led_by-none (way_to ways chunk) (let e : (way_to ways chunk).place ≡ 0 = omega (
+      arith,
+      none,
+    ) in e) in
     absurd (false≢true (subst Q gone (subst P seen is))))
     (cases_lt 0 (way_to ways chunk).place)
 
@@ -52,7 +59,8 @@ chunk_within v nests ways chunk seen within =
 pub place_like : (n m p q : ℕ) → n ≡ m → p ≡ q → IsPlace m q → IsPlace n p
 place_like n m p q e f is = record { nest = (let h = is.nest in omega arith); lane = (let h = is.lane in omega arith) }
 
-pub roomy_set : (nests : ℕ) (ways : List Way) (chunk : ℕ) (way : Way) → IsRoomy nests ways → IsRoomy nests (set ways chunk way)
+pub roomy_set : (nests : ℕ) (ways : List Way) (chunk : ℕ) (way : Way) → IsRoomy nests ways
+    → IsRoomy nests (set ways chunk way)
 roomy_set nests ways chunk way roomy =
     let size = length-set ways chunk way in
     record {
@@ -62,7 +70,8 @@ roomy_set nests ways chunk way roomy =
     }
 
 -- one more nest counts a key, in what the code reads and writes
-pub pass_step : (nests home steps nest value : ℕ) (before old mid new : List ℕ) → OneMorePassed nests home steps before old
+pub pass_step : (nests home steps nest value : ℕ) (before old mid new : List ℕ)
+    → OneMorePassed nests home steps before old
     → home < nests → steps < nests → nest ≡ nest_behind nests home steps → length old ≡ 8 * nests
     → mid ≡ old → value ≡ passed_at old nest → new ≡ set mid (8 * nest + 1) (value + 1)
     → OneMorePassed nests home (steps + 1) before new
@@ -73,8 +82,10 @@ pass_step nests home steps nest value before old mid new so_far in_home in_steps
     ∙ ap (λ (n : ℕ). set old (8 * nest + 1) (n + 1)) is) in
     subst P (sym there) (one_more_passed nests home steps nest before old so_far in_home in_steps at full)
 
-pub unpass_step : (nests home steps nest value : ℕ) (before old mid new : List ℕ) → OneMorePassed nests home steps old before
-    → home < nests → steps < nests → nest ≡ nest_behind nests home steps → length old ≡ 8 * nests → 0 < passed_at old nest
+pub unpass_step : (nests home steps nest value : ℕ) (before old mid new : List ℕ)
+    → OneMorePassed nests home steps old before
+    → home < nests → steps < nests → nest ≡ nest_behind nests home steps → length old ≡ 8 * nests → 0 < passed_at old
+    nest
     → mid ≡ old → value ≡ passed_at old nest → new ≡ set mid (8 * nest + 1) (value - 1)
     → OneMorePassed nests home (steps + 1) new before
 unpass_step nests home steps nest value before old mid new so_far in_home in_steps at full some same is next =
@@ -90,7 +101,8 @@ pub still_counts : (nests home steps far nest : ℕ) (before old : List ℕ) →
     → ((n : ℕ) → n < nests → steps_to nests home n < far → 0 < passed_at before n) → 0 < passed_at old nest
 still_counts nests home steps far nest before old so_far in_home in_steps at nearer counted =
     let same = not_yet nests home steps nest old before so_far in_home in_steps at in
-    let within : nest < nests = (let P : ℕ → Type 0 = λ n. n < nests in subst P (sym at) (nest_behind-lt nests home steps in_home in_steps)) in
+    let within : nest < nests = (let P : ℕ → Type 0 = λ n. n < nests in subst P (sym at) (nest_behind-lt nests home
+    steps in_home in_steps)) in
     let behind : steps_to nests home nest ≡ steps =
     ap (λ (n : ℕ). steps_to nests home n) at ∙ steps_to-nest_behind nests home steps in_home in_steps in
     let some = counted nest within (let e : steps_to nests home nest < far = omega (arith, behind, nearer) in e) in
@@ -105,26 +117,32 @@ all_on nests home words steps in_home all on place is =
     let P : ℕ → Type 0 = λ n. 0 < tag_in (get_or words (8 * n) 0) (lane_of place) in
     let near = steps_to-lt nests home (nest_of place) in_home is.nest in
     subst P (nest_behind-steps_to nests home (nest_of place) in_home is.nest)
-    (on s (lane_of place) (let e : s < steps = omega (arith, near, all) in e) (let e : lane_of place < 6 = omega arith in e))
+    (on s (lane_of place) (let e : s < steps = omega (arith, near, all) in e) (let e : lane_of place < 6 = omega
+    arith in e))
 
 -- after the lane goes off, the nests on the way count the key still
-pub clear_passed : (nests n0 n1 : ℕ) (words off : List ℕ) (ways : List Way) (chunk : ℕ) (way : Way) → n0 ≡ nests → n1 ≡ nests
+pub clear_passed : (nests n0 n1 : ℕ) (words off : List ℕ) (ways : List Way) (chunk : ℕ) (way : Way) → n0 ≡ nests
+    → n1 ≡ nests
     → AreLed nests words ways → 0 < (way_to ways chunk).place → way ≡ way_to ways chunk
     → HasNewTag n0 way.place 0 words off
-    → (nest : ℕ) → nest < n1 → steps_to n1 (home_of n1 way.hash) nest < steps_to n1 (home_of n1 way.hash) (nest_of way.place)
+    → (nest : ℕ) → nest < n1 → steps_to n1 (home_of n1 way.hash) nest < steps_to n1 (home_of n1 way.hash) (nest_of
+    way.place)
     → 0 < passed_at off nest
 clear_passed nests n0 n1 words off ways chunk way e0 e1 led some is tag =
     let Q : ℕ → Type 0 = λ n. (nest : ℕ) → nest < n
-    → steps_to n (home_of n way.hash) nest < steps_to n (home_of n way.hash) (nest_of way.place) → 0 < passed_at off nest in
+    → steps_to n (home_of n way.hash) nest < steps_to n (home_of n way.hash) (nest_of way.place) → 0 < passed_at off
+    nest in
     let R : Way → Type 0 = λ w. (nest : ℕ) → nest < nests
-    → steps_to nests (home_of nests w.hash) nest < steps_to nests (home_of nests w.hash) (nest_of w.place) → 0 < passed_at off nest in
+    → steps_to nests (home_of nests w.hash) nest < steps_to nests (home_of nests w.hash) (nest_of w.place) → 0 <
+    passed_at off nest in
     subst Q (sym e1) (subst R (sym is) (λ nest within nearer.
     let word = tag.others (8 * nest + 1) (λ e. absurd (omega (arith, e))) in
     let counted = some_pass nests words ways chunk led some nest within nearer in
     omega (arith, word, counted)))
 
 -- after clear the words and the ways agree
-pub clear_led : (nests n0 n1 : ℕ) (words off after : List ℕ) (ways : List Way) (chunk : ℕ) (way : Way) → n0 ≡ nests → n1 ≡ nests
+pub clear_led : (nests n0 n1 : ℕ) (words off after : List ℕ) (ways : List Way) (chunk : ℕ) (way : Way) → n0 ≡ nests
+    → n1 ≡ nests
     → AreLed nests words ways → IsRoomy nests ways → 0 < (way_to ways chunk).place → way ≡ way_to ways chunk
     → HasNewTag n0 way.place 0 words off
     → OneMorePassed n1 (home_of n1 way.hash) (steps_to n1 (home_of n1 way.hash) (nest_of way.place)) after off
@@ -133,40 +151,54 @@ clear_led nests n0 n1 words off after ways chunk way e0 e1 led roomy some is tag
     let w = way_to ways chunk in
     let P : ℕ → Type 0 = λ n. HasNewTag n way.place 0 words off in
     let P2 : Way → Type 0 = λ v. HasNewTag nests v.place 0 words off in
-    let Q : ℕ → Type 0 = λ n. OneMorePassed n (home_of n way.hash) (steps_to n (home_of n way.hash) (nest_of way.place)) after off in
-    let Q2 : Way → Type 0 = λ v. OneMorePassed nests (home_of nests v.hash) (steps_to nests (home_of nests v.hash) (nest_of v.place)) after off in
+    let Q : ℕ → Type 0 = λ n. OneMorePassed n (home_of n way.hash) (steps_to n (home_of n way.hash) (nest_of
+    way.place)) after off in
+    let Q2 : Way → Type 0 = λ v. OneMorePassed nests (home_of nests v.hash) (steps_to nests (home_of nests v.hash)
+    (nest_of v.place)) after off in
     lifted_is_led nests words after ways chunk led roomy some
-    (clear_lifts nests words off after w (led.leads chunk some).place (subst P2 is (subst P e0 tag)) (subst Q2 is (subst Q e1 passed)))
+    (clear_lifts nests words off after w (led.leads chunk some).place (subst P2 is (subst P e0 tag)) (subst Q2 is
+    (subst Q e1 passed)))
 
 -- after put the words and the ways agree
-pub put_led : (nests n0 n1 tag number : ℕ) (words counted laid tagged : List ℕ) (ways : List Way) (chunk : ℕ) (way : Way) → n0 ≡ nests → n1 ≡ nests
+pub put_led : (nests n0 n1 tag number : ℕ) (words counted laid tagged : List ℕ) (ways : List Way) (chunk : ℕ) (way :
+    Way) → n0 ≡ nests → n1 ≡ nests
     → AreLed nests words ways → IsRoomy nests ways → chunk < length ways → (way_to ways chunk).place ≡ 0
     → IsPlace nests way.place → tag_at words way.place ≡ 0
     → OneMorePassed n0 (home_of n0 way.hash) (steps_to n0 (home_of n0 way.hash) (nest_of way.place)) words counted
     → laid ≡ set counted way.place number → number ≡ life_number chunk way.generation
     → tag ≡ tag_of way.hash → HasNewTag n1 way.place tag laid tagged
     → AreLed nests tagged (set ways chunk way)
-put_led nests n0 n1 tag number words counted laid tagged ways chunk way e0 e1 led roomy within none is off passed laid_is number_is tag_is tagged_is =
-    let Q : ℕ → Type 0 = λ n. OneMorePassed n (home_of n way.hash) (steps_to n (home_of n way.hash) (nest_of way.place)) words counted in
+put_led nests n0 n1 tag number words counted laid tagged ways chunk way e0 e1 led roomy within none is off passed
+    laid_is number_is tag_is tagged_is =
+    let Q : ℕ → Type 0 = λ n. OneMorePassed n (home_of n way.hash) (steps_to n (home_of n way.hash) (nest_of
+    way.place)) words counted in
     let P : ℕ → Type 0 = λ n. HasNewTag n way.place tag laid tagged in
     let P2 : ℕ → Type 0 = λ t. HasNewTag nests way.place t laid tagged in
     let P3 : List ℕ → Type 0 = λ ws. HasNewTag nests way.place (tag_of way.hash) ws tagged in
     let there : laid ≡ set counted way.place (life_number chunk way.generation) =
     laid_is ∙ ap (λ (n : ℕ). set counted way.place n) number_is in
     laid_is_led nests words tagged ways chunk way led roomy within none is off
-    (put_lays nests words counted tagged chunk way led.size is (subst Q e0 passed) (subst P3 there (subst P2 tag_is (subst P e1 tagged_is))))
+    (put_lays nests words counted tagged chunk way led.size is (subst Q e0 passed) (subst P3 there (subst P2 tag_is
+    (subst P e1 tagged_is))))
 
 -- what the table has after put, lead and clear
-pub table_set : (v : IndexView) (nests : ℕ) (ways : List Way) (chunk : ℕ) (way : Way) (led : Option Led) → v ≡ index_view nests ways
+pub table_set : (v : IndexView) (nests : ℕ) (ways : List Way) (chunk : ℕ) (way : Way) (led : Option Led)
+    → v ≡ index_view nests ways
     → led_by way ≡ led → map led_by (set ways chunk way) ≡ set v.table chunk led
 table_set v nests ways chunk way led seen is =
     map-set led_by ways chunk way
     ∙ (ap (λ (o : Option Led). set (map led_by ways) chunk o) is
     ∙ ap (λ (u : IndexView). set u.table chunk led) (sym seen))
 
-pub table_led : (v : IndexView) (nests : ℕ) (ways : List Way) (old chunk generation : ℕ) (way : Way) → v ≡ index_view nests ways
+pub table_led : (v : IndexView) (nests : ℕ) (ways : List Way) (old chunk generation : ℕ) (way : Way)
+    → v ≡ index_view nests ways
     → 0 < (way_to ways old).place → way ≡ way_to ways old
-    → map led_by (set (set ways old no_way) chunk (record { hash = way.hash; generation = generation; place = way.place }))
+    → map led_by (set (set ways old no_way) chunk (record {
+      hash = way.hash;
+      generation = generation;
+      place =
+          way.place;
+    }))
     ≡ set (set v.table old None) chunk (with_generation generation (led_at v.table old))
 table_led v nests ways old chunk generation way seen some is =
     let new : Way = record { hash = way.hash; generation = generation; place = way.place } in
@@ -179,7 +211,8 @@ table_led v nests ways old chunk generation way seen some is =
     map-set led_by (set ways old no_way) chunk new
     ∙ (ap (λ (t : List (Option Led)). set t chunk (led_by new)) (map-set led_by ways old no_way)
     ∙ (ap (λ (o : Option Led). set (set (map led_by ways) old None) chunk o) leads
-    ∙ ap (λ (u : IndexView). set (set u.table old None) chunk (with_generation generation (led_at v.table old))) (sym seen)))
+    ∙ ap (λ (u : IndexView). set (set u.table old None) chunk (with_generation generation (led_at v.table old))) (sym
+    seen)))
 
 -- a table of chunks that have nothing
 pub none_led : (chunks : ℕ) → map led_by (replicate chunks no_way) ≡ replicate chunks None

@@ -2,8 +2,8 @@
 use Rattle.std.specs.Prelude.{◌≡◌, ◌≢◌, ℕ, ◌+◌, ◌*◌, ◌%◌, ◌<◌, nat_lt, if◌then◌else◌, List, length, slice_index}
 use Rattle.cache_nests.specs.Places.{IsPlace, nest_of, tag_at, passed_at, steps_to}
 
--- each nest that is fewer steps behind the home than so many was passed by one key more than before, and all else is as it
--- was
+-- each nest that is fewer steps behind the home than so many was passed by one key more than before, and all else is as
+-- it was
 pub record OneMorePassed (nests home steps : ℕ) (before after : List ℕ) : Type 0 where
   pub size : length after ≡ length before
   pub passed : (nest : ℕ) → nest < nests →

@@ -1,6 +1,6 @@
 -- How the words of the nests and the ways of the chunks agree.
-use Rattle.std.specs.Prelude.{◌≡◌, ◌≢◌, ℕ, ◌+◌, ◌*◌, ◌%◌, ◌^◌, ◌<◌, ◌≤◌, ◌==◌, Bool, true, false, ◌&&◌, not, nat_lt, if◌then◌else◌}
-use Rattle.std.specs.Prelude.{List, length, slice_index, slice_index_or, Option, Some, None, count_by, map}
+use Rattle.std.specs.Prelude.{◌≡◌, ℕ, ◌+◌, ◌*◌, ◌%◌, ◌^◌, ◌<◌, ◌≤◌, ◌==◌, Bool, false, nat_lt, if◌then◌else◌}
+use Rattle.std.specs.Prelude.{List, length, slice_index, slice_index_or, Option, Some, None, count_by}
 use Rattle.cache_nests.specs.declared.led.Led.{Led}
 use Rattle.cache_nests.specs.declared.led.Way.{Way}
 use Rattle.cache_nests.specs.Tags.{lanes, tag_of}
@@ -26,7 +26,8 @@ way_to ways chunk = slice_index_or ways chunk no_way
 abbrev pub passes : ℕ → ℕ → Way → Bool
 passes nests nest way =
     if way.place == 0 then false
-    else nat_lt (steps_to nests (home_of nests way.hash) nest) (steps_to nests (home_of nests way.hash) (nest_of way.place))
+    else nat_lt (steps_to nests (home_of nests way.hash) nest)
+    (steps_to nests (home_of nests way.hash) (nest_of way.place))
 
 -- a way leads to a life of a chunk: its lane has the tag of the hash, and the life
 pub record LeadsTo (nests : ℕ) (words : List ℕ) (chunk : ℕ) (way : Way) : Type 0 where
@@ -34,8 +35,8 @@ pub record LeadsTo (nests : ℕ) (words : List ℕ) (chunk : ℕ) (way : Way) : 
   pub tag : tag_at words way.place ≡ tag_of way.hash
   pub life : slice_index words way.place ≡ life_number chunk way.generation
 
--- each way leads to its chunk, each lane that is on is that of the chunk to which it leads, and each nest counts the ways
--- that pass it
+-- each way leads to its chunk, each lane that is on is that of the chunk to which it leads, and each nest counts the
+-- ways that pass it
 pub record AreLed (nests : ℕ) (words : List ℕ) (ways : List Way) : Type 0 where
   pub size : length words ≡ 8 * nests
   pub leads : (chunk : ℕ) → 0 < (way_to ways chunk).place → LeadsTo nests words chunk (way_to ways chunk)

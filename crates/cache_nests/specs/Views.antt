@@ -62,8 +62,8 @@ abbrev pub has_tag : ℕ → Option Led → Bool
 has_tag hash None = false
 has_tag hash (Some led) = tag_of led.hash == tag_of hash
 
--- the search has answered this chunk: the index leads to it by the tag of the search's hash, and the search has looked at
--- its lane
+-- the search has answered this chunk: the index leads to it by the tag of the search's hash, and the search has looked
+-- at its lane
 abbrev pub has_answered : IndexView → SearchView → ℕ → Bool
 has_answered index search chunk =
     has_tag search.hash (led_at index.table chunk) && has_looked index.nests search (slice_index index.places chunk)

@@ -1,6 +1,6 @@
 //! The writer's own search, which misses nothing.
-ghost use Rattle.std.specs.Prelude.{◌≡◌, ◌<◌, ◌≤◌, ◌+◌, ◌*◌, ◌==◌, ◌||◌, ℕ, true, false, IfSome, IfNone, IsSomeAnd, None, Some};
-ghost use Rattle.cache_nests.specs.Tags.{tag_of, lanes};
+ghost use Rattle.std.specs.Prelude.{◌≡◌, ◌<◌, ◌==◌, ◌||◌, ℕ, true, false, IfSome, IfNone, IsSomeAnd};
+ghost use Rattle.cache_nests.specs.Tags.{tag_of};
 ghost use Rattle.cache_nests.specs.Views.{IsWithin, lanes_ahead, has_answered, led_at};
 
 use crate::index::Index;
@@ -35,9 +35,9 @@ impl Index {
         ExactSearch { hash, looked: 0 }
     }
 
-    /// The next chunk to which the index leads by the tag of the search's hash, with its generation, or `None` where each
-    /// chunk that has this very hash was answered. The search is one of this index as it is now. Each chunk is answered
-    /// once at most, and each answer leaves fewer lanes ahead.
+    /// The next chunk to which the index leads by the tag of the search's hash, with its generation, or `None` where
+    /// each chunk that has this very hash was answered. The search is one of this index, which stays as it is. Each
+    /// chunk is answered once at most, and each answer leaves fewer lanes ahead.
     pub fn next_of(&mut self, search: &mut ExactSearch) -> Option<ItemId>
         requires { IsWithin self.old search.old }
         ensures index { self.new ≡ self.old }

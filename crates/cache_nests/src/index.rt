@@ -1,5 +1,5 @@
 //! The writer's side of the index.
-ghost use Rattle.std.specs.Prelude.{◌≡◌, ◌≢◌, ◌<◌, ◌≤◌, ◌+◌, ◌*◌, ◌^◌, ◌⊎◌, ℕ, IfOk, IsSome, None, Some, length, replicate, slice_set};
+ghost use Rattle.std.specs.Prelude.{◌≡◌, ◌<◌, ◌≤◌, ◌⊎◌, IfOk, IsSome, None, Some, length, replicate, slice_set};
 ghost use Rattle.std.specs.Arc.{arc_value};
 ghost use Rattle.cache_nests.specs.Views.{led_at, with_generation};
 
@@ -81,8 +81,8 @@ impl Index {
         self.ways[chunk as usize].led()
     }
 
-    /// Leads from a hash to a life. Its chunk is below the count of chunks, and the index doesn't lead to it yet. Readers
-    /// find it when this returns. There is a lane for each chunk, so it is never refused.
+    /// Leads from a hash to a life. Its chunk is below the count of chunks, and the index doesn't lead to it yet.
+    /// Readers find it when this returns. There is a lane for each chunk, so it is never refused.
     pub fn put(&mut self, hash: u64, life: ItemId)
         requires chunk { life.chunk < length self.old.table }
         requires anew { led_at self.old.table life.chunk ≡ None }
@@ -103,9 +103,9 @@ impl Index {
         };
     }
 
-    /// Leads to a new life of the same key in place of that of the chunk `old`, by the same lane and one store: a reader
-    /// that comes by finds the one or the other. The new life's chunk is below the count of chunks; the index doesn't
-    /// lead to it yet, or it is `old`.
+    /// Leads to a new life of the same key in place of that of the chunk `old`, by the same lane and one store: a
+    /// reader that comes by finds the one or the other. The index leads to `old`. The new life's chunk is below the
+    /// count of chunks; the index doesn't lead to it yet, or it is `old`.
     pub fn lead(&mut self, old: u32, life: ItemId)
         requires old { IsSome (led_at self.old.table old) }
         requires chunk { life.chunk < length self.old.table }

@@ -17,8 +17,8 @@ pub struct Led {
     pub generation: u32,
 }
 
-/// How the index leads to a chunk: by the hash, in the lane whose life is the word `place`. The word 0 is no life, so it
-/// stands for a chunk to which nothing leads.
+/// How the index leads to a chunk: by the hash, in the lane whose life is the word `place`. The word 0 is no life, so
+/// it stands for a chunk to which nothing leads.
 #[derive(Clone, Copy)]
 pub(crate) struct Way {
     pub(crate) hash: u64,

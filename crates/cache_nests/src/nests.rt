@@ -1,8 +1,10 @@
 //! The nests: words that all threads may load. A nest is a line of 64 bytes: the tags of its six lanes, how many keys
 //! passed it, and the life of each lane.
-ghost use Rattle.std.specs.Prelude.{◌≡◌, ◌≢◌, ◌<◌, ◌≤◌, ◌+◌, ◌*◌, ◌/◌, ◌%◌, ◌^◌, ℕ, IfOk, IfSome, IfNone, length, slice_index, slice_set, replicate};
+ghost use Rattle.std.specs.Prelude.{◌≡◌, ◌≢◌, ◌<◌, ◌≤◌, ◌+◌, ◌*◌, ◌/◌, ◌^◌, ℕ, IfOk, IfSome, IfNone};
+ghost use Rattle.std.specs.Prelude.{length, slice_index, slice_set, replicate};
 ghost use Rattle.cache_nests.specs.Tags.{lanes, tag_of, tag_in};
-ghost use Rattle.cache_nests.specs.Places.{IsPlace, home_of, nest_behind, nest_of, lane_of, steps_to, tag_at, passed_at, place_in, tag_behind};
+ghost use Rattle.cache_nests.specs.Places.{IsPlace, home_of, nest_behind, nest_of, steps_to};
+ghost use Rattle.cache_nests.specs.Places.{tag_at, passed_at, place_in, tag_behind};
 ghost use Rattle.cache_nests.specs.Changes.{OneMorePassed, HasNewTag};
 
 use crate::tags::{LANES, lane_with, lanes_with, tag_of, with_tag};
@@ -94,7 +96,7 @@ impl Nests {
         behind(self.count, self.home(hash), steps)
     }
 
-    /// How many steps it is from the hash's home to the nest that has this word. `word` is below 8 * the count of nests.
+    /// How many steps it is from the hash's home to the nest that has this word, which is one of the nests'.
     pub(crate) fn steps(&self, hash: u64, word: u32) -> u32
         requires { nest_of word < self.now.nests }
         ensures steps { result ≡ steps_to self.now.nests (home_of self.now.nests hash) (nest_of word) }
@@ -178,14 +180,15 @@ impl Nests {
             .read(pen, (NEST_WORDS * nest + FIRST_LIFE + lane) as usize)
     }
 
-    /// The place of the first lane that is off, on the way from the hash's home over all nests, or `None` where all lanes
-    /// are on.
+    /// The place of the first lane that is off, on the way from the hash's home over all nests, or `None` where all
+    /// lanes are on.
     pub(crate) fn free_place(&self, pen: &mut Pen, hash: u64) -> Option<u32>
         requires pen { pen.old.table ≡ self.now.table }
         ensures pen { pen.new ≡ pen.old }
         ensures place { IfSome result (λ place. IsPlace self.now.nests place) }
         ensures off { IfSome result (λ place. tag_at pen.old.words place ≡ 0) }
-        ensures full { IfNone result ((place : ℕ) → IsPlace self.now.nests place → 0 < tag_at pen.old.words place) }
+        ensures full { IfNone result ((place : ℕ) →
+            IsPlace self.now.nests place → 0 < tag_at pen.old.words place) }
     {
         for steps in 0..self.count {
             let nest = self.nest(hash, steps);
@@ -240,7 +243,8 @@ impl Nests {
         requires few { (nest : ℕ) → nest < self.now.nests → passed_at pen.old.words nest < 2 ^ 32 }
         ensures table { pen.new.table ≡ pen.old.table }
         ensures words { let home = home_of self.now.nests hash in
-            OneMorePassed self.now.nests home (steps_to self.now.nests home (nest_of place)) pen.old.words pen.new.words }
+            OneMorePassed self.now.nests home (steps_to self.now.nests home (nest_of place))
+            pen.old.words pen.new.words }
     {
         for steps in 0..self.steps(hash, place) {
             let word = (NEST_WORDS * self.nest(hash, steps) + PASSED) as usize;
@@ -259,7 +263,8 @@ impl Nests {
             0 < passed_at pen.old.words nest }
         ensures table { pen.new.table ≡ pen.old.table }
         ensures words { let home = home_of self.now.nests hash in
-            OneMorePassed self.now.nests home (steps_to self.now.nests home (nest_of place)) pen.new.words pen.old.words }
+            OneMorePassed self.now.nests home (steps_to self.now.nests home (nest_of place))
+            pen.new.words pen.old.words }
     {
         for steps in 0..self.steps(hash, place) {
             let word = (NEST_WORDS * self.nest(hash, steps) + PASSED) as usize;

@@ -25,9 +25,9 @@ impl Model for IndexReader {
     ghost view = { λ r. (arc_value r.nests).nests };
 }
 
-/// A reader's search. It answers lives that the index led to by the tag of its hash when it came by; it is told nothing
-/// of them, so whoever searches looks at the key of each. What is in the index all the time, and led anew in its lane
-/// meanwhile or not, is answered.
+/// A reader's search. No contract says what it answers, only that it ends: whoever searches looks at the key of each
+/// life. A chunk's lane stays while the index leads to it, and a new life of its key comes into the same lane by one
+/// store. So what the index leads to all the while is among the answers; that is tested, and not proved.
 #[derive(Drop)]
 pub struct Search {
     tag: u64,

@@ -11,4 +11,5 @@ returns-clause-full c =
     let count : c.self.inside.count ≡ nests = ap (λ (v : NestsView). v.nests) c.self.view_is in
     let some : 0 < nests = omega (arith, count, c.self.invariant.1) in
     all_on nests (home_of nests c.args.hash) c.args.pen.now.words c.loop-steps.steps
-    (home_of-lt nests c.args.hash c.ranges.hash.fits some) (omega (arith, count, c.loop-steps-test.false)) c.loop-steps.invariant.1
+    (home_of-lt nests c.args.hash c.ranges.hash.fits some) (omega (arith, count, c.loop-steps-test.false))
+    c.loop-steps.invariant.1

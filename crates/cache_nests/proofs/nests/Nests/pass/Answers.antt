@@ -15,7 +15,8 @@ loop-steps-preserved c =
     let full : length c.loop-steps.pen.words ≡ 8 * nests = c.loop-steps.invariant.1 in
     let same = ap (λ (p : PenView). p.words) c.read-passed.ensures.pen in
     let size : length c.write.new.pen.words ≡ length c.read-passed.new.pen.words =
-    ap (λ (ws : List ℕ). length ws) c.write.ensures.words ∙ length-set c.read-passed.new.pen.words (8 * c.nest.result + 1) (c.read-passed.result + 1) in (
+    ap (λ (ws : List ℕ). length ws) c.write.ensures.words ∙ length-set c.read-passed.new.pen.words (8 * c.nest.result
+    + 1) (c.read-passed.result + 1) in (
       search rules,
       size ∙ (ap (λ (ws : List ℕ). length ws) same ∙ full),
       pass_step nests (home_of nests hash) c.loop-steps.steps c.nest.result c.read-passed.result c.args.pen.now.words
