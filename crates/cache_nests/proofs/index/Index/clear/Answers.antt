@@ -1,0 +1,71 @@
+use Rattle.std.proofs.Common.{◌≡◌, ℕ, ◌+◌, ◌*◌, ◌<◌, ◌≤◌, ◌⊎◌, inl, inr, List, Option, None, Some, refl, sym, ap, ◌∙◌}
+use Rattle.std.proofs.Common.{subst, arith, rules, ⊎_elim, replicate}
+use Rattle.std.specs.Arc.{arc_value}
+use Rattle.std.proofs.lemmas.List.{get_or_read}
+use Rattle.cache_nests.specs.declared.led.Way.{Way}
+use Rattle.cache_nests.specs.Leads.{no_way, way_to, life_number, AreLed, led_by}
+use Rattle.cache_nests.proofs.LedLemmas.{chunk_of_way, led_anew}
+use Rattle.cache_nests.proofs.WriterLemmas.{some_way, none_way, chunk_within, place_like, roomy_set, clear_passed}
+use Rattle.cache_nests.proofs.WriterLemmas.{clear_led, put_led, table_set, table_led, none_led}
+use Rattle.cache_nests.proofs.index.Index.clear.Goals as goal
+
+pub set_tag-requires-clause-place : goal.set_tag-requires-clause-place
+set_tag-requires-clause-place c =
+    let nests = (arc_value c.self.inside.nests).nests in
+    let ways = c.self.inside.ways.items in
+    let some = some_way c.args.self.now nests ways c.args.chunk (sym c.self.view_is) c.requires in
+    let way_is = get_or_read ways c.args.chunk c.index-way.result.now (chunk_of_way ways c.args.chunk some)
+    c.index-way.ensures no_way in
+    let nests_is : c.deref.result.now.nests ≡ nests = cc in
+    let place_is : c.index-way.result.now.place ≡ (way_to ways c.args.chunk).place = ap (λ (w : Way). w.place) way_is in
+    place_like c.deref.result.now.nests nests c.index-way.result.now.place (way_to ways c.args.chunk).place nests_is
+    place_is
+    (c.self.invariant.1.leads c.args.chunk some).place
+
+pub pass_no_more-requires-clause-place : goal.pass_no_more-requires-clause-place
+pass_no_more-requires-clause-place c =
+    let nests = (arc_value c.self.inside.nests).nests in
+    let ways = c.self.inside.ways.items in
+    let some = some_way c.args.self.now nests ways c.args.chunk (sym c.self.view_is) c.requires in
+    let way_is = get_or_read ways c.args.chunk c.index-way.result.now (chunk_of_way ways c.args.chunk some)
+    c.index-way.ensures no_way in
+    let nests_is : c.deref-2.result.now.nests ≡ nests = cc in
+    let place_is : c.index-way.result.now.place ≡ (way_to ways c.args.chunk).place = ap (λ (w : Way). w.place) way_is in
+    (place_like c.deref-2.result.now.nests nests c.index-way.result.now.place (way_to ways c.args.chunk).place
+    nests_is place_is
+    (c.self.invariant.1.leads c.args.chunk some).place).nest
+
+pub pass_no_more-requires-clause-passed : goal.pass_no_more-requires-clause-passed
+pass_no_more-requires-clause-passed c =
+    let nests = (arc_value c.self.inside.nests).nests in
+    let ways = c.self.inside.ways.items in
+    let some = some_way c.args.self.now nests ways c.args.chunk (sym c.self.view_is) c.requires in
+    let way_is = get_or_read ways c.args.chunk c.index-way.result.now (chunk_of_way ways c.args.chunk some)
+    c.index-way.ensures no_way in
+    let nests_is : c.deref.result.now.nests ≡ nests = cc in
+    let nests_is_2 : c.deref-2.result.now.nests ≡ nests = cc in
+    clear_passed nests c.deref.result.now.nests c.deref-2.result.now.nests c.self.inside.pen.words
+    c.set_tag.new.pen.words ways
+    c.args.chunk c.index-way.result.now nests_is nests_is_2 c.self.invariant.1 some way_is c.set_tag.ensures.words
+
+pub invariant_of-self : goal.invariant_of-self
+invariant_of-self c =
+    let nests = (arc_value c.self.inside.nests).nests in
+    let ways = c.self.inside.ways.items in
+    let some = some_way c.args.self.now nests ways c.args.chunk (sym c.self.view_is) c.requires in
+    let way_is = get_or_read ways c.args.chunk c.index-way.result.now (chunk_of_way ways c.args.chunk some)
+    c.index-way.ensures no_way in
+    let nests_is : c.deref.result.now.nests ≡ nests = cc in
+    let nests_is_2 : c.deref-2.result.now.nests ≡ nests = cc in (
+      c.pass_no_more.ensures.table ∙ (c.set_tag.ensures.table ∙ c.self.invariant.0),
+      clear_led nests c.deref.result.now.nests c.deref-2.result.now.nests c.self.inside.pen.words
+          c.set_tag.new.pen.words
+          c.pass_no_more.new.pen.words ways c.args.chunk c.index-way.result.now nests_is nests_is_2 c.self.invariant.1
+          c.self.invariant.2 some way_is c.set_tag.ensures.words c.pass_no_more.ensures.words,
+      roomy_set nests ways c.args.chunk no_way c.self.invariant.2,
+    )
+
+pub returns-clause-table : goal.returns-clause-table
+returns-clause-table c =
+    table_set c.args.self.now (arc_value c.self.inside.nests).nests c.self.inside.ways.items c.args.chunk no_way None
+    (sym c.self.view_is) refl

@@ -1,0 +1,27 @@
+use Rattle.std.proofs.Common.{◌≡◌, ℕ, ◌+◌, ◌*◌, ◌<◌, ◌≤◌, List, length, length-set, sym, ap, ◌∙◌, subst, arith, rules}
+use Rattle.cache_nests.specs.Places.{home_of, nest_of, steps_to, passed_at}
+use Rattle.pen_words.specs.Known.{PenView}
+use Rattle.cache_nests.specs.Views.{NestsView}
+use Rattle.cache_nests.proofs.StepsLemmas.{home_of-lt}
+use Rattle.cache_nests.proofs.WriterLemmas.{pass_step}
+use Rattle.cache_nests.proofs.nests.Nests.pass.Goals as goal
+
+pub loop-steps-preserved : goal.loop-steps-preserved
+loop-steps-preserved c =
+    let nests = c.args.self.now.nests in
+    let hash = c.args.hash in
+    let count : c.self.inside.count ≡ nests = ap (λ (v : NestsView). v.nests) c.self.view_is in
+    let some : 0 < nests = omega (arith, count, c.self.invariant.1) in
+    let full : length c.loop-steps.pen.words ≡ 8 * nests = c.loop-steps.invariant.1 in
+    let same = ap (λ (p : PenView). p.words) c.read-passed.ensures.pen in
+    let size : length c.write.new.pen.words ≡ length c.read-passed.new.pen.words =
+    ap (λ (ws : List ℕ). length ws) c.write.ensures.words ∙ length-set c.read-passed.new.pen.words (8 * c.nest.result
+    + 1) (c.read-passed.result + 1) in (
+      search rules,
+      size ∙ (ap (λ (ws : List ℕ). length ws) same ∙ full),
+      pass_step nests (home_of nests hash) c.loop-steps.steps c.nest.result c.read-passed.result c.args.pen.now.words
+          c.loop-steps.pen.words c.read-passed.new.pen.words c.write.new.pen.words
+          c.loop-steps.invariant.2 (home_of-lt nests hash c.ranges.hash.fits some)
+          (omega (arith, c.loop-steps-test.true, c.steps-steps-end.ensures.within)) c.nest.ensures.nest full
+          same c.read-passed.ensures.read c.write.ensures.words,
+    )

@@ -1,0 +1,8 @@
+use Rattle.std.proofs.Common.{◌≡◌}
+use Rattle.cache_nests.proofs.tests.missed.Given as goal
+
+abbrev pub invariant-loop-life : goal.invariant-loop-life
+invariant-loop-life l = l.search.nests ≡ l.reader
+
+abbrev pub decreases-loop-life : goal.decreases-loop-life
+decreases-loop-life l = l.search.ahead

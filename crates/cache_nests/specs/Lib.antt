@@ -1,0 +1,5 @@
+pub mod Tags
+pub mod Places
+pub mod Leads
+pub mod Changes
+pub mod Views

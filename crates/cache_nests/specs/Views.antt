@@ -1,0 +1,69 @@
+-- What contracts see of an index and of the searches in it.
+use Rattle.std.specs.Prelude.{◌≡◌, ℕ, ◌+◌, ◌-◌, ◌*◌, ◌<◌, ◌≤◌, ◌==◌, Bool, true, false, ◌&&◌, ◌||◌, nat_lt}
+use Rattle.std.specs.Prelude.{List, slice_index, slice_index_or, Option, Some, None, map}
+use Rattle.atomic_table.specs.Seated.{TableId}
+use Rattle.cache_nests.specs.declared.led.Led.{Led}
+use Rattle.cache_nests.specs.declared.led.Way.{Way}
+use Rattle.cache_nests.specs.Tags.{lanes, tag_of}
+use Rattle.cache_nests.specs.Places.{home_of, lane_number}
+use Rattle.cache_nests.specs.Leads.{led_by}
+
+-- the nests: which table's words they are, and how many
+pub record NestsView : Type 0 where
+  pub table : TableId
+  pub nests : ℕ
+
+-- an index: what it leads to, by chunk; how many nests it has; and by chunk the place of its lane
+pub record IndexView : Type 0 where
+  pub table : List (Option Led)
+  pub nests : ℕ
+  pub places : List ℕ
+
+-- a reader's search: of how many nests, and a number that gets less with each answer
+pub record AheadView : Type 0 where
+  pub nests : ℕ
+  pub ahead : ℕ
+
+-- the writer's search for a hash: it has looked at so many lanes, from the hash's home on
+pub record SearchView : Type 0 where
+  pub hash : ℕ
+  pub looked : ℕ
+
+abbrev pub index_view : ℕ → List Way → IndexView
+index_view nests ways = record {
+  table = map led_by ways;
+  nests = nests;
+  places = map (λ (way : Way). way.place) ways;
+}
+
+-- the search is one of so many nests: it has looked at no more lanes than there are
+abbrev pub IsWithin : IndexView → SearchView → Type 0
+IsWithin index search = search.looked ≤ lanes * index.nests
+
+-- how many lanes the search hasn't looked at
+abbrev pub lanes_ahead : IndexView → SearchView → ℕ
+lanes_ahead index search = lanes * index.nests - search.looked
+
+-- the search has looked at the lane whose life is at this place
+abbrev pub has_looked : ℕ → SearchView → ℕ → Bool
+has_looked nests search place = nat_lt (lane_number nests (home_of nests search.hash) place) search.looked
+
+-- what the index has of a chunk
+abbrev pub led_at : List (Option Led) → ℕ → Option Led
+led_at table chunk = slice_index_or table chunk None
+
+-- the same hash, with another generation
+abbrev pub with_generation : ℕ → Option Led → Option Led
+with_generation generation None = None
+with_generation generation (Some led) = Some (record { hash = led.hash; generation = generation })
+
+-- the tag of what a chunk has is that of the hash
+abbrev pub has_tag : ℕ → Option Led → Bool
+has_tag hash None = false
+has_tag hash (Some led) = tag_of led.hash == tag_of hash
+
+-- the search has answered this chunk: the index leads to it by the tag of the search's hash, and the search has looked
+-- at its lane
+abbrev pub has_answered : IndexView → SearchView → ℕ → Bool
+has_answered index search chunk =
+    has_tag search.hash (led_at index.table chunk) && has_looked index.nests search (slice_index index.places chunk)

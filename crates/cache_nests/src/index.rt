@@ -1,0 +1,139 @@
+//! The writer's side of the index.
+ghost use Rattle.std.specs.Prelude.{◌≡◌, ◌<◌, ◌≤◌, ◌⊎◌, IfOk, IsSome, None, Some, length, replicate, slice_set};
+ghost use Rattle.std.specs.Arc.{arc_value};
+ghost use Rattle.cache_nests.specs.Views.{led_at, with_generation};
+
+use crate::led::{Led, NO_WAY, Way, number_of};
+use crate::nests::Nests;
+use crate::readers::IndexReader;
+use crate::tags::tag_of;
+use bump_rules::ItemId;
+use pen_words::Pen;
+use std::alloc::{AllocError, Global};
+use std::marker::Model;
+use std::sync::Arc;
+
+/// The most chunks that an index can have: 1,073,741,824.
+pub const MOST_CHUNKS: u32 = 1 << 30;
+
+/// How many chunks there are for each nest of six lanes.
+const CHUNKS_A_NEST: u32 = 4;
+
+/// The index, as its one writer has it. A contract sees what it leads to, by chunk: the hash of the key of the chunk's
+/// life, and the life's generation; or `None` for a chunk to which it doesn't lead.
+#[derive(Drop)]
+pub struct Index {
+    pub(crate) nests: Arc<Nests, Global>,
+    pub(crate) pen: Pen,
+    pub(crate) ways: Vec<Way>,
+}
+
+impl Model for Index {
+    ghost use Rattle.std.specs.Prelude.{◌≡◌};
+    ghost use Rattle.std.specs.Arc.{arc_value};
+    ghost use Rattle.cache_nests.specs.Views.{IndexView, index_view};
+    ghost use Rattle.cache_nests.specs.Leads.{AreLed, IsRoomy};
+
+    ghost Value = { IndexView };
+
+    ghost view = { λ a. index_view (arc_value a.nests).nests a.ways.items };
+
+    ghost invariant = { λ a. (a.pen.table ≡ (arc_value a.nests).table)
+        × AreLed (arc_value a.nests).nests a.pen.words a.ways.items
+        × IsRoomy (arc_value a.nests).nests a.ways.items };
+}
+
+impl Index {
+    /// An index of so many chunks, numbered from 0, to none of which it leads. `chunks` is at most `MOST_CHUNKS`. It is
+    /// refused only for want of memory.
+    pub fn new(alloc: Global, chunks: u32) -> Result<Index, AllocError>
+        requires { chunks ≤ MOST_CHUNKS }
+        ensures { IfOk result (λ made. made.table ≡ replicate chunks None) }
+    {
+        let (nests, pen) = Nests::new(alloc, chunks / CHUNKS_A_NEST + 1)?;
+        let nests = Arc::new(alloc, nests)?;
+        let mut ways = Vec::with_capacity(alloc, chunks as usize)?;
+        for _ in 0..chunks {
+            ways.push(NO_WAY)?;
+        }
+        Ok(Index { nests, pen, ways })
+    }
+
+    /// A reader of the index. It is refused only for want of memory.
+    pub fn reader(&self) -> Result<IndexReader, AllocError>
+        ensures { IfOk result (λ r. r ≡ self.now.nests) }
+    {
+        Ok(IndexReader::new(Arc::try_clone(&self.nests)?))
+    }
+
+    /// How many chunks the index has.
+    pub fn chunks(&self) -> u32
+        ensures { result ≡ length self.now.table }
+    {
+        self.ways.len() as u32
+    }
+
+    /// What the index has of a chunk: `None` where it doesn't lead to it. `chunk` is below the count of chunks.
+    pub fn led(&self, chunk: u32) -> Option<Led>
+        requires { chunk < length self.now.table }
+        ensures { result ≡ led_at self.now.table chunk }
+    {
+        self.ways[chunk as usize].led()
+    }
+
+    /// Leads from a hash to a life. Its chunk is below the count of chunks, and the index doesn't lead to it yet.
+    /// Readers find it when this returns. There is a lane for each chunk, so it is never refused.
+    pub fn put(&mut self, hash: u64, life: ItemId)
+        requires chunk { life.chunk < length self.old.table }
+        requires anew { led_at self.old.table life.chunk ≡ None }
+        ensures table { self.new.table ≡ slice_set self.old.table life.chunk
+            (Some (record { hash = hash; generation = life.generation })) }
+        ensures nests { self.new.nests ≡ self.old.nests }
+    {
+        let Some(place) = self.nests.free_place(&mut self.pen, hash) else {
+            unreachable!()
+        };
+        self.nests.pass(&mut self.pen, hash, place);
+        self.nests.set_life(&mut self.pen, place, number_of(life));
+        self.nests.set_tag(&mut self.pen, place, tag_of(hash));
+        self.ways[life.chunk as usize] = Way {
+            hash,
+            generation: life.generation,
+            place,
+        };
+    }
+
+    /// Leads to a new life of the same key in place of that of the chunk `old`, by the same lane and one store: a
+    /// reader that comes by finds the one or the other. The index leads to `old`. The new life's chunk is below the
+    /// count of chunks; the index doesn't lead to it yet, or it is `old`.
+    pub fn lead(&mut self, old: u32, life: ItemId)
+        requires old { IsSome (led_at self.old.table old) }
+        requires chunk { life.chunk < length self.old.table }
+        requires anew { (led_at self.old.table life.chunk ≡ None) ⊎ (life.chunk ≡ old) }
+        ensures table { self.new.table ≡ slice_set (slice_set self.old.table old None) life.chunk
+            (with_generation life.generation (led_at self.old.table old)) }
+        ensures nests { self.new.nests ≡ self.old.nests }
+    {
+        let way = self.ways[old as usize];
+        self.nests
+            .set_life(&mut self.pen, way.place, number_of(life));
+        self.ways[old as usize] = NO_WAY;
+        self.ways[life.chunk as usize] = Way {
+            hash: way.hash,
+            generation: life.generation,
+            place: way.place,
+        };
+    }
+
+    /// Leads no more to a chunk, to which it does. Readers find it no more when this returns.
+    pub fn clear(&mut self, chunk: u32)
+        requires { IsSome (led_at self.old.table chunk) }
+        ensures table { self.new.table ≡ slice_set self.old.table chunk None }
+        ensures nests { self.new.nests ≡ self.old.nests }
+    {
+        let way = self.ways[chunk as usize];
+        self.nests.set_tag(&mut self.pen, way.place, 0);
+        self.nests.pass_no_more(&mut self.pen, way.hash, way.place);
+        self.ways[chunk as usize] = NO_WAY;
+    }
+}

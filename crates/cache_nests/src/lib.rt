@@ -1,0 +1,17 @@
+//! An index of words that leads from the hash of a key to the lives that may have it. Readers search it without a lock,
+//! and one writer, under a lock, keeps it. It knows no keys: whoever is led to a life has to look at the key there.
+#![tactic(auto)]
+
+mod exact;
+mod index;
+mod led;
+mod nests;
+mod readers;
+mod tags;
+#[cfg(test)]
+mod tests;
+
+pub use exact::ExactSearch;
+pub use index::{Index, MOST_CHUNKS};
+pub use led::Led;
+pub use readers::{IndexReader, Search};

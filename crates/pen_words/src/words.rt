@@ -1,0 +1,85 @@
+//! The words, and the pen that writes them.
+ghost use Rattle.std.specs.Prelude.{◌≡◌, ◌<◌, ◌^◌, IfOk, [], length, replicate, slice_set, slice_index};
+ghost use Rattle.atomic_table.specs.Seated.{TableId};
+ghost use Rattle.pen_words.specs.Known.{PenView as ThePenView, known};
+
+use crate::rule::{OnePen, Reads, Writes};
+use crate::views::{Known, NoSlot};
+use atomic_table::{Seat, Table};
+use std::alloc::{AllocError, Global};
+use std::marker::Model;
+
+/// Words of 64 bits, numbered from 0, which threads share. A contract sees which table they are, and how many.
+#[derive(Drop)]
+pub struct PenWords {
+    table: Table<NoSlot, Known, Vec<u64, Global>, OnePen, Global>,
+}
+
+impl Model for PenWords {
+    ghost Value = { TableId };
+
+    ghost view = { λ w. w.table.shared.table_id };
+}
+
+/// The right to write the words of one table, which one thread has at a time. It has no bytes. A contract sees which
+/// table it writes, and each word.
+#[derive(Drop)]
+pub struct Pen {
+    seat: Seat<NoSlot, Known>,
+}
+
+impl Model for Pen {
+    ghost Value = { ThePenView };
+
+    ghost view = { λ p. record { table = p.seat.table_id; words = p.seat.me.0.words } };
+
+    ghost invariant = { λ p. p.seat.me.1 ≡ [] };
+}
+
+impl PenWords {
+    /// So many words, each 0, and the pen that writes them. It is refused only for want of memory.
+    pub fn new(alloc: Global, count: u32) -> Result<(PenWords, Pen), AllocError>
+        ensures count { IfOk result (λ made. made.0.words ≡ count) }
+        ensures table { IfOk result (λ made. made.1.table ≡ made.0) }
+        ensures words { IfOk result (λ made. made.1.words ≡ replicate count 0) }
+    {
+        let mut zeros = Vec::with_capacity(alloc, count as usize)?;
+        for _ in 0..count {
+            zeros.push(0)?;
+        }
+        let (table, seat) = Table::of_words(alloc, zeros.as_slice(), &zeros)?;
+        Ok((PenWords { table }, Pen { seat }))
+    }
+
+    /// What a word is now. Any thread may load it, and is told nothing of it. `word` is below the count of words, and
+    /// that isn't looked at when it runs.
+    #[inline(always)]
+    pub fn load(&self, word: usize) -> u64
+        requires { word < self.now.words }
+    {
+        self.table.shared.peek(word)
+    }
+
+    /// What a word is, exactly: only the pen changes it. The pen is that of these words, and `word` below their count.
+    #[inline(always)]
+    pub fn read(&self, pen: &mut Pen, word: usize) -> u64
+        requires pen { pen.old.table ≡ self.now }
+        requires word { word < self.now.words }
+        ensures read { result ≡ slice_index pen.old.words word }
+        ensures pen { pen.new ≡ pen.old }
+    {
+        self.table.shared.load::<Reads>(&mut pen.seat, word)
+    }
+
+    /// A word becomes `new` by one store, and all others stay. The pen is that of these words, and `word` below their
+    /// count.
+    #[inline(always)]
+    pub fn write(&self, pen: &mut Pen, word: usize, new: u64)
+        requires pen { pen.old.table ≡ self.now }
+        requires word { word < self.now.words }
+        ensures table { pen.new.table ≡ pen.old.table }
+        ensures words { pen.new.words ≡ slice_set pen.old.words word new }
+    {
+        self.table.shared.store::<Writes>(&mut pen.seat, word, new);
+    }
+}
