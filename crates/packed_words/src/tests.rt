@@ -2,7 +2,8 @@ ghost use Rattle.std.specs.Prelude.{◌≡◌, ◌↔◌, ◌<◌, ◌^◌, [], 
 ghost use Rattle.std.proofs.Common.{rules};
 ghost use Rattle.std.proofs.lemmas.Grind.{common_steps};
 
-use crate::Packed;
+use crate::{Bytes, Packed, TooLong};
+use std::process::Abort;
 use std::test::Fail;
 
 // A type of a user's own: a number that stands for a book.
@@ -97,4 +98,71 @@ fn own_types_are_packed(rt: HostRuntime) {
     assert_eq!(rt; there_and_back(&pair, &mut two), pair);
     assert_eq!(rt; two, [3, 4]);
     assert!(rt; !same(&pair, &(Book { number: 4 }, 3), &mut two));
+}
+
+#[test]
+fn strings_stand_in_words(rt: HostRuntime) -> Result<(), Fail> {
+    let mut two = [7; 2];
+    let string: Bytes<2> = Bytes::from_text("abc")?;
+    assert_eq!(rt; string.len(), 3);
+    string.pack(&mut two);
+    assert_eq!(rt; two, [0x0000_0063_6261_0003, 0]);
+    assert!(rt; string.equals(&[0x0000_0063_6261_0003, 0]));
+    assert!(rt; !string.equals(&[0x0000_0063_6261_0003, 1]));
+    assert!(rt; !string.equals(&[0x0000_0063_6261_0002, 0]));
+    let longer: Bytes<2> = Bytes::from_text("abc\0")?;
+    assert!(rt; !longer.equals(&two));
+    let other: Bytes<2> = Bytes::new(b"abc")?;
+    assert!(rt; other.equals(&two));
+    Ok(())
+}
+
+// A string of this many bytes has room in `W` words: it comes back from them as it was.
+fn holds<const W: usize>(rt: &impl Abort, count: usize) -> Result<(), TooLong> {
+    let mut bytes = [0u8; 600];
+    for (i, byte) in bytes.iter_mut().enumerate() {
+        *byte = (i % 251 + 1) as u8;
+    }
+    let Some(bytes) = bytes.get(..count) else {
+        return Err(TooLong);
+    };
+    let string: Bytes<W> = Bytes::new(bytes)?;
+    let mut words = [7; W];
+    let back = there_and_back(&string, &mut words);
+    assert_eq!(rt; back.len(), count);
+    let mut copy = [9u8; 600];
+    back.copy_to(&mut copy[..count]);
+    for (one, other) in copy.iter().zip(bytes) {
+        assert_eq!(rt; *one, *other);
+    }
+    Ok(())
+}
+
+#[test]
+fn strings_have_a_greatest_length(rt: HostRuntime) -> Result<(), Fail> {
+    for count in 0..=6 {
+        holds::<1>(&rt, count)?;
+    }
+    assert_eq!(rt; holds::<1>(&rt, 7), Err(TooLong));
+    for count in 0..=30 {
+        holds::<4>(&rt, count)?;
+    }
+    assert_eq!(rt; holds::<4>(&rt, 31), Err(TooLong));
+    holds::<64>(&rt, 255)?;
+    holds::<64>(&rt, 256)?;
+    holds::<64>(&rt, 510)?;
+    assert_eq!(rt; holds::<64>(&rt, 511), Err(TooLong));
+    assert_eq!(rt; holds::<0>(&rt, 0), Err(TooLong));
+    assert_eq!(rt; holds::<65>(&rt, 0), Err(TooLong));
+    Ok(())
+}
+
+#[test]
+fn strings_stand_beside_numbers(rt: HostRuntime) -> Result<(), Fail> {
+    let string: Bytes<2> = Bytes::new(b"key")?;
+    let mut three = [7; 3];
+    let (key, value) = there_and_back(&(string, 5u64), &mut three);
+    assert_eq!(rt; value, 5);
+    assert_eq!(rt; key.len(), 3);
+    Ok(())
 }
