@@ -1,0 +1,4 @@
+pub mod Parts
+pub mod Signed
+pub mod Strings
+pub mod StringLaws

@@ -1,0 +1,173 @@
+//! Byte strings of a bounded length in words.
+ghost use Rattle.std.specs.Prelude.{◌≡◌, ◌↔◌, ℕ, ◌+◌, ◌*◌, ◌<◌, ◌≤◌, ◌^◌, length, slice_index, IsOk, IfOk};
+ghost use Rattle.packed_words.specs.Strings.{HasRoom, MayHold, counted, word_in, string_words, string_in, IsString};
+ghost use Rattle.packed_words.specs.StringLaws.{length-string_words, string_words_fit, one_string};
+
+use crate::packed::Packed;
+use crate::refusals::TooLong;
+use std::marker::Model;
+
+const MOST_WORDS: usize = 64;
+
+/// A byte string in `W` words, of which there may be 1 to 64: it has at most `8 * W - 2` bytes. Two of the first
+/// word's bytes are its length.
+#[derive(Drop)]
+pub struct Bytes<const W: usize> {
+    words: [u64; W],
+}
+
+impl<const W: usize> Model for Bytes<W> {
+    ghost use Rattle.std.specs.Prelude.{ℕ, List};
+    ghost use Rattle.packed_words.specs.Strings.{string_in, IsString};
+
+    ghost Value = { List ℕ };
+
+    ghost view = { λ s. string_in s.words };
+
+    ghost invariant = { λ s. IsString W s.words };
+}
+
+// The byte at this place of a string with its length in front.
+#[inline(always)]
+fn counted_byte(bytes: &[u8], at: usize) -> u8
+    requires { length bytes.now < 2 ^ 16 }
+    ensures { result ≡ slice_index (counted bytes.now) at }
+{
+    match at {
+        0 => (bytes.len() % 256) as u8,
+        1 => (bytes.len() / 256) as u8,
+        _ => {
+            if at - 2 < bytes.len() {
+                bytes[at - 2]
+            } else {
+                0
+            }
+        }
+    }
+}
+
+// The word at this place of a string's words.
+#[inline(always)]
+fn counted_word(bytes: &[u8], at: usize) -> u64
+    requires short { length bytes.now < 2 ^ 16 }
+    requires few { at < MOST_WORDS }
+    ensures { result ≡ word_in (counted bytes.now) at }
+{
+    let first = 8 * at;
+    u64::from_le_bytes([
+        counted_byte(bytes, first),
+        counted_byte(bytes, first + 1),
+        counted_byte(bytes, first + 2),
+        counted_byte(bytes, first + 3),
+        counted_byte(bytes, first + 4),
+        counted_byte(bytes, first + 5),
+        counted_byte(bytes, first + 6),
+        counted_byte(bytes, first + 7),
+    ])
+}
+
+// The words of a string.
+#[inline(always)]
+fn spell<const W: usize>(bytes: &[u8]) -> [u64; W]
+    requires { HasRoom W (length bytes.now) }
+    ensures string { IsString W result }
+    ensures same { string_in result ≡ bytes.now }
+{
+    let mut words = [0; W];
+    for (at, word) in words.iter_mut().enumerate() {
+        *word = counted_word(bytes, at);
+    }
+    words
+}
+
+impl<const W: usize> Bytes<W> {
+    /// The string of these bytes. It is [`TooLong`] exactly where there are more than `8 * W - 2` of them, or `W` is
+    /// more than 64.
+    #[inline]
+    pub fn new(bytes: &[u8]) -> Result<Bytes<W>, TooLong>
+        ensures made { IfOk result (λ string. string ≡ bytes.now) }
+        ensures refused { IsOk result ↔ HasRoom W (length bytes.now) }
+    {
+        if W > MOST_WORDS || bytes.len() + 2 > 8 * W {
+            return Err(TooLong);
+        }
+        Ok(Bytes {
+            words: spell(bytes),
+        })
+    }
+
+    /// The string of a text's bytes. It is [`TooLong`] exactly where [`new`](Bytes::new) says so.
+    #[inline]
+    pub fn from_text(text: &str) -> Result<Bytes<W>, TooLong>
+        ensures made { IfOk result (λ string. string ≡ text.now) }
+        ensures refused { IsOk result ↔ HasRoom W (length text.now) }
+    {
+        Bytes::new(text.as_bytes())
+    }
+
+    /// How many bytes the string has.
+    #[inline(always)]
+    pub fn len(&self) -> usize
+        ensures { result ≡ length self.now }
+    {
+        (self.words[0] % 65_536) as usize
+    }
+
+    /// The byte at an index, which must be below [`len`](Bytes::len).
+    #[inline(always)]
+    pub fn byte(&self, index: usize) -> u8
+        requires { index < length self.now }
+        ensures { result ≡ slice_index self.now index }
+    {
+        let words = &self.words;
+        let at = index + 2;
+        ((words[at / 8] >> (8 * (at % 8))) % 256) as u8
+    }
+
+    /// Writes the string's bytes into `to`, which must have as many as the string.
+    #[inline]
+    pub fn copy_to(&self, to: &mut [u8])
+        requires { length to.old ≡ length self.now }
+        ensures { to.new ≡ self.now }
+    {
+        for (index, byte) in to.iter_mut().enumerate() {
+            *byte = self.byte(index);
+        }
+    }
+}
+
+impl<const W: usize> Packed for Bytes<W> {
+    ghost width = { W };
+
+    ghost fits = { MayHold W };
+
+    ghost as_words = { string_words W };
+
+    #[inline(always)]
+    fn words() -> usize {
+        W
+    }
+
+    #[inline(always)]
+    fn pack(&self, to: &mut [u64]) {
+        to.copy_from_slice(&self.words);
+    }
+
+    #[inline(always)]
+    fn unpack(words: &[u64]) -> Bytes<W> {
+        let mut own = [0; W];
+        own.copy_from_slice(words);
+        Bytes { words: own }
+    }
+
+    #[inline(always)]
+    fn equals(&self, words: &[u64]) -> bool {
+        self.words.as_slice() == words
+    }
+
+    ghost length_is = { λ v h. length-string_words W v };
+
+    ghost are_words = { string_words_fit W };
+
+    ghost one_value = { one_string W };
+}
