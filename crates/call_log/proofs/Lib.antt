@@ -1,0 +1,4 @@
+pub mod Beginnings
+pub mod States
+pub mod Steps
+pub mod Whole

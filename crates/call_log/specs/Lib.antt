@@ -1,0 +1,4 @@
+pub mod Blanks
+pub mod Calls
+pub mod Laws
+pub mod Logs
