@@ -133,3 +133,11 @@ spelled_by w bytes words long each =
 -- a list of bytes, each of which is one
 pub all_bytes : (xs : List ℕ) → ((k : ℕ) → get_or xs k 0 < 256) → AreBytes xs
 all_bytes xs each k d p = omega (arith, get_or_default_zero xs k d p, each k)
+
+-- a byte of a string with its length in front, where it is the string's own
+pub own_byte : (bytes : List ℕ) (at i : ℕ) → 0 < at
+    → get_or bytes (8 * at - 2 + i) 0 ≡ get_or (counted bytes) (8 * at + i) 0
+own_byte bytes at i p =
+    let n : ℕ = length bytes in
+    sym (get_or-append_right ((n % 256) ∷ (n / 256) ∷ []) bytes 2 (8 * at + i) 0 refl (omega arith)
+    ∙ ap (λ (m : ℕ). get_or bytes m 0) (omega arith))

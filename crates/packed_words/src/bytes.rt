@@ -46,9 +46,29 @@ fn counted_byte(bytes: &[u8], at: usize) -> u8
     }
 }
 
-// The word at this place of a string's words.
+// A word whose eight bytes are all the string's own: they stand side by side, so one load reads them.
 #[inline(always)]
-fn counted_word(bytes: &[u8], at: usize) -> u64
+fn full_word(bytes: &[u8], at: usize) -> u64
+    requires behind { 0 < at }
+    requires within { 8 * at + 6 ≤ length bytes.now }
+    ensures { result ≡ word_in (counted bytes.now) at }
+{
+    let first = 8 * at - 2;
+    u64::from_le_bytes([
+        bytes[first],
+        bytes[first + 1],
+        bytes[first + 2],
+        bytes[first + 3],
+        bytes[first + 4],
+        bytes[first + 5],
+        bytes[first + 6],
+        bytes[first + 7],
+    ])
+}
+
+// A word that has a part of the length, or zeros.
+#[inline(always)]
+fn edge_word(bytes: &[u8], at: usize) -> u64
     requires short { length bytes.now < 2 ^ 16 }
     requires few { at < MOST_WORDS }
     ensures { result ≡ word_in (counted bytes.now) at }
@@ -64,6 +84,20 @@ fn counted_word(bytes: &[u8], at: usize) -> u64
         counted_byte(bytes, first + 6),
         counted_byte(bytes, first + 7),
     ])
+}
+
+// The word at this place of a string's words.
+#[inline(always)]
+fn counted_word(bytes: &[u8], at: usize) -> u64
+    requires short { length bytes.now < 2 ^ 16 }
+    requires few { at < MOST_WORDS }
+    ensures { result ≡ word_in (counted bytes.now) at }
+{
+    if at > 0 && 8 * at + 6 <= bytes.len() {
+        full_word(bytes, at)
+    } else {
+        edge_word(bytes, at)
+    }
 }
 
 // The words of a string.

@@ -1,4 +1,4 @@
-ghost use Rattle.std.specs.Prelude.{◌≡◌, ◌↔◌, ◌<◌, ◌^◌, [], ◌∷◌, length, refl, IsTrue};
+ghost use Rattle.std.specs.Prelude.{◌≡◌, ◌↔◌, ◌<◌, ◌≤◌, ◌^◌, [], ◌∷◌, length, refl, IsTrue};
 ghost use Rattle.std.proofs.Common.{rules};
 ghost use Rattle.std.proofs.lemmas.Grind.{common_steps};
 
@@ -118,7 +118,9 @@ fn strings_stand_in_words(rt: HostRuntime) -> Result<(), Fail> {
 }
 
 // A string of this many bytes has room in `W` words: it comes back from them as it was.
-fn holds<const W: usize>(rt: &impl Abort, count: usize) -> Result<(), TooLong> {
+fn holds<const W: usize>(rt: &impl Abort, count: usize) -> Result<(), TooLong>
+    requires { W ≤ 65 }
+{
     let mut bytes = [0u8; 600];
     for (i, byte) in bytes.iter_mut().enumerate() {
         *byte = (i % 251 + 1) as u8;
