@@ -1,13 +1,13 @@
 -- What the writer's search says of its answers, in the words of its contract.
-use Rattle.std.proofs.Common.{◌≡◌, ◌≢◌, ℕ, ◌+◌, ◌*◌, ◌/◌, ◌%◌, ◌^◌, ◌<◌, ◌≤◌, ◌⊎◌, true, false, eqb, ◌||◌, Bool}
-use Rattle.std.proofs.Common.{Option, Some, None, IsSomeAnd, IfSome, List, map, get_or, refl, sym, ap, ◌∙◌, subst}
+use Rattle.std.proofs.Common.{◌≡◌, ◌≢◌, ℕ, ◌+◌, ◌*◌, ◌/◌, ◌%◌, ◌^◌, ◌<◌, ◌≤◌, true, false, eqb, ◌||◌, Bool}
+use Rattle.std.proofs.Common.{Option, Some, IsSomeAnd, IfSome, List, map, get_or, sym, ap, ◌∙◌, subst}
 use Rattle.std.proofs.Common.{arith, ⊎_elim}
 use Rattle.std.proofs.lemmas.Bool.{cases_lt}
 use Rattle.cache_nests.specs.declared.led.Led.{Led}
 use Rattle.cache_nests.specs.declared.led.Way.{Way}
-use Rattle.cache_nests.specs.Tags.{lanes, tag_of, tag_in}
+use Rattle.cache_nests.specs.Tags.{tag_of}
 use Rattle.cache_nests.specs.Places.{IsPlace, tag_at, passed_at, home_of, nest_behind, place_in, tag_behind}
-use Rattle.cache_nests.specs.Leads.{no_way, led_by, way_to, AreLed, IsRoomy}
+use Rattle.cache_nests.specs.Leads.{led_by, way_to, AreLed, IsRoomy}
 use Rattle.cache_nests.specs.Views.{IndexView, SearchView, index_view, led_at, has_answered}
 use Rattle.cache_nests.proofs.StepsLemmas.{home_of-lt}
 use Rattle.cache_nests.proofs.RoomLemmas.{lane_is_off}

@@ -1,8 +1,8 @@
 -- What put and clear do to the words, step by step.
-use Rattle.std.proofs.Common.{◌≡◌, ◌≢◌, ℕ, ◌+◌, ◌-◌, ◌*◌, ◌/◌, ◌%◌, ◌^◌, ◌<◌, ◌≤◌, ◌⊎◌, true, false, cond, eqb, ltb}
-use Rattle.std.proofs.Common.{Bool, List, length, set, get_or, count_by, refl, sym, ap, ◌∙◌, subst, arith, ⊎_elim}
+use Rattle.std.proofs.Common.{◌≡◌, ◌≢◌, ℕ, ◌+◌, ◌*◌, ◌^◌, ◌<◌, ◌≤◌, false, cond, eqb, ltb}
+use Rattle.std.proofs.Common.{Bool, List, length, set, get_or, count_by, refl, sym, ap, ◌∙◌, arith, ⊎_elim}
 use Rattle.std.proofs.Common.{length-set, get_or-set_same, get_or-set_other}
-use Rattle.std.proofs.lemmas.Bool.{cases_lt, cases_eq, ne_eqb, cond-true, cond-false, lt-ltb}
+use Rattle.std.proofs.lemmas.Bool.{cases_eq, ne_eqb, cond-true, cond-false, lt-ltb}
 use Rattle.std.proofs.lemmas.List.Sums.{count_by-le-length, sum_by-set}
 use Rattle.cache_nests.specs.declared.led.Way.{Way}
 use Rattle.cache_nests.specs.Tags.{tag_of, tag_in}
@@ -10,7 +10,7 @@ use Rattle.cache_nests.specs.Places.{IsPlace, tag_at, passed_at, nest_of, lane_o
 use Rattle.cache_nests.specs.Changes.{OneMorePassed, HasNewTag}
 use Rattle.cache_nests.specs.Leads.{life_number, no_way, way_to, passes, AreLed, IsRoomy}
 use Rattle.cache_nests.proofs.StepsLemmas.{one_below}
-use Rattle.cache_nests.proofs.LedLemmas.{one_pass, IsLaid, IsLifted, chunk_of_way, place_some, tag_some}
+use Rattle.cache_nests.proofs.LedLemmas.{one_pass, IsLaid, IsLifted, chunk_of_way, place_some}
 
 -- how a way passes a nest
 pub one_pass-steps : (nests nest : ℕ) (way : Way) → 0 < way.place

@@ -1,11 +1,11 @@
 -- The lanes with a tag, found in all six at once: the highest bit of each is set exactly where its tag is this one.
-use Rattle.std.proofs.Common.{◌≡◌, ◌≢◌, ℕ, zero, suc, ◌+◌, ◌-◌, ◌*◌, ◌/◌, ◌%◌, ◌^◌, ◌<◌, ◌≤◌, ◌⊎◌, min, max, true}
-use Rattle.std.proofs.Common.{false, cond, eqb, bit_and, bit_or, bit_xor, w64, refl, sym, ap, ◌∙◌, subst, arith}
+use Rattle.std.proofs.Common.{◌≡◌, ◌≢◌, ℕ, zero, suc, ◌+◌, ◌-◌, ◌*◌, ◌/◌, ◌%◌, ◌^◌, ◌<◌, ◌≤◌, min, max}
+use Rattle.std.proofs.Common.{cond, eqb, bit_and, bit_or, bit_xor, w64, refl, sym, ap, ◌∙◌, subst, arith}
 use Rattle.std.proofs.Common.{⊎_elim}
 use Rattle.std.specs.Int.{bit_at, bit_not}
 use Rattle.std.specs.Int.Bits.{xor_self}
 use Rattle.std.proofs.Math.Nat.{div-div-eq-div-mul, mod-lt, zero-div}
-use Rattle.std.proofs.lemmas.Nat.{pow-add, pow_pos, and_mod, xor_mod, and_mask, and_le_r, or_lt, xor_lt, div-mul-add}
+use Rattle.std.proofs.lemmas.Nat.{pow-add, and_mod, xor_mod, and_mask, and_le_r, or_lt, xor_lt, div-mul-add}
 use Rattle.std.proofs.lemmas.Nat.{div-add-mod'}
 use Rattle.std.proofs.lemmas.Nat.Bits.{same_from_bits, bit_at_and, bit_at_or, bit_at_xor, bit_at_not, bit_at-lt}
 use Rattle.std.proofs.lemmas.Bool.{cases_eq, cond-true, cond-false, eq-eqb, ne_eqb}

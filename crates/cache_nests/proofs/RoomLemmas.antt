@@ -1,15 +1,15 @@
 -- There are more lanes than chunks, so one is off; and new nests lead nowhere.
-use Rattle.std.proofs.Common.{◌≡◌, ◌≢◌, ℕ, zero, suc, ◌+◌, ◌-◌, ◌*◌, ◌/◌, ◌%◌, ◌^◌, ◌<◌, ◌≤◌, ◌⊎◌, inl, inr, true}
-use Rattle.std.proofs.Common.{false, cond, eqb, ltb, List, length, replicate, get_or, count_by, refl, sym, ap, ◌∙◌}
-use Rattle.std.proofs.Common.{subst, arith, ⊎_elim}
+use Rattle.std.proofs.Common.{◌≡◌, ◌≢◌, ℕ, zero, suc, ◌+◌, ◌*◌, ◌/◌, ◌%◌, ◌^◌, ◌<◌, ◌≤◌}
+use Rattle.std.proofs.Common.{cond, eqb, List, length, replicate, get_or, refl, sym, ap, ◌∙◌}
+use Rattle.std.proofs.Common.{arith, ⊎_elim}
 use Rattle.std.proofs.Math.Nat.{zero-div, zero-mod}
 use Rattle.std.proofs.lemmas.Bool.{cases_lt, cases_eq, cond-true, cond-false, eq-eqb, ne_eqb}
 use Rattle.std.proofs.lemmas.List.{get_or_past, get_or-replicate, length-replicate}
 use Rattle.std.proofs.lemmas.List.Folds.{sum_by-replicate}
 use Rattle.cache_nests.specs.declared.led.Way.{Way}
-use Rattle.cache_nests.specs.Tags.{tag_of, tag_in}
+use Rattle.cache_nests.specs.Tags.{tag_in}
 use Rattle.cache_nests.specs.Places.{IsPlace, tag_at, passed_at, nest_of, lane_of}
-use Rattle.cache_nests.specs.Leads.{no_way, way_to, passes, LeadsTo, AreLed, IsRoomy}
+use Rattle.cache_nests.specs.Leads.{no_way, way_to, AreLed, IsRoomy}
 use Rattle.cache_nests.proofs.LedLemmas.{one_pass, chunk_of_way, place_some}
 
 -- what a function gives, but for one value what it gives in its place

@@ -1,20 +1,20 @@
 -- What the writer's search has answered before and after an answer.
-use Rattle.std.proofs.Common.{◌≡◌, ◌≢◌, ℕ, ◌+◌, ◌-◌, ◌*◌, ◌/◌, ◌%◌, ◌^◌, ◌<◌, ◌≤◌, ◌⊎◌, inl, inr, true, false, cond}
-use Rattle.std.proofs.Common.{eqb, ltb, Bool, ◌&&◌, ◌||◌, Option, Some, None, List, length, map, get_or, refl, sym}
+use Rattle.std.proofs.Common.{◌≡◌, ◌≢◌, ℕ, ◌+◌, ◌*◌, ◌/◌, ◌%◌, ◌^◌, ◌<◌, ◌≤◌, true, false}
+use Rattle.std.proofs.Common.{eqb, Bool, ◌&&◌, ◌||◌, Option, Some, None, List, map, get_or, refl, sym}
 use Rattle.std.proofs.Common.{ap, ◌∙◌, subst, arith, ⊎_elim}
 use Rattle.std.proofs.Math.ListN.{get_or-map}
-use Rattle.std.proofs.lemmas.Bool.{cases_lt, cases_eq, cases_order, cases_Bool, cond-true, cond-false, ltb-true}
-use Rattle.std.proofs.lemmas.Bool.{lt-ltb, le-ltb, eqb-true, eq-eqb, ne_eqb, or_right, or_left}
+use Rattle.std.proofs.lemmas.Bool.{cases_lt, cases_eq, cases_order, cases_Bool, cond-true, cond-false}
+use Rattle.std.proofs.lemmas.Bool.{lt-ltb, le-ltb, eqb-true, eq-eqb, ne_eqb, or_right}
 use Rattle.cache_nests.specs.declared.led.Led.{Led}
 use Rattle.cache_nests.specs.declared.led.Way.{Way}
-use Rattle.cache_nests.specs.Tags.{lanes, tag_of, tag_in}
+use Rattle.cache_nests.specs.Tags.{tag_of, tag_in}
 use Rattle.cache_nests.specs.Places.{IsPlace, tag_at, passed_at, nest_of, lane_of, home_of, nest_behind, steps_to}
 use Rattle.cache_nests.specs.Places.{place_in, lane_number, tag_behind}
-use Rattle.cache_nests.specs.Leads.{life_number, no_way, led_by, way_to, passes, LeadsTo, AreLed, IsRoomy}
-use Rattle.cache_nests.specs.Views.{IndexView, SearchView, index_view, led_at, has_tag, has_looked, has_answered}
-use Rattle.cache_nests.proofs.StepsLemmas.{home_of-lt, nest_behind-lt, steps_to-lt, steps_to-nest_behind}
+use Rattle.cache_nests.specs.Leads.{life_number, no_way, led_by, way_to, LeadsTo, AreLed, IsRoomy}
+use Rattle.cache_nests.specs.Views.{SearchView, index_view, led_at, has_tag, has_looked, has_answered}
+use Rattle.cache_nests.proofs.StepsLemmas.{nest_behind-lt, steps_to-lt, steps_to-nest_behind}
 use Rattle.cache_nests.proofs.StepsLemmas.{nest_behind-steps_to}
-use Rattle.cache_nests.proofs.LedLemmas.{life_chunk, life_generation, chunk_fits, one_chunk, place_some, tag_some}
+use Rattle.cache_nests.proofs.LedLemmas.{life_generation, chunk_fits, one_chunk, place_some, tag_some}
 use Rattle.cache_nests.proofs.ChangeLemmas.{some_pass}
 
 abbrev pub search_at : ℕ → ℕ → SearchView

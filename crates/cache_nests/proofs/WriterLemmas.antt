@@ -1,23 +1,22 @@
 -- What the writer's calls need of the index, over plain values.
-use Rattle.std.proofs.Common.{◌≡◌, ◌≢◌, ℕ, zero, suc, ◌+◌, ◌-◌, ◌*◌, ◌/◌, ◌%◌, ◌^◌, ◌<◌, ◌≤◌, ◌⊎◌, inl, inr, true}
-use Rattle.std.proofs.Common.{false, cond, eqb, ltb, Option, Some, None, IsSome, List, [], ◌∷◌, length, map}
+use Rattle.std.proofs.Common.{◌≡◌, ℕ, zero, suc, ◌+◌, ◌-◌, ◌*◌, ◌/◌, ◌^◌, ◌<◌, ◌≤◌}
+use Rattle.std.proofs.Common.{Option, Some, None, IsSome, List, ◌∷◌, length, map}
 use Rattle.std.proofs.Common.{replicate, set, get_or, refl, sym, ap, ◌∙◌, subst, arith, ⊎_elim, length-set}
-use Rattle.std.proofs.Common.{get_or-set_other}
-use Rattle.std.specs.Int.{bit_at, trailing_zeros}
+use Rattle.std.specs.Int.{trailing_zeros}
 use Rattle.std.proofs.Common.{w64}
-use Rattle.std.proofs.lemmas.Bool.{cases_lt, cases_eq, false≢true}
-use Rattle.std.proofs.lemmas.List.{length-map, map-set, length-replicate}
+use Rattle.std.proofs.lemmas.Bool.{cases_lt, false≢true}
+use Rattle.std.proofs.lemmas.List.{length-map, map-set}
 use Rattle.std.proofs.lemmas.Nat.Bits.{bit_at-trailing_zeros, bit_at_above}
 use Rattle.cache_nests.specs.declared.led.Led.{Led}
 use Rattle.cache_nests.specs.declared.led.Way.{Way}
-use Rattle.cache_nests.specs.Tags.{lanes, tag_of, tag_in}
+use Rattle.cache_nests.specs.Tags.{tag_of, tag_in}
 use Rattle.cache_nests.specs.Places.{IsPlace, tag_at, passed_at, nest_of, lane_of, home_of, nest_behind, steps_to}
 use Rattle.cache_nests.specs.Changes.{OneMorePassed, HasNewTag}
-use Rattle.cache_nests.specs.Leads.{life_number, no_way, led_by, way_to, passes, LeadsTo, AreLed, IsRoomy}
+use Rattle.cache_nests.specs.Leads.{life_number, no_way, led_by, way_to, AreLed, IsRoomy}
 use Rattle.cache_nests.specs.Views.{IndexView, index_view, led_at, with_generation}
-use Rattle.cache_nests.proofs.StepsLemmas.{home_of-lt, nest_behind-lt, steps_to-lt, steps_to-nest_behind}
+use Rattle.cache_nests.proofs.StepsLemmas.{nest_behind-lt, steps_to-lt, steps_to-nest_behind}
 use Rattle.cache_nests.proofs.StepsLemmas.{nest_behind-steps_to, one_more_passed, one_less_passed, not_yet}
-use Rattle.cache_nests.proofs.LedLemmas.{laid_is_led, lifted_is_led, led_anew, chunk_of_way}
+use Rattle.cache_nests.proofs.LedLemmas.{laid_is_led, lifted_is_led}
 use Rattle.cache_nests.proofs.ChangeLemmas.{put_lays, clear_lifts, some_pass}
 use Rattle.cache_nests.proofs.SearchLemmas.{led_at-way, led_by-some, led_by-none}
 

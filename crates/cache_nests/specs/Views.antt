@@ -1,5 +1,5 @@
 -- What contracts see of an index and of the searches in it.
-use Rattle.std.specs.Prelude.{◌≡◌, ℕ, ◌+◌, ◌-◌, ◌*◌, ◌<◌, ◌≤◌, ◌==◌, Bool, true, false, ◌&&◌, ◌||◌, nat_lt}
+use Rattle.std.specs.Prelude.{ℕ, ◌-◌, ◌*◌, ◌≤◌, ◌==◌, Bool, false, ◌&&◌, nat_lt}
 use Rattle.std.specs.Prelude.{List, slice_index, slice_index_or, Option, Some, None, map}
 use Rattle.atomic_table.specs.Seated.{TableId}
 use Rattle.cache_nests.specs.declared.led.Led.{Led}

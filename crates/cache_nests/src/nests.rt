@@ -34,9 +34,9 @@ impl Model for Nests {
 
     ghost Value = { NestsView };
 
-    ghost view = { λ n. record { table = n.words; nests = n.count } };
+    ghost view = { λ n. record { table = n.words.table; nests = n.count } };
 
-    ghost invariant = { λ n. (n.words.words ≡ 8 * n.count) × (0 < n.count) × (n.count ≤ 2 ^ 28 + 1) };
+    ghost invariant = { λ n. (n.words.count ≡ 8 * n.count) × (0 < n.count) × (n.count ≤ 2 ^ 28 + 1) };
 }
 
 // The nest so many steps behind another, where the first follows the last.

@@ -1,14 +1,26 @@
 -- Words of which one seat knows each.
-use Rattle.std.specs.Prelude.{◌≡◌, ℕ, List, [], ◌∷◌, slice_index, slice_set}
+use Rattle.std.specs.Prelude.{◌≡◌, ℕ, ◌-◌, List, [], ◌∷◌, drop, slice_index, slice_set}
 use Rattle.atomic_table.specs.Table.{State, Me, Step}
 use Rattle.atomic_table.specs.Seated.{TableId}
 use Rattle.pen_words.specs.declared.views.NoSlot.{NoSlot}
 use Rattle.pen_words.specs.declared.views.Known.{Known}
 
+-- what contracts see of the words: which table's they are, and how many
+pub record WordsView : Type 0 where
+  pub table : TableId
+  pub count : ℕ
+
 -- what contracts see of a pen: which table's words it writes, and each of these
 pub record PenView : Type 0 where
   pub table : TableId
   pub words : List ℕ
+
+-- the first 6 words of the table stand before the first of these
+abbrev pub words_view : TableId → WordsView
+words_view table = record { table = table; count = table.words - 6 }
+
+abbrev pub pen_view : TableId → List ℕ → PenView
+pen_view table words = record { table = table; words = drop 6 words }
 
 abbrev pub known : List ℕ → Known
 known words = record { words = words }

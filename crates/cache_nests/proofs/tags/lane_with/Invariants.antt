@@ -1,4 +1,4 @@
-use Rattle.std.proofs.Common.{◌≡◌, ◌≢◌, ℕ, ◌<◌, ◌≤◌}
+use Rattle.std.proofs.Common.{◌≢◌, ℕ, ◌<◌, ◌≤◌}
 use Rattle.cache_nests.specs.Tags.{tag_in}
 use Rattle.cache_nests.proofs.tags.lane_with.Given as goal
 

@@ -1,4 +1,4 @@
-use Rattle.std.proofs.Common.{◌≡◌, ◌≢◌, ℕ, ◌+◌, ◌-◌, ◌*◌, ◌/◌, ◌%◌, ◌^◌, ◌<◌, Fits, w64, sym, subst, arith}
+use Rattle.std.proofs.Common.{◌≡◌, ℕ, ◌*◌, Fits, w64, sym, subst, arith}
 use Rattle.std.proofs.Math.Facts.{Fits-of_lt}
 use Rattle.cache_nests.specs.Tags.{tag_in}
 use Rattle.cache_nests.proofs.TagLemmas.{with_bits, one_at, tag_fits, tags_fit, tag_here, tag_elsewhere}

@@ -1,12 +1,11 @@
-use Rattle.std.proofs.Common.{◌≡◌, ℕ, ◌+◌, ◌*◌, ◌<◌, ◌≤◌, ◌⊎◌, inl, inr, List, Option, None, Some, refl, sym, ap, ◌∙◌}
-use Rattle.std.proofs.Common.{subst, arith, rules, ⊎_elim, replicate}
+use Rattle.std.proofs.Common.{◌≡◌, None, refl, sym, ap, ◌∙◌}
 use Rattle.std.specs.Arc.{arc_value}
 use Rattle.std.proofs.lemmas.List.{get_or_read}
 use Rattle.cache_nests.specs.declared.led.Way.{Way}
-use Rattle.cache_nests.specs.Leads.{no_way, way_to, life_number, AreLed, led_by}
-use Rattle.cache_nests.proofs.LedLemmas.{chunk_of_way, led_anew}
-use Rattle.cache_nests.proofs.WriterLemmas.{some_way, none_way, chunk_within, place_like, roomy_set, clear_passed}
-use Rattle.cache_nests.proofs.WriterLemmas.{clear_led, put_led, table_set, table_led, none_led}
+use Rattle.cache_nests.specs.Leads.{no_way, way_to}
+use Rattle.cache_nests.proofs.LedLemmas.{chunk_of_way}
+use Rattle.cache_nests.proofs.WriterLemmas.{some_way, place_like, roomy_set, clear_passed}
+use Rattle.cache_nests.proofs.WriterLemmas.{clear_led, table_set}
 use Rattle.cache_nests.proofs.index.Index.clear.Goals as goal
 
 pub set_tag-requires-clause-place : goal.set_tag-requires-clause-place

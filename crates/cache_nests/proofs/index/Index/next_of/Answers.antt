@@ -1,10 +1,8 @@
-use Rattle.std.proofs.Common.{◌≡◌, ℕ, ◌+◌, ◌*◌, ◌<◌, ◌≤◌, List, Option, None, Some, refl, sym, ap, ◌∙◌, arith}
+use Rattle.std.proofs.Common.{refl, sym, ap, arith}
 use Rattle.std.specs.Arc.{arc_value}
 use Rattle.pen_words.specs.Known.{PenView}
-use Rattle.cache_nests.specs.Places.{home_of}
-use Rattle.cache_nests.specs.Views.{NestsView, SearchView}
+use Rattle.cache_nests.specs.Views.{NestsView}
 use Rattle.cache_nests.proofs.AnswerLemmas.{found_from, life_found, answer_anew, answer_led, answer_answered, end_all}
-use Rattle.cache_nests.proofs.SearchLemmas.{IsFound, search_at}
 use Rattle.cache_nests.proofs.index.Index.next_of.Goals as goal
 
 pub returns-in_default-clause-all : goal.returns-in_default-clause-all

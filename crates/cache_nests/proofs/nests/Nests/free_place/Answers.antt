@@ -1,4 +1,4 @@
-use Rattle.std.proofs.Common.{◌≡◌, ℕ, ◌<◌, ◌≤◌, ap, arith}
+use Rattle.std.proofs.Common.{◌≡◌, ◌<◌, ap, arith}
 use Rattle.cache_nests.specs.Places.{home_of}
 use Rattle.cache_nests.specs.Views.{NestsView}
 use Rattle.cache_nests.proofs.StepsLemmas.{home_of-lt}

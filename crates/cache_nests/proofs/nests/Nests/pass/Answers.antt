@@ -1,5 +1,5 @@
-use Rattle.std.proofs.Common.{◌≡◌, ℕ, ◌+◌, ◌*◌, ◌<◌, ◌≤◌, List, length, length-set, sym, ap, ◌∙◌, subst, arith, rules}
-use Rattle.cache_nests.specs.Places.{home_of, nest_of, steps_to, passed_at}
+use Rattle.std.proofs.Common.{◌≡◌, ℕ, ◌+◌, ◌*◌, ◌<◌, List, length, length-set, ap, ◌∙◌, arith, rules}
+use Rattle.cache_nests.specs.Places.{home_of}
 use Rattle.pen_words.specs.Known.{PenView}
 use Rattle.cache_nests.specs.Views.{NestsView}
 use Rattle.cache_nests.proofs.StepsLemmas.{home_of-lt}

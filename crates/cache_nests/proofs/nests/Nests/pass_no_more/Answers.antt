@@ -1,6 +1,6 @@
-use Rattle.std.proofs.Common.{◌≡◌, ℕ, ◌+◌, ◌-◌, ◌*◌, ◌<◌, ◌≤◌, List, length, length-set, sym, ap, ◌∙◌, subst, arith}
+use Rattle.std.proofs.Common.{◌≡◌, ℕ, ◌+◌, ◌-◌, ◌*◌, ◌<◌, List, length, length-set, ap, ◌∙◌, arith}
 use Rattle.std.proofs.Common.{rules}
-use Rattle.cache_nests.specs.Places.{home_of, nest_of, steps_to, passed_at}
+use Rattle.cache_nests.specs.Places.{home_of, nest_of, steps_to}
 use Rattle.pen_words.specs.Known.{PenView}
 use Rattle.cache_nests.specs.Views.{NestsView}
 use Rattle.cache_nests.proofs.StepsLemmas.{home_of-lt}
