@@ -16,7 +16,7 @@ use Rattle.bump_rules.specs.Lawful.{Shows}
 use Rattle.bump_rules.specs.Lives.{life}
 use Rattle.bump_rules.specs.Places.{is_segment_place}
 use Rattle.bump_rules.specs.Tables.{is_cold, outcome_of}
-use Rattle.bump_steps.specs.Views.{standing}
+use Rattle.bump_steps.specs.Views.{standing, last_word}
 use Rattle.bump_class.specs.Books.{BookView}
 use Rattle.bump_class.specs.Lanes.{LaneView, carries}
 use Rattle.bump_class.specs.Applications.{FoundHeads, Applies, AppliesFront, book_after_update, class_with_time, with_clearing}
@@ -81,8 +81,8 @@ applied_keeps book left from to bump now came_out answer found applies same =
     in_cold : (b : Bool) → KeepsItems book (record book {
       part = if b then with_clearing from.part.worker bump found.cleared timed else timed;
     })
-    in_cold true = record { class = record { first = refl; count = refl }; linked = λ c. refl }
-    in_cold false = record { class = record { first = refl; count = refl }; linked = λ c. refl }
+    in_cold true = record { class = record { first = refl; count = refl }; linked = λ c. refl; words = λ i c. refl }
+    in_cold false = record { class = record { first = refl; count = refl }; linked = λ c. refl; words = λ i c. refl }
 
     Looked : Bool → BookView
     Looked b = record book {
@@ -101,8 +101,9 @@ applied_keeps book left from to bump now came_out answer found applies same =
           ((freed_nowhere item).0 ∙ sym (ap (λ (l : ItemId). linked_at book.part l.chunk) (freed_nowhere item).1
           ∙ stands_elsewhere book.part bump.life.chunk (standing book.part bump.life.chunk).0 refl
           (shows_elsewhere found.tried (standing book.part bump.life.chunk).0 applies.shows apart)));
+      words = λ i c. refl;
     }
-    gone false apart = record { class = record { first = refl; count = refl }; linked = λ c. refl }
+    gone false apart = record { class = record { first = refl; count = refl }; linked = λ c. refl; words = λ i c. refl }
 
     by : (o : Outcome) → o ≡ came_out → KeepsItems book (book_after_update o from.part.worker bump now found book)
     by outcome.Moved e =
@@ -114,6 +115,7 @@ applied_keeps book left from to bump now came_out answer found applies same =
               (change.Moved bump.life segment.Cold segment.Warm (cause.Bump from.part.worker bump.number))
               (segment_linked segment.Warm bump.life.generation
               ∙ (ap Some (sym same) ∙ sym (stands_linked book.part bump.life.chunk segment.Cold there)));
+          words = λ i c. refl;
         }
     by outcome.TimeOnly e = in_cold (is_cold found.tried.segment)
     by outcome.Gone e = gone (found.behind.refs == 0) (gone_found found.tried found.cleared (e ∙ applies.table))
@@ -136,4 +138,5 @@ seen_keeps book seen left chunk head is keeps = record {
     count = keeps.class.count ∙ ap (λ (b : BookView). b.part.count) is;
   };
   linked = λ c. keeps.linked c ∙ ap (λ (b : BookView). linked_at b.part c) is;
+  words = λ i c. keeps.words i c ∙ ap (λ (b : BookView). last_word i b.part c) is;
 }

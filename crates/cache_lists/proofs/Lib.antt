@@ -1,3 +1,4 @@
+pub mod Rows
 pub mod Standings
 pub mod Bumping
 pub mod Counting

@@ -35,7 +35,7 @@ use Rattle.bump_rules.proofs.Replay.{standing_push}
 use Rattle.bump_rules.proofs.Standings.{same_place}
 use Rattle.bump_steps.specs.declared.views.ClassPart.{ClassPart}
 use Rattle.bump_steps.specs.Applications.{life_in}
-use Rattle.bump_steps.specs.Views.{standing, owns}
+use Rattle.bump_steps.specs.Views.{standing, owns, last_word}
 use Rattle.bump_class.specs.Books.{BookView}
 use Rattle.bump_class.specs.Pulls.{PullsAt, PullsItem, MovesItem, book_after_pull_to, limits_of_book}
 use Rattle.bump_class.specs.Changes.{book_after_clear_active, book_after_unlink, book_after_load, book_with_words}
@@ -47,6 +47,7 @@ use Rattle.bump_class.specs.Ends.{EndsItem, book_after_end, unlink_refusal, is_l
 use Rattle.cache_lists.specs.Linked.{linked_standing, linked_at}
 use Rattle.cache_lists.specs.Items.{IsSameClass, KeepsItems, EndsAt, BeginsAt}
 use Rattle.bump_rules.specs.Commands.{item_told}
+use Rattle.cache_lists.proofs.Rows.{row_elsewhere}
 
 -- where one more entry of a history leaves the items
 pub linked_push : (fresh : ℕ) (history : List Change) (e : Change) (c : ℕ)
@@ -123,18 +124,19 @@ pub moves_keep : (book left : BookView) (from : Tail) (chunk : ℕ) (answer : Pu
 moves_keep book left from chunk answer cleared moved moves is = subst (KeepsItems book) (sym moves.after) (by (pulled_to answer))
   where
     by : (to : Option Segment) → KeepsItems book (book_after_pull_to from chunk to moved (book_after_clear_active chunk cleared book))
-    by None = record { class = record { first = refl; count = refl }; linked = λ c. refl }
+    by None = record { class = record { first = refl; count = refl }; linked = λ c. refl; words = λ i c. refl }
     by (Some to) = record {
       class = record { first = refl; count = refl };
       linked = linked_same book.part.fresh book.part.history (change.Moved (life_in book.part chunk) (segment_of from) to cause.Pull)
           (segment_linked to (standing book.part chunk).1 ∙ sym (stands_linked book.part chunk (segment_of from) is));
+      words = λ i c. refl;
     }
 
 -- a pull that isn't an evict keeps the items
 pub pulls_keep : (book left : BookView) (from : Tail) (answer : Pulled) → Stands book → from ≢ tail.Evict
     → (at : Option ℕ) → at ≡ last_pulled from book.lists → PullsAt book from at answer left → KeepsItems book left
 pulls_keep book left from answer stands ne None is pulls =
-    subst (KeepsItems book) (sym pulls.1) (record { class = record { first = refl; count = refl }; linked = λ c. refl })
+    subst (KeepsItems book) (sym pulls.1) (record { class = record { first = refl; count = refl }; linked = λ c. refl; words = λ i c. refl })
 pulls_keep book left tail.Hot answer stands ne (Some chunk) is pulls = moves_keep book left tail.Hot chunk answer pulls.0 pulls.1 pulls.2
     (listed_there book stands chunk Hot (last_there chunk book.lists.hot (sym is))).1
 pulls_keep book left tail.Warm answer stands ne (Some chunk) is pulls = moves_keep book left tail.Warm chunk answer pulls.0 pulls.1 pulls.2
@@ -176,8 +178,8 @@ ends_at book left chunk ended last behind ends own was = subst (EndsAt chunk boo
         ∙ sym (ap (λ (l : ItemId). linked_standing (standing_in book.part.fresh unlinked l.chunk)) (freed_nowhere (life chunk generation)).1 ∙ nowhere))
 
     by : (b : Bool) → EndsAt chunk book (Left b)
-    by true = record { class = record { first = refl; count = refl }; own = own; was = was; linked = λ c. freed c ∙ after_unlink c }
-    by false = record { class = record { first = refl; count = refl }; own = own; was = was; linked = after_unlink }
+    by true = record { class = record { first = refl; count = refl }; own = own; was = was; linked = λ c. freed c ∙ after_unlink c; words = λ i c. refl }
+    by false = record { class = record { first = refl; count = refl }; own = own; was = was; linked = after_unlink; words = λ i c. refl }
 
 -- the item of this chunk ends by an evict
 pub evicts_at : (book left : BookView) (answer : Pulled) (chunk : ℕ) → Stands book → last_of book.lists.cold ≡ Some chunk
@@ -223,6 +225,7 @@ sweeps_keep book left freed_chunks heads looked stands dying sweeps = subst (Kee
   class = record { first = refl; count = refl };
   linked = swept_keep book.part.fresh heads book.part.history looked
       (λ c some. stands_elsewhere book.part c Dying (listed_there book stands c Dying (dying c some)).1 refl);
+  words = λ i c. refl;
 })
 
 -- a life begins
@@ -242,7 +245,18 @@ begins_at book left item label words now stands is after = subst (BeginsAt item 
           own = ap (λ d. owns d book.part) (sym same) ∙ there.0;
           free = ap (linked_at book.part) (sym same) ∙ stands_elsewhere book.part chunk Unused there.1 refl;
           linked = linked_push book.part.fresh book.part.history (change.Linked item);
+          words = λ i c other. row_elsewhere book.part item label words now i c other;
         }
+
+-- a life begins at the first chunk of UNUSED
+pub begins_first : (book : BookView) (item : ItemId) → linked_item book ≡ Ok item → first_of book.lists.unused ≡ Some item.chunk
+begins_first book item is = by (first_of book.lists.unused) is
+  where
+    by : (at : Option ℕ) → item_of book at ≡ Ok item → at ≡ Some item.chunk
+    by None linked = absurd (cc linked)
+    by (Some chunk) linked =
+        let it : next_life book chunk ≡ item = cc linked in
+        ap (λ (l : ItemId). Some l.chunk) it
 
 -- an evict that tells this item ended it, which was the last of COLD
 pub evict_told : (book left : BookView) (answer : Pulled) (item : ItemId) → Stands book → (at : Option ℕ)
@@ -269,7 +283,7 @@ owns_same book left class c = ap₂ (λ f n. is_between f (f + n) c) class.first
 
 -- nothing keeps the items
 pub keeps_still : (book : BookView) → KeepsItems book book
-keeps_still book = record { class = record { first = refl; count = refl }; linked = λ c. refl }
+keeps_still book = record { class = record { first = refl; count = refl }; linked = λ c. refl; words = λ i c. refl }
 
 -- and so does what keeps them twice
 pub keeps_then : (book between left : BookView) → KeepsItems book between → KeepsItems between left → KeepsItems book left
@@ -279,6 +293,7 @@ keeps_then book between left one other = record {
     count = other.class.count ∙ one.class.count;
   };
   linked = λ c. other.linked c ∙ one.linked c;
+  words = λ i c. other.words i c ∙ one.words i c;
 }
 
 -- what keeps the items may come before the end of one
@@ -292,6 +307,7 @@ kept_ends book kept left chunk keeps ends = record {
   own = sym (owns_same book kept keeps.class chunk) ∙ ends.own;
   was = (ends.was.0, sym (keeps.linked chunk) ∙ ends.was.1);
   linked = λ c. ends.linked c ∙ ap (λ (o : Option ℕ). if chunk == c then None else o) (keeps.linked c);
+  words = λ i c. ends.words i c ∙ keeps.words i c;
 }
 
 -- or behind it
@@ -305,6 +321,7 @@ ends_kept book ended left chunk ends keeps = record {
   own = ends.own;
   was = ends.was;
   linked = λ c. keeps.linked c ∙ ends.linked c;
+  words = λ i c. keeps.words i c ∙ ends.words i c;
 }
 
 -- a look at a chunk keeps the items
@@ -313,6 +330,7 @@ pub see_keeps : (book seen : BookView) (chunk : ℕ) (head : Head) → seen ≡ 
 see_keeps book seen chunk head is = subst (KeepsItems book) (sym is) (record {
   class = record { first = refl; count = refl };
   linked = λ c. refl;
+  words = λ i c. refl;
 })
 
 -- a head of a chunk whose item ended isn't linked
@@ -397,15 +415,16 @@ unlinks_at book left item ended own was (looked, found, last, behind, looks, end
       own = own;
       was = (item.generation, was);
       linked = λ c. at.linked c ∙ ap (λ (b : BookView). if item.chunk == c then None else linked_at b.part c) looks.after;
+      words = λ i c. at.words i c ∙ ap (λ (b : BookView). last_word i b.part c) looks.after;
     }
 
 -- and where it is
 pub unlinks_nothing : (book left : BookView) (item : ItemId) (refusal : UnlinkRefusal) → Unlinks book item (Err refusal) left
     → KeepsItems book left
 unlinks_nothing book left item NoSuchChunk is =
-    subst (KeepsItems book) (sym is) (record { class = record { first = refl; count = refl }; linked = λ c. refl })
+    subst (KeepsItems book) (sym is) (record { class = record { first = refl; count = refl }; linked = λ c. refl; words = λ i c. refl })
 unlinks_nothing book left item NotLinked (found, looks) =
-    subst (KeepsItems book) (sym looks.after) (record { class = record { first = refl; count = refl }; linked = λ c. refl })
+    subst (KeepsItems book) (sym looks.after) (record { class = record { first = refl; count = refl }; linked = λ c. refl; words = λ i c. refl })
 
 -- what a pull tells is the item at which it looked, and that is still linked
 tells_item : (from : Tail) (head : Head) (lists : Lists) (limits : Limits) (ended : Ended) (item : ItemId)
@@ -480,20 +499,6 @@ pub told_none : (book left : BookView) (from : Tail) (answer : Pulled) (at : Opt
     → told ≡ option_map (life_in book.part) at → PullsAt book from at answer left → IfNone told (left ≡ book)
 told_none book left from answer None told e pulls = subst (λ t. IfNone t (left ≡ book)) (sym e) pulls.1
 told_none book left from answer (Some chunk) told e pulls = subst (λ t. IfNone t (left ≡ book)) (sym e) tt
-
--- an item that began and ended at once left the items as they were
-pub unbegun : (book between left : BookView) (item : ItemId) → BeginsAt item book between → EndsAt item.chunk between left
-    → KeepsItems book left
-unbegun book between left item begins ends = record {
-  class = record { first = ends.class.first ∙ begins.class.first; count = ends.class.count ∙ begins.class.count };
-  linked = λ c. ends.linked c ∙ (ap (λ l. if item.chunk == c then None else l) (begins.linked c) ∙ at c (item.chunk == c) refl);
-}
-  where
-    at : (c : ℕ) (b : Bool) → (item.chunk == c) ≡ b
-        → (if item.chunk == c then None else (if item.chunk == c then Some item.generation else linked_at book.part c)) ≡ linked_at book.part c
-    at c true e = ap (λ b. if b then None else (if b then Some item.generation else linked_at book.part c)) e
-        ∙ (sym begins.free ∙ ap (linked_at book.part) (eqb-true item.chunk c e))
-    at c false e = ap (λ b. if b then None else (if b then Some item.generation else linked_at book.part c)) e
 
 -- an item that began is linked
 pub begun_linked : (book left : BookView) (item : ItemId) → BeginsAt item book left → linked_at left.part item.chunk ≡ Some item.generation

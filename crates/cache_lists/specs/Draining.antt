@@ -1,10 +1,23 @@
 -- What the turn of a lane does to a Book, which applies the bumps at the front of its ring.
-use Rattle.std.specs.Prelude.{◌≡◌, ℕ, zero, suc, ◌+◌, ◌≤◌, ◌⊎◌, length}
+use Rattle.std.specs.Prelude.{◌≡◌, ℕ, zero, suc, ◌+◌, ◌≤◌, ◌⊎◌, length, Option, IfSome, IfNone}
 use Rattle.bump_rules.specs.declared.bumps.Applied.{Applied}
 use Rattle.bump_class.specs.Applications.{AppliesFront}
 use Rattle.bump_class.specs.Books.{BookView}
 use Rattle.bump_class.specs.Lanes.{LaneView, entries}
 use Rattle.cache_lists.specs.Items.{KeepsItems, HasNoBumpFor}
+
+-- The next bump of a lane was applied at this time, and what that came to is told; or None where there was none that the
+-- Book can apply. The same items are linked, and the lane stays that of its ring.
+pub record AppliesNext (now : ℕ) (before : BookView) (from : LaneView) (answer : Option Applied) (after : BookView)
+    (to : LaneView) : Type 0 where
+  pub items : KeepsItems before after
+  pub ring : to.ring ≡ from.ring
+  -- it was applied to what the Book and the lane were when it was aboard, and the lane has one entry more
+  pub front : IfSome answer (λ it. (seen : BookView) × (carrying : LaneView) × AppliesFront now seen carrying it after to)
+  pub grown : IfSome answer (λ it. length (entries to) ≡ length (entries from) + 1)
+  -- or there was none
+  pub none : IfNone answer (HasNoBumpFor before to)
+  pub kept : IfNone answer (entries to ≡ entries from)
 
 -- One bump of a lane was applied at this time: the lane has one entry more, and the same items are linked.
 pub record AppliesOnce (now : ℕ) (book : BookView) (from : LaneView) (left : BookView) (to : LaneView) : Type 0 where

@@ -1,5 +1,5 @@
 -- What a change of a Book leaves of its linked items.
-use Rattle.std.specs.Prelude.{◌≡◌, ◌≢◌, ◌⊎◌, [], ℕ, Bool, true, false, ◌==◌, Option, Some, None, option_map, if◌then◌else◌}
+use Rattle.std.specs.Prelude.{◌≡◌, ◌≢◌, ◌⊎◌, List, [], ℕ, Bool, true, false, ◌==◌, Option, Some, None, option_map, if◌then◌else◌}
 use Rattle.bump_rules.specs.declared.bumps.Bump.{Bump}
 use Rattle.bump_rules.specs.declared.items.Head.{Head}
 use Rattle.bump_rules.specs.declared.items.ItemId.{ItemId}
@@ -14,8 +14,9 @@ use Rattle.bump_rules.specs.declared.commands.Pulled.TheVariants.{Empty}
 use Rattle.bump_class.specs.Books.{BookView}
 use Rattle.bump_class.specs.Changes.{book_after_load}
 use Rattle.bump_class.specs.Lanes.{LaneView, carries}
+use Rattle.bump_class.specs.Links.{BeginsWith}
 use Rattle.cache_lists.specs.declared.victims.Victim.{Victim}
-use Rattle.bump_steps.specs.Views.{owns, standing}
+use Rattle.bump_steps.specs.Views.{owns, standing, last_word, last_words}
 use Rattle.cache_lists.specs.Linked.{linked_at}
 
 -- the one, and where it is None the other
@@ -61,25 +62,32 @@ pub record IsSameClass (before after : BookView) : Type 0 where
   pub first : after.part.first ≡ before.part.first
   pub count : after.part.count ≡ before.part.count
 
--- the same items are linked
+-- the same items are linked, and each chunk has its words still
 pub record KeepsItems (before after : BookView) : Type 0 where
   pub class : IsSameClass before after
   pub linked : (c : ℕ) → linked_at after.part c ≡ linked_at before.part c
+  pub words : (i c : ℕ) → last_word i after.part c ≡ last_word i before.part c
 
--- the item of this chunk is linked no more
+-- the item of this chunk is linked no more, and each chunk has its words still
 pub record EndsAt (chunk : ℕ) (before after : BookView) : Type 0 where
   pub class : IsSameClass before after
   pub own : owns chunk before.part ≡ true
   pub was : (generation : ℕ) × (linked_at before.part chunk ≡ Some generation)
   pub linked : (c : ℕ) → linked_at after.part c ≡ (if chunk == c then None else linked_at before.part c)
+  pub words : (i c : ℕ) → last_word i after.part c ≡ last_word i before.part c
 
--- this item is linked, at a chunk at which none was
+-- this item is linked, at a chunk at which none was, and each other chunk has its words still
 pub record BeginsAt (item : ItemId) (before after : BookView) : Type 0 where
   pub class : IsSameClass before after
   pub own : owns item.chunk before.part ≡ true
   pub free : linked_at before.part item.chunk ≡ None
   pub linked : (c : ℕ) → linked_at after.part c
       ≡ (if item.chunk == c then Some item.generation else linked_at before.part c)
+  pub words : (i c : ℕ) → (item.chunk == c) ≡ false → last_word i after.part c ≡ last_word i before.part c
+
+-- the words of this chunk that were stored last begin with this label and these further words
+abbrev pub HasRow : ℕ → ℕ → List ℕ → BookView → Type 0
+HasRow chunk label words book = BeginsWith label words (last_words book.part chunk)
 
 -- A lane has no bump that a Book can apply: none is aboard or known, or the one aboard is of another class's chunk, or
 -- of another life than the chunk has.

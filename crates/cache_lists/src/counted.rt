@@ -1,14 +1,12 @@
 //! A Book that counts how its items go from list to list.
-ghost use Rattle.std.specs.Prelude.{◌≡◌, ◌≢◌, ℕ, suc, ◌+◌, ◌<◌, ◌≤◌, [], true, length, slice_index, IfSome, IfNone, None, Some};
-ghost use Rattle.bump_class.specs.Applications.{AppliesFront};
-ghost use Rattle.bump_class.specs.Books.{BookView as TheBookView, IsBook};
+ghost use Rattle.std.specs.Prelude.{◌≡◌, ◌≢◌, ℕ, suc, ◌<◌, ◌≤◌, [], true, length, slice_index, IfSome, IfNone, None, Some};
+ghost use Rattle.bump_class.specs.Books.{IsBook};
 ghost use Rattle.bump_class.specs.Changes.{book_with_words, book_after_see_label, book_after_see_word};
 ghost use Rattle.bump_class.specs.Links.{MayHave};
 ghost use Rattle.bump_heads.specs.Linking.{place_of_chunk};
 ghost use Rattle.bump_rules.specs.Labels.{label_of_life};
 ghost use Rattle.bump_rules.specs.Lawful.{IsUsed};
 ghost use Rattle.bump_steps.specs.Applications.{life_in};
-ghost use Rattle.bump_class.specs.Lanes.{entries, LaneView as TheLaneView};
 ghost use Rattle.bump_class.specs.Pulls.{Pulls};
 ghost use Rattle.bump_class.specs.Sweeps.{Sweeps};
 ghost use Rattle.bump_rules.specs.declared.items.Head.{Head as TheHead};
@@ -21,10 +19,10 @@ ghost use Rattle.bump_rules.specs.declared.places.Tail.TheVariants as tail;
 ghost use Rattle.bump_steps.specs.Views.{owns, last_label, last_word, of_word};
 ghost use Rattle.cache_lists.specs.Counts.{CountedView as TheCountedView, IsFlow, SegmentsAddUp, CountsEviction};
 ghost use Rattle.cache_lists.specs.Counts.{no_flow, no_evictions, noted};
-ghost use Rattle.cache_lists.specs.Ends.{EndsNext};
+ghost use Rattle.cache_lists.specs.Ends.{EndsNext, EndsLinked};
+ghost use Rattle.cache_lists.specs.Draining.{AppliesNext};
 ghost use Rattle.cache_lists.specs.Flows.{way_of_pull};
-ghost use Rattle.cache_lists.specs.Items.{victim, may_tell, KeepsItems, EndsAt, BeginsAt, HasNoBumpFor};
-ghost use Rattle.cache_lists.specs.Linked.{linked_at};
+ghost use Rattle.cache_lists.specs.Items.{victim, may_tell, KeepsItems, EndsAt, BeginsAt, HasRow};
 ghost use Rattle.cache_lists.specs.Segments.{SameSegments};
 
 use crate::evictions::Evictions;
@@ -135,7 +133,8 @@ impl<N: Name, L: RowLaw> CountedBook<N, L> {
     /// Links an item at the front of HOT, at a chunk that is free, as `Book::link_words` does: with a label and further
     /// words, the first ones, which each reader who holds the item reads. The words are at most `further`; the table's
     /// law holds of whatever row begins with the label and these words; `now` is the item's time, in the caller's ticks.
-    /// It answers None exactly where no chunk is free, and changes nothing then.
+    /// It answers None exactly where no chunk is free, and changes nothing then. Its chunk has this row then, and each
+    /// other chunk the words that it had.
     pub fn begin(&mut self, label: u64, words: &[u64], now: u64) -> Option<ItemId>
         requires few { length words.now ≤ N.table.slots }
         requires law { MayHave L.law label words.now }
@@ -147,6 +146,8 @@ impl<N: Name, L: RowLaw> CountedBook<N, L> {
         ensures words { IfSome result (λ id. (j : ℕ) → j < length words.now
             → label_of_life id 0 (of_word j self.new.book.part.words) ≡ Some (slice_index words.now j)) }
         ensures begins { IfSome result (λ id. BeginsAt id self.old.book self.new.book) }
+        ensures first { IfSome result (λ id. first_of self.old.book.lists.unused ≡ Some id.chunk) }
+        ensures row { IfSome result (λ id. HasRow id.chunk label words.now self.new.book) }
         ensures apart { IfSome result (λ id. SameSegments (all_without id.chunk self.old.book.lists)
             self.old.book.lists) }
         ensures evictions { self.new.evictions ≡ self.old.evictions }
@@ -164,12 +165,7 @@ impl<N: Name, L: RowLaw> CountedBook<N, L> {
     /// the linked items stay then. Its chunk is one of the class.
     pub fn end(&mut self, id: ItemId) -> Option<Segment>
         requires own { owns id.chunk self.old.book.part ≡ true }
-        ensures ends { IfSome result (λ from. EndsAt id.chunk self.old.book self.new.book) }
-        ensures linked { IfSome result (λ from. linked_at self.old.book.part id.chunk ≡ Some id.generation) }
-        ensures not_linked { IfNone result (linked_at self.old.book.part id.chunk ≢ Some id.generation) }
-        ensures kept { IfNone result (KeepsItems self.old.book self.new.book) }
-        ensures others { IfSome result (λ from. SameSegments (all_without id.chunk self.old.book.lists)
-            self.new.book.lists) }
+        ensures ends { EndsLinked id result self.old.book self.new.book }
         ensures evictions { self.new.evictions ≡ self.old.evictions }
     {
         match items::end(&mut self.book, id) {
@@ -256,13 +252,7 @@ impl<N: Name, L: RowLaw> CountedBook<N, L> {
     /// where none is aboard or known, or the one aboard is of another class, or of a life that its chunk hasn't. `now`
     /// is the item's new time, in the caller's ticks.
     pub fn apply_next(&mut self, lane: &mut RawLane<N, L>, now: u64) -> Option<Applied>
-        ensures kept { KeepsItems self.old.book self.new.book }
-        ensures front { IfSome result (λ it. (seen : TheBookView) × (from : TheLaneView)
-            × AppliesFront now seen from it self.new.book lane.new) }
-        ensures applied { IfSome result (λ it. length (entries lane.new) ≡ length (entries lane.old) + 1) }
-        ensures still { IfNone result (entries lane.new ≡ entries lane.old) }
-        ensures none { IfNone result (HasNoBumpFor self.old.book lane.new) }
-        ensures ring { lane.new.ring ≡ lane.old.ring }
+        ensures applies { AppliesNext now self.old.book lane.old result self.new.book lane.new }
         ensures evictions { self.new.evictions ≡ self.old.evictions }
     {
         let applied = items::apply_next(&mut self.book, lane, now);

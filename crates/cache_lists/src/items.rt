@@ -9,9 +9,9 @@ ghost use Rattle.bump_rules.specs.declared.places.Tail.TheVariants as tail;
 ghost use Rattle.bump_rules.specs.Labels.{label_of_life};
 ghost use Rattle.bump_steps.specs.Views.{owns, of_word};
 ghost use Rattle.cache_lists.specs.Linked.{linked_at};
-ghost use Rattle.cache_lists.specs.Items.{may_tell, chunk_told, victim, KeepsItems, EndsAt, BeginsAt};
+ghost use Rattle.cache_lists.specs.Items.{may_tell, chunk_told, victim, KeepsItems, BeginsAt, HasRow};
 ghost use Rattle.cache_lists.specs.Freeing.{FreesUpTo};
-ghost use Rattle.cache_lists.specs.Ends.{EndsOne};
+ghost use Rattle.cache_lists.specs.Ends.{EndsOne, EndsLinked};
 ghost use Rattle.cache_lists.specs.Items.{HasNoBumpFor};
 ghost use Rattle.bump_class.specs.Applications.{AppliesFront};
 ghost use Rattle.bump_class.specs.Books.{BookView as TheBookView};
@@ -52,7 +52,7 @@ pub(crate) fn look_at<N: Name, L: RowLaw>(book: &mut Book<N, L>, from: Tail) -> 
 }
 
 // The last item of HOT or WARM ends. It answers None where there is no such item, and changes nothing then.
-fn end_last_of<N: Name, L: RowLaw>(book: &mut Book<N, L>, from: Tail) -> Option<Victim>
+fn look_and_end<N: Name, L: RowLaw>(book: &mut Book<N, L>, from: Tail) -> Option<Victim>
     requires { from ≢ tail.Evict }
     ensures last { last_pulled from book.old.lists ≡ chunk_told result }
     ensures ends { EndsOne result book.old book.new }
@@ -80,17 +80,17 @@ pub(crate) fn end_next<N: Name, L: RowLaw>(book: &mut Book<N, L>) -> Option<Vict
     ensures next { victim book.old.lists ≡ chunk_told result }
     ensures ends { EndsOne result book.old book.new }
 {
-    if let Some(ended) = end_last(book) {
+    if let Some(ended) = end_cold(book) {
         return Some(ended);
     }
-    if let Some(ended) = end_last_of(book, Tail::Warm) {
+    if let Some(ended) = look_and_end(book, Tail::Warm) {
         return Some(ended);
     }
-    end_last_of(book, Tail::Hot)
+    look_and_end(book, Tail::Hot)
 }
 
 // The last item of COLD ends. It answers None where there is no such item, and changes nothing then.
-fn end_last<N: Name, L: RowLaw>(book: &mut Book<N, L>) -> Option<Victim>
+fn end_cold<N: Name, L: RowLaw>(book: &mut Book<N, L>) -> Option<Victim>
     ensures last { last_of book.old.lists.cold ≡ chunk_told result }
     ensures ends { EndsOne result book.old book.new }
 {
@@ -112,13 +112,9 @@ fn end_last<N: Name, L: RowLaw>(book: &mut Book<N, L>) -> Option<Victim>
 // An item ends, where it is linked; and tells the list in which it was, or None where it isn't.
 pub(crate) fn end<N: Name, L: RowLaw>(book: &mut Book<N, L>, id: ItemId) -> Option<Segment>
     requires own { owns id.chunk book.old.part ≡ true }
-    ensures ends { IfSome result (λ from. EndsAt id.chunk book.old book.new) }
-    ensures linked { IfSome result (λ from. linked_at book.old.part id.chunk ≡ Some id.generation) }
-    ensures not_linked { IfNone result (linked_at book.old.part id.chunk ≢ Some id.generation) }
-    ensures kept { IfNone result (KeepsItems book.old book.new) }
+    ensures ends { EndsLinked id result book.old book.new }
     ensures flows { IfSome result (λ from. Flows (Some (place_of from, Dying)) book.old book.new) }
     ensures stays { IfNone result (Flows None book.old book.new) }
-    ensures others { IfSome result (λ from. SameSegments (all_without id.chunk book.old.lists) book.new.lists) }
 {
     let head = book.load_head(id.chunk);
     book.promise();
@@ -169,6 +165,8 @@ pub(crate) fn begin<N: Name, L: RowLaw>(
     ensures words { IfSome result (λ id. (j : ℕ) → j < length words.now
         → label_of_life id 0 (of_word j book.new.part.words) ≡ Some (slice_index words.now j)) }
     ensures begins { IfSome result (λ id. BeginsAt id book.old book.new) }
+    ensures first { IfSome result (λ id. first_of book.old.lists.unused ≡ Some id.chunk) }
+    ensures row { IfSome result (λ id. HasRow id.chunk label words.now book.new) }
     ensures flows { IfSome result (λ id. Flows (Some (Unused, Hot)) book.old book.new) }
     ensures apart { IfSome result (λ id. SameSegments (all_without id.chunk book.old.lists) book.old.lists) }
 {

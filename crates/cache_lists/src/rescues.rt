@@ -2,7 +2,7 @@
 ghost use Rattle.std.specs.Prelude.{◌≡◌, ◌≢◌, IfSome, IfNone, Some, None};
 ghost use Rattle.bump_rules.specs.declared.places.Place.TheVariants.{Cold, Warm};
 ghost use Rattle.cache_lists.specs.Counts.{noted};
-ghost use Rattle.cache_lists.specs.Items.{victim, KeepsItems};
+ghost use Rattle.cache_lists.specs.Items.{victim, KeepsItems, EndsAt};
 ghost use Rattle.cache_lists.specs.Rescues.{most_rescues, RescuesUpTo, LooksAtCold, Evicts, rescue_way, noted_times};
 
 use crate::counted::CountedBook;
@@ -51,6 +51,7 @@ impl<N: Name, L: RowLaw> CountedBook<N, L> {
     /// the item's end found.
     pub fn evict(&mut self) -> Option<Victim>
         ensures evicts { IfSome result (λ it. Evicts it self.old self.new) }
+        ensures ends { IfSome result (λ it. EndsAt it.chunk self.old.book self.new.book) }
         ensures some { IfSome result (λ it. victim self.old.book.lists ≢ None) }
         ensures empty { IfNone result (victim self.old.book.lists ≡ None) }
         ensures none { IfNone result (self.new ≡ self.old) }

@@ -1,5 +1,5 @@
 -- What a Shelf keeps.
-use Rattle.std.proofs.Common.{◌≡◌, ◌≢◌, ◌⊎◌, ℕ, zero, suc, replicate, ◌+◌, ◌<◌, Bool, true, false, ◌&&◌, nat_le, nat_lt, [], length, Option, Some, None, option_map, slice_get, slice_set, get_or, if◌then◌else◌, refl, sym, ap, ap₂, ◌∙◌, subst, eq-eqb, ne_eqb, le-leb, lt-ltb, arith, IsSome, IfNone, IfSome}
+use Rattle.std.proofs.Common.{◌≡◌, ◌≢◌, ◌⊎◌, ℕ, zero, suc, replicate, ◌+◌, ◌<◌, ◌==◌, Bool, true, false, ◌&&◌, nat_le, nat_lt, [], length, Option, Some, None, option_map, slice_get, slice_set, get_or, if◌then◌else◌, refl, sym, ap, ap₂, ◌∙◌, subst, eq-eqb, eqb-true, ne_eqb, le-leb, lt-ltb, arith, IsSome, IfNone, IfSome}
 use mathlib.Core.Logic.{inl, inr}
 use Rattle.std.proofs.lemmas.Bool.{and_parts}
 use Rattle.std.proofs.lemmas.List.{get_or-set_same, get_or-set_other, length-set, length-replicate}
@@ -31,6 +31,24 @@ module _ {K V : Type 0} {same : K → K → Bool} (book left : BookView) (table 
     linked = λ c lt. is.linked c lt ∙ sym (keeps.linked c);
     once = is.once;
   }
+
+  -- it stays one where an item begins and ends at once
+  pub shelf_unbegun : (between : BookView) (item : ItemId) → BeginsAt item book between → EndsAt item.chunk between left
+      → IsShelf same left table
+  shelf_unbegun between item begins ends = record {
+    first = ends.class.first ∙ (begins.class.first ∙ is.first);
+    count = ends.class.count ∙ (begins.class.count ∙ is.count);
+    linked = λ c lt. is.linked c lt ∙ sym (ends.linked c
+        ∙ (ap (λ l. if item.chunk == c then None else l) (begins.linked c) ∙ at c (item.chunk == c) refl));
+    once = is.once;
+  }
+    where
+      at : (c : ℕ) (b : Bool) → (item.chunk == c) ≡ b
+          → (if item.chunk == c then None else (if item.chunk == c then Some item.generation else linked_at book.part c))
+          ≡ linked_at book.part c
+      at c true e = ap (λ b. if b then None else (if b then Some item.generation else linked_at book.part c)) e
+          ∙ (sym begins.free ∙ ap (linked_at book.part) (eqb-true item.chunk c e))
+      at c false e = ap (λ b. if b then None else (if b then Some item.generation else linked_at book.part c)) e
 
   -- it stays one where an item ends, and its chunk has nothing any more
   pub shelf_ended : (chunk : ℕ) → EndsAt chunk book left → IsShelf same left (without_chunk chunk table)

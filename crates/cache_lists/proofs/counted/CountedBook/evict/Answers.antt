@@ -3,6 +3,7 @@ use Rattle.bump_rules.specs.declared.places.Place.TheVariants.{Cold, Warm}
 use Rattle.cache_lists.specs.Items.{victim}
 use Rattle.cache_lists.specs.Rescues.{most_rescues, noted_times}
 use Rattle.cache_lists.proofs.RescueLemmas.{may_end, nothing_rescued, nothing_there, same_counted}
+use Rattle.cache_lists.proofs.Standings.{kept_ends}
 use Rattle.cache_lists.proofs.counted.CountedBook.evict.Goals as goal
 
 pub returns-in-Some-clause-evicts : goal.returns-in-Some-clause-evicts
@@ -18,6 +19,10 @@ returns-in-Some-clause-evicts g c =
       evictions = c.rescue.ensures.evictions;
       turn = turn;
     }
+
+pub returns-in-Some-clause-ends : goal.returns-in-Some-clause-ends
+returns-in-Some-clause-ends g c = kept_ends c.args.self.now.book c.rescue.new.self.book c.end_victim.new.self.book
+    c.in-Some.ended.chunk c.rescue.ensures.kept c.in-Some.ensures.ends.told.ends
 
 pub returns-in-Some-clause-some : goal.returns-in-Some-clause-some
 returns-in-Some-clause-some g c none = absurd (cc (sym (nothing_there most_rescues c.rescue.result c.args.self.now.book

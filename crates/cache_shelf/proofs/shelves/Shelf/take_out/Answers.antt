@@ -34,7 +34,7 @@ invariant_of-self g c =
     let shown = ap (λ s. s.index.shown) c.self.view_is ∙ (c.requires.shown ∙ sym (ap (λ s. s.index.table) c.self.view_is)) in
     let at = ap (λ t. slice_get t c.in-Some.field-0.chunk) (sym shown) ∙ c.in-Some.ensures.at in
     let home = home_linked c.self.inside.class.book c.self.inside.class.book c.self.inside.index.table c.self.invariant c.in-Some.field-0.chunk c.in-Some.field-0.slot.now at in
-    let ended = where_linked _ _ c.end.result (home.1 ∙ ap Some (sym (c.generation-generation.ensures ∙ (ap (λ i. i.generation) c.deref.ensures ∙ ap (λ s. s.generation) c.slot.view_is)))) c.end.ensures.not_linked c.end.ensures.ends in
+    let ended = where_linked _ _ c.end.result (home.1 ∙ ap Some (sym (c.generation-generation.ensures ∙ (ap (λ i. i.generation) c.deref.ensures ∙ ap (λ s. s.generation) c.slot.view_is)))) c.end.ensures.ends.not_linked c.end.ensures.ends.ends in
     subst (λ t. IsShelf g.K.PartialEq.eq c.end.new.self.book t) (sym c.clear.ensures.table)
     (shelf_ended c.self.inside.class.book c.end.new.self.book c.self.inside.index.table c.self.invariant c.in-Some.field-0.chunk ended)
 
@@ -69,7 +69,7 @@ returns-in-Some-clause-lists g c =
     let at = ap (λ t. slice_get t c.in-Some.field-0.chunk) (sym shown) ∙ c.in-Some.ensures.at in
     let home = home_linked c.self.inside.class.book c.self.inside.class.book c.self.inside.index.table c.self.invariant c.in-Some.field-0.chunk c.in-Some.field-0.slot.now at in
     let had = get_or_from_slice_get c.self.inside.index.table c.in-Some.field-0.chunk (Some c.in-Some.field-0.slot.now) None at in
-    let gone = where_linked _ _ c.end.result (home.1 ∙ ap Some (sym (c.generation-generation.ensures ∙ (ap (λ i. i.generation) c.deref.ensures ∙ ap (λ s. s.generation) c.slot.view_is)))) c.end.ensures.not_linked c.end.ensures.others in
+    let gone = where_linked _ _ c.end.result (home.1 ∙ ap Some (sym (c.generation-generation.ensures ∙ (ap (λ i. i.generation) c.deref.ensures ∙ ap (λ s. s.generation) c.slot.view_is)))) c.end.ensures.ends.not_linked c.end.ensures.ends.others in
     subst (λ s. ListsWithout c.clear.result s.book.lists s.index.table c.end.new.self.book.lists) c.self.view_is
     (lists_taken c.clear.result c.in-Some.field-0.slot.now c.in-Some.field-0.chunk c.self.inside.class.book.lists c.self.inside.index.table
     c.end.new.self.book.lists (c.clear.ensures.had ∙ had) had gone)

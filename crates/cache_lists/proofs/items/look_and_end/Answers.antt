@@ -10,7 +10,7 @@ use Rattle.cache_lists.proofs.Counting.{told_ours}
 use Rattle.cache_lists.proofs.Segments.{seen_others, same_then}
 use Rattle.cache_lists.proofs.Standings.{ended_shown, ends_kept, kept_ends, see_keeps}
 use Rattle.cache_lists.proofs.Ways.{before_none, seen_flows, told_way}
-use Rattle.cache_lists.proofs.items.end_last_of.Goals as goal
+use Rattle.cache_lists.proofs.items.look_and_end.Goals as goal
 
 pub returns-clause-ends : goal.returns-clause-ends
 returns-clause-ends g c =
@@ -20,12 +20,12 @@ returns-clause-ends g c =
       list = ap (λ s. last_of (list_at book.lists (place_of s))) c.segment.ensures
           ∙ (sym pull.ensures.item ∙ ap (option_map (λ (id : ItemId). id.chunk)) (sym c.item.ensures ∙ c.in-Some.is));
       ends = ends_kept book ended seen chunk
-          (kept_ends book looked ended chunk pull.ensures.kept c.in-Some-end.ensures.ends)
+          (kept_ends book looked ended chunk pull.ensures.kept c.in-Some-end.ensures.ends.ends)
           (see_keeps ended seen chunk head c.load_head-head.ensures.looked);
       others = seen_others (all_without chunk book.lists) ended seen chunk head c.load_head-head.ensures.looked
           (same_then (all_without chunk book.lists) (all_without chunk looked.lists) ended.lists
           (subst (λ t. IfSome t (λ id. SameSegments (all_without id.chunk book.lists) (all_without id.chunk looked.lists)))
-          (sym c.item.ensures ∙ c.in-Some.is) pull.ensures.others) c.in-Some-end.ensures.others);
+          (sym c.item.ensures ∙ c.in-Some.is) pull.ensures.others) c.in-Some-end.ensures.ends.others);
       flows = record {
         between = looked;
         one = subst (λ way. Flows way book looked)
@@ -41,7 +41,7 @@ returns-clause-ends g c =
         between = ended;
         look = c.load_head-head.ensures.looked;
         fits = c.load_head-head.ensures.fits;
-        unlinked = ended_shown looked ended chunk head c.in-Some-end.ensures.ends c.load_head-head.ensures.agrees;
+        unlinked = ended_shown looked ended chunk head c.in-Some-end.ensures.ends.ends c.load_head-head.ensures.agrees;
         is_fetched = refl;
         is_active = refl;
       };

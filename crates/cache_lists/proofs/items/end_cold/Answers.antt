@@ -3,7 +3,7 @@ use Rattle.bump_rules.specs.Lists.{all_without}
 use Rattle.cache_lists.proofs.Segments.{evict_others, seen_others}
 use Rattle.cache_lists.proofs.Standings.{evict_told, owns_same, see_keeps, ends_kept, ended_shown}
 use Rattle.cache_lists.proofs.Ways.{still, before_none, seen_flows, evicts_flow}
-use Rattle.cache_lists.proofs.items.end_last.Goals as goal
+use Rattle.cache_lists.proofs.items.end_cold.Goals as goal
 
 pub load_head-head-requires : goal.load_head-head-requires
 load_head-head-requires g c =
