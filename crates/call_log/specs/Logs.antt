@@ -6,6 +6,11 @@ pub record LogView (S : Type 0) : Type 0 where
   pub first : S
   pub log : List S
 
+-- the first, or else what is given
+abbrev pub first_of : {S : Type 0} → S → List S → S
+first_of any [] = any
+first_of any (first ∷ log) = first
+
 -- all but the first
 abbrev pub behind_first : {S : Type 0} → List S → List S
 behind_first [] = []

@@ -6,7 +6,7 @@ use crate::fronts::{Front, Head};
 use crate::law::{Begin, Law};
 use crate::logged::Logged;
 use crate::logs::Log;
-use crate::names::LogName;
+use crate::names::{LogName, State};
 use logbook::{Seen, Start, Word};
 use std::marker::Model;
 use std::sync::ledger::Blank;
@@ -46,7 +46,7 @@ impl<E: Drop> Drop for LogBlank<E> {
     }
 }
 
-impl<E> LogBlank<E> {
+impl<E: State> LogBlank<E> {
     /// A log that begins from a value. Its shares have so many parts: there are at most as many callers.
     pub fn new(value: E, parts: u64) -> LogBlank<E>
         ensures state { result.state ≡ value }

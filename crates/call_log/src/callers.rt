@@ -3,19 +3,19 @@ ghost use Rattle.std.specs.Prelude.{◌≡◌, ◌+◌, ◌-◌, ◌<◌};
 ghost use mathlib.Core.List.{IsPrefix};
 
 use crate::fronts::Front;
-use crate::names::LogName;
+use crate::names::{LogName, State};
 use std::marker::Model;
 use std::sync::ledger::Share;
 
 /// Whoever makes calls on a logged value: which states it has seen, and how many calls it made. It has no bytes. Each
 /// thread has one of its own.
 #[derive(Drop)]
-pub struct Caller<N: LogName, E> {
+pub struct Caller<N: LogName, E: State> {
     pub(crate) front: Front<N, E>,
     pub(crate) share: Share<N>,
 }
 
-impl<N: LogName, E> Model for Caller<N, E> {
+impl<N: LogName, E: State> Model for Caller<N, E> {
     ghost use Rattle.call_log.specs.Calls.{CallerView};
 
     ghost Value = { CallerView E };
@@ -28,7 +28,7 @@ impl<N: LogName, E> Model for Caller<N, E> {
     } };
 }
 
-impl<N: LogName, E> Caller<N, E> {
+impl<N: LogName, E: State> Caller<N, E> {
     /// Another caller, for a thread of its own, which has seen what this one has, and made no call. It has one part of
     /// the log's shares, which this one gives away: this one needs two.
     pub fn another(&mut self) -> Caller<N, E>

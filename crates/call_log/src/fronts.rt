@@ -4,21 +4,20 @@ ghost use mathlib.Core.List.{IsPrefix};
 ghost use Rattle.std.specs.Bool.{OnTrue};
 ghost use Rattle.call_log.specs.Laws.{head_of};
 
-use crate::law::{Add, Law, Look, Memo, Nothing, Recall};
-use crate::names::LogName;
+use crate::law::{Add, Law, Look, Nothing};
+use crate::names::{LogName, State};
 use logbook::{Seen, Word};
 use std::marker::{Model, PhantomData};
-use std::snapshot::Snapshot;
 
 /// The word that counts the states of a log.
 #[derive(Drop)]
-pub(crate) struct Head<N: LogName, E> {
+pub(crate) struct Head<N: LogName, E: State> {
     word: Word<E, u64, Law>,
     of: PhantomData<N>,
     ghost head_is: { word ≡ head_of N.book },
 }
 
-impl<N: LogName, E> Head<N, E> {
+impl<N: LogName, E: State> Head<N, E> {
     /// The word of a log that has a first state alone.
     pub(crate) fn new(word: Word<E, u64, Law>) -> Head<N, E>
         requires { word ≡ head_of N.book }
@@ -32,35 +31,32 @@ impl<N: LogName, E> Head<N, E> {
 
 /// What was seen of a log.
 #[derive(Drop)]
-pub(crate) struct Front<N: LogName, E> {
+pub(crate) struct Front<N: LogName, E: State> {
     pub(crate) seen: Seen<E, u64, Law>,
-    // the state that the log begins from
-    first: Snapshot<Memo<E>>,
     of: PhantomData<N>,
 }
 
-impl<N: LogName, E> Model for Front<N, E> {
+impl<N: LogName, E: State> Model for Front<N, E> {
     ghost use Rattle.std.specs.Prelude.{◌≡◌, ◌∷◌};
-    ghost use Rattle.call_log.specs.Logs.{LogView, behind_first};
+    ghost use Rattle.call_log.specs.Logs.{LogView, behind_first, first_of};
 
     ghost Value = { LogView E };
 
-    ghost view = { λ f. record { first = f.first.value.ask; log = behind_first f.seen.log } };
+    ghost view = { λ f. record { first = first_of E.some_state f.seen.log; log = behind_first f.seen.log } };
 
-    ghost invariant = { λ f. (f.seen.book ≡ N.book) × (f.seen.log ≡ f.first.value.ask ∷ behind_first f.seen.log) };
+    ghost invariant = { λ f. (f.seen.book ≡ N.book) × (f.seen.log ≡ first_of E.some_state f.seen.log ∷ behind_first f.seen.log) };
 }
 
-impl<N: LogName, E> Front<N, E> {
+impl<N: LogName, E: State> Front<N, E> {
     /// What was seen of a log that begins from this state.
     pub(crate) fn new(seen: Seen<E, u64, Law>, first: &E) -> Front<N, E>
         requires book { seen.book ≡ N.book }
         requires log { seen.log ≡ first.now ∷ [] }
         ensures { result ≡ record { first = first.now; log = [] } }
     {
-        let first = Snapshot::of(&seen.plain::<Nothing, E, Add>(first));
+        let _ = first;
         Front {
             seen,
-            first,
             of: PhantomData,
         }
     }
@@ -69,12 +65,8 @@ impl<N: LogName, E> Front<N, E> {
     pub(crate) fn again(&self) -> Front<N, E>
         ensures { result ≡ self.now }
     {
-        let memo = self
-            .seen
-            .plain::<Nothing, Snapshot<Memo<E>>, Recall>(&self.first);
         Front {
             seen: self.seen.again(),
-            first: Snapshot::of(&memo),
             of: PhantomData,
         }
     }
@@ -97,7 +89,7 @@ impl<N: LogName, E> Front<N, E> {
     {
         let mut seen = self.seen.again();
         seen.learn(&other.seen);
-        let mut offer = seen.plain::<Nothing, Snapshot<Memo<E>>, Recall>(&self.first);
+        let mut offer = seen.plain::<Nothing, u64, Look>(&count);
         head.word.load::<Look, Nothing>(&mut seen, &mut offer) == count
     }
 
@@ -128,7 +120,6 @@ impl<N: LogName, E> Front<N, E> {
         }
         Some(Front {
             seen,
-            first: self.again().first,
             of: PhantomData,
         })
     }

@@ -1,6 +1,6 @@
 //! The rule of a log: its word counts the calls.
-use logbook::{Gain, Offer, Opening, Plain, Play, Rule};
-use std::snapshot::Snapshot;
+use crate::names::State;
+use logbook::{Gain, Opening, Plain, Play, Rule};
 
 /// The log begins from a state, and its word is how many more states it has: one for each call.
 pub(crate) struct Law;
@@ -68,16 +68,11 @@ impl<E> Plain<E, E, u64> for Add {
     ghost state = { λ state. None };
 }
 
-/// An offer that is never run. It has no bytes, and remembers a state for proofs.
-pub(crate) type Memo<E> = Offer<E, u64, Law, Nothing>;
-
-/// What an offer that is never run asks for: the state that another one remembers.
-pub(crate) struct Recall;
-
-impl<E> Plain<Snapshot<Memo<E>>, E, u64> for Recall {
+/// What a step that looks asks for: nothing that is heard.
+impl<E: State> Plain<u64, E, u64> for Look {
     ghost use Rattle.std.specs.Prelude.{None};
 
-    ghost ask = { λ memo. memo.value.ask };
+    ghost ask = { λ count. E.some_state };
 
-    ghost state = { λ memo. None };
+    ghost state = { λ count. None };
 }

@@ -5,6 +5,7 @@
 //! the state behind each call. No state is kept or copied: the log exists in proofs alone. What runs is a number that
 //! counts the calls, and a word that counts them too.
 //!
+//! - The value's type has an `impl State`, of one line.
 //! - `LogBlank::new` takes the value, and `open` gives it a name, a [`Logged`] for the lock, and the first [`Caller`].
 //! - A call takes the lock and its thread's `Caller`, changes `value`, and notes it: `log.note(rt, me, &logged.value)`.
 //!   One that only looks asks `log.show(rt, me)`.
@@ -38,4 +39,4 @@ pub use blanks::LogBlank;
 pub use callers::Caller;
 pub use logged::Logged;
 pub use logs::Log;
-pub use names::LogName;
+pub use names::{LogName, State};

@@ -7,7 +7,7 @@ ghost use Rattle.call_log.specs.Calls.{MakesOne, OnlyLooks, from_of, to_of};
 
 use crate::callers::Caller;
 use crate::fronts::{Front, Head};
-use crate::names::LogName;
+use crate::names::{LogName, State};
 use std::marker::Model;
 use std::sync::Wait;
 use std::sync::ledger::Book;
@@ -15,7 +15,7 @@ use std::sync::ledger::Book;
 /// The log of a value: the states that it had. It has all of them where it lies under the value's lock, as in `Logged`.
 /// At run time it is two numbers.
 #[derive(Drop)]
-pub struct Log<N: LogName, E> {
+pub struct Log<N: LogName, E: State> {
     head: Head<N, E>,
     // how many calls it has
     count: u64,
@@ -23,7 +23,7 @@ pub struct Log<N: LogName, E> {
     calls: Book<N>,
 }
 
-impl<N: LogName, E> Model for Log<N, E> {
+impl<N: LogName, E: State> Model for Log<N, E> {
     ghost use Rattle.std.specs.Prelude.{◌≡◌, length};
     ghost use Rattle.call_log.specs.Logs.{LogView};
 
@@ -34,7 +34,7 @@ impl<N: LogName, E> Model for Log<N, E> {
     ghost invariant = { λ l. (l.count ≡ length l.front.log) × (l.calls.total ≡ length l.front.log) };
 }
 
-impl<N: LogName, E> Log<N, E> {
+impl<N: LogName, E: State> Log<N, E> {
     pub(crate) fn new(head: Head<N, E>, front: Front<N, E>, calls: Book<N>) -> Log<N, E>
         requires log { front.log ≡ [] }
         requires calls { calls.total ≡ 0 }

@@ -13,3 +13,10 @@ pub trait LogName: Ledger {
 impl LogName for Brand {
     ghost book = { record { number = 0; log_name = 0; cells_name = 0 } };
 }
+
+/// What a log can have as its states.
+pub trait State {
+    /// Some state. It is what a list of states gives where it has none, so that it gives one always: no clause speaks of
+    /// it where there is a state.
+    ghost some_state: { Self };
+}

@@ -1,6 +1,6 @@
 use Rattle.std.proofs.Common.{◌≡◌, ◌∷◌, sym, ◌∙◌, ap, subst, length, List}
 use mathlib.Core.List.{IsPrefix}
-use Rattle.call_log.specs.Logs.{behind_first}
+use Rattle.call_log.specs.Logs.{behind_first, first_of}
 use Rattle.call_log.proofs.Steps.{adds_moves}
 use Rattle.call_log.proofs.Whole.{added_at}
 use Rattle.call_log.proofs.fronts.Front.add.Goals as goal
@@ -26,8 +26,8 @@ returns-clause-seen g c =
     let theirs = c.other.inside.seen.log in
     let joined = c.learn.new.self.log in
     let this : IsPrefix mine joined = subst (λ (l : List g.row.E.Denot). IsPrefix l joined) (ap (λ s. s.log) c.again-seen.ensures) c.learn.ensures.2 in
-    let p : IsPrefix (c.self.inside.first.value.ask ∷ behind_first mine) joined = subst (λ (l : List g.row.E.Denot). IsPrefix l joined) c.self.invariant.1 this in
-    let q : IsPrefix (c.other.inside.first.value.ask ∷ behind_first theirs) joined = subst (λ (l : List g.row.E.Denot). IsPrefix l joined) c.other.invariant.1 c.learn.ensures.3 in
+    let p : IsPrefix ((first_of g.E.State.some_state mine) ∷ behind_first mine) joined = subst (λ (l : List g.row.E.Denot). IsPrefix l joined) c.self.invariant.1 this in
+    let q : IsPrefix ((first_of g.E.State.some_state theirs) ∷ behind_first theirs) joined = subst (λ (l : List g.row.E.Denot). IsPrefix l joined) c.other.invariant.1 c.learn.ensures.3 in
     let count : c.args.count ≡ length (behind_first mine) = c.requires.count ∙ ap (λ v. length v.log) (sym c.self.view_is) in
-    rw (← c.self.view_is, ← c.other.view_is) (added_at c.self.inside.first.value.ask c.other.inside.first.value.ask (behind_first mine) (behind_first theirs) joined
+    rw (← c.self.view_is, ← c.other.view_is) (added_at (first_of g.E.State.some_state mine) (first_of g.E.State.some_state theirs) (behind_first mine) (behind_first theirs) joined
     c.compare_exchange-found.new.seen.log c.plain-offer.result.ask c.args.count c.compare_exchange-found.result p q count c.if-found-count.false c.compare_exchange-found.ensures.7).2

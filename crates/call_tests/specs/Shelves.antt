@@ -1,0 +1,16 @@
+-- What calls on a shelf do.
+use Rattle.std.specs.Prelude.{◌≡◌, ℕ, List, Option, None, Some, is_some, slice_get, slice_set, count_by}
+
+-- the number was put at the place, which had what was told; the other places stay
+pub record Puts (place number : ℕ) (from : List (Option ℕ)) (told : Option ℕ) (to : List (Option ℕ)) : Type 0 where
+  pub had : slice_get from place ≡ Some told
+  pub placed : to ≡ slice_set from place (Some number)
+
+-- the place, which had what was told, has no number now; the other places stay
+pub record Takes (place : ℕ) (from : List (Option ℕ)) (told : Option ℕ) (to : List (Option ℕ)) : Type 0 where
+  pub had : slice_get from place ≡ Some told
+  pub emptied : to ≡ slice_set from place None
+
+-- how many places have a number
+abbrev pub number_in : List (Option ℕ) → ℕ
+number_in places = count_by is_some places

@@ -1,0 +1,101 @@
+//! A shelf that threads share.
+ghost use Rattle.std.specs.Prelude.{◌≡◌, ◌<◌, [], Some, length, slice_get};
+ghost use Rattle.call_log.specs.Calls.{MakesOne, OnlyLooks, from_of, to_of};
+ghost use Rattle.call_tests.specs.Shelves.{Puts, Takes, number_in};
+
+use crate::shelf::Shelf;
+use call_log::{Caller, LogBlank, LogName, Logged};
+use std::sync::{Mutex, Wait};
+
+/// What a store tells of itself.
+#[derive(Clone, Copy)]
+pub struct Stats {
+    /// How many calls changed it.
+    pub calls: u64,
+
+    /// How many places have a number.
+    pub number: usize,
+}
+
+/// A shelf under a lock.
+#[derive(Drop)]
+pub struct Store<N: LogName> {
+    shelf: Mutex<Logged<N, Shelf>>,
+}
+
+impl<N: LogName> Store<N> {
+    /// A store with no number, and its first caller.
+    pub fn open(blank: LogBlank<Shelf>) -> (Store<N>, Caller<N, Shelf>)
+        requires book { blank.book ≡ N.book }
+        requires name { blank.name ≡ N.name }
+        requires parts { blank.parts ≡ N.parts }
+        ensures { result.1 ≡ record { first = blank.state; log = []; calls = 0; parts = N.parts } }
+    {
+        let (logged, caller) = blank.open::<N>();
+        let shelf = Mutex::new(logged);
+        (Store { shelf }, caller)
+    }
+
+    /// Puts a number at a place, and answers what the place had.
+    pub fn put<W: Wait>(
+        &self,
+        rt: &W,
+        me: &mut Caller<N, Shelf>,
+        place: usize,
+        number: u64,
+    ) -> Option<u64>
+        requires part { 0 < me.old.parts }
+        requires place { place < 64 }
+        ensures call { MakesOne me.old me.new }
+        ensures put { Puts place number (from_of me.new) result (to_of me.new) }
+    {
+        let mut guard = self.shelf.lock(rt);
+        let logged = &mut *guard;
+        let had = logged.value.put(place, number);
+        logged.log.note(rt, me, &logged.value);
+        had
+    }
+
+    /// Takes the number of a place, if it has one.
+    pub fn take<W: Wait>(&self, rt: &W, me: &mut Caller<N, Shelf>, place: usize) -> Option<u64>
+        requires part { 0 < me.old.parts }
+        requires place { place < 64 }
+        ensures call { MakesOne me.old me.new }
+        ensures taken { Takes place (from_of me.new) result (to_of me.new) }
+    {
+        let mut guard = self.shelf.lock(rt);
+        let logged = &mut *guard;
+        let had = logged.value.take(place);
+        logged.log.note(rt, me, &logged.value);
+        had
+    }
+
+    /// What a place has.
+    pub fn get<W: Wait>(&self, rt: &W, me: &mut Caller<N, Shelf>, place: usize) -> Option<u64>
+        requires place { place < 64 }
+        ensures look { OnlyLooks me.old me.new }
+        ensures held { slice_get (to_of me.new) place ≡ Some result }
+    {
+        let mut guard = self.shelf.lock(rt);
+        let logged = &mut *guard;
+        logged.log.show(rt, me);
+        logged.value.get(place)
+    }
+
+    /// What the store tells of itself: exactly, at one moment, which isn't before the caller looked last. Whoever has all
+    /// parts knows how many calls there were.
+    pub fn stats<W: Wait>(&self, rt: &W, me: &mut Caller<N, Shelf>) -> Stats
+        ensures look { OnlyLooks me.old me.new }
+        ensures calls { result.calls ≡ length me.new.log }
+        ensures number { result.number ≡ number_in (to_of me.new) }
+        ensures whole { me.old.parts ≡ N.parts → result.calls ≡ me.old.calls }
+    {
+        let mut guard = self.shelf.lock(rt);
+        let logged = &mut *guard;
+        logged.log.show(rt, me);
+        Stats {
+            calls: logged.log.calls(),
+            number: logged.value.number(),
+        }
+    }
+}

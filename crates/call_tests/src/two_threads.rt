@@ -1,0 +1,62 @@
+//! Two threads put.
+ghost use Rattle.std.specs.Prelude.{◌≡◌, ◌+◌, ◌<◌, length};
+ghost use Rattle.call_log.specs.Calls.{MakesOne, to_of};
+ghost use Rattle.call_tests.specs.Shelves.{number_in};
+
+use crate::shelf::Shelf;
+use crate::store::{Stats, Store};
+use call_log::{Caller, LogName};
+use std::sync::Wait;
+use std::thread::{Threads, join};
+
+// Puts a number, and gives the caller back.
+fn put_by<N: LogName, R: Wait>(
+    rt: &R,
+    store: &Store<N>,
+    me: Caller<N, Shelf>,
+    place: usize,
+    number: u64,
+) -> Caller<N, Shelf>
+    requires part { 0 < me.parts }
+    requires place { place < 64 }
+    ensures { MakesOne me result }
+{
+    let mut me = me;
+    let _ = store.put(rt, &mut me, place, number);
+    me
+}
+
+/// Two threads put a number each, and what the store tells then is exact: it has had two calls, and no other.
+pub fn both<N: LogName + Send + Sync, R: Threads + Wait + Sync>(
+    rt: &R,
+    store: &Store<N>,
+    me: Caller<N, Shelf>,
+    first: (usize, u64),
+    second: (usize, u64),
+) -> (Stats, Caller<N, Shelf>)
+    requires fresh { me.calls ≡ 0 }
+    requires parts { me.parts ≡ N.parts }
+    requires two { 1 < N.parts }
+    requires places { (first.0 < 64) × (second.0 < 64) }
+    ensures calls { result.0.calls ≡ 2 }
+    ensures log { length result.1.log ≡ 2 }
+    ensures parts { result.1.parts ≡ N.parts }
+    ensures number { result.0.number ≡ number_in (to_of result.1) }
+{
+    let mut me = me;
+    let other = me.another();
+    let (mut one, two) = join(
+        rt,
+        move || -> Caller<N, Shelf>
+            requires { (0 < me.parts) × (first.0 < 64) }
+            ensures { MakesOne me result }
+        { put_by(rt, store, me, first.0, first.1) },
+        move || -> Caller<N, Shelf>
+            requires { (0 < other.parts) × (second.0 < 64) }
+            ensures { MakesOne other result }
+        { put_by(rt, store, other, second.0, second.1) },
+    );
+    one.absorb(two);
+    let stats = store.stats(rt, &mut one);
+    (stats, one)
+}
