@@ -1,0 +1,60 @@
+-- Keys and values as lists of words.
+use Rattle.std.proofs.Common.{◌≡◌, ℕ, zero, suc, ◌+◌, ◌<◌, ◌≤◌, List, [], ◌∷◌, length, get_or, take, drop, refl, sym, ap, ap₂, ◌∙◌, arith}
+use Rattle.std.proofs.lemmas.List.{get_or-take, get_or-drop, length-take-le, length-drop}
+use Rattle.bump_steps.specs.declared.views.ClassPart.{ClassPart}
+use Rattle.bump_steps.specs.Views.{last_word}
+use Rattle.bump_class.specs.Books.{BookView}
+use Rattle.cache_lists.specs.Items.{HasRow}
+use Rattle.cache_part.specs.Keys.{words_from, key_at, value_at}
+
+-- words of a chunk that are these one by one are these
+pub words_read : (class : ClassPart) (chunk index : ℕ) (words : List ℕ)
+    → ((j : ℕ) → j < length words → last_word (suc (index + j)) class chunk ≡ get_or words j 0)
+    → words_from index (length words) class chunk ≡ words
+words_read class chunk index [] each = refl
+words_read class chunk index (word ∷ words) each =
+    let here : index ≡ index + 0 = omega arith in
+    let first : last_word (suc index) class chunk ≡ word =
+    ap (λ n. last_word (suc n) class chunk) here ∙ each 0 (omega arith) in
+    ap₂ (λ x xs. x ∷ xs) first (words_read class chunk (suc index) words (λ j low.
+    let next : suc index + j ≡ index + suc j = omega arith in
+    ap (λ n. last_word (suc n) class chunk) next ∙ each (suc j) (omega (arith, low))))
+
+-- and each of them is the chunk's
+pub word_read : (class : ClassPart) (chunk index count j : ℕ) → j < count
+    → get_or (words_from index count class chunk) j 0 ≡ last_word (suc (index + j)) class chunk
+word_read class chunk index zero j low = absurd (omega (arith, low))
+word_read class chunk index (suc count) zero low =
+    let here : index ≡ index + 0 = omega arith in ap (λ n. last_word (suc n) class chunk) here
+word_read class chunk index (suc count) (suc j) low =
+    let next : suc index + j ≡ index + suc j = omega arith in
+    word_read class chunk (suc index) count j (omega (arith, low)) ∙ ap (λ n. last_word (suc n) class chunk) next
+
+-- where a chunk's words stay, so do its key and its value
+pub words_same : (class left : ClassPart) (chunk index count : ℕ)
+    → ((i : ℕ) → last_word i left chunk ≡ last_word i class chunk)
+    → words_from index count left chunk ≡ words_from index count class chunk
+words_same class left chunk index zero same = refl
+words_same class left chunk index (suc count) same =
+    ap₂ (λ x xs. x ∷ xs) (same (suc index)) (words_same class left chunk (suc index) count same)
+
+-- the key of a row is its first words
+pub key_of_row : (book : BookView) (chunk label key_words : ℕ) (row : List ℕ) → HasRow chunk label row book
+    → key_words ≤ length row → key_at key_words book.part chunk ≡ take key_words row
+key_of_row book chunk label key_words row has few =
+    let size : length (take key_words row) ≡ key_words = length-take-le key_words row few in
+    ap (λ n. words_from 0 n book.part chunk) (sym size)
+    ∙ words_read book.part chunk 0 (take key_words row) (λ j low.
+    let here : 0 + j ≡ j = omega arith in
+    let below : j < key_words = omega (arith, low, size) in
+    ap (λ n. last_word (suc n) book.part chunk) here
+    ∙ (has.1 j (omega (arith, below, few)) ∙ sym (get_or-take key_words row j 0 below)))
+
+-- and its value is those behind them
+pub value_of_row : (book : BookView) (chunk label key_words value_words : ℕ) (row : List ℕ) → HasRow chunk label row book
+    → length row ≡ key_words + value_words → value_at key_words value_words book.part chunk ≡ drop key_words row
+value_of_row book chunk label key_words value_words row has all =
+    let size : length (drop key_words row) ≡ value_words = omega (arith, length-drop key_words row, all) in
+    ap (λ n. words_from key_words n book.part chunk) (sym size)
+    ∙ words_read book.part chunk key_words (drop key_words row) (λ j low.
+    has.1 (key_words + j) (omega (arith, low, size, all)) ∙ sym (get_or-drop key_words row j 0))

@@ -1,0 +1,9 @@
+pub mod KeyLemmas
+pub mod LookLemmas
+pub mod Agreements
+pub mod PartLemmas
+pub mod FindLemmas
+pub mod RoomLemmas
+pub mod LinkLemmas
+pub mod TendingLemmas
+pub mod ViewLemmas

@@ -1,0 +1,140 @@
+-- What changes of the lists and of the index leave of a part.
+use Rattle.std.proofs.Common.{◌≡◌, ◌≢◌, ℕ, zero, suc, ◌+◌, ◌<◌, ◌≤◌, Bool, true, false, ◌==◌, ◌&&◌, nat_le, nat_lt, List, [], Option, Some, None, IsSome, IfSome, IfNone, if◌then◌else◌, length, take, replicate, get_or, slice_set, refl, sym, ap, ap₂, ◌∙◌, subst, eqb-true, eq-eqb, le-leb, lt-ltb, arith}
+use Rattle.std.proofs.lemmas.Bool.{and_parts}
+use Rattle.std.proofs.lemmas.List.{length-set, length-replicate}
+use Rattle.bump_steps.specs.declared.views.ClassPart.{ClassPart}
+use Rattle.bump_steps.specs.Views.{owns, last_word}
+use Rattle.bump_class.specs.Books.{BookView}
+use Rattle.cache_lists.specs.Items.{IsSameClass, KeepsItems, EndsAt, BeginsAt, HasRow}
+use Rattle.bump_rules.specs.History.{standing_in}
+use Rattle.cache_lists.specs.Linked.{linked_standing, linked_at}
+use Rattle.cache_nests.specs.declared.led.Led.{Led}
+use Rattle.cache_nests.specs.Views.{led_at, IndexView}
+use Rattle.keyed_hash.specs.declared.seed.Seed.{Seed}
+use Rattle.keyed_hash.specs.Hashes.{hash_of}
+use Rattle.cache_part.specs.Keys.{key_at, HasKey, IsItemOf}
+use Rattle.cache_part.specs.Looks.{LooksOnly}
+use Rattle.cache_part.specs.Parts.{generation_led, IsPart}
+use Rattle.cache_part.proofs.KeyLemmas.{words_same, key_of_row}
+use Rattle.cache_part.proofs.LookLemmas.{looks_keep}
+use Rattle.cache_part.proofs.Agreements.{led_some, led_within, agrees_same, agrees_without, agrees_with}
+
+-- a chunk of the class is one of the index
+pub owned_within : (class : ClassPart) (index : List (Option Led)) → class.first ≡ 0 → class.count ≡ length index
+    → (chunk : ℕ) → owns chunk class ≡ true → chunk < length index
+owned_within class index first count chunk own =
+    let both = and_parts (nat_le class.first chunk) (nat_lt chunk (class.first + class.count)) own in
+    grind (arith, both.1, first, count)
+
+-- and the other way round
+pub within_owned : (class : ClassPart) (index : List (Option Led)) → class.first ≡ 0 → class.count ≡ length index
+    → (chunk : ℕ) → chunk < length index → owns chunk class ≡ true
+within_owned class index first count chunk within =
+    ap₂ (λ a b. a && b) (le-leb class.first chunk (omega (arith, first)))
+    (lt-ltb chunk (class.first + class.count) (omega (arith, first, count, within)))
+
+module _ (seed : Seed) (key_words : ℕ) (book left : BookView) (index : List (Option Led))
+    (is : IsPart seed key_words book.part index) where
+  -- it stays a part where the same items are linked
+  pub part_kept : KeepsItems book left → IsPart seed key_words left.part index
+  part_kept keeps = record {
+    first = keeps.class.first ∙ is.first;
+    count = keeps.class.count ∙ is.count;
+    agrees = agrees_same seed (linked_at book.part) (key_at key_words book.part) index is.agrees (linked_at left.part)
+        (key_at key_words left.part) keeps.linked
+        (λ c. words_same book.part left.part c 0 key_words (λ i. keeps.words i c));
+  }
+
+  -- and where an item ends to which the index leads no more
+  pub part_ended : (chunk : ℕ) → EndsAt chunk book left
+      → IsPart seed key_words left.part (slice_set index chunk None)
+  part_ended chunk ends = record {
+    first = ends.class.first ∙ is.first;
+    count = ends.class.count ∙ (is.count ∙ sym (length-set index chunk None));
+    agrees = agrees_same seed (λ c. if chunk == c then None else linked_at book.part c) (key_at key_words book.part)
+        (slice_set index chunk None)
+        (agrees_without seed (linked_at book.part) (key_at key_words book.part) index is.agrees chunk
+        (owned_within book.part index is.first is.count chunk ends.own)) (linked_at left.part)
+        (key_at key_words left.part) ends.linked
+        (λ c. words_same book.part left.part c 0 key_words (λ i. ends.words i c));
+  }
+
+  -- what is linked is one of the index
+  pub linked_within : (chunk : ℕ) → IsSome (linked_at book.part chunk) → chunk < length index
+  linked_within chunk some = led_within index chunk (led_some (led_at index chunk) (linked_at book.part chunk)
+      (is.agrees.leads chunk) some)
+
+  -- and one of the class
+  pub linked_owned : (chunk : ℕ) → IsSome (linked_at book.part chunk) → owns chunk book.part ≡ true
+  linked_owned chunk some = within_owned book.part index is.first is.count chunk (linked_within chunk some)
+
+-- the key of a chunk behind the beginning of an item
+pub key_begun : (book begun : BookView) (chunk label key_words : ℕ) (row : List ℕ)
+    → ((i c : ℕ) → (chunk == c) ≡ false → last_word i begun.part c ≡ last_word i book.part c)
+    → HasRow chunk label row begun → key_words ≤ length row → (c : ℕ)
+    → key_at key_words begun.part c ≡ (if chunk == c then take key_words row else key_at key_words book.part c)
+key_begun book begun chunk label key_words row words has few c = by (chunk == c) refl
+  where
+    by : (b : Bool) → (chunk == c) ≡ b
+        → key_at key_words begun.part c ≡ (if chunk == c then take key_words row else key_at key_words book.part c)
+    by true e = ap (key_at key_words begun.part) (sym (eqb-true chunk c e))
+        ∙ key_of_row begun chunk label key_words row has few
+        ∙ sym (ap (λ b. if b then take key_words row else key_at key_words book.part c) e)
+    by false e = words_same book.part begun.part c 0 key_words (λ i. words i c e)
+        ∙ sym (ap (λ b. if b then take key_words row else key_at key_words book.part c) e)
+
+-- what answers nothing only where a fact doesn't hold answers something where it does
+pub where_holds : {X : Type 0} (P E : Type 0) (it : Option X) → P → IfNone it (P → ⊥) → IfSome it (λ x. E) → E
+where_holds P E None holds none some = absurd (none holds)
+where_holds P E (Some x) holds none some = some
+
+-- it stays a part behind loads of the lists and of the index
+pub part_looked : (seed : Seed) (key_words : ℕ) (before after : BookView) (from to : IndexView)
+    → IsPart seed key_words before.part from.table → LooksOnly before after → to ≡ from
+    → IsPart seed key_words after.part to.table
+part_looked seed key_words before after from to is looks same =
+    subst (λ (i : IndexView). IsPart seed key_words after.part i.table) (sym same)
+    (part_kept seed key_words before after from.table is (looks_keep before after looks))
+
+-- where the key has an item this is it
+pub item_some : (key_words : ℕ) (key : List ℕ) (item : Option ℕ) (class : ClassPart) → IsItemOf key_words key item class
+    → IfSome item (λ chunk. HasKey key_words key class chunk)
+item_some key_words key None class is = tt
+item_some key_words key (Some chunk) class is = is
+
+-- and where it has none no item has the key
+pub item_none : (key_words : ℕ) (key : List ℕ) (item : Option ℕ) (class : ClassPart) → IsItemOf key_words key item class
+    → IfNone item ((chunk : ℕ) → HasKey key_words key class chunk → ⊥)
+item_none key_words key None class is = is
+item_none key_words key (Some chunk) class is = tt
+
+-- the chunk of the key's item is linked
+pub item_linked : (key_words : ℕ) (key : List ℕ) (item : Option ℕ) (class : ClassPart) → IsItemOf key_words key item class
+    → (chunk : ℕ) → item ≡ Some chunk → IsSome (linked_at class chunk)
+item_linked key_words key item class is chunk same =
+    let P : Option ℕ → Type 0 = λ at. IsItemOf key_words key at class in
+    let has : HasKey key_words key class chunk = subst P same is in has.linked
+
+-- nothing is linked in a class whose history is empty, and a part of it has an index that leads to nothing
+pub part_new : (seed : Seed) (key_words : ℕ) (book : BookView) (index : List (Option Led)) → book.part.first ≡ 0
+    → book.part.history ≡ [] → index ≡ replicate book.part.count None → IsPart seed key_words book.part index
+part_new seed key_words book index first none is = record {
+  first = first;
+  count = sym (length-replicate book.part.count None) ∙ ap length (sym is);
+  agrees = record {
+    leads = λ c. ap generation_led (nothing c) ∙ sym (not_linked c);
+    hashes = λ c led at. absurd (cc (sym (nothing c) ∙ at));
+    once = λ c d some other same. let no : IsSome {T = ℕ} None = subst IsSome (not_linked c) some in absurd (cc no);
+  };
+}
+  where
+    read : (n c : ℕ) → get_or {A = Option Led} (replicate n None) c None ≡ None
+    read zero c = refl
+    read (suc n) zero = refl
+    read (suc n) (suc c) = read n c
+
+    nothing : (c : ℕ) → led_at index c ≡ None
+    nothing c = ap (λ i. led_at i c) is ∙ read book.part.count c
+
+    not_linked : (c : ℕ) → linked_at book.part c ≡ None
+    not_linked c = ap (λ h. linked_standing (standing_in book.part.fresh h c)) none

@@ -1,0 +1,58 @@
+-- What of a part's view stays.
+use Rattle.std.proofs.Common.{◌≡◌, ℕ, List, Option, None, Some, IfNone, refl, sym, ap, ap₂, ◌∙◌}
+use Rattle.cache_lists.specs.declared.evictions.Evictions.{Evictions}
+use Rattle.cache_lists.specs.Counts.{CountedView}
+use Rattle.cache_nests.specs.declared.led.Led.{Led}
+use Rattle.cache_nests.specs.Views.{IndexView}
+use Rattle.cache_part.specs.Parts.{PartView, counted}
+
+-- a part with other lists and another index
+abbrev pub with_both : PartView → CountedView → List (Option Led) → PartView
+with_both part lists index = record part {
+  book = lists.book;
+  flow = lists.flow;
+  evictions = lists.evictions;
+  index = index;
+}
+
+-- where the Book alone changes
+pub book_alone : (part now : PartView) (left : CountedView) (to : List (Option Led)) → part ≡ now
+    → left ≡ record (counted part) { book = left.book } → to ≡ part.index
+    → with_both part left to ≡ record now { book = left.book }
+book_alone part now left to is rest same =
+    ap₂ (with_both part) rest same ∙ ap (λ (v : PartView). record v { book = left.book }) is
+
+-- where the evictions stay
+pub evictions_stay : (part now : PartView) (left : CountedView) (to : List (Option Led)) → part ≡ now
+    → left.evictions ≡ part.evictions
+    → with_both part left to ≡ record now { book = left.book; flow = left.flow; index = to }
+evictions_stay part now left to is same =
+    ap (λ (e : Evictions). record part { book = left.book; flow = left.flow; evictions = e; index = to }) same
+    ∙ ap (λ (v : PartView). record v { book = left.book; flow = left.flow; index = to }) is
+
+-- and the index too
+pub index_stays : (part now : PartView) (left : CountedView) (to : List (Option Led)) → part ≡ now
+    → left.evictions ≡ part.evictions → to ≡ part.index
+    → with_both part left to ≡ record now { book = left.book; flow = left.flow }
+index_stays part now left to is same still =
+    ap₂ (λ (e : Evictions) (i : List (Option Led)).
+    record part { book = left.book; flow = left.flow; evictions = e; index = i }) same still
+    ∙ ap (λ (v : PartView). record v { book = left.book; flow = left.flow }) is
+
+-- how many words a key has, and what a part may have, stays
+pub both_stay : (part now : PartView) (left : CountedView) (to : List (Option Led)) → part ≡ now
+    → with_both part left to ≡ record now {
+      book = left.book;
+      flow = left.flow;
+      evictions = left.evictions;
+      index = to;
+    }
+both_stay part now left to is = ap (λ (v : PartView). with_both v left to) is
+
+-- where nothing is told the Book alone changes
+pub none_changes : (told : Option ℕ) (part now : PartView) (left : CountedView) (from to : IndexView) → part ≡ now
+    → IfNone told (left ≡ record (counted part) { book = left.book }) → IfNone told (to ≡ from)
+    → from.table ≡ part.index → IfNone told (with_both part left to.table ≡ record now { book = left.book })
+none_changes None part now left from to is rest same at =
+    book_alone part now left to.table is rest (ap (λ (i : IndexView). i.table) same ∙ at)
+none_changes (Some chunk) part now left from to is rest same at = tt

@@ -1,0 +1,57 @@
+-- What contracts see of a part, and what every part keeps.
+use Rattle.std.specs.Prelude.{◌≡◌, ℕ, List, length, Option, Some, IsSome, option_map}
+use Rattle.bump_steps.specs.declared.views.ClassPart.{ClassPart}
+use Rattle.bump_class.specs.Books.{BookView}
+use Rattle.cache_lists.specs.declared.flow.Flow.{Flow}
+use Rattle.cache_lists.specs.declared.evictions.Evictions.{Evictions}
+use Rattle.cache_lists.specs.Counts.{CountedView}
+use Rattle.cache_lists.specs.Linked.{linked_at}
+use Rattle.cache_nests.specs.declared.led.Led.{Led}
+use Rattle.cache_nests.specs.Views.{led_at}
+use Rattle.keyed_hash.specs.declared.seed.Seed.{Seed}
+use Rattle.keyed_hash.specs.Hashes.{hash_of}
+use Rattle.cache_part.specs.Keys.{key_at, HasKey, IsItemOf}
+
+-- The Book, how its items went from list to list, and what was evicted; what the index leads to, by chunk; the seed of
+-- the keys' hashes, how many words a key and a value have, and how many items there may be.
+pub record PartView : Type 0 where
+  pub book : BookView
+  pub flow : Flow
+  pub evictions : Evictions
+  pub index : List (Option Led)
+  pub seed : Seed
+  pub key_words : ℕ
+  pub value_words : ℕ
+  pub items : ℕ
+
+-- its Book, and what that counts
+abbrev pub counted : PartView → CountedView
+counted part = record { book = part.book; flow = part.flow; evictions = part.evictions }
+
+-- the generation to which the index leads, if it does
+abbrev pub generation_led : Option Led → Option ℕ
+generation_led at = option_map (λ (led : Led). led.generation) at
+
+-- An index leads to what is linked, and to nothing else, by the hash of its key; and each key is that of one item.
+pub record Agrees (seed : Seed) (linked : ℕ → Option ℕ) (keys : ℕ → List ℕ) (index : List (Option Led)) : Type 0 where
+  pub leads : (chunk : ℕ) → generation_led (led_at index chunk) ≡ linked chunk
+  pub hashes : (chunk : ℕ) (led : Led) → led_at index chunk ≡ Some led → led.hash ≡ hash_of seed (keys chunk)
+  pub once : (chunk other : ℕ) → IsSome (linked chunk) → IsSome (linked other) → keys chunk ≡ keys other → chunk ≡ other
+
+-- What every part keeps: the class's chunks are those of the index, from 0 on, and both agree.
+pub record IsPart (seed : Seed) (key_words : ℕ) (class : ClassPart) (index : List (Option Led)) : Type 0 where
+  pub first : class.first ≡ 0
+  pub count : class.count ≡ length index
+  pub agrees : Agrees seed (linked_at class) (key_at key_words class) index
+
+-- an item is linked at this chunk, and its key is this
+abbrev pub IsUnder : List ℕ → ℕ → PartView → Type 0
+IsUnder key chunk part = HasKey part.key_words key part.book.part chunk
+
+-- no item has this key
+abbrev pub IsUnknown : List ℕ → PartView → Type 0
+IsUnknown key part = (chunk : ℕ) → IsUnder key chunk part → ⊥
+
+-- this is the chunk of the key's item, or the key has none
+abbrev pub IsItem : List ℕ → Option ℕ → PartView → Type 0
+IsItem key item part = IsItemOf part.key_words key item part.book.part

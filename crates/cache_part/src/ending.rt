@@ -1,0 +1,84 @@
+//! The item of a key ends.
+ghost use Rattle.std.specs.Prelude.{◌≡◌, ℕ, ◌<◌, ◌≤◌, IfSome, IfNone, IsSome, None, Some, true, length, slice_set};
+ghost use Rattle.bump_rules.specs.Lists.{all_without};
+ghost use Rattle.bump_steps.specs.Views.{owns};
+ghost use Rattle.cache_lists.specs.Items.{EndsAt};
+ghost use Rattle.cache_lists.specs.Linked.{linked_at};
+ghost use Rattle.cache_lists.specs.Segments.{SameSegments};
+ghost use Rattle.cache_nests.specs.Views.{led_at};
+ghost use Rattle.cache_part.specs.Keys.{HasKey};
+ghost use Rattle.cache_part.specs.Looks.{LooksOnly};
+ghost use Rattle.cache_part.specs.Parts.{IsPart, generation_led};
+
+use crate::finding;
+use bump_heads::Name;
+use bump_rules::ItemId;
+use bump_steps::RowLaw;
+use cache_lists::CountedBook;
+use cache_nests::Index;
+use keyed_hash::Seed;
+
+// Ends an item to which the index leads no more.
+pub(crate) fn end_unled<N: Name, L: RowLaw>(
+    lists: &mut CountedBook<N, L>,
+    _index: &Index,
+    id: ItemId,
+)
+    requires unled { led_at _index.now.table id.chunk ≡ None }
+    requires own { owns id.chunk lists.old.book.part ≡ true }
+    requires linked { linked_at lists.old.book.part id.chunk ≡ Some id.generation }
+    ensures ends { EndsAt id.chunk lists.old.book lists.new.book }
+    ensures others { SameSegments (all_without id.chunk lists.old.book.lists) lists.new.book.lists }
+    ensures evictions { lists.new.evictions ≡ lists.old.evictions }
+{
+    lists.end(id);
+}
+
+// The index leads to the item of a chunk no more, and then the item ends.
+fn end_led<N: Name, L: RowLaw>(lists: &mut CountedBook<N, L>, index: &mut Index, chunk: u32)
+    requires within { chunk < length index.old.table }
+    requires own { owns chunk lists.old.book.part ≡ true }
+    requires linked { IsSome (linked_at lists.old.book.part chunk) }
+    requires led { generation_led (led_at index.old.table chunk) ≡ linked_at lists.old.book.part chunk }
+    ensures ends { EndsAt chunk lists.old.book lists.new.book }
+    ensures others { SameSegments (all_without chunk lists.old.book.lists) lists.new.book.lists }
+    ensures evictions { lists.new.evictions ≡ lists.old.evictions }
+    ensures table { index.new.table ≡ slice_set index.old.table chunk None }
+{
+    let Some(led) = index.led(chunk) else {
+        unreachable!()
+    };
+    index.clear(chunk);
+    let generation = led.generation;
+    end_unled(lists, index, ItemId { chunk, generation });
+}
+
+// The item of a key ends, and its chunk is told; or None where the key has none.
+pub(crate) fn remove<N: Name, L: RowLaw>(
+    lists: &mut CountedBook<N, L>,
+    index: &mut Index,
+    seed: Seed,
+    key_words: u32,
+    key: &[u64],
+) -> Option<u32>
+    requires part { IsPart seed key_words lists.old.book.part index.old.table }
+    requires words { length key.now ≡ key_words }
+    requires few { key_words ≤ N.table.slots }
+    ensures part { IsPart seed key_words lists.new.book.part index.new.table }
+    ensures found { IfSome result (λ chunk. HasKey key_words key.now lists.old.book.part chunk) }
+    ensures ends { IfSome result (λ chunk. EndsAt chunk lists.old.book lists.new.book) }
+    ensures others { IfSome result (λ chunk. SameSegments (all_without chunk lists.old.book.lists)
+        lists.new.book.lists) }
+    ensures evictions { lists.new.evictions ≡ lists.old.evictions }
+    ensures none { IfNone result ((chunk : ℕ) → HasKey key_words key.now lists.old.book.part chunk → ⊥) }
+    ensures looks { IfNone result (LooksOnly lists.old.book lists.new.book) }
+    ensures rest { IfNone result (lists.new ≡ record lists.old { book = lists.new.book }) }
+    ensures index { IfNone result (index.new ≡ index.old) }
+{
+    let found = finding::find(lists, index, seed, key_words, key);
+    let Some(chunk) = found.chunk else {
+        return None;
+    };
+    end_led(lists, index, chunk);
+    Some(chunk)
+}

@@ -1,0 +1,19 @@
+//! A part of a cache: what belongs to one lock of it. It has the lists of its items, whose keys and values are words,
+//! and the index of their keys.
+#![tactic(auto)]
+
+mod ending;
+mod finding;
+mod parts;
+mod putting;
+mod replacing;
+mod room;
+mod stats;
+mod tending;
+
+pub use cache_lists::{Book, CountedBook, Evictions, Flow, Name, RawLane, RowLaw};
+pub use cache_nests::{Index, IndexReader};
+pub use keyed_hash::Seed;
+pub use parts::Part;
+pub use putting::{NoRoom, Put};
+pub use stats::Stats;

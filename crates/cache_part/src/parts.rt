@@ -1,0 +1,211 @@
+//! A part: the lists of items, the index of their keys, and what is done with both.
+ghost use Rattle.std.specs.Prelude.{◌≡◌, ℕ, ◌+◌, ◌<◌, ◌≤◌, IfSome, IfNone, IfOk, IfErr, Option, Some, None, true, [], suc, length, replicate, slice_set, take, drop};
+ghost use Rattle.bump_class.specs.Books.{IsBook};
+ghost use Rattle.bump_class.specs.Links.{MayHave};
+ghost use Rattle.bump_links.specs.Lists.{first_of};
+ghost use Rattle.bump_rules.specs.Lists.{all_without};
+ghost use Rattle.bump_steps.specs.Views.{owns, last_word};
+ghost use Rattle.cache_lists.specs.Counts.{IsFlow, SegmentsAddUp, no_flow, no_evictions};
+ghost use Rattle.cache_lists.specs.Items.{EndsAt, KeepsItems};
+ghost use Rattle.cache_lists.specs.Linked.{linked_at};
+ghost use Rattle.cache_lists.specs.Segments.{SameSegments};
+ghost use Rattle.cache_part.specs.Keys.{value_at};
+ghost use Rattle.cache_part.specs.Looks.{LooksOnly};
+ghost use Rattle.cache_part.specs.Parts.{PartView as ThePartView, IsPart, IsUnder, IsUnknown, IsItem, counted};
+ghost use Rattle.cache_part.specs.Putting.{MakesRoom, Puts, OthersStay};
+ghost use Rattle.cache_part.specs.Tending.{Tends};
+
+use crate::putting::{self, NoRoom, Put, Settings};
+use crate::{ending, finding, tending};
+use bump_class::{Book, RawLane};
+use bump_heads::Name;
+use bump_steps::{AnyRow, RowLaw};
+use cache_lists::CountedBook;
+use cache_nests::Index;
+use keyed_hash::Seed;
+use std::marker::Model;
+
+/// The items of a class, and the index of their keys. Each item has a row: its label is 0, and its further words are its
+/// key's and then its value's. The index leads to the items that are linked, and to nothing else.
+#[derive(Drop)]
+pub struct Part<N: Name, L: RowLaw = AnyRow> {
+    pub(crate) lists: CountedBook<N, L>,
+    pub(crate) index: Index,
+    pub(crate) settings: Settings,
+}
+
+impl<N: Name, L: RowLaw> Model for Part<N, L> {
+    ghost Value = { ThePartView };
+
+    ghost view = { λ p. record {
+      book = p.lists.book;
+      flow = p.lists.flow;
+      evictions = p.lists.evictions;
+      index = p.index.table;
+      seed = p.settings.seed;
+      key_words = p.settings.key_words;
+      value_words = p.settings.value_words;
+      items = p.settings.items;
+    } };
+
+    ghost invariant = { λ p. IsPart p.settings.seed p.settings.key_words p.lists.book.part p.index.table
+        × (p.settings.key_words + p.settings.value_words ≤ N.table.slots) };
+}
+
+impl<N: Name, L: RowLaw> Part<N, L> {
+    /// A part of a class that has all chunks from 0 on, and in which no item was linked yet, and of an index of as many
+    /// chunks that leads to none. A key has `key_words` words and a value `value_words`, together at most as many as a
+    /// chunk has further words. Where `items` are linked, one is evicted before another key gets its first.
+    pub fn new(
+        book: Book<N, L>,
+        index: Index,
+        seed: Seed,
+        key_words: u32,
+        value_words: u32,
+        items: u32,
+    ) -> Part<N, L>
+        requires first { book.part.first ≡ 0 }
+        requires history { book.part.history ≡ [] }
+        requires index { index.table ≡ replicate book.part.count None }
+        requires words { key_words + value_words ≤ N.table.slots }
+        ensures { result ≡ record {
+          book = book;
+          flow = no_flow;
+          evictions = no_evictions;
+          index = index.table;
+          seed = seed;
+          key_words = key_words;
+          value_words = value_words;
+          items = items;
+        } }
+    {
+        Part {
+            lists: CountedBook::new(book),
+            index,
+            settings: Settings {
+                seed,
+                key_words,
+                value_words,
+                items,
+            },
+        }
+    }
+
+    /// What it keeps: the index leads to what is linked by the hash of its key, each key is that of one item, and its
+    /// lists are those of a Book that counts how its items go.
+    pub fn promise(&self)
+        ensures part { IsPart self.now.seed self.now.key_words self.now.book.part self.now.index }
+        ensures words { self.now.key_words + self.now.value_words ≤ N.table.slots }
+        ensures book { IsBook self.now.book }
+        ensures flow { IsFlow self.now.flow self.now.book.part }
+        ensures sums { SegmentsAddUp (length self.now.book.lists.hot) (length self.now.book.lists.warm)
+            (length self.now.book.lists.cold) self.now.book.part }
+    {
+        self.lists.promise();
+    }
+
+    /// A further word of a chunk of the class, as it was stored last: the key's from 0 on, and behind them the value's.
+    /// `index` is below the number of further words. A chunk's words stay until an item is linked there.
+    pub fn word(&mut self, chunk: u32, index: u32) -> u64
+        requires own { owns chunk self.old.book.part ≡ true }
+        requires index { index < N.table.slots }
+        ensures stored { result ≡ last_word (suc index) self.old.book.part chunk }
+        ensures looks { LooksOnly self.old.book self.new.book }
+        ensures rest { self.new ≡ record self.old { book = self.new.book } }
+    {
+        self.lists.word(chunk, index)
+    }
+
+    /// The chunk of the item of this key; or None where no item has it. All words of the key are compared. Nothing
+    /// changes, but what the class's seat notes of its loads.
+    pub fn find(&mut self, key: &[u64]) -> Option<u32>
+        requires { length key.now ≡ self.old.key_words }
+        ensures found { IfSome result (λ chunk. IsUnder key.now chunk self.old) }
+        ensures none { IfNone result (IsUnknown key.now self.old) }
+        ensures looks { LooksOnly self.old.book self.new.book }
+        ensures rest { self.new ≡ record self.old { book = self.new.book } }
+    {
+        let settings = self.settings;
+        finding::find(
+            &mut self.lists,
+            &mut self.index,
+            settings.seed,
+            settings.key_words,
+            key,
+        )
+        .chunk
+    }
+
+    /// Ends the item of this key, and tells its chunk; or None exactly where no item has the key, and then nothing
+    /// changes but what the class's seat notes of its loads. The index leads to it no more before it ends. Its words can
+    /// still be read, by `word`, until an item is linked at its chunk.
+    pub fn remove(&mut self, key: &[u64]) -> Option<u32>
+        requires { length key.now ≡ self.old.key_words }
+        ensures found { IfSome result (λ chunk. IsUnder key.now chunk self.old) }
+        ensures ends { IfSome result (λ chunk. EndsAt chunk self.old.book self.new.book) }
+        ensures others { IfSome result (λ chunk. SameSegments (all_without chunk self.old.book.lists)
+            self.new.book.lists) }
+        ensures none { IfNone result (IsUnknown key.now self.old) }
+        ensures looks { IfNone result (LooksOnly self.old.book self.new.book) }
+        ensures unchanged { IfNone result (self.new ≡ record self.old { book = self.new.book }) }
+        ensures rest { self.new ≡ record self.old {
+          book = self.new.book;
+          flow = self.new.flow;
+          index = self.new.index;
+        } }
+    {
+        let settings = self.settings;
+        ending::remove(
+            &mut self.lists,
+            &mut self.index,
+            settings.seed,
+            settings.key_words,
+            key,
+        )
+    }
+
+    /// Puts an item under its key: the row is the key's words and then the value's, and `now` its time, in the caller's
+    /// ticks. Where the key has no item yet and as many as may be are linked, the one whose turn it is is evicted first,
+    /// as `CountedBook::evict` does. Where no chunk is free, chunks come free of ended items that nobody holds any more.
+    /// It is refused exactly where none is free then; the key keeps what it had. Else the new item is linked in HOT, the
+    /// index leads to it, and behind that the key's old item ends. The table's law holds of whatever row begins with the
+    /// label 0 and these words.
+    pub fn put(&mut self, row: &[u64], now: u64) -> Result<Put, NoRoom>
+        requires words { length row.now ≡ self.old.key_words + self.old.value_words }
+        requires law { MayHave L.law 0 row.now }
+        ensures old { IfOk result (λ did. IsItem (take self.old.key_words row.now) did.old self.old) }
+        ensures under { IfOk result (λ did. IsUnder (take self.old.key_words row.now) did.chunk self.new) }
+        ensures value { IfOk result (λ did. value_at self.old.key_words self.old.value_words self.new.book.part did.chunk
+            ≡ drop self.old.key_words row.now) }
+        ensures ended { IfOk result (λ did. IfSome did.old (λ chunk. linked_at self.new.book.part chunk ≡ None)) }
+        ensures others { IfOk result (λ did. OthersStay (Some did.chunk) did.old did.evicted self.old.book
+            self.new.book) }
+        ensures puts { IfOk result (λ did. Puts self.old.items did.old did.evicted row.now now did.chunk
+            (counted self.old) (counted self.new)) }
+        ensures no_room { IfErr result (λ why. first_of self.new.book.lists.unused ≡ None) }
+        ensures room { IfErr result (λ why. (old : Option ℕ) × IsItem (take self.old.key_words row.now) old self.old
+            × MakesRoom self.old.items old why.evicted (counted self.old) (counted self.new)) }
+        ensures stay { IfErr result (λ why. OthersStay None None why.evicted self.old.book self.new.book) }
+        ensures rest { self.new ≡ record self.old {
+          book = self.new.book;
+          flow = self.new.flow;
+          evictions = self.new.evictions;
+          index = self.new.index;
+        } }
+    {
+        let settings = self.settings;
+        putting::put_item(&mut self.lists, &mut self.index, settings, row, now)
+    }
+
+    /// Tends the part: the bumps that wait in the lanes are applied, lane by lane, at most `most` of each, with `now` as
+    /// their items' new time, in the caller's ticks; ended items are swept; and then the last items of HOT and WARM are
+    /// looked at `LOOKS` times each, where these have more than `hot` and `warm` items. The same items are linked, and
+    /// the index stays.
+    pub fn tend(&mut self, lanes: &mut [RawLane<N, L>], most: u32, now: u64, hot: u32, warm: u32)
+        ensures tends { Tends most now hot warm self.old.book lanes.old self.new.book lanes.new }
+        ensures items { KeepsItems self.old.book self.new.book }
+        ensures rest { self.new ≡ record self.old { book = self.new.book; flow = self.new.flow } }
+    {
+        tending::tend(&mut self.lists, lanes, most, now, hot, warm);
+    }
+}

@@ -1,0 +1,87 @@
+//! An item is linked, and the index leads to it in place of the key's old one.
+ghost use Rattle.std.specs.Prelude.{◌≡◌, ℕ, ◌<◌, ◌≤◌, IfSome, IfNone, IsSome, None, true, length, slice_set};
+ghost use Rattle.bump_class.specs.Links.{MayHave};
+ghost use Rattle.bump_links.specs.Lists.{first_of};
+ghost use Rattle.bump_rules.specs.Lists.{all_without};
+ghost use Rattle.bump_steps.specs.Views.{owns};
+ghost use Rattle.cache_lists.specs.Items.{EndsAt};
+ghost use Rattle.cache_lists.specs.Linked.{linked_at};
+ghost use Rattle.cache_lists.specs.Segments.{SameSegments};
+ghost use Rattle.cache_nests.specs.Views.{led_at};
+ghost use Rattle.cache_part.specs.Parts.{generation_led};
+ghost use Rattle.cache_part.specs.Putting.{Links, leads_anew};
+
+use crate::ending::end_unled;
+use crate::finding::Found;
+use bump_heads::Name;
+use bump_rules::ItemId;
+use bump_steps::RowLaw;
+use cache_lists::CountedBook;
+use cache_nests::Index;
+
+// The index leads to a new item in place of that of a chunk, by one store, and then the old one ends.
+fn replace<N: Name, L: RowLaw>(
+    lists: &mut CountedBook<N, L>,
+    index: &mut Index,
+    old: u32,
+    id: ItemId,
+)
+    requires within { old < length index.old.table }
+    requires own { owns old lists.old.book.part ≡ true }
+    requires linked { IsSome (linked_at lists.old.book.part old) }
+    requires led { generation_led (led_at index.old.table old) ≡ linked_at lists.old.book.part old }
+    requires chunk { id.chunk < length index.old.table }
+    requires anew { led_at index.old.table id.chunk ≡ None }
+    ensures ends { EndsAt old lists.old.book lists.new.book }
+    ensures others { SameSegments (all_without old lists.old.book.lists) lists.new.book.lists }
+    ensures evictions { lists.new.evictions ≡ lists.old.evictions }
+    ensures table { (hash : ℕ) → index.new.table ≡ leads_anew hash (Some old) id index.old.table }
+{
+    let Some(led) = index.led(old) else {
+        unreachable!()
+    };
+    // First the index leads to the new item: a reader that comes by finds the one or the other.
+    index.lead(old, id);
+    let ended = ItemId {
+        chunk: old,
+        generation: led.generation,
+    };
+    end_unled(lists, index, ended);
+}
+
+// Links an item with this row, and tells it; or None where no chunk is free. The index leads to it, in place of the
+// key's old item where it has one, which then ends.
+pub(crate) fn link<N: Name, L: RowLaw>(
+    lists: &mut CountedBook<N, L>,
+    index: &mut Index,
+    found: Found,
+    row: &[u64],
+    now: u64,
+) -> Option<ItemId>
+    requires count { lists.old.book.part.count ≡ length index.old.table }
+    requires first { lists.old.book.part.first ≡ 0 }
+    requires leads { (chunk : ℕ) → generation_led (led_at index.old.table chunk) ≡ linked_at lists.old.book.part chunk }
+    requires old { (chunk : ℕ) → found.chunk ≡ Some chunk → IsSome (linked_at lists.old.book.part chunk) }
+    requires few { length row.now ≤ N.table.slots }
+    requires law { MayHave L.law 0 row.now }
+    ensures links { IfSome result (λ id. Links found.chunk row.now now id lists.old.book lists.new.book) }
+    ensures table { IfSome result (λ id. index.new.table ≡ leads_anew found.hash found.chunk id index.old.table) }
+    ensures evictions { lists.new.evictions ≡ lists.old.evictions }
+    ensures free { IfNone result (first_of lists.old.book.lists.unused ≡ None) }
+    ensures none { IfNone result (lists.new ≡ lists.old) }
+    ensures index { IfNone result (index.new ≡ index.old) }
+{
+    let Some(id) = lists.begin(0, row, now) else {
+        return None;
+    };
+    match found.chunk {
+        Some(old) => {
+            replace(lists, index, old, id);
+            Some(id)
+        }
+        None => {
+            index.put(found.hash, id);
+            Some(id)
+        }
+    }
+}

@@ -1,0 +1,65 @@
+//! Room is made for an item.
+ghost use Rattle.std.specs.Prelude.{◌≡◌, ℕ, ◌+◌, None, length, slice_set, IfSome, IfNone};
+ghost use Rattle.cache_lists.specs.Items.{KeepsItems};
+ghost use Rattle.cache_lists.specs.Linked.{linked_at};
+ghost use Rattle.cache_lists.specs.Segments.{SameSegments};
+ghost use Rattle.cache_nests.specs.Views.{led_at};
+ghost use Rattle.cache_part.specs.Parts.{generation_led};
+ghost use Rattle.cache_part.specs.Putting.{linked_count, EvictsWhereFull, FreesWhereNone};
+
+use bump_heads::Name;
+use bump_rules::Place;
+use bump_steps::RowLaw;
+use cache_lists::{CountedBook, MOST_FREED};
+use cache_nests::Index;
+
+// How many items are linked.
+fn count<N: Name, L: RowLaw>(lists: &CountedBook<N, L>) -> u64
+    ensures { result ≡ linked_count lists.now.book.lists }
+{
+    u64::from(lists.size(Place::Hot))
+        + u64::from(lists.size(Place::Warm))
+        + u64::from(lists.size(Place::Cold))
+        + u64::from(lists.size(Place::Temp))
+}
+
+// Evicts the item whose turn it is, where the key has none and as many as `items` are linked; and tells its chunk. The
+// index leads to it no more behind that.
+pub(crate) fn evict_where_full<N: Name, L: RowLaw>(
+    lists: &mut CountedBook<N, L>,
+    index: &mut Index,
+    items: u32,
+    old: Option<u32>,
+) -> Option<u32>
+    requires count { lists.old.book.part.count ≡ length index.old.table }
+    requires first { lists.old.book.part.first ≡ 0 }
+    requires leads { (chunk : ℕ) → generation_led (led_at index.old.table chunk) ≡ linked_at lists.old.book.part chunk }
+    ensures evicts { EvictsWhereFull items old result lists.old lists.new }
+    ensures table { IfSome result (λ chunk. index.new.table ≡ slice_set index.old.table chunk None) }
+    ensures index { IfNone result (index.new ≡ index.old) }
+{
+    if old.is_some() {
+        return None;
+    }
+    if count(lists) < u64::from(items) {
+        return None;
+    }
+    let Some(victim) = lists.evict() else {
+        return None;
+    };
+    index.clear(victim.chunk);
+    Some(victim.chunk)
+}
+
+// Chunks of ended items come free that nobody holds any more, where no chunk is.
+pub(crate) fn free_where_none<N: Name, L: RowLaw>(lists: &mut CountedBook<N, L>)
+    ensures frees { FreesWhereNone lists.old.book lists.new.book }
+    ensures kept { KeepsItems lists.old.book lists.new.book }
+    ensures segments { SameSegments lists.old.book.lists lists.new.book.lists }
+    ensures counts { lists.new ≡ record lists.old { book = lists.new.book } }
+{
+    if lists.size(Place::Unused) > 0 {
+        return;
+    }
+    lists.free_some(MOST_FREED as u32);
+}

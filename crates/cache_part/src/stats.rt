@@ -1,0 +1,71 @@
+//! The statistics of a part.
+ghost use Rattle.std.specs.Prelude.{◌≡◌};
+ghost use Rattle.cache_part.specs.Stats.{stats_of};
+
+use crate::parts::Part;
+use bump_heads::Name;
+use bump_rules::Place;
+use bump_steps::RowLaw;
+use cache_lists::Flow;
+
+/// Statistics by memcached's names. Sizes are of now; all else is counted since the part was made, and stops at
+/// 2^64 - 1.
+#[derive(Clone, Copy, Debug, PartialEq, Eq)]
+pub struct Stats {
+    /// Items in HOT.
+    pub number_hot: u32,
+
+    /// Items in WARM.
+    pub number_warm: u32,
+
+    /// Items in COLD.
+    pub number_cold: u32,
+
+    /// Moves from HOT and WARM to COLD.
+    pub moves_to_cold: u64,
+
+    /// Moves from HOT and COLD to WARM.
+    pub moves_to_warm: u64,
+
+    /// Moves from WARM to its front.
+    pub moves_within_lru: u64,
+
+    /// Items that were evicted.
+    pub evicted: u64,
+
+    /// Those of them that were never hit.
+    pub evicted_unfetched: u64,
+
+    /// Those of them that were ACTIVE when they ended.
+    pub evicted_active: u64,
+
+    /// Items that a put's own thread evicted. These are all of them: nobody else evicts.
+    pub direct_reclaims: u64,
+
+    /// Each way of items by itself.
+    pub flow: Flow,
+}
+
+impl<N: Name, L: RowLaw> Part<N, L> {
+    /// The statistics: sizes are the lists', and each count is how often the class's history has such a move
+    /// (`Part::promise` says so of each way, and that what came into HOT, WARM or COLD is there still or went out).
+    pub fn stats(&self) -> Stats
+        ensures { result ≡ stats_of self.now }
+    {
+        let flow = self.lists.flow();
+        let evictions = self.lists.evictions();
+        Stats {
+            number_hot: self.lists.size(Place::Hot),
+            number_warm: self.lists.size(Place::Warm),
+            number_cold: self.lists.size(Place::Cold),
+            moves_to_cold: flow.hot_to_cold.saturating_add(flow.warm_to_cold),
+            moves_to_warm: flow.hot_to_warm.saturating_add(flow.cold_to_warm),
+            moves_within_lru: flow.warm_to_warm,
+            evicted: evictions.evicted,
+            evicted_unfetched: evictions.unfetched,
+            evicted_active: evictions.active,
+            direct_reclaims: evictions.evicted,
+            flow,
+        }
+    }
+}

@@ -1,0 +1,85 @@
+-- Looks at chunks: what they come to, and how few steps they make.
+use Rattle.std.proofs.Common.{◌≡◌, ℕ, zero, suc, ◌+◌, ◌≤◌, List, ◌++◌, Ok, refl, ap, ◌∙◌, sym, subst, arith, append_assoc, cond, Bool}
+use Rattle.bump_rules.specs.declared.configs.Config.{Config}
+use Rattle.bump_rules.specs.declared.items.Head.{Head}
+use Rattle.bump_rules.specs.Totals.{how_many}
+use Rattle.bump_rules.proofs.Updates.{total_append}
+use Rattle.bump_steps.specs.declared.views.HoldPart.{HoldPart}
+use Rattle.bump_steps.specs.declared.views.OwnStep.{OwnStep}
+use Rattle.bump_parts.specs.StepCounts.{is_load, is_exchange, is_other, MakesAtMost}
+use Rattle.bump_parts.specs.Workers.{WorkerState}
+use Rattle.cache_readers.specs.Looks.{AreInVain, Finds, FindsNothing, HasOtherKey, Hits, LooksInVain, WorkerGetsAny}
+use Rattle.bump_steps.specs.Rule.{RowPredicate}
+
+-- what two calls make one after the other is as few as both together
+pub few_together : (loads exchanges others more_loads more_exchanges more_others : ℕ)
+    (before between after : List OwnStep) → MakesAtMost loads exchanges others before between
+    → MakesAtMost more_loads more_exchanges more_others between after
+    → MakesAtMost (loads + more_loads) (exchanges + more_exchanges) (others + more_others) before after
+few_together loads exchanges others more_loads more_exchanges more_others before between after first second =
+    record {
+      made = first.made ++ second.made;
+      grown = second.grown ∙ ap (λ (steps : List OwnStep). steps ++ second.made) first.grown
+          ∙ append_assoc before first.made second.made;
+      few_loads = how_many_both is_load loads more_loads first.few_loads second.few_loads;
+      few_exchanges = how_many_both is_exchange exchanges more_exchanges first.few_exchanges second.few_exchanges;
+      few_others = how_many_both is_other others more_others first.few_others second.few_others;
+    }
+  where
+    how_many_both : (test : OwnStep → Bool) (most more : ℕ) → how_many test first.made ≤ most
+        → how_many test second.made ≤ more → how_many test (first.made ++ second.made) ≤ most + more
+    how_many_both test most more few too =
+        omega (arith, total_append (λ (step : OwnStep). cond (test step) 1 0) first.made second.made, few, too)
+
+-- a hold of an item with another key
+pub vain_of_hold : (config : Config) (key : List ℕ) (chunk : ℕ) (before after : WorkerState) (hold : HoldPart)
+    (found : Head) → WorkerGetsAny config chunk before after (Ok (hold, found)) → HasOtherKey key hold.row
+    → MakesAtMost 1 8 0 before.part.steps after.part.steps → LooksInVain config key before after
+vain_of_hold config key chunk before after hold found gets other few = record {
+  chunk = chunk;
+  took = Ok (hold, found);
+  gets = gets;
+  other = other;
+  few = few;
+}
+
+-- nothing was looked at yet
+pub nothing_yet : (config : Config) (key : List ℕ) (worker : WorkerState) → FindsNothing config key worker worker
+nothing_yet config key worker = record { looks = 0; vain = refl }
+
+-- one look more was in vain
+pub one_more_vain : (config : Config) (key : List ℕ) (before between after : WorkerState)
+    → FindsNothing config key before between → LooksInVain config key between after
+    → FindsNothing config key before after
+one_more_vain config key before between after first vain =
+    record { looks = suc first.looks; vain = (between, first.vain, vain) }
+
+-- and more of them
+vain_then : (config : Config) (key : List ℕ) (count more : ℕ) (before between after : WorkerState)
+    → AreInVain config key count before between → AreInVain config key more between after
+    → FindsNothing config key before after
+vain_then config key count zero before between after first same =
+    subst (λ (w : WorkerState). FindsNothing config key before w) (sym same) (record { looks = count; vain = first })
+vain_then config key count (suc more) before between after first (last, vain, look) =
+    let rest = vain_then config key count more before between last first vain in
+    record { looks = suc rest.looks; vain = (last, rest.vain, look) }
+
+pub nothing_then : (config : Config) (key : List ℕ) (before between after : WorkerState)
+    → FindsNothing config key before between → FindsNothing config key between after
+    → FindsNothing config key before after
+nothing_then config key before between after first second =
+    vain_then config key first.looks second.looks before between after first.vain second.vain
+
+-- a hit behind looks that were in vain
+pub finds_hit : (law : RowPredicate) (config : Config) (key value : List ℕ) (now : ℕ) (before between after : WorkerState)
+    → FindsNothing config key before between → Hits law config key value now between after
+    → Finds law config key value now before after
+finds_hit law config key value now before between after first hit =
+    record { looks = first.looks; last = between; vain = first.vain; hit = hit }
+
+pub finds_then : (law : RowPredicate) (config : Config) (key value : List ℕ) (now : ℕ) (before between after : WorkerState)
+    → FindsNothing config key before between → Finds law config key value now between after
+    → Finds law config key value now before after
+finds_then law config key value now before between after first found =
+    let rest = vain_then config key first.looks found.looks before between found.last first.vain found.vain in
+    record { looks = rest.looks; last = found.last; vain = rest.vain; hit = found.hit }

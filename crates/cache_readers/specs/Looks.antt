@@ -1,0 +1,73 @@
+-- What looks at chunks come to, by which a reader finds the item of a key.
+use Rattle.std.specs.Prelude.{◌≡◌, ◌≢◌, ◌&&◌, ℕ, zero, suc, ◌+◌, ◌<◌, ◌≤◌, Bool, true, false, List, length, slice_index, Result, Ok, Err, IfOk}
+use Rattle.bump_rules.specs.declared.commands.Touch.{Touch}
+use Rattle.bump_rules.specs.declared.configs.Config.{Config}
+use Rattle.bump_rules.specs.declared.items.Head.{Head}
+use Rattle.bump_steps.specs.declared.views.HoldPart.{HoldPart}
+use Rattle.bump_steps.specs.References.{word_of_row, words_in}
+use Rattle.bump_steps.specs.Rule.{RowPredicate, chunks as all_chunks}
+use Rattle.bump_parts.specs.declared.refusals.GetAnyRefusal.{GetAnyRefusal}
+use Rattle.bump_parts.specs.declared.refusals.GetAnyRefusal.TheVariants as get_any
+use Rattle.bump_parts.specs.Gets.{GotAny}
+use Rattle.bump_parts.specs.StepCounts.{MakesAtMost}
+use Rattle.bump_parts.specs.Touches.{WorkerTouches}
+use Rattle.bump_parts.specs.Workers.{WorkerState}
+
+-- a worker's get of whatever item is linked in a chunk, by the clauses `missing` and `got` of `Worker::get_any`
+pub record WorkerGetsAny (config : Config) (chunk : ℕ) (before after : WorkerState)
+    (took : Result (HoldPart × Head) GetAnyRefusal) : Type 0 where
+  pub missing : all_chunks config ≤ chunk → (took ≡ Err get_any.NoSuchChunk) × (after ≡ before)
+  pub got : chunk < all_chunks config → (first : Head) × (more : List Head)
+      × GotAny config.refs_limit chunk before after took first more
+
+-- these words stand in the row, from this number of its further words on
+abbrev pub HasWords : List ℕ → ℕ → List ℕ → Type 0
+HasWords words from row = (i : ℕ) → i < length words → word_of_row row (from + i) ≡ slice_index words i
+
+-- another word than the key's stands in the place of one of them
+abbrev pub HasOtherKey : List ℕ → List ℕ → Type 0
+HasOtherKey key row = (i : ℕ) × (i < length key) × (word_of_row row i ≢ slice_index key i)
+
+-- a look at a chunk gave no hold, or one of an item with another key: one load of its head, and at most 8 exchanges
+pub record LooksInVain (config : Config) (key : List ℕ) (before after : WorkerState) : Type 0 where
+  pub chunk : ℕ
+  pub took : Result (HoldPart × Head) GetAnyRefusal
+  pub gets : WorkerGetsAny config chunk before after took
+  pub other : IfOk took (λ told. HasOtherKey key told.0.row)
+  pub few : MakesAtMost 1 8 0 before.part.steps after.part.steps
+
+-- so many, one after the other
+abbrev pub AreInVain : Config → List ℕ → ℕ → WorkerState → WorkerState → Type 0
+AreInVain config key zero before after = after ≡ before
+AreInVain config key (suc count) before after = (between : WorkerState) × AreInVain config key count before between
+    × LooksInVain config key between after
+
+-- A look at a chunk gave a hold of an item with this key and this value, as they were stored for its life, so the table's
+-- law holds of its words. It is touched where the head by which it was taken hadn't both marks.
+pub record Hits (law : RowPredicate) (config : Config) (key value : List ℕ) (now : ℕ) (before after : WorkerState)
+    : Type 0 where
+  pub chunk : ℕ
+  pub hold : HoldPart
+  pub found : Head
+  pub between : WorkerState
+  pub gets : WorkerGetsAny config chunk before between (Ok (hold, found))
+  pub has_key : HasWords key 0 hold.row
+  pub has_value : HasWords value (length key) hold.row
+  pub lawful : law (words_in hold.row)
+  pub marked : (found.fetched && found.active) ≡ true → after ≡ between
+  pub touched : (found.fetched && found.active) ≡ false
+      → (answer : Touch) × WorkerTouches config hold.life now between after answer
+  pub few : MakesAtMost 2 16 4 before.part.steps after.part.steps
+
+-- a get found this value: so many looks were in vain, and the next one was a hit
+pub record Finds (law : RowPredicate) (config : Config) (key value : List ℕ) (now : ℕ) (before after : WorkerState)
+    : Type 0 where
+  pub looks : ℕ
+  pub last : WorkerState
+  pub vain : AreInVain config key looks before last
+  pub hit : Hits law config key value now last after
+
+-- a get found nothing: so many looks were in vain
+pub record FindsNothing (config : Config) (key : List ℕ) (before after : WorkerState) : Type 0 where
+  pub looks : ℕ
+  pub vain : AreInVain config key looks before after

@@ -1,0 +1,13 @@
+//! Readers of a cache whose items lie in the words of their chunks: a get takes no lock and no memory, and waits for
+//! nobody. Keys and values are words here, so many each.
+#![tactic(auto)]
+
+mod looking;
+mod readers;
+
+pub use bump_heads::{Heads, Name, ReaderHeads};
+pub use bump_parts::Worker;
+pub use bump_rules::{Accounts, ItemId};
+pub use bump_steps::RowLaw;
+pub use cache_nests::IndexReader;
+pub use readers::WordReader;

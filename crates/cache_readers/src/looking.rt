@@ -1,0 +1,173 @@
+//! Looks at the chunks to which the index leads.
+ghost use Rattle.std.specs.Prelude.{◌≡◌, ℕ, ◌+◌, ◌<◌, ◌≤◌, ◌^◌, ◌&&◌, true, false, OnOk, OnErr, length};
+ghost use Rattle.bump_rules.specs.declared.commands.Touch.{Touch as TheTouch};
+ghost use Rattle.bump_parts.specs.StepCounts.{MakesAtMost};
+ghost use Rattle.bump_parts.specs.Touches.{WorkerTouches};
+ghost use Rattle.cache_readers.specs.Looks.{Finds, FindsNothing, HasOtherKey, HasWords, Hits, LooksInVain};
+
+use bump_parts::{Hold, Worker};
+use bump_readers::{Name, ReaderHeads};
+use bump_rules::{Head, ItemId};
+use bump_steps::RowLaw;
+use cache_nests::IndexReader;
+
+// A get looks again where the life to which the index led has ended, so often at most: each time the key was put anew,
+// removed or evicted meanwhile.
+const TURNS: u32 = 1_000;
+
+// Why a look was in vain.
+pub(crate) enum Vain {
+    // The life to which the index led has another key.
+    Other,
+
+    // That life has ended: the index leads elsewhere by now.
+    Ended,
+}
+
+// Whether the item that is held has the key.
+#[inline(always)]
+fn has_key<N: Name, L: RowLaw>(hold: &mut Hold<N>, heads: &ReaderHeads<N, L>, key: &[u64]) -> bool
+    requires few { length key.now ≤ N.table.slots }
+    ensures has { result ≡ true → HasWords key.now 0 hold.old.row }
+    ensures other { result ≡ false → HasOtherKey key.now hold.old.row }
+    ensures same { hold.new ≡ hold.old }
+{
+    let _further = heads.further();
+    for index in 0..key.len() {
+        if hold.word(heads, index as u32) != key[index] {
+            return false;
+        }
+    }
+    true
+}
+
+// Reads words of the item that is held, from this further word on.
+#[inline(always)]
+fn read_words<N: Name, L: RowLaw>(
+    hold: &mut Hold<N>,
+    heads: &ReaderHeads<N, L>,
+    from: usize,
+    words: &mut [u64],
+)
+    requires few { from + length words.old ≤ N.table.slots }
+    ensures read { HasWords words.new from hold.old.row }
+    ensures length { length words.new ≡ length words.old }
+    ensures same { hold.new ≡ hold.old }
+{
+    let _further = heads.further();
+    for index in 0..words.len() {
+        words[index] = hold.word(heads, (from + index) as u32);
+    }
+}
+
+// Touches the item that is held, where the head by which it was taken hadn't both marks. Most hits find both set: then
+// the locked step of a touch is saved.
+#[inline(always)]
+fn touch<N: Name, L: RowLaw>(
+    worker: &mut Worker<N>,
+    heads: &ReaderHeads<N, L>,
+    hold: &mut Hold<N>,
+    found: Head,
+    now: u64,
+)
+    ensures marked { (found.fetched && found.active) ≡ true → worker.new ≡ worker.old }
+    ensures touched { (found.fetched && found.active) ≡ false → (answer : TheTouch)
+        × WorkerTouches heads.now hold.old.life now worker.old worker.new answer }
+    ensures same { hold.new ≡ hold.old }
+    ensures few { MakesAtMost 1 8 4 worker.old.part.steps worker.new.part.steps }
+    ensures ring { worker.new.sender.ring ≡ worker.old.sender.ring }
+{
+    if found.fetched && found.active {
+        return;
+    }
+    let _touch = worker.touch(heads, hold, now);
+}
+
+// Looks at a chunk: where its item has the key it is hit, and its value is read.
+#[inline(always)]
+fn look<N: Name, L: RowLaw>(
+    worker: &mut Worker<N>,
+    heads: &ReaderHeads<N, L>,
+    id: ItemId,
+    key: &[u64],
+    value: &mut [u64],
+    now: u64,
+) -> Result<(), Vain>
+    requires few { length key.now + length value.old ≤ N.table.slots }
+    ensures found { OnOk result (Hits L.law heads.now key.now value.new now worker.old worker.new) }
+    ensures vain { OnErr result (LooksInVain heads.now key.now worker.old worker.new) }
+    ensures length { length value.new ≡ length value.old }
+    ensures ring { worker.new.sender.ring ≡ worker.old.sender.ring }
+{
+    let Ok((mut hold, found)) = worker.get_any(heads, id.chunk) else {
+        return Err(Vain::Ended);
+    };
+    if !has_key(&mut hold, heads, key) {
+        let life = hold.life();
+        hold.release(heads);
+        return Err(if life.generation == id.generation {
+            Vain::Other
+        } else {
+            Vain::Ended
+        });
+    }
+    touch(worker, heads, &mut hold, found, now);
+    read_words(&mut hold, heads, key.len(), value);
+    hold.release(heads);
+    Ok(())
+}
+
+// Goes through the chunks to which the index leads for this hash.
+#[inline(always)]
+fn look_through<N: Name, L: RowLaw>(
+    worker: &mut Worker<N>,
+    heads: &ReaderHeads<N, L>,
+    index: &IndexReader,
+    hash: u64,
+    key: &[u64],
+    value: &mut [u64],
+    now: u64,
+) -> Result<(), Vain>
+    requires few { length key.now + length value.old ≤ N.table.slots }
+    ensures found { OnOk result (Finds L.law heads.now key.now value.new now worker.old worker.new) }
+    ensures vain { OnErr result (FindsNothing heads.now key.now worker.old worker.new) }
+    ensures length { length value.new ≡ length value.old }
+    ensures ring { worker.new.sender.ring ≡ worker.old.sender.ring }
+{
+    let mut search = index.search(hash);
+    while let Some(id) = search.next(index) {
+        match look(worker, heads, id, key, value, now) {
+            Ok(()) => return Ok(()),
+            Err(Vain::Ended) => return Err(Vain::Ended),
+            Err(Vain::Other) => {}
+        }
+    }
+    Err(Vain::Other)
+}
+
+// Finds the value of a key, and tells whether it did.
+#[inline(always)]
+pub(crate) fn find<N: Name, L: RowLaw>(
+    worker: &mut Worker<N>,
+    heads: &ReaderHeads<N, L>,
+    index: &IndexReader,
+    hash: u64,
+    key: &[u64],
+    value: &mut [u64],
+    now: u64,
+) -> bool
+    requires few { length key.now + length value.old ≤ N.table.slots }
+    ensures found { result ≡ true → Finds L.law heads.now key.now value.new now worker.old worker.new }
+    ensures vain { result ≡ false → FindsNothing heads.now key.now worker.old worker.new }
+    ensures length { length value.new ≡ length value.old }
+    ensures ring { worker.new.sender.ring ≡ worker.old.sender.ring }
+{
+    for _turn in 0..TURNS {
+        match look_through(worker, heads, index, hash, key, value, now) {
+            Ok(()) => return true,
+            Err(Vain::Other) => return false,
+            Err(Vain::Ended) => {}
+        }
+    }
+    false
+}

@@ -1,0 +1,127 @@
+//! A reader of a cache whose keys and values are words.
+ghost use Rattle.std.specs.Prelude.{◌≡◌, ◌+◌, ◌≤◌, true, false, length};
+ghost use Rattle.std.specs.Arc.{arc_value};
+ghost use Rattle.bump_rules.specs.declared.hands.Hand.TheVariants as hand;
+ghost use Rattle.bump_rules.specs.Rings.{IsAccounts};
+ghost use Rattle.cache_readers.specs.Looks.{Finds, FindsNothing};
+ghost use Rattle.cache_readers.specs.Readers.{ReaderView as TheReaderView, one_more, new_reader};
+
+use crate::looking::find;
+use bump_heads::{Heads, Name};
+use bump_parts::Worker;
+use bump_rules::Accounts;
+use bump_steps::RowLaw;
+use cache_nests::IndexReader;
+use std::alloc::Global;
+use std::marker::Model;
+use std::sync::Arc;
+
+/// A reader of a cache, which one thread has at a time.
+#[derive(Drop)]
+pub struct WordReader<N: Name, L: RowLaw> {
+    worker: Worker<N>,
+    heads: Arc<Heads<N, L>, Global>,
+    index: IndexReader,
+    hits: u64,
+    misses: u64,
+}
+
+impl<N: Name, L: RowLaw> Model for WordReader<N, L> {
+    ghost Value = { TheReaderView };
+
+    ghost view = { λ r. record {
+      config = arc_value r.heads;
+      worker = r.worker;
+      hits = r.hits;
+      misses = r.misses;
+    } };
+}
+
+impl<N: Name, L: RowLaw> WordReader<N, L> {
+    /// A reader that got nothing yet: by a worker of the store of these heads, and a reader of the index that leads to its
+    /// items.
+    pub fn new(
+        worker: Worker<N>,
+        heads: Arc<Heads<N, L>, Global>,
+        index: IndexReader,
+    ) -> WordReader<N, L>
+        ensures { result ≡ new_reader (arc_value heads) worker }
+    {
+        WordReader {
+            worker,
+            heads,
+            index,
+            hits: 0,
+            misses: 0,
+        }
+    }
+
+    /// Reads the value that was put under a key into `value`, as memcached's `get`, and tells whether there was one.
+    /// `hash` is the key's, any number for a key that isn't there; `now` is the time that a touch stores, in the caller's
+    /// ticks. The words of `key` and `value` are as many as a row has, or fewer, together. It takes no lock and no memory,
+    /// and waits for nobody.
+    ///
+    /// It searches the index, and looks at each chunk to which it leads: it takes a hold of the item that is linked there
+    /// then, and compares its key. Where that is another one the hold is given back, and the search goes on. Where it is
+    /// the key, the item is touched, as `Worker::touch` does, unless the head by which the hold was taken had both marks;
+    /// the value is read, and the hold given back. What it read are the words that the put of this life stored.
+    ///
+    /// Where a life to which the index led has ended meanwhile it searches anew, up to 1,000 times: each time the key was
+    /// put anew, removed or evicted by another thread. It answers false where the index leads to no chunk with the key,
+    /// and behind the last of these searches; nothing is touched then, and words in `value` may be changed.
+    #[inline(always)]
+    pub fn get(&mut self, hash: u64, key: &[u64], value: &mut [u64], now: u64) -> bool
+        requires few { length key.now + length value.old ≤ N.table.slots }
+        ensures found { result ≡ true → Finds L.law self.old.config key.now value.new now self.old.worker
+            self.new.worker }
+        ensures counted { result ≡ true → self.new ≡ record self.old {
+          worker = self.new.worker;
+          hits = one_more self.old.hits;
+        } }
+        ensures nothing { result ≡ false → FindsNothing self.old.config key.now self.old.worker self.new.worker }
+        ensures missed { result ≡ false → self.new ≡ record self.old {
+          worker = self.new.worker;
+          misses = one_more self.old.misses;
+        } }
+        ensures length { length value.new ≡ length value.old }
+        ensures ring { self.new.worker.sender.ring ≡ self.old.worker.sender.ring }
+    {
+        let found = find(
+            &mut self.worker,
+            &self.heads,
+            &self.index,
+            hash,
+            key,
+            value,
+            now,
+        );
+        if found {
+            self.hits = self.hits.saturating_add(1);
+        } else {
+            self.misses = self.misses.saturating_add(1);
+        }
+        found
+    }
+
+    /// How many gets found something (memcached's `get_hits`), at most 2^64 - 1.
+    pub fn hits(&self) -> u64
+        ensures { result ≡ self.now.hits }
+    {
+        self.hits
+    }
+
+    /// How many gets found nothing (memcached's `get_misses`), at most 2^64 - 1.
+    pub fn misses(&self) -> u64
+        ensures { result ≡ self.now.misses }
+    {
+        self.misses
+    }
+
+    /// Its counts of bumps, as `Worker::counts` tells them: accepted and dropped ones add up to those attempted.
+    pub fn bumps(&self) -> Accounts
+        ensures counts { result ≡ self.now.worker.part.accounts }
+        ensures add_up { IsAccounts result (length self.now.worker.sender.sent) hand.Idle }
+    {
+        self.worker.counts()
+    }
+}

@@ -1,0 +1,134 @@
+//! A part of four chunks, in which a key has two words and a value one, and two items may be; and its reader.
+ghost use Rattle.std.specs.Prelude.{◌≡◌, ◌∷◌, [], IfOk, IfSome, Some, slice_get};
+
+use bump_class::{Book, RawLane};
+use bump_heads::{Blank, Name};
+use bump_parts::StoreParts;
+use bump_rules::{ClassConfig, Config};
+use bump_steps::AnyRow;
+use cache_nests::Index;
+use cache_part::{Part, Put};
+use cache_readers::WordReader;
+use keyed_hash::Seed;
+use std::alloc::Global;
+use std::marker::Brand;
+use std::process::Abort;
+use std::test::Fail;
+
+const CLASS: ClassConfig = ClassConfig {
+    chunks: 4,
+    hot: 1,
+    warm: 1,
+};
+
+const SEED: Seed = Seed {
+    first: 7,
+    second: 9,
+};
+
+// The first of some Books.
+fn first_book<N: Name>(books: Vec<Book<N>>) -> Option<Book<N>>
+    ensures { IfSome result (λ book. slice_get books.items 0 ≡ Some book) }
+{
+    let mut left = books.into_iter();
+    left.next()
+}
+
+// The value of a key, as the reader finds it.
+fn value<N: Name>(reader: &mut WordReader<N, AnyRow>, key: [u64; 2]) -> Option<u64>
+    requires { N.table.slots ≡ 3 }
+{
+    let mut value = [0];
+    if reader.get(SEED.hash(&key), &key, &mut value, 20) {
+        Some(value[0])
+    } else {
+        None
+    }
+}
+
+// A put that isn't refused.
+fn put<N: Name>(rt: &impl Abort, part: &mut Part<N, AnyRow>, row: [u64; 3], now: u64) -> Put
+    requires key { part.old.key_words ≡ 2 }
+    requires value { part.old.value_words ≡ 1 }
+    ensures key { part.new.key_words ≡ 2 }
+    ensures value { part.new.value_words ≡ 1 }
+{
+    match part.put(&row, now) {
+        Ok(put) => put,
+        Err(_) => panic!(rt; "there is room"),
+    }
+}
+
+// Each call, and what it answers.
+fn call_each<N: Name>(
+    rt: &impl Abort,
+    part: &mut Part<N, AnyRow>,
+    lanes: &mut [RawLane<N>],
+    reader: &mut WordReader<N, AnyRow>,
+)
+    requires slots { N.table.slots ≡ 3 }
+    requires key { part.old.key_words ≡ 2 }
+    requires value { part.old.value_words ≡ 1 }
+{
+    assert!(rt; part.find(&[1, 2]).is_none());
+    assert!(rt; value(reader, [1, 2]).is_none());
+    let first = put(rt, part, [1, 2, 30], 5);
+    assert!(rt; first.old.is_none());
+    assert!(rt; first.evicted.is_none());
+    assert!(rt; value(reader, [1, 2]) == Some(30));
+    assert!(rt; value(reader, [2, 1]).is_none());
+    assert!(rt; part.find(&[1, 2]) == Some(first.chunk));
+    let again = put(rt, part, [1, 2, 31], 6);
+    assert!(rt; again.old == Some(first.chunk));
+    assert!(rt; value(reader, [1, 2]) == Some(31));
+    let _ = put(rt, part, [3, 4, 50], 7);
+    assert!(rt; value(reader, [3, 4]) == Some(50));
+    let third = put(rt, part, [5, 6, 70], 8);
+    assert!(rt; third.evicted == Some(again.chunk));
+    assert!(rt; value(reader, [1, 2]).is_none());
+    assert!(rt; value(reader, [3, 4]) == Some(50));
+    assert!(rt; value(reader, [5, 6]) == Some(70));
+    part.tend(lanes, 8, 9, 1, 1);
+    assert!(rt; value(reader, [3, 4]) == Some(50));
+    assert!(rt; part.remove(&[5, 6]) == Some(third.chunk));
+    assert!(rt; part.remove(&[5, 6]).is_none());
+    assert!(rt; value(reader, [5, 6]).is_none());
+    assert!(rt; part.stats().evicted == 1);
+    assert!(rt; reader.hits() == 6);
+    assert!(rt; reader.misses() == 4);
+}
+
+fn run<N: Name, R: Abort>(rt: &R, alloc: Global, blank: Blank, config: &Config) -> Result<(), Fail>
+    requires name { blank.table ≡ N.table }
+    requires config { blank.config ≡ config.now }
+    requires slots { N.table.slots ≡ 3 }
+    requires class { config.now.classes ≡ (record { chunks = 4; hot = 1; warm = 1 }) ∷ [] }
+{
+    let StoreParts {
+        heads,
+        books,
+        starts: _,
+        workers,
+        mut lanes,
+    } = StoreParts::<N>::open(alloc, blank, config)?;
+    let Some(book) = first_book(books) else {
+        panic!(rt; "there is a class")
+    };
+    let mut workers = workers;
+    let worker = workers.pop().expect(rt, "there is a worker");
+    let index = Index::new(alloc, 4)?;
+    let mut reader = WordReader::new(worker, heads, index.reader()?);
+    let mut part = Part::new(book, index, SEED, 2, 1, 2);
+    call_each(rt, &mut part, &mut lanes, &mut reader);
+    Ok(())
+}
+
+#[test]
+fn a_reader_sees_what_is_put(rt: HostRuntime) -> Result<(), Fail> {
+    let alloc = rt.alloc();
+    let Ok(config) = Config::new(1, 8, 4, 1, vec![in alloc; CLASS]?) else {
+        panic!(rt; "the configuration")
+    };
+    let blank = Blank::with_words(alloc, &config, 3)?;
+    run::<Brand, HostRuntime>(&rt, alloc, blank, &config)
+}
