@@ -1,7 +1,7 @@
 -- What contracts see of a log.
 use Rattle.std.specs.Prelude.{ℕ, zero, suc, List, [], ◌∷◌, length, slice_index_or}
 
--- the state that a log begins from, and the state behind each of its calls, in order
+-- the state that a log begins with, and the state behind each of its calls, in order
 pub record LogView (S : Type 0) : Type 0 where
   pub first : S
   pub log : List S

@@ -5,7 +5,7 @@ ghost use Rattle.std.specs.Bool.{OnTrue};
 ghost use Rattle.call_log.specs.Laws.{head_of};
 
 use crate::law::{Add, Law, Look, Nothing};
-use crate::names::{LogName, State};
+use crate::names::{LogName, Shows, State};
 use logbook::{Seen, Word};
 use std::marker::{Model, PhantomData};
 
@@ -48,13 +48,12 @@ impl<N: LogName, E: State> Model for Front<N, E> {
 }
 
 impl<N: LogName, E: State> Front<N, E> {
-    /// What was seen of a log that begins from this state.
-    pub(crate) fn new(seen: Seen<E, u64, Law>, first: &E) -> Front<N, E>
+    /// What was seen of a log that has the state alone that it begins with.
+    pub(crate) fn new(seen: Seen<E, u64, Law>) -> Front<N, E>
         requires book { seen.book ≡ N.book }
-        requires log { seen.log ≡ first.now ∷ [] }
-        ensures { result ≡ record { first = first.now; log = [] } }
+        requires log { seen.log ≡ E.some_state ∷ [] }
+        ensures { result ≡ record { first = E.some_state; log = [] } }
     {
-        let _ = first;
         Front {
             seen,
             of: PhantomData,
@@ -93,24 +92,24 @@ impl<N: LogName, E: State> Front<N, E> {
         head.word.load::<Look, Nothing>(&mut seen, &mut offer) == count
     }
 
-    /// This front with one more state, which was added to the log in one step. It was not, and the answer is None, where
+    /// This front with one more state, the one that a value shows, which was added to the log in one step. It was not, and the answer is None, where
     /// the log is longer than this front.
-    pub(crate) fn add(
+    pub(crate) fn add<V: Shows<E>>(
         &self,
         other: &Front<N, E>,
         head: &Head<N, E>,
         count: u64,
-        state: &E,
+        value: &V,
     ) -> Option<Front<N, E>>
         requires count { count ≡ length self.now.log }
         requires room { count + 1 < 2 ^ 64 }
-        ensures added { IfSome result (λ front. front ≡ record self.now { log = self.now.log ++ state.now ∷ [] }) }
+        ensures added { IfSome result (λ front. front ≡ record self.now { log = self.now.log ++ V.shown value.now ∷ [] }) }
         ensures first { IfSome result (λ front. other.now.first ≡ self.now.first) }
         ensures seen { IfSome result (λ front. IsPrefix other.now.log self.now.log) }
     {
         let mut seen = self.seen.again();
         seen.learn(&other.seen);
-        let mut offer = seen.plain::<Nothing, E, Add>(state);
+        let mut offer = seen.plain::<Nothing, V, Add>(value);
         let mut pen = seen.no_pen();
         let found = head
             .word

@@ -1,5 +1,5 @@
 //! The rule of a log: its word counts the calls.
-use crate::names::State;
+use crate::names::{Shows, State};
 use logbook::{Gain, Opening, Plain, Play, Rule};
 
 /// The log begins from a state, and its word is how many more states it has: one for each call.
@@ -32,13 +32,13 @@ impl<E> Gain<E, u64> for Nothing {
     ghost after = { λ names about answer. ftrue };
 }
 
-/// A log begins with one state.
+/// A log begins with one state, which stands for nothing: there is no value then.
 pub(crate) struct Begin;
 
-impl<E> Opening<E, E> for Begin {
+impl<E: State> Opening<u64, E> for Begin {
     ghost use Rattle.std.specs.Prelude.{[], ◌∷◌};
 
-    ghost log = { λ count first. first ∷ [] };
+    ghost log = { λ count about. E.some_state ∷ [] };
 }
 
 /// A step that counts the states.
@@ -59,13 +59,13 @@ impl<E> Play<E, u64> for Add {
     ghost then = { Adds };
 }
 
-/// What a step asks for: the state.
-impl<E> Plain<E, E, u64> for Add {
+/// What a step asks for: the state that the value shows.
+impl<E, V: Shows<E>> Plain<V, E, u64> for Add {
     ghost use Rattle.std.specs.Prelude.{None};
 
-    ghost ask = { λ state. state };
+    ghost ask = { λ value. V.shown value };
 
-    ghost state = { λ state. None };
+    ghost state = { λ value. None };
 }
 
 /// What a step that looks asks for: nothing that is heard.

@@ -7,13 +7,13 @@ ghost use Rattle.call_log.specs.Calls.{MakesOne, OnlyLooks, from_of, to_of};
 
 use crate::callers::Caller;
 use crate::fronts::{Front, Head};
-use crate::names::{LogName, State};
+use crate::names::{LogName, Shows, State};
 use std::marker::Model;
 use std::sync::Wait;
 use std::sync::ledger::Book;
 
-/// The log of a value: the states that it had. It has all of them where it lies under the value's lock, as in `Logged`.
-/// At run time it is two numbers.
+/// The log of a value: the states that it showed. It has all of them where it lies under the value's lock, as in
+/// `Logged`. At run time it is two numbers.
 #[derive(Drop)]
 pub struct Log<N: LogName, E: State> {
     head: Head<N, E>,
@@ -56,9 +56,9 @@ impl<N: LogName, E: State> Log<N, E> {
     }
 
     // Notes a call, if the log can be seen to be whole.
-    fn try_to_note(&mut self, me: &mut Caller<N, E>, value: &E) -> bool
+    fn try_to_note<V: Shows<E>>(&mut self, me: &mut Caller<N, E>, value: &V) -> bool
         requires part { 0 < me.old.parts }
-        ensures log { OnTrue result (self.new ≡ record self.old { log = self.old.log ++ value.now ∷ [] }) }
+        ensures log { OnTrue result (self.new ≡ record self.old { log = self.old.log ++ V.shown value.now ∷ [] }) }
         ensures caller { OnTrue result (me.new ≡ record me.old { log = self.new.log; calls = me.old.calls + 1 }) }
         ensures first { OnTrue result (me.old.first ≡ self.old.first) }
         ensures seen { OnTrue result (IsPrefix me.old.log self.old.log) }
@@ -96,18 +96,18 @@ impl<N: LogName, E: State> Log<N, E> {
         true
     }
 
-    /// Notes a call that a caller made: `value` is what the call left. Whoever changes a logged value notes it before it
+    /// Notes a call that a caller made: `value` is what the call left, and the log has the state that it shows. Whoever changes a logged value notes it before it
     /// lets the lock go, once for each call.
     ///
     /// It waits for nobody: `rt` stands there since the proof can't see that what lies under a lock is the whole log. It
     /// wouldn't return behind 2^64 - 1 calls.
     #[tactic(auto, using(crate::proofs::States::to_added, crate::proofs::States::from_added, crate::proofs::States::begins_added))]
-    pub fn note<W: Wait>(&mut self, rt: &W, me: &mut Caller<N, E>, value: &E)
+    pub fn note<W: Wait, V: Shows<E>>(&mut self, rt: &W, me: &mut Caller<N, E>, value: &V)
         requires part { 0 < me.old.parts }
-        ensures log { self.new ≡ record self.old { log = self.old.log ++ value.now ∷ [] } }
+        ensures log { self.new ≡ record self.old { log = self.old.log ++ V.shown value.now ∷ [] } }
         ensures call { MakesOne me.old me.new }
         ensures from { from_of me.new ≡ last_state self.old }
-        ensures to { to_of me.new ≡ value.now }
+        ensures to { to_of me.new ≡ V.shown value.now }
         ensures all { (me.new.first ≡ self.new.first) × (me.new.log ≡ self.new.log) }
         ensures whole { me.old.parts ≡ N.parts → length me.new.log ≡ me.new.calls }
     {

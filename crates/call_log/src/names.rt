@@ -1,4 +1,4 @@
-//! Which log it is.
+//! Which log it is, and what its entries are.
 use std::marker::Brand;
 use std::sync::ledger::Ledger;
 
@@ -14,9 +14,19 @@ impl LogName for Brand {
     ghost book = { record { number = 0; log_name = 0; cells_name = 0 } };
 }
 
-/// What a log can have as its states.
+/// What a log can have as its states: a type that stands for them. No value of it is ever made; what counts is what
+/// clauses see of it.
+///
+/// It is another type than the one of the value that the log lies beside. That one may have the log's name in it, and a
+/// log begins before it has a name.
 pub trait State {
-    /// Some state. It is what a list of states gives where it has none, so that it gives one always: no clause speaks of
-    /// it where there is a state.
+    /// Some state. A log begins with it, and it stands for nothing there. It is also what a list of states gives where it
+    /// has none.
     ghost some_state: { Self };
+}
+
+/// A value that shows a state of itself to a log with such states.
+pub trait Shows<E> {
+    /// The state that a value has.
+    ghost shown: { Self → E };
 }

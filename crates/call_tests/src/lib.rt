@@ -5,7 +5,7 @@ mod shelf;
 mod store;
 mod two_threads;
 
-pub use shelf::Shelf;
+pub use shelf::{Shelf, ShelfState};
 pub use store::{Stats, Store};
 pub use two_threads::both;
 

@@ -2,16 +2,18 @@
 ghost use Rattle.std.specs.Prelude.{◌≡◌, ◌<◌, [], None, replicate, slice_get, Some};
 ghost use Rattle.call_tests.specs.Shelves.{Puts, Takes, number_in};
 
-use call_log::State;
-use std::marker::Model;
+use call_log::{LogName, Shows, State};
+use std::marker::{Model, PhantomData};
 
-/// 64 places, each of which has a number or none. Contracts see it as the list of the places.
+/// 64 places, each of which has a number or none. Contracts see it as the list of the places. It has the name of the log
+/// that it lies beside, as the state of a table does whose parts have the table's name.
 #[derive(Drop)]
-pub struct Shelf {
+pub struct Shelf<N: LogName> {
     places: [Option<u64>; 64],
+    of: PhantomData<N>,
 }
 
-impl Model for Shelf {
+impl<N: LogName> Model for Shelf<N> {
     ghost use Rattle.std.specs.Prelude.{ℕ, List, Option};
 
     ghost Value = { List (Option ℕ) };
@@ -19,16 +21,34 @@ impl Model for Shelf {
     ghost view = { λ s. s.places };
 }
 
-impl State for Shelf {
+/// What stands for a shelf's states: it has no name.
+pub struct ShelfState;
+
+impl Model for ShelfState {
+    ghost use Rattle.std.specs.Prelude.{ℕ, List, Option, []};
+
+    ghost Value = { List (Option ℕ) };
+
+    ghost view = { λ s. [] };
+}
+
+impl State for ShelfState {
     ghost some_state = { [] };
 }
 
-impl Shelf {
+impl<N: LogName> Shows<ShelfState> for Shelf<N> {
+    ghost shown = { λ s. s };
+}
+
+impl<N: LogName> Shelf<N> {
     /// A shelf with no number.
-    pub fn new() -> Shelf
+    pub fn new() -> Shelf<N>
         ensures { result ≡ replicate 64 None }
     {
-        Shelf { places: [None; 64] }
+        Shelf {
+            places: [None; 64],
+            of: PhantomData,
+        }
     }
 
     /// Puts a number at a place, and answers what the place had.

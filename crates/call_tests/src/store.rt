@@ -1,16 +1,16 @@
 //! A shelf that threads share.
-ghost use Rattle.std.specs.Prelude.{◌≡◌, ◌<◌, [], Some, length, slice_get};
+ghost use Rattle.std.specs.Prelude.{◌≡◌, ◌<◌, [], ◌∷◌, None, Some, length, replicate, slice_get};
 ghost use Rattle.call_log.specs.Calls.{MakesOne, OnlyLooks, from_of, to_of};
 ghost use Rattle.call_tests.specs.Shelves.{Puts, Takes, number_in};
 
-use crate::shelf::Shelf;
+use crate::shelf::{Shelf, ShelfState};
 use call_log::{Caller, LogBlank, LogName, Logged};
 use std::sync::{Mutex, Wait};
 
 /// What a store tells of itself.
 #[derive(Clone, Copy)]
 pub struct Stats {
-    /// How many calls changed it.
+    /// How many calls changed it. The first is the one that opened it.
     pub calls: u64,
 
     /// How many places have a number.
@@ -20,27 +20,29 @@ pub struct Stats {
 /// A shelf under a lock.
 #[derive(Drop)]
 pub struct Store<N: LogName> {
-    shelf: Mutex<Logged<N, Shelf>>,
+    shelf: Mutex<Logged<N, Shelf<N>, ShelfState>>,
 }
 
 impl<N: LogName> Store<N> {
-    /// A store with no number, and its first caller.
-    pub fn open(blank: LogBlank<Shelf>) -> (Store<N>, Caller<N, Shelf>)
+    /// A store with no number, and its first caller, which has made one call: the one that opens the store.
+    pub fn open<W: Wait>(rt: &W, blank: LogBlank<ShelfState>) -> (Store<N>, Caller<N, ShelfState>)
         requires book { blank.book ≡ N.book }
         requires name { blank.name ≡ N.name }
         requires parts { blank.parts ≡ N.parts }
-        ensures { result.1 ≡ record { first = blank.state; log = []; calls = 0; parts = N.parts } }
+        requires part { 0 < N.parts }
+        ensures { result.1 ≡ record { first = []; log = replicate 64 None ∷ []; calls = 1; parts = N.parts } }
     {
-        let (logged, caller) = blank.open::<N>();
+        let (log, mut me) = blank.open::<N>();
+        let logged = Logged::new(rt, log, &mut me, Shelf::<N>::new());
         let shelf = Mutex::new(logged);
-        (Store { shelf }, caller)
+        (Store { shelf }, me)
     }
 
     /// Puts a number at a place, and answers what the place had.
     pub fn put<W: Wait>(
         &self,
         rt: &W,
-        me: &mut Caller<N, Shelf>,
+        me: &mut Caller<N, ShelfState>,
         place: usize,
         number: u64,
     ) -> Option<u64>
@@ -57,7 +59,7 @@ impl<N: LogName> Store<N> {
     }
 
     /// Takes the number of a place, if it has one.
-    pub fn take<W: Wait>(&self, rt: &W, me: &mut Caller<N, Shelf>, place: usize) -> Option<u64>
+    pub fn take<W: Wait>(&self, rt: &W, me: &mut Caller<N, ShelfState>, place: usize) -> Option<u64>
         requires part { 0 < me.old.parts }
         requires place { place < 64 }
         ensures call { MakesOne me.old me.new }
@@ -71,7 +73,7 @@ impl<N: LogName> Store<N> {
     }
 
     /// What a place has.
-    pub fn get<W: Wait>(&self, rt: &W, me: &mut Caller<N, Shelf>, place: usize) -> Option<u64>
+    pub fn get<W: Wait>(&self, rt: &W, me: &mut Caller<N, ShelfState>, place: usize) -> Option<u64>
         requires place { place < 64 }
         ensures look { OnlyLooks me.old me.new }
         ensures held { slice_get (to_of me.new) place ≡ Some result }
@@ -84,7 +86,7 @@ impl<N: LogName> Store<N> {
 
     /// What the store tells of itself: exactly, at one moment, which isn't before the caller looked last. Whoever has all
     /// parts knows how many calls there were.
-    pub fn stats<W: Wait>(&self, rt: &W, me: &mut Caller<N, Shelf>) -> Stats
+    pub fn stats<W: Wait>(&self, rt: &W, me: &mut Caller<N, ShelfState>) -> Stats
         ensures look { OnlyLooks me.old me.new }
         ensures calls { result.calls ≡ length me.new.log }
         ensures number { result.number ≡ number_in (to_of me.new) }

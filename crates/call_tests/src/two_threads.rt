@@ -3,7 +3,7 @@ ghost use Rattle.std.specs.Prelude.{◌≡◌, ◌+◌, ◌<◌, length};
 ghost use Rattle.call_log.specs.Calls.{MakesOne, to_of};
 ghost use Rattle.call_tests.specs.Shelves.{number_in};
 
-use crate::shelf::Shelf;
+use crate::shelf::ShelfState;
 use crate::store::{Stats, Store};
 use call_log::{Caller, LogName};
 use std::sync::Wait;
@@ -13,10 +13,10 @@ use std::thread::{Threads, join};
 fn put_by<N: LogName, R: Wait>(
     rt: &R,
     store: &Store<N>,
-    me: Caller<N, Shelf>,
+    me: Caller<N, ShelfState>,
     place: usize,
     number: u64,
-) -> Caller<N, Shelf>
+) -> Caller<N, ShelfState>
     requires part { 0 < me.parts }
     requires place { place < 64 }
     ensures { MakesOne me result }
@@ -26,20 +26,21 @@ fn put_by<N: LogName, R: Wait>(
     me
 }
 
-/// Two threads put a number each, and what the store tells then is exact: it has had two calls, and no other.
+/// Two threads put a number each, and what the store tells then is exact: it has had the call that opened it and two
+/// more, and no other.
 pub fn both<N: LogName + Send + Sync, R: Threads + Wait + Sync>(
     rt: &R,
     store: &Store<N>,
-    me: Caller<N, Shelf>,
+    me: Caller<N, ShelfState>,
     first: (usize, u64),
     second: (usize, u64),
-) -> (Stats, Caller<N, Shelf>)
-    requires fresh { me.calls ≡ 0 }
+) -> (Stats, Caller<N, ShelfState>)
+    requires fresh { me.calls ≡ 1 }
     requires parts { me.parts ≡ N.parts }
     requires two { 1 < N.parts }
     requires places { (first.0 < 64) × (second.0 < 64) }
-    ensures calls { result.0.calls ≡ 2 }
-    ensures log { length result.1.log ≡ 2 }
+    ensures calls { result.0.calls ≡ 3 }
+    ensures log { length result.1.log ≡ 3 }
     ensures parts { result.1.parts ≡ N.parts }
     ensures number { result.0.number ≡ number_in (to_of result.1) }
 {
@@ -47,11 +48,11 @@ pub fn both<N: LogName + Send + Sync, R: Threads + Wait + Sync>(
     let other = me.another();
     let (mut one, two) = join(
         rt,
-        move || -> Caller<N, Shelf>
+        move || -> Caller<N, ShelfState>
             requires { (0 < me.parts) × (first.0 < 64) }
             ensures { MakesOne me result }
         { put_by(rt, store, me, first.0, first.1) },
-        move || -> Caller<N, Shelf>
+        move || -> Caller<N, ShelfState>
             requires { (0 < other.parts) × (second.0 < 64) }
             ensures { MakesOne other result }
         { put_by(rt, store, other, second.0, second.1) },

@@ -16,7 +16,7 @@ compare_exchange-found-requires g c =
       book,
       pen.0 ∙ book,
       offer.0,
-      rw (ap (λ w. w.key) h, pen.1, offer.1, offer.3) (adds_moves c.learn.new.self.log c.args.state.now c.args.count),
+      rw (ap (λ w. w.key) h, pen.1, offer.1, offer.3) (adds_moves c.learn.new.self.log (g.V.Shows.shown c.args.value.now) c.args.count),
     )
 
 -- what the other front has seen is a beginning of the whole log
