@@ -5,5 +5,6 @@ pub mod PartLemmas
 pub mod FindLemmas
 pub mod RoomLemmas
 pub mod LinkLemmas
+pub mod ClearLemmas
 pub mod TendingLemmas
 pub mod ViewLemmas

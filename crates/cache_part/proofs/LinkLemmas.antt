@@ -1,5 +1,5 @@
 -- What an item that is linked leaves, and the end of the key's old one behind it.
-use Rattle.std.proofs.Common.{◌≡◌, ◌≢◌, ℕ, suc, ◌+◌, ◌<◌, ◌≤◌, Bool, true, false, ◌==◌, List, Option, Some, None, IsSome, IfSome, if◌then◌else◌, length, take, drop, slice_set, refl, sym, ap, ◌∙◌, subst, eqb-true, eq-eqb, ne_eqb, arith}
+use Rattle.std.proofs.Common.{◌≡◌, ◌≢◌, ℕ, suc, ◌+◌, ◌<◌, ◌≤◌, Bool, true, false, ◌==◌, List, Option, Some, None, IsSome, IfSome, if◌then◌else◌, length, take, drop, slice_set, refl, sym, ap, ◌∙◌, subst, eqb-true, eq-eqb, ne_eqb}
 use Rattle.std.proofs.lemmas.List.{length-set}
 use Rattle.bump_rules.specs.declared.items.ItemId.{ItemId}
 use Rattle.bump_steps.specs.Views.{last_word}
@@ -173,7 +173,14 @@ module _ (old : Option ℕ) (row : List ℕ) (now : ℕ) (item : ItemId) (before
         ∙ key_of_row links.begun item.chunk 0 key_words row links.has_row few;
   }
 
-  -- and has the row's value
+  -- and has the row
+  pub links_row : HasRow item.chunk 0 row after
+  links_row = (
+    ended_words old links.begun after links.ends 0 item.chunk ∙ links.has_row.0,
+    λ j low. ended_words old links.begun after links.ends (suc j) item.chunk ∙ links.has_row.1 j low,
+  )
+
+  -- so it has the row's value
   pub links_value : (key_words value_words : ℕ) → length row ≡ key_words + value_words
       → value_at key_words value_words after.part item.chunk ≡ drop key_words row
   links_value key_words value_words all =
@@ -197,3 +204,19 @@ stay_then chunk old evicted before between after one other = record {
       ∙ one.linked c (λ e. absurd (cc e)) (λ e. absurd (cc e)) told;
   words = λ i c anew. other.words i c anew ∙ one.words i c (λ e. absurd (cc e));
 }
+
+-- what was evicted is linked no more but where the new item is linked in its chunk
+pub gone_then : (chunk : ℕ) (old evicted : Option ℕ) (before between after : BookView)
+    → OthersStay (Some chunk) old None between after
+    → IfSome evicted (λ c. IsSome (linked_at before.part c) × (old ≡ None))
+    → IfSome evicted (λ c. linked_at between.part c ≡ None)
+    → IfSome evicted (λ c. c ≢ chunk → linked_at after.part c ≡ None)
+gone_then chunk old None before between after stay another gone = tt
+gone_then chunk old (Some c) before between after stay another gone = λ other.
+    stay.linked c (λ same. let one : chunk ≡ c = cc same in other (sym one))
+    (λ same. absurd (cc (sym another.1 ∙ same))) (λ e. absurd (cc e)) ∙ gone
+
+-- the first of two facts about what is something
+pub first_fact : (told : Option ℕ) (P Q : ℕ → Type 0) → IfSome told (λ c. P c × Q c) → IfSome told P
+first_fact None P Q both = tt
+first_fact (Some c) P Q both = both.0

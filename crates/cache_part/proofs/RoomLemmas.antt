@@ -1,21 +1,35 @@
 -- What making room leaves.
-use Rattle.std.proofs.Common.{◌≡◌, ◌≢◌, ℕ, Bool, true, false, ◌==◌, List, Option, Some, None, IsSome, IfSome, IfNone, if◌then◌else◌, slice_set, refl, sym, ap, ◌∙◌, subst, eqb-true, ne_eqb}
+use Rattle.std.proofs.Common.{◌≡◌, ◌≢◌, ℕ, List, Option, Some, None, IsSome, IfSome, IfNone, if◌then◌else◌, slice_set, refl, sym, ap, ◌∙◌, subst, eq-eqb, ne_eqb}
+use Rattle.bump_steps.specs.declared.views.ClassPart.{ClassPart}
 use Rattle.bump_steps.specs.Views.{last_word}
 use Rattle.bump_class.specs.Books.{BookView}
 use Rattle.cache_lists.specs.Counts.{CountedView}
 use Rattle.cache_lists.specs.Items.{KeepsItems, EndsAt}
 use Rattle.cache_lists.specs.Linked.{linked_at}
-use Rattle.cache_lists.proofs.Standings.{keeps_then}
+use Rattle.cache_lists.proofs.Standings.{ends_kept}
 use Rattle.cache_nests.specs.Views.{IndexView}
 use Rattle.keyed_hash.specs.declared.seed.Seed.{Seed}
-use Rattle.cache_part.specs.Keys.{key_at, HasKey, IsItemOf}
+use Rattle.cache_part.specs.Keys.{key_at, IsItemOf}
 use Rattle.cache_part.specs.Looks.{LooksOnly}
 use Rattle.cache_part.specs.Parts.{IsPart}
-use Rattle.cache_part.specs.Putting.{EvictsWhereFull, OthersStay}
+use Rattle.cache_part.specs.Putting.{EvictsAndReads, EvictsWhereFull, OthersStay, TellsWords}
 use Rattle.cache_part.proofs.Agreements.{some_without}
 use Rattle.cache_part.proofs.KeyLemmas.{words_same}
 use Rattle.cache_part.proofs.LookLemmas.{looks_keep}
 use Rattle.cache_part.proofs.PartLemmas.{part_ended}
+
+-- the item that was evicted ended, also behind the read of its words
+ends_read : (chunk : ℕ) (seen left : CountedView) → EvictsAndReads chunk seen left → EndsAt chunk seen.book left.book
+ends_read chunk seen left did = ends_kept seen.book did.between.book left.book chunk did.evicts.ends
+    (looks_keep did.between.book left.book did.looks)
+
+-- what is told of words that stay
+pub told_same : (count : ℕ) (evicted : Option ℕ) (from to : List ℕ) (class left : ClassPart)
+    → ((i c : ℕ) → last_word i left c ≡ last_word i class c) → TellsWords count evicted from to left
+    → TellsWords count evicted from to class
+told_same count None from to class left same told = told
+told_same count (Some chunk) from to class left same told =
+    told ∙ words_same class left chunk 0 count (λ i. same i chunk)
 
 -- it stays a part where one is evicted, or none
 pub part_evicted : (seed : Seed) (key_words items : ℕ) (old evicted : Option ℕ) (seen left : CountedView)
@@ -27,20 +41,20 @@ part_evicted seed key_words items old None seen left from to evicts some none is
     (subst (λ (v : CountedView). IsPart seed key_words v.book.part from.table) (sym evicts.0) is)
 part_evicted seed key_words items old (Some chunk) seen left from to evicts some none is =
     subst (IsPart seed key_words left.book.part) (sym some)
-    (part_ended seed key_words seen.book left.book from.table is chunk evicts.2.ends)
+    (part_ended seed key_words seen.book left.book from.table is chunk (ends_read chunk seen left evicts.2))
 
 -- what an evict leaves of the items and of the words
 evicted_words : (items : ℕ) (old evicted : Option ℕ) (seen left : CountedView)
     → EvictsWhereFull items old evicted seen left
     → (i c : ℕ) → last_word i left.book.part c ≡ last_word i seen.book.part c
 evicted_words items old None seen left evicts i c = ap (λ (v : CountedView). last_word i v.book.part c) evicts.0
-evicted_words items old (Some chunk) seen left evicts i c = evicts.2.ends.words i c
+evicted_words items old (Some chunk) seen left evicts i c = (ends_read chunk seen left evicts.2).words i c
 
 evicted_stay : (items : ℕ) (old evicted : Option ℕ) (seen left : CountedView)
     → EvictsWhereFull items old evicted seen left → (c : ℕ) → evicted ≢ Some c
     → linked_at left.book.part c ≡ linked_at seen.book.part c
 evicted_stay items old None seen left evicts c other = ap (λ (v : CountedView). linked_at v.book.part c) evicts.0
-evicted_stay items old (Some chunk) seen left evicts c other = evicts.2.ends.linked c
+evicted_stay items old (Some chunk) seen left evicts c other = (ends_read chunk seen left evicts.2).linked c
     ∙ ap (λ b. if b then None else linked_at seen.book.part c) (ne_eqb chunk c (λ same. other (ap Some same)))
 
 -- and what is linked behind it was linked
@@ -50,7 +64,7 @@ evicted_some : (items : ℕ) (old evicted : Option ℕ) (seen left : CountedView
 evicted_some items old None seen left evicts c some =
     subst IsSome (ap (λ (v : CountedView). linked_at v.book.part c) evicts.0) some
 evicted_some items old (Some chunk) seen left evicts c some =
-    some_without chunk c (linked_at seen.book.part c) (subst IsSome (evicts.2.ends.linked c) some)
+    some_without chunk c (linked_at seen.book.part c) (subst IsSome ((ends_read chunk seen left evicts.2).linked c) some)
 
 module _ (items : ℕ) (old evicted : Option ℕ) (before between : BookView) (seen left : CountedView)
     (looks : LooksOnly before seen.book) (evicts : EvictsWhereFull items old evicted seen left)
@@ -70,6 +84,28 @@ module _ (items : ℕ) (old evicted : Option ℕ) (before between : BookView) (s
     linked = λ c chunk old_one other. room_linked c other;
     words = λ i c chunk. room_words i c;
   }
+
+  -- what was evicted was linked, and the key had none
+  pub room_another : IfSome evicted (λ c. IsSome (linked_at before.part c) × (old ≡ None))
+  room_another = by evicted evicts
+    where
+      by : (told : Option ℕ) → EvictsWhereFull items old told seen left
+          → IfSome told (λ c. IsSome (linked_at before.part c) × (old ≡ None))
+      by None made = tt
+      by (Some chunk) made = (
+        subst IsSome (sym made.2.evicts.ends.was.1 ∙ (looks_keep before seen.book looks).linked chunk) refl,
+        made.0,
+      )
+
+  -- and is linked no more
+  pub room_gone : IfSome evicted (λ c. linked_at between.part c ≡ None)
+  room_gone = by evicted evicts
+    where
+      by : (told : Option ℕ) → EvictsWhereFull items old told seen left
+          → IfSome told (λ c. linked_at between.part c ≡ None)
+      by None made = tt
+      by (Some chunk) made = frees.linked chunk ∙ ((ends_read chunk seen left made.2).linked chunk
+          ∙ ap (λ b. if b then None else linked_at seen.book.part chunk) (eq-eqb chunk chunk refl))
 
   -- what is linked then was linked
   room_some : (c : ℕ) → IsSome (linked_at between.part c) → IsSome (linked_at before.part c)

@@ -1,10 +1,11 @@
 -- What a put comes to.
-use Rattle.std.specs.Prelude.{◌≡◌, ◌≢◌, ℕ, ◌+◌, ◌<◌, ◌≤◌, ◌⊎◌, List, length, Option, None, Some, slice_set}
+use Rattle.std.specs.Prelude.{◌≡◌, ◌≢◌, ℕ, ◌+◌, ◌<◌, ◌≤◌, ◌⊎◌, List, length, Option, None, Some, IsSome, IfSome, slice_set}
 use Rattle.bump_links.specs.Lists.{first_of}
 use Rattle.bump_rules.specs.declared.items.Head.{Head}
 use Rattle.bump_rules.specs.declared.items.ItemId.{ItemId}
 use Rattle.bump_rules.specs.declared.places.Start.TheVariants as start
 use Rattle.bump_rules.specs.Lists.{Lists, all_without}
+use Rattle.bump_steps.specs.declared.views.ClassPart.{ClassPart}
 use Rattle.bump_steps.specs.Views.{last_word}
 use Rattle.bump_class.specs.Books.{BookView}
 use Rattle.bump_class.specs.Changes.{book_with_words}
@@ -17,7 +18,9 @@ use Rattle.cache_lists.specs.Rescues.{Evicts}
 use Rattle.cache_lists.specs.Segments.{SameSegments}
 use Rattle.cache_nests.specs.declared.led.Led.{Led}
 use Rattle.cache_nests.specs.Views.{led_at, with_generation}
+use Rattle.cache_part.specs.Keys.{words_from}
 use Rattle.cache_part.specs.Looks.{LooksOnly}
+use Rattle.cache_part.specs.Parts.{PartView}
 
 -- how many items are linked
 abbrev pub linked_count : Lists → ℕ
@@ -30,20 +33,28 @@ pub record EvictsAt (chunk : ℕ) (before after : CountedView) : Type 0 where
   pub evicts : Evicts told before after
   pub ends : EndsAt chunk before.book after.book
 
+-- So it is evicted, and then its words are read: loads, behind which nothing changed but the steps that the class's seat
+-- notes.
+pub record EvictsAndReads (chunk : ℕ) (before after : CountedView) : Type 0 where
+  pub between : CountedView
+  pub evicts : EvictsAt chunk before between
+  pub looks : LooksOnly between.book after.book
+  pub same : after ≡ record between { book = after.book }
+
 -- One item is evicted where the key had none and as many as may be are linked; and else none, also where none is there.
 abbrev pub EvictsWhereFull : ℕ → Option ℕ → Option ℕ → CountedView → CountedView → Type 0
 EvictsWhereFull items old None before after =
     (after ≡ before) × (old ≡ None → items ≤ linked_count before.book.lists → victim before.book.lists ≡ None)
 EvictsWhereFull items old (Some chunk) before after =
-    (old ≡ None) × (items ≤ linked_count before.book.lists) × EvictsAt chunk before after
+    (old ≡ None) × (items ≤ linked_count before.book.lists) × EvictsAndReads chunk before after
 
 -- Where UNUSED is empty some chunks of ended items come free that nobody holds any more; else nothing changes.
 abbrev pub FreesWhereNone : BookView → BookView → Type 0
 FreesWhereNone before after = ((0 < length before.lists.unused) × (after ≡ before))
     ⊎ ((length before.lists.unused ≡ 0) × ((freed : ℕ) × (heads : ℕ → Head) × FreesUpTo most_freed before freed after heads))
 
--- What comes before an item is linked: the key's item is looked for, one is evicted where there are too many, and chunks
--- come free where none is.
+-- What comes before an item is linked: the key's item is looked for, one is evicted where there are too many, and its
+-- words are read, and chunks come free where none is.
 pub record MakesRoom (items : ℕ) (old evicted : Option ℕ) (before after : CountedView) : Type 0 where
   pub seen : CountedView
   pub looks : LooksOnly before.book seen.book
@@ -91,3 +102,25 @@ pub record OthersStay (chunk old evicted : Option ℕ) (before after : BookView)
   pub linked : (c : ℕ) → chunk ≢ Some c → old ≢ Some c → evicted ≢ Some c
       → linked_at after.part c ≡ linked_at before.part c
   pub words : (i c : ℕ) → chunk ≢ Some c → last_word i after.part c ≡ last_word i before.part c
+
+-- so many words of the chunk of the item that was evicted are told; where none was, what was there before stays
+abbrev pub TellsWords : ℕ → Option ℕ → List ℕ → List ℕ → ClassPart → Type 0
+TellsWords count None before after class = after ≡ before
+TellsWords count (Some chunk) before after class = after ≡ words_from 0 count class chunk
+
+-- the row of a chunk, but for its label: the words of its key, and then those of its value
+abbrev pub row_at : PartView → ℕ → List ℕ
+row_at part chunk = words_from 0 (part.key_words + part.value_words) part.book.part chunk
+
+-- the row of the item that was evicted is told; where none was, what was there before stays
+abbrev pub TellsRow : Option ℕ → List ℕ → List ℕ → PartView → Type 0
+TellsRow evicted before after part =
+    TellsWords (part.key_words + part.value_words) evicted before after part.book.part
+
+-- no item was linked at the chunk of the new item, but where it is that of the one that was evicted
+abbrev pub IsFresh : ℕ → Option ℕ → PartView → Type 0
+IsFresh chunk evicted part = evicted ≢ Some chunk → linked_at part.book.part chunk ≡ None
+
+-- where one was evicted it was linked, and the key had none
+abbrev pub WasAnother : Option ℕ → Option ℕ → PartView → Type 0
+WasAnother old evicted part = IfSome evicted (λ chunk. IsSome (linked_at part.book.part chunk) × (old ≡ None))

@@ -35,7 +35,11 @@ pub(crate) fn end_unled<N: Name, L: RowLaw>(
 }
 
 // The index leads to the item of a chunk no more, and then the item ends.
-fn end_led<N: Name, L: RowLaw>(lists: &mut CountedBook<N, L>, index: &mut Index, chunk: u32)
+pub(crate) fn end_led<N: Name, L: RowLaw>(
+    lists: &mut CountedBook<N, L>,
+    index: &mut Index,
+    chunk: u32,
+)
     requires within { chunk < length index.old.table }
     requires own { owns chunk lists.old.book.part ≡ true }
     requires linked { IsSome (linked_at lists.old.book.part chunk) }

@@ -2,10 +2,12 @@
 //! and the index of their keys.
 #![tactic(auto)]
 
+mod clearing;
 mod ending;
 mod finding;
 mod parts;
 mod putting;
+mod reading;
 mod replacing;
 mod room;
 mod stats;

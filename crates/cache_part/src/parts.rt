@@ -1,22 +1,22 @@
 //! A part: the lists of items, the index of their keys, and what is done with both.
-ghost use Rattle.std.specs.Prelude.{◌≡◌, ℕ, ◌+◌, ◌<◌, ◌≤◌, IfSome, IfNone, IfOk, IfErr, Option, Some, None, true, [], suc, length, replicate, slice_set, take, drop};
+ghost use Rattle.std.specs.Prelude.{◌≡◌, ◌≢◌, ℕ, ◌+◌, ◌<◌, ◌≤◌, IsSome, IfSome, IfNone, IfOk, IfErr, Option, Some, None, true, [], suc, length, replicate, take, drop};
 ghost use Rattle.bump_class.specs.Books.{IsBook};
 ghost use Rattle.bump_class.specs.Links.{MayHave};
 ghost use Rattle.bump_links.specs.Lists.{first_of};
 ghost use Rattle.bump_rules.specs.Lists.{all_without};
 ghost use Rattle.bump_steps.specs.Views.{owns, last_word};
 ghost use Rattle.cache_lists.specs.Counts.{IsFlow, SegmentsAddUp, no_flow, no_evictions};
-ghost use Rattle.cache_lists.specs.Items.{EndsAt, KeepsItems};
+ghost use Rattle.cache_lists.specs.Items.{EndsAt, KeepsItems, HasRow, IsSameClass};
 ghost use Rattle.cache_lists.specs.Linked.{linked_at};
 ghost use Rattle.cache_lists.specs.Segments.{SameSegments};
-ghost use Rattle.cache_part.specs.Keys.{value_at};
+ghost use Rattle.cache_part.specs.Keys.{value_at, words_from};
 ghost use Rattle.cache_part.specs.Looks.{LooksOnly};
 ghost use Rattle.cache_part.specs.Parts.{PartView as ThePartView, IsPart, IsUnder, IsUnknown, IsItem, counted};
-ghost use Rattle.cache_part.specs.Putting.{MakesRoom, Puts, OthersStay};
-ghost use Rattle.cache_part.specs.Tending.{Tends};
+ghost use Rattle.cache_part.specs.Putting.{MakesRoom, Puts, IsFresh, OthersStay, TellsRow, WasAnother};
+ghost use Rattle.cache_part.specs.Tending.{DrainsEach, BalancesTimes, Tends};
 
 use crate::putting::{self, NoRoom, Put, Settings};
-use crate::{ending, finding, tending};
+use crate::{clearing, ending, finding, reading, tending};
 use bump_class::{Book, RawLane};
 use bump_heads::Name;
 use bump_steps::{AnyRow, RowLaw};
@@ -104,6 +104,13 @@ impl<N: Name, L: RowLaw> Part<N, L> {
         self.lists.promise();
     }
 
+    /// How many words a key has.
+    pub fn key_words(&self) -> u32
+        ensures { result ≡ self.now.key_words }
+    {
+        self.settings.key_words
+    }
+
     /// A further word of a chunk of the class, as it was stored last: the key's from 0 on, and behind them the value's.
     /// `index` is below the number of further words. A chunk's words stay until an item is linked there.
     pub fn word(&mut self, chunk: u32, index: u32) -> u64
@@ -114,6 +121,19 @@ impl<N: Name, L: RowLaw> Part<N, L> {
         ensures rest { self.new ≡ record self.old { book = self.new.book } }
     {
         self.lists.word(chunk, index)
+    }
+
+    /// Reads the further words of a chunk of the class from number `from` on, as many as `words` has, as they were stored
+    /// last: the key's have the numbers from 0 on, and the value's come behind them. `from` and their number are together
+    /// at most the number of further words that a chunk has. A chunk's words stay until an item is linked there.
+    pub fn read(&mut self, chunk: u32, from: u32, words: &mut [u64])
+        requires own { owns chunk self.old.book.part ≡ true }
+        requires few { from + length words.old ≤ N.table.slots }
+        ensures read { words.new ≡ words_from from (length words.old) self.old.book.part chunk }
+        ensures looks { LooksOnly self.old.book self.new.book }
+        ensures rest { self.new ≡ record self.old { book = self.new.book } }
+    {
+        reading::read(&mut self.lists, chunk, from, words);
     }
 
     /// The chunk of the item of this key; or None where no item has it. All words of the key are compared. Nothing
@@ -164,14 +184,37 @@ impl<N: Name, L: RowLaw> Part<N, L> {
         )
     }
 
+    /// Ends each item that is linked, whatever its marks. The index leads to none of them any more, and to each no more
+    /// before it ends. Their words can still be read, by `read`, until an item is linked at their chunk. None counts as
+    /// evicted. It looks at each chunk of the class once, also where few items are linked: its time is in proportion to
+    /// the number of chunks.
+    pub fn clear(&mut self)
+        ensures empty { (chunk : ℕ) → linked_at self.new.book.part chunk ≡ None }
+        ensures words { (i c : ℕ) → last_word i self.new.book.part c ≡ last_word i self.old.book.part c }
+        ensures class { IsSameClass self.old.book self.new.book }
+        ensures rest { self.new ≡ record self.old {
+          book = self.new.book;
+          flow = self.new.flow;
+          index = self.new.index;
+        } }
+    {
+        let settings = self.settings;
+        clearing::clear(&mut self.lists, &mut self.index, settings);
+    }
+
     /// Puts an item under its key: the row is the key's words and then the value's, and `now` its time, in the caller's
     /// ticks. Where the key has no item yet and as many as may be are linked, the one whose turn it is is evicted first,
     /// as `CountedBook::evict` does. Where no chunk is free, chunks come free of ended items that nobody holds any more.
     /// It is refused exactly where none is free then; the key keeps what it had. Else the new item is linked in HOT, the
     /// index leads to it, and behind that the key's old item ends. The table's law holds of whatever row begins with the
     /// label 0 and these words.
-    pub fn put(&mut self, row: &[u64], now: u64) -> Result<Put, NoRoom>
+    ///
+    /// `evicted` has room for a row. Where an item is evicted, also where the put is refused then, the words of its key
+    /// and of its value are written there. They are read before chunks come free, since the new item may be linked in
+    /// its chunk. Where none is evicted `evicted` stays.
+    pub fn put(&mut self, row: &[u64], evicted: &mut [u64], now: u64) -> Result<Put, NoRoom>
         requires words { length row.now ≡ self.old.key_words + self.old.value_words }
+        requires evicted { length evicted.old ≡ self.old.key_words + self.old.value_words }
         requires law { MayHave L.law 0 row.now }
         ensures old { IfOk result (λ did. IsItem (take self.old.key_words row.now) did.old self.old) }
         ensures under { IfOk result (λ did. IsUnder (take self.old.key_words row.now) did.chunk self.new) }
@@ -182,10 +225,20 @@ impl<N: Name, L: RowLaw> Part<N, L> {
             self.new.book) }
         ensures puts { IfOk result (λ did. Puts self.old.items did.old did.evicted row.now now did.chunk
             (counted self.old) (counted self.new)) }
+        ensures row { IfOk result (λ did. HasRow did.chunk 0 row.now self.new.book) }
+        ensures length { length evicted.new ≡ length evicted.old }
+        ensures told { IfOk result (λ did. TellsRow did.evicted evicted.old evicted.new self.old) }
+        ensures was { IfOk result (λ did. WasAnother did.old did.evicted self.old) }
+        ensures gone { IfOk result (λ did. IfSome did.evicted (λ c. c ≢ did.chunk
+            → linked_at self.new.book.part c ≡ None)) }
+        ensures fresh { IfOk result (λ did. IsFresh did.chunk did.evicted self.old) }
         ensures no_room { IfErr result (λ why. first_of self.new.book.lists.unused ≡ None) }
         ensures room { IfErr result (λ why. (old : Option ℕ) × IsItem (take self.old.key_words row.now) old self.old
             × MakesRoom self.old.items old why.evicted (counted self.old) (counted self.new)) }
         ensures stay { IfErr result (λ why. OthersStay None None why.evicted self.old.book self.new.book) }
+        ensures told_refused { IfErr result (λ why. TellsRow why.evicted evicted.old evicted.new self.old) }
+        ensures was_refused { IfErr result (λ why. IfSome why.evicted (λ c. IsSome (linked_at self.old.book.part c))) }
+        ensures gone_refused { IfErr result (λ why. IfSome why.evicted (λ c. linked_at self.new.book.part c ≡ None)) }
         ensures rest { self.new ≡ record self.old {
           book = self.new.book;
           flow = self.new.flow;
@@ -194,7 +247,14 @@ impl<N: Name, L: RowLaw> Part<N, L> {
         } }
     {
         let settings = self.settings;
-        putting::put_item(&mut self.lists, &mut self.index, settings, row, now)
+        putting::put_item(
+            &mut self.lists,
+            &mut self.index,
+            settings,
+            row,
+            evicted,
+            now,
+        )
     }
 
     /// Tends the part: the bumps that wait in the lanes are applied, lane by lane, at most `most` of each, with `now` as
@@ -207,5 +267,25 @@ impl<N: Name, L: RowLaw> Part<N, L> {
         ensures rest { self.new ≡ record self.old { book = self.new.book; flow = self.new.flow } }
     {
         tending::tend(&mut self.lists, lanes, most, now, hot, warm);
+    }
+
+    /// Applies the bumps that wait in the lanes, lane by lane, at most `most` of each, with `now` as their items' new
+    /// time, in the caller's ticks: the first of what `tend` does. The same items are linked, and the index stays.
+    pub fn drain(&mut self, lanes: &mut [RawLane<N, L>], most: u32, now: u64)
+        ensures drains { DrainsEach most now self.old.book lanes.old self.new.book lanes.new }
+        ensures items { KeepsItems self.old.book self.new.book }
+        ensures rest { self.new ≡ record self.old { book = self.new.book; flow = self.new.flow } }
+    {
+        tending::drain(&mut self.lists, lanes, most, now);
+    }
+
+    /// Looks at the last items of HOT and WARM `count` times each, where these have more than `hot` and `warm` items, and
+    /// moves them by the tail table: the last of what `tend` does. The same items are linked, and the index stays.
+    pub fn balance(&mut self, count: u32, hot: u32, warm: u32)
+        ensures balances { BalancesTimes count hot warm self.old.book self.new.book }
+        ensures items { KeepsItems self.old.book self.new.book }
+        ensures rest { self.new ≡ record self.old { book = self.new.book; flow = self.new.flow } }
+    {
+        tending::balance(&mut self.lists, count, hot, warm);
     }
 }

@@ -1,12 +1,13 @@
 //! An item is put under its key.
-ghost use Rattle.std.specs.Prelude.{◌≡◌, ℕ, ◌+◌, ◌≤◌, IfSome, IfOk, IfErr, Option, Some, None, length, drop, take};
+ghost use Rattle.std.specs.Prelude.{◌≡◌, ◌≢◌, ℕ, ◌+◌, ◌≤◌, IfSome, IsSome, IfOk, IfErr, Option, Some, None, length, drop, take};
 ghost use Rattle.bump_class.specs.Links.{MayHave};
 ghost use Rattle.bump_links.specs.Lists.{first_of};
+ghost use Rattle.cache_lists.specs.Items.{HasRow};
 ghost use Rattle.cache_lists.specs.Linked.{linked_at};
 ghost use Rattle.cache_part.specs.Keys.{HasKey, IsItemOf, value_at};
 ghost use Rattle.cache_part.specs.Looks.{LooksOnly};
 ghost use Rattle.cache_part.specs.Parts.{IsPart};
-ghost use Rattle.cache_part.specs.Putting.{MakesRoom, Puts, OthersStay};
+ghost use Rattle.cache_part.specs.Putting.{MakesRoom, Puts, OthersStay, TellsWords};
 ghost use Rattle.keyed_hash.specs.Hashes.{hash_of};
 
 use crate::finding::{self, Found};
@@ -74,16 +75,59 @@ fn find_key_of<N: Name, L: RowLaw>(
     finding::find(lists, index, settings.seed, settings.key_words, key)
 }
 
-// Puts an item, whose row is its key's words and its value's.
+// What was found of a key, and what was evicted, when room is made for an item.
+#[derive(Clone, Copy)]
+struct Room {
+    // the key's item
+    found: Found,
+
+    // the chunk of the item that was evicted, if one was
+    evicted: Option<u32>,
+}
+
+// Makes room for an item with this row.
+fn make_room<N: Name, L: RowLaw>(
+    lists: &mut CountedBook<N, L>,
+    index: &mut Index,
+    settings: Settings,
+    row: &[u64],
+    told: &mut [u64],
+) -> Room
+    requires part { IsPart settings.seed settings.key_words lists.old.book.part index.old.table }
+    requires words { length row.now ≡ settings.key_words + settings.value_words }
+    requires told { length told.old ≡ settings.key_words + settings.value_words }
+    requires few { length row.now ≤ N.table.slots }
+    ensures part { IsPart settings.seed settings.key_words lists.new.book.part index.new.table }
+    ensures hash { result.found.hash ≡ hash_of settings.seed (take settings.key_words row.now) }
+    ensures was { IsItemOf settings.key_words (take settings.key_words row.now) result.found.chunk lists.old.book.part }
+    ensures item { IsItemOf settings.key_words (take settings.key_words row.now) result.found.chunk
+        lists.new.book.part }
+    ensures room { MakesRoom settings.items result.found.chunk result.evicted lists.old lists.new }
+    ensures stay { OthersStay None None result.evicted lists.old.book lists.new.book }
+    ensures told { TellsWords (settings.key_words + settings.value_words) result.evicted told.old told.new
+        lists.old.book.part }
+    ensures another { IfSome result.evicted (λ c. IsSome (linked_at lists.old.book.part c)
+        × (result.found.chunk ≡ None)) }
+    ensures gone { IfSome result.evicted (λ c. linked_at lists.new.book.part c ≡ None) }
+{
+    let found = find_key_of(lists, index, settings, row);
+    let evicted = room::evict_where_full(lists, index, settings.items, found.chunk, told);
+    room::free_where_none(lists);
+    Room { found, evicted }
+}
+
+// Puts an item, whose row is its key's words and its value's, and tells those of the item that was evicted.
 pub(crate) fn put_item<N: Name, L: RowLaw>(
     lists: &mut CountedBook<N, L>,
     index: &mut Index,
     settings: Settings,
     row: &[u64],
+    told: &mut [u64],
     now: u64,
 ) -> Result<Put, NoRoom>
     requires part { IsPart settings.seed settings.key_words lists.old.book.part index.old.table }
     requires words { length row.now ≡ settings.key_words + settings.value_words }
+    requires told { length told.old ≡ settings.key_words + settings.value_words }
     requires few { length row.now ≤ N.table.slots }
     requires law { MayHave L.law 0 row.now }
     ensures part { IsPart settings.seed settings.key_words lists.new.book.part index.new.table }
@@ -98,21 +142,33 @@ pub(crate) fn put_item<N: Name, L: RowLaw>(
     ensures ended { IfOk result (λ did. IfSome did.old (λ chunk. linked_at lists.new.book.part chunk ≡ None)) }
     ensures others { IfOk result (λ did. OthersStay (Some did.chunk) did.old did.evicted lists.old.book
         lists.new.book) }
+    ensures row { IfOk result (λ did. HasRow did.chunk 0 row.now lists.new.book) }
+    ensures told { IfOk result (λ did. TellsWords (settings.key_words + settings.value_words) did.evicted told.old
+        told.new lists.old.book.part) }
+    ensures was { IfOk result (λ did. IfSome did.evicted (λ c. IsSome (linked_at lists.old.book.part c)
+        × (did.old ≡ None))) }
+    ensures gone { IfOk result (λ did. IfSome did.evicted (λ c. c ≢ did.chunk
+        → linked_at lists.new.book.part c ≡ None)) }
+    ensures fresh { IfOk result (λ did. did.evicted ≢ Some did.chunk
+        → linked_at lists.old.book.part did.chunk ≡ None) }
     ensures no_room { IfErr result (λ why. first_of lists.new.book.lists.unused ≡ None) }
     ensures room { IfErr result (λ why. (old : Option ℕ)
         × IsItemOf settings.key_words (take settings.key_words row.now) old lists.old.book.part
         × MakesRoom settings.items old why.evicted lists.old lists.new) }
     ensures stay { IfErr result (λ why. OthersStay None None why.evicted lists.old.book lists.new.book) }
+    ensures told_refused { IfErr result (λ why. TellsWords (settings.key_words + settings.value_words) why.evicted
+        told.old told.new lists.old.book.part) }
+    ensures was_refused { IfErr result (λ why. IfSome why.evicted (λ c. IsSome (linked_at lists.old.book.part c))) }
+    ensures gone_refused { IfErr result (λ why. IfSome why.evicted (λ c. linked_at lists.new.book.part c ≡ None)) }
 {
-    let found = find_key_of(lists, index, settings, row);
-    let evicted = room::evict_where_full(lists, index, settings.items, found.chunk);
-    room::free_where_none(lists);
-    let Some(id) = replacing::link(lists, index, found, row, now) else {
+    let room = make_room(lists, index, settings, row, told);
+    let evicted = room.evicted;
+    let Some(id) = replacing::link(lists, index, room.found, row, now) else {
         return Err(NoRoom { evicted });
     };
     Ok(Put {
         chunk: id.chunk,
-        old: found.chunk,
+        old: room.found.chunk,
         evicted,
     })
 }

@@ -1,12 +1,13 @@
 //! Room is made for an item.
-ghost use Rattle.std.specs.Prelude.{◌≡◌, ℕ, ◌+◌, None, length, slice_set, IfSome, IfNone};
+ghost use Rattle.std.specs.Prelude.{◌≡◌, ℕ, ◌+◌, ◌≤◌, None, length, slice_set, IfSome, IfNone};
 ghost use Rattle.cache_lists.specs.Items.{KeepsItems};
 ghost use Rattle.cache_lists.specs.Linked.{linked_at};
 ghost use Rattle.cache_lists.specs.Segments.{SameSegments};
 ghost use Rattle.cache_nests.specs.Views.{led_at};
 ghost use Rattle.cache_part.specs.Parts.{generation_led};
-ghost use Rattle.cache_part.specs.Putting.{linked_count, EvictsWhereFull, FreesWhereNone};
+ghost use Rattle.cache_part.specs.Putting.{linked_count, EvictsWhereFull, FreesWhereNone, TellsWords};
 
+use crate::reading;
 use bump_heads::Name;
 use bump_rules::Place;
 use bump_steps::RowLaw;
@@ -23,20 +24,23 @@ fn count<N: Name, L: RowLaw>(lists: &CountedBook<N, L>) -> u64
         + u64::from(lists.size(Place::Temp))
 }
 
-// Evicts the item whose turn it is, where the key has none and as many as `items` are linked; and tells its chunk. The
-// index leads to it no more behind that.
+// Evicts the item whose turn it is, where the key has none and as many as `items` are linked; and tells its chunk, and
+// its words. The index leads to it no more behind that.
 pub(crate) fn evict_where_full<N: Name, L: RowLaw>(
     lists: &mut CountedBook<N, L>,
     index: &mut Index,
     items: u32,
     old: Option<u32>,
+    told: &mut [u64],
 ) -> Option<u32>
     requires count { lists.old.book.part.count ≡ length index.old.table }
     requires first { lists.old.book.part.first ≡ 0 }
     requires leads { (chunk : ℕ) → generation_led (led_at index.old.table chunk) ≡ linked_at lists.old.book.part chunk }
+    requires few { length told.old ≤ N.table.slots }
     ensures evicts { EvictsWhereFull items old result lists.old lists.new }
     ensures table { IfSome result (λ chunk. index.new.table ≡ slice_set index.old.table chunk None) }
     ensures index { IfNone result (index.new ≡ index.old) }
+    ensures told { TellsWords (length told.old) result told.old told.new lists.old.book.part }
 {
     if old.is_some() {
         return None;
@@ -48,6 +52,8 @@ pub(crate) fn evict_where_full<N: Name, L: RowLaw>(
         return None;
     };
     index.clear(victim.chunk);
+    // The chunk may be the next one that comes free, and the new item be linked there.
+    reading::read(lists, victim.chunk, 0, told);
     Some(victim.chunk)
 }
 

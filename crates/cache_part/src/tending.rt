@@ -1,7 +1,7 @@
 //! A part is tended: the bumps that wait are applied, and its lists are looked at.
 ghost use Rattle.std.specs.Prelude.{◌≡◌};
 ghost use Rattle.cache_lists.specs.Items.{KeepsItems};
-ghost use Rattle.cache_part.specs.Tending.{DrainsEach, BalancesOften, Tends};
+ghost use Rattle.cache_part.specs.Tending.{DrainsEach, BalancesTimes, BalancesOften, Tends};
 
 use bump_class::RawLane;
 use bump_heads::Name;
@@ -10,7 +10,7 @@ use bump_steps::RowLaw;
 use cache_lists::CountedBook;
 
 // Applies the bumps that wait in the lanes, lane by lane, at most `most` of each.
-fn drain<N: Name, L: RowLaw>(
+pub(crate) fn drain<N: Name, L: RowLaw>(
     lists: &mut CountedBook<N, L>,
     lanes: &mut [RawLane<N, L>],
     most: u32,
@@ -25,16 +25,30 @@ fn drain<N: Name, L: RowLaw>(
     }
 }
 
-// Looks at the last items of HOT and WARM again and again, where these have more than so many.
+// Looks at the last items of HOT and WARM so many times, where these have more than so many.
+pub(crate) fn balance<N: Name, L: RowLaw>(
+    lists: &mut CountedBook<N, L>,
+    count: u32,
+    hot: u32,
+    warm: u32,
+)
+    ensures balances { BalancesTimes count hot warm lists.old.book lists.new.book }
+    ensures kept { KeepsItems lists.old.book lists.new.book }
+    ensures evictions { lists.new.evictions ≡ lists.old.evictions }
+{
+    for _look in 0..count {
+        lists.look_over(Tail::Hot, hot);
+        lists.look_over(Tail::Warm, warm);
+    }
+}
+
+// Looks at them as often as a tend does.
 fn balance_often<N: Name, L: RowLaw>(lists: &mut CountedBook<N, L>, hot: u32, warm: u32)
     ensures balances { BalancesOften hot warm lists.old.book lists.new.book }
     ensures kept { KeepsItems lists.old.book lists.new.book }
     ensures evictions { lists.new.evictions ≡ lists.old.evictions }
 {
-    for _look in 0..LOOKS {
-        lists.look_over(Tail::Hot, hot);
-        lists.look_over(Tail::Warm, warm);
-    }
+    balance(lists, LOOKS, hot, warm);
 }
 
 // The whole turn of a part.

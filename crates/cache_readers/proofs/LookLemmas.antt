@@ -8,7 +8,8 @@ use Rattle.bump_steps.specs.declared.views.HoldPart.{HoldPart}
 use Rattle.bump_steps.specs.declared.views.OwnStep.{OwnStep}
 use Rattle.bump_parts.specs.StepCounts.{is_load, is_exchange, is_other, MakesAtMost}
 use Rattle.bump_parts.specs.Workers.{WorkerState}
-use Rattle.cache_readers.specs.Looks.{AreInVain, Finds, FindsNothing, HasOtherKey, Hits, LooksInVain, WorkerGetsAny}
+use Rattle.cache_readers.specs.Looks.{AreInVain, FindsNothing, HasOtherKey, HasWords, LooksInVain, TakesKey, WorkerGetsAny}
+use Rattle.bump_steps.specs.References.{words_in}
 use Rattle.bump_steps.specs.Rule.{RowPredicate}
 
 -- what two calls make one after the other is as few as both together
@@ -70,16 +71,43 @@ pub nothing_then : (config : Config) (key : List ℕ) (before between after : Wo
 nothing_then config key before between after first second =
     vain_then config key first.looks second.looks before between after first.vain second.vain
 
--- a hit behind looks that were in vain
-pub finds_hit : (law : RowPredicate) (config : Config) (key value : List ℕ) (now : ℕ) (before between after : WorkerState)
-    → FindsNothing config key before between → Hits law config key value now between after
-    → Finds law config key value now before after
-finds_hit law config key value now before between after first hit =
-    record { looks = first.looks; last = between; vain = first.vain; hit = hit }
+-- the first look took a hold of an item with the key, which is unchanged since
+pub takes_first : (law : RowPredicate) (config : Config) (key : List ℕ) (chunk : ℕ) (before after : WorkerState)
+    (taken hold : HoldPart) (found : Head) → hold ≡ taken → WorkerGetsAny config chunk before after (Ok (taken, found))
+    → HasWords key 0 taken.row → law (words_in taken.row) → MakesAtMost 1 8 0 before.part.steps after.part.steps
+    → TakesKey law config key before after hold found
+takes_first law config key chunk before after taken hold found same gets has_key lawful few =
+    subst (λ (h : HoldPart). TakesKey law config key before after h found) (sym same) (record {
+      looks = 0;
+      last = before;
+      vain = refl;
+      chunk = chunk;
+      gets = gets;
+      has_key = has_key;
+      lawful = lawful;
+      few = few;
+    })
 
-pub finds_then : (law : RowPredicate) (config : Config) (key value : List ℕ) (now : ℕ) (before between after : WorkerState)
-    → FindsNothing config key before between → Finds law config key value now between after
-    → Finds law config key value now before after
-finds_then law config key value now before between after first found =
-    let rest = vain_then config key first.looks found.looks before between found.last first.vain found.vain in
-    record { looks = rest.looks; last = found.last; vain = rest.vain; hit = found.hit }
+-- what is told of a configuration and a worker is told of those that equal them
+pub takes_as : (law : RowPredicate) (config other : Config) (key : List ℕ) (before start after : WorkerState)
+    (hold : HoldPart) (found : Head) → config ≡ other → before ≡ start
+    → TakesKey law config key before after hold found → TakesKey law other key start after hold found
+takes_as law config other key before start after hold found same_config same_worker takes =
+    subst (λ (f : Config). TakesKey law f key start after hold found) same_config
+    (subst (λ (w : WorkerState). TakesKey law config key w after hold found) same_worker takes)
+
+-- looks that took a hold, behind looks that were in vain
+pub takes_behind : (law : RowPredicate) (config : Config) (key : List ℕ) (before between after : WorkerState)
+    (hold : HoldPart) (found : Head) → FindsNothing config key before between
+    → TakesKey law config key between after hold found → TakesKey law config key before after hold found
+takes_behind law config key before between after hold found first takes =
+    let rest = vain_then config key first.looks takes.looks before between takes.last first.vain takes.vain in record {
+      looks = rest.looks;
+      last = takes.last;
+      vain = rest.vain;
+      chunk = takes.chunk;
+      gets = takes.gets;
+      has_key = takes.has_key;
+      lawful = takes.lawful;
+      few = takes.few;
+    }

@@ -1,8 +1,10 @@
 pub mod Looks
 pub mod Readers
+pub mod Helds
 pub use Rattle.bump_parts.specs.Gets
 pub use Rattle.bump_parts.specs.StepCounts
 pub use Rattle.bump_parts.specs.Touches
 pub use Rattle.bump_parts.specs.Workers
+pub use Rattle.bump_rules.specs.Rings
 pub use Rattle.bump_steps.specs.References
 pub use Rattle.bump_steps.specs.Rule

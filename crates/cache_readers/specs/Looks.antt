@@ -1,5 +1,5 @@
 -- What looks at chunks come to, by which a reader finds the item of a key.
-use Rattle.std.specs.Prelude.{◌≡◌, ◌≢◌, ◌&&◌, ℕ, zero, suc, ◌+◌, ◌<◌, ◌≤◌, Bool, true, false, List, length, slice_index, Result, Ok, Err, IfOk}
+use Rattle.std.specs.Prelude.{◌≡◌, ◌≢◌, ◌&&◌, ℕ, zero, suc, ◌+◌, ◌<◌, ◌≤◌, true, false, List, length, slice_index, Result, Ok, Err, IfOk}
 use Rattle.bump_rules.specs.declared.commands.Touch.{Touch}
 use Rattle.bump_rules.specs.declared.configs.Config.{Config}
 use Rattle.bump_rules.specs.declared.items.Head.{Head}
@@ -42,32 +42,55 @@ AreInVain config key zero before after = after ≡ before
 AreInVain config key (suc count) before after = (between : WorkerState) × AreInVain config key count before between
     × LooksInVain config key between after
 
--- A look at a chunk gave a hold of an item with this key and this value, as they were stored for its life, so the table's
--- law holds of its words. It is touched where the head by which it was taken hadn't both marks.
-pub record Hits (law : RowPredicate) (config : Config) (key value : List ℕ) (now : ℕ) (before after : WorkerState)
-    : Type 0 where
-  pub chunk : ℕ
-  pub hold : HoldPart
-  pub found : Head
-  pub between : WorkerState
-  pub gets : WorkerGetsAny config chunk before between (Ok (hold, found))
-  pub has_key : HasWords key 0 hold.row
-  pub has_value : HasWords value (length key) hold.row
-  pub lawful : law (words_in hold.row)
-  pub marked : (found.fetched && found.active) ≡ true → after ≡ between
-  pub touched : (found.fetched && found.active) ≡ false
-      → (answer : Touch) × WorkerTouches config hold.life now between after answer
-  pub few : MakesAtMost 2 16 4 before.part.steps after.part.steps
-
--- a get found this value: so many looks were in vain, and the next one was a hit
-pub record Finds (law : RowPredicate) (config : Config) (key value : List ℕ) (now : ℕ) (before after : WorkerState)
-    : Type 0 where
+-- Looks for a key ended with a hold of an item that has it, with the words that were stored for its life, of which the
+-- table's law holds: so many looks were in vain, and the next one gave this hold, by this head.
+pub record TakesKey (law : RowPredicate) (config : Config) (key : List ℕ) (before after : WorkerState)
+    (hold : HoldPart) (found : Head) : Type 0 where
   pub looks : ℕ
   pub last : WorkerState
   pub vain : AreInVain config key looks before last
-  pub hit : Hits law config key value now last after
+  pub chunk : ℕ
+  pub gets : WorkerGetsAny config chunk last after (Ok (hold, found))
+  pub has_key : HasWords key 0 hold.row
+  pub lawful : law (words_in hold.row)
+  pub few : MakesAtMost 1 8 0 last.part.steps after.part.steps
 
--- a get found nothing: so many looks were in vain
+-- the item of a hold is touched where the head by which the hold was taken hadn't both marks
+pub record TouchesUnmarked (config : Config) (hold : HoldPart) (found : Head) (now : ℕ) (before after : WorkerState)
+    : Type 0 where
+  pub marked : (found.fetched && found.active) ≡ true → after ≡ before
+  pub touched : (found.fetched && found.active) ≡ false
+      → (answer : Touch) × WorkerTouches config hold.life now before after answer
+  pub few : MakesAtMost 1 8 4 before.part.steps after.part.steps
+
+-- a get took this hold of an item with the key, and touched it
+pub record Hits (law : RowPredicate) (config : Config) (key : List ℕ) (now : ℕ) (before after : WorkerState)
+    (hold : HoldPart) : Type 0 where
+  pub found : Head
+  pub between : WorkerState
+  pub takes : TakesKey law config key before between hold found
+  pub touches : TouchesUnmarked config hold found now between after
+
+-- a get found this value: its hit's row has it behind the key
+pub record Finds (law : RowPredicate) (config : Config) (key value : List ℕ) (now : ℕ) (before after : WorkerState)
+    : Type 0 where
+  pub hold : HoldPart
+  pub hits : Hits law config key now before after hold
+  pub has_value : HasWords value (length key) hold.row
+
+-- an item with the key was held, and nothing else was done
+pub record Sees (law : RowPredicate) (config : Config) (key : List ℕ) (before after : WorkerState) : Type 0 where
+  pub hold : HoldPart
+  pub found : Head
+  pub takes : TakesKey law config key before after hold found
+
+-- a peek found this value: the row of the item that it held has it behind the key
+pub record Peeks (law : RowPredicate) (config : Config) (key value : List ℕ) (before after : WorkerState)
+    : Type 0 where
+  pub sees : Sees law config key before after
+  pub has_value : HasWords value (length key) sees.hold.row
+
+-- looks for a key found nothing: so many were in vain
 pub record FindsNothing (config : Config) (key : List ℕ) (before after : WorkerState) : Type 0 where
   pub looks : ℕ
   pub vain : AreInVain config key looks before after

@@ -2,6 +2,7 @@
 //! nobody. Keys and values are words here, so many each.
 #![tactic(auto)]
 
+mod held;
 mod looking;
 mod readers;
 
@@ -10,4 +11,5 @@ pub use bump_parts::Worker;
 pub use bump_rules::{Accounts, ItemId};
 pub use bump_steps::RowLaw;
 pub use cache_nests::IndexReader;
+pub use held::HeldItem;
 pub use readers::WordReader;

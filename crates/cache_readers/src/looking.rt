@@ -1,9 +1,6 @@
 //! Looks at the chunks to which the index leads.
-ghost use Rattle.std.specs.Prelude.{◌≡◌, ℕ, ◌+◌, ◌<◌, ◌≤◌, ◌^◌, ◌&&◌, true, false, OnOk, OnErr, length};
-ghost use Rattle.bump_rules.specs.declared.commands.Touch.{Touch as TheTouch};
-ghost use Rattle.bump_parts.specs.StepCounts.{MakesAtMost};
-ghost use Rattle.bump_parts.specs.Touches.{WorkerTouches};
-ghost use Rattle.cache_readers.specs.Looks.{Finds, FindsNothing, HasOtherKey, HasWords, Hits, LooksInVain};
+ghost use Rattle.std.specs.Prelude.{◌≡◌, ◌+◌, ◌≤◌, true, false, IfOk, OnErr, IfSome, IfNone, length};
+ghost use Rattle.cache_readers.specs.Looks.{FindsNothing, HasOtherKey, HasWords, LooksInVain, TakesKey, TouchesUnmarked};
 
 use bump_parts::{Hold, Worker};
 use bump_readers::{Name, ReaderHeads};
@@ -11,7 +8,7 @@ use bump_rules::{Head, ItemId};
 use bump_steps::RowLaw;
 use cache_nests::IndexReader;
 
-// A get looks again where the life to which the index led has ended, so often at most: each time the key was put anew,
+// A search begins anew where the life to which the index led has ended, so often at most: each time the key was put anew,
 // removed or evicted meanwhile.
 const TURNS: u32 = 1_000;
 
@@ -43,7 +40,7 @@ fn has_key<N: Name, L: RowLaw>(hold: &mut Hold<N>, heads: &ReaderHeads<N, L>, ke
 
 // Reads words of the item that is held, from this further word on.
 #[inline(always)]
-fn read_words<N: Name, L: RowLaw>(
+pub(crate) fn read_words<N: Name, L: RowLaw>(
     hold: &mut Hold<N>,
     heads: &ReaderHeads<N, L>,
     from: usize,
@@ -63,18 +60,15 @@ fn read_words<N: Name, L: RowLaw>(
 // Touches the item that is held, where the head by which it was taken hadn't both marks. Most hits find both set: then
 // the locked step of a touch is saved.
 #[inline(always)]
-fn touch<N: Name, L: RowLaw>(
+pub(crate) fn touch<N: Name, L: RowLaw>(
     worker: &mut Worker<N>,
     heads: &ReaderHeads<N, L>,
     hold: &mut Hold<N>,
     found: Head,
     now: u64,
 )
-    ensures marked { (found.fetched && found.active) ≡ true → worker.new ≡ worker.old }
-    ensures touched { (found.fetched && found.active) ≡ false → (answer : TheTouch)
-        × WorkerTouches heads.now hold.old.life now worker.old worker.new answer }
+    ensures touches { TouchesUnmarked heads.now hold.old found now worker.old worker.new }
     ensures same { hold.new ≡ hold.old }
-    ensures few { MakesAtMost 1 8 4 worker.old.part.steps worker.new.part.steps }
     ensures ring { worker.new.sender.ring ≡ worker.old.sender.ring }
 {
     if found.fetched && found.active {
@@ -83,20 +77,17 @@ fn touch<N: Name, L: RowLaw>(
     let _touch = worker.touch(heads, hold, now);
 }
 
-// Looks at a chunk: where its item has the key it is hit, and its value is read.
+// Looks at a chunk: where its item has the key the hold of it is answered, and the head by which it was taken.
 #[inline(always)]
 fn look<N: Name, L: RowLaw>(
     worker: &mut Worker<N>,
     heads: &ReaderHeads<N, L>,
     id: ItemId,
     key: &[u64],
-    value: &mut [u64],
-    now: u64,
-) -> Result<(), Vain>
-    requires few { length key.now + length value.old ≤ N.table.slots }
-    ensures found { OnOk result (Hits L.law heads.now key.now value.new now worker.old worker.new) }
+) -> Result<(Hold<N>, Head), Vain>
+    requires few { length key.now ≤ N.table.slots }
+    ensures takes { IfOk result (λ took. TakesKey L.law heads.now key.now worker.old worker.new took.0 took.1) }
     ensures vain { OnErr result (LooksInVain heads.now key.now worker.old worker.new) }
-    ensures length { length value.new ≡ length value.old }
     ensures ring { worker.new.sender.ring ≡ worker.old.sender.ring }
 {
     let Ok((mut hold, found)) = worker.get_any(heads, id.chunk) else {
@@ -111,10 +102,7 @@ fn look<N: Name, L: RowLaw>(
             Vain::Ended
         });
     }
-    touch(worker, heads, &mut hold, found, now);
-    read_words(&mut hold, heads, key.len(), value);
-    hold.release(heads);
-    Ok(())
+    Ok((hold, found))
 }
 
 // Goes through the chunks to which the index leads for this hash.
@@ -125,19 +113,16 @@ fn look_through<N: Name, L: RowLaw>(
     index: &IndexReader,
     hash: u64,
     key: &[u64],
-    value: &mut [u64],
-    now: u64,
-) -> Result<(), Vain>
-    requires few { length key.now + length value.old ≤ N.table.slots }
-    ensures found { OnOk result (Finds L.law heads.now key.now value.new now worker.old worker.new) }
+) -> Result<(Hold<N>, Head), Vain>
+    requires few { length key.now ≤ N.table.slots }
+    ensures takes { IfOk result (λ took. TakesKey L.law heads.now key.now worker.old worker.new took.0 took.1) }
     ensures vain { OnErr result (FindsNothing heads.now key.now worker.old worker.new) }
-    ensures length { length value.new ≡ length value.old }
     ensures ring { worker.new.sender.ring ≡ worker.old.sender.ring }
 {
     let mut search = index.search(hash);
     while let Some(id) = search.next(index) {
-        match look(worker, heads, id, key, value, now) {
-            Ok(()) => return Ok(()),
+        match look(worker, heads, id, key) {
+            Ok(took) => return Ok(took),
             Err(Vain::Ended) => return Err(Vain::Ended),
             Err(Vain::Other) => {}
         }
@@ -145,7 +130,7 @@ fn look_through<N: Name, L: RowLaw>(
     Err(Vain::Other)
 }
 
-// Finds the value of a key, and tells whether it did.
+// Finds the item of a key: a hold of it, and the head by which it was taken.
 #[inline(always)]
 pub(crate) fn find<N: Name, L: RowLaw>(
     worker: &mut Worker<N>,
@@ -153,21 +138,18 @@ pub(crate) fn find<N: Name, L: RowLaw>(
     index: &IndexReader,
     hash: u64,
     key: &[u64],
-    value: &mut [u64],
-    now: u64,
-) -> bool
-    requires few { length key.now + length value.old ≤ N.table.slots }
-    ensures found { result ≡ true → Finds L.law heads.now key.now value.new now worker.old worker.new }
-    ensures vain { result ≡ false → FindsNothing heads.now key.now worker.old worker.new }
-    ensures length { length value.new ≡ length value.old }
+) -> Option<(Hold<N>, Head)>
+    requires few { length key.now ≤ N.table.slots }
+    ensures takes { IfSome result (λ took. TakesKey L.law heads.now key.now worker.old worker.new took.0 took.1) }
+    ensures vain { IfNone result (FindsNothing heads.now key.now worker.old worker.new) }
     ensures ring { worker.new.sender.ring ≡ worker.old.sender.ring }
 {
     for _turn in 0..TURNS {
-        match look_through(worker, heads, index, hash, key, value, now) {
-            Ok(()) => return true,
-            Err(Vain::Other) => return false,
+        match look_through(worker, heads, index, hash, key) {
+            Ok(took) => return Some(took),
+            Err(Vain::Other) => return None,
             Err(Vain::Ended) => {}
         }
     }
-    false
+    None
 }

@@ -1,14 +1,16 @@
 //! A reader of a cache whose keys and values are words.
-ghost use Rattle.std.specs.Prelude.{◌≡◌, ◌+◌, ◌≤◌, true, false, length};
+ghost use Rattle.std.specs.Prelude.{◌≡◌, ◌+◌, ◌≤◌, true, false, IfSome, length};
 ghost use Rattle.std.specs.Arc.{arc_value};
 ghost use Rattle.bump_rules.specs.declared.hands.Hand.TheVariants as hand;
 ghost use Rattle.bump_rules.specs.Rings.{IsAccounts};
-ghost use Rattle.cache_readers.specs.Looks.{Finds, FindsNothing};
-ghost use Rattle.cache_readers.specs.Readers.{ReaderView as TheReaderView, one_more, new_reader};
+ghost use Rattle.cache_readers.specs.Looks.{Finds, FindsNothing, Hits, Peeks, Sees};
+ghost use Rattle.cache_readers.specs.Readers.{Misses, ReaderView as TheReaderView, one_more, new_reader};
 
-use crate::looking::find;
+use crate::held::HeldItem;
+use crate::looking::{find, read_words, touch};
 use bump_heads::{Heads, Name};
 use bump_parts::Worker;
+use bump_readers::ReaderHeads;
 use bump_rules::Accounts;
 use bump_steps::RowLaw;
 use cache_nests::IndexReader;
@@ -38,6 +40,9 @@ impl<N: Name, L: RowLaw> Model for WordReader<N, L> {
 }
 
 impl<N: Name, L: RowLaw> WordReader<N, L> {
+    ghost use Rattle.std.specs.Borrow.{sem};
+    ghost use Rattle.cache_readers.specs.Helds.{EndsIfNone, hold_of, key_words_of, loan_of, reader_of};
+
     /// A reader that got nothing yet: by a worker of the store of these heads, and a reader of the index that leads to its
     /// items.
     pub fn new(
@@ -56,6 +61,14 @@ impl<N: Name, L: RowLaw> WordReader<N, L> {
         }
     }
 
+    // The words of the store's chunks.
+    #[inline(always)]
+    pub(crate) fn heads(&self) -> &ReaderHeads<N, L>
+        ensures { result.now ≡ self.now.config }
+    {
+        &self.heads
+    }
+
     /// Reads the value that was put under a key into `value`, as memcached's `get`, and tells whether there was one.
     /// `hash` is the key's, any number for a key that isn't there; `now` is the time that a touch stores, in the caller's
     /// ticks. The words of `key` and `value` are as many as a row has, or fewer, together. It takes no lock and no memory,
@@ -68,7 +81,7 @@ impl<N: Name, L: RowLaw> WordReader<N, L> {
     ///
     /// Where a life to which the index led has ended meanwhile it searches anew, up to 1,000 times: each time the key was
     /// put anew, removed or evicted by another thread. It answers false where the index leads to no chunk with the key,
-    /// and behind the last of these searches; nothing is touched then, and words in `value` may be changed.
+    /// and behind the last of these searches; nothing is touched then, and `value` is as it was.
     #[inline(always)]
     pub fn get(&mut self, hash: u64, key: &[u64], value: &mut [u64], now: u64) -> bool
         requires few { length key.now + length value.old ≤ N.table.slots }
@@ -83,24 +96,78 @@ impl<N: Name, L: RowLaw> WordReader<N, L> {
           worker = self.new.worker;
           misses = one_more self.old.misses;
         } }
+        ensures unread { result ≡ false → value.new ≡ value.old }
         ensures length { length value.new ≡ length value.old }
         ensures ring { self.new.worker.sender.ring ≡ self.old.worker.sender.ring }
     {
-        let found = find(
-            &mut self.worker,
-            &self.heads,
-            &self.index,
-            hash,
-            key,
-            value,
-            now,
-        );
-        if found {
-            self.hits = self.hits.saturating_add(1);
-        } else {
-            self.misses = self.misses.saturating_add(1);
+        if let Some(mut held) = self.get_with(hash, key, now) {
+            held.read(value);
+            return true;
         }
-        found
+        false
+    }
+
+    /// The same, but hands the item out, held, in place of reading its value, or `None` where `get` answers false: it
+    /// searches, touches and counts as `get` does. The words of `key` are as many as a row has, or fewer.
+    #[inline(always)]
+    pub fn get_with(&mut self, hash: u64, key: &[u64], now: u64) -> Option<HeldItem<'_, N, L>>
+        requires few { length key.now ≤ N.table.slots }
+        ensures* missed { sem 𝓛 (EndsIfNone N.row L.row N.Name L.RowLaw self.entry result (Misses key.now self.old)) }
+        ensures loan { IfSome result (λ held. loan_of held ≡ self.entry.ghost_name) }
+        ensures found { IfSome result (λ held. Hits L.law self.old.config key.now now self.old.worker
+            (reader_of held).worker (hold_of held)) }
+        ensures counted { IfSome result (λ held. reader_of held ≡ record self.old {
+          worker = (reader_of held).worker;
+          hits = one_more self.old.hits;
+        }) }
+        ensures key_words { IfSome result (λ held. key_words_of held ≡ length key.now) }
+        ensures ring { IfSome result (λ held. (reader_of held).worker.sender.ring ≡ self.old.worker.sender.ring) }
+    {
+        let Some((mut hold, found)) = find(&mut self.worker, &self.heads, &self.index, hash, key)
+        else {
+            self.misses = self.misses.saturating_add(1);
+            return None;
+        };
+        touch(&mut self.worker, &self.heads, &mut hold, found, now);
+        self.hits = self.hits.saturating_add(1);
+        Some(HeldItem::new(self, hold, key.len()))
+    }
+
+    /// Reads the value as `get` does, but the item isn't touched, and nothing is counted: so it may be evicted as if it
+    /// hadn't been asked for.
+    #[inline(always)]
+    pub fn peek(&mut self, hash: u64, key: &[u64], value: &mut [u64]) -> bool
+        requires few { length key.now + length value.old ≤ N.table.slots }
+        ensures found { result ≡ true → Peeks L.law self.old.config key.now value.new self.old.worker self.new.worker }
+        ensures nothing { result ≡ false → FindsNothing self.old.config key.now self.old.worker self.new.worker }
+        ensures uncounted { self.new ≡ record self.old { worker = self.new.worker } }
+        ensures unread { result ≡ false → value.new ≡ value.old }
+        ensures length { length value.new ≡ length value.old }
+        ensures ring { self.new.worker.sender.ring ≡ self.old.worker.sender.ring }
+    {
+        let Some((mut hold, _)) = find(&mut self.worker, &self.heads, &self.index, hash, key) else {
+            return false;
+        };
+        read_words(&mut hold, &self.heads, key.len(), value);
+        hold.release(&self.heads);
+        true
+    }
+
+    /// Whether there is a value under a key: `peek` without the value. The words of `key` are as many as a row has, or
+    /// fewer.
+    #[inline(always)]
+    pub fn contains(&mut self, hash: u64, key: &[u64]) -> bool
+        requires few { length key.now ≤ N.table.slots }
+        ensures found { result ≡ true → Sees L.law self.old.config key.now self.old.worker self.new.worker }
+        ensures nothing { result ≡ false → FindsNothing self.old.config key.now self.old.worker self.new.worker }
+        ensures uncounted { self.new ≡ record self.old { worker = self.new.worker } }
+        ensures ring { self.new.worker.sender.ring ≡ self.old.worker.sender.ring }
+    {
+        let Some((hold, _)) = find(&mut self.worker, &self.heads, &self.index, hash, key) else {
+            return false;
+        };
+        hold.release(&self.heads);
+        true
     }
 
     /// How many gets found something (memcached's `get_hits`), at most 2^64 - 1.

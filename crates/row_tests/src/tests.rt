@@ -34,26 +34,51 @@ fn first_book<N: Name>(books: Vec<Book<N>>) -> Option<Book<N>>
     left.next()
 }
 
-// The value of a key, as the reader finds it.
+// The value of a key, as the reader finds it: a get, a peek, and whether there is one. Where they differ, 0.
 fn value<N: Name>(reader: &mut WordReader<N, AnyRow>, key: [u64; 2]) -> Option<u64>
     requires { N.table.slots ≡ 3 }
 {
+    let hash = SEED.hash(&key);
     let mut value = [0];
-    if reader.get(SEED.hash(&key), &key, &mut value, 20) {
+    let mut seen = [0];
+    let found = reader.get(hash, &key, &mut value, 20);
+    if reader.peek(hash, &key, &mut seen) != found || reader.contains(hash, &key) != found {
+        return Some(0);
+    }
+    if seen[0] != value[0] {
+        return Some(0);
+    }
+    if found { Some(value[0]) } else { None }
+}
+
+// The value of a key, as it stands in the item that the reader hands out.
+fn held_value<N: Name>(reader: &mut WordReader<N, AnyRow>, key: [u64; 2]) -> Option<u64>
+    requires { N.table.slots ≡ 3 }
+{
+    let mut held = reader.get_with(SEED.hash(&key), &key, 20)?;
+    let mut value = [0];
+    held.read(&mut value);
+    if held.word(0) == value[0] {
         Some(value[0])
     } else {
-        None
+        Some(0)
     }
 }
 
-// A put that isn't refused.
-fn put<N: Name>(rt: &impl Abort, part: &mut Part<N, AnyRow>, row: [u64; 3], now: u64) -> Put
+// A put that isn't refused, with the row of what it evicts.
+fn put<N: Name>(
+    rt: &impl Abort,
+    part: &mut Part<N, AnyRow>,
+    row: [u64; 3],
+    evicted: &mut [u64; 3],
+    now: u64,
+) -> Put
     requires key { part.old.key_words ≡ 2 }
     requires value { part.old.value_words ≡ 1 }
     ensures key { part.new.key_words ≡ 2 }
     ensures value { part.new.value_words ≡ 1 }
 {
-    match part.put(&row, now) {
+    match part.put(&row, evicted, now) {
         Ok(put) => put,
         Err(_) => panic!(rt; "there is room"),
     }
@@ -69,33 +94,57 @@ fn call_each<N: Name>(
     requires slots { N.table.slots ≡ 3 }
     requires key { part.old.key_words ≡ 2 }
     requires value { part.old.value_words ≡ 1 }
+    ensures key { part.new.key_words ≡ 2 }
 {
+    let mut evicted = [0; 3];
     assert!(rt; part.find(&[1, 2]).is_none());
     assert!(rt; value(reader, [1, 2]).is_none());
-    let first = put(rt, part, [1, 2, 30], 5);
+    let first = put(rt, part, [1, 2, 30], &mut evicted, 5);
     assert!(rt; first.old.is_none());
     assert!(rt; first.evicted.is_none());
     assert!(rt; value(reader, [1, 2]) == Some(30));
     assert!(rt; value(reader, [2, 1]).is_none());
     assert!(rt; part.find(&[1, 2]) == Some(first.chunk));
-    let again = put(rt, part, [1, 2, 31], 6);
+    let again = put(rt, part, [1, 2, 31], &mut evicted, 6);
     assert!(rt; again.old == Some(first.chunk));
     assert!(rt; value(reader, [1, 2]) == Some(31));
-    let _ = put(rt, part, [3, 4, 50], 7);
+    let _ = put(rt, part, [3, 4, 50], &mut evicted, 7);
     assert!(rt; value(reader, [3, 4]) == Some(50));
-    let third = put(rt, part, [5, 6, 70], 8);
+    assert!(rt; evicted == [0, 0, 0]);
+    let third = put(rt, part, [5, 6, 70], &mut evicted, 8);
     assert!(rt; third.evicted == Some(again.chunk));
+    assert!(rt; evicted == [1, 2, 31]);
     assert!(rt; value(reader, [1, 2]).is_none());
     assert!(rt; value(reader, [3, 4]) == Some(50));
     assert!(rt; value(reader, [5, 6]) == Some(70));
     part.tend(lanes, 8, 9, 1, 1);
     assert!(rt; value(reader, [3, 4]) == Some(50));
+    assert!(rt; held_value(reader, [3, 4]) == Some(50));
     assert!(rt; part.remove(&[5, 6]) == Some(third.chunk));
     assert!(rt; part.remove(&[5, 6]).is_none());
     assert!(rt; value(reader, [5, 6]).is_none());
+    assert!(rt; held_value(reader, [5, 6]).is_none());
     assert!(rt; part.stats().evicted == 1);
-    assert!(rt; reader.hits() == 6);
-    assert!(rt; reader.misses() == 4);
+    assert!(rt; reader.hits() == 7);
+    assert!(rt; reader.misses() == 5);
+}
+
+// What is tended piece by piece, and cleared.
+fn clear_all<N: Name>(
+    rt: &impl Abort,
+    part: &mut Part<N, AnyRow>,
+    lanes: &mut [RawLane<N>],
+    reader: &mut WordReader<N, AnyRow>,
+)
+    requires slots { N.table.slots ≡ 3 }
+    requires key { part.old.key_words ≡ 2 }
+{
+    part.drain(lanes, 8, 10);
+    part.balance(3, 1, 1);
+    assert!(rt; value(reader, [3, 4]) == Some(50));
+    part.clear();
+    assert!(rt; value(reader, [3, 4]).is_none());
+    assert!(rt; part.find(&[3, 4]).is_none());
 }
 
 fn run<N: Name, R: Abort>(rt: &R, alloc: Global, blank: Blank, config: &Config) -> Result<(), Fail>
@@ -120,6 +169,7 @@ fn run<N: Name, R: Abort>(rt: &R, alloc: Global, blank: Blank, config: &Config) 
     let mut reader = WordReader::new(worker, heads, index.reader()?);
     let mut part = Part::new(book, index, SEED, 2, 1, 2);
     call_each(rt, &mut part, &mut lanes, &mut reader);
+    clear_all(rt, &mut part, &mut lanes, &mut reader);
     Ok(())
 }
 

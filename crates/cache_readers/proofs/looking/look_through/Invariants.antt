@@ -1,4 +1,4 @@
-use Rattle.std.proofs.Common.{◌≡◌, length}
+use Rattle.std.proofs.Common.{◌≡◌}
 use Rattle.cache_readers.specs.Looks.{FindsNothing}
 use Rattle.cache_readers.proofs.looking.look_through.Given as goal
 
@@ -6,5 +6,5 @@ abbrev pub decreases-loop-id : goal.decreases-loop-id
 decreases-loop-id g l = l.search.ahead
 
 abbrev pub invariant-loop-id : goal.invariant-loop-id
-invariant-loop-id g l = FindsNothing l.fn.heads l.fn.key l.fn.worker l.worker × (length l.value ≡ length l.fn.value)
-    × (l.search.nests ≡ l.fn.index) × (l.worker.sender.ring ≡ l.fn.worker.sender.ring)
+invariant-loop-id g l = FindsNothing l.fn.heads l.fn.key l.fn.worker l.worker × (l.search.nests ≡ l.fn.index)
+    × (l.worker.sender.ring ≡ l.fn.worker.sender.ring)

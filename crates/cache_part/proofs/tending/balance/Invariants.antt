@@ -1,7 +1,7 @@
 use Rattle.std.proofs.Common.{◌≡◌}
 use Rattle.cache_lists.specs.Items.{KeepsItems}
 use Rattle.cache_part.specs.Tending.{BalancesTimes}
-use Rattle.cache_part.proofs.tending.balance_often.Given as goal
+use Rattle.cache_part.proofs.tending.balance.Given as goal
 
 -- so many times HOT and WARM were looked at
 abbrev pub invariant-loop-look : goal.invariant-loop-look

@@ -1,0 +1,17 @@
+use Rattle.std.proofs.Common.{◌≡◌, ℕ, subst}
+use Rattle.bump_steps.specs.Views.{last_word}
+use Rattle.cache_lists.specs.Items.{IsSameClass}
+use Rattle.cache_part.proofs.ViewLemmas.{evictions_stay}
+use Rattle.cache_part.proofs.parts.Part.clear.Goals as goal
+
+pub invariant_of-self : goal.invariant_of-self
+invariant_of-self g c = (c.clear.ensures.part, c.self.invariant.1)
+
+pub returns : goal.returns
+returns g c =
+    let is = c.self.view_is in let left = c.clear.new.lists in record {
+      empty = c.clear.ensures.empty;
+      words = subst (λ v. (i c : ℕ) → last_word i left.book.part c ≡ last_word i v.book.part c) is c.clear.ensures.words;
+      class = subst (λ v. IsSameClass v.book left.book) is c.clear.ensures.class;
+      rest = evictions_stay _ _ left c.clear.new.index.table is c.clear.ensures.evictions;
+    }

@@ -1,0 +1,13 @@
+use Rattle.std.proofs.Common.{◌≡◌, ℕ, suc, ◌+◌, ◌<◌, length, get_or}
+use Rattle.bump_steps.specs.Views.{last_word}
+use Rattle.cache_part.specs.Looks.{LooksOnly}
+use Rattle.cache_part.proofs.reading.read.Given as goal
+
+-- the words so far are the chunk's
+abbrev pub invariant-loop-index : goal.invariant-loop-index
+invariant-loop-index g l = record {
+  looks : LooksOnly l.fn.lists.book l.lists.book;
+  rest : l.lists ≡ record l.fn.lists { book = l.lists.book };
+  size : length l.words ≡ length l.fn.words;
+  same : (j : ℕ) → j < l.index → last_word (suc (l.from + j)) l.fn.lists.book.part l.chunk ≡ get_or l.words j 0;
+}

@@ -1,0 +1,33 @@
+//! All items end.
+ghost use Rattle.std.specs.Prelude.{◌≡◌, ℕ, None};
+ghost use Rattle.bump_steps.specs.Views.{last_word};
+ghost use Rattle.cache_lists.specs.Items.{IsSameClass};
+ghost use Rattle.cache_lists.specs.Linked.{linked_at};
+ghost use Rattle.cache_part.specs.Parts.{IsPart};
+
+use crate::ending;
+use crate::putting::Settings;
+use bump_heads::Name;
+use bump_steps::RowLaw;
+use cache_lists::CountedBook;
+use cache_nests::Index;
+
+// Each item ends to which the index leads: there is no other that is linked.
+pub(crate) fn clear<N: Name, L: RowLaw>(
+    lists: &mut CountedBook<N, L>,
+    index: &mut Index,
+    _settings: Settings,
+)
+    requires part { IsPart _settings.seed _settings.key_words lists.old.book.part index.old.table }
+    ensures part { IsPart _settings.seed _settings.key_words lists.new.book.part index.new.table }
+    ensures empty { (chunk : ℕ) → linked_at lists.new.book.part chunk ≡ None }
+    ensures words { (i c : ℕ) → last_word i lists.new.book.part c ≡ last_word i lists.old.book.part c }
+    ensures class { IsSameClass lists.old.book lists.new.book }
+    ensures evictions { lists.new.evictions ≡ lists.old.evictions }
+{
+    for chunk in 0..index.chunks() {
+        if index.led(chunk).is_some() {
+            ending::end_led(lists, index, chunk);
+        }
+    }
+}
